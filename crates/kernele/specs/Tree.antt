@@ -1,0 +1,24 @@
+-- Trees as plain data: no pointers, no capacities.
+use Rattle.std.specs.Prelude.{ℕ, ℤ, Bool, List}
+use Rattle.kernele.specs.declared.tree.Pattern.{Pattern}
+
+-- a name, a verb or a text: its bytes
+abbrev pub Name : Type 0
+Name = List ℕ
+
+mutual
+  pub data Tree : Type 0 where
+    null_tree : Tree
+    bool_tree : (b : Bool) → Tree
+    int_tree : (z : ℤ) → Tree
+    text_tree : (s : Name) → Tree
+    noun : (x : Name) → Tree
+    define : (p : Pattern) → (e : Tree) → Tree
+    call : (r : Tree) → (verb : Name) → (args : Trees) → Tree
+    list_tree : (items : Trees) → Tree
+    same_tree : (l : Tree) → (r : Tree) → Tree
+
+  -- a block, arguments, or the items of a list
+  pub data Trees : Type 0 where
+    none : Trees
+    and_then : (t : Tree) → (ts : Trees) → Trees

@@ -1,0 +1,34 @@
+-- What the program's trees stand for.
+use Rattle.std.specs.Prelude.{List, [], ◌∷◌}
+use Rattle.kernele.specs.Tree.{Tree, null_tree, bool_tree, int_tree, text_tree, noun, define, call, list_tree, same_tree, Trees, none, and_then}
+use Rattle.kernele.specs.declared.tree.Expr as code
+use Rattle.kernele.specs.declared.tree.Expr.{Expr}
+use Rattle.kernele.specs.declared.tree.Block.{Block}
+use Rattle.kernele.specs.declared.tree.Program.{Program}
+
+abbrev mutual
+  pub tree_of : Expr → Tree
+  tree_of code.Null = null_tree
+  tree_of (code.Bool b) = bool_tree b
+  tree_of (code.Int z) = int_tree z
+  tree_of (code.Text s) = text_tree s
+  tree_of (code.Noun x) = noun x
+  tree_of (code.Def' pattern p e) = define pattern (tree_of e)
+  tree_of (code.Call' p r verb q shape args) = call (tree_of r) verb (trees_of_row args)
+  tree_of (code.List' p shape items) = list_tree (trees_of_row items)
+  tree_of (code.Same' p l q r) = same_tree (tree_of l) (tree_of r)
+
+  pub trees_of_row : {n : _} → code.Row_of-Expr n → Trees
+  trees_of_row code.end_of-Expr = none
+  trees_of_row (code.more_of-Expr e rest) = and_then (tree_of e) (trees_of_row rest)
+
+-- a block, arguments, or the items of a list
+abbrev pub trees_of : List Expr → Trees
+trees_of [] = none
+trees_of (e ∷ es) = and_then (tree_of e) (trees_of es)
+
+abbrev pub block_of : Block → Trees
+block_of b = trees_of b.0.value.items
+
+abbrev pub program_of : Program → Trees
+program_of p = block_of p.0

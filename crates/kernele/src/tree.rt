@@ -1,0 +1,34 @@
+// Trees of the language, shared where they are held more than once.
+
+use ids::text::Text;
+use std::sync::Arc;
+
+/// What a definition binds: a name, or nothing.
+#[derive(Drop)]
+pub enum Pattern {
+    Name(Text),
+    Ignore,
+}
+
+/// An expression.
+#[cycle(tree)]
+#[derive(Drop)]
+pub enum Expr {
+    Null,
+    Bool(bool),
+    Int(i64),
+    Text(Text),
+    Noun(Text),
+    Def(Pattern, Arc<Expr>),
+    Call(Arc<Expr>, Text, Arc<Vec<Expr>>),
+    List(Arc<Vec<Expr>>),
+    Same(Arc<Expr>, Arc<Expr>),
+}
+
+/// Expressions that are evaluated in order.
+#[derive(Drop)]
+pub struct Block(pub Arc<Vec<Expr>>);
+
+/// A whole script or asked text.
+#[derive(Drop)]
+pub struct Program(pub Block);
