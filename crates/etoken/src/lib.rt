@@ -1,0 +1,4 @@
+//! The tokens of a text.
+#![tactic(auto)]
+
+pub mod token;

@@ -1,0 +1,21 @@
+-- Values as plain data: no pointers, no capacities.
+use Rattle.std.specs.Prelude.{ℕ, ℤ, Bool, List}
+
+mutual
+  pub data Val : Type 0 where
+    null : Val
+    bool : (b : Bool) → Val
+    int : (z : ℤ) → Val
+    text : (s : List ℕ) → Val
+    list : (vs : Vals) → Val
+    broken : (problem : List ℕ) → Val
+
+  -- items of a list, or arguments
+  pub data Vals : Type 0 where
+    no_vals : Vals
+    and_val : (v : Val) → (vs : Vals) → Vals
+
+-- what a verb of data leads to: a value, or a problem that is thrown
+pub data Reply : Type 0 where
+  gives : (v : Val) → Reply
+  throws : (problem : List ℕ) → Reply

@@ -1,0 +1,29 @@
+-- What the program's values stand for.
+use Rattle.std.specs.Prelude.{List, [], ◌∷◌}
+use Rattle.values.specs.Data.{Val, null, bool, int, text, list, broken, Vals, no_vals, and_val, Reply, gives, throws}
+use Rattle.values.specs.declared.value.Value as code
+use Rattle.values.specs.declared.value.Value.{Value}
+use Rattle.values.specs.declared.value.Answer.{Answer}
+use Rattle.values.specs.declared.value.Answer.TheVariants as answer
+
+abbrev mutual
+  pub val_of : Value → Val
+  val_of code.Null = null
+  val_of (code.Bool b) = bool b
+  val_of (code.Int z) = int z
+  val_of (code.Text s) = text s
+  val_of (code.List' p shape items) = list (vals_of_row items)
+  val_of (code.Broken s) = broken s
+
+  pub vals_of_row : {n : _} → code.Row_of-Value n → Vals
+  vals_of_row code.end_of-Value = no_vals
+  vals_of_row (code.more_of-Value v rest) = and_val (val_of v) (vals_of_row rest)
+
+-- items of a list, or arguments
+abbrev pub vals_of : List Value → Vals
+vals_of [] = no_vals
+vals_of (v ∷ vs) = and_val (val_of v) (vals_of vs)
+
+abbrev pub reply_of : Answer → Reply
+reply_of (answer.Gives v) = gives (val_of v)
+reply_of (answer.Throws p) = throws p
