@@ -1,1 +1,3 @@
 pub mod Quoted
+pub mod Names
+pub mod Cells

@@ -1,5 +1,9 @@
-//! Names of events and of what they make, and the texts that programs share.
+//! Names of events and of what they make, keys of cells, and the texts that programs share.
 #![tactic(auto)]
 
 pub mod names;
+pub mod quote;
 pub mod text;
+
+#[cfg(test)]
+mod tests;

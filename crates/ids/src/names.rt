@@ -1,4 +1,9 @@
 // Names of events and of what they make.
+ghost use Rattle.std.specs.Prelude.{Some};
+ghost use Rattle.ids.specs.Names.{event_text, message_text, promise_text};
+
+use crate::text::Text;
+use std::fmt;
 
 /// The name of an event: a number drawn from the book's counter, from 1.
 #[derive(Clone, Copy, Debug, PartialEq, Eq, PartialOrd, Ord, Hash)]
@@ -21,4 +26,40 @@ pub struct PromId {
     pub event: EventName,
     pub index: u32,
     pub home: VatNo,
+}
+
+/// A cell of the world.
+#[derive(PartialEq, Eq, PartialOrd, Ord, Hash, Debug, Drop)]
+pub enum CellKey {
+    /// What is known of a vat by its name.
+    Name(Text),
+    /// A vat's state.
+    State(VatNo),
+    Msg(MsgId),
+    /// What a promise was published as.
+    Board(PromId),
+}
+
+impl fmt::Display for EventName {
+    ghost output = { λ e. Some (event_text e) };
+
+    fn fmt<W: fmt::Write>(&self, f: &mut fmt::Formatter<W>) -> fmt::Result {
+        write!(f, "e{}", self.0)
+    }
+}
+
+impl fmt::Display for MsgId {
+    ghost output = { λ m. Some (message_text m) };
+
+    fn fmt<W: fmt::Write>(&self, f: &mut fmt::Formatter<W>) -> fmt::Result {
+        write!(f, "{}.m{}", self.event, self.index)
+    }
+}
+
+impl fmt::Display for PromId {
+    ghost output = { λ p. Some (promise_text p) };
+
+    fn fmt<W: fmt::Write>(&self, f: &mut fmt::Formatter<W>) -> fmt::Result {
+        write!(f, "{}.p{}", self.event, self.index)
+    }
 }

@@ -1,2 +1,5 @@
 pub mod Tree
 pub mod View
+pub mod Spelling
+pub mod Scope
+pub mod Check

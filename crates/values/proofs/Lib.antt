@@ -1,1 +1,6 @@
 pub mod Views
+pub mod Tables
+pub mod Weighing
+pub mod Differing
+pub mod ShownItems
+pub mod Equivalence

@@ -1,2 +1,7 @@
 pub mod Data
 pub mod View
+pub mod Limits
+pub mod Same
+pub mod Shown
+pub mod Replies
+pub mod Laws

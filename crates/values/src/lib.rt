@@ -1,4 +1,15 @@
 //! Values: their text, sameness, weight and the verbs of data.
 #![tactic(auto)]
 
+pub mod calls;
+mod integers;
+pub mod limits;
+pub mod lists;
+mod replies;
+pub mod sameness;
+pub mod showing;
+#[cfg(test)]
+mod tests;
+pub mod texts;
+pub mod theorems;
 pub mod value;

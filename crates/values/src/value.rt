@@ -1,6 +1,8 @@
 // Values, shared and never changed.
 ghost use Rattle.std.specs.Prelude.{◌≡◌, IfOk};
-ghost use Rattle.values.specs.View.{val_of};
+ghost use Rattle.std.specs.Option.{option_map};
+ghost use Rattle.values.specs.Replies.{int_in, text_in, items_in};
+ghost use Rattle.values.specs.View.{val_of, vals_of};
 
 use ids::text::Text;
 use std::alloc::AllocError;
@@ -39,6 +41,42 @@ impl Value {
             Value::Text(s) => Ok(Value::Text(s.share()?)),
             Value::List(items) => Ok(Value::List(Arc::try_clone(items)?)),
             Value::Broken(problem) => Ok(Value::Broken(problem.share()?)),
+        }
+    }
+
+    /// The integer that it is.
+    pub fn as_int(&self) -> Option<i64>
+        ensures { result ≡ int_in (val_of self.now) }
+    {
+        match self {
+            Value::Int(integer) => Some(*integer),
+            Value::Null | Value::Bool(_) | Value::Text(_) | Value::List(_) | Value::Broken(_) => {
+                None
+            }
+        }
+    }
+
+    /// The text that it is.
+    pub fn as_text(&self) -> Option<&Text>
+        ensures { option_map (λ s. s.now) result ≡ text_in (val_of self.now) }
+    {
+        match self {
+            Value::Text(text) => Some(text),
+            Value::Null | Value::Bool(_) | Value::Int(_) | Value::List(_) | Value::Broken(_) => {
+                None
+            }
+        }
+    }
+
+    /// The items of the list that it is.
+    pub fn as_items(&self) -> Option<&[Value]>
+        ensures { option_map (λ s. vals_of s.now) result ≡ items_in (val_of self.now) }
+    {
+        match self {
+            Value::List(items) => Some(items.as_slice()),
+            Value::Null | Value::Bool(_) | Value::Int(_) | Value::Text(_) | Value::Broken(_) => {
+                None
+            }
         }
     }
 }

@@ -1,0 +1,45 @@
+-- On cells of the world.
+use Rattle.std.proofs.Common.{◌≡◌, Bool, true, false, cond, Option, Some, None, refl, sym, ap, ◌∙◌, subst}
+use Rattle.ids.specs.declared.names.CellKey.{CellKey}
+use Rattle.ids.specs.Cells.{same_key}
+use Rattle.ids.proofs.Keys.{same_key_exact}
+use Rattle.ids.specs.declared.names.CellKey.TheVariants as key
+use Rattle.ids.specs.declared.names.VatNo.{VatNo}
+use Rattle.ids.specs.Cells.{vat_cmp}
+use Rattle.std.specs.Prelude.{Result, Ok, Err, OnErr}
+use Rattle.std.specs.Option.{option_map}
+use Rattle.std.specs.Ordering.{is_eq}
+use Rattle.std.specs.BTreeMap.{BTreeMap, get}
+use Rattle.book.specs.World.{Content, World, put, clear}
+use Rattle.book.specs.View.{world_of, home_of}
+use Rattle.book.specs.declared.world.World as code
+use Rattle.book.specs.declared.world.Home.{Home}
+
+cleared_at : (k d : CellKey) (x : Content) (w : World) (b : Bool) → same_key k d ≡ b → w k ≡ None → cond b None (cond b (Some x) (w d)) ≡ w d
+cleared_at k d x w true e h = sym (subst (λ j. w j ≡ None) (same_key_exact k d e) h)
+cleared_at k d x w false e h = refl
+
+-- a cell that was absent is taken back
+pub clear-put : (k : CellKey) (x : Content) (w : World) → w k ≡ None → clear k (put k x w) ≡ w
+clear-put k x w h = λ i d. cleared_at k d x w (same_key k d) refl h i
+
+map_cond : {A B : Type 0} (f : A → B) (b : Bool) (x : A) (o : Option A) → option_map f (cond b (Some x) o) ≡ cond b (Some (f x)) (option_map f o)
+map_cond f true x o = refl
+map_cond f false x o = refl
+
+homes_at : (w : code.World) (m : BTreeMap VatNo Home) (n : VatNo) (h : Home) → ((q : VatNo) → get vat_cmp m q ≡ cond (is_eq (vat_cmp n q)) (Some h) (get vat_cmp w.homes q))
+    → (d : CellKey) → world_of (record w { homes = m }) d ≡ put (key.State n) (home_of h) (world_of w) d
+homes_at w m n h u (key.Name x) = refl
+homes_at w m n h u (key.State v) = ap (option_map home_of) (u v) ∙ map_cond home_of (is_eq (vat_cmp n v)) h (get vat_cmp w.homes v)
+homes_at w m n h u (key.Msg g) = refl
+homes_at w m n h u (key.Board p) = refl
+
+-- a vat's state was put among the others
+pub homes_put : (w : code.World) (m : BTreeMap VatNo Home) (n : VatNo) (h : Home) → ((q : VatNo) → get vat_cmp m q ≡ cond (is_eq (vat_cmp n q)) (Some h) (get vat_cmp w.homes q))
+    → world_of (record w { homes = m }) ≡ put (key.State n) (home_of h) (world_of w)
+homes_put w m n h u = λ i d. homes_at w m n h u d i
+
+-- what holds anyway holds where there is an error
+pub on_err : {A E P : Type 0} (r : Result A E) → P → OnErr r P
+on_err (Ok x) p = tt
+on_err (Err e) p = p

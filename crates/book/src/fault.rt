@@ -1,0 +1,66 @@
+// Why the book refuses a call.
+ghost use Rattle.std.specs.Prelude.{◌≡◌, Some};
+ghost use Rattle.book.specs.declared.fault.BookFault.TheVariants.{Memory};
+ghost use Rattle.book.specs.Fault.{fault_text};
+
+use ids::names::MsgId;
+use ids::text::Text;
+use kernele::check::CheckFault;
+use std::alloc::{AllocError, AllocFailed};
+use std::error::Error;
+use std::fmt;
+use std::fmt::{Display, Formatter, Write};
+
+/// Why a call of the book is refused. The book is then as it was.
+#[derive(Debug, Drop)]
+pub enum BookFault {
+    /// No vat has this name.
+    NoVat(Text),
+    NameTaken(Text),
+    /// No message has this name.
+    NoMessage(MsgId),
+    /// The message is not at a vat.
+    NotThere,
+    /// This message must be done first.
+    Before(MsgId),
+    /// Names are used up.
+    Full,
+    /// The program does not pass the check.
+    Check(CheckFault),
+    Memory,
+}
+
+impl Display for BookFault {
+    ghost output = { λ fault. Some (fault_text fault) };
+
+    fn fmt<W: Write>(&self, f: &mut Formatter<W>) -> fmt::Result {
+        match self {
+            BookFault::NoVat(name) => write!(f, "B1 NoVat {name}"),
+            BookFault::NameTaken(name) => write!(f, "B2 NameTaken {name}"),
+            BookFault::NoMessage(message) => write!(f, "B3 NoMessage {message}"),
+            BookFault::NotThere => write!(f, "B4 NotThere"),
+            BookFault::Before(message) => write!(f, "B6 Before {message}"),
+            BookFault::Full => write!(f, "B8 Full"),
+            BookFault::Check(fault) => write!(f, "{fault}"),
+            BookFault::Memory => write!(f, "B20 Memory"),
+        }
+    }
+}
+
+impl Error for BookFault {}
+
+impl From<AllocError> for BookFault {
+    ghost from_gives = { λ _ e. e ≡ Memory };
+
+    fn from(_error: AllocError) -> Self {
+        BookFault::Memory
+    }
+}
+
+impl<T: Drop> From<AllocFailed<T>> for BookFault {
+    ghost from_gives = { λ _ e. e ≡ Memory };
+
+    fn from(_error: AllocFailed<T>) -> Self {
+        BookFault::Memory
+    }
+}

@@ -1,0 +1,6 @@
+//! The world, and the book that all events go through.
+#![tactic(auto)]
+
+pub mod book;
+pub mod fault;
+pub mod world;

@@ -1,0 +1,242 @@
+// The cells of the world.
+ghost use Rattle.std.specs.Prelude.{◌≡◌, OnOk, OnErr, IfOk, Some, None};
+ghost use Rattle.std.specs.Option.{option_map};
+ghost use Rattle.ids.specs.declared.names.CellKey.TheVariants as key;
+ghost use Rattle.values.specs.View.{val_of};
+ghost use Rattle.std.specs.Prelude.{List, ℕ};
+ghost use Rattle.turn.specs.State.{State};
+ghost use Rattle.turn.specs.View.{state_of};
+ghost use Rattle.book.specs.World as model;
+ghost use Rattle.book.specs.World.{done, empty, put, clear, vat, home, message, published};
+ghost use Rattle.book.specs.View.{world_of, vat_of, home_of, message_of};
+
+use ids::names::{EventName, MsgId, PromId, VatNo};
+use ids::text::Text;
+use std::alloc::{AllocError, Global};
+use std::collections::BTreeMap;
+use turn::delivery::Delivery;
+use turn::heap::VatState;
+use values::value::Value;
+
+/// What is known of a vat by its name.
+#[derive(Drop)]
+pub struct Vat {
+    pub number: VatNo,
+    /// The names that its script defines at the top.
+    pub tops: Vec<Text>,
+}
+
+/// A vat's name and its state.
+#[derive(Drop)]
+pub struct Home {
+    pub name: Text,
+    pub state: VatState,
+}
+
+/// Where a message is.
+#[derive(Clone, Copy, Debug, PartialEq, Eq)]
+pub enum Place {
+    At(VatNo),
+    Done(EventName),
+}
+
+/// A message to a vat.
+#[derive(Drop)]
+pub struct Message {
+    pub delivery: Delivery,
+    /// The promise for its result.
+    pub result: PromId,
+    /// The message that must be done before it.
+    pub after: Option<MsgId>,
+    pub place: Place,
+}
+
+/// All cells, by what they hold.
+#[derive(Drop)]
+pub struct World {
+    vats: BTreeMap<Text, Vat>,
+    homes: BTreeMap<VatNo, Home>,
+    messages: BTreeMap<MsgId, Message>,
+    board: BTreeMap<PromId, Value>,
+}
+
+impl World {
+    /// The world in which nothing has happened.
+    pub fn new(alloc: Global) -> World
+        ensures { world_of result ≡ empty }
+    {
+        World {
+            vats: BTreeMap::new(alloc),
+            homes: BTreeMap::new(alloc),
+            messages: BTreeMap::new(alloc),
+            board: BTreeMap::new(alloc),
+        }
+    }
+
+    pub fn vat(&self, name: &Text) -> Option<&Vat>
+        ensures { option_map (λ v. vat_of v.now) result ≡ world_of self.now (key.Name name.now) }
+    {
+        self.vats.get(name)
+    }
+
+    pub fn home(&self, number: VatNo) -> Option<&Home>
+        ensures { option_map (λ h. home_of h.now) result ≡ world_of self.now (key.State number) }
+    {
+        self.homes.get(&number)
+    }
+
+    pub fn message(&self, name: MsgId) -> Option<&Message>
+        ensures { option_map (λ g. message (message_of g.now)) result ≡ world_of self.now (key.Msg name) }
+    {
+        self.messages.get(&name)
+    }
+
+    /// Adds a message, or changes nothing.
+    pub fn add_message(&mut self, name: MsgId, added: Message) -> Result<(), AllocError>
+        ensures ok { OnOk result (world_of self.new ≡ put (key.Msg name) (message (message_of added)) (world_of self.old)) }
+        ensures err { OnErr result (world_of self.new ≡ world_of self.old) }
+    {
+        self.messages.insert(name, added)?;
+        Ok(())
+    }
+
+    fn put_vat(&mut self, name: Text, added: Vat) -> Result<(), AllocError>
+        ensures ok { OnOk result (world_of self.new ≡ put (key.Name name) (vat_of added) (world_of self.old)) }
+        ensures err { OnErr result (world_of self.new ≡ world_of self.old) }
+    {
+        self.vats.insert(name, added)?;
+        Ok(())
+    }
+
+    fn clear_vat(&mut self, name: &Text)
+        ensures { world_of self.new ≡ clear (key.Name name.now) (world_of self.old) }
+    {
+        self.vats.remove(name);
+    }
+
+    fn put_home(&mut self, number: VatNo, added: Home) -> Result<(), AllocError>
+        ensures ok { OnOk result (world_of self.new ≡ put (key.State number) (home_of added) (world_of self.old)) }
+        ensures err { OnErr result (world_of self.new ≡ world_of self.old) }
+    {
+        self.homes.insert(number, added)?;
+        Ok(())
+    }
+
+    fn clear_home(&mut self, number: VatNo)
+        ensures { world_of self.new ≡ clear (key.State number) (world_of self.old) }
+    {
+        self.homes.remove(&number);
+    }
+
+    /// Adds a vat's state and its opening message, or changes nothing.
+    fn add_home(
+        &mut self,
+        number: VatNo,
+        added: Home,
+        name: MsgId,
+        opening: Message,
+    ) -> Result<(), AllocError>
+        requires { world_of self.old (key.State number) ≡ None }
+        ensures ok { OnOk result (world_of self.new ≡ put (key.Msg name) (message (message_of opening)) (put (key.State number) (home_of added) (world_of self.old))) }
+        ensures err { OnErr result (world_of self.new ≡ world_of self.old) }
+    {
+        self.put_home(number, added)?;
+        match self.add_message(name, opening) {
+            Ok(()) => Ok(()),
+            Err(error) => {
+                self.clear_home(number);
+                Err(error)
+            }
+        }
+    }
+
+    /// Adds a vat with its state and its opening message, or changes nothing.
+    pub fn add_vat(
+        &mut self,
+        vat: Vat,
+        added: Home,
+        name: MsgId,
+        opening: Message,
+    ) -> Result<(), AllocError>
+        requires free { world_of self.old (key.Name added.name) ≡ None }
+        requires new { world_of self.old (key.State vat.number) ≡ None }
+        ensures ok { OnOk result (world_of self.new ≡ put (key.Msg name) (message (message_of opening)) (put (key.State vat.number) (home_of added) (put (key.Name added.name) (vat_of vat) (world_of self.old)))) }
+        ensures err { OnErr result (world_of self.new ≡ world_of self.old) }
+    {
+        let number = vat.number;
+        let key = added.name.share()?;
+        let undone = added.name.share()?;
+        self.put_vat(key, vat)?;
+        match self.add_home(number, added, name, opening) {
+            Ok(()) => Ok(()),
+            Err(error) => {
+                self.clear_vat(&undone);
+                Err(error)
+            }
+        }
+    }
+
+    fn publish(&mut self, promise: PromId, value: Value) -> Result<(), AllocError>
+        ensures ok { OnOk result (world_of self.new ≡ put (key.Board promise) (published (val_of value)) (world_of self.old)) }
+        ensures err { OnErr result (world_of self.new ≡ world_of self.old) }
+    {
+        self.board.insert(promise, value)?;
+        Ok(())
+    }
+
+    fn mark_done(&mut self, name: MsgId, event: EventName)
+        ensures { (g : model.Message) → world_of self.old (key.Msg name) ≡ Some (message g) → world_of self.new ≡ put (key.Msg name) (message (record g { place = done event })) (world_of self.old) }
+    {
+        if let Some(done) = self.messages.get_mut(&name) {
+            done.place = Place::Done(event);
+        }
+    }
+
+    fn give_state(&mut self, number: VatNo, state: VatState)
+        ensures { (x : List ℕ) (s : State) → world_of self.old (key.State number) ≡ Some (home x s) → world_of self.new ≡ put (key.State number) (home x (state_of state)) (world_of self.old) }
+    {
+        if let Some(home) = self.homes.get_mut(&number) {
+            home.state = state;
+        }
+    }
+
+    /// Publishes what a turn gave, marks its message as done, and gives its vat a new state; or changes nothing.
+    pub fn finish(
+        &mut self,
+        event: EventName,
+        name: MsgId,
+        promise: PromId,
+        number: VatNo,
+        state: VatState,
+        value: Value,
+    ) -> Result<(), AllocError>
+        ensures ok { OnOk result ((g : model.Message) (x : List ℕ) (s : State) → world_of self.old (key.Msg name) ≡ Some (message g) → world_of self.old (key.State number) ≡ Some (home x s) → world_of self.new ≡ put (key.State number) (home x (state_of state)) (put (key.Msg name) (message (record g { place = done event })) (put (key.Board promise) (published (val_of value)) (world_of self.old)))) }
+        ensures err { OnErr result (world_of self.new ≡ world_of self.old) }
+    {
+        self.publish(promise, value)?;
+        self.mark_done(name, event);
+        self.give_state(number, state);
+        Ok(())
+    }
+
+    /// The vats' names and states, in order of birth.
+    pub fn homes(&self) -> &BTreeMap<VatNo, Home>
+        ensures { result.now ≡ self.now.homes }
+    {
+        &self.homes
+    }
+
+    /// The messages, in order of their names.
+    pub fn messages(&self) -> &BTreeMap<MsgId, Message>
+        ensures { result.now ≡ self.now.messages }
+    {
+        &self.messages
+    }
+
+    /// What was published, in order of the promises.
+    pub fn board(&self) -> &BTreeMap<PromId, Value>
+        ensures { result.now ≡ self.now.board }
+    {
+        &self.board
+    }
+}

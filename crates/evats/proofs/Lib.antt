@@ -1,0 +1,4 @@
+pub mod Places
+pub mod Boundaries
+pub mod Numerals
+pub mod ScriptLemmas

@@ -1,0 +1,6 @@
+use Rattle.std.specs.Prelude.{string_bytes}
+use Rattle.evats.proofs.ScriptLemmas.{Taken}
+use Rattle.evats.proofs.script.take_script.Given as goal
+
+abbrev pub invariant-lines : goal.invariant-lines
+invariant-lines l = Taken l.lines l.fn.input l.taken l.rest l.joined.fault (string_bytes l.joined.text)

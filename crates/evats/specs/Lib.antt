@@ -1,0 +1,9 @@
+pub mod Commands
+pub mod Ended
+pub mod Lines
+pub mod Numbers
+pub mod ScriptView
+pub mod Scripts
+pub mod Show
+pub mod ShowView
+pub mod Words

@@ -1,0 +1,44 @@
+-- Numbers and names of messages in a command.
+use Rattle.std.specs.Prelude.{ℕ, ◌+◌, ◌-◌, ◌*◌, ◌^◌, List, [], ◌∷◌, Bool, not, length, ◌&&◌, ◌==◌, nat_lt, cond, Option, Some, None}
+use Rattle.std.specs.Option.{option_and_then}
+use Rattle.std.specs.Char.{is_ascii_digit}
+use Rattle.std.specs.List.{list_all, before_first, after_first}
+use Rattle.ids.specs.declared.names.EventName.{EventName}
+use Rattle.ids.specs.declared.names.MsgId.{MsgId}
+
+-- decimal digits, one at least
+abbrev pub is_numeral : List ℕ → Bool
+is_numeral word = not (length word == 0) && list_all is_ascii_digit word
+
+-- the number that digits spell, behind those that spell n
+abbrev pub numeral_from : ℕ → List ℕ → ℕ
+numeral_from n [] = n
+numeral_from n (b ∷ bs) = numeral_from (10 * n + (b - 48)) bs
+
+abbrev pub within : ℕ → Option ℕ
+within n = cond (nat_lt n (2 ^ 32)) (Some n) None
+
+-- a number of at most 4,294,967,295, leading zeros allowed
+abbrev pub number_of : List ℕ → Option ℕ
+number_of word = cond (is_numeral word) (within (numeral_from 0 word)) None
+
+-- what stands behind a tag in front
+abbrev pub behind_tag : ℕ → List ℕ → Option (List ℕ)
+behind_tag tag [] = None
+behind_tag tag (b ∷ bs) = cond (b == tag) (Some bs) None
+
+-- the number in a name such as e7 or m0
+abbrev pub tagged : ℕ → List ℕ → Option ℕ
+tagged tag word = option_and_then number_of (behind_tag tag word)
+
+abbrev pub is_dot : ℕ → Bool
+is_dot b = b == 46
+
+abbrev pub message_from : Option ℕ → Option ℕ → Option MsgId
+message_from None i = None
+message_from (Some e) None = None
+message_from (Some e) (Some i) = Some (record { event = record { 0 = e }; index = i })
+
+-- a message's name, such as e7.m0
+abbrev pub message_named : List ℕ → Option MsgId
+message_named word = message_from (tagged 101 (before_first is_dot word)) (tagged 109 (after_first is_dot word))

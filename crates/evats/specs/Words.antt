@@ -1,0 +1,18 @@
+-- How a line is cut into words: they stand between spaces and tabs.
+use Rattle.std.specs.Prelude.{ℕ, List, drop, Bool, not, ◌==◌, ◌||◌}
+use Rattle.std.specs.List.{position_or_len, before_first}
+
+abbrev pub is_blank : ℕ → Bool
+is_blank b = b == 32 || b == 9
+
+-- what begins with the first character that is no blank
+abbrev pub without_blanks : List ℕ → List ℕ
+without_blanks line = drop (position_or_len (λ b. not (is_blank b)) line) line
+
+-- the word that a text without blanks in front begins with
+abbrev pub first_word : List ℕ → List ℕ
+first_word text = before_first is_blank text
+
+-- what stands behind that word and the blanks after it
+abbrev pub behind_word : List ℕ → List ℕ
+behind_word text = without_blanks (drop (position_or_len is_blank text) text)

@@ -1,0 +1,79 @@
+//! Runs a text of commands on vats, and writes one reply for each.
+#![tactic(auto)]
+
+mod command;
+mod engine;
+mod ended;
+mod lines;
+mod numbers;
+mod options;
+mod reply;
+mod script;
+mod show;
+mod words;
+
+pub use ended::{Ended, status};
+pub use engine::{Fault, Limits, Summary, replies};
+
+use options::{Options, Parsed, parse};
+use std::fs;
+use std::io;
+use std::io::{Read, Write};
+use std::process::ExitCode;
+use std::rt::Runtime;
+
+/// What is read: a file, or standard input.
+fn input<R: Runtime + AllocGlobal>(rt: &R, file: Option<&str>) -> Result<Vec<u8>, Ended> {
+    match file {
+        Some(path) => fs::read(rt, path).map_err(|_| Ended::NoFile),
+        None => {
+            let mut bytes = Vec::new(rt.alloc());
+            match rt.reader().read_to_end(&mut bytes) {
+                Ok(_) => Ok(bytes),
+                Err(_) => Err(Ended::Ran(Err(Fault::Reader))),
+            }
+        }
+    }
+}
+
+/// Answers all commands, and writes the replies at once.
+fn answer<R: Runtime + AllocGlobal>(rt: &R, options: &Options) -> Ended {
+    let bytes = match input(rt, options.file) {
+        Ok(bytes) => bytes,
+        Err(ended) => return ended,
+    };
+    match replies(rt.alloc(), &bytes, options.limits) {
+        Ok((written, summary)) => match io::writer(rt).write_all(&written) {
+            Ok(()) => Ended::Ran(Ok(summary)),
+            Err(_) => Ended::Ran(Err(Fault::Writer)),
+        },
+        Err(fault) => Ended::Ran(Err(fault)),
+    }
+}
+
+fn run<R: Runtime + AllocGlobal>(rt: &R) -> io::Result<Ended> {
+    let words: Vec<String> = std::env::args(rt)?.collect(rt.alloc())?;
+    let ended = match parse(rt, words.as_slice())? {
+        Parsed::Options(options) => {
+            let ended = answer(rt, &options);
+            complain(rt, &ended, options.file)?;
+            ended
+        }
+        Parsed::Stop(ended) => ended,
+    };
+    Ok(ended)
+}
+
+/// Says on standard error why a run did not come to its end.
+fn complain(rt: &impl Eprint, ended: &Ended, file: Option<&str>) -> io::Result<()> {
+    match ended {
+        Ended::NoFile => eprintln!(rt; "evats: cannot read {}", file.unwrap_or("")),
+        Ended::Ran(Err(fault)) => eprintln!(rt; "evats: {fault}"),
+        _ => Ok(()),
+    }
+}
+
+fn main(rt: HostRuntime) -> io::Result<ExitCode> {
+    let ended = run(&rt)?;
+    Ok(ExitCode::from(status(&ended)))
+}

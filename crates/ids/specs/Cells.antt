@@ -1,0 +1,29 @@
+-- When two keys of cells are the same, and the orders of names.
+use Rattle.std.specs.Prelude.{Bool, false}
+use Rattle.std.specs.Ordering.{nat_cmp, ordering_then, is_eq}
+use Rattle.std.specs.Cmp.Lexicographic.{slice_cmp}
+use Rattle.std.specs.declared.cmp.Ordering.{Ordering}
+use Rattle.ids.specs.declared.names.VatNo.{VatNo}
+use Rattle.ids.specs.declared.names.MsgId.{MsgId}
+use Rattle.ids.specs.declared.names.PromId.{PromId}
+use Rattle.ids.specs.declared.names.CellKey.{CellKey}
+use Rattle.ids.specs.declared.names.CellKey.TheVariants as key
+
+-- by event
+abbrev pub vat_cmp : VatNo → VatNo → Ordering
+vat_cmp v w = nat_cmp v.0.0 w.0.0
+
+-- by event, then by number
+abbrev pub message_cmp : MsgId → MsgId → Ordering
+message_cmp m n = ordering_then (nat_cmp m.event.0 n.event.0) (nat_cmp m.index n.index)
+
+-- by event, then by number, then by home
+abbrev pub promise_cmp : PromId → PromId → Ordering
+promise_cmp p q = ordering_then (nat_cmp p.event.0 q.event.0) (ordering_then (nat_cmp p.index q.index) (vat_cmp p.home q.home))
+
+abbrev pub same_key : CellKey → CellKey → Bool
+same_key (key.Name x) (key.Name y) = is_eq (slice_cmp nat_cmp x y)
+same_key (key.State v) (key.State w) = is_eq (vat_cmp v w)
+same_key (key.Msg m) (key.Msg n) = is_eq (message_cmp m n)
+same_key (key.Board p) (key.Board q) = is_eq (promise_cmp p q)
+same_key _ _ = false

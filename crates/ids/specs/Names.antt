@@ -1,0 +1,18 @@
+-- How names are written.
+use Rattle.std.specs.Prelude.{ℕ, List, ◌++◌, codes}
+use Rattle.std.specs.Fmt.{decimal}
+use Rattle.ids.specs.declared.names.EventName.{EventName}
+use Rattle.ids.specs.declared.names.MsgId.{MsgId}
+use Rattle.ids.specs.declared.names.PromId.{PromId}
+
+-- e4
+abbrev pub event_text : EventName → List ℕ
+event_text e = codes "e" ++ decimal e.0
+
+-- e4.m0
+abbrev pub message_text : MsgId → List ℕ
+message_text m = event_text m.event ++ codes ".m" ++ decimal m.index
+
+-- e4.p0
+abbrev pub promise_text : PromId → List ℕ
+promise_text p = event_text p.event ++ codes ".p" ++ decimal p.index

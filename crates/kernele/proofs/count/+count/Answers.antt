@@ -1,0 +1,36 @@
+use Rattle.std.proofs.Common.{arith, ap, ◌+◌}
+use Rattle.kernele.specs.View.{tree_of, trees_of}
+use Rattle.kernele.specs.Scope.{nodes, nodes_in}
+use Rattle.kernele.proofs.Counts.{some_node, left_after}
+use Rattle.kernele.proofs.Walks.{tree_is_call, tree_is_list, trees_from, no_trees_from}
+use Rattle.kernele.proofs.count.+count.Goals as goal
+
+pub nodes_left-returns-in_err-left : goal.nodes_left-returns-in_err-left
+nodes_left-returns-in_err-left t c = rw c.from_residual.ensures (λ h. c.in_err-left.ensures (omega (arith, h, some_node (tree_of c.args.e.now))))
+
+pub nodes_left-returns-in_ok-nodes_left-in-Call : goal.nodes_left-returns-in_ok-nodes_left-in-Call
+nodes_left-returns-in_ok-nodes_left-in-Call t c =
+    let is = ap nodes (tree_is_call c.in-Call.receiver c.in-Call.field-1 c.in-Call.args c.in-Call.is c.deref-in-Call-3.ensures c.deref-in-Call.ensures c.deref-in-Call-2.ensures.value) in
+    left_after c.nodes_left_by_all.result (1 + nodes (tree_of c.deref-in-Call-3.result.now)) (nodes_in (trees_of c.deref-in-Call-2.result.now)) _ c.in_ok-nodes_left-in-Call.field-0 c.args.limit
+    (omega (arith, is)) (omega (arith, c.in_ok-nodes_left-in-Call.ensures.0, c.in_ok-nodes_left-in-Call.ensures.1, c.in_ok-left.ensures.0, c.in_ok-left.ensures.1)) c.nodes_left_by_all.ensures
+
+pub nodes_left-returns-in-List : goal.nodes_left-returns-in-List
+nodes_left-returns-in-List t c =
+    let is = ap nodes (tree_is_list c.in-List.items c.in-List.is c.deref-in-List.ensures c.deref-in-List-2.ensures.value) in
+    left_after c.nodes_left_by_all-in-List.result 1 (nodes_in (trees_of c.deref-in-List-2.result.now)) _ c.in_ok-left.left c.args.limit
+    (omega (arith, is)) (omega (arith, c.in_ok-left.ensures.0, c.in_ok-left.ensures.1)) c.nodes_left_by_all-in-List.ensures
+
+pub nodes_left_by_all-returns-in_err-left : goal.nodes_left_by_all-returns-in_err-left
+nodes_left_by_all-returns-in_err-left t c =
+    let next = ap nodes_in (trees_from c.args.trees.now c.loop-tree.tree-index c.tree-item.result c.loop-tree-test.true c.tree-item.is) in
+    rw c.from_residual.ensures (λ h. c.in_err-left.ensures (omega (arith, h, next, c.loop-tree.invariant)))
+
+pub nodes_left_by_all-loop-tree-preserved : goal.nodes_left_by_all-loop-tree-preserved
+nodes_left_by_all-loop-tree-preserved t c =
+    let next = ap nodes_in (trees_from c.args.trees.now c.loop-tree.tree-index c.tree-item.result c.loop-tree-test.true c.tree-item.is) in
+    omega (arith, next, c.loop-tree.invariant, c.in_ok-left.ensures.0, c.in_ok-left.ensures.1)
+
+pub nodes_left_by_all-returns : goal.nodes_left_by_all-returns
+nodes_left_by_all-returns t c =
+    let done = ap nodes_in (no_trees_from c.args.trees.now c.loop-tree.tree-index c.loop-tree-test.false) in
+    (omega (arith, done, c.loop-tree.invariant), omega (arith, done, c.loop-tree.invariant))

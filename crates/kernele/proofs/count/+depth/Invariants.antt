@@ -1,0 +1,11 @@
+use Rattle.std.proofs.Common.{◌≤◌, drop}
+use Rattle.kernele.specs.View.{trees_of}
+use Rattle.kernele.specs.Scope.{depth_in}
+use Rattle.kernele.proofs.count.+depth.Given as goal
+
+-- the trees so far are within the limit
+abbrev pub invariant-are_within_depth-loop-tree : goal.invariant-are_within_depth-loop-tree
+invariant-are_within_depth-loop-tree l = record {
+  whole : depth_in (trees_of (drop l.tree-index l.trees)) ≤ l.limit → depth_in (trees_of l.trees) ≤ l.limit;
+  part : depth_in (trees_of (drop l.tree-index l.trees)) ≤ depth_in (trees_of l.trees);
+}

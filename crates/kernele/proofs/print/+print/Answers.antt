@@ -1,0 +1,28 @@
+use Rattle.std.proofs.Common.{refl, ap, sym, ◌∙◌, ◌++◌, append_assoc, rules, string_bytes, codes}
+use Rattle.std.proofs.lemmas.Result.{IfOk-equal}
+use Rattle.kernele.specs.Spelling.{led_by, joined, spelled, spelled_parts, as_part}
+use Rattle.kernele.specs.View.{tree_of, trees_of}
+use Rattle.kernele.proofs.Walks.{tree_is_call, tree_is_list, append_more, append_end}
+use Rattle.kernele.proofs.print.+print.Goals as goal
+
+pub write_expr-returns-in_ok-push_str-in-Call : goal.write_expr-returns-in_ok-push_str-in-Call
+write_expr-returns-in_ok-push_str-in-Call t c =
+    let is = tree_is_call c.in-Call.receiver c.in-Call.verb c.in-Call.args c.in-Call.is c.deref-in-Call.ensures c.deref-in-Call-2.ensures c.deref-in-Call-3.ensures.value in
+    rw is (search (rules, IfOk-equal, append_assoc))
+
+pub write_expr-returns-in-List : goal.write_expr-returns-in-List
+write_expr-returns-in-List t c =
+    let is = tree_is_list c.in-List.items c.in-List.is c.deref-in-List.ensures c.deref-in-List-2.ensures.value in
+    rw is c.write_list.ensures
+
+pub write_parts-loop-part-preserved : goal.write_parts-loop-part-preserved
+write_parts-loop-part-preserved t c =
+    append_more (λ ts. led_by (codes ", ") (spelled_parts ts)) (λ t. codes ", " ++ as_part t (spelled t)) (λ t ts. refl) (string_bytes c.loop-part.out) c.in-Some.rest.now c.loop-part.part-index c.part-item.result c.loop-part-test.true c.part-item.is (search (rules, append_assoc))
+    ∙ c.loop-part.invariant
+
+pub write_parts-returns-after-loop-part : goal.write_parts-returns-after-loop-part
+write_parts-returns-after-loop-part t c =
+    let written = append_end (λ ts. led_by (codes ", ") (spelled_parts ts)) refl c.in-Some.rest.now c.loop-part.part-index c.loop-part-test.false c.loop-part.invariant in
+    written ∙ ap (λ s. s ++ led_by (codes ", ") (spelled_parts (trees_of c.in-Some.rest.now))) c.in_ok-write_part.ensures
+    ∙ append_assoc (string_bytes c.args.out.now) (as_part (tree_of c.in-Some.first.now) (spelled (tree_of c.in-Some.first.now))) (led_by (codes ", ") (spelled_parts (trees_of c.in-Some.rest.now)))
+    ∙ ap (λ xs. string_bytes c.args.out.now ++ joined (codes ", ") (spelled_parts (trees_of xs))) (sym c.in-Some.ensures.cases.0)

@@ -1,0 +1,8 @@
+use Rattle.std.proofs.Common.{◌≡◌, ◌++◌, string_bytes, codes, drop}
+use Rattle.kernele.specs.View.{trees_of}
+use Rattle.kernele.specs.Spelling.{led_by, spelled_parts}
+use Rattle.kernele.proofs.print.+print.Given as goal
+
+-- what is written, and what the trees that are left give
+abbrev pub invariant-write_parts-loop-part : goal.invariant-write_parts-loop-part
+invariant-write_parts-loop-part l = string_bytes l.out ++ led_by (codes ", ") (spelled_parts (trees_of (drop l.part-index l.rest))) ≡ string_bytes l.initial.out ++ led_by (codes ", ") (spelled_parts (trees_of l.rest))

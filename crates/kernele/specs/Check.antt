@@ -1,0 +1,43 @@
+-- What the check's values stand for.
+use Rattle.std.specs.Prelude.{◌≡◌, ℕ, List, ◌++◌, Result, Ok, Err, ◌||◌, codes, MatchResult}
+use Rattle.std.specs.Ordering.{nat_cmp}
+use Rattle.std.specs.Cmp.Lexicographic.{slice_cmp}
+use Rattle.std.specs.BTreeSet.{BTreeSet, contains}
+use Rattle.kernele.specs.Tree.{Name}
+use Rattle.kernele.specs.Scope.{Names, Scopes, unbound, duplicate_name, too_deep, too_long, Checked}
+use Rattle.kernele.specs.declared.check.CheckFault.{CheckFault}
+use Rattle.kernele.specs.declared.check.CheckFault.TheVariants as fault
+use Rattle.kernele.specs.declared.check.Outer.{Outer}
+use Rattle.kernele.specs.declared.check.Scopes as code
+
+-- a fault in words
+abbrev pub fault_text : CheckFault → List ℕ
+fault_text (fault.Unbound x) = codes "K1 Unbound " ++ x
+fault_text (fault.DuplicateName x) = codes "K3 DuplicateName " ++ x
+fault_text fault.TooDeep = codes "K4 TooDeep"
+fault_text fault.TooLong = codes "K5 TooLong"
+fault_text fault.Memory = codes "B20 Memory"
+
+-- the names of a set
+abbrev pub names_of : BTreeSet Name → Names
+names_of set = λ x. contains (slice_cmp nat_cmp) set x
+
+-- what a program finds in scope
+abbrev pub scopes_of : Outer → Scopes
+scopes_of outer = record { own = names_of outer.own; around = names_of outer.around }
+
+-- the fault tells why the program is refused, unless it is memory that failed
+abbrev pub Refuses : CheckFault → Checked → Type 0
+Refuses (fault.Unbound x) checked = checked ≡ Err (unbound x)
+Refuses (fault.DuplicateName x) checked = checked ≡ Err (duplicate_name x)
+Refuses fault.TooDeep checked = checked ≡ Err too_deep
+Refuses fault.TooLong checked = checked ≡ Err too_long
+Refuses fault.Memory checked = Unit {0}
+
+-- the scopes that are left are those of the definition, or the fault is its refusal
+abbrev pub Gives : Result (Unit {0}) CheckFault → Scopes → Checked → Type 0
+Gives result s checked = MatchResult result (λ done. checked ≡ Ok s) (λ fault. Refuses fault checked)
+
+-- the names that the program defined so far come before those that it found
+abbrev pub scopes_in : code.Scopes → Scopes
+scopes_in s = record { own = λ x. names_of s.defined x || names_of s.outer.now.own x; around = names_of s.outer.now.around }

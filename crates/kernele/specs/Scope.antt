@@ -1,0 +1,149 @@
+-- Which programs may be evaluated: their size, their depth, and the scope of their names.
+use Rattle.std.specs.Prelude.{◌≡◌, ℕ, ◌+◌, max, List, [], ◌∷◌, ◌++◌, Bool, false, ◌||◌, nat_lt, Result, Ok, Err, if◌then◌else◌}
+use Rattle.std.specs.List.{list_any}
+use Rattle.std.specs.Str.{bytes_eq}
+use Rattle.kernele.specs.Tree.{Name, Tree, null_tree, bool_tree, int_tree, text_tree, noun, define, call, list_tree, same_tree, Trees, none, and_then}
+use Rattle.kernele.specs.declared.tree.Pattern.{Pattern}
+use Rattle.kernele.specs.declared.tree.Pattern.TheVariants as pattern
+
+-- how many nodes a tree has; a block is none
+abbrev mutual
+  pub nodes : Tree → ℕ
+  nodes null_tree = 1
+  nodes (bool_tree b) = 1
+  nodes (int_tree z) = 1
+  nodes (text_tree s) = 1
+  nodes (noun x) = 1
+  nodes (define p e) = 1 + nodes e
+  nodes (call r verb args) = 1 + nodes r + nodes_in args
+  nodes (list_tree items) = 1 + nodes_in items
+  nodes (same_tree l r) = 1 + nodes l + nodes r
+
+  pub nodes_in : Trees → ℕ
+  nodes_in none = 0
+  nodes_in (and_then t ts) = nodes t + nodes_in ts
+
+-- how many nodes stand below one another; a leaf has depth 1
+abbrev mutual
+  pub depth : Tree → ℕ
+  depth null_tree = 1
+  depth (bool_tree b) = 1
+  depth (int_tree z) = 1
+  depth (text_tree s) = 1
+  depth (noun x) = 1
+  depth (define p e) = 1 + depth e
+  depth (call r verb args) = 1 + max (depth r) (depth_in args)
+  depth (list_tree items) = 1 + depth_in items
+  depth (same_tree l r) = 1 + max (depth l) (depth r)
+
+  pub depth_in : Trees → ℕ
+  depth_in none = 0
+  depth_in (and_then t ts) = max (depth t) (depth_in ts)
+
+-- a set of names: whether a name is in it
+abbrev pub Names : Type 0
+Names = Name → Bool
+
+-- no name is in it
+abbrev pub no_names : Names
+no_names = λ y. false
+
+-- the names of a list
+abbrev pub names_in : List Name → Names
+names_in xs = λ y. list_any (λ x. bytes_eq x y) xs
+
+-- one more name
+abbrev pub with_name : Name → Names → Names
+with_name x names = λ y. bytes_eq x y || names y
+
+-- the names of a list besides, in order
+abbrev pub with_names : List Name → Names → Names
+with_names [] names = names
+with_names (x ∷ xs) names = with_names xs (with_name x names)
+
+-- where an expression stands: the names of the innermost scope so far, and those of the scopes around it
+pub record Scopes : Type 0 where
+  pub own : Names
+  pub around : Names
+
+-- a script stands in a scope that has the names of earlier vats
+abbrev pub script_scopes : List Name → Scopes
+script_scopes earlier = record { own = names_in earlier; around = no_names }
+
+-- an asked program stands in a scope of its own, inside one that has the names of its vat
+abbrev pub asked_scopes : List Name → Scopes
+asked_scopes known = record { own = no_names; around = names_in known }
+
+-- why a program is refused
+pub data Refusal : Type 0 where
+  unbound : (x : Name) → Refusal
+  duplicate_name : (x : Name) → Refusal
+  too_deep : Refusal
+  too_long : Refusal
+
+-- what an expression leaves of its scopes, or why it is refused
+abbrev pub Checked : Type 0
+Checked = Result Scopes Refusal
+
+-- first one, and then another in the scopes that it leaves
+abbrev pub in_turn : Checked → (Scopes → Checked) → Checked
+in_turn (Ok s) next = next s
+in_turn (Err refusal) next = Err refusal
+
+-- a noun is in one of the scopes
+abbrev pub found : Name → Scopes → Checked
+found x s = if s.own x || s.around x then Ok s else Err (unbound x)
+
+-- a definition adds its name to its own scope, which must not have it; it may hide one of a scope around
+abbrev pub bound : Pattern → Scopes → Checked
+bound (pattern.Name x) s = if s.own x then Err (duplicate_name x) else Ok (record s { own = with_name x s.own })
+bound pattern.Ignore s = Ok s
+
+-- the names of an expression, in the order in which it is evaluated: a receiver before its arguments, those from the left
+abbrev mutual
+  pub checked : Tree → Scopes → Checked
+  checked null_tree s = Ok s
+  checked (bool_tree b) s = Ok s
+  checked (int_tree z) s = Ok s
+  checked (text_tree t) s = Ok s
+  checked (noun x) s = found x s
+  checked (define p e) s = in_turn (checked e s) (bound p)
+  checked (call r verb args) s = in_turn (checked r s) (checked_all args)
+  checked (list_tree items) s = checked_all items s
+  checked (same_tree l r) s = in_turn (checked l s) (checked r)
+
+  pub checked_all : Trees → Scopes → Checked
+  checked_all none s = Ok s
+  checked_all (and_then t ts) s = in_turn (checked t s) (checked_all ts)
+
+-- a program: first its size, at most 16,384 nodes, then its depth, at most 200, then its names
+abbrev pub checked_program : Trees → Scopes → Checked
+checked_program ts s =
+    if nat_lt 16384 (nodes_in ts) then Err too_long
+    else (if nat_lt 200 (depth_in ts) then Err too_deep else checked_all ts s)
+
+-- the name that a definition adds
+abbrev pub name_of : Pattern → List Name
+name_of (pattern.Name x) = x ∷ []
+name_of pattern.Ignore = []
+
+-- the names that a program defines in its own scope, in the order in which they are defined
+abbrev mutual
+  pub own_names : Tree → List Name
+  own_names null_tree = []
+  own_names (bool_tree b) = []
+  own_names (int_tree z) = []
+  own_names (text_tree s) = []
+  own_names (noun x) = []
+  own_names (define p e) = own_names e ++ name_of p
+  own_names (call r verb args) = own_names r ++ own_names_in args
+  own_names (list_tree items) = own_names_in items
+  own_names (same_tree l r) = own_names l ++ own_names r
+
+  pub own_names_in : Trees → List Name
+  own_names_in none = []
+  own_names_in (and_then t ts) = own_names t ++ own_names_in ts
+
+-- a program that is not refused adds the names that it defines to its own scope, and nothing else
+abbrev pub AddsOwnNames : Type 0
+AddsOwnNames = (ts : Trees) (s r : Scopes) → checked_all ts s ≡ Ok r → r ≡ record s { own = with_names (own_names_in ts) s.own }

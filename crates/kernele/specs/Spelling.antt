@@ -1,0 +1,89 @@
+-- The canonical spelling: one way to write each tree.
+use Rattle.std.specs.Prelude.{ℕ, List, [], ◌∷◌, ◌++◌, Bool, true, false, codes, if◌then◌else◌}
+use Rattle.std.specs.Fmt.{signed_decimal}
+use Rattle.ids.specs.Quoted.{quoted}
+use Rattle.kernele.specs.Tree.{Name, Tree, null_tree, bool_tree, int_tree, text_tree, noun, define, call, list_tree, same_tree, Trees, none, and_then}
+use Rattle.kernele.specs.declared.tree.Pattern.{Pattern}
+use Rattle.kernele.specs.declared.tree.Pattern.TheVariants as pattern
+
+-- texts, each behind a separator
+abbrev pub led_by : List ℕ → List (List ℕ) → List ℕ
+led_by separator [] = []
+led_by separator (s ∷ rest) = separator ++ s ++ led_by separator rest
+
+-- texts with a separator between them
+abbrev pub joined : List ℕ → List (List ℕ) → List ℕ
+joined separator [] = []
+joined separator (s ∷ rest) = s ++ led_by separator rest
+
+-- a text in round brackets, where they are wanted
+abbrev pub bracketed : Bool → List ℕ → List ℕ
+bracketed wanted s = if wanted then codes "(" ++ s ++ codes ")" else s
+
+-- what a definition binds
+abbrev pub bound_name : Pattern → List ℕ
+bound_name (pattern.Name x) = x
+bound_name pattern.Ignore = codes "_"
+
+-- only as an item of a block does a definition stand without brackets
+abbrev pub is_definition : Tree → Bool
+is_definition null_tree = false
+is_definition (bool_tree b) = false
+is_definition (int_tree z) = false
+is_definition (text_tree s) = false
+is_definition (noun x) = false
+is_definition (define p e) = true
+is_definition (call r verb args) = false
+is_definition (list_tree items) = false
+is_definition (same_tree l r) = false
+
+-- nouns, literals, lists, calls and comparisons are receivers without brackets
+abbrev pub is_bare_receiver : Tree → Bool
+is_bare_receiver null_tree = true
+is_bare_receiver (bool_tree b) = true
+is_bare_receiver (int_tree z) = true
+is_bare_receiver (text_tree s) = true
+is_bare_receiver (noun x) = true
+is_bare_receiver (define p e) = false
+is_bare_receiver (call r verb args) = true
+is_bare_receiver (list_tree items) = true
+is_bare_receiver (same_tree l r) = true
+
+-- a part of another tree, from its spelling
+abbrev pub as_part : Tree → List ℕ → List ℕ
+as_part t s = bracketed (is_definition t) s
+
+-- a receiver, from its spelling
+abbrev pub as_receiver : Tree → List ℕ → List ℕ
+as_receiver t s = if is_bare_receiver t then s else bracketed true s
+
+-- a verb with its arguments
+abbrev pub message : Name → List (List ℕ) → List ℕ
+message verb args = verb ++ codes "(" ++ joined (codes ", ") args ++ codes ")"
+
+abbrev mutual
+  -- a tree, as it stands as an item of a block
+  pub spelled : Tree → List ℕ
+  spelled null_tree = codes "null"
+  spelled (bool_tree b) = if b then codes "true" else codes "false"
+  spelled (int_tree z) = signed_decimal z
+  spelled (text_tree s) = quoted s
+  spelled (noun x) = x
+  spelled (define p e) = codes "def " ++ bound_name p ++ codes " := " ++ as_part e (spelled e)
+  spelled (call r verb args) = as_receiver r (spelled r) ++ codes "." ++ message verb (spelled_parts args)
+  spelled (list_tree items) = codes "[" ++ joined (codes ", ") (spelled_parts items) ++ codes "]"
+  spelled (same_tree l r) = codes "(" ++ as_part l (spelled l) ++ codes " == " ++ as_part r (spelled r) ++ codes ")"
+
+  -- arguments, or the items of a list
+  pub spelled_parts : Trees → List (List ℕ)
+  spelled_parts none = []
+  spelled_parts (and_then t ts) = as_part t (spelled t) ∷ spelled_parts ts
+
+-- the items of a block
+abbrev pub spelled_items : Trees → List (List ℕ)
+spelled_items none = []
+spelled_items (and_then t ts) = spelled t ∷ spelled_items ts
+
+-- a program: the items of its block, without braces
+abbrev pub spelling : Trees → List ℕ
+spelling ts = joined (codes "; ") (spelled_items ts)

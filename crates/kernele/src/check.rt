@@ -1,0 +1,216 @@
+// The check of a program before it is evaluated.
+ghost use Rattle.std.specs.Prelude.{◌≡◌, Some, Ok, IsOk, IfOk, IfErr, OnOk, MatchResult};
+ghost use Rattle.kernele.specs.View.{tree_of, trees_of, program_of};
+ghost use Rattle.kernele.specs.Scope.{checked, checked_all, checked_program, found, bound, script_scopes, asked_scopes, names_in, with_name};
+ghost use Rattle.kernele.specs.Check.{Gives, Refuses, fault_text, names_of, scopes_of, scopes_in};
+ghost use Rattle.kernele.specs.declared.check.CheckFault.TheVariants.{Memory};
+
+use crate::count::{are_within_depth, nodes_left_by_all};
+use crate::tree::{Expr, Pattern, Program};
+use ids::text::Text;
+use std::alloc::{AllocError, AllocFailed, Global};
+use std::collections::BTreeSet;
+use std::error::Error;
+use std::fmt;
+use std::fmt::{Display, Formatter, Write};
+
+/// The most nodes that a program may have.
+const MOST_NODES: u32 = 16_384;
+
+/// The greatest depth that a program may have.
+const GREATEST_DEPTH: u32 = 200;
+
+/// Why a program is not evaluated.
+#[derive(Debug, Drop)]
+pub enum CheckFault {
+    /// A noun that no scope has.
+    Unbound(Text),
+    /// A second definition of a name in one scope.
+    DuplicateName(Text),
+    /// Trees deeper than 200.
+    TooDeep,
+    /// More than 16,384 nodes.
+    TooLong,
+    /// No memory was left for the check.
+    Memory,
+}
+
+impl Display for CheckFault {
+    ghost output = { λ fault. Some (fault_text fault) };
+
+    fn fmt<W: Write>(&self, f: &mut Formatter<W>) -> fmt::Result {
+        match self {
+            CheckFault::Unbound(name) => write!(f, "K1 Unbound {name}"),
+            CheckFault::DuplicateName(name) => write!(f, "K3 DuplicateName {name}"),
+            CheckFault::TooDeep => write!(f, "K4 TooDeep"),
+            CheckFault::TooLong => write!(f, "K5 TooLong"),
+            CheckFault::Memory => write!(f, "B20 Memory"),
+        }
+    }
+}
+
+impl Error for CheckFault {}
+
+impl From<AllocError> for CheckFault {
+    ghost from_gives = { λ _ e. e ≡ Memory };
+
+    fn from(_error: AllocError) -> Self {
+        CheckFault::Memory
+    }
+}
+
+impl<T: Drop> From<AllocFailed<T>> for CheckFault {
+    ghost from_gives = { λ _ e. e ≡ Memory };
+
+    fn from(_error: AllocFailed<T>) -> Self {
+        CheckFault::Memory
+    }
+}
+
+/// The names that a program finds in scope.
+#[derive(Drop)]
+pub struct Outer {
+    /// Those of its own scope, which it may not define again.
+    own: BTreeSet<Text>,
+    /// Those of the scope around it, which it may hide.
+    around: BTreeSet<Text>,
+}
+
+impl Outer {
+    /// For a script, which may not define the names of earlier vats again.
+    pub fn for_script(alloc: Global, earlier: &[Text]) -> Result<Outer, AllocError>
+        ensures { IfOk result (λ outer. scopes_of outer ≡ script_scopes earlier.now) }
+    {
+        Ok(Outer {
+            own: set_of(alloc, earlier)?,
+            around: BTreeSet::new(alloc),
+        })
+    }
+
+    /// For an asked program, which may hide the names that its vat knows.
+    pub fn for_asked(alloc: Global, known: &[Text]) -> Result<Outer, AllocError>
+        ensures { IfOk result (λ outer. scopes_of outer ≡ asked_scopes known.now) }
+    {
+        Ok(Outer {
+            own: BTreeSet::new(alloc),
+            around: set_of(alloc, known)?,
+        })
+    }
+}
+
+fn set_of(alloc: Global, names: &[Text]) -> Result<BTreeSet<Text>, AllocError>
+    ensures { IfOk result (λ set. names_of set ≡ names_in names.now) }
+{
+    let mut set = BTreeSet::new(alloc);
+    for name in names {
+        set.insert(name.share()?)?;
+    }
+    Ok(set)
+}
+
+/// Checks that a program may be evaluated: first its size, then its depth, then that each noun is
+/// in scope where it stands and that no scope has a name twice.
+pub fn check(alloc: Global, program: &Program, outer: &Outer) -> Result<(), CheckFault>
+    ensures ok { OnOk result (IsOk (checked_program (program_of program.now) (scopes_of outer.now))) }
+    ensures refused { IfErr result (λ fault. Refuses fault (checked_program (program_of program.now) (scopes_of outer.now))) }
+{
+    let trees = program.0.0.as_slice();
+    if nodes_left_by_all(trees, MOST_NODES).is_none() {
+        return Err(CheckFault::TooLong);
+    }
+    if !are_within_depth(trees, GREATEST_DEPTH) {
+        return Err(CheckFault::TooDeep);
+    }
+    let mut scopes = Scopes {
+        outer,
+        defined: BTreeSet::new(alloc),
+    };
+    check_all(trees, &mut scopes)
+}
+
+/// The scopes where an expression stands.
+#[derive(Drop)]
+struct Scopes<'a> {
+    outer: &'a Outer,
+    /// The names that the program has defined so far.
+    defined: BTreeSet<Text>,
+}
+
+impl<'a> Scopes<'a> {
+    fn has_own(&self, name: &Text) -> bool
+        ensures { result ≡ (scopes_in self.now).own name.now }
+    {
+        self.defined.contains(name) || self.outer.own.contains(name)
+    }
+
+    fn has_around(&self, name: &Text) -> bool
+        ensures { result ≡ (scopes_in self.now).around name.now }
+    {
+        self.outer.around.contains(name)
+    }
+
+    fn define(&mut self, name: &Text) -> Result<(), CheckFault>
+        ensures ok { OnOk result (scopes_in self.new ≡ record (scopes_in self.old) { own = with_name name.now (scopes_in self.old).own }) }
+        ensures err { IfErr result (λ fault. fault ≡ Memory) }
+    {
+        self.defined.insert(name.share()?)?;
+        Ok(())
+    }
+}
+
+#[cycle(check)]
+fn check_all(trees: &[Expr], scopes: &mut Scopes) -> Result<(), CheckFault>
+    ensures { Gives result (scopes_in scopes.new) (checked_all (trees_of trees.now) (scopes_in scopes.old)) }
+{
+    for tree in trees {
+        check_expr(tree, scopes)?;
+    }
+    Ok(())
+}
+
+#[cycle(check)]
+fn check_expr(e: &Expr, scopes: &mut Scopes) -> Result<(), CheckFault>
+    ensures { Gives result (scopes_in scopes.new) (checked (tree_of e.now) (scopes_in scopes.old)) }
+{
+    match e {
+        Expr::Null | Expr::Bool(_) | Expr::Int(_) | Expr::Text(_) => Ok(()),
+        Expr::Noun(name) => check_noun(name, scopes),
+        Expr::Def(pattern, value) => {
+            check_expr(value, scopes)?;
+            check_pattern(pattern, scopes)
+        }
+        Expr::Call(receiver, _, args) => {
+            check_expr(receiver, scopes)?;
+            check_all(args, scopes)
+        }
+        Expr::List(items) => check_all(items, scopes),
+        Expr::Same(left, right) => {
+            check_expr(left, scopes)?;
+            check_expr(right, scopes)
+        }
+    }
+}
+
+fn check_noun(name: &Text, scopes: &mut Scopes) -> Result<(), CheckFault>
+    ensures { Gives result (scopes_in scopes.new) (found name.now (scopes_in scopes.old)) }
+{
+    if scopes.has_own(name) || scopes.has_around(name) {
+        Ok(())
+    } else {
+        Err(CheckFault::Unbound(name.share()?))
+    }
+}
+
+fn check_pattern(pattern: &Pattern, scopes: &mut Scopes) -> Result<(), CheckFault>
+    ensures { Gives result (scopes_in scopes.new) (bound pattern.now (scopes_in scopes.old)) }
+{
+    match pattern {
+        Pattern::Name(name) => {
+            if scopes.has_own(name) {
+                return Err(CheckFault::DuplicateName(name.share()?));
+            }
+            scopes.define(name)
+        }
+        Pattern::Ignore => Ok(()),
+    }
+}

@@ -1,0 +1,66 @@
+// The size and the depth of a program, each compared with a limit.
+ghost use Rattle.std.specs.Prelude.{◌≡◌, ◌≤◌, ◌-◌, ◌↔◌, IsTrue, SomeIff};
+ghost use Rattle.kernele.specs.View.{tree_of, trees_of};
+ghost use Rattle.kernele.specs.Scope.{nodes, nodes_in, depth, depth_in};
+
+use crate::tree::Expr;
+
+/// What a tree leaves of a number of nodes, if it has no more.
+#[cycle(count)]
+fn nodes_left(e: &Expr, limit: u32) -> Option<u32>
+    ensures { SomeIff result (nodes (tree_of e.now) ≤ limit) (limit - nodes (tree_of e.now)) }
+{
+    let left = limit.checked_sub(1)?;
+    match e {
+        Expr::Null | Expr::Bool(_) | Expr::Int(_) | Expr::Text(_) | Expr::Noun(_) => Some(left),
+        Expr::Def(_, value) => nodes_left(value, left),
+        Expr::Call(receiver, _, args) => nodes_left_by_all(args, nodes_left(receiver, left)?),
+        Expr::List(items) => nodes_left_by_all(items, left),
+        Expr::Same(one, other) => nodes_left(other, nodes_left(one, left)?),
+    }
+}
+
+/// What trees leave of a number of nodes, if they have no more in all.
+#[cycle(count)]
+pub(crate) fn nodes_left_by_all(trees: &[Expr], limit: u32) -> Option<u32>
+    ensures { SomeIff result (nodes_in (trees_of trees.now) ≤ limit) (limit - nodes_in (trees_of trees.now)) }
+{
+    let mut left = limit;
+    for tree in trees {
+        left = nodes_left(tree, left)?;
+    }
+    Some(left)
+}
+
+#[cycle(depth)]
+fn is_within_depth(e: &Expr, limit: u32) -> bool
+    ensures { IsTrue result ↔ (depth (tree_of e.now) ≤ limit) }
+{
+    if limit == 0 {
+        return false;
+    }
+    match e {
+        Expr::Null | Expr::Bool(_) | Expr::Int(_) | Expr::Text(_) | Expr::Noun(_) => true,
+        Expr::Def(_, value) => is_within_depth(value, limit - 1),
+        Expr::Call(receiver, _, args) => {
+            is_within_depth(receiver, limit - 1) && are_within_depth(args, limit - 1)
+        }
+        Expr::List(items) => are_within_depth(items, limit - 1),
+        Expr::Same(left, right) => {
+            is_within_depth(left, limit - 1) && is_within_depth(right, limit - 1)
+        }
+    }
+}
+
+/// Whether no tree is deeper.
+#[cycle(depth)]
+pub(crate) fn are_within_depth(trees: &[Expr], limit: u32) -> bool
+    ensures { IsTrue result ↔ (depth_in (trees_of trees.now) ≤ limit) }
+{
+    for tree in trees {
+        if !is_within_depth(tree, limit) {
+            return false;
+        }
+    }
+    true
+}

@@ -1,0 +1,186 @@
+// The canonical spelling of a program.
+ghost use Rattle.std.specs.Prelude.{◌≡◌, ◌++◌, IfOk, OnOk, string_bytes, codes, true};
+ghost use Rattle.kernele.specs.Tree.{bool_tree, define, list_tree};
+ghost use Rattle.kernele.specs.View.{tree_of, trees_of, program_of};
+ghost use Rattle.kernele.specs.Spelling.{spelling, spelled, spelled_parts, spelled_items, joined, bracketed, bound_name, is_definition as definition_test, is_bare_receiver as bare_receiver_test, as_part, as_receiver, message};
+
+use ids::quote::write_quoted;
+use crate::tree::{Expr, Pattern, Program};
+use ids::text::Text;
+use std::alloc::{AllocError, Global};
+use std::fmt::Write;
+
+/// A program in its canonical spelling.
+pub fn print(alloc: Global, program: &Program) -> Result<String, AllocError>
+    ensures { IfOk result (λ s. string_bytes s ≡ spelling (program_of program.now)) }
+{
+    let mut out = String::new(alloc);
+    write_items(&program.0.0, &mut out)?;
+    Ok(out)
+}
+
+/// Writes the items of a block.
+fn write_items(items: &[Expr], out: &mut String) -> Result<(), AllocError>
+    ensures { OnOk result (string_bytes out.new ≡ string_bytes out.old ++ joined (codes "; ") (spelled_items (trees_of items.now))) }
+{
+    if let Some((first, rest)) = items.split_first() {
+        write_expr(first, out)?;
+        for item in rest {
+            out.push_str("; ")?;
+            write_expr(item, out)?;
+        }
+    }
+    Ok(())
+}
+
+/// Writes an expression as it stands in a block.
+#[cycle(print)]
+fn write_expr(e: &Expr, out: &mut String) -> Result<(), AllocError>
+    ensures { OnOk result (string_bytes out.new ≡ string_bytes out.old ++ spelled (tree_of e.now)) }
+{
+    match e {
+        Expr::Null => out.push_str("null"),
+        Expr::Bool(b) => write_bool(*b, out),
+        Expr::Int(n) => write!(out, "{n}"),
+        Expr::Text(text) => write_quoted(text.as_str(), out),
+        Expr::Noun(name) => out.push_str(name.as_str()),
+        Expr::Def(pattern, value) => write_def(pattern, value, out),
+        Expr::Call(receiver, verb, args) => {
+            write_receiver(receiver, out)?;
+            out.push_str(".")?;
+            write_message(verb, args, out)
+        }
+        Expr::List(items) => write_list(items, out),
+        Expr::Same(left, right) => {
+            out.push_str("(")?;
+            write_part(left, out)?;
+            out.push_str(" == ")?;
+            write_part(right, out)?;
+            out.push_str(")")
+        }
+    }
+}
+
+#[cycle(print)]
+fn write_def(pattern: &Pattern, value: &Expr, out: &mut String) -> Result<(), AllocError>
+    ensures { OnOk result (string_bytes out.new ≡ string_bytes out.old ++ spelled (define pattern.now (tree_of value.now))) }
+{
+    out.push_str("def ")?;
+    write_pattern(pattern, out)?;
+    out.push_str(" := ")?;
+    write_part(value, out)
+}
+
+/// Writes a verb with its arguments.
+#[cycle(print)]
+fn write_message(verb: &Text, args: &[Expr], out: &mut String) -> Result<(), AllocError>
+    ensures { OnOk result (string_bytes out.new ≡ string_bytes out.old ++ message verb.now (spelled_parts (trees_of args.now))) }
+{
+    out.push_str(verb.as_str())?;
+    out.push_str("(")?;
+    write_parts(args, out)?;
+    out.push_str(")")
+}
+
+#[cycle(print)]
+fn write_list(items: &[Expr], out: &mut String) -> Result<(), AllocError>
+    ensures { OnOk result (string_bytes out.new ≡ string_bytes out.old ++ spelled (list_tree (trees_of items.now))) }
+{
+    out.push_str("[")?;
+    write_parts(items, out)?;
+    out.push_str("]")
+}
+
+/// Writes arguments, or the items of a list.
+#[cycle(print)]
+fn write_parts(parts: &[Expr], out: &mut String) -> Result<(), AllocError>
+    ensures { OnOk result (string_bytes out.new ≡ string_bytes out.old ++ joined (codes ", ") (spelled_parts (trees_of parts.now))) }
+{
+    if let Some((first, rest)) = parts.split_first() {
+        write_part(first, out)?;
+        for part in rest {
+            out.push_str(", ")?;
+            write_part(part, out)?;
+        }
+    }
+    Ok(())
+}
+
+/// Writes a part of another expression.
+#[cycle(print)]
+fn write_part(e: &Expr, out: &mut String) -> Result<(), AllocError>
+    ensures { OnOk result (string_bytes out.new ≡ string_bytes out.old ++ as_part (tree_of e.now) (spelled (tree_of e.now))) }
+{
+    if is_definition(e) {
+        write_bracketed(e, out)
+    } else {
+        write_expr(e, out)
+    }
+}
+
+#[cycle(print)]
+fn write_receiver(e: &Expr, out: &mut String) -> Result<(), AllocError>
+    ensures { OnOk result (string_bytes out.new ≡ string_bytes out.old ++ as_receiver (tree_of e.now) (spelled (tree_of e.now))) }
+{
+    if is_bare_receiver(e) {
+        write_expr(e, out)
+    } else {
+        write_bracketed(e, out)
+    }
+}
+
+#[cycle(print)]
+fn write_bracketed(e: &Expr, out: &mut String) -> Result<(), AllocError>
+    ensures { OnOk result (string_bytes out.new ≡ string_bytes out.old ++ bracketed true (spelled (tree_of e.now))) }
+{
+    out.push_str("(")?;
+    write_expr(e, out)?;
+    out.push_str(")")
+}
+
+fn write_bool(b: bool, out: &mut String) -> Result<(), AllocError>
+    ensures { OnOk result (string_bytes out.new ≡ string_bytes out.old ++ spelled (bool_tree b)) }
+{
+    out.push_str(if b { "true" } else { "false" })
+}
+
+fn write_pattern(pattern: &Pattern, out: &mut String) -> Result<(), AllocError>
+    ensures { OnOk result (string_bytes out.new ≡ string_bytes out.old ++ bound_name pattern.now) }
+{
+    match pattern {
+        Pattern::Name(name) => out.push_str(name.as_str()),
+        Pattern::Ignore => out.push_str("_"),
+    }
+}
+
+fn is_definition(e: &Expr) -> bool
+    ensures { result ≡ definition_test (tree_of e.now) }
+{
+    match e {
+        Expr::Def(_, _) => true,
+        Expr::Null
+        | Expr::Bool(_)
+        | Expr::Int(_)
+        | Expr::Text(_)
+        | Expr::Noun(_)
+        | Expr::Call(_, _, _)
+        | Expr::List(_)
+        | Expr::Same(_, _) => false,
+    }
+}
+
+fn is_bare_receiver(e: &Expr) -> bool
+    ensures { result ≡ bare_receiver_test (tree_of e.now) }
+{
+    match e {
+        Expr::Def(_, _) => false,
+        Expr::Null
+        | Expr::Bool(_)
+        | Expr::Int(_)
+        | Expr::Text(_)
+        | Expr::Noun(_)
+        | Expr::Call(_, _, _)
+        | Expr::List(_)
+        | Expr::Same(_, _) => true,
+    }
+}

@@ -1,0 +1,61 @@
+-- Weights and depths of items, as the program counts them.
+use Rattle.std.proofs.Common.{◌≡◌, ℕ, true, false, ◌&&◌, nat_le, get_or, drop, is_some, ⊎_elim, ◌+◌, ◌-◌, ◌<◌, ◌≤◌, max, List, length, Option, Some, None, sym, arith}
+use Rattle.std.specs.Option.{SomeIff}
+use Rattle.std.proofs.lemmas.List.{drop_all}
+use Rattle.std.proofs.lemmas.Bool.{cases_lt}
+use Rattle.std.proofs.lemmas.Bool.Decides.{nat_tests}
+use Rattle.values.specs.Data.{Vals, no_vals, and_val, list}
+use Rattle.values.specs.Limits.{weight, weights, list_depth, deepest}
+use Rattle.values.specs.Replies.{joined}
+use Rattle.values.specs.View.{val_of, vals_of}
+use Rattle.values.specs.declared.value.Value.{Value}
+use Rattle.values.proofs.Tables.{vals_from}
+use Rattle.values.specs.Limits.{within_limits}
+
+-- a list weighs 1 more than its items, and stands 1 deeper
+pub list_left : (r : Option ℕ) (w d left depth l m : ℕ) → 1 ≤ left → l ≡ left - 1 → 1 ≤ depth → m ≡ depth - 1 → SomeIff r ((w ≤ l) × (d ≤ m)) (l - w) → SomeIff r ((1 + w ≤ left) × (1 + d ≤ depth)) (left - (1 + w))
+list_left None w d left depth l m a b e f h = λ k. h (omega (arith, k.0), omega (arith, k.1))
+list_left (Some x) w d left depth l m a b e f h = ((omega (arith, h.0.0), omega (arith, h.0.1)), omega (arith, h.0.0, h.1))
+
+pub weights-joined : (us vs : Vals) → weights (joined us vs) ≡ weights us + weights vs
+weights-joined no_vals vs = omega arith
+weights-joined (and_val u us) vs = omega (arith, weights-joined us vs)
+
+pub deepest-joined : (us vs : Vals) → deepest (joined us vs) ≡ max (deepest us) (deepest vs)
+deepest-joined no_vals vs = omega arith
+deepest-joined (and_val u us) vs = omega (arith, deepest-joined us vs)
+
+one_more : (r : Option ℕ) (w d ws ds left next depth : ℕ) → (w ≤ left) × (d ≤ depth) → next ≡ left - w → SomeIff r ((ws ≤ next) × (ds ≤ depth)) (next - ws) → SomeIff r ((w + ws ≤ left) × (max d ds ≤ depth)) (left - (w + ws))
+one_more None w d ws ds left next depth f g h = λ k. h (omega (arith, k.0, f.0), omega (arith, k.1))
+one_more (Some x) w d ws ds left next depth f g h = ((omega (arith, h.0.0, f.0), omega (arith, h.0.1, f.1)), omega (arith, h.0.0, h.1, f.0))
+
+-- one more item: what the rest leaves from there is what this item and the rest leave from here
+pub more_left : (r : Option ℕ) (xs : List Value) (i : ℕ) (x : Value) (left next depth : ℕ) → i < length xs → x ≡ get_or xs i x → (weight (val_of x) ≤ left) × (list_depth (val_of x) ≤ depth) → next ≡ left - weight (val_of x)
+    → SomeIff r ((weights (vals_of (drop (i + 1) xs)) ≤ next) × (deepest (vals_of (drop (i + 1) xs)) ≤ depth)) (next - weights (vals_of (drop (i + 1) xs)))
+    → SomeIff r ((weights (vals_of (drop i xs)) ≤ left) × (deepest (vals_of (drop i xs)) ≤ depth)) (left - weights (vals_of (drop i xs)))
+more_left r xs i x left next depth a e f g h = rw (vals_from xs i x a e) (one_more r _ _ _ _ left next depth f g h)
+
+-- an item that passes a limit
+pub none_left : (xs : List Value) (i : ℕ) (x : Value) (left depth : ℕ) → i < length xs → x ≡ get_or xs i x → ¬ ((weight (val_of x) ≤ left) × (list_depth (val_of x) ≤ depth)) → ¬ ((weights (vals_of (drop i xs)) ≤ left) × (deepest (vals_of (drop i xs)) ≤ depth))
+none_left xs i x left depth a e f = rw (vals_from xs i x a e) (λ k. f (omega (arith, k.0), omega (arith, k.1)))
+
+by_cases_le : {P : Type 0} (a b : ℕ) → (a ≤ b → P) → (b < a → P) → P
+by_cases_le a b p q = ⊎_elim q p (cases_lt b a)
+
+both_at_most : (a b c d : ℕ) → a ≤ b → c ≤ d → (nat_le a b && nat_le c d) ≡ true
+both_at_most a b c d p q = grind (arith, nat_tests)
+
+one_above : (a b c d : ℕ) → ¬ ((a ≤ b) × (c ≤ d)) → (nat_le a b && nat_le c d) ≡ false
+one_above a b c d p = by_cases_le a b (λ h. by_cases_le c d (λ k. absurd (p (h, k))) (λ k. grind (arith, nat_tests))) (λ h. grind (arith, nat_tests))
+
+-- whether two lists joined keep the limits
+pub joined_within : (us vs : Vals) (left : ℕ) (r : Option ℕ) → (weights us ≤ 65535) × (deepest us ≤ 63) → left ≡ 65535 - weights us → SomeIff r ((weights vs ≤ left) × (deepest vs ≤ 63)) (left - weights vs) → is_some r ≡ within_limits (list (joined us vs))
+joined_within us vs left None f g h = sym (one_above (1 + weights (joined us vs)) 65536 (1 + deepest (joined us vs)) 64 (λ k. h (omega (arith, k.0, weights-joined us vs, f.0), omega (arith, k.1, deepest-joined us vs))))
+joined_within us vs left (Some x) f g h = sym (both_at_most (1 + weights (joined us vs)) 65536 (1 + deepest (joined us vs)) 64 (omega (arith, weights-joined us vs, h.0.0, f.0)) (omega (arith, deepest-joined us vs, h.0.1, f.1)))
+
+pub joined_beyond : (us vs : Vals) → ¬ ((weights us ≤ 65535) × (deepest us ≤ 63)) → false ≡ within_limits (list (joined us vs))
+joined_beyond us vs f = sym (one_above (1 + weights (joined us vs)) 65536 (1 + deepest (joined us vs)) 64 (λ k. f (omega (arith, k.0, weights-joined us vs), omega (arith, k.1, deepest-joined us vs))))
+
+-- the end of the items
+pub last_left : (xs : List Value) (i : ℕ) (left depth : ℕ) → length xs ≤ i → SomeIff (Some left) ((weights (vals_of (drop i xs)) ≤ left) × (deepest (vals_of (drop i xs)) ≤ depth)) (left - weights (vals_of (drop i xs)))
+last_left xs i left depth h = rw (drop_all i xs h) ((omega arith, omega arith), omega arith)

@@ -1,0 +1,49 @@
+// The verbs of data.
+ghost use Rattle.std.specs.Prelude.{◌≡◌, IfOk};
+ghost use Rattle.values.specs.Replies.{bool_table, data_reply};
+ghost use Rattle.values.specs.View.{val_of, vals_of, reply_of};
+
+use crate::integers::int_call;
+use crate::lists::list_call;
+use crate::replies::{no_method, truth};
+use crate::texts::text_call;
+use crate::value::{Answer, Value};
+use std::alloc::{AllocError, Global};
+
+/// What a verb of data leads to. A broken receiver throws its problem; else the verb and the number
+/// of arguments are looked up first, then the arguments' kinds are tested, and then the result.
+pub fn data_call(
+    alloc: Global,
+    receiver: &Value,
+    verb: &str,
+    arguments: &[Value],
+) -> Result<Answer, AllocError>
+    ensures { IfOk result (λ a. reply_of a ≡ data_reply (val_of receiver.now) verb.now (vals_of arguments.now)) }
+{
+    match receiver {
+        Value::Null => no_method(alloc, verb, arguments.len()),
+        Value::Bool(holds) => bool_call(alloc, *holds, verb, arguments),
+        Value::Int(integer) => int_call(alloc, *integer, verb, arguments),
+        Value::Text(text) => text_call(alloc, text, verb, arguments),
+        Value::List(items) => list_call(alloc, items.as_slice(), verb, arguments),
+        Value::Broken(problem) => Ok(Answer::Throws(problem.share()?)),
+    }
+}
+
+/// What a verb of a truth value leads to.
+fn bool_call(
+    alloc: Global,
+    holds: bool,
+    verb: &str,
+    arguments: &[Value],
+) -> Result<Answer, AllocError>
+    ensures { IfOk result (λ a. reply_of a ≡ bool_table holds verb.now (vals_of arguments.now)) }
+{
+    match arguments {
+        [] => match verb {
+            "not" => Ok(truth(!holds)),
+            _ => no_method(alloc, verb, 0),
+        },
+        _ => no_method(alloc, verb, arguments.len()),
+    }
+}

@@ -1,0 +1,122 @@
+// The verbs of lists, and list literals.
+ghost use Rattle.std.specs.Prelude.{◌≡◌, IfOk, OnOk, option_map};
+ghost use Rattle.values.specs.Data.{list};
+ghost use Rattle.values.specs.Limits.{within_limits};
+ghost use Rattle.values.specs.Replies.{list_table, list_add as add_reply, list_with as with_reply, list_get as get_reply, list_size as size_reply, at_index, list_reply, joined};
+ghost use Rattle.values.specs.View.{val_of, vals_of, reply_of};
+
+use crate::limits::items_left;
+use crate::replies::{limited, no_method, sized, thrown, wrong_argument};
+use crate::value::{Answer, Value};
+use std::alloc::{AllocError, Global};
+use std::slice;
+use std::sync::Arc;
+
+/// The weight that is left for the items of a list.
+const MOST_ITEMS_WEIGHT: u32 = 65_535;
+
+/// How deep lists may stand in the items of a list.
+const MOST_ITEMS_DEPTH: u32 = 63;
+
+/// A list literal, or the problem that it is too large.
+pub fn list_value(alloc: Global, items: Vec<Value>) -> Result<Answer, AllocError>
+    ensures { IfOk result (λ a. reply_of a ≡ list_reply (vals_of items.items)) }
+{
+    limited(alloc, Value::List(Arc::new(alloc, items)?))
+}
+
+/// What a verb of a list leads to.
+pub(crate) fn list_call(
+    alloc: Global,
+    items: &[Value],
+    verb: &str,
+    arguments: &[Value],
+) -> Result<Answer, AllocError>
+    ensures { IfOk result (λ a. reply_of a ≡ list_table (vals_of items.now) verb.now (vals_of arguments.now)) }
+{
+    match arguments {
+        [] => match verb {
+            "size" => list_size(alloc, items),
+            _ => no_method(alloc, verb, 0),
+        },
+        [argument] => match verb {
+            "add" => list_add(alloc, items, argument),
+            "with" => list_with(alloc, items, argument),
+            "get" => list_get(alloc, items, argument),
+            _ => no_method(alloc, verb, 1),
+        },
+        _ => no_method(alloc, verb, arguments.len()),
+    }
+}
+
+fn list_size(alloc: Global, items: &[Value]) -> Result<Answer, AllocError>
+    ensures { IfOk result (λ a. reply_of a ≡ size_reply (vals_of items.now)) }
+{
+    sized(alloc, items.len())
+}
+
+fn list_add(alloc: Global, items: &[Value], argument: &Value) -> Result<Answer, AllocError>
+    ensures { IfOk result (λ a. reply_of a ≡ add_reply (vals_of items.now) (val_of argument.now)) }
+{
+    match argument.as_items() {
+        Some(more) => joined_list(alloc, items, more),
+        None => wrong_argument(alloc, argument),
+    }
+}
+
+fn list_with(alloc: Global, items: &[Value], argument: &Value) -> Result<Answer, AllocError>
+    ensures { IfOk result (λ a. reply_of a ≡ with_reply (vals_of items.now) (val_of argument.now)) }
+{
+    joined_list(alloc, items, slice::from_ref(argument))
+}
+
+fn list_get(alloc: Global, items: &[Value], argument: &Value) -> Result<Answer, AllocError>
+    ensures { IfOk result (λ a. reply_of a ≡ get_reply (vals_of items.now) (val_of argument.now)) }
+{
+    match argument.as_int() {
+        Some(index) => match item_at(items, index) {
+            Some(item) => Ok(Answer::Gives(item.share()?)),
+            None => thrown(alloc, "index out of range"),
+        },
+        None => wrong_argument(alloc, argument),
+    }
+}
+
+fn item_at(items: &[Value], index: i64) -> Option<&Value>
+    ensures { option_map (λ v. val_of v.now) result ≡ at_index (vals_of items.now) index }
+{
+    items.get(usize::try_from(index).ok()?)
+}
+
+/// One list behind another, copied only where it is not too large.
+fn joined_list(alloc: Global, first: &[Value], second: &[Value]) -> Result<Answer, AllocError>
+    ensures { IfOk result (λ a. reply_of a ≡ list_reply (joined (vals_of first.now) (vals_of second.now))) }
+{
+    if !fits_list(first, second) {
+        return thrown(alloc, "value too large");
+    }
+    let mut both = Vec::with_capacity(alloc, first.len() + second.len())?;
+    append(&mut both, first)?;
+    append(&mut both, second)?;
+    Ok(Answer::Gives(Value::List(Arc::new(alloc, both)?)))
+}
+
+/// Whether a list of the first items and the second is not too large.
+fn fits_list(first: &[Value], second: &[Value]) -> bool
+    ensures { result ≡ within_limits (list (joined (vals_of first.now) (vals_of second.now))) }
+{
+    match items_left(first, MOST_ITEMS_DEPTH, MOST_ITEMS_WEIGHT) {
+        Some(left) => items_left(second, MOST_ITEMS_DEPTH, left).is_some(),
+        None => false,
+    }
+}
+
+/// Adds the same items, shared, at the end.
+fn append(list: &mut Vec<Value>, items: &[Value]) -> Result<(), AllocError>
+    ensures { OnOk result (vals_of list.new.items ≡ joined (vals_of list.old.items) (vals_of items.now)) }
+{
+    for item in items {
+        list.push(item.share()?)?;
+    }
+    Ok(())
+}

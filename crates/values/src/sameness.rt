@@ -1,0 +1,37 @@
+// When two values are the same.
+ghost use Rattle.std.specs.Prelude.{◌≡◌};
+ghost use Rattle.values.specs.Same.{same_as, same_items as same_vals};
+ghost use Rattle.values.specs.View.{val_of, vals_of};
+
+use crate::value::Value;
+
+/// Whether two values are the same: data by content, lists item by item, broken values by problem.
+#[cycle(sameness)]
+pub fn same(a: &Value, b: &Value) -> bool
+    ensures { result ≡ same_as (val_of a.now) (val_of b.now) }
+{
+    match (a, b) {
+        (Value::Null, Value::Null) => true,
+        (Value::Bool(x), Value::Bool(y)) => x == y,
+        (Value::Int(x), Value::Int(y)) => x == y,
+        (Value::Text(x), Value::Text(y)) => x == y,
+        (Value::List(xs), Value::List(ys)) => same_items(xs.as_slice(), ys.as_slice()),
+        (Value::Broken(x), Value::Broken(y)) => x == y,
+        _ => false,
+    }
+}
+
+#[cycle(sameness)]
+fn same_items(xs: &[Value], ys: &[Value]) -> bool
+    ensures { result ≡ same_vals (vals_of xs.now) (vals_of ys.now) }
+{
+    if xs.len() != ys.len() {
+        return false;
+    }
+    for (x, y) in xs.iter().zip(ys) {
+        if !same(x, y) {
+            return false;
+        }
+    }
+    true
+}

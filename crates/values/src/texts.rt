@@ -1,0 +1,79 @@
+// The verbs of texts, and text literals.
+ghost use Rattle.std.specs.Prelude.{◌≡◌, ◌++◌, IfOk, Bool, count_by};
+ghost use Rattle.values.specs.Replies.{text_table, text_add as add_reply, text_size as size_reply, text_reply, begins_character};
+ghost use Rattle.values.specs.View.{val_of, vals_of, reply_of};
+
+use crate::replies::{limited, no_method, sized, thrown, wrong_argument};
+use crate::value::{Answer, Value};
+use ids::text::Text;
+use std::alloc::{AllocError, Global};
+
+/// The most bytes of a text that is not too large: it weighs one more.
+const MOST_BYTES: usize = 65_535;
+
+/// A text literal, or the problem that it is too large.
+pub fn text_value(alloc: Global, text: &Text) -> Result<Answer, AllocError>
+    ensures { IfOk result (λ a. reply_of a ≡ text_reply text.now) }
+{
+    limited(alloc, Value::Text(text.share()?))
+}
+
+/// What a verb of a text leads to.
+pub(crate) fn text_call(
+    alloc: Global,
+    text: &Text,
+    verb: &str,
+    arguments: &[Value],
+) -> Result<Answer, AllocError>
+    ensures { IfOk result (λ a. reply_of a ≡ text_table text.now verb.now (vals_of arguments.now)) }
+{
+    match arguments {
+        [] => match verb {
+            "size" => text_size(alloc, text.as_str()),
+            _ => no_method(alloc, verb, 0),
+        },
+        [argument] => match verb {
+            "add" => text_add(alloc, text.as_str(), argument),
+            _ => no_method(alloc, verb, 1),
+        },
+        _ => no_method(alloc, verb, arguments.len()),
+    }
+}
+
+fn text_size(alloc: Global, text: &str) -> Result<Answer, AllocError>
+    ensures { IfOk result (λ a. reply_of a ≡ size_reply text.now) }
+{
+    sized(alloc, characters(text))
+}
+
+/// How many characters a text has: each begins at a byte that continues no other one.
+fn characters(text: &str) -> usize
+    ensures { result ≡ count_by begins_character text.now }
+{
+    text.as_bytes()
+        .iter()
+        .filter(|byte| !(128..192).contains(*byte))
+        .count()
+}
+
+fn text_add(alloc: Global, text: &str, argument: &Value) -> Result<Answer, AllocError>
+    ensures { IfOk result (λ a. reply_of a ≡ add_reply text.now (val_of argument.now)) }
+{
+    match argument.as_text() {
+        Some(more) => joined_text(alloc, text, more.as_str()),
+        None => wrong_argument(alloc, argument),
+    }
+}
+
+/// One text behind another, built only where it is not too large.
+fn joined_text(alloc: Global, first: &str, second: &str) -> Result<Answer, AllocError>
+    ensures { IfOk result (λ a. reply_of a ≡ text_reply (first.now ++ second.now)) }
+{
+    if first.len() > MOST_BYTES || second.len() > MOST_BYTES - first.len() {
+        return thrown(alloc, "value too large");
+    }
+    let mut both = String::with_capacity(alloc, first.len() + second.len())?;
+    both.push_str(first)?;
+    both.push_str(second)?;
+    Ok(Answer::Gives(Value::Text(Text::from_string(both)?)))
+}
