@@ -1,11 +1,8 @@
 -- The commands, and the lines that spell them.
-use Rattle.std.specs.Prelude.{ℕ, List, [], ◌∷◌, Bool, true, false, not, ◌&&◌, ◌==◌, length, nat_le, cond, Option, Some, None, is_none, Result, Ok, Err, codes}
+use Rattle.std.specs.Prelude.{ℕ, List, [], ◌∷◌, Bool, true, ◌&&◌, ◌==◌, length, nat_le, cond, Option, Some, None, Result, Ok, Err, codes}
 use Rattle.std.specs.Option.{option_map, option_and_then}
-use Rattle.std.specs.List.{list_all}
 use Rattle.std.specs.Str.{bytes_eq}
-use Rattle.std.specs.Char.{is_ascii_digit}
-use Rattle.etoken.specs.Table.{reserved_of}
-use Rattle.etoken.specs.Bytes.{is_word_byte}
+use Rattle.etoken.specs.Names.{is_name}
 use Rattle.ids.specs.declared.names.MsgId.{MsgId}
 use Rattle.evats.specs.Words.{without_blanks, first_word, behind_word}
 use Rattle.evats.specs.Numbers.{number_of, message_named}
@@ -20,13 +17,9 @@ pub data Spelled : Type 0 where
   turn : (m : MsgId) → Spelled
   show : Spelled
 
-abbrev pub begins_name : List ℕ → Bool
-begins_name [] = false
-begins_name (b ∷ bs) = not (is_ascii_digit b)
-
--- a name of at most 64 bytes: letters, digits and `_`, no digit first, no reserved word and not `_` alone
+-- a name of the language of at most 64 bytes
 abbrev pub is_vat_name : List ℕ → Bool
-is_vat_name w = begins_name w && nat_le (length w) 64 && list_all is_word_byte w && not (bytes_eq w (codes "_")) && is_none (reserved_of w)
+is_vat_name w = is_name w && nat_le (length w) 64
 
 abbrev pub at_most : ℕ → ℕ → Option ℕ
 at_most limit n = cond (nat_le n limit) (Some n) None

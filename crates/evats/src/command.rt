@@ -1,15 +1,12 @@
 // Commands, as lines spell them.
 ghost use Rattle.std.specs.Prelude.{◌≡◌, Some};
 ghost use Rattle.std.specs.Option.{option_map, option_and_then};
-ghost use Rattle.std.specs.List.{list_all};
-ghost use Rattle.etoken.specs.Bytes.{is_word_byte};
 ghost use Rattle.evats.specs.Numbers.{number_of};
-ghost use Rattle.evats.specs.Commands.{begins_name, is_vat_name, at_most, birth_of, ask_of, turn_of, show_of, is_skipped, begun_by, spelled_by, command_of, reading_of, fault_text};
+ghost use Rattle.evats.specs.Commands.{is_vat_name, at_most, birth_of, ask_of, turn_of, show_of, is_skipped, begun_by, spelled_by, command_of, reading_of, fault_text};
 
 use crate::numbers::{message_named, number};
 use crate::words::{cut_word, skip_blanks};
-use etoken::bytes::is_word_byte;
-use etoken::table::reserved;
+use etoken::names::is_name;
 use ids::names::MsgId;
 use std::error::Error;
 use std::fmt;
@@ -58,30 +55,11 @@ impl Display for LineFault {
 
 impl Error for LineFault {}
 
-fn begins_name(word: &[u8]) -> bool
-    ensures { result ≡ begins_name word.now }
-{
-    match word.first() {
-        Some(first) => !first.is_ascii_digit(),
-        None => false,
-    }
-}
-
-fn all_word_bytes(word: &[u8]) -> bool
-    ensures { result ≡ list_all is_word_byte word.now }
-{
-    word.iter().all(|b| is_word_byte(*b))
-}
-
 /// Whether a word is a name that a vat may have.
 fn is_vat_name(word: &str) -> bool
     ensures { result ≡ is_vat_name word.now }
 {
-    begins_name(word.as_bytes())
-        && word.len() <= LONGEST_NAME
-        && all_word_bytes(word.as_bytes())
-        && word != "_"
-        && reserved(word).is_none()
+    is_name(word) && word.len() <= LONGEST_NAME
 }
 
 /// A number of script lines.

@@ -1,0 +1,10 @@
+pub mod Views
+pub mod Turns
+pub mod Steps
+pub mod Nesting
+pub mod Uses
+pub mod Complete
+pub mod Sound
+pub mod Programs
+pub mod Spelled
+pub mod Answered

@@ -1,0 +1,160 @@
+-- One more turn of the reader's loops.
+use Rattle.std.proofs.Common.{◌≡◌, ℕ, zero, suc, ◌+◌, ◌<◌, ◌≤◌, List, [], ◌∷◌, ◌++◌, length, Bool, true, false, cond, Option, Some, None, refl, sym, ap, ◌∙◌, arith, ◌⊎◌, inl, inr}
+use Rattle.etoken.specs.declared.token.Token.{Token}
+use Rattle.etoken.specs.declared.token.Token.TheVariants as token
+use Rattle.etoken.specs.declared.token.Sign as signs
+use Rattle.etoken.specs.declared.token.Sign.TheVariants as sign
+use Rattle.kernele.specs.declared.tree.Expr.{Expr}
+use Rattle.kernele.specs.Tree.{Tree, Trees, none, and_then}
+use Rattle.kernele.specs.View.{tree_of, trees_of}
+use Rattle.ereader.specs.declared.operator.Operator.{Operator}
+use Rattle.ereader.specs.declared.operator.Link.{Link}
+use Rattle.ereader.specs.Grammar.{joined, snoc}
+use Rattle.ereader.specs.Reading.{Read, ◌>>=◌, or_else, rest_of, is_empty, sign_of, sign_in, front, is_comma, is_semicolon, link_of, linked_at, postfix_next, items_next, operand_next, skip_semicolons, skip_semicolons_sign, repeat, separator_at, separated, expr_at, block_next, block_at}
+use Rattle.ereader.proofs.Turns.{Turns, turns_more, turns_fail, turns_end, if_is, some_same, none_some}
+
+pub rest_le : (a : List Token) → length (rest_of a) ≤ length a
+rest_le [] = omega arith
+rest_le (x ∷ a) = omega arith
+
+-- a list that grows at its end
+pub trees_push : (es : List Expr) (e : Expr) → trees_of (es ++ e ∷ []) ≡ snoc (trees_of es) (tree_of e)
+trees_push [] e = refl
+trees_push (d ∷ es) e = ap (and_then (tree_of d)) (trees_push es e)
+
+-- where a sign is in front, a token is
+pub front_length : {A : Type 0} (of : signs.Sign → Option A) (a : List Token) {o : A} → front of a ≡ Some o → length a ≡ suc (length (rest_of a))
+front_length of [] e = absurd (none_some e)
+front_length of (x ∷ a) e = refl
+
+pub test_length : (is : Option signs.Sign → Bool) → is None ≡ false → (a : List Token) → is (sign_in a) ≡ true → length a ≡ suc (length (rest_of a))
+test_length is n [] e = absurd (cc)
+test_length is n (x ∷ a) e = refl
+
+module _ (of : signs.Sign → Option Operator) (part : List Token → Read Tree) where
+  pub operand_goes : (t : Tree) (a : List Token) {o : Operator} → front of a ≡ Some o → operand_next of part t a ≡ Some (part (rest_of a) >>= λ x. Some (joined o t x.0, x.1))
+  operand_goes t a e = ap (λ o. or_else o None (λ o. Some (part (rest_of a) >>= λ x. Some (joined o t x.0, x.1)))) e
+
+  pub operand_more : {read : Read Tree} {t : Tree} (u : Tree) {a : List Token} (b r : List Token) {o : Operator}
+      → Turns (operand_next of part) read t a → front of a ≡ Some o → b ≡ rest_of a → part b ≡ Some (u, r) → length r < length b → Turns (operand_next of part) read (joined o t u) r
+  operand_more {t = t} u {a = a} b r {o = o} c e k g h =
+      turns_more (operand_next of part) (part (rest_of a) >>= λ x. Some (joined o t x.0, x.1)) c (operand_goes t a e)
+      (ap (λ y. y >>= λ x. Some (joined o t x.0, x.1)) (ap part (sym k) ∙ g)) (omega (arith, h, ap length k, front_length of a e))
+
+  pub operand_fail : {read : Read Tree} {t : Tree} {a : List Token} (b : List Token) {o : Operator}
+      → Turns (operand_next of part) read t a → front of a ≡ Some o → b ≡ rest_of a → part b ≡ None → read ≡ None
+  operand_fail {t = t} {a = a} b {o = o} c e k g =
+      turns_fail (operand_next of part) (part (rest_of a) >>= λ x. Some (joined o t x.0, x.1)) c (operand_goes t a e)
+      (ap (λ y. y >>= λ x. Some (joined o t x.0, x.1)) (ap part (sym k) ∙ g)) (omega (arith, front_length of a e))
+
+  pub operand_end : {read : Read Tree} {t : Tree} {a : List Token} → Turns (operand_next of part) read t a → front of a ≡ None → read ≡ Some (t, a)
+  operand_end {t = t} {a = a} c e = turns_end (operand_next of part) c (ap (λ o. or_else o None (λ o. Some (part (rest_of a) >>= λ x. Some (joined o t x.0, x.1)))) e)
+
+module _ (within : List Token → Read Tree) where
+  pub postfix_goes : (t : Tree) (a : List Token) {l : Link} → front link_of a ≡ Some l → postfix_next within t a ≡ Some (linked_at within l t (rest_of a))
+  postfix_goes t a e = ap (λ o. or_else o None (λ l. Some (linked_at within l t (rest_of a)))) e
+
+  pub postfix_more : {read : Read Tree} {t : Tree} (u : Tree) {a : List Token} (b r : List Token) {l : Link}
+      → Turns (postfix_next within) read t a → front link_of a ≡ Some l → b ≡ rest_of a → linked_at within l t b ≡ Some (u, r) → length r ≤ length b → Turns (postfix_next within) read u r
+  postfix_more {t = t} u {a = a} b r {l = l} c e k g h =
+      turns_more (postfix_next within) (linked_at within l t (rest_of a)) c (postfix_goes t a e) (ap (linked_at within l t) (sym k) ∙ g) (omega (arith, h, ap length k, front_length link_of a e))
+
+  pub postfix_fail : {read : Read Tree} {t : Tree} {a : List Token} (b : List Token) {l : Link}
+      → Turns (postfix_next within) read t a → front link_of a ≡ Some l → b ≡ rest_of a → linked_at within l t b ≡ None → read ≡ None
+  postfix_fail {t = t} {a = a} b {l = l} c e k g =
+      turns_fail (postfix_next within) (linked_at within l t (rest_of a)) c (postfix_goes t a e) (ap (linked_at within l t) (sym k) ∙ g) (omega (arith, front_length link_of a e))
+
+  pub postfix_end : {read : Read Tree} {t : Tree} {a : List Token} → Turns (postfix_next within) read t a → front link_of a ≡ None → read ≡ Some (t, a)
+  postfix_end {t = t} {a = a} c e = turns_end (postfix_next within) c (ap (λ o. or_else o None (λ l. Some (linked_at within l t (rest_of a)))) e)
+
+  pub items_goes : (ts : Trees) (a : List Token) → is_comma (sign_in a) ≡ true → items_next within ts a ≡ Some (within (rest_of a) >>= λ x. Some (snoc ts x.0, x.1))
+  items_goes ts a e = ap (λ o. cond o (Some (within (rest_of a) >>= λ x. Some (snoc ts x.0, x.1))) None) e
+
+  pub items_more : {read : Read Trees} {ts : Trees} (u : Tree) {a : List Token} (b r : List Token)
+      → Turns (items_next within) read ts a → is_comma (sign_in a) ≡ true → b ≡ rest_of a → within b ≡ Some (u, r) → length r < length b → Turns (items_next within) read (snoc ts u) r
+  items_more {ts = ts} u {a = a} b r c e k g h =
+      turns_more (items_next within) (within (rest_of a) >>= λ x. Some (snoc ts x.0, x.1)) c (items_goes ts a e)
+      (ap (λ y. y >>= λ x. Some (snoc ts x.0, x.1)) (ap within (sym k) ∙ g)) (omega (arith, h, ap length k, test_length is_comma refl a e))
+
+  pub items_fail : {read : Read Trees} {ts : Trees} {a : List Token} (b : List Token)
+      → Turns (items_next within) read ts a → is_comma (sign_in a) ≡ true → b ≡ rest_of a → within b ≡ None → read ≡ None
+  items_fail {ts = ts} {a = a} b c e k g =
+      turns_fail (items_next within) (within (rest_of a) >>= λ x. Some (snoc ts x.0, x.1)) c (items_goes ts a e)
+      (ap (λ y. y >>= λ x. Some (snoc ts x.0, x.1)) (ap within (sym k) ∙ g)) (omega (arith, test_length is_comma refl a e))
+
+  pub items_end : {read : Read Trees} {ts : Trees} {a : List Token} → Turns (items_next within) read ts a → is_comma (sign_in a) ≡ false → read ≡ Some (ts, a)
+  items_end {ts = ts} {a = a} c e = turns_end (items_next within) c (ap (λ o. cond o (Some (within (rest_of a) >>= λ x. Some (snoc ts x.0, x.1))) None) e)
+
+-- semicolons are gone past one at a time
+skip-sign : (s : signs.Sign) (a b : List Token) → is_semicolon (Some s) ≡ true → skip_semicolons (token.Sign s ∷ a) ≡ skip_semicolons a
+skip-sign sign.Semicolon a b e = refl
+skip-sign _ a b e = absurd (cc)
+
+pub skip-more : (a : List Token) → is_semicolon (sign_in a) ≡ true → skip_semicolons a ≡ skip_semicolons (rest_of a)
+skip-more [] e = absurd (cc)
+skip-more (token.Sign s ∷ a) e = skip-sign s a a e
+skip-more (_ ∷ a) e = absurd (cc)
+
+skip-no_sign : (s : signs.Sign) (a : List Token) → is_semicolon (Some s) ≡ false → skip_semicolons (token.Sign s ∷ a) ≡ token.Sign s ∷ a
+skip-no_sign sign.Semicolon a e = absurd (cc)
+skip-no_sign _ a e = refl
+
+pub skip-end : (a : List Token) → is_semicolon (sign_in a) ≡ false → skip_semicolons a ≡ a
+skip-end [] e = refl
+skip-end (token.Sign s ∷ a) e = skip-no_sign s a e
+skip-end (_ ∷ a) e = refl
+
+skip-le_sign : (s : signs.Sign) (a b : List Token) (n : ℕ) → length a ≤ n → length b ≤ n → length (skip_semicolons_sign s a b) ≤ n
+skip-le_sign sign.Semicolon a b n h k = k
+skip-le_sign _ a b n h k = h
+
+pub skip-le : (a : List Token) → length (skip_semicolons a) ≤ length a
+skip-le [] = omega arith
+skip-le (token.Sign s ∷ a) = skip-le_sign s (token.Sign s ∷ a) (skip_semicolons a) (suc (length a)) (omega arith) (omega (arith, skip-le a))
+skip-le (_ ∷ a) = omega arith
+
+-- what parts two items, or the end
+pub separator_le : (a r : List Token) → separator_at a ≡ Some r → length r ≤ length a
+separator_le a r e = elim (if_is (is_empty a) (Some a) (cond (is_semicolon (sign_in a)) (Some (skip_semicolons a)) None) e) [
+  | inl h ↦ omega (arith, ap length (some_same h.1))
+  | inr h ↦ elim (if_is (is_semicolon (sign_in a)) (Some (skip_semicolons a)) None h.1) [
+    | inl k ↦ omega (arith, ap length (some_same k.1), skip-le a)
+    | inr k ↦ absurd (none_some k.1)
+  ]
+]
+
+empty_length : (a : List Token) → is_empty a ≡ false → 0 < length a
+empty_length [] e = absurd (cc)
+empty_length (x ∷ a) e = omega arith
+
+pub empty_is : (a : List Token) → is_empty a ≡ true → a ≡ []
+empty_is [] e = refl
+empty_is (x ∷ a) e = absurd (cc)
+
+module _ (within : List Token → Read Tree) where
+  pub block_begin : (a b : List Token) → b ≡ skip_semicolons a → Turns (block_next within) (block_at within a) none b
+  block_begin a b e = record { fuel = length a; enough = omega (arith, ap length e, skip-le a); is = ap (λ c. repeat (block_next within) (length a) none c) (sym e) }
+
+  block_goes : (ts : Trees) (a : List Token) → is_empty a ≡ false → block_next within ts a ≡ Some (expr_at within a >>= λ x. separated (snoc ts x.0) x.1)
+  block_goes ts a e = ap (λ o. cond o None (Some (expr_at within a >>= λ x. separated (snoc ts x.0) x.1))) e
+
+  pub block_more : {read : Read Trees} {ts : Trees} (u : Tree) {a : List Token} (b r : List Token)
+      → Turns (block_next within) read ts a → is_empty a ≡ false → expr_at within a ≡ Some (u, b) → length b < length a → separator_at b ≡ Some r → Turns (block_next within) read (snoc ts u) r
+  block_more {ts = ts} u {a = a} b r c e g h s =
+      turns_more (block_next within) (expr_at within a >>= λ x. separated (snoc ts x.0) x.1) c (block_goes ts a e)
+      (ap (λ y. y >>= λ x. separated (snoc ts x.0) x.1) g ∙ ap (λ y. y >>= λ z. Some (snoc ts u, z)) s) (omega (arith, h, separator_le b r s))
+
+  pub block_fail : {read : Read Trees} {ts : Trees} {a : List Token} → Turns (block_next within) read ts a → is_empty a ≡ false → expr_at within a ≡ None → read ≡ None
+  block_fail {ts = ts} {a = a} c e g =
+      turns_fail (block_next within) (expr_at within a >>= λ x. separated (snoc ts x.0) x.1) c (block_goes ts a e)
+      (ap (λ y. y >>= λ x. separated (snoc ts x.0) x.1) g) (empty_length a e)
+
+  pub block_part_fail : {read : Read Trees} {ts : Trees} (u : Tree) {a : List Token} (b : List Token)
+      → Turns (block_next within) read ts a → is_empty a ≡ false → expr_at within a ≡ Some (u, b) → separator_at b ≡ None → read ≡ None
+  block_part_fail {ts = ts} u {a = a} b c e g s =
+      turns_fail (block_next within) (expr_at within a >>= λ x. separated (snoc ts x.0) x.1) c (block_goes ts a e)
+      (ap (λ y. y >>= λ x. separated (snoc ts x.0) x.1) g ∙ ap (λ y. y >>= λ z. Some (snoc ts u, z)) s) (empty_length a e)
+
+  pub block_end : {read : Read Trees} {ts : Trees} {a : List Token} → Turns (block_next within) read ts a → is_empty a ≡ true → read ≡ Some (ts, [])
+  block_end {ts = ts} {a = a} c e =
+      turns_end (block_next within) c (ap (λ o. cond o None (Some (expr_at within a >>= λ x. separated (snoc ts x.0) x.1))) e) ∙ ap (λ b. Some (ts, b)) (empty_is a e)

@@ -1,0 +1,277 @@
+-- How much of the tokens a part uses up, and how it begins.
+use Rattle.std.proofs.Common.{◌≡◌, ℕ, suc, ◌+◌, ◌<◌, ◌≤◌, List, [], ◌∷◌, length, Bool, true, false, Option, Some, None, refl, arith}
+use Rattle.etoken.specs.declared.token.Token.{Token}
+use Rattle.etoken.specs.declared.token.Token.TheVariants as token
+use Rattle.etoken.specs.declared.token.Reserved as words
+use Rattle.etoken.specs.declared.token.Reserved.TheVariants as word
+use Rattle.etoken.specs.declared.token.Sign as signs
+use Rattle.etoken.specs.declared.token.Sign.TheVariants as sign
+use Rattle.kernele.specs.declared.tree.Pattern.{Pattern}
+use Rattle.kernele.specs.Tree.{Tree, Trees}
+use Rattle.ereader.specs.declared.operator.Operator.{Operator}
+use Rattle.ereader.specs.declared.operator.Prefix.{Prefix}
+use Rattle.ereader.specs.declared.operator.Link.{Link}
+use Rattle.ereader.specs.declared.operator.Bracket.{Bracket}
+use Rattle.ereader.specs.declared.operator.Bracket.TheVariants as bracket
+use Rattle.ereader.specs.Grammar.{product_operator, sum_operator, comparison_operator, prefix_operator, Expr, expr_define, expr_disjunction, Pat, pat_name, pat_ignore, Disjunction, disjunction_comparison, Comparison, comparison_sum, comparison_two, Sum, sum_product, sum_more, Product, product_unary, product_more, Unary, unary_postfix, unary_prefix, Postfix, postfix_primary, postfix_method, postfix_run, postfix_get, Primary, primary_int, primary_text, primary_true, primary_false, primary_null, primary_name, primary_list, primary_group, Args, args_none, args_some, Items, items_one, items_and, Semicolons, semicolons_none, semicolons_more, Sequence, sequence_one, sequence_and}
+use Rattle.ereader.specs.Reading.{or_else, is_empty, sign_in, front, is_def, is_semicolon, is_close, link_of}
+
+-- tokens are used up
+mutual
+  pub less_expr : {a r : List Token} {t : Tree} → Expr a t r → length r < length a
+  less_expr (expr_define p x) = omega (arith, less_pat p, less_disjunction x)
+  less_expr (expr_disjunction x) = less_disjunction x
+
+  pub less_pat : {a r : List Token} {p : Pattern} → Pat a p r → length r < length a
+  less_pat pat_name = omega arith
+  less_pat pat_ignore = omega arith
+
+  pub less_disjunction : {a r : List Token} {t : Tree} → Disjunction a t r → length r < length a
+  less_disjunction (disjunction_comparison x) = less_comparison x
+
+  pub less_comparison : {a r : List Token} {t : Tree} → Comparison a t r → length r < length a
+  less_comparison (comparison_sum s) = less_sum s
+  less_comparison (comparison_two s e p) = omega (arith, less_sum s, less_sum p)
+
+  pub less_sum : {a r : List Token} {t : Tree} → Sum a t r → length r < length a
+  less_sum (sum_product p) = less_product p
+  less_sum (sum_more s e p) = omega (arith, less_sum s, less_product p)
+
+  pub less_product : {a r : List Token} {t : Tree} → Product a t r → length r < length a
+  less_product (product_unary p) = less_unary p
+  less_product (product_more s e p) = omega (arith, less_product s, less_unary p)
+
+  pub less_unary : {a r : List Token} {t : Tree} → Unary a t r → length r < length a
+  less_unary (unary_postfix p) = less_postfix p
+  less_unary (unary_prefix e p) = omega (arith, less_postfix p)
+
+  pub less_postfix : {a r : List Token} {t : Tree} → Postfix a t r → length r < length a
+  less_postfix (postfix_primary p) = less_primary p
+  less_postfix (postfix_method s p) = omega (arith, less_postfix s, less_args p)
+  less_postfix (postfix_run s p) = omega (arith, less_postfix s, less_args p)
+  less_postfix (postfix_get s p) = omega (arith, less_postfix s, less_args p)
+
+  pub less_primary : {a r : List Token} {t : Tree} → Primary a t r → length r < length a
+  less_primary primary_int = omega arith
+  less_primary primary_text = omega arith
+  less_primary primary_true = omega arith
+  less_primary primary_false = omega arith
+  less_primary primary_null = omega arith
+  less_primary primary_name = omega arith
+  less_primary (primary_list x) = omega (arith, less_args x)
+  less_primary (primary_group x) = omega (arith, less_expr x)
+
+  pub less_args : {a r : List Token} {ts : Trees} → Args a ts r → length r ≤ length a
+  less_args args_none = omega arith
+  less_args (args_some x) = omega (arith, less_items x)
+
+  pub less_items : {a r : List Token} {ts : Trees} → Items a ts r → length r < length a
+  less_items (items_one x) = less_disjunction x
+  less_items (items_and s x) = omega (arith, less_items s, less_disjunction x)
+
+pub le_semicolons : {a r : List Token} → Semicolons a r → length r ≤ length a
+le_semicolons semicolons_none = omega arith
+le_semicolons (semicolons_more s) = omega (arith, le_semicolons s)
+
+pub less_sequence : {a r : List Token} {ts : Trees} → Sequence a ts r → length r < length a
+less_sequence (sequence_one x) = less_expr x
+less_sequence (sequence_and s p x) = omega (arith, less_sequence s, le_semicolons p, less_expr x)
+
+-- how tightly a sign binds to what is before it
+abbrev pub sign_strength : signs.Sign → ℕ
+sign_strength sign.Dot = 4
+sign_strength sign.OpenRound = 4
+sign_strength sign.OpenSquare = 4
+sign_strength sign.Times = 3
+sign_strength sign.Divide = 3
+sign_strength sign.Plus = 2
+sign_strength sign.Minus = 2
+sign_strength sign.Equal = 1
+sign_strength sign.NotEqual = 1
+sign_strength sign.Less = 1
+sign_strength sign.AtMost = 1
+sign_strength sign.More = 1
+sign_strength sign.AtLeast = 1
+sign_strength _ = 0
+
+abbrev pub strength : Option signs.Sign → ℕ
+strength None = 0
+strength (Some s) = sign_strength s
+
+-- nothing that binds so tightly is in front
+abbrev pub Below : ℕ → List Token → Type 0
+Below n a = strength (sign_in a) < n
+
+pub product_none : (s : signs.Sign) → sign_strength s < 3 → product_operator s ≡ None
+product_none sign.Times h = absurd (omega (arith, h))
+product_none sign.Divide h = absurd (omega (arith, h))
+product_none _ h = refl
+
+pub sum_none : (s : signs.Sign) → sign_strength s < 2 → sum_operator s ≡ None
+sum_none sign.Plus h = absurd (omega (arith, h))
+sum_none sign.Minus h = absurd (omega (arith, h))
+sum_none _ h = refl
+
+pub comparison_none : (s : signs.Sign) → sign_strength s < 1 → comparison_operator s ≡ None
+comparison_none sign.Equal h = absurd (omega (arith, h))
+comparison_none sign.NotEqual h = absurd (omega (arith, h))
+comparison_none sign.Less h = absurd (omega (arith, h))
+comparison_none sign.AtMost h = absurd (omega (arith, h))
+comparison_none sign.More h = absurd (omega (arith, h))
+comparison_none sign.AtLeast h = absurd (omega (arith, h))
+comparison_none _ h = refl
+
+pub link_none : (s : signs.Sign) → sign_strength s < 4 → link_of s ≡ None
+link_none sign.Dot h = absurd (omega (arith, h))
+link_none sign.OpenRound h = absurd (omega (arith, h))
+link_none sign.OpenSquare h = absurd (omega (arith, h))
+link_none _ h = refl
+
+none_if : {A : Type 0} (of : signs.Sign → Option A) (n : ℕ) → ((s : signs.Sign) → sign_strength s < n → of s ≡ None) → (o : Option signs.Sign) → strength o < n → or_else o None of ≡ None
+none_if of n h None b = refl
+none_if of n h (Some s) b = h s b
+
+-- signs that bind more loosely are not what is looked for
+pub front_none : {A : Type 0} (of : signs.Sign → Option A) (n : ℕ) → ((s : signs.Sign) → sign_strength s < n → of s ≡ None) → (a : List Token) → Below n a → front of a ≡ None
+front_none of n h a b = none_if of n h (sign_in a) b
+
+pub product_strength : (s : signs.Sign) {o : Operator} → product_operator s ≡ Some o → sign_strength s < 4
+product_strength sign.Times e = omega arith
+product_strength sign.Divide e = omega arith
+product_strength _ e = absurd (cc)
+
+pub sum_strength : (s : signs.Sign) {o : Operator} → sum_operator s ≡ Some o → sign_strength s < 3
+sum_strength sign.Plus e = omega arith
+sum_strength sign.Minus e = omega arith
+sum_strength _ e = absurd (cc)
+
+pub comparison_strength : (s : signs.Sign) {o : Operator} → comparison_operator s ≡ Some o → sign_strength s < 2
+comparison_strength sign.Equal e = omega arith
+comparison_strength sign.NotEqual e = omega arith
+comparison_strength sign.Less e = omega arith
+comparison_strength sign.AtMost e = omega arith
+comparison_strength sign.More e = omega arith
+comparison_strength sign.AtLeast e = omega arith
+comparison_strength _ e = absurd (cc)
+
+abbrev pub sign_start : signs.Sign → ℕ
+sign_start sign.OpenRound = 2
+sign_start sign.OpenSquare = 2
+sign_start sign.Not = 1
+sign_start sign.Minus = 1
+sign_start _ = 0
+
+abbrev pub word_start : words.Reserved → ℕ
+word_start word.True = 2
+word_start word.False = 2
+word_start word.Null = 2
+word_start _ = 0
+
+-- 0: not with an expression's token; 1: with an operator before an operand; 2: with any other
+abbrev pub start : List Token → ℕ
+start [] = 0
+start (token.Int z ∷ a) = 2
+start (token.Text s ∷ a) = 2
+start (token.Name x ∷ a) = 2
+start (token.Word w ∷ a) = word_start w
+start (token.Sign s ∷ a) = sign_start s
+
+no_prefix_sign : (s : signs.Sign) → sign_start s ≡ 2 → prefix_operator s ≡ None
+no_prefix_sign sign.Not h = absurd (omega (arith, h))
+no_prefix_sign sign.Minus h = absurd (omega (arith, h))
+no_prefix_sign _ h = refl
+
+pub no_prefix : (a : List Token) → start a ≡ 2 → front prefix_operator a ≡ None
+no_prefix [] h = refl
+no_prefix (token.Sign s ∷ a) h = no_prefix_sign s h
+no_prefix (_ ∷ a) h = refl
+
+no_close_sign : (b : Bracket) (s : signs.Sign) → 0 < sign_start s → is_close b (Some s) ≡ false
+no_close_sign bracket.Round sign.CloseRound h = absurd (omega (arith, h))
+no_close_sign bracket.Round _ h = refl
+no_close_sign bracket.Square sign.CloseSquare h = absurd (omega (arith, h))
+no_close_sign bracket.Square _ h = refl
+
+no_close_none : (b : Bracket) → is_close b None ≡ false
+no_close_none bracket.Round = refl
+no_close_none bracket.Square = refl
+
+pub no_close : (b : Bracket) (a : List Token) → 0 < start a → is_close b (sign_in a) ≡ false
+no_close b [] h = no_close_none b
+no_close b (token.Sign s ∷ a) h = no_close_sign b s h
+no_close b (_ ∷ a) h = no_close_none b
+
+no_def_word : (w : words.Reserved) (a : List Token) → 0 < word_start w → is_def (token.Word w ∷ a) ≡ false
+no_def_word word.Def a h = absurd (omega (arith, h))
+no_def_word _ a h = refl
+
+pub no_def : (a : List Token) → 0 < start a → is_def a ≡ false
+no_def [] h = refl
+no_def (token.Word w ∷ a) h = no_def_word w a h
+no_def (_ ∷ a) h = refl
+
+no_semicolon_sign : (s : signs.Sign) → 0 < sign_start s → is_semicolon (Some s) ≡ false
+no_semicolon_sign sign.Semicolon h = absurd (omega (arith, h))
+no_semicolon_sign _ h = refl
+
+no_semicolon : (a : List Token) → 0 < start a → is_semicolon (sign_in a) ≡ false
+no_semicolon [] h = refl
+no_semicolon (token.Sign s ∷ a) h = no_semicolon_sign s h
+no_semicolon (_ ∷ a) h = refl
+
+start_prefix : (s : signs.Sign) {o : Prefix} → prefix_operator s ≡ Some o → 0 < sign_start s
+start_prefix sign.Not e = omega arith
+start_prefix sign.Minus e = omega arith
+start_prefix _ e = absurd (cc)
+
+start_primary : {a r : List Token} {t : Tree} → Primary a t r → start a ≡ 2
+start_primary primary_int = refl
+start_primary primary_text = refl
+start_primary primary_true = refl
+start_primary primary_false = refl
+start_primary primary_null = refl
+start_primary primary_name = refl
+start_primary (primary_list x) = refl
+start_primary (primary_group x) = refl
+
+pub start_postfix : {a r : List Token} {t : Tree} → Postfix a t r → start a ≡ 2
+start_postfix (postfix_primary p) = start_primary p
+start_postfix (postfix_method s p) = start_postfix s
+start_postfix (postfix_run s p) = start_postfix s
+start_postfix (postfix_get s p) = start_postfix s
+
+start_unary : {a r : List Token} {t : Tree} → Unary a t r → 0 < start a
+start_unary (unary_postfix p) = omega (arith, start_postfix p)
+start_unary (unary_prefix {s = s} e p) = start_prefix s e
+
+start_product : {a r : List Token} {t : Tree} → Product a t r → 0 < start a
+start_product (product_unary p) = start_unary p
+start_product (product_more s e p) = start_product s
+
+start_sum : {a r : List Token} {t : Tree} → Sum a t r → 0 < start a
+start_sum (sum_product p) = start_product p
+start_sum (sum_more s e p) = start_sum s
+
+start_comparison : {a r : List Token} {t : Tree} → Comparison a t r → 0 < start a
+start_comparison (comparison_sum s) = start_sum s
+start_comparison (comparison_two s e p) = start_sum s
+
+pub start_disjunction : {a r : List Token} {t : Tree} → Disjunction a t r → 0 < start a
+start_disjunction (disjunction_comparison x) = start_comparison x
+
+pub start_items : {a r : List Token} {ts : Trees} → Items a ts r → 0 < start a
+start_items (items_one x) = start_disjunction x
+start_items (items_and s x) = start_items s
+
+-- an expression begins with no semicolon
+pub expr_begins : {a r : List Token} {t : Tree} → Expr a t r → is_semicolon (sign_in a) ≡ false
+expr_begins (expr_define p x) = refl
+expr_begins (expr_disjunction {a = a} x) = no_semicolon a (start_disjunction x)
+
+pub sequence_begins : {a r : List Token} {ts : Trees} → Sequence a ts r → is_semicolon (sign_in a) ≡ false
+sequence_begins (sequence_one x) = expr_begins x
+sequence_begins (sequence_and s p x) = sequence_begins s
+
+pub not_empty : (a r : List Token) → length r < length a → is_empty a ≡ false
+not_empty [] r h = absurd (omega (arith, h))
+not_empty (x ∷ a) r h = refl

@@ -1,0 +1,190 @@
+-- The grammar: which trees tokens spell.
+use Rattle.std.specs.Prelude.{◌≡◌, ℤ, true, false, List, [], ◌∷◌, Option, Some, None, codes}
+use Rattle.etoken.specs.declared.token.Token.{Token}
+use Rattle.etoken.specs.declared.token.Token.TheVariants as token
+use Rattle.etoken.specs.declared.token.Reserved.TheVariants as word
+use Rattle.etoken.specs.declared.token.Sign as signs
+use Rattle.etoken.specs.declared.token.Sign.TheVariants as sign
+use Rattle.kernele.specs.declared.tree.Pattern.{Pattern}
+use Rattle.kernele.specs.declared.tree.Pattern.TheVariants as pattern
+use Rattle.kernele.specs.Tree.{Name, Tree, null_tree, bool_tree, int_tree, text_tree, noun, define, call, list_tree, same_tree, Trees, none, and_then}
+use Rattle.ereader.specs.declared.operator.Operator.{Operator}
+use Rattle.ereader.specs.declared.operator.Operator.TheVariants as operator
+use Rattle.ereader.specs.declared.operator.Prefix.{Prefix}
+use Rattle.ereader.specs.declared.operator.Prefix.TheVariants as prefix
+
+-- the tokens that rules name
+abbrev pub dot : Token
+dot = token.Sign sign.Dot
+
+abbrev pub comma : Token
+comma = token.Sign sign.Comma
+
+abbrev pub semicolon : Token
+semicolon = token.Sign sign.Semicolon
+
+abbrev pub becomes : Token
+becomes = token.Sign sign.Becomes
+
+abbrev pub open_round : Token
+open_round = token.Sign sign.OpenRound
+
+abbrev pub close_round : Token
+close_round = token.Sign sign.CloseRound
+
+abbrev pub open_square : Token
+open_square = token.Sign sign.OpenSquare
+
+abbrev pub close_square : Token
+close_square = token.Sign sign.CloseSquare
+
+abbrev pub underscore : Token
+underscore = token.Sign sign.Underscore
+
+-- the operators of a product
+abbrev pub product_operator : signs.Sign → Option Operator
+product_operator sign.Times = Some operator.Multiply
+product_operator sign.Divide = Some operator.FloorDivide
+product_operator _ = None
+
+-- the operators of a sum
+abbrev pub sum_operator : signs.Sign → Option Operator
+sum_operator sign.Plus = Some operator.Add
+sum_operator sign.Minus = Some operator.Subtract
+sum_operator _ = None
+
+-- the operators that compare two sums
+abbrev pub comparison_operator : signs.Sign → Option Operator
+comparison_operator sign.Equal = Some operator.Same
+comparison_operator sign.NotEqual = Some operator.Differ
+comparison_operator sign.Less = Some operator.LessThan
+comparison_operator sign.AtMost = Some operator.AtMost
+comparison_operator sign.More = Some operator.MoreThan
+comparison_operator sign.AtLeast = Some operator.AtLeast
+comparison_operator _ = None
+
+-- what stands before an operand
+abbrev pub prefix_operator : signs.Sign → Option Prefix
+prefix_operator sign.Not = Some prefix.Not
+prefix_operator sign.Minus = Some prefix.Negate
+prefix_operator _ = None
+
+-- a call with one argument
+abbrev pub binary : Tree → Name → Tree → Tree
+binary t verb u = call t verb (and_then u none)
+
+-- what an operator between two trees stands for
+abbrev pub joined : Operator → Tree → Tree → Tree
+joined operator.Add t u = binary t (codes "add") u
+joined operator.Subtract t u = binary t (codes "subtract") u
+joined operator.Multiply t u = binary t (codes "multiply") u
+joined operator.FloorDivide t u = binary t (codes "floorDivide") u
+joined operator.LessThan t u = binary t (codes "lessThan") u
+joined operator.AtMost t u = binary t (codes "atMost") u
+joined operator.MoreThan t u = binary t (codes "moreThan") u
+joined operator.AtLeast t u = binary t (codes "atLeast") u
+joined operator.Same t u = same_tree t u
+joined operator.Differ t u = call (same_tree t u) (codes "not") none
+
+-- the verb of an operator before a tree
+abbrev pub prefix_verb : Prefix → Name
+prefix_verb prefix.Not = codes "not"
+prefix_verb prefix.Negate = codes "negate"
+
+-- one more at the end
+abbrev pub snoc : Trees → Tree → Trees
+snoc none t = and_then t none
+snoc (and_then u us) t = and_then u (snoc us t)
+
+-- Sum a t r: the tokens a begin with a sum of tree t, and r is after it; the same with every other part
+mutual
+  -- an item of a block
+  pub data Expr : List Token → Tree → List Token → Type 0 where
+    expr_define : {a b r : List Token} {p : Pattern} {t : Tree}
+        → Pat a p (becomes ∷ b) → Disjunction b t r → Expr (token.Word word.Def ∷ a) (define p t) r
+    expr_disjunction : {a r : List Token} {t : Tree} → Disjunction a t r → Expr a t r
+
+  -- what a definition binds
+  pub data Pat : List Token → Pattern → List Token → Type 0 where
+    pat_name : {r : List Token} {x : Name} → Pat (token.Name x ∷ r) (pattern.Name x) r
+    pat_ignore : {r : List Token} → Pat (underscore ∷ r) pattern.Ignore r
+
+  -- an expression that may stand in any place
+  pub data Disjunction : List Token → Tree → List Token → Type 0 where
+    disjunction_comparison : {a r : List Token} {t : Tree} → Comparison a t r → Disjunction a t r
+
+  -- does not associate
+  pub data Comparison : List Token → Tree → List Token → Type 0 where
+    comparison_sum : {a r : List Token} {t : Tree} → Sum a t r → Comparison a t r
+    comparison_two : {a b r : List Token} {t u : Tree} {s : signs.Sign} {o : Operator}
+        → Sum a t (token.Sign s ∷ b) → comparison_operator s ≡ Some o → Sum b u r → Comparison a (joined o t u) r
+
+  -- associates to the left
+  pub data Sum : List Token → Tree → List Token → Type 0 where
+    sum_product : {a r : List Token} {t : Tree} → Product a t r → Sum a t r
+    sum_more : {a b r : List Token} {t u : Tree} {s : signs.Sign} {o : Operator}
+        → Sum a t (token.Sign s ∷ b) → sum_operator s ≡ Some o → Product b u r → Sum a (joined o t u) r
+
+  -- associates to the left
+  pub data Product : List Token → Tree → List Token → Type 0 where
+    product_unary : {a r : List Token} {t : Tree} → Unary a t r → Product a t r
+    product_more : {a b r : List Token} {t u : Tree} {s : signs.Sign} {o : Operator}
+        → Product a t (token.Sign s ∷ b) → product_operator s ≡ Some o → Unary b u r → Product a (joined o t u) r
+
+  pub data Unary : List Token → Tree → List Token → Type 0 where
+    unary_postfix : {a r : List Token} {t : Tree} → Postfix a t r → Unary a t r
+    unary_prefix : {a r : List Token} {t : Tree} {s : signs.Sign} {o : Prefix}
+        → prefix_operator s ≡ Some o → Postfix a t r → Unary (token.Sign s ∷ a) (call t (prefix_verb o) none) r
+
+  -- calls of what stands before them
+  pub data Postfix : List Token → Tree → List Token → Type 0 where
+    postfix_primary : {a r : List Token} {t : Tree} → Primary a t r → Postfix a t r
+    postfix_method : {a b r : List Token} {t : Tree} {verb : Name} {ts : Trees}
+        → Postfix a t (dot ∷ token.Name verb ∷ open_round ∷ b) → Args b ts (close_round ∷ r) → Postfix a (call t verb ts) r
+    postfix_run : {a b r : List Token} {t : Tree} {ts : Trees}
+        → Postfix a t (open_round ∷ b) → Args b ts (close_round ∷ r) → Postfix a (call t (codes "run") ts) r
+    postfix_get : {a b r : List Token} {t : Tree} {ts : Trees}
+        → Postfix a t (open_square ∷ b) → Args b ts (close_square ∷ r) → Postfix a (call t (codes "get") ts) r
+
+  pub data Primary : List Token → Tree → List Token → Type 0 where
+    primary_int : {r : List Token} {z : ℤ} → Primary (token.Int z ∷ r) (int_tree z) r
+    primary_text : {r : List Token} {s : Name} → Primary (token.Text s ∷ r) (text_tree s) r
+    primary_true : {r : List Token} → Primary (token.Word word.True ∷ r) (bool_tree true) r
+    primary_false : {r : List Token} → Primary (token.Word word.False ∷ r) (bool_tree false) r
+    primary_null : {r : List Token} → Primary (token.Word word.Null ∷ r) null_tree r
+    primary_name : {r : List Token} {x : Name} → Primary (token.Name x ∷ r) (noun x) r
+    primary_list : {a r : List Token} {ts : Trees}
+        → Args a ts (close_square ∷ r) → Primary (open_square ∷ a) (list_tree ts) r
+    primary_group : {a r : List Token} {t : Tree}
+        → Expr a t (close_round ∷ r) → Primary (open_round ∷ a) t r
+
+  -- between brackets
+  pub data Args : List Token → Trees → List Token → Type 0 where
+    args_none : {r : List Token} → Args r none r
+    args_some : {a r : List Token} {ts : Trees} → Items a ts r → Args a ts r
+
+  -- one or more, with commas between them
+  pub data Items : List Token → Trees → List Token → Type 0 where
+    items_one : {a r : List Token} {t : Tree} → Disjunction a t r → Items a (and_then t none) r
+    items_and : {a b r : List Token} {t : Tree} {ts : Trees}
+        → Items a ts (comma ∷ b) → Disjunction b t r → Items a (snoc ts t) r
+
+-- any number of semicolons
+pub data Semicolons : List Token → List Token → Type 0 where
+  semicolons_none : {r : List Token} → Semicolons r r
+  semicolons_more : {a r : List Token} → Semicolons a r → Semicolons (semicolon ∷ a) r
+
+-- one expression or more, with semicolons between them
+pub data Sequence : List Token → Trees → List Token → Type 0 where
+  sequence_one : {a r : List Token} {t : Tree} → Expr a t r → Sequence a (and_then t none) r
+  sequence_and : {a b c r : List Token} {t : Tree} {ts : Trees}
+      → Sequence a ts (semicolon ∷ b) → Semicolons b c → Expr c t r → Sequence a (snoc ts t) r
+
+pub data Block : List Token → Trees → List Token → Type 0 where
+  block_empty : {a r : List Token} → Semicolons a r → Block a none r
+  block_items : {a b c r : List Token} {ts : Trees}
+      → Semicolons a b → Sequence b ts c → Semicolons c r → Block a ts r
+
+-- all the tokens
+abbrev pub Program : List Token → Trees → Type 0
+Program a ts = Block a ts []

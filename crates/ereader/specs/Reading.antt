@@ -1,0 +1,244 @@
+-- What each part of the reader gives, as a function of the tokens: a tree and what is after it, or nothing.
+use Rattle.std.specs.Prelude.{Bool, true, false, cond, ℕ, zero, suc, ◌+◌, List, [], ◌∷◌, length, Option, Some, None, option_and_then, codes}
+use Rattle.etoken.specs.declared.token.Token.{Token}
+use Rattle.etoken.specs.declared.token.Token.TheVariants as token
+use Rattle.etoken.specs.declared.token.Reserved as words
+use Rattle.etoken.specs.declared.token.Reserved.TheVariants as word
+use Rattle.etoken.specs.declared.token.Sign as signs
+use Rattle.etoken.specs.declared.token.Sign.TheVariants as sign
+use Rattle.kernele.specs.declared.tree.Pattern.{Pattern}
+use Rattle.kernele.specs.declared.tree.Pattern.TheVariants as pattern
+use Rattle.kernele.specs.Tree.{Name, Tree, null_tree, bool_tree, int_tree, text_tree, noun, define, call, list_tree, Trees, none, and_then}
+use Rattle.ereader.specs.declared.operator.Operator.{Operator}
+use Rattle.ereader.specs.declared.operator.Prefix.{Prefix}
+use Rattle.ereader.specs.declared.operator.Link.{Link}
+use Rattle.ereader.specs.declared.operator.Link.TheVariants as link
+use Rattle.ereader.specs.declared.operator.Bracket.{Bracket}
+use Rattle.ereader.specs.declared.operator.Bracket.TheVariants as bracket
+use Rattle.ereader.specs.Grammar.{product_operator, sum_operator, comparison_operator, prefix_operator, joined, prefix_verb, snoc}
+
+-- what is read, and the tokens after it
+abbrev pub Read : Type 0 → Type 0
+Read A = Option (A × List Token)
+
+infixl 10 ◌>>=◌
+abbrev pub ◌>>=◌ : {A B : Type 0} → Option A → (A → Option B) → Option B
+None >>= f = None
+(Some x) >>= f = f x
+
+abbrev pub or_else : {A B : Type 0} → Option A → B → (A → B) → B
+or_else None y f = y
+or_else (Some x) y f = f x
+
+abbrev pub rest_of : List Token → List Token
+rest_of [] = []
+rest_of (x ∷ xs) = xs
+
+abbrev pub is_empty : List Token → Bool
+is_empty [] = true
+is_empty (x ∷ xs) = false
+
+-- the sign that a token is
+abbrev pub sign_of : Token → Option signs.Sign
+sign_of (token.Sign s) = Some s
+sign_of _ = None
+
+-- the sign in front
+abbrev pub sign_in : List Token → Option signs.Sign
+sign_in [] = None
+sign_in (x ∷ xs) = sign_of x
+
+-- what the sign in front stands for
+abbrev pub front : {A : Type 0} → (signs.Sign → Option A) → List Token → Option A
+front of a = or_else (sign_in a) None of
+
+abbrev pub is_def_word : words.Reserved → Bool
+is_def_word word.Def = true
+is_def_word _ = false
+
+abbrev pub is_def_token : Token → Bool
+is_def_token (token.Word w) = is_def_word w
+is_def_token _ = false
+
+-- a definition is in front
+abbrev pub is_def : List Token → Bool
+is_def [] = false
+is_def (x ∷ xs) = is_def_token x
+
+abbrev pub is_comma : Option signs.Sign → Bool
+is_comma (Some sign.Comma) = true
+is_comma _ = false
+
+abbrev pub is_semicolon : Option signs.Sign → Bool
+is_semicolon (Some sign.Semicolon) = true
+is_semicolon _ = false
+
+abbrev pub is_becomes : Option signs.Sign → Bool
+is_becomes (Some sign.Becomes) = true
+is_becomes _ = false
+
+abbrev pub is_open : Option signs.Sign → Bool
+is_open (Some sign.OpenRound) = true
+is_open _ = false
+
+abbrev pub is_close : Bracket → Option signs.Sign → Bool
+is_close bracket.Round (Some sign.CloseRound) = true
+is_close bracket.Square (Some sign.CloseSquare) = true
+is_close _ _ = false
+
+-- what may come again and again, at most n times: next is the next turn, if there is one
+abbrev pub repeat : {A : Type 0} → (A → List Token → Option (Read A)) → ℕ → A → List Token → Read A
+repeat next zero t a = Some (t, a)
+repeat next (suc n) t a = or_else (next t a) (Some (t, a)) (λ turn. turn >>= λ x. repeat next n x.0 x.1)
+
+-- past a token that has to be there
+abbrev pub past : {A : Type 0} → (Option signs.Sign → Bool) → A × List Token → Read A
+past is x = cond (is (sign_in x.1)) (Some (x.0, rest_of x.1)) None
+
+-- an operator and what is on its right; part reads an operand
+abbrev pub operand_next : (signs.Sign → Option Operator) → (List Token → Read Tree) → Tree → List Token → Option (Read Tree)
+operand_next of part t a = or_else (front of a) None (λ o. Some (part (rest_of a) >>= λ x. Some (joined o t x.0, x.1)))
+
+-- operands with operators between them, joined from the left
+abbrev pub operands_at : (signs.Sign → Option Operator) → (List Token → Read Tree) → List Token → Read Tree
+operands_at of part a = part a >>= λ x. repeat (operand_next of part) (length x.1) x.0 x.1
+
+-- Below, within reads an expression behind at least one token of the whole.
+
+abbrev pub items_next : (List Token → Read Tree) → Trees → List Token → Option (Read Trees)
+items_next within ts a = cond (is_comma (sign_in a)) (Some (within (rest_of a) >>= λ x. Some (snoc ts x.0, x.1))) None
+
+abbrev pub items_at : (List Token → Read Tree) → List Token → Read Trees
+items_at within a = within a >>= λ x. repeat (items_next within) (length x.1) (and_then x.0 none) x.1
+
+-- up to and past the closing bracket
+abbrev pub args_at : (List Token → Read Tree) → Bracket → List Token → Read Trees
+args_at within close a = cond (is_close close (sign_in a)) (Some (none, rest_of a)) (items_at within a >>= past (is_close close))
+
+-- a list, behind its opening bracket
+abbrev pub list_at : (List Token → Read Tree) → List Token → Read Tree
+list_at within a = args_at within bracket.Square a >>= λ x. Some (list_tree x.0, x.1)
+
+abbrev pub pattern_at_sign : signs.Sign → List Token → Read Pattern
+pattern_at_sign sign.Underscore a = Some (pattern.Ignore, a)
+pattern_at_sign _ a = None
+
+abbrev pub pattern_at : List Token → Read Pattern
+pattern_at [] = None
+pattern_at (token.Name x ∷ a) = Some (pattern.Name x, a)
+pattern_at (token.Sign s ∷ a) = pattern_at_sign s a
+pattern_at _ = None
+
+-- a pattern and the sign behind it
+abbrev pub bound_at : List Token → Read Pattern
+bound_at a = pattern_at a >>= past is_becomes
+
+-- a definition, behind its first word
+abbrev pub define_at : (List Token → Read Tree) → List Token → Read Tree
+define_at within a = bound_at a >>= λ p. within p.1 >>= λ x. Some (define p.0 x.0, x.1)
+
+abbrev pub expr_at : (List Token → Read Tree) → List Token → Read Tree
+expr_at within a = cond (is_def a) (define_at within (rest_of a)) (within a)
+
+-- an expression in brackets, behind the opening one
+abbrev pub group_at : (List Token → Read Tree) → List Token → Read Tree
+group_at within a = expr_at within a >>= past (is_close bracket.Round)
+
+-- the literal that a word is
+abbrev pub literal_of : words.Reserved → Option Tree
+literal_of word.True = Some (bool_tree true)
+literal_of word.False = Some (bool_tree false)
+literal_of word.Null = Some null_tree
+literal_of _ = None
+
+abbrev pub word_at : words.Reserved → List Token → Read Tree
+word_at w a = literal_of w >>= λ t. Some (t, a)
+
+abbrev pub bracket_at : (List Token → Read Tree) → signs.Sign → List Token → Read Tree
+bracket_at within sign.OpenRound a = group_at within a
+bracket_at within sign.OpenSquare a = list_at within a
+bracket_at within _ a = None
+
+abbrev pub primary_at : (List Token → Read Tree) → List Token → Read Tree
+primary_at within [] = None
+primary_at within (token.Int z ∷ a) = Some (int_tree z, a)
+primary_at within (token.Text s ∷ a) = Some (text_tree s, a)
+primary_at within (token.Name x ∷ a) = Some (noun x, a)
+primary_at within (token.Word w ∷ a) = word_at w a
+primary_at within (token.Sign s ∷ a) = bracket_at within s a
+
+-- what makes a call of what stands before it
+abbrev pub link_of : signs.Sign → Option Link
+link_of sign.Dot = Some link.Method
+link_of sign.OpenRound = Some link.Run
+link_of sign.OpenSquare = Some link.Index
+link_of _ = None
+
+abbrev pub closer : Link → Bracket
+closer link.Method = bracket.Round
+closer link.Run = bracket.Round
+closer link.Index = bracket.Square
+
+abbrev pub name_at : List Token → Read Name
+name_at [] = None
+name_at (token.Name v ∷ a) = Some (v, a)
+name_at _ = None
+
+-- the verb, up to the arguments
+abbrev pub verb_at : Link → List Token → Read Name
+verb_at link.Method a = name_at a >>= past is_open
+verb_at link.Run a = Some (codes "run", a)
+verb_at link.Index a = Some (codes "get", a)
+
+-- a call of t, behind what makes it one
+abbrev pub linked_at : (List Token → Read Tree) → Link → Tree → List Token → Read Tree
+linked_at within l t a = verb_at l a >>= λ v. args_at within (closer l) v.1 >>= λ x. Some (call t v.0 x.0, x.1)
+
+abbrev pub postfix_next : (List Token → Read Tree) → Tree → List Token → Option (Read Tree)
+postfix_next within t a = or_else (front link_of a) None (λ l. Some (linked_at within l t (rest_of a)))
+
+abbrev pub postfix_at : (List Token → Read Tree) → List Token → Read Tree
+postfix_at within a = primary_at within a >>= λ x. repeat (postfix_next within) (length x.1) x.0 x.1
+
+abbrev pub unary_at : (List Token → Read Tree) → List Token → Read Tree
+unary_at within a = or_else (front prefix_operator a) (postfix_at within a) (λ o. postfix_at within (rest_of a) >>= λ x. Some (call x.0 (prefix_verb o) none, x.1))
+
+abbrev pub product_at : (List Token → Read Tree) → List Token → Read Tree
+product_at within = operands_at product_operator (unary_at within)
+
+abbrev pub sum_at : (List Token → Read Tree) → List Token → Read Tree
+sum_at within = operands_at sum_operator (product_at within)
+
+abbrev pub comparison_at : (List Token → Read Tree) → List Token → Read Tree
+comparison_at within a = sum_at within a >>= λ x. or_else (front comparison_operator x.1) (Some x) (λ o. sum_at within (rest_of x.1) >>= λ y. Some (joined o x.0 y.0, y.1))
+
+-- an expression that defines nothing, where fewer than n tokens have to be gone past
+abbrev pub disjunction_at : ℕ → List Token → Read Tree
+disjunction_at zero a = None
+disjunction_at (suc n) a = comparison_at (disjunction_at n) a
+
+abbrev pub skip_semicolons_sign : signs.Sign → List Token → List Token → List Token
+skip_semicolons_sign sign.Semicolon a b = b
+skip_semicolons_sign _ a b = a
+
+abbrev pub skip_semicolons : List Token → List Token
+skip_semicolons [] = []
+skip_semicolons (token.Sign s ∷ a) = skip_semicolons_sign s (token.Sign s ∷ a) (skip_semicolons a)
+skip_semicolons (x ∷ a) = x ∷ a
+
+-- what is behind the semicolons that part an item of a block from the next, or the end
+abbrev pub separator_at : List Token → Option (List Token)
+separator_at a = cond (is_empty a) (Some a) (cond (is_semicolon (sign_in a)) (Some (skip_semicolons a)) None)
+
+abbrev pub separated : Trees → List Token → Read Trees
+separated ts a = separator_at a >>= λ r. Some (ts, r)
+
+abbrev pub block_next : (List Token → Read Tree) → Trees → List Token → Option (Read Trees)
+block_next within ts a = cond (is_empty a) None (Some (expr_at within a >>= λ x. separated (snoc ts x.0) x.1))
+
+abbrev pub block_at : (List Token → Read Tree) → List Token → Read Trees
+block_at within a = repeat (block_next within) (length a) none (skip_semicolons a)
+
+-- all the tokens
+abbrev pub program_at : List Token → Read Trees
+program_at a = block_at (disjunction_at (length a)) a

@@ -1,0 +1,89 @@
+-- What the reader's values stand for.
+use Rattle.std.specs.Prelude.{◌≡◌, ◌<◌, ◌≤◌, ℕ, length, List, [], ◌∷◌, Option, Some, None, Result, Ok, Err}
+use Rattle.std.specs.declared.vec.Vec.{Vec}
+use Rattle.std.specs.declared.alloc.Global.{Global}
+use Rattle.etoken.specs.declared.token.Token.{Token}
+use Rattle.etoken.specs.declared.token.Placed.{Placed}
+use Rattle.kernele.specs.declared.tree.Expr.{Expr}
+use Rattle.kernele.specs.declared.tree.Pattern.{Pattern}
+use Rattle.kernele.specs.declared.tree.Program.{Program}
+use Rattle.kernele.specs.Tree.{Name, Tree, Trees}
+use Rattle.kernele.specs.View.{tree_of, trees_of, program_of}
+use Rattle.ereader.specs.declared.fault.ReadFault.{ReadFault}
+use Rattle.ereader.specs.declared.fault.ReadFault.TheVariants as fault
+use Rattle.ereader.specs.declared.fault.Stop.{Stop}
+use Rattle.ereader.specs.declared.fault.Stop.TheVariants as stop
+use Rattle.ereader.specs.declared.reader.Reader.{Reader}
+use Rattle.ereader.specs.Reading.{Read}
+
+-- the tokens, without their places
+abbrev pub plain : List Placed → List Token
+plain [] = []
+plain (p ∷ ps) = p.token ∷ plain ps
+
+-- the reader stops at a token that can't follow, or where memory runs out
+abbrev pub Fails : {A : Type 0} → Stop → Option A → Type 0
+Fails stop.Unexpected read = read ≡ None
+Fails stop.Memory read = Unit {0}
+
+-- the tokens that a reader has left
+abbrev pub left_of : Reader → List Token
+left_of r = plain r.rest.now
+
+-- a method of a reader returned, and left to read, what reading gives, unless memory ran out
+abbrev pub Gives : Result Expr Stop → Reader → Reader → (List Token → Read Tree) → Type 0
+Gives (Ok e) old new read = read (left_of old) ≡ Some (tree_of e, left_of new)
+Gives (Err e) old new read = Fails e (read (left_of old))
+
+-- the same, of several expressions
+abbrev pub GivesMany : Result (Vec Expr Global) Stop → Reader → Reader → (List Token → Read Trees) → Type 0
+GivesMany (Ok es) old new read = read (left_of old) ≡ Some (trees_of es.items, left_of new)
+GivesMany (Err e) old new read = Fails e (read (left_of old))
+
+-- the same, of several expressions and no token behind them
+abbrev pub GivesAll : Result (Vec Expr Global) Stop → Option (Trees × List Token) → Type 0
+GivesAll (Ok es) read = read ≡ Some (trees_of es.items, [])
+GivesAll (Err e) read = Fails e read
+
+-- the same, of a name or a pattern
+abbrev pub GivesPlain : {A : Type 0} → Result A Stop → Reader → Reader → (List Token → Read A) → Type 0
+GivesPlain (Ok x) old new read = read (left_of old) ≡ Some (x, left_of new)
+GivesPlain (Err e) old new read = Fails e (read (left_of old))
+
+-- the same, where nothing is returned
+abbrev pub GoesTo : Result Unit Stop → Reader → Reader → (List Token → Option (List Token)) → Type 0
+GoesTo (Ok x) old new read = read (left_of old) ≡ Some (left_of new)
+GoesTo (Err e) old new read = Fails e (read (left_of old))
+
+-- fewer tokens are left
+abbrev pub Advances : Reader → Reader → Type 0
+Advances old new = length (left_of new) < length (left_of old)
+
+-- no more tokens are left
+abbrev pub IsNoLonger : Reader → Reader → Type 0
+IsNoLonger old new = length (left_of new) ≤ length (left_of old)
+
+-- a literal is read, or none is there
+abbrev pub GivesTree : Result Expr Stop → Option Tree → Type 0
+GivesTree (Ok e) read = read ≡ Some (tree_of e)
+GivesTree (Err e) read = Fails e read
+
+-- reading fails, with a place in a text of n bytes, or memory runs out
+abbrev pub Stops : {A : Type 0} → ReadFault → ℕ → Option A → Type 0
+Stops fault.Memory n read = Unit {0}
+Stops (fault.Unexpected i) n read = (read ≡ None) × (i ≤ n)
+Stops _ n read = ⊥
+
+-- what may be answered for tokens that spell ts
+abbrev pub Accepts : Result Program ReadFault → Trees → Type 0
+Accepts (Ok p) ts = program_of p ≡ ts
+Accepts (Err fault.Memory) ts = Unit {0}
+Accepts (Err fault.TooDeep) ts = Unit {0}
+Accepts (Err _) ts = ⊥
+
+-- a refusal of tokens: for want of memory, for their brackets, or at a place in a text of n bytes
+abbrev pub IsRefusal : ReadFault → ℕ → Type 0
+IsRefusal fault.Memory n = Unit {0}
+IsRefusal fault.TooDeep n = Unit {0}
+IsRefusal (fault.Unexpected i) n = i ≤ n
+IsRefusal _ n = ⊥

@@ -1,0 +1,77 @@
+-- The tokens of the canonical spelling.
+use Rattle.std.specs.Prelude.{Bool, true, false, List, [], ◌∷◌}
+use Rattle.etoken.specs.declared.token.Token.{Token}
+use Rattle.etoken.specs.declared.token.Token.TheVariants as token
+use Rattle.etoken.specs.declared.token.Reserved as words
+use Rattle.etoken.specs.declared.token.Reserved.TheVariants as word
+use Rattle.etoken.specs.declared.token.Sign.TheVariants as sign
+use Rattle.kernele.specs.declared.tree.Pattern.{Pattern}
+use Rattle.kernele.specs.declared.tree.Pattern.TheVariants as pattern
+use Rattle.kernele.specs.Tree.{Tree, null_tree, bool_tree, int_tree, text_tree, noun, define, call, list_tree, same_tree, Trees, none, and_then}
+
+-- tokens put before others
+abbrev pub Before : Type 0
+Before = List Token → List Token
+
+-- each behind a separator
+abbrev pub led_by : Token → List Before → Before
+led_by separator [] r = r
+led_by separator (w ∷ ws) r = separator ∷ w (led_by separator ws r)
+
+-- with a separator between them
+abbrev pub between : Token → List Before → Before
+between separator [] r = r
+between separator (w ∷ ws) r = w (led_by separator ws r)
+
+-- in round brackets, where they are wanted
+abbrev pub bracketed : Bool → Before → Before
+bracketed true w r = token.Sign sign.OpenRound ∷ w (token.Sign sign.CloseRound ∷ r)
+bracketed false w r = w r
+
+-- what a definition binds
+abbrev pub bound : Pattern → Token
+bound (pattern.Name x) = token.Name x
+bound pattern.Ignore = token.Sign sign.Underscore
+
+abbrev pub truth_word : Bool → words.Reserved
+truth_word true = word.True
+truth_word false = word.False
+
+-- a definition stands without brackets as an item of a block, and nowhere else
+abbrev pub is_definition : Tree → Bool
+is_definition null_tree = false
+is_definition (bool_tree b) = false
+is_definition (int_tree z) = false
+is_definition (text_tree s) = false
+is_definition (noun x) = false
+is_definition (define p e) = true
+is_definition (call t verb ts) = false
+is_definition (list_tree ts) = false
+is_definition (same_tree t u) = false
+
+abbrev mutual
+  -- a tree, as an item of a block
+  pub written : Tree → Before
+  written null_tree r = token.Word word.Null ∷ r
+  written (bool_tree b) r = token.Word (truth_word b) ∷ r
+  written (int_tree z) r = token.Int z ∷ r
+  written (text_tree s) r = token.Text s ∷ r
+  written (noun x) r = token.Name x ∷ r
+  written (define p e) r = token.Word word.Def ∷ bound p ∷ token.Sign sign.Becomes ∷ bracketed (is_definition e) (written e) r
+  written (call t verb ts) r = bracketed (is_definition t) (written t) (token.Sign sign.Dot ∷ token.Name verb ∷ token.Sign sign.OpenRound ∷ between (token.Sign sign.Comma) (written_parts ts) (token.Sign sign.CloseRound ∷ r))
+  written (list_tree ts) r = token.Sign sign.OpenSquare ∷ between (token.Sign sign.Comma) (written_parts ts) (token.Sign sign.CloseSquare ∷ r)
+  written (same_tree t u) r = token.Sign sign.OpenRound ∷ bracketed (is_definition t) (written t) (token.Sign sign.Equal ∷ bracketed (is_definition u) (written u) (token.Sign sign.CloseRound ∷ r))
+
+  -- arguments, or the items of a list
+  pub written_parts : Trees → List Before
+  written_parts none = []
+  written_parts (and_then t ts) = bracketed (is_definition t) (written t) ∷ written_parts ts
+
+-- the items of a block
+abbrev pub written_items : Trees → List Before
+written_items none = []
+written_items (and_then t ts) = written t ∷ written_items ts
+
+-- a program
+abbrev pub program_tokens : Trees → List Token
+program_tokens ts = between (token.Sign sign.Semicolon) (written_items ts) []

@@ -1,0 +1,71 @@
+-- What is not written stays as it was.
+use Rattle.std.proofs.Common.{◌≡◌, ℕ, List, [], ◌∷◌, ◌++◌, Some, Bool, true, false, cond, refl, ap, ◌∙◌}
+use Rattle.kernele.specs.Tree.{Name, Tree, Trees}
+use Rattle.kernele.specs.declared.tree.Pattern.{Pattern}
+use Rattle.kernele.specs.declared.tree.Pattern.TheVariants as pattern
+use Rattle.values.specs.Data.{Val}
+use Rattle.turn.specs.State.{fixed, Cell, top, Content, bound, same_cell, State, write, At}
+use Rattle.turn.specs.Outcomes.{End, value, halt, thrown, abandoned, Gather}
+use Rattle.turn.specs.Rules.{bound_in, defined, Ends, at_budget, at_depth, at_node, Runs, run_null, run_bool, run_int, run_text, run_noun, run_define, run_call_receiver, run_call, run_list, run_same_left, run_same, Args, args_none, args_next, args_halt, Items, items_none, items_next, items_halt}
+use Rattle.turn.specs.Turn.{Delivery, Outcome, settled, kept, Delivers, opens, asks}
+use Rattle.turn.specs.Touched.{Touch, got, put, bound_touched, defined_touched, ends_touched, runs_touched, args_touched, items_touched, delivery_touched, NotPut}
+
+left : (xs ys : List Touch) (c : Cell) → NotPut c (xs ++ ys) → NotPut c xs
+left [] ys c h = tt
+left (got d ∷ xs) ys c h = left xs ys c h
+left (put d ∷ xs) ys c h = (h.0, left xs ys c h.1)
+
+right : (xs ys : List Touch) (c : Cell) → NotPut c (xs ++ ys) → NotPut c ys
+right [] ys c h = h
+right (got d ∷ xs) ys c h = right xs ys c h
+right (put d ∷ xs) ys c h = right xs ys c h.1
+
+write_other : (s : State) (d : Cell) (x : Content) (c : Cell) → same_cell d c ≡ false → write s d x c ≡ s c
+write_other s d x c e = ap (λ b. cond b (Some x) (s c)) e
+
+bound_un : (own : Bool) (x : Name) (v : Val) (b : At) (c : Cell) → NotPut c (bound_touched own x) → (bound_in own x (fixed v) b).state c ≡ b.state c
+bound_un true x v b c h = write_other b.state (top x) (bound (fixed v)) c h.0
+bound_un false x v b c h = refl
+
+define_un : (p : Pattern) (o : End) (b : At) (c : Cell) → NotPut c (defined_touched p o b) → (defined p o b).state c ≡ b.state c
+define_un (pattern.Name x) (value v) b c h = bound_un b.own_scope x v b c h
+define_un pattern.Ignore (value v) b c h = refl
+define_un p (halt j) b c h = refl
+
+mutual
+  pub ends_un : {k : ℕ} {t : Tree} {a b : At} {o : End} (r : Ends k t a o b) (c : Cell) → NotPut c (ends_touched r) → b.state c ≡ a.state c
+  ends_un (at_budget h) c n = refl
+  ends_un (at_depth h g) c n = refl
+  ends_un (at_node h g r) c n = runs_un r c n
+
+  pub runs_un : {k : ℕ} {t : Tree} {a b : At} {o : End} (r : Runs k t a o b) (c : Cell) → NotPut c (runs_touched r) → b.state c ≡ a.state c
+  runs_un run_null c n = refl
+  runs_un run_bool c n = refl
+  runs_un run_int c n = refl
+  runs_un run_text c n = refl
+  runs_un run_noun c n = refl
+  runs_un (run_define {p = p} {b = b} {o = o} r) c n = define_un p o b c (right (ends_touched r) (defined_touched p o b) c n) ∙ ends_un r c (left (ends_touched r) (defined_touched p o b) c n)
+  runs_un (run_call_receiver r) c n = ends_un r c n
+  runs_un (run_call r q) c n = args_un q c (right (ends_touched r) (args_touched q) c n) ∙ ends_un r c (left (ends_touched r) (args_touched q) c n)
+  runs_un (run_list r) c n = args_un r c n
+  runs_un (run_same_left r) c n = ends_un r c n
+  runs_un (run_same r q) c n = ends_un q c (right (ends_touched r) (ends_touched q) c n) ∙ ends_un r c (left (ends_touched r) (ends_touched q) c n)
+
+  pub args_un : {k : ℕ} {ts : Trees} {a b : At} {g : Gather} (r : Args k ts a g b) (c : Cell) → NotPut c (args_touched r) → b.state c ≡ a.state c
+  args_un args_none c n = refl
+  args_un (args_next r q) c n = args_un q c (right (ends_touched r) (args_touched q) c n) ∙ ends_un r c (left (ends_touched r) (args_touched q) c n)
+  args_un (args_halt r) c n = ends_un r c n
+
+pub items_un : {k : ℕ} {v : Val} {ts : Trees} {a b : At} {o : End} (r : Items k v ts a o b) (c : Cell) → NotPut c (items_touched r) → b.state c ≡ a.state c
+items_un items_none c n = refl
+items_un (items_next r q) c n = items_un q c (right (ends_touched r) (items_touched q) c n) ∙ ends_un r c (left (ends_touched r) (items_touched q) c n)
+items_un (items_halt r) c n = ends_un r c n
+
+kept_un : (o : End) (s t : State) (c : Cell) → t c ≡ s c → kept o s t c ≡ s c
+kept_un (value v) s t c e = e
+kept_un (halt (thrown problem)) s t c e = e
+kept_un (halt (abandoned why)) s t c e = refl
+
+pub delivery_un : {d : Delivery} {s : State} {n : ℕ} {o : Outcome} (r : Delivers d s n o) (c : Cell) → NotPut c (delivery_touched r) → o.state c ≡ s c
+delivery_un (opens {s = s} {o = o} {b = b} r) c n = kept_un (settled o) s b.state c (items_un r c n)
+delivery_un (asks {s = s} {o = o} {b = b} r) c n = kept_un (settled o) s b.state c (items_un r c n)

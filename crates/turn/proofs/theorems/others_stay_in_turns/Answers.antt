@@ -1,0 +1,5 @@
+use Rattle.turn.proofs.Unwritten.{delivery_un}
+use Rattle.turn.proofs.theorems.others_stay_in_turns.Goals as goal
+
+pub returns : goal.returns
+returns c = λ d s n o r c m. delivery_un r c m

@@ -1,0 +1,43 @@
+-- The laws of evaluation and of turns.
+use Rattle.std.specs.Prelude.{◌≡◌, ℕ, ◌≤◌}
+use Rattle.kernele.specs.Tree.{Tree}
+use Rattle.turn.specs.State.{Cell, State, At}
+use Rattle.turn.specs.Outcomes.{End}
+use Rattle.turn.specs.Rules.{Ends}
+use Rattle.turn.specs.Turn.{Delivery, Outcome, Delivers}
+use Rattle.turn.specs.Touched.{ends_touched, delivery_touched, Agree, NotPut, in_state}
+
+-- a tree has at most one outcome: one end, one state, the same names and steps left
+abbrev pub AtMostOneOutcome : Type 0
+AtMostOneOutcome = (k : ℕ) (t : Tree) (a b c : At) (o p : End) → Ends k t a o b → Ends k t a p c → (o ≡ p) × (b ≡ c)
+
+-- a delivery has at most one outcome
+abbrev pub AtMostOneDelivery : Type 0
+AtMostOneDelivery = (d : Delivery) (s : State) (n : ℕ) (o p : Outcome) → Delivers d s n o → Delivers d s n p → o ≡ p
+
+-- in a state that agrees on the cells touched, a tree ends the same and touches the same cells,
+-- and whatever cells agreed before agree after
+abbrev pub Frame : Type 0
+Frame = (k : ℕ) (t : Tree) (a b : At) (o : End) (r : Ends k t a o b) (u : State) → Agree (ends_touched r) u a.state →
+    (v : State) × (s : Ends k t (in_state u a) o (in_state v b)) × (ends_touched s ≡ ends_touched r) × ((c : Cell) → u c ≡ a.state c → v c ≡ b.state c)
+
+-- the same of a delivery: its result, its end and the steps left are the same, and it touches the same cells
+abbrev pub DeliveryFrame : Type 0
+DeliveryFrame = (d : Delivery) (s : State) (n : ℕ) (o : Outcome) (r : Delivers d s n o) (u : State) → Agree (delivery_touched r) u s →
+    (v : State) × (q : Delivers d u n (record o { state = v })) × (delivery_touched q ≡ delivery_touched r) × ((c : Cell) → u c ≡ s c → v c ≡ o.state c)
+
+-- a cell that a tree did not write is as it was
+abbrev pub OthersStay : Type 0
+OthersStay = (k : ℕ) (t : Tree) (a b : At) (o : End) (r : Ends k t a o b) (c : Cell) → NotPut c (ends_touched r) → b.state c ≡ a.state c
+
+-- a cell that a delivery did not write is as it was
+abbrev pub OthersStayInTurns : Type 0
+OthersStayInTurns = (d : Delivery) (s : State) (n : ℕ) (o : Outcome) (r : Delivers d s n o) (c : Cell) → NotPut c (delivery_touched r) → o.state c ≡ s c
+
+-- a tree gives no step back
+abbrev pub StepsOnlyFall : Type 0
+StepsOnlyFall = (k : ℕ) (t : Tree) (a b : At) (o : End) → Ends k t a o b → b.left ≤ a.left
+
+-- a delivery leaves no more steps than its budget
+abbrev pub WithinBudget : Type 0
+WithinBudget = (d : Delivery) (s : State) (n : ℕ) (o : Outcome) → Delivers d s n o → o.left ≤ n

@@ -1,0 +1,50 @@
+-- The state of a vat: a finite map from cells to contents.
+use Rattle.std.specs.Prelude.{ℕ, Bool, Option, Some, None, List, [], ◌∷◌, cond}
+use Rattle.std.specs.Str.{bytes_eq}
+use Rattle.kernele.specs.Tree.{Name}
+use Rattle.values.specs.Data.{Val}
+
+-- what a name stands for: a value that never changes
+pub data Bind : Type 0 where
+  fixed : (v : Val) → Bind
+
+-- names and what they stand for, the newest first
+abbrev pub Nouns : Type 0
+Nouns = List (Name × Bind)
+
+abbrev pub lookup : Nouns → Name → Option Bind
+lookup [] x = None
+lookup (n ∷ ns) x = cond (bytes_eq n.0 x) (Some n.1) (lookup ns x)
+
+-- a cell of a vat: a name that its script defined
+pub data Cell : Type 0 where
+  top : (x : Name) → Cell
+
+-- what a cell holds
+pub data Content : Type 0 where
+  bound : (b : Bind) → Content
+
+abbrev pub State : Type 0
+State = Cell → Option Content
+
+-- the state of a new vat
+abbrev pub nothing : State
+nothing c = None
+
+abbrev pub same_cell : Cell → Cell → Bool
+same_cell (top x) (top y) = bytes_eq x y
+
+-- the one way to read a cell, and the one way to write it
+abbrev pub read : State → Cell → Option Content
+read s c = s c
+
+abbrev pub write : State → Cell → Content → State
+write s c x = λ d. cond (same_cell c d) (Some x) (s d)
+
+-- where an evaluation stands: the names of the scopes entered so far, whether the innermost scope is the script's own,
+-- the state, and the steps left
+pub record At : Type 0 where
+  pub nouns : Nouns
+  pub own_scope : Bool
+  pub state : State
+  pub left : ℕ

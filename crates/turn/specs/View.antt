@@ -1,0 +1,76 @@
+-- What the program's states, ends and turns stand for.
+use Rattle.std.specs.Prelude.{ℕ, List, [], ◌∷◌}
+use Rattle.std.specs.Option.{option_map}
+use Rattle.std.specs.Ordering.{nat_cmp}
+use Rattle.std.specs.Cmp.Lexicographic.{slice_cmp}
+use Rattle.std.specs.BTreeMap.{BTreeMap, get}
+use Rattle.values.specs.declared.value.Value.{Value}
+use Rattle.values.specs.View.{val_of, vals_of}
+use Rattle.turn.specs.State.{fixed, Nouns, top, bound, State, At}
+use Rattle.turn.specs.Outcomes.{Cause, budget_spent, too_deep, Halt, thrown, abandoned, End, value, halt, Gather, values, halted}
+use Rattle.kernele.specs.View.{program_of}
+use Rattle.turn.specs.Turn.{Delivery, opening, asked, Outcome}
+use Rattle.turn.specs.declared.delivery.Delivery as code-delivery
+use Rattle.turn.specs.declared.delivery.Delivery.TheVariants as code-deliveries
+use Rattle.turn.specs.declared.delivery.Ended.{Ended}
+use Rattle.turn.specs.declared.delivery.Ended.TheVariants as code-ended
+use Rattle.turn.specs.declared.delivery.Outcome as code-outcome
+use Rattle.turn.specs.declared.heap.VatState.{VatState}
+use Rattle.turn.specs.declared.working.Noun.{Noun}
+use Rattle.turn.specs.declared.working.Working.{Working}
+use Rattle.turn.specs.declared.end.Abandon.{Abandon}
+use Rattle.turn.specs.declared.end.Abandon.TheVariants as code-abandon
+use Rattle.turn.specs.declared.end.Halt as code
+use Rattle.turn.specs.declared.end.Halt.TheVariants as code-halt
+use Rattle.turn.specs.declared.end.End as code-ends
+use Rattle.turn.specs.declared.end.End.TheVariants as code-end
+use Rattle.turn.specs.declared.end.Gathered.{Gathered}
+use Rattle.turn.specs.declared.end.Gathered.TheVariants as code-gathered
+
+-- a map of top nouns, as cells
+abbrev pub cells_of : BTreeMap (List ℕ) Value → State
+cells_of nouns (top x) = option_map (λ v. bound (fixed (val_of v))) (get (slice_cmp nat_cmp) nouns x)
+
+-- a vat's state
+abbrev pub state_of : VatState → State
+state_of s = cells_of s.nouns
+
+abbrev pub cause_of : Abandon → Cause
+cause_of code-abandon.Budget = budget_spent
+cause_of code-abandon.Depth = too_deep
+
+abbrev pub halt_of : code.Halt → Halt
+halt_of (code-halt.Thrown problem) = thrown problem
+halt_of (code-halt.Abandoned why) = abandoned (cause_of why)
+
+abbrev pub end_of : code-ends.End → End
+end_of (code-end.Value v) = value (val_of v)
+end_of (code-end.Halt h) = halt (halt_of h)
+
+abbrev pub gather_of : Gathered → Gather
+gather_of (code-gathered.Values vs) = values (vals_of vs.items)
+gather_of (code-gathered.Halt h) = halted (halt_of h)
+
+-- names, the newest first: the program pushes the newest at the end
+abbrev pub nouns_after : Nouns → List Noun → Nouns
+nouns_after ns [] = ns
+nouns_after ns (n ∷ rest) = nouns_after ((n.name, fixed (val_of n.value)) ∷ ns) rest
+
+abbrev pub nouns_of : List Noun → Nouns
+nouns_of items = nouns_after [] items
+
+-- where the program stands
+abbrev pub at : Working → At
+at w = record { nouns = nouns_of w.nouns.items; own_scope = w.own_scope; state = state_of w.state; left = w.steps }
+
+abbrev pub delivery_of : code-delivery.Delivery → Delivery
+delivery_of (code-deliveries.Opening program) = opening (program_of program)
+delivery_of (code-deliveries.Asked program) = asked (program_of program)
+
+abbrev pub ended_of : Ended → End
+ended_of (code-ended.Value v) = value (val_of v)
+ended_of (code-ended.Problem problem) = halt (thrown problem)
+ended_of (code-ended.Abandoned why) = halt (abandoned (cause_of why))
+
+abbrev pub outcome_of : code-outcome.Outcome → Outcome
+outcome_of o = record { state = state_of o.state; result = val_of o.result; end = ended_of o.ended; left = o.steps }

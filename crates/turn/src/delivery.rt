@@ -1,0 +1,159 @@
+// One delivery to a vat, and what it leaves.
+ghost use Rattle.std.specs.Prelude.{◌≡◌, IfOk};
+ghost use Rattle.kernele.specs.View.{program_of};
+ghost use Rattle.values.specs.Data.{null};
+ghost use Rattle.values.specs.View.{val_of};
+ghost use Rattle.turn.specs.State.{At};
+ghost use Rattle.turn.specs.Outcomes.{End as ModelEnd};
+ghost use Rattle.turn.specs.Rules.{Items};
+ghost use Rattle.turn.specs.Turn.{Delivers, start, settled, published as published_of, kept, outcome};
+ghost use Rattle.turn.specs.View.{at, end_of, ended_of, state_of, delivery_of, outcome_of};
+
+use crate::end::{Abandon, End, Halt};
+use crate::eval::eval_items;
+use crate::heap::VatState;
+use crate::working::Working;
+use ids::text::Text;
+use kernele::tree::{Block, Program};
+use std::alloc::{AllocError, Global};
+use std::sync::Arc;
+use values::limits::is_within_limits;
+use values::value::Value;
+
+/// What is delivered to a vat.
+#[derive(Drop)]
+pub enum Delivery {
+    /// The vat's script: its definitions bind the vat's top nouns.
+    Opening(Program),
+    /// A program with a scope of its own, which sees the top nouns.
+    Asked(Program),
+}
+
+/// How a turn ended.
+#[derive(Drop)]
+pub enum Ended {
+    Value(Value),
+    /// A problem that nothing caught.
+    Problem(Text),
+    Abandoned(Abandon),
+}
+
+/// What a turn leaves.
+#[derive(Drop)]
+pub struct Outcome {
+    /// The vat's state after it.
+    pub state: VatState,
+    /// What the result promise is published as.
+    pub result: Value,
+    pub ended: Ended,
+    /// The steps left.
+    pub steps: u32,
+}
+
+impl Delivery {
+    /// The same delivery, whose program is shared. Fails only for want of memory.
+    pub fn share(&self) -> Result<Delivery, AllocError>
+        ensures { IfOk result (λ d. delivery_of d ≡ delivery_of self.now) }
+    {
+        match self {
+            Delivery::Opening(program) => Ok(Delivery::Opening(shared(program)?)),
+            Delivery::Asked(program) => Ok(Delivery::Asked(shared(program)?)),
+        }
+    }
+}
+
+fn shared(program: &Program) -> Result<Program, AllocError>
+    ensures { IfOk result (λ p. program_of p ≡ program_of program.now) }
+{
+    Ok(Program(Block(Arc::try_clone(&program.0.0)?)))
+}
+
+/// Runs a turn of a vat in this state, which itself stays as it is. Fails only for want of memory.
+pub fn deliver(state: &VatState, delivery: &Delivery, budget: u32) -> Result<Outcome, AllocError>
+    ensures { IfOk result (λ o.
+        Delivers (delivery_of delivery.now) (state_of state.now) budget (outcome_of o)) }
+{
+    match delivery {
+        Delivery::Opening(program) => run_program(state, program, true, budget),
+        Delivery::Asked(program) => run_program(state, program, false, budget),
+    }
+}
+
+fn run_program(
+    state: &VatState,
+    program: &Program,
+    own_scope: bool,
+    budget: u32,
+) -> Result<Outcome, AllocError>
+    ensures { IfOk result (λ r. (o : ModelEnd) × (b : At)
+        × Items 1 null (program_of program.now) (start own_scope (state_of state.now) budget) o b
+        × (outcome_of r ≡ outcome (state_of state.now) (settled o) b)) }
+{
+    let alloc = state.allocator();
+    let mut w = Working {
+        alloc,
+        state: state.try_copy()?,
+        own_scope,
+        nouns: Vec::new(alloc),
+        steps: budget,
+    };
+    let end = eval_items(&mut w, program.0.0.as_slice(), 1)?;
+    finish(state, w, end)
+}
+
+/// The outcome of a turn that ended so.
+fn finish(old: &VatState, w: Working, end: End) -> Result<Outcome, AllocError>
+    ensures { IfOk result (λ r.
+        outcome_of r ≡ outcome (state_of old.now) (settled (end_of end)) (at w)) }
+{
+    let steps = w.steps;
+    let ended = settle(w.alloc, end)?;
+    let result = published(w.alloc, &ended)?;
+    let state = state_after(old, w.state, &ended)?;
+    Ok(Outcome {
+        state,
+        result,
+        ended,
+        steps,
+    })
+}
+
+/// How a turn whose program ended so ends: a value past the limits of a value is a problem.
+fn settle(alloc: Global, end: End) -> Result<Ended, AllocError>
+    ensures { IfOk result (λ e. ended_of e ≡ settled (end_of end)) }
+{
+    match end {
+        End::Value(value) => {
+            if is_within_limits(&value) {
+                Ok(Ended::Value(value))
+            } else {
+                Ok(Ended::Problem(Text::new(alloc, "value too large")?))
+            }
+        }
+        End::Halt(halt) => match halt {
+            Halt::Thrown(problem) => Ok(Ended::Problem(problem)),
+            Halt::Abandoned(why) => Ok(Ended::Abandoned(why)),
+        },
+    }
+}
+
+fn published(alloc: Global, ended: &Ended) -> Result<Value, AllocError>
+    ensures { IfOk result (λ v. val_of v ≡ published_of (ended_of ended.now)) }
+{
+    match ended {
+        Ended::Value(value) => value.share(),
+        Ended::Problem(problem) => Ok(Value::Broken(problem.share()?)),
+        Ended::Abandoned(why) => Ok(Value::Broken(Text::new(alloc, why.reason())?)),
+    }
+}
+
+/// The new state, or the old one where the turn was abandoned.
+fn state_after(old: &VatState, new: VatState, ended: &Ended) -> Result<VatState, AllocError>
+    ensures { IfOk result (λ s.
+        state_of s ≡ kept (ended_of ended.now) (state_of old.now) (state_of new)) }
+{
+    match ended {
+        Ended::Value(_) | Ended::Problem(_) => Ok(new),
+        Ended::Abandoned(_) => old.try_copy(),
+    }
+}

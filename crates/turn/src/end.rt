@@ -1,0 +1,47 @@
+// How evaluations end.
+ghost use Rattle.std.specs.Prelude.{◌≡◌};
+ghost use Rattle.turn.specs.Outcomes.{reason};
+ghost use Rattle.turn.specs.View.{cause_of};
+
+use ids::text::Text;
+use values::value::Value;
+
+/// Why a turn is abandoned.
+#[derive(Clone, Copy, Debug, PartialEq, Eq)]
+pub enum Abandon {
+    Budget,
+    Depth,
+}
+
+/// Why an expression has no value: a problem that was thrown, or an abandoned turn.
+#[derive(Drop)]
+pub enum Halt {
+    Thrown(Text),
+    Abandoned(Abandon),
+}
+
+/// How an expression ends.
+#[derive(Drop)]
+pub enum End {
+    Value(Value),
+    Halt(Halt),
+}
+
+/// How expressions in order end.
+#[derive(Drop)]
+pub enum Gathered {
+    Values(Vec<Value>),
+    Halt(Halt),
+}
+
+impl Abandon {
+    /// The problem that an abandoned turn leaves.
+    pub fn reason(self) -> &'static str
+        ensures { result.now ≡ reason (cause_of self) }
+    {
+        match self {
+            Abandon::Budget => "turn budget spent",
+            Abandon::Depth => "calls too deep",
+        }
+    }
+}

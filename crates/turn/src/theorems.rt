@@ -1,0 +1,43 @@
+// What holds of evaluation and of turns: each function's contract is a law.
+ghost use Rattle.turn.specs.Laws.{AtMostOneOutcome, AtMostOneDelivery, Frame, DeliveryFrame};
+ghost use Rattle.turn.specs.Laws.{OthersStay, OthersStayInTurns, StepsOnlyFall, WithinBudget};
+
+/// A tree has at most one outcome.
+pub fn at_most_one_outcome()
+    ensures { AtMostOneOutcome }
+{}
+
+/// A delivery has at most one outcome.
+pub fn at_most_one_delivery()
+    ensures { AtMostOneDelivery }
+{}
+
+/// A tree depends on no cell but those that it touches.
+pub fn frame()
+    ensures { Frame }
+{}
+
+/// A delivery depends on no cell but those that it touches.
+pub fn delivery_frame()
+    ensures { DeliveryFrame }
+{}
+
+/// A tree leaves each cell that it does not write.
+pub fn others_stay()
+    ensures { OthersStay }
+{}
+
+/// A delivery leaves each cell that it does not write.
+pub fn others_stay_in_turns()
+    ensures { OthersStayInTurns }
+{}
+
+/// A tree gives no step back.
+pub fn steps_only_fall()
+    ensures { StepsOnlyFall }
+{}
+
+/// A delivery leaves no more steps than its budget.
+pub fn within_budget()
+    ensures { WithinBudget }
+{}
