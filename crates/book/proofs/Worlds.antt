@@ -1,5 +1,5 @@
 -- On cells of the world.
-use Rattle.std.proofs.Common.{◌≡◌, Bool, true, false, cond, Option, Some, None, refl, sym, ap, ◌∙◌, subst}
+use Rattle.std.proofs.Common.{◌≡◌, ℕ, List, Bool, true, false, cond, Option, Some, None, refl, sym, ap, ◌∙◌, subst}
 use Rattle.ids.specs.declared.names.CellKey.{CellKey}
 use Rattle.ids.specs.Cells.{same_key}
 use Rattle.ids.proofs.Keys.{same_key_exact}
@@ -7,10 +7,13 @@ use Rattle.ids.specs.declared.names.CellKey.TheVariants as key
 use Rattle.ids.specs.declared.names.VatNo.{VatNo}
 use Rattle.ids.specs.Cells.{vat_cmp}
 use Rattle.std.specs.Prelude.{Result, Ok, Err, OnErr}
-use Rattle.std.specs.Option.{option_map}
+use Rattle.std.specs.Option.{option_map, IsSome}
 use Rattle.std.specs.Ordering.{is_eq}
-use Rattle.std.specs.BTreeMap.{BTreeMap, get}
-use Rattle.book.specs.World.{Content, World, put, clear}
+use Rattle.std.specs.BTreeMap.{BTreeMap, get, UpdatesBy}
+use Rattle.turn.specs.State.{State}
+use Rattle.turn.specs.View.{state_of}
+use Rattle.turn.specs.declared.heap.VatState.{VatState}
+use Rattle.book.specs.World.{Content, World, put, clear, home}
 use Rattle.book.specs.View.{world_of, home_of}
 use Rattle.book.specs.declared.world.World as code
 use Rattle.book.specs.declared.world.Home.{Home}
@@ -43,3 +46,21 @@ homes_put w m n h u = λ i d. homes_at w m n h u d i
 pub on_err : {A E P : Type 0} (r : Result A E) → P → OnErr r P
 on_err (Ok x) p = tt
 on_err (Err e) p = p
+
+-- the name in a vat's cell
+abbrev name_in : List ℕ → Option Content → List ℕ
+name_in d (Some (home x s)) = x
+name_in d _ = d
+
+named_home : (f : Option Home) (h : Home) (x : List ℕ) (s : State) → f ≡ Some h → option_map home_of f ≡ Some (home x s) → h.name ≡ x
+named_home f h x s e g = ap (λ (o : Option Content). name_in x o) (sym (ap (option_map home_of) e) ∙ g)
+
+-- a vat's state was changed, and its name stays
+pub homes_changed : (w : code.World) (m : BTreeMap VatNo Home) (n : VatNo) (h : Home) (new : VatState) (x : List ℕ) (s : State)
+    → get vat_cmp w.homes n ≡ Some h
+    → world_of w (key.State n) ≡ Some (home x s)
+    → (IsSome (get vat_cmp w.homes n) → UpdatesBy vat_cmp (vat_cmp n) w.homes m (Some (record { name = h.name; state = new })))
+    → world_of (record w { homes = m }) ≡ put (key.State n) (home x (state_of new)) (world_of w)
+homes_changed w m n h new x s e g u =
+    homes_put w m n (record { name = h.name; state = new }) (u (subst IsSome (sym e) refl)).0
+    ∙ ap (λ (y : List ℕ). put (key.State n) (home y (state_of new)) (world_of w)) (named_home (get vat_cmp w.homes n) h x s e g)

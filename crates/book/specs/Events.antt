@@ -1,5 +1,5 @@
 -- The events: when each is refused, and what it does to the world.
-use Rattle.std.specs.Prelude.{◌≡◌, ℕ, Bool, cond, Option, Some, None, Result, Ok, Err, nat_lt, []}
+use Rattle.std.specs.Prelude.{◌≡◌, ℕ, cond, Option, Some, None, Ok, Err, nat_lt, []}
 use Rattle.kernele.specs.Tree.{Name, Trees}
 use Rattle.kernele.specs.Scope.{Checked, checked_program, script_scopes, asked_scopes, own_names_in}
 use Rattle.kernele.specs.Scope as scope

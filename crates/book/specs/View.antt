@@ -1,11 +1,8 @@
 -- What the program's worlds and refusals stand for.
-use Rattle.std.specs.Prelude.{◌≡◌, ℕ, List, Option, Some, None}
 use Rattle.std.specs.Option.{option_map}
 use Rattle.std.specs.Ordering.{nat_cmp}
 use Rattle.std.specs.Cmp.Lexicographic.{slice_cmp}
 use Rattle.std.specs.BTreeMap.{get}
-use Rattle.kernele.specs.Check.{Refuses}
-use Rattle.kernele.specs.Scope.{Checked}
 use Rattle.values.specs.View.{val_of}
 use Rattle.turn.specs.View.{state_of, delivery_of}
 use Rattle.ids.specs.Cells.{vat_cmp, message_cmp, promise_cmp}

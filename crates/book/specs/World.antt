@@ -1,5 +1,5 @@
 -- The world: a finite map from keys to contents. That a key has none is a fact about the world.
-use Rattle.std.specs.Prelude.{ℕ, List, Bool, true, false, cond, Option, Some, None}
+use Rattle.std.specs.Prelude.{List, Bool, true, false, cond, Option, Some, None}
 use Rattle.kernele.specs.Tree.{Name}
 use Rattle.values.specs.Data.{Val}
 use Rattle.turn.specs.State.{State}

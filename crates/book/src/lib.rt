@@ -3,4 +3,6 @@
 
 pub mod book;
 pub mod fault;
+#[cfg(test)]
+mod tests;
 pub mod world;

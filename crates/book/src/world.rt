@@ -1,6 +1,11 @@
 // The cells of the world.
 ghost use Rattle.std.specs.Prelude.{◌≡◌, OnOk, OnErr, IfOk, Some, None};
 ghost use Rattle.std.specs.Option.{option_map};
+ghost use Rattle.std.specs.BTreeMap.{get};
+ghost use Rattle.ids.specs.Cells.{vat_cmp, message_cmp, promise_cmp};
+ghost use Rattle.ids.specs.declared.names.VatNo.{VatNo};
+ghost use Rattle.ids.specs.declared.names.MsgId.{MsgId};
+ghost use Rattle.ids.specs.declared.names.PromId.{PromId};
 ghost use Rattle.ids.specs.declared.names.CellKey.TheVariants as key;
 ghost use Rattle.values.specs.View.{val_of};
 ghost use Rattle.std.specs.Prelude.{List, ℕ};
@@ -221,21 +226,21 @@ impl World {
 
     /// The vats' names and states, in order of birth.
     pub fn homes(&self) -> &BTreeMap<VatNo, Home>
-        ensures { result.now ≡ self.now.homes }
+        ensures { (v : VatNo) → option_map home_of (get vat_cmp result.now v) ≡ world_of self.now (key.State v) }
     {
         &self.homes
     }
 
     /// The messages, in order of their names.
     pub fn messages(&self) -> &BTreeMap<MsgId, Message>
-        ensures { result.now ≡ self.now.messages }
+        ensures { (m : MsgId) → option_map (λ g. message (message_of g)) (get message_cmp result.now m) ≡ world_of self.now (key.Msg m) }
     {
         &self.messages
     }
 
     /// What was published, in order of the promises.
     pub fn board(&self) -> &BTreeMap<PromId, Value>
-        ensures { result.now ≡ self.now.board }
+        ensures { (p : PromId) → option_map (λ v. published (val_of v)) (get promise_cmp result.now p) ≡ world_of self.now (key.Board p) }
     {
         &self.board
     }

@@ -5,8 +5,6 @@ use Rattle.etoken.specs.declared.fault.TokenFault.{TokenFault}
 use Rattle.etoken.specs.declared.fault.TokenFault.TheVariants as token_fault
 use Rattle.etoken.specs.Tokens as etoken
 use Rattle.etoken.specs.Tokens.{Tokens}
-use Rattle.std.specs.declared.vec.Vec.{Vec}
-use Rattle.std.specs.declared.alloc.Global.{Global}
 use Rattle.kernele.specs.Tree.{Trees}
 use Rattle.kernele.specs.declared.tree.Program as code
 use Rattle.kernele.specs.View.{program_of}
@@ -28,7 +26,7 @@ unexpected_not e = cc
 -- an answer for the tokens is one for the text
 pub answered : (text : List ℕ) (tokens : List Placed) (r : Result code.Program ReadFault) → Tokens text (Ok tokens)
     → IfOk r (λ p. Program (plain tokens) (program_of p)) → ((ts : Trees) → Program (plain tokens) ts → Accepts r ts)
-    → ((r ≡ Err fault.TooDeep) ↔ IsTooDeep (plain tokens)) → IfErr r (λ e. IsRefusal e (length text)) → Answers text r
+    → ((r ≡ Err fault.TooDeep) ↔ IsTooDeep (plain tokens)) → IfErr r (λ e. IsRefusal e tokens (length text)) → Answers text r
 answered text tokens (Ok p) t found only deep refusal = read_program t (λ h. ok_not (deep.1 h)) found
 answered text tokens (Err fault.Memory) t found only deep refusal = tt
 answered text tokens (Err fault.TooDeep) t found only deep refusal = read_deep t (deep.0 refl)

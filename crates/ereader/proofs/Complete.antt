@@ -1,5 +1,5 @@
 -- What the grammar says is what the reading functions give.
-use Rattle.std.proofs.Common.{◌≡◌, ℕ, zero, suc, ◌+◌, ◌<◌, ◌≤◌, List, [], ◌∷◌, length, Option, Some, None, refl, sym, ap, ◌∙◌, arith, Bool, true, false, cond, ◌⊎◌, inl, inr, codes}
+use Rattle.std.proofs.Common.{◌≡◌, ℕ, zero, suc, ◌<◌, ◌≤◌, List, [], ◌∷◌, length, Option, Some, None, refl, sym, ap, ◌∙◌, arith, true, false, cond, inl, inr, codes}
 use Rattle.etoken.specs.declared.token.Token.{Token}
 use Rattle.etoken.specs.declared.token.Token.TheVariants as token
 use Rattle.etoken.specs.declared.token.Sign as signs
@@ -9,9 +9,9 @@ use Rattle.kernele.specs.Tree.{Tree, define, call, list_tree, Trees, none, and_t
 use Rattle.ereader.specs.declared.operator.Link.TheVariants as link
 use Rattle.ereader.specs.declared.operator.Bracket.{Bracket}
 use Rattle.ereader.specs.declared.operator.Bracket.TheVariants as bracket
-use Rattle.ereader.specs.Grammar.{product_operator, sum_operator, comparison_operator, prefix_operator, joined, prefix_verb, snoc, Expr, expr_define, expr_disjunction, Pat, pat_name, pat_ignore, Disjunction, disjunction_comparison, Comparison, comparison_sum, comparison_two, Sum, sum_product, sum_more, Product, product_unary, product_more, Unary, unary_postfix, unary_prefix, Postfix, postfix_primary, postfix_method, postfix_run, postfix_get, Primary, primary_int, primary_text, primary_true, primary_false, primary_null, primary_name, primary_list, primary_group, Args, args_none, args_some, Items, items_one, items_and, Semicolons, semicolons_none, semicolons_more, Sequence, sequence_one, sequence_and, Block, block_empty, block_items, Program}
-use Rattle.ereader.specs.Reading.{Read, ◌>>=◌, or_else, rest_of, is_empty, sign_in, front, is_def, is_comma, is_semicolon, is_becomes, is_close, past, operand_next, items_next, items_at, args_at, pattern_at, define_at, expr_at, primary_at, link_of, linked_at, postfix_next, postfix_at, unary_at, product_at, sum_at, comparison_at, disjunction_at, skip_semicolons, separator_at, block_next, block_at, program_at}
-use Rattle.ereader.proofs.Turns.{Turns, turns_begin, turns_more, turns_end, if_is, some_same, none_some}
+use Rattle.ereader.specs.Grammar.{product_operator, sum_operator, comparison_operator, joined, prefix_verb, snoc, Expr, expr_define, expr_disjunction, Pat, pat_name, pat_ignore, Disjunction, disjunction_comparison, Comparison, comparison_sum, comparison_two, Sum, sum_product, sum_more, Product, product_unary, product_more, Unary, unary_postfix, unary_prefix, Postfix, postfix_primary, postfix_method, postfix_run, postfix_get, Primary, primary_int, primary_text, primary_true, primary_false, primary_null, primary_name, primary_list, primary_group, Args, args_none, args_some, Items, items_one, items_and, Semicolons, semicolons_none, semicolons_more, Sequence, sequence_one, sequence_and, Block, block_empty, block_items, Program}
+use Rattle.ereader.specs.Reading.{Read, ◌>>=◌, or_else, rest_of, sign_in, front, is_comma, is_semicolon, is_becomes, is_close, past, operand_next, items_next, items_at, args_at, pattern_at, define_at, expr_at, primary_at, link_of, linked_at, postfix_next, postfix_at, unary_at, product_at, sum_at, comparison_at, disjunction_at, skip_semicolons, separator_at, block_next, block_at, program_at}
+use Rattle.ereader.proofs.Turns.{Turns, turns_begin, turns_more, if_is, some_same, none_some}
 use Rattle.ereader.proofs.Steps.{operand_more, operand_end, postfix_end, items_end, skip-end, block_begin, block_more, block_end}
 use Rattle.ereader.proofs.Uses.{less_expr, less_pat, less_disjunction, less_sum, less_product, less_unary, less_postfix, less_args, less_items, le_semicolons, less_sequence, sign_strength, strength, Below, product_none, sum_none, comparison_none, link_none, front_none, product_strength, sum_strength, comparison_strength, no_prefix, no_close, no_def, start_postfix, start_disjunction, start_items, expr_begins, sequence_begins, not_empty}
 

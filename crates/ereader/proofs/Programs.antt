@@ -1,9 +1,10 @@
 -- What is read of a whole program.
-use Rattle.std.proofs.Common.{◌≡◌, List, [], Option, Some, None, Result, Err, sym, ap, ◌∙◌, subst}
+use Rattle.std.proofs.Common.{◌≡◌, List, [], Some, Err, sym, ap, ◌∙◌, subst}
 use Rattle.std.specs.declared.sync.Arc.{Arc}
 use Rattle.std.specs.declared.vec.Vec.{Vec}
 use Rattle.std.specs.declared.alloc.Global.{Global}
 use Rattle.etoken.specs.declared.token.Token.{Token}
+use Rattle.etoken.specs.declared.token.Placed.{Placed}
 use Rattle.kernele.specs.declared.tree.Expr.{Expr}
 use Rattle.kernele.specs.Tree.{Trees}
 use Rattle.kernele.specs.View.{trees_of}
@@ -23,7 +24,7 @@ pub only : (a : List Token) (block : Arc (Vec Expr Global) Global) (items : Vec 
 only a block items ts e p q = ap (λ (xs : Vec Expr Global). trees_of xs.items) e ∙ ap (λ z. z.0) (some_same (sym p ∙ complete a ts q))
 
 -- a program is not refused for its tokens
-pub refused : (e : ReadFault) (n : _) (a : List Token) (ts : Trees) → Stops e n (program_at a) → Program a ts → Accepts (Err e) ts
-refused fault.Memory n a ts s q = tt
-refused (fault.Unexpected i) n a ts s q = none_some (sym s.0 ∙ complete a ts q)
-refused _ n a ts s q = absurd s
+pub refused : (e : ReadFault) (tokens : List Placed) (n : _) (a : List Token) (ts : Trees) → Stops e tokens n (program_at a) → Program a ts → Accepts (Err e) ts
+refused fault.Memory tokens n a ts s q = tt
+refused (fault.Unexpected i) tokens n a ts s q = none_some (sym s.0 ∙ complete a ts q)
+refused _ tokens n a ts s q = absurd s

@@ -1,5 +1,5 @@
 -- What the reading functions give is in the grammar.
-use Rattle.std.proofs.Common.{◌≡◌, subst, ℕ, zero, suc, ◌<◌, List, [], ◌∷◌, length, Option, Some, None, refl, sym, ap, ◌∙◌, arith, Bool, true, false, cond, ◌⊎◌, inl, inr, codes}
+use Rattle.std.proofs.Common.{◌≡◌, subst, ℕ, zero, suc, List, [], ◌∷◌, length, Option, Some, None, refl, sym, ap, ◌∙◌, Bool, true, false, cond, inl, inr}
 use Rattle.etoken.specs.declared.token.Token.{Token}
 use Rattle.etoken.specs.declared.token.Token.TheVariants as token
 use Rattle.etoken.specs.declared.token.Reserved as words
@@ -7,7 +7,6 @@ use Rattle.etoken.specs.declared.token.Reserved.TheVariants as word
 use Rattle.etoken.specs.declared.token.Sign as signs
 use Rattle.etoken.specs.declared.token.Sign.TheVariants as sign
 use Rattle.kernele.specs.declared.tree.Pattern.{Pattern}
-use Rattle.kernele.specs.declared.tree.Pattern.TheVariants as pattern
 use Rattle.kernele.specs.Tree.{Name, Tree, define, call, list_tree, Trees, none, and_then}
 use Rattle.ereader.specs.declared.operator.Operator.{Operator}
 use Rattle.ereader.specs.declared.operator.Link.{Link}
@@ -15,7 +14,7 @@ use Rattle.ereader.specs.declared.operator.Link.TheVariants as link
 use Rattle.ereader.specs.declared.operator.Bracket.{Bracket}
 use Rattle.ereader.specs.declared.operator.Bracket.TheVariants as bracket
 use Rattle.ereader.specs.Grammar.{product_operator, sum_operator, comparison_operator, prefix_operator, joined, prefix_verb, snoc, Expr, expr_define, expr_disjunction, Pat, pat_name, pat_ignore, Disjunction, disjunction_comparison, Comparison, comparison_sum, comparison_two, Sum, sum_product, sum_more, Product, product_unary, product_more, Unary, unary_postfix, unary_prefix, Postfix, postfix_primary, postfix_method, postfix_run, postfix_get, Primary, primary_int, primary_text, primary_true, primary_false, primary_null, primary_name, primary_list, primary_group, Args, args_none, args_some, Items, items_one, items_and, Semicolons, semicolons_none, semicolons_more, Sequence, sequence_one, sequence_and, Block, block_empty, block_items, Program}
-use Rattle.ereader.specs.Reading.{Read, ◌>>=◌, or_else, rest_of, is_empty, sign_of, sign_in, front, is_def, is_def_word, is_comma, is_semicolon, is_becomes, is_open, is_close, repeat, past, operand_next, operands_at, items_next, items_at, args_at, list_at, pattern_at, pattern_at_sign, bound_at, define_at, expr_at, group_at, literal_of, word_at, bracket_at, primary_at, link_of, closer, name_at, verb_at, linked_at, postfix_next, postfix_at, unary_at, product_at, sum_at, comparison_at, disjunction_at, skip_semicolons, skip_semicolons_sign, separator_at, separated, block_next, block_at, program_at}
+use Rattle.ereader.specs.Reading.{Read, ◌>>=◌, or_else, rest_of, is_empty, sign_in, front, is_def, is_def_word, is_comma, is_semicolon, is_becomes, is_open, is_close, repeat, past, operand_next, operands_at, items_next, items_at, args_at, list_at, pattern_at, pattern_at_sign, bound_at, define_at, expr_at, group_at, word_at, bracket_at, primary_at, link_of, closer, verb_at, linked_at, postfix_next, postfix_at, unary_at, product_at, sum_at, comparison_at, disjunction_at, skip_semicolons, separator_at, separated, block_next, block_at, program_at}
 use Rattle.ereader.proofs.Steps.{empty_is}
 use Rattle.ereader.proofs.Turns.{bind_some, or_else_is, if_is, some_same, none_some, repeat_sound}
 

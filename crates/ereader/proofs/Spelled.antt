@@ -6,7 +6,7 @@ use Rattle.etoken.specs.declared.token.Sign.TheVariants as sign
 use Rattle.kernele.specs.declared.tree.Pattern.{Pattern}
 use Rattle.kernele.specs.declared.tree.Pattern.TheVariants as pattern
 use Rattle.kernele.specs.Tree.{Tree, null_tree, bool_tree, int_tree, text_tree, noun, define, call, list_tree, same_tree, Trees, none, and_then}
-use Rattle.ereader.specs.Grammar.{snoc, Expr, expr_define, expr_disjunction, Pat, pat_name, pat_ignore, Disjunction, disjunction_comparison, Sum, comparison_sum, comparison_two, sum_product, product_unary, unary_postfix, Postfix, postfix_primary, postfix_method, Primary, primary_int, primary_text, primary_true, primary_false, primary_null, primary_name, primary_list, primary_group, Args, args_none, args_some, Items, items_one, items_and, Semicolons, semicolons_none, Sequence, sequence_one, sequence_and, block_empty, block_items, Program}
+use Rattle.ereader.specs.Grammar.{snoc, Expr, expr_define, expr_disjunction, Pat, pat_name, pat_ignore, Disjunction, disjunction_comparison, Sum, comparison_sum, comparison_two, sum_product, product_unary, unary_postfix, Postfix, postfix_primary, postfix_method, Primary, primary_int, primary_text, primary_true, primary_false, primary_null, primary_name, primary_list, primary_group, Args, args_none, args_some, Items, items_one, items_and, semicolons_none, Sequence, sequence_one, sequence_and, block_empty, block_items, Program}
 use Rattle.ereader.specs.Written.{led_by, between, bracketed, bound, truth_word, is_definition, written, written_parts, written_items, program_tokens}
 
 -- trees put at the end, one after another

@@ -1,5 +1,5 @@
 -- One more turn of the reader's loops.
-use Rattle.std.proofs.Common.{◌≡◌, ℕ, zero, suc, ◌+◌, ◌<◌, ◌≤◌, List, [], ◌∷◌, ◌++◌, length, Bool, true, false, cond, Option, Some, None, refl, sym, ap, ◌∙◌, arith, ◌⊎◌, inl, inr}
+use Rattle.std.proofs.Common.{◌≡◌, ℕ, suc, ◌<◌, ◌≤◌, List, [], ◌∷◌, ◌++◌, length, Bool, true, false, cond, Option, Some, None, refl, sym, ap, ◌∙◌, arith, inl, inr}
 use Rattle.etoken.specs.declared.token.Token.{Token}
 use Rattle.etoken.specs.declared.token.Token.TheVariants as token
 use Rattle.etoken.specs.declared.token.Sign as signs
@@ -10,7 +10,7 @@ use Rattle.kernele.specs.View.{tree_of, trees_of}
 use Rattle.ereader.specs.declared.operator.Operator.{Operator}
 use Rattle.ereader.specs.declared.operator.Link.{Link}
 use Rattle.ereader.specs.Grammar.{joined, snoc}
-use Rattle.ereader.specs.Reading.{Read, ◌>>=◌, or_else, rest_of, is_empty, sign_of, sign_in, front, is_comma, is_semicolon, link_of, linked_at, postfix_next, items_next, operand_next, skip_semicolons, skip_semicolons_sign, repeat, separator_at, separated, expr_at, block_next, block_at}
+use Rattle.ereader.specs.Reading.{Read, ◌>>=◌, or_else, rest_of, is_empty, sign_in, front, is_comma, is_semicolon, link_of, linked_at, postfix_next, items_next, operand_next, skip_semicolons, skip_semicolons_sign, repeat, separator_at, separated, expr_at, block_next, block_at}
 use Rattle.ereader.proofs.Turns.{Turns, turns_more, turns_fail, turns_end, if_is, some_same, none_some}
 
 pub rest_le : (a : List Token) → length (rest_of a) ≤ length a

@@ -1,5 +1,5 @@
 -- On what may come again and again.
-use Rattle.std.proofs.Common.{◌≡◌, subst, ℕ, zero, suc, ◌+◌, ◌<◌, ◌≤◌, List, length, Option, Some, None, refl, sym, ap, ◌∙◌, arith, ◌⊎◌, inl, inr, Bool, true, false, cond}
+use Rattle.std.proofs.Common.{◌≡◌, subst, ℕ, zero, suc, ◌<◌, ◌≤◌, List, length, Option, Some, None, refl, ap, ◌∙◌, arith, ◌⊎◌, inl, inr, Bool, true, false, cond}
 use Rattle.etoken.specs.declared.token.Token.{Token}
 use Rattle.ereader.specs.Reading.{Read, ◌>>=◌, or_else, repeat}
 

@@ -1,5 +1,5 @@
 -- What the reader's nodes stand for.
-use Rattle.std.proofs.Common.{◌≡◌, List, ℕ, Bool, [], ◌∷◌, refl, ap, ◌∙◌, ◌==◌, length, suc}
+use Rattle.std.proofs.Common.{◌≡◌, List, ℕ, [], ◌∷◌, refl, ap, ◌∙◌, ◌==◌, length, suc}
 use Rattle.std.proofs.Math.Dec.{eqb-suc-zero}
 use Rattle.std.specs.declared.sync.Arc.{Arc}
 use Rattle.std.specs.declared.vec.Vec.{Vec}

@@ -1,5 +1,5 @@
 -- What a text is read as.
-use Rattle.std.specs.Prelude.{ℕ, ◌≤◌, List, length, Result, Ok, Err}
+use Rattle.std.specs.Prelude.{ℕ, List, length, Result, Ok, Err}
 use Rattle.etoken.specs.declared.token.Placed.{Placed}
 use Rattle.etoken.specs.declared.fault.TokenFault.{TokenFault}
 use Rattle.etoken.specs.declared.fault.TokenFault.TheVariants as token_fault
@@ -11,7 +11,7 @@ use Rattle.ereader.specs.declared.fault.ReadFault.{ReadFault}
 use Rattle.ereader.specs.declared.fault.ReadFault.TheVariants as fault
 use Rattle.ereader.specs.Brackets.{IsTooDeep}
 use Rattle.ereader.specs.Grammar.{Program}
-use Rattle.ereader.specs.View.{plain}
+use Rattle.ereader.specs.View.{plain, IsPlace}
 
 -- a text that has no tokens is refused for the same
 abbrev pub refusal_of : TokenFault → ReadFault
@@ -27,7 +27,7 @@ pub data ReadAs (text : List ℕ) : Result Trees ReadFault → Type 0 where
   read_fault : {f : TokenFault} → Tokens text (Err f) → ReadAs text (Err (refusal_of f))
   read_deep : {tokens : List Placed} → Tokens text (Ok tokens) → IsTooDeep (plain tokens) → ReadAs text (Err fault.TooDeep)
   read_unexpected : {tokens : List Placed} {i : ℕ} → Tokens text (Ok tokens) → ¬ IsTooDeep (plain tokens)
-      → ((ts : Trees) → ¬ Program (plain tokens) ts) → i ≤ length text → ReadAs text (Err (fault.Unexpected i))
+      → ((ts : Trees) → ¬ Program (plain tokens) ts) → IsPlace tokens (length text) i → ReadAs text (Err (fault.Unexpected i))
   read_program : {tokens : List Placed} {ts : Trees} → Tokens text (Ok tokens) → ¬ IsTooDeep (plain tokens)
       → Program (plain tokens) ts → ReadAs text (Ok ts)
 

@@ -1,13 +1,12 @@
 -- What the reader's values stand for.
-use Rattle.std.specs.Prelude.{◌≡◌, ◌<◌, ◌≤◌, ℕ, length, List, [], ◌∷◌, Option, Some, None, Result, Ok, Err}
+use Rattle.std.specs.Prelude.{◌≡◌, ◌<◌, ◌≤◌, ℕ, length, List, [], ◌∷◌, Option, Some, None, Result, Ok, Err, ◌⊎◌, Any}
 use Rattle.std.specs.declared.vec.Vec.{Vec}
 use Rattle.std.specs.declared.alloc.Global.{Global}
 use Rattle.etoken.specs.declared.token.Token.{Token}
 use Rattle.etoken.specs.declared.token.Placed.{Placed}
 use Rattle.kernele.specs.declared.tree.Expr.{Expr}
-use Rattle.kernele.specs.declared.tree.Pattern.{Pattern}
 use Rattle.kernele.specs.declared.tree.Program.{Program}
-use Rattle.kernele.specs.Tree.{Name, Tree, Trees}
+use Rattle.kernele.specs.Tree.{Tree, Trees}
 use Rattle.kernele.specs.View.{tree_of, trees_of, program_of}
 use Rattle.ereader.specs.declared.fault.ReadFault.{ReadFault}
 use Rattle.ereader.specs.declared.fault.ReadFault.TheVariants as fault
@@ -68,11 +67,15 @@ abbrev pub GivesTree : Result Expr Stop → Option Tree → Type 0
 GivesTree (Ok e) read = read ≡ Some (tree_of e)
 GivesTree (Err e) read = Fails e read
 
--- reading fails, with a place in a text of n bytes, or memory runs out
-abbrev pub Stops : {A : Type 0} → ReadFault → ℕ → Option A → Type 0
-Stops fault.Memory n read = Unit {0}
-Stops (fault.Unexpected i) n read = (read ≡ None) × (i ≤ n)
-Stops _ n read = ⊥
+-- a place of a text of n bytes: where one of its tokens stands, or its end
+abbrev pub IsPlace : List Placed → ℕ → ℕ → Type 0
+IsPlace tokens n i = (i ≤ n) × ((i ≡ n) ⊎ Any (λ p. p.offset ≡ i) tokens)
+
+-- reading fails, at a place of a text of n bytes, or memory runs out
+abbrev pub Stops : {A : Type 0} → ReadFault → List Placed → ℕ → Option A → Type 0
+Stops fault.Memory tokens n read = Unit {0}
+Stops (fault.Unexpected i) tokens n read = (read ≡ None) × IsPlace tokens n i
+Stops _ tokens n read = ⊥
 
 -- what may be answered for tokens that spell ts
 abbrev pub Accepts : Result Program ReadFault → Trees → Type 0
@@ -81,9 +84,9 @@ Accepts (Err fault.Memory) ts = Unit {0}
 Accepts (Err fault.TooDeep) ts = Unit {0}
 Accepts (Err _) ts = ⊥
 
--- a refusal of tokens: for want of memory, for their brackets, or at a place in a text of n bytes
-abbrev pub IsRefusal : ReadFault → ℕ → Type 0
-IsRefusal fault.Memory n = Unit {0}
-IsRefusal fault.TooDeep n = Unit {0}
-IsRefusal (fault.Unexpected i) n = i ≤ n
-IsRefusal _ n = ⊥
+-- a refusal of the tokens of a text of n bytes: for want of memory, for their brackets, or at a place
+abbrev pub IsRefusal : ReadFault → List Placed → ℕ → Type 0
+IsRefusal fault.Memory tokens n = Unit {0}
+IsRefusal fault.TooDeep tokens n = Unit {0}
+IsRefusal (fault.Unexpected i) tokens n = IsPlace tokens n i
+IsRefusal _ tokens n = ⊥

@@ -7,6 +7,7 @@ use Rattle.etoken.specs.declared.token.Reserved.TheVariants as word
 use Rattle.etoken.specs.declared.token.Sign.TheVariants as sign
 use Rattle.kernele.specs.declared.tree.Pattern.{Pattern}
 use Rattle.kernele.specs.declared.tree.Pattern.TheVariants as pattern
+use Rattle.ereader.specs.Grammar.{dot, comma, semicolon, becomes, open_round, close_round, open_square, close_square, underscore}
 use Rattle.kernele.specs.Tree.{Tree, null_tree, bool_tree, int_tree, text_tree, noun, define, call, list_tree, same_tree, Trees, none, and_then}
 
 -- tokens put before others
@@ -25,13 +26,13 @@ between separator (w ∷ ws) r = w (led_by separator ws r)
 
 -- in round brackets, where they are wanted
 abbrev pub bracketed : Bool → Before → Before
-bracketed true w r = token.Sign sign.OpenRound ∷ w (token.Sign sign.CloseRound ∷ r)
+bracketed true w r = open_round ∷ w (close_round ∷ r)
 bracketed false w r = w r
 
 -- what a definition binds
 abbrev pub bound : Pattern → Token
 bound (pattern.Name x) = token.Name x
-bound pattern.Ignore = token.Sign sign.Underscore
+bound pattern.Ignore = underscore
 
 abbrev pub truth_word : Bool → words.Reserved
 truth_word true = word.True
@@ -57,10 +58,16 @@ abbrev mutual
   written (int_tree z) r = token.Int z ∷ r
   written (text_tree s) r = token.Text s ∷ r
   written (noun x) r = token.Name x ∷ r
-  written (define p e) r = token.Word word.Def ∷ bound p ∷ token.Sign sign.Becomes ∷ bracketed (is_definition e) (written e) r
-  written (call t verb ts) r = bracketed (is_definition t) (written t) (token.Sign sign.Dot ∷ token.Name verb ∷ token.Sign sign.OpenRound ∷ between (token.Sign sign.Comma) (written_parts ts) (token.Sign sign.CloseRound ∷ r))
-  written (list_tree ts) r = token.Sign sign.OpenSquare ∷ between (token.Sign sign.Comma) (written_parts ts) (token.Sign sign.CloseSquare ∷ r)
-  written (same_tree t u) r = token.Sign sign.OpenRound ∷ bracketed (is_definition t) (written t) (token.Sign sign.Equal ∷ bracketed (is_definition u) (written u) (token.Sign sign.CloseRound ∷ r))
+  written (define p e) r =
+      token.Word word.Def ∷ bound p ∷ becomes ∷ bracketed (is_definition e) (written e) r
+  written (call t verb ts) r =
+      bracketed (is_definition t) (written t)
+      (dot ∷ token.Name verb ∷ open_round ∷ between comma (written_parts ts) (close_round ∷ r))
+  written (list_tree ts) r =
+      open_square ∷ between comma (written_parts ts) (close_square ∷ r)
+  written (same_tree t u) r =
+      open_round ∷ bracketed (is_definition t) (written t)
+      (token.Sign sign.Equal ∷ bracketed (is_definition u) (written u) (close_round ∷ r))
 
   -- arguments, or the items of a list
   pub written_parts : Trees → List Before
@@ -74,4 +81,4 @@ written_items (and_then t ts) = written t ∷ written_items ts
 
 -- a program
 abbrev pub program_tokens : Trees → List Token
-program_tokens ts = between (token.Sign sign.Semicolon) (written_items ts) []
+program_tokens ts = between semicolon (written_items ts) []

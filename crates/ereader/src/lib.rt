@@ -8,7 +8,7 @@ ghost use Rattle.ereader.specs.Brackets.{IsTooDeep};
 ghost use Rattle.ereader.specs.Grammar as grammar;
 ghost use Rattle.ereader.specs.Reading.{program_at};
 ghost use Rattle.ereader.specs.Texts.{Answers};
-ghost use Rattle.ereader.specs.View.{plain, Stops, Accepts, IsRefusal};
+ghost use Rattle.ereader.specs.View.{plain, IsPlace, Stops, Accepts, IsRefusal};
 
 mod depth;
 pub mod fault;
@@ -52,7 +52,7 @@ pub fn read_tokens(alloc: Global, tokens: &[Placed], length: usize) -> Result<Pr
     // What they spell is read, unless memory runs out or too many brackets are open.
     ensures only { (ts : Trees) → grammar.Program (plain tokens.now) ts → Accepts result ts }
     ensures deep { (result ≡ Err ReadFault.TooDeep) ↔ IsTooDeep (plain tokens.now) }
-    ensures refusal { IfErr result (λ e. IsRefusal e length) }
+    ensures refusal { IfErr result (λ e. IsRefusal e tokens.now length) }
 {
     if depth::is_too_deep(tokens) {
         return Err(ReadFault::TooDeep);
@@ -64,7 +64,7 @@ pub fn read_tokens(alloc: Global, tokens: &[Placed], length: usize) -> Result<Pr
 /// The items of the program that the tokens spell, or where reading stops, as an offset.
 fn read_items(alloc: Global, tokens: &[Placed], length: usize) -> Result<Vec<Expr>, ReadFault>
     ensures ok { IfOk result (λ es. program_at (plain tokens.now) ≡ Some (trees_of es.items, [])) }
-    ensures err { IfErr result (λ e. Stops e length (program_at (plain tokens.now))) }
+    ensures err { IfErr result (λ e. Stops e tokens.now length (program_at (plain tokens.now))) }
 {
     let mut reader = Reader {
         alloc,
@@ -74,8 +74,18 @@ fn read_items(alloc: Global, tokens: &[Placed], length: usize) -> Result<Vec<Exp
         Ok(items) => Ok(items),
         Err(Stop::Memory) => Err(ReadFault::Memory),
         Err(Stop::Unexpected) => {
-            let offset = reader.rest.first().map_or(length, |placed| placed.offset);
-            Err(ReadFault::Unexpected(offset.min(length)))
+            let index = tokens.len().saturating_sub(reader.rest.len());
+            Err(ReadFault::Unexpected(place_at(tokens, index, length)))
         }
+    }
+}
+
+/// Where the token with this index stands, or the text's end.
+fn place_at(tokens: &[Placed], index: usize, length: usize) -> usize
+    ensures { IsPlace tokens.now length result }
+{
+    match tokens.get(index) {
+        Some(placed) if placed.offset < length => placed.offset,
+        _ => length,
     }
 }

@@ -13,15 +13,18 @@ use Rattle.etoken.specs.Laws.{OneAnswer}
 use Rattle.etoken.proofs.Shorter.{spells_less}
 use Rattle.etoken.proofs.Single.{blanks_is, spells_is, spoils_is}
 
+-- blanks end in one place
 blanks_same : {a b c : List ℕ} {x y : Bool} → Blanks a x b → Blanks a y c → (x ≡ y) × (b ≡ c)
 blanks_same p q = let e = sym (blanks_is false p) ∙ blanks_is false q in (ap (λ t. t.0) e, ap (λ t. t.1) e)
 
+-- one token stands in front
 spells_same : {a r s : List ℕ} {t u : Token} → Spells a t r → Spells a u s → (t ≡ u) × (r ≡ s)
 spells_same {r = r} {s = s} {t = t} {u = u} p q =
     let e = sym (spells_is 0 p) ∙ spells_is 0 q in
     let same : ◌≡◌ {A = Token × List ℕ} (t, r) (u, s) = cc e in
     (ap (λ p. p.0) same, ap (λ p. p.1) same)
 
+-- where a token stands in front there is no fault
 not_spoiled : {n : ℕ} {a r : List ℕ} {t : Token} {f : TokenFault} → Spells a t r → Spoils n a f → ⊥
 not_spoiled {n} p q = absurd (cc (sym (spells_is n p) ∙ spoils_is q))
 
@@ -42,6 +45,7 @@ record Further (n : ℕ) (a : List ℕ) (ps : List Piece) (r : List ℕ) : Type 
   cuts : Cuts n after more r
   whole : ps ≡ piece_at n broken spelled in_front ∷ more
 
+-- a text is cut no further, or a token stands in front
 cuts_view : {n : ℕ} {a r : List ℕ} {ps : List Piece} → Cuts n a ps r → ((ps ≡ []) × (a ≡ r)) ⊎ Further n a ps r
 cuts_view cuts_none = inl (refl, refl)
 cuts_view (cuts_more {b = b} {c = c} {broken = broken} {t = t} {ps = ps} blanks spells cuts) = inr (record { broken = broken; in_front = b; after = c; spelled = t; more = ps; blanks = blanks; spells = spells; cuts = cuts; whole = refl })
@@ -52,6 +56,7 @@ record Extends (n : ℕ) (ps : List Piece) (r : List ℕ) (qs : List Piece) (s :
   cuts : Cuts n r rest s
   whole : qs ≡ ps ++ rest
 
+-- of two cuts of a text, one goes on from the other
 cuts_compare : {n : ℕ} {a r s : List ℕ} {ps qs : List Piece} → Cuts n a ps r → Cuts n a qs s → Extends n ps r qs s ⊎ Extends n qs s ps r
 cuts_compare cuts_none q = inl (record { rest = _; cuts = q; whole = refl })
 cuts_compare {n} {a} {r} {s} {ps} {qs} (cuts_more {b = b} {c = c} {broken = broken} {t = t} {ps = more} blanks spells cuts) q = ⊎_elim
@@ -117,6 +122,7 @@ record Many (text : List ℕ) (x : Result (List Placed) TokenFault) : Type 0 whe
   many : 16384 < length (with_breaks ps)
   is : x ≡ Err fault.TooLong
 
+-- why a text has an answer
 tokens_view : {text : List ℕ} {x : Result (List Placed) TokenFault} → Tokens text x → Ended text x ⊎ (Many text x ⊎ ((65536 < length text) × (x ≡ Err fault.TooLong)))
 tokens_view (tokens_all {ps = ps} {r = r} {broken = broken} short cuts blanks few) =
     inl (record { short = short; ps = ps; r = r; cuts = cuts; how = None; ends = (broken, blanks); few = few; is = refl })
@@ -133,6 +139,7 @@ breaks_grow brackets ended (p ∷ ps) qs =
     let more = breaks_grow (behind p.placed.token brackets) (may_end p.placed.token) ps qs in
     omega (arith, more, length-append first (with_breaks_in (behind p.placed.token brackets) (may_end p.placed.token) ps), length-append first (with_breaks_in (behind p.placed.token brackets) (may_end p.placed.token) (ps ++ qs)))
 
+-- two cuts up to the end are the same
 ended_ended : {text : List ℕ} {x y : Result (List Placed) TokenFault} → Ended text x → Ended text y → x ≡ y
 ended_ended {text} {x} {y} a b = a.is ∙ ⊎_elim one other (cuts_compare a.cuts b.cuts) ∙ sym b.is
   where
@@ -150,6 +157,7 @@ ended_ended {text} {x} {y} a b = a.is ∙ ⊎_elim one other (cuts_compare a.cut
         let how = end_same (length text) a.r a.how b.how a.ends (subst (λ l. End (length text) l b.how) stop.1 b.ends) in
         λ i. answer (same i) (how i)
 
+-- a text with few enough tokens has not too many
 ended_many : {text : List ℕ} {x y : Result (List Placed) TokenFault} → Ended text x → Many text y → ⊥
 ended_many {text} a b = ⊎_elim one other (cuts_compare a.cuts b.cuts)
   where
@@ -162,6 +170,7 @@ ended_many {text} a b = ⊎_elim one other (cuts_compare a.cuts b.cuts)
     other : Extends (length text) b.ps b.r a.ps a.r → ⊥
     other g = omega (arith, ap (λ l. length (with_breaks l)) g.whole, breaks_grow [] false b.ps g.rest, a.few, b.many)
 
+-- no text has two answers
 pub one_answer : OneAnswer
 one_answer text x y p q = ⊎_elim ended (λ m. ⊎_elim many long m) (tokens_view p)
   where

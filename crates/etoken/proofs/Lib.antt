@@ -6,3 +6,4 @@ pub mod Shorter
 pub mod Signs
 pub mod Single
 pub mod Spelled
+pub mod Spellings

@@ -16,6 +16,7 @@ pub record Progress (text : List ℕ) (out : List Placed) (brackets : List Brack
   pub cut : (ps : List Piece) (r : List ℕ) → Cuts (length text) rest ps r → Cuts (length text) text (done ++ ps) r
   pub put_out : (ps : List Piece) → with_breaks (done ++ ps) ≡ out ++ with_breaks_in brackets ended ps
 
+-- nothing is cut yet
 pub progress_begins : (text : List ℕ) → Progress text [] [] false text
 progress_begins text = record { done = []; cut = λ ps r h. h; put_out = λ ps. refl }
 

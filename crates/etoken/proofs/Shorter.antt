@@ -8,15 +8,18 @@ use Rattle.etoken.specs.Spelling.{IsWord, Quoted, quoted_none, quoted_plain, quo
 use Rattle.etoken.specs.Cutting.{Blanks, blanks_none, blanks_space, blanks_line, blanks_comment}
 use Rattle.etoken.proofs.Signs.{sign_some}
 
+-- a front and what is behind it are the whole
 longest_le : {test : ℕ → Bool} {a w r : List ℕ} → Longest test a w r → length w + length r ≡ length a
 longest_le {w = w} {r = r} run = sym (ap length run.whole ∙ length-append w r)
 
+-- behind blanks there is no more
 pub blanks_le : {a c : List ℕ} {broken : Bool} → Blanks a broken c → length c ≤ length a
 blanks_le (blanks_none h) = omega arith
 blanks_le (blanks_space h rest) = omega (arith, blanks_le rest)
 blanks_le (blanks_line rest) = omega (arith, blanks_le rest)
 blanks_le (blanks_comment line rest) = omega (arith, blanks_le rest, longest_le line)
 
+-- behind a content there is no more
 quoted_le : {a c r : List ℕ} → Quoted a c r → length r ≤ length a
 quoted_le quoted_none = omega arith
 quoted_le (quoted_plain h rest) = omega (arith, quoted_le rest)
@@ -34,9 +37,11 @@ word_some {a} {w} {r} word = some w word.longest.whole
     some [] e = absurd (false≢true (sym word.longest.stops ∙ sym (ap (begins_with is_word_byte) e) ∙ letter a word.letter))
     some (x ∷ w) e = omega arith
 
+-- behind a word there is less
 word_less : {a w r : List ℕ} → IsWord a w r → length r < length a
 word_less word = omega (arith, longest_le word.longest, word_some word)
 
+-- behind a token there is less
 pub spells_less : {a r : List ℕ} {t : Token} → Spells a t r → length r < length a
 spells_less (spells_int digits small) = omega (arith, longest_le digits.longest, digits.some)
 spells_less (spells_text quoted) = omega (arith, quoted_le quoted)

@@ -29,15 +29,18 @@ is_short (x ∷ []) = ltb x 128
 is_short (x ∷ y ∷ []) = ltb x 128 && ltb y 128
 is_short (x ∷ y ∷ z ∷ w) = false
 
+-- each sign is short
 sign_short : (w : List ℕ) (u : Sign) → sign_of w ≡ Some u → is_short w ≡ true
 sign_short w u e = entry_passes is_short signs w u refl e
 
+-- short is at most two characters
 at_most_two : (w : List ℕ) → is_short w ≡ true → length w ≤ 2
 at_most_two [] e = omega arith
 at_most_two (x ∷ []) e = omega arith
 at_most_two (x ∷ y ∷ []) e = omega arith
 at_most_two (x ∷ y ∷ z ∷ w) e = absurd (false≢true e)
 
+-- a sign has a character
 pub sign_some : (w : List ℕ) (u : Sign) → sign_of w ≡ Some u → 0 < length w
 sign_some [] u e = absurd (false≢true (sign_short [] u e))
 sign_some (x ∷ w) u e = omega arith
@@ -62,6 +65,12 @@ in_front (v ∷ y ∷ z ∷ w) q x behind e h = absurd (false≢true e)
 abbrev pub NoLongSign : ℕ → List ℕ → Type 0
 NoLongSign x behind = (y : ℕ) (a : List ℕ) → behind ≡ y ∷ a → sign_of (x ∷ y ∷ []) ≡ None
 
+-- a table has no entry where none can be
+pub none_of : {A : Type 0} (o : Option A) → ((u : A) → o ≡ Some u → ⊥) → o ≡ None
+none_of None f = refl
+none_of (Some u) f = absurd (f u refl)
+
+-- a table has an entry or has none
 pub not_both : {A : Type 0} {o : Option A} {u : A} → o ≡ None → o ≡ Some u → ⊥
 not_both e f = absurd (cc)
 
@@ -84,23 +93,11 @@ no_sign {n} {rest} {behind} {x} e nothing none known = subst (λ l. Spoils n l (
     (λ (two : (y : ℕ) × (w ≡ x ∷ y ∷ []) × (behind ≡ y ∷ q)). not_both (none two.0 q two.2) (sym (ap sign_of two.1) ∙ is))
     (in_front w q x behind (sign_short w u is) h)))
 
--- no sign holds a byte past ASCII
-pub no_long_sign : (x y : ℕ) → ltb y 128 ≡ false → sign_of (x ∷ y ∷ []) ≡ None
-no_long_sign x y h = none (sign_of (x ∷ y ∷ [])) refl
-  where
-    none : (o : Option Sign) → sign_of (x ∷ y ∷ []) ≡ o → o ≡ None
-    none None e = refl
-    none (Some u) e = absurd (false≢true (sym h ∙ (and_parts (ltb x 128) (ltb y 128) (sign_short (x ∷ y ∷ []) u e)).1))
-
 -- no token begins with a byte past ASCII
 pub past_ascii : (n : ℕ) (rest : List ℕ) → 0 < length rest → begins_with is_ascii_byte rest ≡ false → Spoils n rest (fault.BadCharacter (offset_of n rest))
 past_ascii n [] some h = absurd (omega (arith, some))
-past_ascii n (x ∷ a) some h = no_sign refl (begins x h) (λ y b e. none (sign_of (x ∷ y ∷ [])) (λ u is. false≢true (sym h ∙ (and_parts (ltb x 128) (ltb y 128) (sign_short (x ∷ y ∷ []) u is)).0)))
-    (none (sign_of (x ∷ [])) (λ u is. false≢true (sym h ∙ sign_short (x ∷ []) u is)))
+past_ascii n (x ∷ a) some h = no_sign refl (begins x h) (λ y b e. none_of (sign_of (x ∷ y ∷ [])) (λ u is. false≢true (sym h ∙ (and_parts (ltb x 128) (ltb y 128) (sign_short (x ∷ y ∷ []) u is)).0)))
+    (none_of (sign_of (x ∷ [])) (λ u is. false≢true (sym h ∙ sign_short (x ∷ []) u is)))
   where
-    none : {A : Type 0} (o : Option A) → ((u : A) → o ≡ Some u → ⊥) → o ≡ None
-    none None f = refl
-    none (Some u) f = absurd (f u refl)
-
     begins : (x : ℕ) → ltb x 128 ≡ false → LeftToSigns x
     begins x h = (⊎_elim (λ (w : is_word_byte x ≡ true). absurd (omega (arith, word_ascii x w, ltb-false x 128 h))) (λ (w : is_word_byte x ≡ false). w) (cases_Bool (is_word_byte x)), λ e. omega (arith, e, ltb-false x 128 h))

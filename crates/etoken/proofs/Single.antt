@@ -18,7 +18,7 @@ use Rattle.std.proofs.lemmas.Slice.Eq.{bytes_eq-Decides}
 use Rattle.etoken.specs.Table.{signs, sign_of, reserved_of, escape_of}
 use Rattle.etoken.specs.Spelling.{number, offset_of, Digits, IsWord, LongestSign, Spells, spells_int, spells_text, spells_reserved, spells_underscore, spells_name, spells_sign, Spoils, bad_character, unclosed, bad_escape, too_large, Quoted, quoted_none, quoted_plain, quoted_escape}
 use Rattle.etoken.proofs.Runs.{or_true, or_false}
-use Rattle.etoken.proofs.Signs.{entry_passes, not_both}
+use Rattle.etoken.proofs.Signs.{entry_passes, none_of, not_both}
 use Rattle.etoken.specs.Cutting.{Blanks, blanks_none, blanks_space, blanks_line, blanks_comment}
 
 -- the longest front of a list
@@ -31,6 +31,7 @@ abbrev pub past : (ℕ → Bool) → List ℕ → List ℕ
 past test [] = []
 past test (x ∷ a) = cond (test x) (past test a) (x ∷ a)
 
+-- the longest front of a list that is put together
 front_of : (test : ℕ → Bool) (w r : List ℕ) → AllPass test w → begins_with test r ≡ false → (front test (w ++ r) ≡ w) × (past test (w ++ r) ≡ r)
 front_of test [] [] passes stops = (refl, refl)
 front_of test [] (x ∷ r) passes stops = (ap (λ b. cond b (x ∷ front test r) []) stops, ap (λ b. cond b (past test r) (x ∷ r)) stops)
@@ -39,6 +40,7 @@ front_of test (x ∷ w) r passes stops =
     let more = front_of test w r (λ k d lt. passes (suc k) d (omega (arith, lt))) stops in
     (ap (λ b. cond b (x ∷ front test (w ++ r)) []) first ∙ ap (λ l. x ∷ l) more.0, ap (λ b. cond b (past test (w ++ r)) (x ∷ (w ++ r))) first ∙ more.1)
 
+-- a longest front is the one that is computed
 pub longest_is : {test : ℕ → Bool} {a w r : List ℕ} → Longest test a w r → (w ≡ front test a) × (r ≡ past test a)
 longest_is {test} {a} {w} {r} run =
     let parts = front_of test w r run.passes run.stops in
@@ -50,11 +52,13 @@ skip within broken [] = (broken, [])
 skip true broken (x ∷ a) = cond (is_in_line x) (skip true broken a) (skip false true a)
 skip false broken (x ∷ a) = cond (is_space x) (skip false broken a) (cond (eqb x 10) (skip false true a) (cond (eqb x 35) (skip true broken a) (broken, x ∷ a)))
 
+-- a comment ends at a line feed, which is not part of it
 at_line : (broken : Bool) (x : ℕ) (d : List ℕ) → is_in_line x ≡ false → skip true broken (x ∷ d) ≡ skip false broken (x ∷ d)
 at_line broken x d h =
     let line : x ≡ 10 = eqb-true x 10 (not-false (eqb x 10) h) in
     ap (λ b. cond b (skip true broken d) (skip false true d)) h ∙ sym (ap (λ y. cond (is_space y) (skip false broken d) (cond (eqb y 10) (skip false true d) (cond (eqb y 35) (skip true broken d) (broken, y ∷ d)))) line)
 
+-- past a comment
 past_comment : (broken : Bool) (w d : List ℕ) → AllPass is_in_line w → begins_with is_in_line d ≡ false → skip true broken (w ++ d) ≡ skip false broken d
 past_comment broken [] [] passes stops = refl
 past_comment broken [] (x ∷ d) passes stops = at_line broken x d stops
@@ -62,6 +66,7 @@ past_comment broken (x ∷ w) d passes stops =
     let first : is_in_line x ≡ true = passes 0 x (omega arith) in
     ap (λ b. cond b (skip true broken (w ++ d)) (skip false true (w ++ d))) first ∙ past_comment broken w d (λ k e lt. passes (suc k) e (omega (arith, lt))) stops
 
+-- where no blank stands nothing is skipped
 not_blank : (broken : Bool) (a : List ℕ) → begins_with is_blank a ≡ false → skip false broken a ≡ (broken, a)
 not_blank broken [] h = refl
 not_blank broken (x ∷ a) h =
@@ -71,6 +76,7 @@ not_blank broken (x ∷ a) h =
     ∙ ap (λ b. cond b (skip false true a) (cond (eqb x 35) (skip true broken a) (broken, x ∷ a))) inner.1
     ∙ ap (λ b. cond b (skip true broken a) (broken, x ∷ a)) outer.1
 
+-- blanks end where they are computed to end
 pub blanks_is : {a c : List ℕ} {b : Bool} (broken : Bool) → Blanks a b c → skip false broken a ≡ (broken || b, c)
 blanks_is broken (blanks_none {a = a} h) = not_blank broken a h ∙ ap (λ t. (t, a)) (sym (or_false broken))
 blanks_is broken (blanks_space {b = x} {a = a} h rest) = ap (λ t. cond t (skip false broken a) (cond (eqb x 10) (skip false true a) (cond (eqb x 35) (skip true broken a) (broken, x ∷ a)))) h ∙ blanks_is broken rest
@@ -89,6 +95,7 @@ between true [] = ([], 92 ∷ [])
 between false (x ∷ a) = cond (is_plain x) (x ∷ (between false a).0, (between false a).1) (cond (eqb x 92) (between true a) ([], x ∷ a))
 between true (e ∷ a) = after_escape (escape_of e) (92 ∷ e ∷ a) (between false a)
 
+-- a content is the front of the one that is computed
 quoted_is : {a c r : List ℕ} → Quoted a c r → between false a ≡ (c ++ (between false r).0, (between false r).1)
 quoted_is quoted_none = refl
 quoted_is (quoted_plain {b = x} {a = a} h rest) =
@@ -107,24 +114,30 @@ abbrev text_at : ℕ → List ℕ → List ℕ × List ℕ → Read
 text_at n a (c, []) = Err (fault.UnclosedText (offset_of n a))
 text_at n a (c, x ∷ r) = cond (eqb x 34) (Ok (token.Text c, r)) (cond (eqb (length r) 0) (Err (fault.UnclosedText (offset_of n a))) (Err (fault.BadEscape (offset_of n (x ∷ r)))))
 
+-- a sign, or else something else
 abbrev or_sign : Option Sign → List ℕ → Read → Read
 or_sign (Some s) r other = Ok (token.Sign s, r)
 or_sign None r other = other
 
+-- a sign of one character, or none
 abbrev short_at : ℕ → ℕ → List ℕ → Read
 short_at n x r = or_sign (sign_of (x ∷ [])) r (Err (fault.BadCharacter (offset_of n (x ∷ r))))
 
+-- a sign of two characters, or else of one
 abbrev sign_at : ℕ → ℕ → List ℕ → Read
 sign_at n x [] = short_at n x []
 sign_at n x (y ∷ r) = or_sign (sign_of (x ∷ y ∷ [])) r (short_at n x (y ∷ r))
 
+-- a word as a token
 abbrev named : Option Reserved → List ℕ → Token
 named (Some word) w = token.Word word
 named None w = token.Name w
 
+-- a word or `_` as a token
 abbrev word_at : List ℕ → Token
 word_at w = cond (bytes_eq w (codes "_")) (token.Sign sign.Underscore) (named (reserved_of w) w)
 
+-- an integer, or its fault
 abbrev int_at : ℕ → List ℕ → List ℕ → List ℕ → Read
 int_at n a ds r = cond (ltb (number ds) (2 ^ 63)) (Ok (token.Int (pos (number ds)), r)) (Err (fault.IntegerTooLarge (offset_of n a)))
 
@@ -136,6 +149,7 @@ front_at n (x ∷ a) =
     (cond (is_letter x) (Ok (word_at (front is_word_byte (x ∷ a)), past is_word_byte (x ∷ a)))
     (cond (eqb x 34) (text_at n (x ∷ a) (between false a)) (sign_at n x a)))
 
+-- with a digit an integer begins
 at_digit : (n : ℕ) (a : List ℕ) → begins_with is_ascii_digit a ≡ true → front_at n a ≡ int_at n a (front is_ascii_digit a) (past is_ascii_digit a)
 at_digit n [] h = absurd (false≢true h)
 at_digit n (x ∷ a) h = cond-true (is_ascii_digit x) _ _ h
@@ -156,10 +170,12 @@ letter_no_digit x h = ⊎_elim
     (λ (d : is_ascii_digit x ≡ false). d)
     (cases_Bool (is_ascii_digit x))
 
+-- with a letter a word begins
 at_letter : (n : ℕ) (a : List ℕ) → begins_with is_letter a ≡ true → front_at n a ≡ Ok (word_at (front is_word_byte a), past is_word_byte a)
 at_letter n [] h = absurd (false≢true h)
 at_letter n (x ∷ a) h = cond-false (is_ascii_digit x) _ _ (letter_no_digit x h) ∙ cond-true (is_letter x) _ _ h
 
+-- with any other byte a sign begins
 at_other : (n x : ℕ) (a : List ℕ) → is_word_byte x ≡ false → (x ≡ 34 → ⊥) → front_at n (x ∷ a) ≡ sign_at n x a
 at_other n x a h other =
     let parts = or_parts (is_letter x) (is_ascii_digit x) h in
@@ -173,9 +189,11 @@ digits_begin {a} {ds} {r} digits = begin ds digits.some digits.longest.passes di
     begin [] some passes e = absurd (omega (arith, some))
     begin (d ∷ ds) some passes e = ap (begins_with is_ascii_digit) e ∙ passes 0 d (omega arith)
 
+-- an integer is read as its digits say
 int_is : (n : ℕ) {a ds r : List ℕ} → Digits a ds r → front_at n a ≡ int_at n a ds r
 int_is n {a} digits = let parts = longest_is digits.longest in at_digit n a (digits_begin digits) ∙ sym (λ i. int_at n a (parts.0 i) (parts.1 i))
 
+-- a word is read as it stands
 word_is : (n : ℕ) {a w r : List ℕ} → IsWord a w r → front_at n a ≡ Ok (word_at w, r)
 word_is n {a} {w} {r} word =
     let parts = longest_is word.longest in
@@ -183,6 +201,7 @@ word_is n {a} {w} {r} word =
     let same : Ok (word_at w, r) ≡ Ok (word_at (front is_word_byte a), past is_word_byte a) = λ i. Ok (word_at (parts.0 i), parts.1 i) in
     whole ∙ sym same
 
+-- a word is read as the token that it is
 word_token : (n : ℕ) {a w r : List ℕ} (t : Token) → IsWord a w r → word_at w ≡ t → front_at n a ≡ Ok (t, r)
 word_token n {r = r} t word e = word_is n word ∙ ap (λ u. Ok (u, r)) e
 
@@ -197,17 +216,15 @@ is_sign (x ∷ []) = not (is_word_byte x) && not (eqb x 34)
 is_sign (x ∷ y ∷ []) = not (is_word_byte x) && not (eqb x 34)
 is_sign (x ∷ y ∷ z ∷ w) = false
 
+-- no sign begins as a word or a text does
 sign_like : (w : List ℕ) (s : Sign) → sign_of w ≡ Some s → is_sign w ≡ true
 sign_like w s e = entry_passes is_sign signs w s refl e
 
+-- a sign is read as a sign
 at_sign : (n x : ℕ) (a : List ℕ) → (not (is_word_byte x) && not (eqb x 34)) ≡ true → front_at n (x ∷ a) ≡ sign_at n x a
 at_sign n x a h =
     let parts = and_parts (not (is_word_byte x)) (not (eqb x 34)) h in
     at_other n x a (not-true (is_word_byte x) parts.0) (eqb-false x 34 (not-true (eqb x 34) parts.1))
-
-none_of : {A : Type 0} (o : Option A) → ((u : A) → o ≡ Some u → ⊥) → o ≡ None
-none_of None f = refl
-none_of (Some u) f = absurd (f u refl)
 
 -- where no sign of two characters stands, one of one does
 short_is : (n x : ℕ) (r : List ℕ) (s : Sign) → sign_of (x ∷ []) ≡ Some s → ((y : ℕ) (q : List ℕ) → r ≡ y ∷ q → sign_of (x ∷ y ∷ []) ≡ None) → sign_at n x r ≡ Ok (token.Sign s, r)
@@ -215,6 +232,7 @@ short_is n x [] s known none = ap (λ o. or_sign o [] (Err (fault.BadCharacter (
 short_is n x (y ∷ r) s known none =
     ap (λ o. or_sign o r (short_at n x (y ∷ r))) (none y r refl) ∙ ap (λ o. or_sign o (y ∷ r) (Err (fault.BadCharacter (offset_of n (x ∷ y ∷ r))))) known
 
+-- the longest sign is read
 sign_is : (n : ℕ) {a r : List ℕ} {s : Sign} → LongestSign a s r → front_at n a ≡ Ok (token.Sign s, r)
 sign_is n {a} {r} {s} found = of found.spelling found.listed found.whole found.longest (sign_like found.spelling s found.listed)
   where
@@ -226,6 +244,7 @@ sign_is n {a} {r} {s} found = of found.spelling found.listed found.whole found.l
     of (x ∷ y ∷ []) known whole longest h = ap (front_at n) whole ∙ at_sign n x (y ∷ r) h ∙ ap (λ o. or_sign o r (short_at n x (y ∷ r))) known
     of (x ∷ y ∷ z ∷ w) known whole longest h = absurd (false≢true h)
 
+-- without a sign there is a fault
 no_sign_is : (n x : ℕ) (a : List ℕ) → ((w q : List ℕ) (u : Sign) → sign_of w ≡ Some u → x ∷ a ≡ w ++ q → ⊥) → sign_at n x a ≡ Err (fault.BadCharacter (offset_of n (x ∷ a)))
 no_sign_is n x [] none = ap (λ o. or_sign o [] (Err (fault.BadCharacter (offset_of n (x ∷ []))))) (none_of (sign_of (x ∷ [])) (λ u is. none (x ∷ []) [] u is refl))
 no_sign_is n x (y ∷ r) none =

@@ -17,12 +17,14 @@ use Rattle.etoken.specs.Spelling.{number, number_from, Digits, Quoted, Spells, s
 use Rattle.etoken.proofs.Runs.{QuotedSoFar, quoted_end}
 
 -- each byte of the list is a digit
-abbrev AreDigits : List ℕ → Type 0
+abbrev pub AreDigits : List ℕ → Type 0
 AreDigits ds = (i : ℕ) → i < length ds → IsInRange 48 57 (get_or ds i 0)
 
-number_model : IsNumeralModel AreDigits number
+-- `number` is what decimal digits stand for
+pub number_model : IsNumeralModel AreDigits number
 number_model = numerals_by_fold AreDigits tells_by_index number_from (search rules)
 
+-- bytes that pass the test are digits
 are_digits : (ds : List ℕ) → AllPass is_ascii_digit ds → AreDigits ds
 are_digits ds passes i lt =
     let parts = and_parts (leb 48 (get_or ds i 0)) (leb (get_or ds i 0) 57) (passes i 0 lt) in
@@ -40,6 +42,7 @@ digits_in_front {a} {ds} {r} begins run = record { some = some ds run.whole; lon
 pub parsed_ok : {a ds r : List ℕ} {z : ℤ} → Longest is_ascii_digit a ds r → ParsesSigned {E = ℕ} w64 10 ds (Ok z) → ((0 < length ds) × (number ds < 2 ^ 63)) × (z ≡ pos (number ds))
 parsed_ok {ds = ds} {z = z} run h = let result : Result ℤ ℕ = Ok z in parse_signed_digits number_model w64 ds result h (are_digits ds run.passes)
 
+-- a number below the limit is an integer
 pub number_fits : {z : ℤ} (n : ℕ) → n < 2 ^ 63 → z ≡ pos n → FitsSigned w64 z
 number_fits {z} n small e = subst (FitsSigned w64) (sym e) (record { sfits = small })
 
@@ -47,9 +50,11 @@ number_fits {z} n small e = subst (FitsSigned w64) (sym e) (record { sfits = sma
 pub parsed_err : {a ds r : List ℕ} → Longest is_ascii_digit a ds r → ParsesSigned {E = ℕ} w64 10 ds (Err 0) → ((0 < length ds) × (number ds < 2 ^ 63)) → ⊥
 parsed_err {ds = ds} run h = let result : Result ℤ ℕ = Err 0 in parse_signed_digits number_model w64 ds result h (are_digits ds run.passes)
 
+-- an integer is read as `parse` reads it
 pub int_spelled : {a ds r : List ℕ} {z : ℤ} → begins_with is_ascii_digit a ≡ true → Longest is_ascii_digit a ds r → ((0 < length ds) × (number ds < 2 ^ 63)) × (z ≡ pos (number ds)) → Spells a (token.Int z) r
 int_spelled {a} {ds} {r} begins run h = subst (λ z. Spells a (token.Int z) r) (sym h.1) (spells_int (digits_in_front begins run) h.0.1)
 
+-- an integer that `parse` refuses is too large
 pub int_spoiled : {n : ℕ} {a ds r : List ℕ} → begins_with is_ascii_digit a ≡ true → Longest is_ascii_digit a ds r → (((0 < length ds) × (number ds < 2 ^ 63)) → ⊥) → Spoils n a (fault.IntegerTooLarge (offset_of n a))
 int_spoiled {n} {a} {ds} {r} begins run h =
     let digits = digits_in_front begins run in
@@ -71,6 +76,7 @@ stop_ends (x ∷ a) h g = absurd (⊎_elim (λ (p : not (eqb x 34) ≡ false). q
     slash : not (eqb x 92) ≡ false → ⊥
     slash p = omega (arith, ltb-false x 128 g, eqb-true x 92 (not-false (eqb x 92) p))
 
+-- the content goes on to the end
 pub text_unclosed : {n : ℕ} {rest behind content stop : List ℕ} → rest ≡ 34 ∷ behind → QuotedSoFar behind content stop → begins_with is_plain stop ≡ false → begins_with is_ascii_byte stop ≡ false → Spoils n rest (fault.UnclosedText (offset_of n rest))
 text_unclosed {n} {rest} {behind} {content} {stop} e so_far plain ascii =
     subst (λ l. Spoils n l (fault.UnclosedText (offset_of n l))) (sym e) (unclosed (quoted_end so_far) (inl (stop_ends stop plain ascii)))

@@ -32,12 +32,13 @@ fn shown(alloc: Global, text: &str) -> Result<String, AllocError> {
     Ok(words)
 }
 
-/// How many tokens a text of n names and a space behind each has, or its fault.
-fn counted(alloc: Global, part: &str, n: usize) -> Result<String, AllocError> {
+/// How many tokens a text has that is n times a part and then its end, or its fault.
+fn counted(alloc: Global, part: &str, n: usize, end: &str) -> Result<String, AllocError> {
     let mut text = String::new(alloc);
     for _ in 0..n {
         text.push_str(part)?;
     }
+    text.push_str(end)?;
     match tokens(alloc, text.as_str()) {
         Ok(list) => {
             let count = list.len();
@@ -75,10 +76,7 @@ fn longest_match(rt: HostRuntime) -> Result<(), Fail> {
         shown(alloc, "<=<-<->=>")?.as_str(),
         "0:AtMost 2:SendTo 4:SendTo 6:AtLeast 8:More"
     );
-    assert_eq!(rt;
-        shown(alloc, "->-:==!=!")?.as_str(),
-        "0:Arrow 2:Minus 3:Becomes 5:BadCharacter"
-    );
+    assert_eq!(rt; shown(alloc, "->-:==!=!")?.as_str(), "L1 BadCharacter 5");
     assert_eq!(rt;
         shown(alloc, "->-:===!=!")?.as_str(),
         "0:Arrow 2:Minus 3:Becomes 5:Equal 7:NotEqual 9:Not"
@@ -168,13 +166,18 @@ fn line_breaks(rt: HostRuntime) -> Result<(), Fail> {
 #[test]
 fn limits(rt: HostRuntime) -> Result<(), Fail> {
     let alloc = rt.alloc();
-    assert_eq!(rt; counted(alloc, "a ", 16_384)?.as_str(), "16384");
-    assert_eq!(rt; counted(alloc, "a ", 16_385)?.as_str(), "L8 TooLong");
-    assert_eq!(rt; counted(alloc, "a\n", 8_192)?.as_str(), "16383");
-    assert_eq!(rt; counted(alloc, "a\n", 8_193)?.as_str(), "L8 TooLong");
-    assert_eq!(rt; counted(alloc, " ", 65_536)?.as_str(), "0");
-    assert_eq!(rt; counted(alloc, " ", 65_537)?.as_str(), "L8 TooLong");
-    assert_eq!(rt; counted(alloc, "&", 65_537)?.as_str(), "L8 TooLong");
-    assert_eq!(rt; counted(alloc, "a&", 2)?.as_str(), "L1 BadCharacter 1");
+    assert_eq!(rt; counted(alloc, "a ", 16_384, "")?.as_str(), "16384");
+    assert_eq!(rt; counted(alloc, "a ", 16_385, "")?.as_str(), "L8 TooLong");
+    assert_eq!(rt; counted(alloc, "a\n", 8_192, "")?.as_str(), "16383");
+    assert_eq!(rt; counted(alloc, "a\n", 8_193, "")?.as_str(), "L8 TooLong");
+    assert_eq!(rt; counted(alloc, " ", 65_536, "")?.as_str(), "0");
+    assert_eq!(rt; counted(alloc, " ", 65_537, "")?.as_str(), "L8 TooLong");
+    assert_eq!(rt; counted(alloc, "&", 65_537, "")?.as_str(), "L8 TooLong");
+    assert_eq!(rt; counted(alloc, "a&", 2, "")?.as_str(), "L1 BadCharacter 1");
+    // A bad token in the place of the first token too many answers its own fault.
+    assert_eq!(rt;
+        counted(alloc, "a ", 16_384, "\n&")?.as_str(),
+        "L1 BadCharacter 32769"
+    );
     Ok(())
 }

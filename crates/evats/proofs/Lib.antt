@@ -2,3 +2,4 @@ pub mod Places
 pub mod Boundaries
 pub mod Numerals
 pub mod ScriptLemmas
+pub mod Listings

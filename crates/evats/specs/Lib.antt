@@ -7,3 +7,6 @@ pub mod Scripts
 pub mod Show
 pub mod ShowView
 pub mod Words
+pub mod Replies
+pub mod Written
+pub mod Engine

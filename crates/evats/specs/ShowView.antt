@@ -1,9 +1,11 @@
 -- What the program's maps hold, as lists of contents with their keys.
-use Rattle.std.specs.Prelude.{ℕ, List, map}
+use Rattle.std.specs.Prelude.{◌≡◌, ℕ, List, ◌++◌, map}
 use Rattle.std.specs.BTreeMap.{BTreeMap}
 use Rattle.kernele.specs.Tree.{Name}
 use Rattle.values.specs.View.{val_of}
 use Rattle.values.specs.declared.value.Value.{Value}
+use Rattle.turn.specs.View.{state_of}
+use Rattle.evats.specs.Show.{Nouns, noun_lines, vat_line, HomeLines}
 use Rattle.turn.specs.State as state
 use Rattle.turn.specs.State.{bound, fixed}
 use Rattle.ids.specs.declared.names.VatNo.{VatNo}
@@ -14,18 +16,38 @@ use Rattle.book.specs.View.{home_of, message_of}
 use Rattle.book.specs.declared.world.Home.{Home}
 use Rattle.book.specs.declared.world.Message.{Message}
 
--- the entries of a map, each content as what it stands for
-abbrev pub entries_as : {K V W : Type 0} → (V → W) → BTreeMap K V → List (K × W)
-entries_as f m = map (λ e. (e.0, f e.1)) m.entries
+-- entries, each content as what it stands for
+abbrev pub entries_as : {K V W : Type 0} → (V → W) → List (K × V) → List (K × W)
+entries_as f es = map (λ e. (e.0, f e.1)) es
+
+abbrev pub noun_entries : List (Name × Value) → List (Name × state.Content)
+noun_entries es = entries_as (λ v. bound (fixed (val_of v))) es
+
+abbrev pub home_entries : List (VatNo × Home) → List (VatNo × Content)
+home_entries es = entries_as home_of es
+
+abbrev pub message_entries : List (MsgId × Message) → List (MsgId × Content)
+message_entries es = entries_as (λ g. message (message_of g)) es
+
+abbrev pub board_entries : List (PromId × Value) → List (PromId × Content)
+board_entries es = entries_as (λ v. published (val_of v)) es
 
 abbrev pub nouns_in : BTreeMap Name Value → List (Name × state.Content)
-nouns_in nouns = entries_as (λ v. bound (fixed (val_of v))) nouns
+nouns_in m = noun_entries m.entries
 
 abbrev pub homes_in : BTreeMap VatNo Home → List (VatNo × Content)
-homes_in homes = entries_as home_of homes
+homes_in m = home_entries m.entries
 
 abbrev pub messages_in : BTreeMap MsgId Message → List (MsgId × Content)
-messages_in messages = entries_as (λ g. message (message_of g)) messages
+messages_in m = message_entries m.entries
 
 abbrev pub board_in : BTreeMap PromId Value → List (PromId × Content)
-board_in board = entries_as (λ v. published (val_of v)) board
+board_in m = board_entries m.entries
+
+-- behind the text before stands now the line of this vat, and those of its nouns
+abbrev pub HomeWritten : VatNo → Home → List ℕ → List ℕ → Type 0
+HomeWritten v h before now = (es : List (Name × state.Content)) × Nouns (state_of h.state) es × (now ≡ before ++ (vat_line v h.name ++ noun_lines es))
+
+-- behind the text before stand now the lines of these vats
+abbrev pub HomesWritten : List (VatNo × Content) → List ℕ → List ℕ → Type 0
+HomesWritten hs before now = (lines : List ℕ) × HomeLines hs lines × (now ≡ before ++ lines)

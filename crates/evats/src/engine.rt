@@ -1,14 +1,25 @@
 // Commands answered one after another.
+ghost use Rattle.std.specs.Prelude.{◌≡◌, ◌++◌, ◌<◌, ℕ, List, Bool, length, OnOk, IfOk, IfErr, Ok, Some, string_bytes};
+ghost use Rattle.kernele.specs.View.{program_of};
+ghost use Rattle.ereader.specs.Texts.{ReadAs};
+ghost use Rattle.book.specs.Books.{Book as BookModel, blank};
+ghost use Rattle.evats.specs.Commands as commands;
+ghost use Rattle.evats.specs.Commands.{command_of, reading_of};
+ghost use Rattle.evats.specs.Lines.{behind_line};
+ghost use Rattle.evats.specs.declared.engine.Fault.TheVariants.{Memory};
+ghost use Rattle.evats.specs.ScriptView.{script_text};
+ghost use Rattle.evats.specs.Replies.{Answers, AnswersBirth, FirstReply, Replies, said};
 
 use crate::command::{Command, LineFault, command_of};
 use crate::lines::cut_line;
-use crate::reply::{Refusal, Reply, write_reply};
+use crate::reply::Written;
 use crate::script::{take_script, text_of};
 use book::book::{Book, Turned};
 use book::fault::BookFault;
-use ereader::text::read;
+use ereader::read;
 use ids::names::MsgId;
 use ids::text::Text;
+use kernele::tree::Program;
 use std::alloc::{AllocError, Global};
 use std::fmt;
 use std::fmt::{Display, Formatter, Write};
@@ -51,100 +62,146 @@ impl Display for Fault {
 }
 
 impl From<AllocError> for Fault {
+    ghost from_gives = { λ _ f. f ≡ Memory };
+
     fn from(_error: AllocError) -> Self {
         Fault::Memory
     }
 }
 
-/// The book, the replies so far, and whether one was a refusal.
+/// The book, and the replies so far.
 #[derive(Drop)]
 struct Engine {
     alloc: Global,
+    /// The most steps of a turn.
     budget: u32,
     book: Book,
-    replies: String,
-    refused: bool,
+    written: Written,
 }
 
 impl Engine {
-    fn birth(&mut self, name: &str, script: &str) -> Result<Reply, Refusal> {
-        let program = read(self.alloc, script).map_err(Refusal::Read)?;
-        let name = Text::new(self.alloc, name).map_err(|_| Refusal::Book(BookFault::Memory))?;
-        let event = self.book.birth(&name, program).map_err(Refusal::Book)?;
-        Ok(Reply::Queued(event))
-    }
+    ghost use Rattle.evats.specs.Engine.{Happens, HappensAt};
 
-    fn ask(&mut self, name: &str, text: &str) -> Result<Reply, Refusal> {
-        let program = read(self.alloc, text).map_err(Refusal::Read)?;
-        let name = Text::new(self.alloc, name).map_err(|_| Refusal::Book(BookFault::Memory))?;
-        let event = self.book.ask(&name, program).map_err(Refusal::Book)?;
-        Ok(Reply::Queued(event))
-    }
-
-    fn turn(&mut self, message: MsgId) -> Result<Reply, Refusal> {
-        let Turned { event, ended } = self
-            .book
-            .turn(message, self.budget)
-            .map_err(Refusal::Book)?;
-        Ok(Reply::Turned(event, ended))
-    }
-
-    fn reply(&mut self, answer: Result<Reply, Refusal>) -> Result<(), AllocError> {
-        let reply = match answer {
-            Ok(reply) => reply,
-            Err(refusal) => {
-                self.refused = true;
-                Reply::Refused(refusal)
-            }
+    fn ask_program(&mut self, name: &str, program: Program) -> Result<(), AllocError>
+        ensures { (text : List ℕ) → ReadAs text (Ok (program_of program)) → OnOk result (Happens self.old self.new (λ b r s d. Answers self.old.budget b (commands.ask name.now text) r s d)) }
+    {
+        let Ok(name) = Text::new(self.alloc, name) else {
+            return self.written.refuse_call(&BookFault::Memory);
         };
-        write_reply(&reply, self.book.world(), &mut self.replies)
+        match self.book.ask(&name, program) {
+            Ok(event) => self.written.queued(event),
+            Err(fault) => self.written.refuse_call(&fault),
+        }
     }
 
-    /// Answers a new vat, whose script is in the lines that follow, and gives what is behind them.
-    fn answer_birth<'a>(
-        &mut self,
-        name: &str,
-        lines: u32,
-        input: &'a [u8],
-    ) -> Result<&'a [u8], AllocError> {
-        let script = take_script(self.alloc, input, lines)?;
-        let answer = match &script.text {
-            Ok(text) => self.birth(name, text.as_str()),
-            Err(fault) => Err(Refusal::Line(*fault)),
+    fn ask(&mut self, name: &str, text: &str) -> Result<(), AllocError>
+        ensures { OnOk result (Happens self.old self.new (λ b r s d. Answers self.old.budget b (commands.ask name.now text.now) r s d)) }
+    {
+        match read(self.alloc, text) {
+            Ok(program) => self.ask_program(name, program),
+            Err(fault) => self.written.refuse_text(&fault),
+        }
+    }
+
+    fn turn(&mut self, message: MsgId) -> Result<(), AllocError>
+        ensures { OnOk result (Happens self.old self.new (λ b r s d. Answers self.old.budget b (commands.turn message) r s d)) }
+    {
+        match self.book.turn(message, self.budget) {
+            Ok(Turned { event, ended }) => self.written.turned(event, &ended),
+            Err(fault) => self.written.refuse_call(&fault),
+        }
+    }
+
+    fn show(&mut self) -> Result<(), AllocError>
+        ensures { OnOk result (Happens self.old self.new (λ b r s d. Answers self.old.budget b commands.show r s d)) }
+    {
+        self.written.world(self.book.world())
+    }
+
+    fn birth_program(&mut self, name: &str, script: Program) -> Result<(), AllocError>
+        ensures { (text : List ℕ) → ReadAs text (Ok (program_of script)) → OnOk result (Happens self.old self.new (λ b r s d. AnswersBirth b name.now (Ok text) r s d)) }
+    {
+        let Ok(name) = Text::new(self.alloc, name) else {
+            return self.written.refuse_call(&BookFault::Memory);
         };
-        self.reply(answer)?;
-        Ok(script.rest)
+        match self.book.birth(&name, script) {
+            Ok(event) => self.written.queued(event),
+            Err(fault) => self.written.refuse_call(&fault),
+        }
+    }
+
+    fn birth_text(&mut self, name: &str, text: &str) -> Result<(), AllocError>
+        ensures { OnOk result (Happens self.old self.new (λ b r s d. AnswersBirth b name.now (Ok text.now) r s d)) }
+    {
+        match read(self.alloc, text) {
+            Ok(program) => self.birth_program(name, program),
+            Err(fault) => self.written.refuse_text(&fault),
+        }
+    }
+
+    /// A new vat, whose script was taken from the lines behind the command.
+    fn birth(&mut self, name: &str, script: &Result<String, LineFault>) -> Result<(), AllocError>
+        ensures { OnOk result (Happens self.old self.new (λ b r s d. AnswersBirth b name.now (script_text script.now) r s d)) }
+    {
+        match script {
+            Ok(text) => self.birth_text(name, text.as_str()),
+            Err(fault) => self.written.refuse_line(*fault),
+        }
     }
 
     /// Answers a command, and gives what is left of the input behind it.
-    fn answer<'a>(&mut self, command: Command, input: &'a [u8]) -> Result<&'a [u8], AllocError> {
-        let answer = match command {
-            Command::Birth { name, lines } => return self.answer_birth(name, lines, input),
-            Command::Ask { name, text } => self.ask(name, text),
-            Command::Turn(message) => self.turn(message),
-            Command::Show => Ok(Reply::World),
-        };
-        self.reply(answer)?;
-        Ok(input)
+    fn answer<'a>(&mut self, command: Command, input: &'a [u8]) -> Result<&'a [u8], AllocError>
+        ensures { IfOk result (λ rest. HappensAt self.old self.new rest.now (λ b r s d i. FirstReply self.old.budget b (Ok (Some (command_of command))) input.now r s d i)) }
+    {
+        match command {
+            Command::Birth { name, lines } => {
+                let script = take_script(self.alloc, input, lines)?;
+                self.birth(name, &script.text)?;
+                Ok(script.rest)
+            }
+            Command::Ask { name, text } => {
+                self.ask(name, text)?;
+                Ok(input)
+            }
+            Command::Turn(message) => {
+                self.turn(message)?;
+                Ok(input)
+            }
+            Command::Show => {
+                self.show()?;
+                Ok(input)
+            }
+        }
     }
 
     /// Answers what a line says, and gives what is left of the input behind it.
-    fn answer_line<'a>(
+    fn answer_said<'a>(
         &mut self,
-        line: Result<&str, LineFault>,
+        says: Result<Option<Command>, LineFault>,
         input: &'a [u8],
-    ) -> Result<&'a [u8], AllocError> {
-        let command = match line {
-            Ok(text) => command_of(text),
-            Err(fault) => Err(fault),
-        };
-        match command {
+    ) -> Result<&'a [u8], AllocError>
+        ensures { IfOk result (λ rest. HappensAt self.old self.new rest.now (λ b r s d i. FirstReply self.old.budget b (reading_of says) input.now r s d i)) }
+    {
+        match says {
             Ok(Some(command)) => self.answer(command, input),
             Ok(None) => Ok(input),
             Err(fault) => {
-                self.reply(Err(Refusal::Line(fault)))?;
+                self.written.refuse_line(fault)?;
                 Ok(input)
             }
+        }
+    }
+
+    /// Answers the first line of an input, and gives what is left of it.
+    fn answer_first<'a>(&mut self, input: &'a [u8]) -> Result<&'a [u8], AllocError>
+        requires { 0 < length input.now }
+        ensures reply { IfOk result (λ rest. HappensAt self.old self.new rest.now (λ b r s d i. FirstReply self.old.budget b (said input.now) (behind_line input.now) r s d i)) }
+        ensures shorter { IfOk result (λ rest. length rest.now < length input.now) }
+    {
+        let cut = cut_line(input);
+        match text_of(cut.line, cut.is_long) {
+            Ok(text) => self.answer_said(command_of(text), cut.rest),
+            Err(fault) => self.answer_said(Err(fault), cut.rest),
         }
     }
 }
@@ -153,25 +210,20 @@ impl Engine {
 ///
 /// # Errors
 /// `Memory` where there is no memory for the replies or for a command's text.
-pub fn replies(
-    alloc: Global,
-    input: &[u8],
-    limits: Limits,
-) -> Result<(Vec<u8>, Summary), Fault> {
+pub fn replies(alloc: Global, input: &[u8], limits: Limits) -> Result<(Vec<u8>, Summary), Fault>
+    ensures ok { IfOk result (λ r. (b : BookModel) × Replies limits.budget blank input.now r.0.items r.1.refused b) }
+    ensures err { IfErr result (λ f. f ≡ Memory) }
+{
     let mut engine = Engine {
         alloc,
         budget: limits.budget,
         book: Book::new(alloc),
-        replies: String::new(alloc),
-        refused: false,
+        written: Written::new(alloc),
     };
     let mut rest = input;
     'lines: while !rest.is_empty() {
-        let cut = cut_line(rest);
-        rest = engine.answer_line(text_of(cut.line, cut.is_long), cut.rest)?;
+        rest = engine.answer_first(rest)?;
     }
-    let summary = Summary {
-        refused: engine.refused,
-    };
-    Ok((engine.replies.into_bytes(), summary))
+    let Written { text, refused } = engine.written;
+    Ok((text.into_bytes(), Summary { refused }))
 }

@@ -1,4 +1,12 @@
 // Replies, as they are written.
+ghost use Rattle.std.specs.Prelude.{◌≡◌, ◌++◌, [], true, false, OnOk, string_bytes};
+ghost use Rattle.ereader.specs.Shown.{shown};
+ghost use Rattle.book.specs.Fault as book_fault;
+ghost use Rattle.book.specs.View.{world_of};
+ghost use Rattle.turn.specs.View.{ended_of};
+ghost use Rattle.evats.specs.Commands.{fault_text};
+ghost use Rattle.evats.specs.Replies.{refused, queued_text, turned_text, end_text};
+ghost use Rattle.evats.specs.Show.{Shows};
 
 use crate::command::LineFault;
 use crate::show::write_world;
@@ -6,75 +14,97 @@ use book::fault::BookFault;
 use book::world::World;
 use ereader::fault::ReadFault;
 use ids::names::{EventName, MsgId};
-use std::alloc::AllocError;
-use turn::delivery::Ended;
 use ids::quote::write_quoted;
+use std::alloc::{AllocError, Global};
+use turn::delivery::Ended;
 use values::showing::write_value;
 
-/// Why a command is refused.
+/// The replies so far, and whether one is a refusal.
 #[derive(Drop)]
-pub enum Refusal {
-    Line(LineFault),
-    Read(ReadFault),
-    Book(BookFault),
+pub struct Written {
+    pub text: String,
+    pub refused: bool,
 }
 
-/// What a command is answered.
-#[derive(Drop)]
-pub enum Reply {
-    /// An event happened that made one message.
-    Queued(EventName),
-    /// A turn was run.
-    Turned(EventName, Ended),
-    /// The world is shown.
-    World,
-    Refused(Refusal),
-}
-
-impl Reply {
-    pub fn is_refusal(&self) -> bool {
-        matches!(self, Reply::Refused(_))
-    }
-}
-
-/// Writes a reply, with the world as it is shown.
-pub fn write_reply(reply: &Reply, world: &World, out: &mut String) -> Result<(), AllocError> {
-    match reply {
-        Reply::Queued(event) => write_queued(*event, out),
-        Reply::Turned(event, ended) => write_turned(*event, ended, out),
-        Reply::World => write_world(world, out),
-        Reply::Refused(refusal) => write_refusal(refusal, out),
-    }
-}
-
-fn write_queued(event: EventName, out: &mut String) -> Result<(), AllocError> {
-    let message = MsgId { event, index: 0 };
-    write!(out, "ok {event} {message}\n")
-}
-
-fn write_turned(event: EventName, ended: &Ended, out: &mut String) -> Result<(), AllocError> {
-    write!(out, "ok {event} ")?;
+fn write_end(ended: &Ended, out: &mut String) -> Result<(), AllocError>
+    ensures { OnOk result (string_bytes out.new ≡ string_bytes out.old ++ end_text (ended_of ended.now)) }
+{
     match ended {
         Ended::Value(value) => {
             out.push_str("value ")?;
-            write_value(value, out)?;
+            write_value(value, out)
         }
         Ended::Problem(problem) => {
             out.push_str("problem ")?;
-            write_quoted(problem.as_str(), out)?;
+            write_quoted(problem.as_str(), out)
         }
         Ended::Abandoned(why) => {
             out.push_str("abandoned ")?;
-            write_quoted(why.reason(), out)?;
+            write_quoted(why.reason(), out)
         }
     }
-    out.push_str("\n")
 }
 
-fn write_refusal(refusal: &Refusal, out: &mut String) -> Result<(), AllocError> {
-    match refusal {
-        Refusal::Line(fault) => write!(out, "no {fault}\n"),
-        Refusal::Read(fault) => write!(out, "no {fault}\n"),
-        Refusal::Book(fault) => write!(out, "no {fault}\n"),
+impl Written {
+    ghost use Rattle.evats.specs.Written.{Adds, AddsText};
+
+    pub fn new(alloc: Global) -> Written
+        ensures text { string_bytes result.text ≡ [] }
+        ensures refused { result.refused ≡ false }
+    {
+        Written {
+            text: String::new(alloc),
+            refused: false,
+        }
+    }
+
+    /// An event happened that made one message.
+    pub fn queued(&mut self, event: EventName) -> Result<(), AllocError>
+        ensures { OnOk result (Adds self.old self.new (queued_text event) false) }
+    {
+        let message = MsgId { event, index: 0 };
+        let out = &mut self.text;
+        write!(out, "ok {event} {message}\n")
+    }
+
+    /// A turn was run.
+    pub fn turned(&mut self, event: EventName, ended: &Ended) -> Result<(), AllocError>
+        ensures { OnOk result (Adds self.old self.new (turned_text event (ended_of ended.now)) false) }
+    {
+        let out = &mut self.text;
+        write!(out, "ok {event} ")?;
+        write_end(ended, out)?;
+        out.push_str("\n")
+    }
+
+    /// The world is shown.
+    pub fn world(&mut self, world: &World) -> Result<(), AllocError>
+        ensures { OnOk result (AddsText self.old self.new (Shows (world_of world.now))) }
+    {
+        write_world(world, &mut self.text)
+    }
+
+    pub fn refuse_line(&mut self, fault: LineFault) -> Result<(), AllocError>
+        ensures { OnOk result (Adds self.old self.new (refused (fault_text fault)) true) }
+    {
+        self.refused = true;
+        let out = &mut self.text;
+        write!(out, "no {fault}\n")
+    }
+
+    pub fn refuse_text(&mut self, fault: &ReadFault) -> Result<(), AllocError>
+        ensures { OnOk result (Adds self.old self.new (refused (shown fault.now)) true) }
+    {
+        self.refused = true;
+        let out = &mut self.text;
+        write!(out, "no {fault}\n")
+    }
+
+    pub fn refuse_call(&mut self, fault: &BookFault) -> Result<(), AllocError>
+        ensures { OnOk result (Adds self.old self.new (refused (book_fault.fault_text fault.now)) true) }
+    {
+        self.refused = true;
+        let out = &mut self.text;
+        write!(out, "no {fault}\n")
     }
 }

@@ -5,10 +5,12 @@ ghost use Rattle.ids.specs.Cells.{vat_cmp, message_cmp, promise_cmp};
 ghost use Rattle.ids.specs.declared.names.CellKey.TheVariants as key;
 ghost use Rattle.turn.specs.View.{cells_of, state_of};
 ghost use Rattle.values.specs.View.{val_of};
-ghost use Rattle.book.specs.World.{message, published};
+ghost use Rattle.std.specs.Option.{option_map};
+ghost use Rattle.std.specs.BTreeMap.{get};
+ghost use Rattle.book.specs.World.{message as message_content, published};
 ghost use Rattle.book.specs.View.{world_of, place_of, message_of, home_of};
 ghost use Rattle.evats.specs.Show.{Nouns, noun_line, noun_lines, vat_line, HomeLines, place_text, message_line, message_lines, board_line, board_lines, Lists, Shows};
-ghost use Rattle.evats.specs.ShowView.{nouns_in, homes_in, messages_in, board_in};
+ghost use Rattle.evats.specs.ShowView.{nouns_in, homes_in, messages_in, board_in, HomeWritten, HomesWritten};
 
 use book::world::{Home, Message, Place, World};
 use ids::names::{MsgId, PromId, VatNo};
@@ -29,10 +31,109 @@ fn write_noun(name: &Text, value: &Value, out: &mut String) -> Result<(), AllocE
 /// Writes top nouns in order of bytes.
 fn write_nouns(nouns: &BTreeMap<Text, Value>, out: &mut String) -> Result<(), AllocError>
     ensures written { OnOk result (string_bytes out.new ≡ string_bytes out.old ++ noun_lines (nouns_in nouns.now)) }
-    ensures listed { Nouns (cells_of nouns.now) (nouns_in nouns.now) }
+    ensures listed { OnOk result (Nouns (cells_of nouns.now) (nouns_in nouns.now)) }
 {
-    for (name, value) in nouns {
+    for (name, value) in nouns.iter() {
         write_noun(name, value, out)?;
     }
+    Ok(())
+}
+
+fn write_vat(number: VatNo, name: &Text, out: &mut String) -> Result<(), AllocError>
+    ensures { OnOk result (string_bytes out.new ≡ string_bytes out.old ++ vat_line number name.now) }
+{
+    let event = number.0;
+    write!(out, "vat {name} {event}\n")
+}
+
+/// Writes a vat and its top nouns.
+fn write_home(number: VatNo, home: &Home, out: &mut String) -> Result<(), AllocError>
+    ensures { OnOk result (HomeWritten number home.now (string_bytes out.old) (string_bytes out.new)) }
+{
+    write_vat(number, &home.name, out)?;
+    write_nouns(home.state.nouns(), out)?;
+    Ok(())
+}
+
+/// Writes the vats in order of birth, each with its top nouns.
+fn write_homes(homes: &BTreeMap<VatNo, Home>, out: &mut String) -> Result<(), AllocError>
+    ensures written { OnOk result (HomesWritten (homes_in homes.now) (string_bytes out.old) (string_bytes out.new)) }
+    ensures listed { OnOk result (Lists vat_cmp (λ v. option_map home_of (get vat_cmp homes.now v)) (homes_in homes.now)) }
+{
+    for (number, home) in homes.iter() {
+        write_home(*number, home, out)?;
+    }
+    Ok(())
+}
+
+fn write_place(place: Place, world: &World, out: &mut String) -> Result<(), AllocError>
+    ensures { OnOk result (string_bytes out.new ≡ string_bytes out.old ++ place_text (world_of world.now) (place_of place)) }
+{
+    match place {
+        Place::At(number) => match world.home(number) {
+            Some(home) => {
+                let name = &home.name;
+                write!(out, " at {name}")
+            }
+            None => Ok(()),
+        },
+        Place::Done(event) => write!(out, " done {event}"),
+    }
+}
+
+fn write_message(
+    name: MsgId,
+    message: &Message,
+    world: &World,
+    out: &mut String,
+) -> Result<(), AllocError>
+    ensures { OnOk result (string_bytes out.new ≡ string_bytes out.old ++ message_line (world_of world.now) (name, message_content (message_of message.now))) }
+{
+    write!(out, "msg {name}")?;
+    write_place(message.place, world, out)?;
+    out.push_str("\n")
+}
+
+/// Writes the messages in order of their names.
+fn write_messages(
+    messages: &BTreeMap<MsgId, Message>,
+    world: &World,
+    out: &mut String,
+) -> Result<(), AllocError>
+    ensures written { OnOk result (string_bytes out.new ≡ string_bytes out.old ++ message_lines (world_of world.now) (messages_in messages.now)) }
+    ensures listed { OnOk result (Lists message_cmp (λ m. option_map (λ g. message_content (message_of g)) (get message_cmp messages.now m)) (messages_in messages.now)) }
+{
+    for (name, message) in messages.iter() {
+        write_message(*name, message, world, out)?;
+    }
+    Ok(())
+}
+
+fn write_published(promise: PromId, value: &Value, out: &mut String) -> Result<(), AllocError>
+    ensures { OnOk result (string_bytes out.new ≡ string_bytes out.old ++ board_line (promise, published (val_of value.now))) }
+{
+    write!(out, "board {promise} = ")?;
+    write_value(value, out)?;
+    out.push_str("\n")
+}
+
+/// Writes what was published, in order of the promises.
+fn write_board(board: &BTreeMap<PromId, Value>, out: &mut String) -> Result<(), AllocError>
+    ensures written { OnOk result (string_bytes out.new ≡ string_bytes out.old ++ board_lines (board_in board.now)) }
+    ensures listed { OnOk result (Lists promise_cmp (λ p. option_map (λ v. published (val_of v)) (get promise_cmp board.now p)) (board_in board.now)) }
+{
+    for (promise, value) in board.iter() {
+        write_published(*promise, value, out)?;
+    }
+    Ok(())
+}
+
+/// Writes the world: its vats by birth, its messages and what was published in order of their names.
+pub fn write_world(world: &World, out: &mut String) -> Result<(), AllocError>
+    ensures { OnOk result ((text : List ℕ) × Shows (world_of world.now) text × (string_bytes out.new ≡ string_bytes out.old ++ text)) }
+{
+    write_homes(world.homes(), out)?;
+    write_messages(world.messages(), world, out)?;
+    write_board(world.board(), out)?;
     Ok(())
 }

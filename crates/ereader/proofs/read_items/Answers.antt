@@ -1,4 +1,4 @@
-use Rattle.std.proofs.Common.{arith, ◌∙◌}
+use Rattle.std.proofs.Common.{◌∙◌}
 use Rattle.ereader.proofs.Views.{program_at-plain}
 use Rattle.ereader.proofs.read_items.Goals as goal
 
@@ -6,4 +6,4 @@ pub returns-in-Ok-clause-ok : goal.returns-in-Ok-clause-ok
 returns-in-Ok-clause-ok c = program_at-plain c.args.tokens.now ∙ c.in-Ok.ensures
 
 pub returns-in-Err-Unexpected-clause-err : goal.returns-in-Err-Unexpected-clause-err
-returns-in-Err-Unexpected-clause-err c = (program_at-plain c.args.tokens.now ∙ rw c.in-Err-Unexpected.field-0-is at c.in-Err-Unexpected.ensures, omega (arith, c.min.ensures))
+returns-in-Err-Unexpected-clause-err c = (program_at-plain c.args.tokens.now ∙ rw c.in-Err-Unexpected.field-0-is at c.in-Err-Unexpected.ensures, c.place_at.ensures)

@@ -12,4 +12,4 @@ returns-clause-only c = λ ts p. only (plain c.args.tokens.now) c.in_ok-new.fiel
 
 pub returns-in_err-items-clause-only : goal.returns-in_err-items-clause-only
 returns-in_err-items-clause-only c = λ ts p. let k = err_from_is_err_and c.from_residual.result c.from_residual.ensures.1 in
-    rw (k.1, k.2) (refused c.in_err-items.field-0.0 c.args.length (plain c.args.tokens.now) ts c.in_err-items.ensures.err p)
+    rw (k.1, k.2) (refused c.in_err-items.field-0.0 c.args.tokens.now c.args.length (plain c.args.tokens.now) ts c.in_err-items.ensures.err p)

@@ -1,4 +1,4 @@
-use Rattle.std.proofs.Common.{◌≡◌, ◌∙◌, ap}
+use Rattle.std.proofs.Common.{◌∙◌, ap}
 use Rattle.ids.specs.declared.names.CellKey.TheVariants as key
 use Rattle.book.specs.World.{put, clear, message}
 use Rattle.book.specs.View.{home_of, message_of, world_of}

@@ -1,4 +1,4 @@
-use Rattle.std.proofs.Common.{◌≡◌, ◌∙◌, ap, List, ℕ}
+use Rattle.std.proofs.Common.{◌∙◌, ap, List, ℕ}
 use Rattle.ids.specs.declared.names.CellKey.TheVariants as key
 use Rattle.book.specs.World.{World, put, clear, message}
 use Rattle.book.specs.View.{vat_of, home_of, message_of, world_of}

@@ -1,5 +1,5 @@
 use Rattle.std.proofs.Common.{rules, arith, length, sym, ap, ◌∙◌}
-use Rattle.ereader.proofs.Steps.{rest_le, trees_push, operand_more, operand_end, postfix_more, items_more, items_end}
+use Rattle.ereader.proofs.Steps.{rest_le, trees_push, operand_end, postfix_more, items_more, items_end}
 use Rattle.ereader.specs.Grammar.{sum_operator, product_operator}
 use Rattle.ereader.specs.Reading.{product_at, unary_at, disjunction_at}
 use Rattle.ereader.specs.View.{plain}

@@ -1,4 +1,4 @@
-use Rattle.std.proofs.Common.{sym, ◌∙◌, arith, length, ap}
+use Rattle.std.proofs.Common.{sym, ◌∙◌, arith}
 use Rattle.ereader.specs.Reading.{disjunction_at}
 use Rattle.ereader.specs.View.{plain}
 use Rattle.ereader.proofs.Steps.{trees_push, block_begin, block_more, separator_le}

@@ -1,0 +1,65 @@
+-- A map's entries, as lists of contents with their keys.
+use Rattle.std.proofs.Common.{◌≡◌, ℕ, ◌++◌, append_assoc, append-nil, List, [], ◌∷◌, map, Bool, true, false, cond, Option, Some, None, refl, ap, ◌∙◌, sym, subst}
+use Rattle.std.specs.Option.{option_map}
+use Rattle.std.specs.Ordering.{is_eq}
+use Rattle.std.specs.declared.cmp.Ordering.{Ordering}
+use Rattle.std.specs.List.Sorted.{IsStrictlySortedBy}
+use Rattle.std.specs.Map.{lookup, keys_of}
+use Rattle.std.specs.BTreeMap.{BTreeMap, get, IsOrdered}
+use Rattle.ids.specs.declared.names.VatNo.{VatNo}
+use Rattle.ids.specs.declared.names.MsgId.{MsgId}
+use Rattle.ids.specs.declared.names.PromId.{PromId}
+use Rattle.ids.specs.declared.names.CellKey.TheVariants as key
+use Rattle.ids.specs.Cells.{vat_cmp, message_cmp, promise_cmp}
+use Rattle.values.specs.declared.value.Value.{Value}
+use Rattle.turn.specs.State.{State}
+use Rattle.turn.specs.View.{cells_of, state_of}
+use Rattle.book.specs.World.{Content, World}
+use Rattle.book.specs.View.{home_of}
+use Rattle.book.specs.declared.world.Home.{Home}
+use Rattle.evats.specs.Show.{Lists, Nouns, noun_lines, vat_line, home_lines_none, home_lines_more, message_lines, board_lines, Shows}
+use Rattle.evats.specs.ShowView.{entries_as, nouns_in, HomeWritten, HomesWritten}
+
+keys_as : {K V W : Type 0} (f : V → W) (es : List (K × V)) → map (λ e. e.0) (entries_as f es) ≡ keys_of es
+keys_as f [] = refl
+keys_as f (e ∷ es) = ap (λ ks. e.0 ∷ ks) (keys_as f es)
+
+one : {A B : Type 0} (f : A → B) (b : Bool) (x : A) (o : Option A) → option_map f (cond b (Some x) o) ≡ cond b (Some (f x)) (option_map f o)
+one f true x o = refl
+one f false x o = refl
+
+lookup_as : {K V W : Type 0} (f : V → W) (test : K → Bool) (es : List (K × V)) → option_map f (lookup test es) ≡ lookup test (entries_as f es)
+lookup_as f test [] = refl
+lookup_as f test (e ∷ es) = one f (test e.0) e.1 (lookup test es) ∙ ap (cond (test e.0) (Some (f e.1))) (lookup_as f test es)
+
+-- the entries of an ordered map are its listing
+pub entries_list : {K V W : Type 0} (cmp : K → K → Ordering) (f : V → W) (m : BTreeMap K V) → IsOrdered cmp m → Lists cmp (λ k. option_map f (get cmp m k)) (entries_as f m.entries)
+entries_list cmp f m h = record { ordered = subst (IsStrictlySortedBy cmp) (sym (keys_as f m.entries)) h; listed = λ k. lookup_as f (λ q. is_eq (cmp k q)) m.entries }
+
+-- a vat's own line and those of its nouns
+pub home_written : (v : VatNo) (h : Home) (m : BTreeMap (List ℕ) Value) (before mid now : List ℕ) → mid ≡ before ++ vat_line v h.name → now ≡ mid ++ noun_lines (nouns_in m)
+    → Nouns (cells_of m) (nouns_in m) → cells_of m ≡ state_of h.state → HomeWritten v h before now
+home_written v h m before mid now e f n s =
+    (nouns_in m, subst (λ (t : State). Nouns t (nouns_in m)) s n, f ∙ ap (λ t. t ++ noun_lines (nouns_in m)) e ∙ append_assoc before (vat_line v h.name) (noun_lines (nouns_in m)))
+
+-- one vat, and then others
+pub homes_more : (v : VatNo) (h : Home) (hs : List (VatNo × Content)) (before mid now : List ℕ) → HomeWritten v h before mid → HomesWritten hs mid now → HomesWritten ((v, home_of h) ∷ hs) before now
+homes_more v h hs before mid now (es, ns, e) (lines, l, f) =
+    (vat_line v h.name ++ (noun_lines es ++ lines), home_lines_more ns l,
+    f ∙ ap (λ t. t ++ lines) e ∙ append_assoc before (vat_line v h.name ++ noun_lines es) lines ∙ ap (λ t. before ++ t) (append_assoc (vat_line v h.name) (noun_lines es) lines))
+
+pub homes_none : (now : List ℕ) → HomesWritten [] now now
+homes_none now = ([], home_lines_none, sym (append-nil now))
+
+-- a listing of the same map
+pub lists_along : {K V : Type 0} (cmp : K → K → Ordering) (f g : K → Option V) (xs : List (K × V)) → ((k : K) → f k ≡ g k) → Lists cmp f xs → Lists cmp g xs
+lists_along cmp f g xs h l = record { ordered = l.ordered; listed = λ k. sym (h k) ∙ l.listed k }
+
+-- the parts of the text, one after another
+pub all_written : (w : World) (hs : List (VatNo × Content)) (gs : List (MsgId × Content)) (ps : List (PromId × Content)) (a b c d : List ℕ)
+    → Lists vat_cmp (λ v. w (key.State v)) hs → Lists message_cmp (λ m. w (key.Msg m)) gs → Lists promise_cmp (λ p. w (key.Board p)) ps
+    → HomesWritten hs a b → c ≡ b ++ message_lines w gs → d ≡ c ++ board_lines ps → (text : List ℕ) × Shows w text × (d ≡ a ++ text)
+all_written w hs gs ps a b c d lh lg lp (lines, l, e) f g =
+    (lines ++ (message_lines w gs ++ board_lines ps),
+    record { homes = hs; homes_listed = lh; messages = gs; messages_listed = lg; board = ps; board_listed = lp; lines = lines; home_lines = l; whole = refl },
+    g ∙ ap (λ t. t ++ board_lines ps) (f ∙ ap (λ t. t ++ message_lines w gs) e) ∙ append_assoc (a ++ lines) (message_lines w gs) (board_lines ps) ∙ append_assoc a lines (message_lines w gs ++ board_lines ps))

@@ -1,0 +1,5 @@
+use Rattle.evats.proofs.Listings.{home_written}
+use Rattle.evats.proofs.show.write_home.Goals as goal
+
+pub returns : goal.returns
+returns c = home_written c.args.number c.args.home.now c.nouns.result.now _ _ _ c.in_ok-write_vat.ensures c.in_ok-write_nouns.ensures.written c.in_ok-write_nouns.ensures.listed c.nouns.ensures
