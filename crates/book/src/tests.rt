@@ -94,7 +94,7 @@ fn a_name_is_taken_once(rt: HostRuntime) -> Result<(), Fail> {
     let mut book = opened(alloc)?;
     let name = word(alloc, "a")?;
     let again = book.birth(&name, empty(alloc)?);
-    assert!(rt; matches!(again, Err(BookFault::NameTaken(taken)) if taken == name));
+    assert!(rt; matches!(&again, Err(BookFault::NameTaken(taken)) if *taken == name));
     assert_eq!(rt;
         book.birth(&word(alloc, "b")?, empty(alloc)?)?,
         EventName(3)
@@ -108,7 +108,7 @@ fn no_vat_is_asked(rt: HostRuntime) -> Result<(), Fail> {
     let mut book = opened(alloc)?;
     let name = word(alloc, "b")?;
     let asked = book.ask(&name, sum(alloc)?);
-    assert!(rt; matches!(asked, Err(BookFault::NoVat(missing)) if missing == name));
+    assert!(rt; matches!(&asked, Err(BookFault::NoVat(missing)) if *missing == name));
     Ok(())
 }
 

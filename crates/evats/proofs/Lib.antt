@@ -3,3 +3,4 @@ pub mod Boundaries
 pub mod Numerals
 pub mod ScriptLemmas
 pub mod Listings
+pub mod Answered

@@ -1,5 +1,5 @@
 // Commands answered one after another.
-ghost use Rattle.std.specs.Prelude.{◌≡◌, ◌++◌, ◌<◌, ℕ, List, Bool, length, OnOk, IfOk, IfErr, Ok, Some, string_bytes};
+ghost use Rattle.std.specs.Prelude.{◌≡◌, ◌<◌, ◌≤◌, ℕ, List, Bool, length, OnOk, IfOk, IfErr, Ok, Some, string_bytes};
 ghost use Rattle.kernele.specs.View.{program_of};
 ghost use Rattle.ereader.specs.Texts.{ReadAs};
 ghost use Rattle.book.specs.Books.{Book as BookModel, blank};
@@ -151,7 +151,8 @@ impl Engine {
 
     /// Answers a command, and gives what is left of the input behind it.
     fn answer<'a>(&mut self, command: Command, input: &'a [u8]) -> Result<&'a [u8], AllocError>
-        ensures { IfOk result (λ rest. HappensAt self.old self.new rest.now (λ b r s d i. FirstReply self.old.budget b (Ok (Some (command_of command))) input.now r s d i)) }
+        ensures shorter { IfOk result (λ rest. length rest.now ≤ length input.now) }
+        ensures reply { IfOk result (λ rest. HappensAt self.old self.new rest.now (λ b r s d i. FirstReply self.old.budget b (Ok (Some (command_of command.entry))) input.now r s d i)) }
     {
         match command {
             Command::Birth { name, lines } => {
@@ -180,11 +181,14 @@ impl Engine {
         says: Result<Option<Command>, LineFault>,
         input: &'a [u8],
     ) -> Result<&'a [u8], AllocError>
-        ensures { IfOk result (λ rest. HappensAt self.old self.new rest.now (λ b r s d i. FirstReply self.old.budget b (reading_of says) input.now r s d i)) }
+        ensures shorter { IfOk result (λ rest. length rest.now ≤ length input.now) }
+        ensures reply { IfOk result (λ rest. HappensAt self.old self.new rest.now (λ b r s d i. FirstReply self.old.budget b (reading_of says.entry) input.now r s d i)) }
     {
         match says {
-            Ok(Some(command)) => self.answer(command, input),
-            Ok(None) => Ok(input),
+            Ok(spelled) => match spelled {
+                Some(command) => self.answer(command, input),
+                None => Ok(input),
+            },
             Err(fault) => {
                 self.written.refuse_line(fault)?;
                 Ok(input)

@@ -1,5 +1,5 @@
 // The script lines of a vat.
-ghost use Rattle.std.specs.Prelude.{◌≡◌, ◌++◌, [], ◌∷◌, IfOk, OnOk, cond, Some, None, string_bytes};
+ghost use Rattle.std.specs.Prelude.{◌≡◌, ◌≤◌, ◌++◌, length, [], ◌∷◌, IfOk, OnOk, cond, Some, None, string_bytes};
 ghost use Rattle.evats.specs.Scripts.{fault_in, or_fault, script_of, behind_lines, unless};
 ghost use Rattle.evats.specs.ScriptView.{fault_at, script_text};
 
@@ -71,6 +71,7 @@ pub fn take_script<'a>(
 ) -> Result<Script<'a>, AllocError>
     ensures text { IfOk result (λ script. script_text script.text ≡ script_of lines input.now) }
     ensures rest { IfOk result (λ script. script.rest.now ≡ behind_lines lines input.now) }
+    ensures shorter { IfOk result (λ script. length script.rest.now ≤ length input.now) }
 {
     let mut rest = input;
     let mut joined = Joined {
