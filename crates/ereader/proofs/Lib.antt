@@ -8,3 +8,8 @@ pub mod Sound
 pub mod Programs
 pub mod Spelled
 pub mod Answered
+pub mod Plainly
+pub mod Retold
+pub mod Spellable
+pub mod Limits
+pub mod Once

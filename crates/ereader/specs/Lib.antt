@@ -6,3 +6,5 @@ pub mod View
 pub mod Written
 pub mod Texts
 pub mod Laws
+pub mod Spelled
+pub mod Returns

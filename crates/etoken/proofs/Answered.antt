@@ -79,6 +79,13 @@ end_stops {n} {r} {s} {ps} e end cuts = ⊎_elim (λ (x : (ps ≡ []) × (r ≡ 
     none None end g = let at = blanks_same end.1 g.blanks in omega (arith, ap length at.1, spells_less g.spells)
     none (Some f) end g = let at = blanks_same end.2.0 g.blanks in not_spoiled g.spells (subst (λ l. Spoils n l f) at.1 end.2.1)
 
+-- a text is cut up to its end in one way
+pub one_cut : {n : ℕ} {a r s : List ℕ} {ps qs : List Piece} {x y : Bool} → Cuts n a ps r → Blanks r x [] → Cuts n a qs s → Blanks s y [] → ps ≡ qs
+one_cut {n} {a} {r} {s} {ps} {qs} {x} {y} p e q f = ⊎_elim
+    (λ (g : Extends n ps r qs s). sym (g.whole ∙ ap (λ l. ps ++ l) (end_stops None (x, e) g.cuts).0 ∙ append-nil ps))
+    (λ (g : Extends n qs s ps r). g.whole ∙ ap (λ l. qs ++ l) (end_stops None (y, f) g.cuts).0 ∙ append-nil qs)
+    (cuts_compare p q)
+
 -- a bad token has a byte
 spoils_some : {n : ℕ} {a : List ℕ} {f : TokenFault} → Spoils n a f → 0 < length a
 spoils_some (bad_character nothing none) = omega arith

@@ -1,0 +1,157 @@
+-- The canonical spelling is cut into the tokens of the canonical spelling.
+use Rattle.std.proofs.Common.{◌≡◌, ℕ, Bool, true, false, List, [], ◌∷◌, ◌++◌, sym, refl, subst, append_assoc, append-nil, codes}
+use Rattle.etoken.specs.declared.token.Token.{Token}
+use Rattle.etoken.specs.declared.token.Token.TheVariants as token
+use Rattle.etoken.specs.declared.token.Reserved.TheVariants as word
+use Rattle.etoken.specs.declared.token.Sign.TheVariants as sign
+use Rattle.etoken.specs.Cutting.{blanks_none}
+use Rattle.kernele.specs.declared.tree.Pattern.{Pattern}
+use Rattle.kernele.specs.declared.tree.Pattern.TheVariants as pattern
+use Rattle.kernele.specs.Tree.{Tree, null_tree, bool_tree, int_tree, text_tree, noun, define, call, list_tree, same_tree, Trees, none, and_then}
+use Rattle.kernele.specs.Spelling as text
+use Rattle.kernele.specs.Spelling.{spelled, spelled_parts, spelled_items, spelling, as_part, as_receiver, bound_name}
+use Rattle.ereader.specs.Written.{Before, led_by, between, bracketed, bound, is_definition, written, written_parts, written_items, program_tokens}
+use Rattle.ereader.specs.Spelled.{CutInto, SpelledBy, BindsName, IsSpellable, AreSpellable}
+use Rattle.ereader.proofs.Plainly.{InLine, in_line_end, cut_in_line, spaced, open_round_at, close_round_at, open_square_at, close_square_at, comma_at, semicolon_at, dot_at, becomes_at, equal_at, Ends, reserved_at, underscore_at, name_at, int_at, text_at}
+use Rattle.ereader.proofs.Spelled as tokens
+
+-- the bytes are cut into these tokens, before whatever does not lengthen the last of them
+abbrev Stands : List ℕ → Before → Type 0
+Stands bs w = (r : List ℕ) (us : List Token) → Ends r → InLine r us → InLine (bs ++ r) (w us)
+
+-- a part is put in brackets where it is a definition
+as_part-is : (t : Tree) (s : List ℕ) → as_part t s ≡ text.bracketed (is_definition t) s
+as_part-is null_tree s = refl
+as_part-is (bool_tree b) s = refl
+as_part-is (int_tree z) s = refl
+as_part-is (text_tree t) s = refl
+as_part-is (noun x) s = refl
+as_part-is (define p e) s = refl
+as_part-is (call t verb ts) s = refl
+as_part-is (list_tree ts) s = refl
+as_part-is (same_tree t u) s = refl
+
+-- a receiver too
+as_receiver-is : (t : Tree) (s : List ℕ) → as_receiver t s ≡ text.bracketed (is_definition t) s
+as_receiver-is null_tree s = refl
+as_receiver-is (bool_tree b) s = refl
+as_receiver-is (int_tree z) s = refl
+as_receiver-is (text_tree t) s = refl
+as_receiver-is (noun x) s = refl
+as_receiver-is (define p e) s = refl
+as_receiver-is (call t verb ts) s = refl
+as_receiver-is (list_tree ts) s = refl
+as_receiver-is (same_tree t u) s = refl
+
+-- what stands, in brackets where they are wanted
+in_brackets : (wanted : Bool) (bs : List ℕ) (w : Before) → Stands bs w → Stands (text.bracketed wanted bs) (bracketed wanted w)
+in_brackets true bs w h = λ r us ends rest.
+    open_round_at (subst (λ l. InLine l (w (token.Sign sign.CloseRound ∷ us))) (sym (append_assoc bs (41 ∷ []) r)) (h (41 ∷ r) (token.Sign sign.CloseRound ∷ us) refl (close_round_at rest)))
+in_brackets false bs w h = h
+
+-- a part of another tree
+part : (t : Tree) → Stands (spelled t) (written t) → Stands (as_part t (spelled t)) (bracketed (is_definition t) (written t))
+part t h = subst (λ l. Stands l (bracketed (is_definition t) (written t))) (sym (as_part-is t (spelled t))) (in_brackets (is_definition t) (spelled t) (written t) h)
+
+-- a receiver
+receiver : (t : Tree) → Stands (spelled t) (written t) → Stands (as_receiver t (spelled t)) (bracketed (is_definition t) (written t))
+receiver t h = subst (λ l. Stands l (bracketed (is_definition t) (written t))) (sym (as_receiver-is t (spelled t))) (in_brackets (is_definition t) (spelled t) (written t) h)
+
+-- two, one behind the other
+in_turn : (cs bs : List ℕ) (v w : Before) → Stands cs v → Stands bs w → ((r : List ℕ) → Ends r → Ends (bs ++ r)) → Stands (cs ++ bs) (λ us. v (w us))
+in_turn cs bs v w g h go = λ r us ends rest.
+    subst (λ l. InLine l (v (w us))) (sym (append_assoc cs bs r)) (g (bs ++ r) (w us) (go r ends) (h r us ends rest))
+
+-- `true` and `false`
+truth_at : (b : Bool) → Stands (spelled (bool_tree b)) (written (bool_tree b))
+truth_at true = λ r us ends rest. reserved_at (codes "true") word.True refl refl refl ends rest
+truth_at false = λ r us ends rest. reserved_at (codes "false") word.False refl refl refl ends rest
+
+-- what a definition binds
+bound_at : (p : Pattern) → BindsName p → {r : List ℕ} {us : List Token} → Ends r → InLine r us → InLine (bound_name p ++ r) (bound p ∷ us)
+bound_at (pattern.Name x) h ends rest = name_at x h ends rest
+bound_at pattern.Ignore h ends rest = underscore_at ends rest
+
+-- the bytes of a definition, with what is behind them
+define-bytes : (x e r : List ℕ) → (codes "def " ++ x ++ codes " := " ++ e) ++ r ≡ codes "def" ++ (32 ∷ (x ++ (32 ∷ 58 ∷ 61 ∷ 32 ∷ (e ++ r))))
+define-bytes x e r = simp append_assoc
+
+-- of a call
+call-bytes : (t verb args r : List ℕ) → (t ++ codes "." ++ (verb ++ codes "(" ++ args ++ codes ")")) ++ r ≡ t ++ (46 ∷ (verb ++ (40 ∷ (args ++ (41 ∷ r)))))
+call-bytes t verb args r = simp append_assoc
+
+-- of a list
+list-bytes : (items r : List ℕ) → (codes "[" ++ items ++ codes "]") ++ r ≡ 91 ∷ (items ++ (93 ∷ r))
+list-bytes items r = simp append_assoc
+
+-- of a comparison
+same-bytes : (t u r : List ℕ) → (codes "(" ++ t ++ codes " == " ++ u ++ codes ")") ++ r ≡ 40 ∷ (t ++ (32 ∷ 61 ∷ 61 ∷ 32 ∷ (u ++ (41 ∷ r))))
+same-bytes t u r = simp append_assoc
+
+-- parts, each behind a comma
+abbrev led : Trees → List ℕ
+led ts = text.led_by (codes ", ") (spelled_parts ts)
+
+-- a comma lengthens no word
+led-ends : (ts : Trees) (r : List ℕ) → Ends r → Ends (led ts ++ r)
+led-ends none r ends = ends
+led-ends (and_then t ts) r ends = refl
+
+-- the parts stand: each behind a comma, and with commas between them
+abbrev StandAll : Trees → Type 0
+StandAll ts = Stands (led ts) (led_by (token.Sign sign.Comma) (written_parts ts)) × Stands (text.joined (codes ", ") (spelled_parts ts)) (between (token.Sign sign.Comma) (written_parts ts))
+
+mutual
+  -- each tree stands
+  stands : (t : Tree) → IsSpellable t → Stands (spelled t) (written t)
+  stands null_tree h = λ r us ends rest. reserved_at (codes "null") word.Null refl refl refl ends rest
+  stands (bool_tree b) h = truth_at b
+  stands (int_tree z) h = λ r us ends rest. int_at z h ends rest
+  stands (text_tree s) h = λ r us ends rest. text_at s rest
+  stands (noun x) h = λ r us ends rest. name_at x h ends rest
+  stands (define p e) h = λ r us ends rest.
+      subst (λ l. InLine l (written (define p e) us)) (sym (define-bytes (bound_name p) (as_part e (spelled e)) r))
+      (reserved_at (codes "def") word.Def refl refl refl refl (spaced (bound_at p h.0 refl (spaced (becomes_at (spaced (part e (stands e h.1) r us ends rest)))))))
+  stands (call t verb ts) h = λ r us ends rest.
+      subst (λ l. InLine l (written (call t verb ts) us)) (sym (call-bytes (as_receiver t (spelled t)) verb (text.joined (codes ", ") (spelled_parts ts)) r))
+      (receiver t (stands t h.0) _ _ refl (dot_at (name_at verb h.1 refl (open_round_at ((stand_all ts h.2).1 (41 ∷ r) _ refl (close_round_at rest))))))
+  stands (list_tree ts) h = λ r us ends rest.
+      subst (λ l. InLine l (written (list_tree ts) us)) (sym (list-bytes (text.joined (codes ", ") (spelled_parts ts)) r))
+      (open_square_at ((stand_all ts h).1 (93 ∷ r) _ refl (close_square_at rest)))
+  stands (same_tree t u) h = λ r us ends rest.
+      subst (λ l. InLine l (written (same_tree t u) us)) (sym (same-bytes (as_part t (spelled t)) (as_part u (spelled u)) r))
+      (open_round_at (part t (stands t h.0) _ _ refl (spaced (equal_at (spaced (part u (stands u h.1) (41 ∷ r) _ refl (close_round_at rest)))))))
+
+  -- so do all the parts
+  stand_all : (ts : Trees) → AreSpellable ts → StandAll ts
+  stand_all none h = (λ r us ends rest. rest, λ r us ends rest. rest)
+  stand_all (and_then t ts) h =
+      let whole = in_turn (as_part t (spelled t)) (led ts) (bracketed (is_definition t) (written t)) (led_by (token.Sign sign.Comma) (written_parts ts)) (part t (stands t h.0)) (stand_all ts h.1).0 (led-ends ts) in
+      (λ r us ends rest. comma_at (spaced (whole r us ends rest)), whole)
+
+-- items, each behind a semicolon
+abbrev led_items : Trees → List ℕ
+led_items ts = text.led_by (codes "; ") (spelled_items ts)
+
+-- a semicolon lengthens no word
+led_items-ends : (ts : Trees) (r : List ℕ) → Ends r → Ends (led_items ts ++ r)
+led_items-ends none r ends = ends
+led_items-ends (and_then t ts) r ends = refl
+
+-- further items of a block
+more_items : (ts : Trees) → AreSpellable ts → Stands (led_items ts) (led_by (token.Sign sign.Semicolon) (written_items ts))
+more_items none h = λ r us ends rest. rest
+more_items (and_then t ts) h = λ r us ends rest. semicolon_at (spaced (in_turn (spelled t) (led_items ts) (written t) (led_by (token.Sign sign.Semicolon) (written_items ts)) (stands t h.0) (more_items ts h.1) (led_items-ends ts) r us ends rest))
+
+-- the items of a block
+items : (ts : Trees) → AreSpellable ts → Stands (spelling ts) (between (token.Sign sign.Semicolon) (written_items ts))
+items none h = λ r us ends rest. rest
+items (and_then t ts) h = in_turn (spelled t) (led_items ts) (written t) (led_by (token.Sign sign.Semicolon) (written_items ts)) (stands t h.0) (more_items ts h.1) (led_items-ends ts)
+
+-- the canonical spelling is cut into the tokens of the canonical spelling
+pub cuts_itself : (ts : Trees) → AreSpellable ts → CutInto (spelling ts) (program_tokens ts)
+cuts_itself ts h = cut_in_line (subst (λ l. InLine l (program_tokens ts)) (append-nil (spelling ts)) (items ts h [] [] refl (in_line_end (blanks_none refl))))
+
+-- the canonical spelling of a program spells that program
+pub spells_itself : (ts : Trees) → AreSpellable ts → SpelledBy (spelling ts) ts
+spells_itself ts h = (program_tokens ts, cuts_itself ts h, tokens.spelled ts)

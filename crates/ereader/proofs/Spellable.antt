@@ -1,0 +1,212 @@
+-- What a text spells can be spelled.
+use Rattle.std.proofs.Common.{◌≡◌, ℕ, Bool, true, false, not, cond, List, [], ◌∷◌, ◌++◌, sym, refl, ap, ◌∙◌, None, is_none, codes}
+use Rattle.std.specs.Prelude.{◌&&◌}
+use Rattle.std.specs.Str.{bytes_eq}
+use Rattle.std.proofs.lemmas.Bool.{false≢true, false_from_ne_true, or_parts}
+use Rattle.std.specs.Char.{is_ascii_digit}
+use Rattle.std.proofs.lemmas.List.Sums.{list_all-from_AllPass}
+use Rattle.std.proofs.lemmas.Slice.Eq.{bytes_eq-Decides}
+use Rattle.etoken.specs.declared.token.Token.{Token}
+use Rattle.etoken.specs.declared.token.Token.TheVariants as token
+use Rattle.etoken.specs.declared.token.Placed.{Placed}
+use Rattle.etoken.specs.declared.breaks.Bracket.{Bracket}
+use Rattle.etoken.specs.Bytes.{is_letter, is_word_byte, begins_with}
+use Rattle.etoken.specs.Table.{reserved_of}
+use Rattle.etoken.specs.Spelling.{IsWord, Spells, spells_int, spells_text, spells_reserved, spells_underscore, spells_name, spells_sign}
+use Rattle.etoken.specs.Cutting.{Piece, piece_at, Cuts, cuts_none, cuts_more}
+use Rattle.etoken.specs.Breaks.{parts, semicolon_at, with_breaks_in, behind, may_end}
+use Rattle.kernele.specs.declared.tree.Pattern.{Pattern}
+use Rattle.kernele.specs.Tree.{Tree, call, Trees, none, and_then}
+use Rattle.kernele.specs.Spelling.{spelling}
+use Rattle.ereader.specs.declared.operator.Operator.{Operator}
+use Rattle.ereader.specs.declared.operator.Operator.TheVariants as operator
+use Rattle.ereader.specs.declared.operator.Prefix.{Prefix}
+use Rattle.ereader.specs.declared.operator.Prefix.TheVariants as prefix
+use Rattle.ereader.specs.Grammar.{joined, prefix_verb, snoc, Expr, expr_define, expr_disjunction, Pat, pat_name, pat_ignore, Disjunction, disjunction_comparison, Comparison, comparison_sum, comparison_two, Sum, sum_product, sum_more, Product, product_unary, product_more, Unary, unary_postfix, unary_prefix, Postfix, postfix_primary, postfix_method, postfix_run, postfix_get, Primary, primary_int, primary_text, primary_true, primary_false, primary_null, primary_name, primary_list, primary_group, Args, args_none, args_some, Items, items_one, items_and, Semicolons, semicolons_none, semicolons_more, Sequence, sequence_one, sequence_and, Block, block_empty, block_items}
+use Rattle.ereader.specs.View.{plain}
+use Rattle.ereader.specs.Spelled.{CutInto, cut_into, SpelledBy, IsName, HasLiteral, BindsName, IsSpellable, AreSpellable}
+use Rattle.ereader.proofs.Retold.{spells_itself}
+
+-- a token that some text spells
+abbrev IsWritable : Token → Type 0
+IsWritable (token.Int z) = HasLiteral z
+IsWritable (token.Name x) = IsName x
+IsWritable _ = Unit {0}
+
+-- all of them are such
+abbrev AreWritable : List Token → Type 0
+AreWritable [] = Unit {0}
+AreWritable (t ∷ ts) = IsWritable t × AreWritable ts
+
+-- a word that is not reserved and no `_` is a name
+name_is : {a w r : List ℕ} → IsWord a w r → reserved_of w ≡ None → (w ≡ codes "_" → ⊥) → IsName w
+name_is {a} {w} {r} is free other = λ i. letter i && list_all-from_AllPass is_word_byte w is.longest.passes i && not (underscore i) && is_none (free i)
+  where
+    begins : (w : List ℕ) → begins_with is_letter (w ++ r) ≡ true → begins_with is_word_byte r ≡ false → begins_with is_letter w ≡ true
+    begins [] h stops = absurd (false≢true (letter_stops r h stops))
+      where
+        letter_stops : (r : List ℕ) → begins_with is_letter r ≡ true → begins_with is_word_byte r ≡ false → false ≡ true
+        letter_stops [] h stops = h
+        letter_stops (x ∷ r) h stops = sym (or_parts (is_letter x) (is_ascii_digit x) stops).0 ∙ h
+    begins (x ∷ w) h stops = h
+
+    letter : begins_with is_letter w ≡ true
+    letter = begins w (sym (ap (begins_with is_letter) is.longest.whole) ∙ is.letter) is.longest.stops
+
+    underscore : bytes_eq w (codes "_") ≡ false
+    underscore = false_from_ne_true (bytes_eq w (codes "_")) (λ h. other ((bytes_eq-Decides w (codes "_")).0 h))
+
+-- what a text spells
+spells_writable : {a r : List ℕ} {t : Token} → Spells a t r → IsWritable t
+spells_writable (spells_int digits small) = small
+spells_writable (spells_text quoted) = tt
+spells_writable (spells_reserved is known) = tt
+spells_writable (spells_underscore is) = tt
+spells_writable (spells_name is free other) = name_is is free other
+spells_writable (spells_sign found) = tt
+
+-- one more token, and before it the semicolon that a line break gives
+one_more : (b : Bool) (s p : Placed) (more : List Placed) → IsWritable s.token → IsWritable p.token → AreWritable (plain more) → AreWritable (plain ((cond b (s ∷ []) [] ++ p ∷ []) ++ more))
+one_more true s p more g h k = (g, (h, k))
+one_more false s p more g h k = (h, k)
+
+-- the tokens of a cut
+cuts_writable : {n : ℕ} {a r : List ℕ} {ps : List Piece} (open_ones : List Bracket) (ended : Bool) → Cuts n a ps r → AreWritable (plain (with_breaks_in open_ones ended ps))
+cuts_writable open_ones ended cuts_none = tt
+cuts_writable open_ones ended (cuts_more {n = n} {b = b} {broken = broken} {t = t} {ps = ps} blanks spells cuts) =
+    let p = piece_at n broken t b in
+    one_more (parts open_ones ended p) (semicolon_at p.placed) p.placed (with_breaks_in (behind t open_ones) (may_end t) ps) tt (spells_writable spells) (cuts_writable (behind t open_ones) (may_end t) cuts)
+
+-- the tokens of a text
+cut_writable : {text : List ℕ} {ts : List Token} → CutInto text ts → AreWritable ts
+cut_writable (cut_into cuts ended) = cuts_writable [] false cuts
+
+-- one more at the end
+snoc_spellable : (ts : Trees) (t : Tree) → AreSpellable ts → IsSpellable t → AreSpellable (snoc ts t)
+snoc_spellable none t h k = (k, tt)
+snoc_spellable (and_then u us) t h k = (h.0, snoc_spellable us t h.1 k)
+
+-- the verbs of operators are names
+joined_spellable : (o : Operator) (t u : Tree) → IsSpellable t → IsSpellable u → IsSpellable (joined o t u)
+joined_spellable operator.Add t u h k = (h, refl, (k, tt))
+joined_spellable operator.Subtract t u h k = (h, refl, (k, tt))
+joined_spellable operator.Multiply t u h k = (h, refl, (k, tt))
+joined_spellable operator.FloorDivide t u h k = (h, refl, (k, tt))
+joined_spellable operator.LessThan t u h k = (h, refl, (k, tt))
+joined_spellable operator.AtMost t u h k = (h, refl, (k, tt))
+joined_spellable operator.MoreThan t u h k = (h, refl, (k, tt))
+joined_spellable operator.AtLeast t u h k = (h, refl, (k, tt))
+joined_spellable operator.Same t u h k = (h, k)
+joined_spellable operator.Differ t u h k = ((h, k), refl, tt)
+
+-- so are those of operators before a tree
+prefix_spellable : (o : Prefix) (t : Tree) → IsSpellable t → IsSpellable (call t (prefix_verb o) none)
+prefix_spellable prefix.Not t h = (h, refl, tt)
+prefix_spellable prefix.Negate t h = (h, refl, tt)
+
+-- what a definition binds
+pat_spellable : {a r : List Token} {p : Pattern} → Pat a p r → AreWritable a → BindsName p × AreWritable r
+pat_spellable pat_name h = h
+pat_spellable pat_ignore h = h
+
+-- what the grammar gives to such tokens can be spelled, and the tokens behind it are such
+abbrev Keeps : List Token → Type 0 → List Token → Type 0
+Keeps a P r = AreWritable a → P × AreWritable r
+
+mutual
+  expr : {a r : List Token} {t : Tree} → Expr a t r → Keeps a (IsSpellable t) r
+  expr (expr_define p x) = λ h.
+      let q = pat_spellable p h.1 in
+      let y = disjunction x q.1.1 in
+      ((q.0, y.0), y.1)
+  expr (expr_disjunction x) = disjunction x
+
+  disjunction : {a r : List Token} {t : Tree} → Disjunction a t r → Keeps a (IsSpellable t) r
+  disjunction (disjunction_comparison x) = comparison x
+
+  comparison : {a r : List Token} {t : Tree} → Comparison a t r → Keeps a (IsSpellable t) r
+  comparison (comparison_sum x) = sum x
+  comparison (comparison_two {t = t} {u = u} {o = o} x e y) = λ h.
+      let p = sum x h in
+      let q = sum y p.1.1 in
+      (joined_spellable o t u p.0 q.0, q.1)
+
+  sum : {a r : List Token} {t : Tree} → Sum a t r → Keeps a (IsSpellable t) r
+  sum (sum_product x) = product x
+  sum (sum_more {t = t} {u = u} {o = o} x e y) = λ h.
+      let p = sum x h in
+      let q = product y p.1.1 in
+      (joined_spellable o t u p.0 q.0, q.1)
+
+  product : {a r : List Token} {t : Tree} → Product a t r → Keeps a (IsSpellable t) r
+  product (product_unary x) = unary x
+  product (product_more {t = t} {u = u} {o = o} x e y) = λ h.
+      let p = product x h in
+      let q = unary y p.1.1 in
+      (joined_spellable o t u p.0 q.0, q.1)
+
+  unary : {a r : List Token} {t : Tree} → Unary a t r → Keeps a (IsSpellable t) r
+  unary (unary_postfix x) = postfix x
+  unary (unary_prefix {t = t} {o = o} e x) = λ h. let p = postfix x h.1 in (prefix_spellable o t p.0, p.1)
+
+  postfix : {a r : List Token} {t : Tree} → Postfix a t r → Keeps a (IsSpellable t) r
+  postfix (postfix_primary x) = primary x
+  postfix (postfix_method x y) = λ h.
+      let p = postfix x h in
+      let q = args y p.1.1.1.1 in
+      ((p.0, p.1.1.0, q.0), q.1.1)
+  postfix (postfix_run x y) = λ h.
+      let p = postfix x h in
+      let q = args y p.1.1 in
+      ((p.0, refl, q.0), q.1.1)
+  postfix (postfix_get x y) = λ h.
+      let p = postfix x h in
+      let q = args y p.1.1 in
+      ((p.0, refl, q.0), q.1.1)
+
+  primary : {a r : List Token} {t : Tree} → Primary a t r → Keeps a (IsSpellable t) r
+  primary primary_int = λ h. h
+  primary primary_text = λ h. h
+  primary primary_true = λ h. h
+  primary primary_false = λ h. h
+  primary primary_null = λ h. h
+  primary primary_name = λ h. h
+  primary (primary_list x) = λ h. let p = args x h.1 in (p.0, p.1.1)
+  primary (primary_group x) = λ h. let p = expr x h.1 in (p.0, p.1.1)
+
+  args : {a r : List Token} {ts : Trees} → Args a ts r → Keeps a (AreSpellable ts) r
+  args args_none = λ h. (tt, h)
+  args (args_some x) = items x
+
+  items : {a r : List Token} {ts : Trees} → Items a ts r → Keeps a (AreSpellable ts) r
+  items (items_one x) = λ h. let p = disjunction x h in ((p.0, tt), p.1)
+  items (items_and {t = t} {ts = ts} x y) = λ h.
+      let p = items x h in
+      let q = disjunction y p.1.1 in
+      (snoc_spellable ts t p.0 q.0, q.1)
+
+-- behind semicolons
+semicolons : {a r : List Token} → Semicolons a r → AreWritable a → AreWritable r
+semicolons semicolons_none = λ h. h
+semicolons (semicolons_more x) = λ h. semicolons x h.1
+
+-- the items of a block
+sequence : {a r : List Token} {ts : Trees} → Sequence a ts r → Keeps a (AreSpellable ts) r
+sequence (sequence_one x) = λ h. let p = expr x h in ((p.0, tt), p.1)
+sequence (sequence_and {t = t} {ts = ts} x s y) = λ h.
+    let p = sequence x h in
+    let q = expr y (semicolons s p.1.1) in
+    (snoc_spellable ts t p.0 q.0, q.1)
+
+-- a program
+block : {a r : List Token} {ts : Trees} → Block a ts r → AreWritable a → AreSpellable ts
+block (block_empty s) h = tt
+block (block_items s x e) h = (sequence x (semicolons s h)).0
+
+-- a program that a text spells can be spelled
+pub spellable : (text : List ℕ) (ts : Trees) → SpelledBy text ts → AreSpellable ts
+spellable text ts (tokens, cut, program) = block program (cut_writable cut)
+
+-- the canonical spelling of a program that a text spells spells that program
+pub reads_back : (text : List ℕ) (ts : Trees) → SpelledBy text ts → SpelledBy (spelling ts) ts
+reads_back text ts h = spells_itself ts (spellable text ts h)
