@@ -5,7 +5,6 @@ use Rattle.kernele.specs.Tree.{Trees}
 use Rattle.kernele.specs.Scope as scope
 use Rattle.kernele.specs.declared.check.CheckFault.{CheckFault}
 use Rattle.kernele.specs.declared.check.CheckFault.TheVariants as check_fault
-use Rattle.kernele.specs.declared.tree.Program.{Program}
 use Rattle.ereader.specs.Texts.{ReadAs}
 use Rattle.ereader.specs.Texts as texts
 use Rattle.ereader.specs.Shown as reading
@@ -28,7 +27,7 @@ use Rattle.evats.specs.Commands as commands
 use Rattle.evats.specs.Commands.{Spelled, spelled_by, fault_text}
 use Rattle.evats.specs.Scripts.{script_of, behind_lines, fault_of}
 use Rattle.evats.specs.declared.command.LineFault.{LineFault}
-use Rattle.evats.specs.Replies.{refused, refusal_text, Answers, ask_without_memory, asked_without_memory, asked_unread, ask_refused, turn_without_memory, turn_refused, AnswersBirth, birth_without_memory, script_without_memory, script_unread, birth_refused, birth_accepted, ask_accepted, turn_accepted, queued_text, turned_text, FirstReply, born, answered, skipped, no_command, script_refused, said, said_by, Replies, first_and_more, no_more}
+use Rattle.evats.specs.Replies.{refused, refusal_text, Answers, ask_without_memory, asked_without_memory, asked_unread, ask_refused, turn_without_memory, turn_refused, AnswersBirth, birth_without_memory, script_without_memory, script_unread, birth_refused, birth_accepted, ask_accepted, turn_accepted, queued_text, turned_text, FirstReply, born, answered, skipped, script_refused, said, said_by, Replies, first_and_more, no_more}
 use Rattle.evats.specs.Lines.{line_of, behind_line}
 
 -- what holds where a call succeeded leads to more

@@ -1,5 +1,5 @@
 -- A map's entries, as lists of contents with their keys.
-use Rattle.std.proofs.Common.{◌≡◌, ℕ, ◌++◌, append_assoc, append-nil, List, [], ◌∷◌, map, Bool, true, false, cond, Option, Some, None, refl, ap, ◌∙◌, sym, subst}
+use Rattle.std.proofs.Common.{◌≡◌, ℕ, ◌++◌, append_assoc, append-nil, List, [], ◌∷◌, map, Bool, true, false, cond, Option, Some, refl, ap, ◌∙◌, sym, subst}
 use Rattle.std.specs.Option.{option_map}
 use Rattle.std.specs.Ordering.{is_eq}
 use Rattle.std.specs.declared.cmp.Ordering.{Ordering}
@@ -44,9 +44,11 @@ home_written v h m before mid now e f n s =
 
 -- one vat, and then others
 pub homes_more : (v : VatNo) (h : Home) (hs : List (VatNo × Content)) (before mid now : List ℕ) → HomeWritten v h before mid → HomesWritten hs mid now → HomesWritten ((v, home_of h) ∷ hs) before now
-homes_more v h hs before mid now (es, ns, e) (lines, l, f) =
-    (vat_line v h.name ++ (noun_lines es ++ lines), home_lines_more ns l,
-    f ∙ ap (λ t. t ++ lines) e ∙ append_assoc before (vat_line v h.name ++ noun_lines es) lines ∙ ap (λ t. before ++ t) (append_assoc (vat_line v h.name) (noun_lines es) lines))
+homes_more v h hs before mid now (es, ns, e) (lines, l, f) = (
+  vat_line v h.name ++ (noun_lines es ++ lines),
+  home_lines_more ns l,
+  f ∙ ap (λ t. t ++ lines) e ∙ append_assoc before (vat_line v h.name ++ noun_lines es) lines ∙ ap (λ t. before ++ t) (append_assoc (vat_line v h.name) (noun_lines es) lines),
+)
 
 pub homes_none : (now : List ℕ) → HomesWritten [] now now
 homes_none now = ([], home_lines_none, sym (append-nil now))
@@ -59,7 +61,8 @@ lists_along cmp f g xs h l = record { ordered = l.ordered; listed = λ k. sym (h
 pub all_written : (w : World) (hs : List (VatNo × Content)) (gs : List (MsgId × Content)) (ps : List (PromId × Content)) (a b c d : List ℕ)
     → Lists vat_cmp (λ v. w (key.State v)) hs → Lists message_cmp (λ m. w (key.Msg m)) gs → Lists promise_cmp (λ p. w (key.Board p)) ps
     → HomesWritten hs a b → c ≡ b ++ message_lines w gs → d ≡ c ++ board_lines ps → (text : List ℕ) × Shows w text × (d ≡ a ++ text)
-all_written w hs gs ps a b c d lh lg lp (lines, l, e) f g =
-    (lines ++ (message_lines w gs ++ board_lines ps),
-    record { homes = hs; homes_listed = lh; messages = gs; messages_listed = lg; board = ps; board_listed = lp; lines = lines; home_lines = l; whole = refl },
-    g ∙ ap (λ t. t ++ board_lines ps) (f ∙ ap (λ t. t ++ message_lines w gs) e) ∙ append_assoc (a ++ lines) (message_lines w gs) (board_lines ps) ∙ append_assoc a lines (message_lines w gs ++ board_lines ps))
+all_written w hs gs ps a b c d lh lg lp (lines, l, e) f g = (
+  lines ++ (message_lines w gs ++ board_lines ps),
+  record { homes = hs; homes_listed = lh; messages = gs; messages_listed = lg; board = ps; board_listed = lp; lines = lines; home_lines = l; whole = refl },
+  g ∙ ap (λ t. t ++ board_lines ps) (f ∙ ap (λ t. t ++ message_lines w gs) e) ∙ append_assoc (a ++ lines) (message_lines w gs) (board_lines ps) ∙ append_assoc a lines (message_lines w gs ++ board_lines ps),
+)

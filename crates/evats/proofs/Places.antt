@@ -1,5 +1,5 @@
 -- A search by `position` that falls back on the length gives the first place, or the length.
-use Rattle.std.proofs.Common.{◌≡◌, ℕ, ◌<◌, ◌≤◌, List, length, Bool, true, false, not, cond, Some, None, refl, ◌∙◌, sym, ap, arith, nat_lt}
+use Rattle.std.proofs.Common.{◌≡◌, ℕ, ◌≤◌, List, length, Bool, true, false, not, cond, Some, None, refl, arith, nat_lt}
 use Rattle.std.specs.Prelude.{unwrap_or}
 use Rattle.std.specs.List.{position, position_or_len}
 use Rattle.std.proofs.lemmas.List.Sums.{prefix_len-le-length}

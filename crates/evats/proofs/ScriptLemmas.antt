@@ -1,12 +1,12 @@
 -- On the lines of a script.
-use Rattle.std.proofs.Common.{◌≡◌, ℕ, zero, suc, ◌+◌, ◌-◌, List, [], ◌∷◌, ◌++◌, length, map, Bool, true, false, ◌||◌, cond, Option, Some, None, Result, Ok, Err, refl, sym, ap, ◌∙◌, subst, arith, append_assoc, append-nil, length-append, ◌<◌, nat_eq, inl, inr, ◌⊎◌}
+use Rattle.std.proofs.Common.{◌≡◌, ℕ, zero, suc, ◌+◌, ◌-◌, List, [], ◌∷◌, ◌++◌, length, map, Bool, true, false, ◌||◌, cond, Option, Some, None, Result, Ok, Err, refl, sym, ap, ◌∙◌, arith, append_assoc, length-append, ◌<◌, nat_eq}
 use Rattle.std.specs.Prelude.{IfOk}
 use Rattle.std.specs.Borrow.{Bor}
 use Rattle.evats.specs.ScriptView.{fault_at}
 use Rattle.std.specs.List.{list_any, join_with_byte}
 use Rattle.std.specs.Str.{IsUtf8, is_utf8}
 use Rattle.std.proofs.lemmas.Str.{IsUtf8-from_is_utf8, is_utf8-from_IsUtf8}
-use Rattle.evats.specs.Lines.{line_of, behind_line, is_long}
+use Rattle.evats.specs.Lines.{line_of, behind_line}
 use Rattle.evats.specs.Commands.{is_empty}
 use Rattle.evats.specs.Scripts.{fault_in, fault_of, starts, behind_lines, or_fault, first_fault, unless, script_of}
 use Rattle.evats.specs.declared.command.LineFault.{LineFault}
@@ -108,13 +108,13 @@ pub taken_more : (n : ℕ) (input : List ℕ) (k : ℕ) (rest : List ℕ) (fault
     → (fault_of rest ≡ None → more ≡ text ++ (cond (nat_eq k 0) [] (10 ∷ []) ++ line_of rest))
     → Taken n input (k + 1) (behind_line rest) later more
 taken_more n input k rest fault later text more t h e f m = record {
-    before = t.before ++ rest ∷ [];
-    count = omega (arith, t.count, length-append t.before (rest ∷ []));
-    all = t.all ∙ ap (λ j. t.before ++ starts j rest) (one_fewer n k h) ∙ sym (append_assoc t.before (rest ∷ []) (starts (n - (k + 1)) (behind_line rest)));
-    left = t.left ∙ ap (λ j. behind_lines j rest) (one_fewer n k h);
-    none_empty = list_any-append is_empty t.before (rest ∷ []) ∙ ap (λ b. b || (is_empty rest || false)) t.none_empty ∙ ap (λ b. b || false) e;
-    faulty = first_fault-append t.before (rest ∷ []) ∙ ap (λ a. or_fault a (or_fault (fault_of rest) None)) t.faulty ∙ ap (or_fault fault) (or_none (fault_of rest)) ∙ sym f;
-    joined = λ g. let both = both_none fault (fault_of rest) (sym f ∙ g) in more_text t.before rest text more k (nat_eq k 0) refl t.count (t.joined both.0) (m both.1);
+  before = t.before ++ rest ∷ [];
+  count = omega (arith, t.count, length-append t.before (rest ∷ []));
+  all = t.all ∙ ap (λ j. t.before ++ starts j rest) (one_fewer n k h) ∙ sym (append_assoc t.before (rest ∷ []) (starts (n - (k + 1)) (behind_line rest)));
+  left = t.left ∙ ap (λ j. behind_lines j rest) (one_fewer n k h);
+  none_empty = list_any-append is_empty t.before (rest ∷ []) ∙ ap (λ b. b || (is_empty rest || false)) t.none_empty ∙ ap (λ b. b || false) e;
+  faulty = first_fault-append t.before (rest ∷ []) ∙ ap (λ a. or_fault a (or_fault (fault_of rest) None)) t.faulty ∙ ap (or_fault fault) (or_none (fault_of rest)) ∙ sym f;
+  joined = λ g. let both = both_none fault (fault_of rest) (sym f ∙ g) in more_text t.before rest text more k (nat_eq k 0) refl t.count (t.joined both.0) (m both.1);
 }
 
 or_true : (a : Bool) → a || true ≡ true
@@ -125,8 +125,8 @@ or_true false = refl
 pub truncated : (n : ℕ) (input : List ℕ) (k : ℕ) (rest : List ℕ) (fault : Option LineFault) (text : List ℕ) → Taken n input k rest fault text → k < n → is_empty rest ≡ true → script_of n input ≡ Err Truncated
 truncated n input k rest fault text t h e =
     let a : list_any is_empty (starts n input) ≡ true
-        = ap (list_any is_empty) (t.all ∙ ap (λ j. t.before ++ starts j rest) (one_fewer n k h)) ∙ list_any-append is_empty t.before (rest ∷ starts (n - (k + 1)) (behind_line rest))
-        ∙ ap (λ b. list_any is_empty t.before || (b || list_any is_empty (starts (n - (k + 1)) (behind_line rest)))) e ∙ or_true (list_any is_empty t.before) in
+    = ap (list_any is_empty) (t.all ∙ ap (λ j. t.before ++ starts j rest) (one_fewer n k h)) ∙ list_any-append is_empty t.before (rest ∷ starts (n - (k + 1)) (behind_line rest))
+    ∙ ap (λ b. list_any is_empty t.before || (b || list_any is_empty (starts (n - (k + 1)) (behind_line rest)))) e ∙ or_true (list_any is_empty t.before) in
     ap (λ b. cond b (Err Truncated) (unless (first_fault (starts n input)) (join_with_byte 10 (map line_of (starts n input))))) a
 
 -- nothing is behind the end of the input

@@ -1,5 +1,5 @@
 -- The replies to a text of commands.
-use Rattle.std.specs.Prelude.{◌≡◌, ℕ, ◌+◌, ◌<◌, ◌≤◌, List, [], ◌∷◌, ◌++◌, length, Bool, true, false, ◌||◌, Option, Some, None, Result, Ok, Err, codes}
+use Rattle.std.specs.Prelude.{◌≡◌, ℕ, ◌<◌, List, [], ◌∷◌, ◌++◌, length, Bool, true, false, ◌||◌, Option, Some, None, Result, Ok, Err, codes}
 use Rattle.ids.specs.Names.{event_text, message_text}
 use Rattle.ids.specs.Quoted.{quoted}
 use Rattle.ids.specs.declared.names.EventName.{EventName}
@@ -14,7 +14,7 @@ use Rattle.ereader.specs.Shown as reading
 use Rattle.ereader.specs.declared.fault.ReadFault.{ReadFault}
 use Rattle.book.specs.Events.{Refusal, no_vat, name_taken, no_message, not_there, before, full, unchecked, birth_refusal, ask_refusal, turn_refusal, first_message, birth, ask, turn}
 use Rattle.book.specs.Books.{Book, Accepts}
-use Rattle.evats.specs.Lines.{line_of, behind_line, is_long}
+use Rattle.evats.specs.Lines.{line_of, behind_line}
 use Rattle.evats.specs.Commands as command
 use Rattle.evats.specs.Commands.{Spelled, spelled_by, fault_text}
 use Rattle.evats.specs.Scripts.{fault_of, script_of, behind_lines}

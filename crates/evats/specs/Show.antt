@@ -15,7 +15,7 @@ use Rattle.kernele.specs.Tree.{Name}
 use Rattle.values.specs.Shown.{shown}
 use Rattle.turn.specs.State as state
 use Rattle.turn.specs.State.{State, top, bound, fixed}
-use Rattle.book.specs.World.{Place, at_vat, done, Content, vat, home, message, published, World}
+use Rattle.book.specs.World.{Place, at_vat, done, Content, home, message, published, World}
 use Rattle.book.specs.Events.{home_of}
 
 -- xs has the contents of a finite map with their keys, in the order of the keys

@@ -2,25 +2,25 @@
 #![tactic(auto)]
 
 mod command;
-mod engine;
 mod ended;
+mod engine;
 mod lines;
 mod numbers;
 mod options;
 mod reply;
 mod script;
 mod show;
+#[cfg(test)]
+mod tests;
 mod words;
 
 pub use ended::{Ended, status};
 pub use engine::{Fault, Limits, Summary, replies};
-
 use options::{Options, Parsed, parse};
-use std::fs;
-use std::io;
 use std::io::{Read, Write};
 use std::process::ExitCode;
 use std::rt::Runtime;
+use std::{fs, io};
 
 /// What is read: a file, or standard input.
 fn input<R: Runtime + AllocGlobal>(rt: &R, file: Option<&str>) -> Result<Vec<u8>, Ended> {
@@ -73,7 +73,10 @@ fn complain(rt: &impl Eprint, ended: &Ended, file: Option<&str>) -> io::Result<(
     }
 }
 
-fn main(rt: HostRuntime) -> io::Result<ExitCode> {
-    let ended = run(&rt)?;
-    Ok(ExitCode::from(status(&ended)))
+fn main(rt: HostRuntime) -> ExitCode {
+    match run(&rt) {
+        Ok(ended) => ExitCode::from(status(&ended)),
+        // Standard error is closed, or memory ran out before the first command was read.
+        Err(_) => ExitCode::from(2),
+    }
 }

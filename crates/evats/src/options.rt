@@ -63,7 +63,11 @@ pub fn parse<'a, R: Runtime + AllocGlobal>(rt: &R, words: &'a [String]) -> io::R
         })),
         Err(error) => {
             error.print(rt)?;
-            let ended = if error.exit_code() == 0 { Ended::Help } else { Ended::Usage };
+            let ended = if error.exit_code() == 0 {
+                Ended::Help
+            } else {
+                Ended::Usage
+            };
             Ok(Parsed::Stop(ended))
         }
     }

@@ -64,11 +64,7 @@ impl Joined {
 }
 
 /// Takes so many lines, whatever is wrong with them, and joins them by line feeds.
-pub fn take_script<'a>(
-    alloc: Global,
-    input: &'a [u8],
-    lines: u32,
-) -> Result<Script<'a>, AllocError>
+pub fn take_script<'a>(alloc: Global, input: &'a [u8], lines: u32) -> Result<Script<'a>, AllocError>
     ensures text { IfOk result (λ script. script_text script.text ≡ script_of lines input.now) }
     ensures rest { IfOk result (λ script. script.rest.now ≡ behind_lines lines input.now) }
     ensures shorter { IfOk result (λ script. length script.rest.now ≤ length input.now) }

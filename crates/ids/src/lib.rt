@@ -3,7 +3,6 @@
 
 pub mod names;
 pub mod quote;
-pub mod text;
-
 #[cfg(test)]
 mod tests;
+pub mod text;

@@ -4,8 +4,8 @@ ghost use Rattle.kernele.specs.Tree.{bool_tree, define, list_tree};
 ghost use Rattle.kernele.specs.View.{tree_of, trees_of, program_of};
 ghost use Rattle.kernele.specs.Spelling.{spelling, spelled, spelled_parts, spelled_items, joined, bracketed, bound_name, is_definition as definition_test, is_bare_receiver as bare_receiver_test, as_part, as_receiver, message};
 
-use ids::quote::write_quoted;
 use crate::tree::{Expr, Pattern, Program};
+use ids::quote::write_quoted;
 use ids::text::Text;
 use std::alloc::{AllocError, Global};
 use std::fmt::Write;

@@ -1,4 +1,4 @@
-use Rattle.std.proofs.Common.{Vec, Global, ap, ◌≡◌, ◌<◌, refl, sym, subst, ◌∙◌, arith, length, List, ℕ}
+use Rattle.std.proofs.Common.{Vec, Global, ap, ◌≡◌, ◌<◌, refl, subst, ◌∙◌, arith, length, ℕ}
 use Rattle.std.specs.Prelude.{string_bytes}
 use Rattle.book.specs.BookView.{book_of}
 use Rattle.book.specs.Books.{blank}
@@ -25,6 +25,8 @@ lines-preserved c =
 
 pub returns-clause-ok : goal.returns-clause-ok
 returns-clause-ok c =
-    let none : length c.lines.rest.now ≡ 0 = grind (arith, c.is_empty.ensures, c.lines-test.false) in
-    (book_of c.lines.engine.book, replies_end c.args.limits.budget (book_of c.lines.engine.book) blank c.lines.rest.now c.args.input.now (string_bytes c.lines.engine.written.text) c.into_bytes.result.items
-    c.lines.engine.written.refused none (ap (λ (v : Vec ℕ Global). v.items) c.into_bytes.ensures.value) (λ m v. c.lines.invariant.more m v (book_of c.lines.engine.book)))
+    let none : length c.lines.rest.now ≡ 0 = grind (arith, c.is_empty.ensures, c.lines-test.false) in (
+      book_of c.lines.engine.book,
+      replies_end c.args.limits.budget (book_of c.lines.engine.book) blank c.lines.rest.now c.args.input.now (string_bytes c.lines.engine.written.text) c.into_bytes.result.items
+          c.lines.engine.written.refused none (ap (λ (v : Vec ℕ Global). v.items) c.into_bytes.ensures.value) (λ m v. c.lines.invariant.more m v (book_of c.lines.engine.book)),
+    )

@@ -1,4 +1,4 @@
-use Rattle.std.proofs.Common.{arith, not}
+use Rattle.std.proofs.Common.{arith}
 use Rattle.evats.specs.Words.{is_blank}
 use Rattle.evats.proofs.Places.{place_or}
 use Rattle.evats.proofs.words.word_end.Goals as goal

@@ -1,4 +1,4 @@
-use Rattle.std.proofs.Common.{◌≡◌, true, refl, sym, ap, ◌∙◌, Ok, Err, Option, Result}
+use Rattle.std.proofs.Common.{true, refl, sym, ap, ◌∙◌, Ok}
 use Rattle.evats.specs.Commands.{reading_of}
 use Rattle.evats.specs.Replies.{no_command}
 use Rattle.evats.proofs.Answered.{happens_as, if_ok, said_as, nothing_happens}

@@ -1,4 +1,4 @@
-use Rattle.std.proofs.Common.{true, refl, subst, sym, ap, ◌∙◌, Ok, Err, List, ℕ}
+use Rattle.std.proofs.Common.{true, refl, subst, sym, ap, ◌∙◌, Ok, List, ℕ}
 use Rattle.book.specs.BookView.{book_of}
 use Rattle.evats.specs.ScriptView.{script_text}
 use Rattle.evats.specs.Replies.{AnswersBirth}

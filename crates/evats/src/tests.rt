@@ -1,0 +1,196 @@
+// Whole texts of commands with the replies that their authors are promised.
+
+use crate::ended::{Ended, status};
+use crate::engine::{Fault, Limits, Summary, replies};
+use std::process::Abort;
+use std::test::Fail;
+
+const OPENED: &str = "vat a () 0\nturn e1.m0\n";
+
+const BORN: &str = "ok e1 e1.m0\nok e2 value null\n";
+
+fn limits(budget: u32) -> Limits {
+    Limits { budget, workers: 8 }
+}
+
+/// Runs commands and compares the replies, and whether one is a refusal.
+fn expect(rt: &(impl Abort + AllocGlobal), budget: u32, input: &[u8], wanted: &str, refused: bool) {
+    match replies(rt.alloc(), input, limits(budget)) {
+        Ok((written, summary)) => {
+            assert_eq!(rt; str::from_utf8(&written), Ok(wanted));
+            assert_eq!(rt; summary.refused, refused);
+        }
+        Err(fault) => assert!(rt; false, "{fault}"),
+    }
+}
+
+/// Runs one asked text in a vat that was opened, and compares the replies behind the vat's own.
+fn expect_asked(
+    rt: &(impl Abort + AllocGlobal),
+    text: &str,
+    wanted: &str,
+    refused: bool,
+) -> Result<(), Fail> {
+    let commands = format!(in rt.alloc(); "{OPENED}ask a {text}\n")?;
+    let wanted = format!(in rt.alloc(); "{BORN}{wanted}\n")?;
+    expect(rt, 10_000, commands.as_bytes(), wanted.as_str(), refused);
+    Ok(())
+}
+
+/// The same with the turn of the asked text.
+fn expect_turn(rt: &(impl Abort + AllocGlobal), text: &str, wanted: &str) -> Result<(), Fail> {
+    let commands = format!(in rt.alloc(); "{OPENED}ask a {text}\nturn e3.m0\n")?;
+    let wanted = format!(in rt.alloc(); "{BORN}ok e3 e3.m0\nok e4 {wanted}\n")?;
+    expect(rt, 10_000, commands.as_bytes(), wanted.as_str(), false);
+    Ok(())
+}
+
+#[test]
+fn nothing_is_replied_to_nothing(rt: HostRuntime) {
+    expect(&rt, 10_000, b"", "", false);
+    expect(&rt, 10_000, b"\n \t\n# vat\n\r\n", "", false);
+}
+
+#[test]
+fn turns_within_their_budget(rt: HostRuntime) {
+    let commands = b"vat a () 0\nturn e1.m0\nask a 2 + 3\nturn e3.m0";
+    let five = "ok e1 e1.m0\nok e2 value null\nok e3 e3.m0\nok e4 value 5\n";
+    let spent =
+        "ok e1 e1.m0\nok e2 value null\nok e3 e3.m0\nok e4 abandoned \"turn budget spent\"\n";
+    expect(&rt, 10_000, commands, five, false);
+    expect(&rt, 3, commands, five, false);
+    expect(&rt, 2, commands, spent, false);
+}
+
+#[test]
+fn asked_texts_and_their_turns(rt: HostRuntime) -> Result<(), Fail> {
+    let rows = [
+        ("1 + 2 * 3", "value 7"),
+        ("1 - 2 - 3", "value -4"),
+        ("-7 // 2", "value -4"),
+        ("9223372036854775807 + 1", "problem \"integer too large\""),
+        ("-9223372036854775807 - 1", "value -9223372036854775808"),
+        ("1 // 0", "problem \"division by zero\""),
+        ("[1, [true, null]][1]", "value [true, null]"),
+        ("[1][1]", "problem \"index out of range\""),
+        ("[1, 2] == [1, 2]", "value true"),
+        ("1 != true", "value true"),
+        ("\"a\\n\" + \"\\\"\"", "value \"a\\n\\\"\""),
+        ("\"h\u{e9}\".size()", "value 2"),
+        ("1 + \"a\"", "problem \"bad argument\""),
+        ("3(1, 2)", "problem \"no method run/2\""),
+        ("!null", "problem \"no method not/0\""),
+        ("def x := 6; def _ := 7; x * 7", "value 42"),
+        ("(def x := 6) * x", "value 36"),
+        ("", "value null"),
+        (";; 1 ;; 2 ;;", "value 2"),
+    ];
+    for (text, wanted) in rows {
+        expect_turn(&rt, text, wanted)?;
+    }
+    Ok(())
+}
+
+#[test]
+fn refused_texts(rt: HostRuntime) -> Result<(), Fail> {
+    let rows = [
+        ("x", "no K1 Unbound x"),
+        ("def x := 1; def x := 2", "no K3 DuplicateName x"),
+        ("\"x", "no L2 UnclosedText 0"),
+        ("1 +", "no L5 Unexpected 3"),
+        ("1 < 2 < 3", "no L5 Unexpected 6"),
+        ("true && true", "no L5 Unexpected 5"),
+        ("{ 1 }", "no L5 Unexpected 0"),
+        ("9223372036854775808", "no L4 IntegerTooLarge 0"),
+        ("\"a\\q\"", "no L3 BadEscape 2"),
+        ("1 & 2", "no L1 BadCharacter 2"),
+        ("1 \u{e9}", "no L1 BadCharacter 2"),
+        ("1 \0", "no L1 BadCharacter 2"),
+    ];
+    for (text, wanted) in rows {
+        expect_asked(&rt, text, wanted, true)?;
+    }
+    Ok(())
+}
+
+#[test]
+fn refused_commands_draw_no_name(rt: HostRuntime) {
+    let commands =
+        b"ask a 1\nvat a () 0\nvat a () 1\n)\nvat a () 1\n1\nask a 1\nturn e2.m0\nturn e9.m0\nhop\nturn e2\nask 1a 2\nshow all\nvat b (a) 0\nvat b () 4097\nturn e01.m00\nturn e1.m0\n";
+    let wanted =
+        "no B1 NoVat a\nok e1 e1.m0\nno L5 Unexpected 0\nno B2 NameTaken a\nok e2 e2.m0\nno B6 Before e1.m0\nno B3 NoMessage e9.m0\nno S1 UnknownCommand\nno S2 BadWord\nno S2 BadWord\nno S2 BadWord\nno S2 BadWord\nno S2 BadWord\nok e3 value null\nno B4 NotThere\n";
+    expect(&rt, 10_000, commands, wanted, true);
+}
+
+#[test]
+fn scripts_are_taken_whole(rt: HostRuntime) {
+    let truncated = "no S4 Truncated\n";
+    expect(&rt, 10_000, b"vat a () 3\ndef x := 1\nx", truncated, true);
+    let commands =
+        b"vat a () 2\ndef x := 6\n\xff\nvat a () 3\ndef x := 6\n# six\ndef y :=\r\n7\nask a 1\n";
+    let wanted = "no S2 BadWord\nno L5 Unexpected 25\nno S1 UnknownCommand\nno B1 NoVat a\n";
+    expect(&rt, 10_000, commands, wanted, true);
+}
+
+#[test]
+fn the_world_is_shown(rt: HostRuntime) {
+    let commands =
+        b"vat b () 2\ndef z := [1, \"two\"]\ndef a := z.size() // 0; def c := 1\nvat a () 0\nturn e1.m0\nask b z\nturn e4.m0\nshow";
+    let wanted =
+        "ok e1 e1.m0\nok e2 e2.m0\nok e3 problem \"division by zero\"\nok e4 e4.m0\nok e5 value [1, \"two\"]\nvat b e1\n noun z = [1, \"two\"]\nvat a e2\nmsg e1.m0 done e3\nmsg e2.m0 at a\nmsg e4.m0 done e5\nboard e1.p0 = <broken \"division by zero\">\nboard e4.p0 = [1, \"two\"]\n";
+    expect(&rt, 10_000, commands, wanted, false);
+}
+
+/// A text of so many copies.
+fn copies(rt: &(impl Abort + AllocGlobal), text: &str, count: usize) -> Result<String, Fail> {
+    let mut out = String::new(rt.alloc());
+    for _ in 0..count {
+        out.push_str(text)?;
+    }
+    Ok(out)
+}
+
+#[test]
+fn texts_at_their_limits(rt: HostRuntime) -> Result<(), Fail> {
+    let open = copies(&rt, "(", 101)?;
+    expect_asked(&rt, open.as_str(), "no L6 TooDeep", true)?;
+    let inside = format!(in rt.alloc(); "{}1{}", copies(&rt, "(", 100)?, copies(&rt, ")", 100)?)?;
+    expect_turn(&rt, inside.as_str(), "value 1")?;
+    let sum = format!(in rt.alloc(); "1{}", copies(&rt, " + 1", 199)?)?;
+    expect_turn(&rt, sum.as_str(), "value 200")?;
+    let deeper = format!(in rt.alloc(); "1{}", copies(&rt, " + 1", 200)?)?;
+    expect_asked(&rt, deeper.as_str(), "no K4 TooDeep", true)?;
+    let many = copies(&rt, ";", 16_385)?;
+    expect_asked(&rt, many.as_str(), "no L8 TooLong", true)?;
+    let most = copies(&rt, ";", 16_384)?;
+    expect_turn(&rt, most.as_str(), "value null")
+}
+
+#[test]
+fn lines_at_their_limits(rt: HostRuntime) -> Result<(), Fail> {
+    let endless = copies(&rt, "x", 70_000)?;
+    expect(&rt, 10_000, endless.as_bytes(), "no S3 LineTooLong\n", true);
+    let longest = copies(&rt, "x", 65_536)?;
+    expect(
+        &rt,
+        10_000,
+        longest.as_bytes(),
+        "no S1 UnknownCommand\n",
+        true,
+    );
+    let half = copies(&rt, " ", 32_768)?;
+    let script = format!(in rt.alloc(); "vat a () 2\n{half}\n{half}\nshow\n")?;
+    expect(&rt, 10_000, script.as_bytes(), "no L8 TooLong\n", true);
+    expect(&rt, 10_000, b"ask a \xff\nshow", "no S2 BadWord\n", true);
+    Ok(())
+}
+
+#[test]
+fn statuses(rt: HostRuntime) {
+    assert_eq!(rt; status(&Ended::Help), 0);
+    assert_eq!(rt; status(&Ended::Usage), 2);
+    assert_eq!(rt; status(&Ended::NoFile), 2);
+    assert_eq!(rt; status(&Ended::Ran(Ok(Summary { refused: false }))), 0);
+    assert_eq!(rt; status(&Ended::Ran(Ok(Summary { refused: true }))), 1);
+    assert_eq!(rt; status(&Ended::Ran(Err(Fault::Memory))), 2);
+}
