@@ -3,8 +3,8 @@ use Rattle.std.specs.Prelude.{◌≡◌, List, ℕ, ◌++◌, codes, Option, Som
 use Rattle.ids.specs.Names.{message_text}
 use Rattle.kernele.specs.Check as check
 use Rattle.kernele.specs.Scope as scope
-use Rattle.kernele.specs.declared.check.CheckFault.{CheckFault}
-use Rattle.kernele.specs.declared.check.CheckFault.TheVariants as check-fault
+use Rattle.kernele.specs.declared.checking.CheckFault.{CheckFault}
+use Rattle.kernele.specs.declared.checking.CheckFault.TheVariants as check-fault
 use Rattle.book.specs.Events.{Refusal, no_vat, name_taken, no_message, not_there, before, full, unchecked}
 use Rattle.book.specs.declared.fault.BookFault.{BookFault}
 use Rattle.book.specs.declared.fault.BookFault.TheVariants as fault

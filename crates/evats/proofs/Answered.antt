@@ -3,8 +3,8 @@ use Rattle.std.proofs.Common.{◌≡◌, ℕ, List, Option, Some, None, Result, 
 use Rattle.std.specs.Prelude.{codes, OnOk, IfOk, Bool, string_bytes}
 use Rattle.kernele.specs.Tree.{Trees}
 use Rattle.kernele.specs.Scope as scope
-use Rattle.kernele.specs.declared.check.CheckFault.{CheckFault}
-use Rattle.kernele.specs.declared.check.CheckFault.TheVariants as check_fault
+use Rattle.kernele.specs.declared.checking.CheckFault.{CheckFault}
+use Rattle.kernele.specs.declared.checking.CheckFault.TheVariants as check_fault
 use Rattle.ereader.specs.Texts.{ReadAs}
 use Rattle.ereader.specs.Texts as texts
 use Rattle.ereader.specs.Shown as reading

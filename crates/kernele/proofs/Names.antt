@@ -12,7 +12,7 @@ use Rattle.std.specs.BTreeSet.{BTreeSet, Updates, IsEmpty, contains}
 use Rattle.kernele.specs.Tree.{Name}
 use Rattle.kernele.specs.Scope.{no_names, names_in, with_name}
 use Rattle.kernele.specs.Check.{names_of, scopes_of, scopes_in}
-use Rattle.kernele.specs.declared.check.Scopes as code
+use Rattle.kernele.specs.declared.checking.Scopes as code
 
 -- a test that chooses true is a choice of two
 cond-or : (a b : Bool) → cond a true b ≡ (a || b)

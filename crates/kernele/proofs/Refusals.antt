@@ -2,8 +2,8 @@
 use Rattle.std.proofs.Common.{◌≡◌, ap, sym, subst}
 use Rattle.kernele.specs.Scope.{Scopes, Checked, in_turn}
 use Rattle.kernele.specs.Check.{Refuses}
-use Rattle.kernele.specs.declared.check.CheckFault.{CheckFault}
-use Rattle.kernele.specs.declared.check.CheckFault.TheVariants as fault
+use Rattle.kernele.specs.declared.checking.CheckFault.{CheckFault}
+use Rattle.kernele.specs.declared.checking.CheckFault.TheVariants as fault
 
 -- what refuses the first of two refuses both
 pub refuses_in_turn : (f : CheckFault) (first : Checked) (next : Scopes → Checked) → Refuses f first → Refuses f (in_turn first next)

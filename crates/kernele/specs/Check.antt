@@ -5,10 +5,10 @@ use Rattle.std.specs.Cmp.Lexicographic.{slice_cmp}
 use Rattle.std.specs.BTreeSet.{BTreeSet, contains}
 use Rattle.kernele.specs.Tree.{Name}
 use Rattle.kernele.specs.Scope.{Names, Scopes, unbound, duplicate_name, too_deep, too_long, Checked}
-use Rattle.kernele.specs.declared.check.CheckFault.{CheckFault}
-use Rattle.kernele.specs.declared.check.CheckFault.TheVariants as fault
-use Rattle.kernele.specs.declared.check.Outer.{Outer}
-use Rattle.kernele.specs.declared.check.Scopes as code
+use Rattle.kernele.specs.declared.checking.CheckFault.{CheckFault}
+use Rattle.kernele.specs.declared.checking.CheckFault.TheVariants as fault
+use Rattle.kernele.specs.declared.checking.Outer.{Outer}
+use Rattle.kernele.specs.declared.checking.Scopes as code
 
 -- a fault in words
 abbrev pub fault_text : CheckFault → List ℕ

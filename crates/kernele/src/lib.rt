@@ -1,10 +1,14 @@
 //! The trees of the language, their canonical spelling and the check of their scopes.
 #![tactic(auto)]
 
-pub mod check;
+mod checking;
 mod count;
-pub mod print;
+mod naming;
+mod printing;
 #[cfg(test)]
 mod tests;
-pub mod top;
 pub mod tree;
+
+pub use checking::{CheckFault, Outer, check};
+pub use naming::{adds_own_names, top_names};
+pub use printing::print;

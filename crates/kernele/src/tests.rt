@@ -1,6 +1,6 @@
-use crate::check::{CheckFault, Outer, check};
-use crate::print::print;
-use crate::top::{adds_own_names, top_names};
+use crate::checking::{CheckFault, Outer, check};
+use crate::naming::{adds_own_names, top_names};
+use crate::printing::print;
 use crate::tree::{Block, Expr, Pattern, Program};
 use ids::text::Text;
 use std::alloc::{AllocError, Global};

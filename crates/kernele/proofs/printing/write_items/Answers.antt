@@ -2,7 +2,7 @@ use Rattle.std.proofs.Common.{refl, ap, sym, ◌∙◌, ◌++◌, append_assoc, 
 use Rattle.kernele.specs.Spelling.{led_by, joined, spelled, spelled_items}
 use Rattle.kernele.specs.View.{tree_of, trees_of}
 use Rattle.kernele.proofs.Walks.{append_more, append_end}
-use Rattle.kernele.proofs.print.write_items.Goals as goal
+use Rattle.kernele.proofs.printing.write_items.Goals as goal
 
 pub loop-item-preserved : goal.loop-item-preserved
 loop-item-preserved c =

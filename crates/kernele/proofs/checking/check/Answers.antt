@@ -6,7 +6,7 @@ use Rattle.kernele.specs.Check.{scopes_of}
 use Rattle.kernele.proofs.Counts.{checked_within, some_holds, is_true}
 use Rattle.kernele.proofs.Names.{fresh}
 use Rattle.kernele.proofs.Refusals.{refuses_same}
-use Rattle.kernele.proofs.check.check.Goals as goal
+use Rattle.kernele.proofs.checking.check.Goals as goal
 
 pub returns-clause-refused : goal.returns-clause-refused
 returns-clause-refused c =

@@ -3,7 +3,7 @@ use Rattle.std.proofs.lemmas.Result.{IfOk-equal}
 use Rattle.kernele.specs.Spelling.{led_by, joined, spelled, spelled_parts, as_part}
 use Rattle.kernele.specs.View.{tree_of, trees_of}
 use Rattle.kernele.proofs.Walks.{tree_is_call, tree_is_list, append_more, append_end}
-use Rattle.kernele.proofs.print.+print.Goals as goal
+use Rattle.kernele.proofs.printing.+print.Goals as goal
 
 pub write_expr-returns-in_ok-push_str-in-Call : goal.write_expr-returns-in_ok-push_str-in-Call
 write_expr-returns-in_ok-push_str-in-Call t c =

@@ -1,7 +1,7 @@
 use Rattle.std.proofs.Common.{◌≡◌, ◌++◌, string_bytes, codes, drop}
 use Rattle.kernele.specs.View.{trees_of}
 use Rattle.kernele.specs.Spelling.{led_by, spelled_items}
-use Rattle.kernele.proofs.print.write_items.Given as goal
+use Rattle.kernele.proofs.printing.write_items.Given as goal
 
 -- what is written, and what the items that are left give
 abbrev pub invariant-loop-item : goal.invariant-loop-item

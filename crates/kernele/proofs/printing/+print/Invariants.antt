@@ -1,7 +1,7 @@
 use Rattle.std.proofs.Common.{◌≡◌, ◌++◌, string_bytes, codes, drop}
 use Rattle.kernele.specs.View.{trees_of}
 use Rattle.kernele.specs.Spelling.{led_by, spelled_parts}
-use Rattle.kernele.proofs.print.+print.Given as goal
+use Rattle.kernele.proofs.printing.+print.Given as goal
 
 -- what is written, and what the trees that are left give
 abbrev pub invariant-write_parts-loop-part : goal.invariant-write_parts-loop-part

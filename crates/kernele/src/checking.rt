@@ -3,7 +3,7 @@ ghost use Rattle.std.specs.Prelude.{◌≡◌, Some, Ok, IsOk, IfOk, IfErr, OnOk
 ghost use Rattle.kernele.specs.View.{tree_of, trees_of, program_of};
 ghost use Rattle.kernele.specs.Scope.{checked, checked_all, checked_program, found, bound, script_scopes, asked_scopes, names_in, with_name};
 ghost use Rattle.kernele.specs.Check.{Gives, Refuses, fault_text, names_of, scopes_of, scopes_in};
-ghost use Rattle.kernele.specs.declared.check.CheckFault.TheVariants.{Memory};
+ghost use Rattle.kernele.specs.declared.checking.CheckFault.TheVariants.{Memory};
 
 use crate::count::{are_within_depth, nodes_left_by_all};
 use crate::tree::{Expr, Pattern, Program};

@@ -2,7 +2,7 @@ use Rattle.std.proofs.Common.{ap, ◌∙◌, drop}
 use Rattle.std.specs.Prelude.{◌||◌}
 use Rattle.kernele.specs.Scope.{names_in}
 use Rattle.kernele.proofs.Names.{gathers, gathered, no_keys}
-use Rattle.kernele.proofs.check.set_of.Goals as goal
+use Rattle.kernele.proofs.checking.set_of.Goals as goal
 
 pub loop-name-init : goal.loop-name-init
 loop-name-init c = λ y. ap (λ names. names y || names_in (drop 0 c.args.names.now) y) (no_keys _ c.new-set.ensures.empty)

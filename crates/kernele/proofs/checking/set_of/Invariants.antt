@@ -3,7 +3,7 @@ use Rattle.std.specs.Prelude.{◌||◌}
 use Rattle.kernele.specs.Tree.{Name}
 use Rattle.kernele.specs.Scope.{names_in}
 use Rattle.kernele.specs.Check.{names_of}
-use Rattle.kernele.proofs.check.set_of.Given as goal
+use Rattle.kernele.proofs.checking.set_of.Given as goal
 
 -- the set's names and those that are left
 abbrev pub invariant-loop-name : goal.invariant-loop-name

@@ -5,7 +5,7 @@ use Rattle.kernele.specs.View.{trees_of}
 use Rattle.kernele.specs.Check.{scopes_in}
 use Rattle.kernele.proofs.Walks.{tree_is_call, tree_is_list, trees_from, no_trees_from}
 use Rattle.kernele.proofs.Refusals.{refuses_in_turn, refuses_same}
-use Rattle.kernele.proofs.check.+check.Goals as goal
+use Rattle.kernele.proofs.checking.+check.Goals as goal
 
 pub check_all-returns-in_err-check_expr : goal.check_all-returns-in_err-check_expr
 check_all-returns-in_err-check_expr t c =

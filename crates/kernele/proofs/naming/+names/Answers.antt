@@ -3,7 +3,7 @@ use Rattle.std.proofs.lemmas.Result.{IfOk-equal}
 use Rattle.kernele.specs.Scope.{own_names, own_names_in}
 use Rattle.kernele.specs.View.{tree_of, trees_of}
 use Rattle.kernele.proofs.Walks.{tree_is_call, tree_is_list, append_more, append_end}
-use Rattle.kernele.proofs.top.+names.Goals as goal
+use Rattle.kernele.proofs.naming.+names.Goals as goal
 
 pub add_all_names-loop-tree-preserved : goal.add_all_names-loop-tree-preserved
 add_all_names-loop-tree-preserved t c = append_more own_names_in own_names (λ t ts. refl) c.loop-tree.names.items c.args.trees.now c.loop-tree.tree-index c.tree-item.result c.loop-tree-test.true c.tree-item.is c.in_ok-add_names.ensures ∙ c.loop-tree.invariant
