@@ -6,6 +6,7 @@ ghost use Rattle.book.specs.Books.{Book as BookModel, blank};
 ghost use Rattle.evats.specs.Commands as commands;
 ghost use Rattle.evats.specs.Commands.{command_of, reading_of};
 ghost use Rattle.evats.specs.Lines.{behind_line};
+ghost use Rattle.evats.specs.Ended.{fault_text};
 ghost use Rattle.evats.specs.declared.engine.Fault.TheVariants.{Memory};
 ghost use Rattle.evats.specs.ScriptView.{script_text};
 ghost use Rattle.evats.specs.Replies.{Answers, AnswersBirth, FirstReply, Replies, said};
@@ -52,6 +53,8 @@ pub enum Fault {
 }
 
 impl Display for Fault {
+    ghost output = { λ fault. Some (fault_text fault) };
+
     fn fmt<W: Write>(&self, f: &mut Formatter<W>) -> fmt::Result {
         match self {
             Fault::Reader => write!(f, "reading failed"),
