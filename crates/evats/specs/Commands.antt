@@ -3,9 +3,10 @@ use Rattle.std.specs.Prelude.{ℕ, List, [], ◌∷◌, Bool, true, ◌&&◌, �
 use Rattle.std.specs.Option.{option_map, option_and_then}
 use Rattle.std.specs.Str.{bytes_eq}
 use Rattle.etoken.specs.Names.{is_name}
+use Rattle.ids.specs.declared.names.EventName.{EventName}
 use Rattle.ids.specs.declared.names.MsgId.{MsgId}
-use Rattle.evats.specs.Words.{without_blanks, first_word, behind_word}
-use Rattle.evats.specs.Numbers.{number_of, message_named}
+use Rattle.evats.specs.Words.{without_blanks, first_word, behind_word, words_in}
+use Rattle.evats.specs.Numbers.{number_of, message_named, event_named, one_or_more}
 use Rattle.evats.specs.declared.command.Command.{Command}
 use Rattle.evats.specs.declared.command.Command.TheVariants as code
 use Rattle.evats.specs.declared.command.LineFault.{LineFault}
@@ -16,6 +17,11 @@ pub data Spelled : Type 0 where
   ask : (x : List ℕ) → (text : List ℕ) → Spelled
   turn : (m : MsgId) → Spelled
   show : Spelled
+  journal : Spelled
+  cone : (e : EventName) → Spelled
+  undo : (events : List EventName) → Spelled
+  undo_cone : (e : EventName) → Spelled
+  redo : (events : List EventName) → Spelled
 
 -- a name of the language of at most 64 bytes
 abbrev pub is_vat_name : List ℕ → Bool
@@ -43,8 +49,17 @@ ask_of words = cond (is_vat_name (first_word words)) (Some (ask (first_word word
 abbrev pub turn_of : List ℕ → Option Spelled
 turn_of words = cond (is_empty (behind_word words)) (option_map turn (message_named (first_word words))) None
 
-abbrev pub show_of : List ℕ → Option Spelled
-show_of words = cond (is_empty words) (Some show) None
+-- a command without words
+abbrev pub alone : Spelled → List ℕ → Option Spelled
+alone command words = cond (is_empty words) (Some command) None
+
+-- a command of one event
+abbrev pub of_event : (EventName → Spelled) → List ℕ → Option Spelled
+of_event command words = cond (is_empty (behind_word words)) (option_map command (event_named (first_word words))) None
+
+-- a command of one event or more
+abbrev pub of_events : (List EventName → Spelled) → List ℕ → Option Spelled
+of_events command words = option_map command (one_or_more (words_in words))
 
 abbrev pub formed : Option Spelled → Result (Option Spelled) LineFault
 formed (Some command) = Ok (Some command)
@@ -56,7 +71,12 @@ begun_by word words =
     cond (bytes_eq word (codes "vat")) (formed (birth_of words))
     (cond (bytes_eq word (codes "ask")) (formed (ask_of words))
     (cond (bytes_eq word (codes "turn")) (formed (turn_of words))
-    (cond (bytes_eq word (codes "show")) (formed (show_of words)) (Err UnknownCommand))))
+    (cond (bytes_eq word (codes "show")) (formed (alone show words))
+    (cond (bytes_eq word (codes "journal")) (formed (alone journal words))
+    (cond (bytes_eq word (codes "cone")) (formed (of_event cone words))
+    (cond (bytes_eq word (codes "undo")) (formed (of_events undo words))
+    (cond (bytes_eq word (codes "undo-cone")) (formed (of_event undo_cone words))
+    (cond (bytes_eq word (codes "redo")) (formed (of_events redo words)) (Err UnknownCommand)))))))))
 
 -- a blank line or a comment is no command
 abbrev pub is_skipped : List ℕ → Bool
@@ -75,6 +95,11 @@ command_of (code.Birth name lines) = birth name.now lines
 command_of (code.Ask name text) = ask name.now text.now
 command_of (code.Turn m) = turn m
 command_of code.Show = show
+command_of code.Journal = journal
+command_of (code.Cone e) = cone e
+command_of (code.Undo events) = undo events.items
+command_of (code.UndoCone e) = undo_cone e
+command_of (code.Redo events) = redo events.items
 
 abbrev pub reading_of : Result (Option Command) LineFault → Result (Option Spelled) LineFault
 reading_of (Ok c) = Ok (option_map command_of c)

@@ -1,8 +1,9 @@
--- Numbers and names of messages in a command.
+-- Numbers, and names of messages and events, in a command.
 use Rattle.std.specs.Prelude.{ℕ, ◌+◌, ◌-◌, ◌*◌, ◌^◌, List, [], ◌∷◌, Bool, not, length, ◌&&◌, ◌==◌, nat_lt, cond, Option, Some, None}
-use Rattle.std.specs.Option.{option_and_then}
+use Rattle.std.specs.Option.{option_map, option_and_then}
 use Rattle.std.specs.Char.{is_ascii_digit}
 use Rattle.std.specs.List.{list_all, before_first, after_first}
+use Rattle.ids.specs.declared.names.EventName.{EventName}
 use Rattle.ids.specs.declared.names.MsgId.{MsgId}
 
 -- decimal digits, one at least
@@ -41,3 +42,16 @@ message_from (Some e) (Some i) = Some (record { event = record { 0 = e }; index 
 -- a message's name, such as e7.m0
 abbrev pub message_named : List ℕ → Option MsgId
 message_named word = message_from (tagged 101 (before_first is_dot word)) (tagged 109 (after_first is_dot word))
+
+-- an event's name, such as e7
+abbrev pub event_named : List ℕ → Option EventName
+event_named word = option_map (λ n. record { 0 = n }) (tagged 101 word)
+
+-- the events that words name, each of them one
+abbrev pub events_named : List (List ℕ) → Option (List EventName)
+events_named [] = Some []
+events_named (word ∷ words) = option_and_then (λ e. option_map (λ es. e ∷ es) (events_named words)) (event_named word)
+
+abbrev pub one_or_more : List (List ℕ) → Option (List EventName)
+one_or_more [] = None
+one_or_more (word ∷ words) = events_named (word ∷ words)

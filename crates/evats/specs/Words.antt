@@ -1,6 +1,6 @@
 -- How a line is cut into words: they stand between spaces and tabs.
-use Rattle.std.specs.Prelude.{ℕ, List, drop, Bool, not, ◌==◌, ◌||◌}
-use Rattle.std.specs.List.{position_or_len, before_first}
+use Rattle.std.specs.Prelude.{ℕ, List, drop, length, filter, Bool, not, ◌==◌, ◌||◌}
+use Rattle.std.specs.List.{position_or_len, before_first, slice_split}
 
 abbrev pub is_blank : ℕ → Bool
 is_blank b = b == 32 || b == 9
@@ -16,3 +16,10 @@ first_word text = before_first is_blank text
 -- what stands behind that word and the blanks after it
 abbrev pub behind_word : List ℕ → List ℕ
 behind_word text = without_blanks (drop (position_or_len is_blank text) text)
+
+abbrev pub is_word : List ℕ → Bool
+is_word w = not (length w == 0)
+
+-- all words of a text
+abbrev pub words_in : List ℕ → List (List ℕ)
+words_in text = filter is_word (slice_split is_blank text)

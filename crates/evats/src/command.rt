@@ -1,13 +1,15 @@
 // Commands, as lines spell them.
-ghost use Rattle.std.specs.Prelude.{◌≡◌, Some};
+ghost use Rattle.std.specs.Prelude.{◌≡◌, Some, IfOk};
 ghost use Rattle.std.specs.Option.{option_map, option_and_then};
 ghost use Rattle.evats.specs.Numbers.{number_of};
-ghost use Rattle.evats.specs.Commands.{is_vat_name, at_most, birth_of, ask_of, turn_of, show_of, is_skipped, begun_by, spelled_by, command_of, reading_of, fault_text};
+ghost use Rattle.ids.specs.declared.names.EventName.{EventName};
+ghost use Rattle.evats.specs.Commands.{Spelled, is_vat_name, at_most, birth_of, ask_of, turn_of, show, journal, cone, undo, undo_cone, redo, alone, of_event, of_events, is_skipped, begun_by, spelled_by, command_of, reading_of, fault_text};
 
-use crate::numbers::{message_named, number};
+use crate::numbers::{event_named, events_named, message_named, number};
 use crate::words::{cut_word, skip_blanks};
 use etoken::names::is_name;
-use ids::names::MsgId;
+use ids::names::{EventName, MsgId};
+use std::alloc::{AllocError, Global};
 use std::error::Error;
 use std::fmt;
 use std::fmt::{Display, Formatter, Write};
@@ -27,6 +29,12 @@ pub enum Command<'a> {
     Ask { name: &'a str, text: &'a str },
     Turn(MsgId),
     Show,
+    Journal,
+    Cone(EventName),
+    Undo(Vec<EventName>),
+    /// An event is undone with its cone.
+    UndoCone(EventName),
+    Redo(Vec<EventName>),
 }
 
 /// Why a line is no command.
@@ -102,9 +110,56 @@ fn turn(words: &str) -> Option<Command<'_>>
 }
 
 fn show(words: &str) -> Option<Command<'_>>
-    ensures { option_map command_of result ≡ show_of words.now }
+    ensures { option_map command_of result ≡ alone show words.now }
 {
     words.is_empty().then_some(Command::Show)
+}
+
+fn journal(words: &str) -> Option<Command<'_>>
+    ensures { option_map command_of result ≡ alone journal words.now }
+{
+    words.is_empty().then_some(Command::Journal)
+}
+
+/// One event's name, with nothing behind it.
+fn one_event(words: &str) -> Option<EventName>
+    ensures { (command : EventName → Spelled) → option_map command result ≡ of_event command words.now }
+{
+    let (name, end) = cut_word(words);
+    if !end.is_empty() {
+        return None;
+    }
+    event_named(name)
+}
+
+fn cone(words: &str) -> Option<Command<'_>>
+    ensures { option_map command_of result ≡ of_event cone words.now }
+{
+    Some(Command::Cone(one_event(words)?))
+}
+
+fn undo_cone(words: &str) -> Option<Command<'_>>
+    ensures { option_map command_of result ≡ of_event undo_cone words.now }
+{
+    Some(Command::UndoCone(one_event(words)?))
+}
+
+fn undo(alloc: Global, words: &str) -> Result<Option<Command<'_>>, AllocError>
+    ensures { IfOk result (λ r. option_map command_of r ≡ of_events undo words.now) }
+{
+    match events_named(alloc, words)? {
+        Some(events) => Ok(Some(Command::Undo(events))),
+        None => Ok(None),
+    }
+}
+
+fn redo(alloc: Global, words: &str) -> Result<Option<Command<'_>>, AllocError>
+    ensures { IfOk result (λ r. option_map command_of r ≡ of_events redo words.now) }
+{
+    match events_named(alloc, words)? {
+        Some(events) => Ok(Some(Command::Redo(events))),
+        None => Ok(None),
+    }
 }
 
 fn is_skipped(text: &[u8]) -> bool
@@ -116,31 +171,39 @@ fn is_skipped(text: &[u8]) -> bool
     }
 }
 
+/// What a line says: a command, or none where the line is blank or a comment.
+pub type Said<'a> = Result<Option<Command<'a>>, LineFault>;
+
 /// The command that a word begins.
-fn begun_by<'a>(word: &str, words: &'a str) -> Result<Option<Command<'a>>, LineFault>
-    ensures { reading_of result ≡ begun_by word.now words.now }
+fn begun_by<'a>(alloc: Global, word: &str, words: &'a str) -> Result<Said<'a>, AllocError>
+    ensures { IfOk result (λ r. reading_of r ≡ begun_by word.now words.now) }
 {
     let command = match word {
         "vat" => birth(words),
         "ask" => ask(words),
         "turn" => turn(words),
         "show" => show(words),
-        _ => return Err(LineFault::UnknownCommand),
+        "journal" => journal(words),
+        "cone" => cone(words),
+        "undo" => undo(alloc, words)?,
+        "undo-cone" => undo_cone(words),
+        "redo" => redo(alloc, words)?,
+        _ => return Ok(Err(LineFault::UnknownCommand)),
     };
     match command {
-        Some(command) => Ok(Some(command)),
-        None => Err(LineFault::BadWord),
+        Some(command) => Ok(Ok(Some(command))),
+        None => Ok(Err(LineFault::BadWord)),
     }
 }
 
 /// The command that a line spells, or none where the line is blank or a comment.
-pub fn command_of(line: &str) -> Result<Option<Command<'_>>, LineFault>
-    ensures { reading_of result ≡ spelled_by line.now }
+pub fn command_of(alloc: Global, line: &str) -> Result<Said<'_>, AllocError>
+    ensures { IfOk result (λ r. reading_of r ≡ spelled_by line.now) }
 {
     let text = skip_blanks(line);
     if is_skipped(text.as_bytes()) {
-        return Ok(None);
+        return Ok(Ok(None));
     }
     let (word, words) = cut_word(text);
-    begun_by(word, words)
+    begun_by(alloc, word, words)
 }

@@ -175,6 +175,10 @@ impl Engine {
                 self.show()?;
                 Ok(input)
             }
+            _ => {
+                self.written.refuse_line(LineFault::UnknownCommand)?;
+                Ok(input)
+            }
         }
     }
 
@@ -207,7 +211,10 @@ impl Engine {
     {
         let cut = cut_line(input);
         match text_of(cut.line, cut.is_long) {
-            Ok(text) => self.answer_said(command_of(text), cut.rest),
+            Ok(text) => {
+                let says = command_of(self.alloc, text)?;
+                self.answer_said(says, cut.rest)
+            }
             Err(fault) => self.answer_said(Err(fault), cut.rest),
         }
     }

@@ -1,11 +1,14 @@
-// Numbers and names of messages in a command.
-ghost use Rattle.std.specs.Prelude.{◌≡◌, ◌<◌, Some};
+// Numbers, and names of messages and events, in a command.
+ghost use Rattle.std.specs.Prelude.{◌≡◌, ◌<◌, Some, IfOk};
 ghost use Rattle.std.specs.Char.{is_ascii_digit};
 ghost use Rattle.std.specs.Option.{option_map};
 ghost use Rattle.std.specs.List.{list_all};
-ghost use Rattle.evats.specs.Numbers.{number_of, behind_tag, tagged, message_named, is_numeral};
+ghost use Rattle.evats.specs.Numbers.{number_of, behind_tag, tagged, message_named, event_named, one_or_more, is_numeral};
+ghost use Rattle.evats.specs.Words.{words_in};
 
+use crate::words::{cut_word, skip_blanks};
 use ids::names::{EventName, MsgId};
+use std::alloc::{AllocError, Global};
 
 fn all_digits(word: &[u8]) -> bool
     ensures { result ≡ list_all is_ascii_digit word.now }
@@ -57,4 +60,29 @@ pub fn message_named(word: &str) -> Option<MsgId>
         event: EventName(u64::from(event)),
         index,
     })
+}
+
+/// An event's name, such as `e7`.
+pub fn event_named(word: &str) -> Option<EventName>
+    ensures { result ≡ event_named word.now }
+{
+    let number = tagged('e', word)?;
+    Some(EventName(u64::from(number)))
+}
+
+/// The events that the words of a text name, where they are one or more and all are names.
+pub fn events_named(alloc: Global, words: &str) -> Result<Option<Vec<EventName>>, AllocError>
+    ensures { IfOk result (λ r. option_map (λ events. events.items) r ≡ one_or_more (words_in words.now)) }
+{
+    let mut events = Vec::new(alloc);
+    let mut rest = skip_blanks(words);
+    'words: while !rest.is_empty() {
+        let (word, behind) = cut_word(rest);
+        let Some(event) = event_named(word) else {
+            return Ok(None);
+        };
+        events.push(event)?;
+        rest = behind;
+    }
+    Ok((!events.is_empty()).then_some(events))
 }

@@ -1,0 +1,124 @@
+-- Cutting off one word after another gives all words of a text.
+use Rattle.std.proofs.Common.{◌≡◌, ℕ, suc, ◌+◌, ◌-◌, ◌<◌, ◌≤◌, List, [], ◌∷◌, ◌++◌, append_assoc, append-nil, length, take, drop, filter, Bool, true, false, not, cond, Option, Some, None, refl, sym, ap, ◌∙◌, arith, length-drop, ◌==◌}
+use Rattle.std.specs.Option.{option_map, option_and_then}
+use Rattle.std.specs.List.{position_or_len, slice_split, onto_first}
+use Rattle.ids.specs.declared.names.EventName.{EventName}
+use Rattle.evats.specs.Words.{is_blank, without_blanks, first_word, behind_word, is_word, words_in}
+use Rattle.evats.specs.Numbers.{event_named, events_named, one_or_more}
+
+one_more : (n : ℕ) → 1 + n ≡ suc n
+one_more n = omega arith
+
+-- a blank in front is left out
+skip_blank : (b : ℕ) (bs : List ℕ) → is_blank b ≡ true → without_blanks (b ∷ bs) ≡ without_blanks bs
+skip_blank b bs h =
+    ap (λ t. drop (cond (not (not t)) (1 + position_or_len (λ c. not (is_blank c)) bs) 0) (b ∷ bs)) h
+    ∙ ap (λ n. drop n (b ∷ bs)) (one_more (position_or_len (λ c. not (is_blank c)) bs))
+
+keep_other : (b : ℕ) (bs : List ℕ) → is_blank b ≡ false → without_blanks (b ∷ bs) ≡ b ∷ bs
+keep_other b bs h = ap (λ t. drop (cond (not (not t)) (1 + position_or_len (λ c. not (is_blank c)) bs) 0) (b ∷ bs)) h
+
+-- a text begins with no blank
+abbrev pub begins : List ℕ → Bool
+begins [] = true
+begins (b ∷ bs) = not (is_blank b)
+
+begins_by : (b : ℕ) (bs : List ℕ) (t : Bool) → is_blank b ≡ t → begins (without_blanks bs) ≡ true → begins (without_blanks (b ∷ bs)) ≡ true
+begins_by b bs true h k = ap begins (skip_blank b bs h) ∙ k
+begins_by b bs false h k = ap begins (keep_other b bs h) ∙ ap not h
+
+pub blanks_gone : (text : List ℕ) → begins (without_blanks text) ≡ true
+blanks_gone [] = refl
+blanks_gone (b ∷ bs) = begins_by b bs (is_blank b) refl (blanks_gone bs)
+
+split_blank : (b : ℕ) (bs : List ℕ) → is_blank b ≡ true → words_in (b ∷ bs) ≡ words_in bs
+split_blank b bs h = ap (λ t. filter is_word (cond t ([] ∷ slice_split is_blank bs) (onto_first b (slice_split is_blank bs)))) h
+
+skip_by : (b : ℕ) (bs : List ℕ) (t : Bool) → is_blank b ≡ t → words_in (without_blanks bs) ≡ words_in bs → words_in (without_blanks (b ∷ bs)) ≡ words_in (b ∷ bs)
+skip_by b bs true h k = ap words_in (skip_blank b bs h) ∙ k ∙ sym (split_blank b bs h)
+skip_by b bs false h k = ap words_in (keep_other b bs h)
+
+-- blanks in front are no word
+pub words_behind_blanks : (text : List ℕ) → words_in (without_blanks text) ≡ words_in text
+words_behind_blanks [] = refl
+words_behind_blanks (b ∷ bs) = skip_by b bs (is_blank b) refl (words_behind_blanks bs)
+
+-- what is behind the first word, with the blanks before it
+abbrev behind : List ℕ → List ℕ
+behind text = drop (position_or_len is_blank text) text
+
+abbrev parts_behind : List ℕ → List (List ℕ)
+parts_behind [] = []
+parts_behind (b ∷ bs) = slice_split is_blank bs
+
+first_blank : (b : ℕ) (bs : List ℕ) → is_blank b ≡ true → first_word (b ∷ bs) ≡ []
+first_blank b bs h = ap (λ t. take (cond (not t) (1 + position_or_len is_blank bs) 0) (b ∷ bs)) h
+
+first_other : (b : ℕ) (bs : List ℕ) → is_blank b ≡ false → first_word (b ∷ bs) ≡ b ∷ first_word bs
+first_other b bs h = ap (λ t. take (cond (not t) (1 + position_or_len is_blank bs) 0) (b ∷ bs)) h ∙ ap (λ n. take n (b ∷ bs)) (one_more (position_or_len is_blank bs))
+
+behind_blank : (b : ℕ) (bs : List ℕ) → is_blank b ≡ true → behind (b ∷ bs) ≡ b ∷ bs
+behind_blank b bs h = ap (λ t. drop (cond (not t) (1 + position_or_len is_blank bs) 0) (b ∷ bs)) h
+
+behind_other : (b : ℕ) (bs : List ℕ) → is_blank b ≡ false → behind (b ∷ bs) ≡ behind bs
+behind_other b bs h = ap (λ t. drop (cond (not t) (1 + position_or_len is_blank bs) 0) (b ∷ bs)) h ∙ ap (λ n. drop n (b ∷ bs)) (one_more (position_or_len is_blank bs))
+
+parts_by : (b : ℕ) (bs : List ℕ) (t : Bool) → is_blank b ≡ t → slice_split is_blank bs ≡ first_word bs ∷ parts_behind (behind bs)
+    → slice_split is_blank (b ∷ bs) ≡ first_word (b ∷ bs) ∷ parts_behind (behind (b ∷ bs))
+parts_by b bs true h k =
+    ap (λ t. cond t ([] ∷ slice_split is_blank bs) (onto_first b (slice_split is_blank bs))) h
+    ∙ sym (ap (λ w. w ∷ parts_behind (behind (b ∷ bs))) (first_blank b bs h) ∙ ap (λ r. [] ∷ parts_behind r) (behind_blank b bs h))
+parts_by b bs false h k =
+    ap (λ t. cond t ([] ∷ slice_split is_blank bs) (onto_first b (slice_split is_blank bs))) h ∙ ap (onto_first b) k
+    ∙ sym (ap (λ w. w ∷ parts_behind (behind (b ∷ bs))) (first_other b bs h) ∙ ap (λ r. (b ∷ first_word bs) ∷ parts_behind r) (behind_other b bs h))
+
+parts : (text : List ℕ) → slice_split is_blank text ≡ first_word text ∷ parts_behind (behind text)
+parts [] = refl
+parts (b ∷ bs) = parts_by b bs (is_blank b) refl (parts bs)
+
+behind_by : (b : ℕ) (bs : List ℕ) (t : Bool) → is_blank b ≡ t → filter is_word (parts_behind (behind bs)) ≡ words_in (behind bs)
+    → filter is_word (parts_behind (behind (b ∷ bs))) ≡ words_in (behind (b ∷ bs))
+behind_by b bs true h k = ap (λ r. filter is_word (parts_behind r)) (behind_blank b bs h) ∙ sym (split_blank b bs h) ∙ sym (ap words_in (behind_blank b bs h))
+behind_by b bs false h k = ap (λ r. filter is_word (parts_behind r)) (behind_other b bs h) ∙ k ∙ sym (ap words_in (behind_other b bs h))
+
+words_behind : (text : List ℕ) → filter is_word (parts_behind (behind text)) ≡ words_in (behind text)
+words_behind [] = refl
+words_behind (b ∷ bs) = behind_by b bs (is_blank b) refl (words_behind bs)
+
+not_true : (b : Bool) → not b ≡ true → b ≡ false
+not_true true h = cc
+not_true false h = refl
+
+no_length : (n : ℕ) → not (suc n == 0) ≡ true
+no_length n = refl
+
+-- a text that begins with no blank begins with a word
+pub words_cut : (text : List ℕ) → begins text ≡ true → (length text == 0) ≡ false → words_in text ≡ first_word text ∷ words_in (behind_word text)
+words_cut [] h k = cc
+words_cut (b ∷ bs) h k =
+    let other = not_true (is_blank b) h in
+    let word : is_word (first_word (b ∷ bs)) ≡ true = ap is_word (first_other b bs other) in
+    ap (filter is_word) (parts (b ∷ bs))
+    ∙ ap (λ t. cond t (first_word (b ∷ bs) ∷ filter is_word (parts_behind (behind (b ∷ bs)))) (filter is_word (parts_behind (behind (b ∷ bs))))) word
+    ∙ ap (λ ws. first_word (b ∷ bs) ∷ ws) (words_behind (b ∷ bs) ∙ sym (words_behind_blanks (behind (b ∷ bs))))
+
+-- less is left behind a word
+pub shorter_behind : (text : List ℕ) → begins text ≡ true → (length text == 0) ≡ false → length (behind_word text) < length text
+shorter_behind [] h k = cc
+shorter_behind (b ∷ bs) h k =
+    let other = not_true (is_blank b) h in
+    let all : length (without_blanks (behind bs)) ≤ length (behind bs) = omega (arith, length-drop (position_or_len (λ c. not (is_blank c)) (behind bs)) (behind bs)) in
+    let rest : length (behind bs) ≤ length bs = omega (arith, length-drop (position_or_len is_blank bs) bs) in
+    let same : length (behind_word (b ∷ bs)) ≡ length (without_blanks (behind bs)) = ap (λ r. length (without_blanks r)) (behind_other b bs other) in
+    omega (arith, all, rest, same)
+
+pub no_words : (text : List ℕ) → (length text == 0) ≡ true → words_in text ≡ []
+no_words [] h = refl
+no_words (b ∷ bs) h = cc
+
+named_none : (so_far : List EventName) → option_map (λ es. so_far ++ es) (events_named []) ≡ Some so_far
+named_none so_far = ap Some (append-nil so_far)
+
+more : (so_far : List EventName) (e : EventName) (o : Option (List EventName)) → option_map (λ es. so_far ++ es) (option_map (λ es. e ∷ es) o) ≡ option_map (λ es. (so_far ++ e ∷ []) ++ es) o
+more so_far e (Some es) = ap Some (sym (append_assoc so_far (e ∷ []) es))
+more so_far e None = refl

@@ -1,0 +1,16 @@
+use Rattle.std.proofs.Common.{◌≡◌, ◌++◌, length, true}
+use Rattle.std.specs.Option.{option_map}
+use Rattle.evats.specs.Words.{words_in}
+use Rattle.evats.specs.Numbers.{events_named}
+use Rattle.evats.proofs.Wording.{begins}
+use Rattle.evats.proofs.numbers.events_named.Given as goal
+
+-- the events so far, and then those of the words that are left
+abbrev pub invariant-words : goal.invariant-words
+invariant-words l = record {
+  named : events_named (words_in l.fn.words) ≡ option_map (λ es. l.events.items ++ es) (events_named (words_in l.rest));
+  begins : begins l.rest ≡ true;
+}
+
+abbrev pub decreases-words : goal.decreases-words
+decreases-words l = length l.rest
