@@ -1,0 +1,1 @@
+-- Sets of entries that are sound run.

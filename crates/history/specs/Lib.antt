@@ -1,0 +1,4 @@
+pub mod Subject
+pub mod Journal
+pub mod Cone
+pub mod Theorems
