@@ -1,7 +1,9 @@
 pub mod World
 pub mod Events
+pub mod Journal
+pub mod Books
+pub mod Refusals
+pub mod Calls
 pub mod View
 pub mod Fault
-pub mod Turns
-pub mod Books
-pub mod BookView
+pub mod EventView

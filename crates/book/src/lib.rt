@@ -1,8 +1,8 @@
 //! The world, and the book that all events go through.
 #![tactic(auto)]
 
-pub mod book;
+// pub mod book;
+pub mod event;
 pub mod fault;
-#[cfg(test)]
-mod tests;
+pub mod journal;
 pub mod world;
