@@ -36,4 +36,4 @@ pub record Kept (b : Book) (es : List (Entry events)) : Type 0 where
 
 -- THE INVARIANT: the journal is good
 abbrev pub Stands : Book → Type 0
-Stands b = ∥ (es : List (Entry events)) × Kept b es ∥₁
+Stands b = ∥ ((es : List (Entry events)) × Kept b es) ∥₁

@@ -38,10 +38,10 @@ causes_in touched lines = map name_of (filter (λ l. l.live && wrote_one_of touc
 
 -- the lines with the chosen ones undone, or live again
 abbrev pub undone_in : List EventName → List Line → List Line
-undone_in names lines = map (λ l. record l { live = l.live && not (chosen names l) }) lines
+undone_in names lines = map {A = Line} {B = Line} (λ l. record l { live = l.live && not (chosen names l) }) lines
 
 abbrev pub redone_in : List EventName → List Line → List Line
-redone_in names lines = map (λ l. record l { live = l.live || chosen names l }) lines
+redone_in names lines = map {A = Line} {B = Line} (λ l. record l { live = l.live || chosen names l }) lines
 
 -- the events of the live lines
 abbrev pub live_events : List Line → List Event
