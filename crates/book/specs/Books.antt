@@ -23,9 +23,13 @@ blank = record { world = empty; journal = []; next = 1; redoable = [] }
 abbrev pub PlainRun : List Event → World → Type 0
 PlainRun es w = ∥ Run events empty (reverse es) w ∥₁
 
+-- the same from any world
+abbrev pub RunFrom : World → List Event → World → Type 0
+RunFrom start es w = ∥ Run events start (reverse es) w ∥₁
+
 -- a line tells of an entry what it touched, and not what it wrote there
 abbrev pub line_of : Entry events → Line
-line_of e = record { event = e.event; reads = e.foot.reads; written = map (λ p. p.0) e.foot.writes; causes = map (λ n. record { 0 = n }) e.causes; live = e.live }
+line_of e = record { event = e.event; touched = history.touched events e.foot; written = map (λ p. p.0) e.foot.writes; causes = map (λ n. record { 0 = n }) e.causes; live = e.live }
 
 -- entries, the newest first, are what the journal tells, and made the world; with them the events that may be redone would be sound again
 pub record Kept (b : Book) (es : List (Entry events)) : Type 0 where

@@ -15,7 +15,7 @@ touched f = history.touched events f
 
 -- the live line of a new event: its footprint, and as its causes the live lines before it that wrote a cell that it touches
 abbrev pub new_line : Event → Foot → List Line → Line
-new_line e f lines = record { event = e; reads = f.reads; written = map (λ p. p.0) f.writes; causes = causes_in (touched f) lines; live = true }
+new_line e f lines = record { event = e; touched = touched f; written = map (λ p. p.0) f.writes; causes = causes_in (touched f) lines; live = true }
 
 -- an accepted event has the next name; the world goes one step, the journal has one more line at its end, and nothing may be redone
 pub record Enters (e : Event) (f : Foot) (old new : Book) : Type 0 where

@@ -23,7 +23,7 @@ is_live mark.Live = true
 is_live mark.Undone = false
 
 abbrev pub line_of : Entry → Line
-line_of e = record { event = event_of e.event; reads = e.reads.items; written = e.written.items; causes = e.causes.items; live = is_live e.mark }
+line_of e = record { event = event_of e.event; touched = e.touched.items; written = e.written.items; causes = e.causes.items; live = is_live e.mark }
 
 abbrev pub lines_of : List Entry → List Line
 lines_of entries = map line_of entries

@@ -6,10 +6,10 @@ use Rattle.ids.specs.declared.names.EventName.{EventName}
 use Rattle.ids.specs.declared.names.CellKey.{CellKey}
 use Rattle.book.specs.Events.{Event}
 
--- an event, the cells that it read and those that it wrote, the names of its causes, and whether it is live
+-- an event, the cells that it touched, those of them that it wrote, the names of its causes, and whether it is live
 pub record Line : Type 0 where
   pub event : Event
-  pub reads : List CellKey
+  pub touched : List CellKey
   pub written : List CellKey
   pub causes : List EventName
   pub live : Bool

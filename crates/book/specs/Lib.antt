@@ -4,6 +4,7 @@ pub mod Journal
 pub mod Books
 pub mod Refusals
 pub mod Calls
+pub mod Steps
 pub mod View
 pub mod Fault
 pub mod EventView

@@ -77,13 +77,16 @@ abbrev pub place_refusal : World → Place → Option Refusal
 place_refusal w (at_vat v) = home_refusal (w (key.State v))
 place_refusal w (done e) = Some not_there
 
-abbrev pub turn_refusal_by : Book → MsgId → Option Message → Option Refusal
-turn_refusal_by b m None = Some (no_message m)
-turn_refusal_by b m (Some g) = first (place_refusal b.world g.place) (first (await_refusal b.world g.after) (full_refusal b))
+abbrev pub ready_refusal_by : World → MsgId → Option Message → Option Refusal
+ready_refusal_by w m None = Some (no_message m)
+ready_refusal_by w m (Some g) = first (place_refusal w g.place) (await_refusal w g.after)
 
--- a turn: the message is there, at a vat, and what it waits for is done
+-- a delivery: the message is there, at a vat, and what it waits for is done
+abbrev pub ready_refusal : World → MsgId → Option Refusal
+ready_refusal w m = ready_refusal_by w m (message_of w m)
+
 abbrev pub turn_refusal : Book → MsgId → Option Refusal
-turn_refusal b m = turn_refusal_by b m (message_of b.world m)
+turn_refusal b m = first (ready_refusal b.world m) (full_refusal b)
 
 abbrev pub is_entered : List Line → EventName → Bool
 is_entered lines e = list_any (λ l. (name_of l).0 == e.0) lines

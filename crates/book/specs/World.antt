@@ -43,13 +43,17 @@ World = CellKey → Option Content
 abbrev pub empty : World
 empty k = None
 
+-- the world in which a cell holds this, or nothing
+abbrev pub hold : CellKey → Option Content → World → World
+hold k o w = λ d. cond (same_key k d) o (w d)
+
 -- the world with this content in a cell
 abbrev pub put : CellKey → Content → World → World
-put k x w = λ d. cond (same_key k d) (Some x) (w d)
+put k x w = hold k (Some x) w
 
 -- the world with nothing in a cell
 abbrev pub clear : CellKey → World → World
-clear k w = λ d. cond (same_key k d) None (w d)
+clear k w = hold k None w
 
 abbrev pub vat_in : Option Content → Option Vat
 vat_in (Some (vat x)) = Some x

@@ -21,9 +21,9 @@ pub enum Mark {
 #[derive(Drop)]
 pub struct Entry {
     pub event: Event,
-    /// The cells that it read.
-    pub reads: Vec<CellKey>,
-    /// The cells that it wrote.
+    /// The cells that it read or wrote.
+    pub touched: Vec<CellKey>,
+    /// Those that it wrote.
     pub written: Vec<CellKey>,
     /// The events before it, live when it was made, that wrote a cell that it touches.
     pub causes: Vec<EventName>,

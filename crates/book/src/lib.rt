@@ -5,4 +5,5 @@
 pub mod event;
 pub mod fault;
 pub mod journal;
+pub mod step;
 pub mod world;
