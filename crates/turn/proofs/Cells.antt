@@ -61,6 +61,10 @@ cells_same m n rs ss p q = λ i c. same_cells m n rs ss p q c i
 abbrev pub listed : {K V C : Type 0} → (K → K → Ordering) → (V → C) → List (K × V) → K → Option C
 listed cmp f es k = option_map f (lookup (is_at (cmp k)) es)
 
+-- an empty map says nothing of any key
+pub listed_none : {K V C : Type 0} (cmp : K → K → Ordering) (f : V → C) (m : BTreeMap K V) → m.entries ≡ [] → (λ q. option_map f (get cmp m q)) ≡ listed cmp f []
+listed_none cmp f m e = ap (listed cmp f) e
+
 one_more : {K V C : Type 0} (cmp : K → K → Ordering) (f : V → C) → IsTotalOrder cmp → (m n : BTreeMap K V) (es : List (K × V)) (k x : K) (v w : V)
     → (λ q. option_map f (get cmp m q)) ≡ listed cmp f es → x ≡ k → f w ≡ f v → Updates cmp m n x (Some w) → (q : K) → option_map f (get cmp n q) ≡ listed cmp f ((k, v) ∷ es) q
 one_more cmp f o m n es k x v w e p g u q =

@@ -63,28 +63,27 @@ ItemsFrame k v ts a o b u ls = Framed (λ s. Items k v ts (in_state u a) o (in_s
 -- a noun stands for the same, so the same slot is read
 noun_case : (k : ℕ) (x : Name) (a : At) (u : State) → Agree (noun_touched x a) u a.state → RunsFrame k (noun x) a (noun_end a.state x (sought x a)) a u (noun_touched x a)
 noun_case k x a u h =
-    let l = lookup a.nouns x in
-    let e : found u x l ≡ found a.state x l = found_framed x l u a.state (agree_left (sought_touched x l) (read_touched (sought_slot x a)) u a.state h) in
-    let g : noun_end u x (sought x a) ≡ noun_end a.state x (sought x a) = noun_framed x (sought x a) u a.state (agree_right (sought_touched x l) (read_touched (sought_slot x a)) u a.state h) in
+    let e : found u x (lookup a.nouns x) ≡ found a.state x (lookup a.nouns x) = found_framed x (lookup a.nouns x) u a.state (agree_left (sought_touched x (lookup a.nouns x)) (read_touched (sought_slot x a)) u a.state h) in
+    let g : noun_end u x (sought x a) ≡ noun_end a.state x (sought x a) = noun_framed x (sought x a) u a.state (agree_right (sought_touched x (lookup a.nouns x)) (read_touched (sought_slot x a)) u a.state h) in
     subst (λ o. RunsFrame k (noun x) a o a u (noun_touched x a)) (ap (noun_end u x) e ∙ g)
-    (record { after = u; run = run_noun; same = ap (λ m. sought_touched x l ++ read_touched (slot_in m)) e; kept = λ c q. q })
+    (record { after = u; run = run_noun; same = ap (λ m. sought_touched x (lookup a.nouns x) ++ read_touched (slot_in m)) e; kept = λ c q. q })
 
 -- what is made of a right side's end, where what is written is framed too
-wrapped : {k : ℕ} {t e : Tree} {a : At} {o p : End} (b c : At) {u : State} {ls : List Touch} (more : List Touch) (f : EndsFrame (k + 1) e a o b u ls) (after : State) (run : Runs k t (in_state u a) p (in_state after c))
+wrapped : (k : ℕ) (t e : Tree) (a : At) (o p : End) (b c : At) (u : State) (ls more : List Touch) (f : EndsFrame (k + 1) e a o b u ls) (after : State) (run : Runs k t (in_state u a) p (in_state after c))
     → runs_touched run ≡ ends_touched f.run ++ more → ((d : Cell) → f.after d ≡ b.state d → after d ≡ c.state d) → RunsFrame k t a p c u (ls ++ more)
-wrapped b c more f after run m kept = record { after = after; run = run; same = m ∙ ap (λ l. l ++ more) f.same; kept = λ d q. kept d (f.kept d q) }
+wrapped k t e a o p b c u ls more f after run m kept = record { after = after; run = run; same = m ∙ ap (λ l. l ++ more) f.same; kept = λ d q. kept d (f.kept d q) }
 
 -- a name bound where the innermost scope is known
 bound_case : (own : Bool) (k : ℕ) (x : Name) (e : Tree) (a : At) (v : Val) (b : At) (u : State) (ls : List Touch) (f : EndsFrame (k + 1) e a (value v) b u ls) (run : Runs k (define (pattern.Name x) e) (in_state u a) (value v) (bound_in own x (fixed v) (in_state f.after b))) → runs_touched run ≡ ends_touched f.run ++ bound_touched own x → RunsFrame k (define (pattern.Name x) e) a (value v) (bound_in own x (fixed v) b) u (ls ++ bound_touched own x)
-bound_case true k x e a v b u ls f run m = wrapped b (bound_in true x (fixed v) b) (bound_touched true x) f (write f.after (top x) (bound (fixed v))) run m (λ c q. write_kept f.after b.state (top x) (bound (fixed v)) c q)
-bound_case false k x e a v b u ls f run m = wrapped b (bound_in false x (fixed v) b) [] f f.after run m (λ c q. q)
+bound_case true k x e a v b u ls f run m = wrapped k (define (pattern.Name x) e) e a (value v) (value v) b (bound_in true x (fixed v) b) u ls (bound_touched true x) f (write f.after (top x) (bound (fixed v))) run m (λ c q. write_kept f.after b.state (top x) (bound (fixed v)) c q)
+bound_case false k x e a v b u ls f run m = wrapped k (define (pattern.Name x) e) e a (value v) (value v) b (bound_in false x (fixed v) b) u ls [] f f.after run m (λ c q. q)
 
 define_case : (k : ℕ) (p : Pattern) (e : Tree) (a : At) (o : End) (b : At) (u : State) (ls : List Touch) → EndsFrame (k + 1) e a o b u ls → RunsFrame k (define p e) a o (defined p o b) u (ls ++ defined_touched p o b)
-define_case k p e a (halt h) b u ls f = wrapped b b [] f f.after (run_define f.run) refl (λ c q. q)
-define_case k pattern.Ignore e a (value v) b u ls f = wrapped b b [] f f.after (run_define f.run) refl (λ c q. q)
+define_case k p e a (halt h) b u ls f = wrapped k (define p e) e a (halt h) (halt h) b b u ls [] f f.after (run_define f.run) refl (λ c q. q)
+define_case k pattern.Ignore e a (value v) b u ls f = wrapped k (define pattern.Ignore e) e a (value v) (value v) b b u ls [] f f.after (run_define f.run) refl (λ c q. q)
 define_case k (pattern.Name x) e a (value v) b u ls f = bound_case b.own_scope k x e a v b u ls f (run_define f.run) refl
 
--- a new slot is written in both states alike
+-- a slot is written in both states alike
 slot_kept : (t s : State) (i : SlotId) (v : Val) (c : Cell) → t c ≡ s c → write t (slot_cell i) (held v) c ≡ write s (slot_cell i) (held v) c
 slot_kept t s i v c e = write_kept t s (slot_cell i) (held v) c e
 
@@ -92,37 +91,36 @@ slot_kept t s i v c e = write_kept t s (slot_cell i) (held v) c e
 slot_case : (own : Bool) (k : ℕ) (x : Name) (e : Tree) (a : At) (v : Val) (b : At) (u : State) (ls : List Touch) (f : EndsFrame (k + 1) e a (value v) b u ls) (run : Runs k (variable x e) (in_state u a) (value v) (bound_in own x (slot (next_slot b)) (slot_made v (in_state f.after b))))
     → runs_touched run ≡ ends_touched f.run ++ (put (slot_cell (next_slot b)) ∷ bound_touched own x) → RunsFrame k (variable x e) a (value v) (bound_in own x (slot (next_slot b)) (slot_made v b)) u (ls ++ (put (slot_cell (next_slot b)) ∷ bound_touched own x))
 slot_case true k x e a v b u ls f run m =
-    let i = next_slot b in
-    wrapped b (bound_in true x (slot i) (slot_made v b)) (put (slot_cell i) ∷ bound_touched true x) f (write (write f.after (slot_cell i) (held v)) (top x) (bound (slot i))) run m
-    (λ c q. write_kept (write f.after (slot_cell i) (held v)) (write b.state (slot_cell i) (held v)) (top x) (bound (slot i)) c (slot_kept f.after b.state i v c q))
+    wrapped k (variable x e) e a (value v) (value v) b (bound_in true x (slot (next_slot b)) (slot_made v b)) u ls (put (slot_cell (next_slot b)) ∷ bound_touched true x) f
+    (write (write f.after (slot_cell (next_slot b)) (held v)) (top x) (bound (slot (next_slot b)))) run m
+    (λ c q. write_kept (write f.after (slot_cell (next_slot b)) (held v)) (write b.state (slot_cell (next_slot b)) (held v)) (top x) (bound (slot (next_slot b))) c (slot_kept f.after b.state (next_slot b) v c q))
 slot_case false k x e a v b u ls f run m =
-    let i = next_slot b in
-    wrapped b (bound_in false x (slot i) (slot_made v b)) (put (slot_cell i) ∷ []) f (write f.after (slot_cell i) (held v)) run m (λ c q. slot_kept f.after b.state i v c q)
+    wrapped k (variable x e) e a (value v) (value v) b (bound_in false x (slot (next_slot b)) (slot_made v b)) u ls (put (slot_cell (next_slot b)) ∷ []) f
+    (write f.after (slot_cell (next_slot b)) (held v)) run m (λ c q. slot_kept f.after b.state (next_slot b) v c q)
 
 -- a variable, where it is known whether there is room for it
 made_case : (room : Bool) (k : ℕ) (x : Name) (e : Tree) (a : At) (v : Val) (b : At) (u : State) (ls : List Touch) (f : EndsFrame (k + 1) e a (value v) b u ls) (run : Runs k (variable x e) (in_state u a) (made_end room v) (made room x v (in_state f.after b)))
-    → runs_touched run ≡ ends_touched f.run ++ made_touched room x b → RunsFrame k (variable x e) a (made_end room v) (made room x v b) u (ls ++ made_touched room x b)
+    → runs_touched run ≡ ends_touched f.run ++ made_touched room x (in_state f.after b) → RunsFrame k (variable x e) a (made_end room v) (made room x v b) u (ls ++ made_touched room x b)
 made_case true k x e a v b u ls f run m = slot_case b.own_scope k x e a v b u ls f run m
-made_case false k x e a v b u ls f run m = wrapped b b [] f f.after run m (λ c q. q)
+made_case false k x e a v b u ls f run m = wrapped k (variable x e) e a (value v) (made_end false v) b b u ls [] f f.after run m (λ c q. q)
 
 declare_case : (k : ℕ) (x : Name) (e : Tree) (a : At) (o : End) (b : At) (u : State) (ls : List Touch) → EndsFrame (k + 1) e a o b u ls → RunsFrame k (variable x e) a (declared_end o b) (declared x o b) u (ls ++ declared_touched x o b)
 declare_case k x e a (value v) b u ls f = made_case (has_room b) k x e a v b u ls f (run_variable f.run) refl
-declare_case k x e a (halt h) b u ls f = wrapped b b [] f f.after (run_variable f.run) refl (λ c q. q)
+declare_case k x e a (halt h) b u ls f = wrapped k (variable x e) e a (halt h) (halt h) b b u ls [] f f.after (run_variable f.run) refl (λ c q. q)
 
--- an assignment, where it is known what its noun stands for
+-- an assignment, where it is known for which slot its noun stands
 set_case : (i : Option SlotId) (k : ℕ) (x : Name) (e : Tree) (a : At) (v : Val) (b : At) (u : State) (ls gs : List Touch) (f : EndsFrame (k + 1) e a (value v) b u ls) (run : Runs k (assign x e) (in_state u a) (assigned_end x (value v) i) (assigned (value v) i (in_state f.after b)))
     → runs_touched run ≡ ends_touched f.run ++ (gs ++ set_touched i) → RunsFrame k (assign x e) a (assigned_end x (value v) i) (assigned (value v) i b) u (ls ++ (gs ++ set_touched i))
-set_case (Some i) k x e a v b u ls gs f run m = wrapped b (assigned (value v) (Some i) b) (gs ++ set_touched (Some i)) f (write f.after (slot_cell i) (held v)) run m (λ c q. slot_kept f.after b.state i v c q)
-set_case None k x e a v b u ls gs f run m = wrapped b b (gs ++ []) f f.after run m (λ c q. q)
+set_case (Some i) k x e a v b u ls gs f run m = wrapped k (assign x e) e a (value v) (value v) b (assigned (value v) (Some i) b) u ls (gs ++ set_touched (Some i)) f (write f.after (slot_cell i) (held v)) run m (λ c q. slot_kept f.after b.state i v c q)
+set_case None k x e a v b u ls gs f run m = wrapped k (assign x e) e a (value v) (assigned_end x (value v) None) b b u ls (gs ++ []) f f.after run m (λ c q. q)
 
 assign_case : (k : ℕ) (x : Name) (e : Tree) (a : At) (o : End) (b : At) (u : State) (ls : List Touch) (f : EndsFrame (k + 1) e a o b u ls) → Agree (assigned_touched x o b) f.after b.state
     → RunsFrame k (assign x e) a (assigned_end x o (sought_slot x b)) (assigned o (sought_slot x b) b) u (ls ++ assigned_touched x o b)
 assign_case k x e a (value v) b u ls f h =
-    let l = lookup b.nouns x in
-    let g : found f.after x l ≡ found b.state x l = found_framed x l f.after b.state (agree_left (sought_touched x l) (set_touched (sought_slot x b)) f.after b.state h) in
-    subst (λ i. RunsFrame k (assign x e) a (assigned_end x (value v) i) (assigned (value v) i b) u (ls ++ (sought_touched x l ++ set_touched i))) (ap slot_in g)
-    (set_case (slot_in (found f.after x l)) k x e a v b u ls (sought_touched x l) f (run_assign f.run) refl)
-assign_case k x e a (halt j) b u ls f h = wrapped b b [] f f.after (run_assign f.run) refl (λ c q. q)
+    let g : found f.after x (lookup b.nouns x) ≡ found b.state x (lookup b.nouns x) = found_framed x (lookup b.nouns x) f.after b.state (agree_left (sought_touched x (lookup b.nouns x)) (set_touched (sought_slot x b)) f.after b.state h) in
+    subst (λ i. RunsFrame k (assign x e) a (assigned_end x (value v) i) (assigned (value v) i b) u (ls ++ (sought_touched x (lookup b.nouns x) ++ set_touched i))) (ap slot_in g)
+    (set_case (slot_in (found f.after x (lookup b.nouns x))) k x e a v b u ls (sought_touched x (lookup b.nouns x)) f (run_assign f.run) refl)
+assign_case k x e a (halt j) b u ls f h = wrapped k (assign x e) e a (halt j) (halt j) b b u ls [] f f.after (run_assign f.run) refl (λ c q. q)
 
 mutual
   pub ends_framed : {k : ℕ} {t : Tree} {a b : At} {o : End} (r : Ends k t a o b) (u : State) → Agree (ends_touched r) u a.state → EndsFrame k t a o b u (ends_touched r)
