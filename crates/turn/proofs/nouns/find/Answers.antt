@@ -1,6 +1,6 @@
 use Rattle.std.proofs.Common.{◌∙◌, rules}
 use Rattle.turn.proofs.Scopes.{find_here, find_on}
-use Rattle.turn.proofs.eval.find.Goals as goal
+use Rattle.turn.proofs.nouns.find.Goals as goal
 
 pub returns-then-eq : goal.returns-then-eq
 returns-then-eq c = find_here _ _ _ _ c.in-Some.ensures.cases.0 (search rules) ∙ c.loop-newest.invariant
