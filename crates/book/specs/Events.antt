@@ -95,7 +95,7 @@ pub record Turns (e : EventName) (w : World) (m : MsgId) (budget : ℕ) (t : Tur
   pub there : t.message.place ≡ at_vat t.vat
   pub in_order : InOrder w t.message.after
   pub at_home : w (key.State t.vat) ≡ Some (home t.name t.state)
-  pub delivers : Delivers t.message.delivery t.state budget t.outcome
+  pub delivers : Delivers t.message.delivery e t.vat t.state budget t.outcome
 
 -- an event is possible in a world, and has this footprint there
 pub data Does : Event → World → Foot → Type 0 where

@@ -206,10 +206,11 @@ pub fn deliver(
     home: &Home,
 ) -> Result<Delivered, AllocError>
     ensures same { IfOk result (λ d. (d.number ≡ number) × (d.after ≡ message.now.after) × (d.promise ≡ message.now.result)) }
-    ensures run { IfOk result (λ d. ∥ Delivers (delivery_of message.now.delivery) (state_of home.now.state) budget (outcome_of d.outcome) ∥₁) }
+    ensures run { IfOk result (λ d. ∥ Delivers (delivery_of message.now.delivery) event number (state_of home.now.state) budget (outcome_of d.outcome) ∥₁) }
 {
     let ticket = Ticket::new(Out {
         event,
+        vat: number,
         message: name,
         state: home.state.try_copy()?,
         delivery: message.delivery.share()?,

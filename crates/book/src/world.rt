@@ -17,6 +17,7 @@ ghost use Rattle.book.specs.View.{world_of, vat_of, home_of, message_of};
 
 use ids::names::{EventName, MsgId, PromId, VatNo};
 use ids::text::Text;
+use kernele::TopName;
 use std::alloc::{AllocError, Global};
 use std::collections::BTreeMap;
 use turn::delivery::Delivery;
@@ -28,7 +29,7 @@ use values::value::Value;
 pub struct Vat {
     pub number: VatNo,
     /// The names that its script defines at the top.
-    pub tops: Vec<Text>,
+    pub tops: Vec<TopName>,
 }
 
 /// A vat's name and its state.
