@@ -2,3 +2,4 @@ pub mod Subject
 pub mod Journal
 pub mod Cone
 pub mod Theorems
+pub mod Example
