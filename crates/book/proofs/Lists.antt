@@ -1,5 +1,5 @@
 -- On lists that are mapped, filtered and reversed.
-use Rattle.std.proofs.Common.{◌≡◌, Bool, true, false, cond, ◌||◌, List, [], ◌∷◌, ◌++◌, map, filter, reverse, refl, sym, ap, ◌∙◌}
+use Rattle.std.proofs.Common.{◌≡◌, Bool, true, false, cond, ◌&&◌, ◌||◌, List, [], ◌∷◌, ◌++◌, map, filter, reverse, refl, sym, ap, ◌∙◌}
 use Rattle.std.specs.List.{list_any}
 use Rattle.std.proofs.lemmas.List.{reverse-append, map-append}
 use Rattle.std.proofs.lemmas.List.Elements.{filter-append}
@@ -52,3 +52,11 @@ filtered_reversed p (x ∷ xs) =
 pub any_mapped : {A B : Type 0} (f : A → B) (p : B → Bool) (xs : List A) → list_any p (map f xs) ≡ list_any (λ a. p (f a)) xs
 any_mapped f p [] = refl
 any_mapped f p (x ∷ xs) = ap (λ b. p (f x) || b) (any_mapped f p xs)
+
+pub first_true : (x y : Bool) → (x && y) ≡ true → x ≡ true
+first_true true y h = refl
+first_true false y h = h
+
+pub second_true : (x y : Bool) → (x && y) ≡ true → y ≡ true
+second_true true y h = h
+second_true false y h = cc

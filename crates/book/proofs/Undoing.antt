@@ -2,7 +2,7 @@
 use Rattle.std.proofs.Common.{◌≡◌, ℕ, ◌+◌, ◌==◌, Bool, true, false, cond, ◌&&◌, ◌||◌, not, List, [], ◌∷◌, ◌++◌, map, filter, reverse, None, refl, sym, ap, ◌∙◌, subst, eqb-true, eq-eqb}
 use Rattle.std.proofs.Math.Logic.{∥∥₁_elim, ∥∥₁_map, ∥∥₁_prop}
 use Rattle.std.specs.List.{list_any, list_all, AllByRecursion}
-use Rattle.std.proofs.lemmas.Bool.{or_left, or_right, and_left, and_right}
+use Rattle.std.proofs.lemmas.Bool.{or_left, or_right}
 use Rattle.std.proofs.lemmas.List.{reverse-reverse}
 use Rattle.history.specs.Subject.{Run}
 use Rattle.history.specs.Journal.{Entry, live_set, without, both, named, is_in, marked, over, Good, Named, Sound, Closed as ClosedSet, Part}
@@ -16,6 +16,7 @@ use Rattle.book.specs.Journal.{Line, name_of, among, chosen, undone_in, redone_i
 use Rattle.book.specs.Refusals.{undo_refusal, redo_refusal, live_refusal, same_set}
 use Rattle.book.specs.Books.{Book, PlainRun, line_of, Kept, Stands}
 use Rattle.book.specs.Calls.{Undoes, Redoes}
+use Rattle.book.proofs.Lists.{first_true, second_true}
 use Rattle.book.proofs.Law.{events_laws}
 use Rattle.book.proofs.Standing.{numbers, told, among_is, undone_lines, redone_lines, one_world, run_of_good, stands_run}
 use Rattle.book.proofs.Entering.{none_again}
@@ -104,8 +105,8 @@ all_among [] others e h p = cc
 all_among (n ∷ names) others e h p = one (n.0 == e.0) refl p
   where
     one : (b : Bool) → (n.0 == e.0) ≡ b → (b || among names e) ≡ true → among others e ≡ true
-    one true q g = let is : n.0 ≡ e.0 = eqb-true n.0 e.0 q in subst (λ (m : EventName). among others m ≡ true) (ap (λ k. record { 0 = k }) is) (and_left _ _ h)
-    one false q g = all_among names others e (and_right _ _ h) g
+    one true q g = let is : n.0 ≡ e.0 = eqb-true n.0 e.0 q in subst (λ (m : EventName). among others m ≡ true) (ap (λ k. record { 0 = k }) is) (first_true _ _ h)
+    one false q g = all_among names others e (second_true _ _ h) g
 
 both_ways : (a b : Bool) → (a ≡ true → b ≡ true) → (b ≡ true → a ≡ true) → a ≡ b
 both_ways true b f g = sym (f refl)
@@ -113,7 +114,7 @@ both_ways false true f g = g refl
 both_ways false false f g = refl
 
 same_among : (names others : List EventName) (e : EventName) → same_set names others ≡ true → among names e ≡ among others e
-same_among names others e h = both_ways (among names e) (among others e) (all_among names others e (and_left _ _ h)) (all_among others names e (and_right _ _ h))
+same_among names others e h = both_ways (among names e) (among others e) (all_among names others e (first_true _ _ h)) (all_among others names e (second_true _ _ h))
 
 sound_redone : (b : Book) (e : EventName) (names : List EventName) (es : List (Entry events)) → Kept b es → redo_refusal b (e ∷ names) ≡ None
     → Sound events (both (live_set events) (named events (numbers (e ∷ names)))) es

@@ -2,7 +2,7 @@
 use Rattle.std.proofs.Common.{◌≡◌, ℕ, List, Bool, true, false, cond, Option, Some, None, refl, sym, ap, ◌∙◌, subst}
 use Rattle.ids.specs.declared.names.CellKey.{CellKey}
 use Rattle.ids.specs.Cells.{same_key}
-use Rattle.ids.proofs.Keys.{same_key_exact}
+use Rattle.ids.proofs.Keys.{same_key_exact, same_key_self}
 use Rattle.ids.specs.declared.names.CellKey.TheVariants as key
 use Rattle.ids.specs.declared.names.VatNo.{VatNo}
 use Rattle.ids.specs.Cells.{vat_cmp}
@@ -25,6 +25,14 @@ held_at k d o w false e = refl
 -- a cell is given back what it held
 pub hold-back : (k : CellKey) (o : Option Content) (w : World) → hold k (w k) (hold k o w) ≡ w
 hold-back k o w = λ i d. held_at k d o w (same_key k d) refl i
+
+-- a cell that held nothing is cleared again
+pub clear-put : (k : CellKey) (x : Content) (w : World) → w k ≡ None → clear k (put k x w) ≡ w
+clear-put k x w h = ap (λ (o : Option Content). hold k o (put k x w)) (sym h) ∙ hold-back k (Some x) w
+
+-- what was put into a cell is there
+pub put-there : (k : CellKey) (x : Content) (w : World) → put k x w k ≡ Some x
+put-there k x w = ap (λ b. cond b (Some x) (w k)) (same_key_self k)
 
 map_cond : {A B : Type 0} (f : A → B) (b : Bool) (x : A) (o : Option A) → option_map f (cond b (Some x) o) ≡ cond b (Some (f x)) (option_map f o)
 map_cond f true x o = refl

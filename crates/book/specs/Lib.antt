@@ -7,4 +7,6 @@ pub mod Calls
 pub mod Steps
 pub mod View
 pub mod Fault
+pub mod Causes
 pub mod EventView
+pub mod BookView

@@ -1,5 +1,5 @@
 -- When a call of the book is refused.
-use Rattle.std.specs.Prelude.{◌≡◌, ℕ, ◌==◌, ◌&&◌, ◌||◌, not, Bool, cond, List, [], ◌∷◌, length, filter, Option, Some, None, Ok, Err, nat_lt, is_some}
+use Rattle.std.specs.Prelude.{◌≡◌, ℕ, ◌==◌, ◌&&◌, ◌||◌, not, Bool, cond, List, [], ◌∷◌, length, filter, Option, Some, None, Ok, Err, nat_lt, min}
 use Rattle.std.specs.List.{list_any, list_all}
 use Rattle.std.specs.Option.{option_map, option_or}
 use Rattle.kernele.specs.Tree.{Name, Trees}
@@ -91,14 +91,15 @@ turn_refusal b m = first (ready_refusal b.world m) (full_refusal b)
 abbrev pub is_entered : List Line → EventName → Bool
 is_entered lines e = list_any (λ l. (name_of l).0 == e.0) lines
 
+-- the lesser of a name and what is least of others
+abbrev pub lesser : EventName → Option EventName → Option EventName
+lesser a None = Some a
+lesser a (Some b) = Some (record { 0 = min a.0 b.0 })
+
 -- the least name of a list
 abbrev pub least : List EventName → Option EventName
 least [] = None
 least (e ∷ es) = lesser e (least es)
-  where
-    lesser : EventName → Option EventName → Option EventName
-    lesser a None = Some a
-    lesser a (Some b) = Some (cond (nat_lt b.0 a.0) b a)
 
 -- the least name that the journal does not have
 abbrev pub missing_refusal : List EventName → List Line → Option Refusal

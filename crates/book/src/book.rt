@@ -19,13 +19,12 @@ ghost use Rattle.book.specs.View.{world_of};
 
 use crate::event::{Action, Event, share_program};
 use crate::fault::BookFault;
-use crate::journal::{
-    Entry, Mark, causes_of, check_redo, check_undo, cone, count_of, mark_redone, mark_undone,
-};
+use crate::journal::{Entry, Mark, causes_of, count_of, mark_redone, mark_undone};
 use crate::step::{
     Cells, StepFault, Unready, cells_of_ask, cells_of_birth, cells_of_turn, deliver, enter_ask,
     enter_birth, enter_turn, plain_run, ready,
 };
+use crate::undoing::{check_redo, check_undo};
 use crate::world::World;
 use ids::names::{EventName, MsgId, VatNo};
 use ids::text::Text;
@@ -332,16 +331,5 @@ impl Book {
             }
             Err(StepFault::Impossible) => unreachable!(),
         }
-    }
-
-    /// An event and all that came of it, in the journal's order: the least set with it that may be undone.
-    ///
-    /// # Errors
-    /// `NoEvent`, `NotLive`, `Memory`, tried in this order.
-    pub fn cone(&self, event: EventName) -> Result<Vec<EventName>, BookFault>
-        ensures ok { IfOk result (λ names. (cone_refusal (book_of self.now).journal event ≡ None) × Cone (book_of self.now).journal event names.items) }
-        ensures err { IfErr result (λ fault. Tells fault (cone_refusal (book_of self.now).journal event)) }
-    {
-        cone(self.alloc, &self.entries, event)
     }
 }

@@ -1,12 +1,11 @@
 // The journal: an entry for each event, in the order in which they were accepted.
-ghost use Rattle.std.specs.Prelude.{◌≡◌, ◌++◌, List, Some, None, IfOk, IfErr, OnOk, length};
-ghost use Rattle.book.specs.Journal.{among, has_key, wrote_one_of, causes_in, undone_in, redone_in, Cone};
-ghost use Rattle.book.specs.Fault.{Tells};
+ghost use Rattle.std.specs.Prelude.{◌≡◌, IfOk, length};
+ghost use Rattle.std.specs.List.{filter};
+ghost use Rattle.book.specs.Journal.{among, has_key, wrote_one_of, causes_in, chosen, undone_in, redone_in};
+ghost use Rattle.book.specs.Refusals as refusals;
 ghost use Rattle.book.specs.EventView.{line_of, lines_of};
 
-
 use crate::event::Event;
-use crate::fault::BookFault;
 use ids::names::{CellKey, EventName};
 use std::alloc::{AllocError, Global};
 
@@ -81,4 +80,49 @@ pub fn causes_of(
     Ok(causes)
 }
 
-// The rest: is_entered, missing (least), check_undo, check_redo's parts, cone, set_marks ...
+/// Whether the journal has an event of this name.
+pub fn is_entered(entries: &[Entry], name: EventName) -> bool
+    ensures { result ≡ refusals.is_entered (lines_of entries.now) name }
+{
+    for entry in entries {
+        if entry.event.name == name {
+            return true;
+        }
+    }
+    false
+}
+
+/// How many of the entries are among these events.
+pub fn count_of(entries: &[Entry], names: &[EventName]) -> usize
+    ensures { result ≡ length (filter (chosen names.now) (lines_of entries.now)) }
+{
+    let mut count = 0;
+    for entry in entries {
+        if is_among(names, entry.event.name) {
+            count += 1;
+        }
+    }
+    count
+}
+
+/// Marks these events as undone.
+pub fn mark_undone(entries: &mut [Entry], names: &[EventName])
+    ensures { lines_of entries.new ≡ undone_in names.now (lines_of entries.old) }
+{
+    for entry in entries.iter_mut() {
+        if is_among(names, entry.event.name) {
+            entry.mark = Mark::Undone;
+        }
+    }
+}
+
+/// Marks these events as live again.
+pub fn mark_redone(entries: &mut [Entry], names: &[EventName])
+    ensures { lines_of entries.new ≡ redone_in names.now (lines_of entries.old) }
+{
+    for entry in entries.iter_mut() {
+        if is_among(names, entry.event.name) {
+            entry.mark = Mark::Live;
+        }
+    }
+}

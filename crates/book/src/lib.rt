@@ -1,9 +1,11 @@
 //! The world, and the book that all events go through.
 #![tactic(auto)]
 
-// pub mod book;
+pub mod book;
 pub mod event;
 pub mod fault;
 pub mod journal;
 pub mod step;
+pub mod theorems;
+pub mod undoing;
 pub mod world;

@@ -1,0 +1,49 @@
+-- On single steps of the world.
+use Rattle.std.proofs.Common.{◌≡◌, ℕ, Bool, true, cond, List, [], ◌∷◌, ◌++◌, map, Option, Some, None, refl, sym, ap, ◌∙◌, subst}
+use Rattle.std.proofs.Math.Logic.{∥∥₁_map}
+use Rattle.kernele.specs.Tree.{Name, Trees}
+use Rattle.ids.specs.declared.names.EventName.{EventName}
+use Rattle.ids.specs.declared.names.VatNo.{VatNo}
+use Rattle.ids.specs.declared.names.MsgId.{MsgId}
+use Rattle.ids.specs.declared.names.CellKey.TheVariants as key
+use Rattle.turn.specs.State.{State}
+use Rattle.turn.specs.Outcomes.{End, value, halt, thrown, abandoned}
+use Rattle.turn.specs.Turn.{Outcome, Delivers}
+use Rattle.book.specs.World.{Vat, Place, at_vat, Message, Content, home, message, World, vat_named, message_of, message_in, done_in}
+use Rattle.book.specs.Events.{Event, Foot, Turn, Turns, InOrder, birth, ask, turn, new_state, done_and_published, Does, births, asks, turns}
+use Rattle.book.specs.Refusals.{Refusal, before, first, await_refusal, place_refusal, home_refusal, ready_refusal, ready_refusal_by}
+use Rattle.book.specs.Steps.{turn_cells}
+
+-- the keys of what a turn writes
+pub turn_keys : (v : VatNo) (x : Name) (s : State) (e : EventName) (m : MsgId) (g : Message) (r : Outcome) (o : End)
+    → map (λ p. p.0) (new_state v x s o ++ done_and_published e m g r) ≡ turn_cells v m g.result o
+turn_keys v x s e m g r (value u) = refl
+turn_keys v x s e m g r (halt (thrown problem)) = refl
+turn_keys v x s e m g r (halt (abandoned why)) = refl
+
+-- what a birth, an asked program and a turn need
+pub birth_free : (e : EventName) (x : Name) (script : Trees) (w : World) (f : Foot) → Does (record { name = e; act = birth x script }) w f → w (key.Name x) ≡ None
+birth_free e x script w f (births h) = h
+
+pub ask_there : (e : EventName) (x : Name) (program : Trees) (w : World) (f : Foot) → Does (record { name = e; act = ask x program }) w f → (v : Vat) × (vat_named w x ≡ Some v)
+ask_there e x program w f (asks {v = v} h) = (v, h)
+
+pub turn_there : (e : EventName) (m : MsgId) (n : ℕ) (w : World) (f : Foot) → Does (record { name = e; act = turn m n }) w f → (t : Turn) × Turns e w m n t
+turn_there e m n w f (turns {t = t} h) = (t, h)
+
+in_order_none : (w : World) (after : Option MsgId) → InOrder w after → await_refusal w after ≡ None
+in_order_none w None h = refl
+in_order_none w (Some m) h = ap (λ b. cond b None (Some (before m))) h
+
+-- a message that has a turn is ready
+pub turn_ready : (e : EventName) (w : World) (m : MsgId) (n : ℕ) (t : Turn) → Turns e w m n t → ready_refusal w m ≡ None
+turn_ready e w m n t h =
+    ap (λ (o : Option Content). ready_refusal_by w m (message_in o)) h.waiting
+    ∙ ap (λ (p : Place). first (place_refusal w p) (await_refusal w t.message.after)) h.there
+    ∙ ap (λ (o : Option Content). first (home_refusal o) (await_refusal w t.message.after)) h.at_home
+    ∙ in_order_none w t.message.after h.in_order
+
+-- a message that is ready, at a vat that is there, and its outcome, are a turn
+pub is_turn : (e : EventName) (w : World) (m : MsgId) (n : ℕ) (t : Turn) → w (key.Msg m) ≡ Some (message t.message) → t.message.place ≡ at_vat t.vat → InOrder w t.message.after
+    → w (key.State t.vat) ≡ Some (home t.name t.state) → ∥ Delivers t.message.delivery e t.vat t.state n t.outcome ∥₁ → ∥ Turns e w m n t ∥₁
+is_turn e w m n t waiting there in_order at_home d = ∥∥₁_map d (λ h. record { waiting = waiting; there = there; in_order = in_order; at_home = at_home; delivers = h })
