@@ -138,11 +138,7 @@ impl VatState {
 }
 
 /// Sets a key of a map, whatever it had.
-fn put<K: Ord + Drop, V: Drop>(
-    map: &mut BTreeMap<K, V>,
-    key: K,
-    value: V,
-) -> Result<(), AllocError>
+fn put<K: Ord + Drop, V: Drop>(map: &mut BTreeMap<K, V>, key: K, value: V) -> Result<(), AllocError>
     ensures { OnOk result (Updates K.cmp map.old map.new key (Some value)) }
 {
     map.insert(key, value)?;
