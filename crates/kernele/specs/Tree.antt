@@ -14,6 +14,8 @@ mutual
     text_tree : (s : Name) → Tree
     noun : (x : Name) → Tree
     define : (p : Pattern) → (e : Tree) → Tree
+    variable : (x : Name) → (e : Tree) → Tree
+    assign : (x : Name) → (e : Tree) → Tree
     call : (r : Tree) → (verb : Name) → (args : Trees) → Tree
     list_tree : (items : Trees) → Tree
     same_tree : (l : Tree) → (r : Tree) → Tree
