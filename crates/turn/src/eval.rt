@@ -79,12 +79,7 @@ fn eval_def(
 }
 
 #[cycle(evaluate)]
-fn eval_var(
-    w: &mut Working,
-    name: &Text,
-    right: &Arc<Expr>,
-    level: u32,
-) -> Result<End, AllocError>
+fn eval_var(w: &mut Working, name: &Text, right: &Arc<Expr>, level: u32) -> Result<End, AllocError>
     requires { level ≤ 1000 }
     ensures { IfOk result (λ o. Runs level (variable name.now (tree_of right.now.value))
         (at w.old) (end_of o) (at w.new)) }

@@ -1,5 +1,6 @@
 // The state of a vat.
 ghost use Rattle.std.specs.Prelude.{◌≡◌, OnOk, OnErr, IfOk};
+ghost use Rattle.std.specs.BTreeMap.{Updates};
 ghost use Rattle.std.specs.Option.{option_map};
 ghost use Rattle.kernele.specs.Tree.{Name};
 ghost use Rattle.turn.specs.State.{top, slot_cell, bound, held, nothing, read, write};
@@ -136,6 +137,14 @@ impl VatState {
     }
 }
 
+/// Sets a key of a map, whatever it had.
+fn put<K: Ord + Drop, V: Drop>(map: &mut BTreeMap<K, V>, key: K, value: V) -> Result<(), AllocError>
+    ensures { OnOk result (Updates K.cmp map.old map.new key (Some value)) }
+{
+    map.insert(key, value)?;
+    Ok(())
+}
+
 fn copied_nouns(
     alloc: Global,
     nouns: &BTreeMap<Text, Binding>,
@@ -146,7 +155,7 @@ fn copied_nouns(
     let mut entries = nouns.iter();
     // From the last one on, so that what is copied is just what stands behind the entries left.
     while let Some((name, binding)) = entries.next_back() {
-        copy.insert(name.share()?, binding.share()?)?;
+        put(&mut copy, name.share()?, binding.share()?)?;
     }
     Ok(copy)
 }
@@ -161,7 +170,7 @@ fn copied_slots(
     let mut entries = slots.iter();
     // From the last one on, as above.
     while let Some((slot, value)) = entries.next_back() {
-        copy.insert(*slot, value.share()?)?;
+        put(&mut copy, *slot, value.share()?)?;
     }
     Ok(copy)
 }

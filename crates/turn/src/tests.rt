@@ -285,7 +285,11 @@ fn a_variable_is_assigned(rt: HostRuntime) -> Result<(), Fail> {
 #[test]
 fn a_nested_variable(rt: HostRuntime) -> Result<(), Fail> {
     let alloc = rt.alloc();
-    let items = vec![in alloc; var(alloc, "m", Expr::Int(1))?, assign(alloc, "m", Expr::Int(5))?, noun(alloc, "m")?]?;
+    let items = vec![in alloc;
+        var(alloc, "m", Expr::Int(1))?,
+        assign(alloc, "m", Expr::Int(5))?,
+        noun(alloc, "m")?,
+    ]?;
     let outcome = asked(
         alloc,
         VatState::new(alloc),
@@ -304,7 +308,12 @@ fn a_nested_variable(rt: HostRuntime) -> Result<(), Fail> {
 #[test]
 fn an_undefined_noun_is_assigned(rt: HostRuntime) -> Result<(), Fail> {
     let alloc = rt.alloc();
-    let outcome = asked(alloc, VatState::new(alloc), assign(alloc, "x", Expr::Int(1))?, 3)?;
+    let outcome = asked(
+        alloc,
+        VatState::new(alloc),
+        assign(alloc, "x", Expr::Int(1))?,
+        3,
+    )?;
     assert!(rt; same(&outcome.result, &broken(alloc, "undefined noun x")?));
     assert_eq!(rt; outcome.steps, 1);
     let both = assign(alloc, "x", noun(alloc, "y")?)?;

@@ -54,7 +54,13 @@ impl Ticket<Out> {
         ensures err { IfErr result (λ e. e.0 ≡ self) }
     {
         let Ticket { stage } = self;
-        match deliver(&stage.delivery, stage.event, stage.vat, &stage.state, stage.budget) {
+        match deliver(
+            &stage.delivery,
+            stage.event,
+            stage.vat,
+            &stage.state,
+            stage.budget,
+        ) {
             Ok(outcome) => Ok(Ticket {
                 stage: Ran {
                     carried: stage,

@@ -12,11 +12,10 @@ loop-name-init c = ([], entries_begin _ _ (sym c.iter-entries.ensures.rest), lis
 
 pub loop-name-preserved : goal.loop-name-preserved
 loop-name-preserved c =
-    let inv = c.loop-name.invariant in
-    (
+    let inv = c.loop-name.invariant in (
       (c.in-Some.name.now, c.in-Some.binding.now) ∷ inv.0,
       entries_more _ _ _ _ _ inv.1 c.in-Some.ensures.steps,
-      listed_more (slice_cmp nat_cmp) (λ b. bound (bind_of b)) nat_list_cmp_total c.loop-name.copy c.insert.new.self inv.0 c.in-Some.name.now _ c.in-Some.binding.now _ inv.2 c.in_ok-share.ensures (ap bound c.in_ok-share-2.ensures) c.in_ok-insert.ensures.updates,
+      listed_more (slice_cmp nat_cmp) (λ b. bound (bind_of b)) nat_list_cmp_total c.loop-name.copy c.put.new.map inv.0 c.in-Some.name.now _ c.in-Some.binding.now _ inv.2 c.in_ok-share.ensures (ap bound c.in_ok-share-2.ensures) c.in_ok-put.ensures,
     )
 
 pub returns : goal.returns

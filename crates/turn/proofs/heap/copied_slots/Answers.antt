@@ -10,11 +10,10 @@ loop-slot-init c = ([], entries_begin _ _ (sym c.iter-entries.ensures.rest), lis
 
 pub loop-slot-preserved : goal.loop-slot-preserved
 loop-slot-preserved c =
-    let inv = c.loop-slot.invariant in
-    (
+    let inv = c.loop-slot.invariant in (
       (c.in-Some.slot.now, c.in-Some.value.now) ∷ inv.0,
       entries_more _ _ _ _ _ inv.1 c.in-Some.ensures.steps,
-      listed_more slot_cmp (λ v. held (val_of v)) slot_cmp_total c.loop-slot.copy c.insert.new.self inv.0 c.in-Some.slot.now c.in-Some.slot.now c.in-Some.value.now _ inv.2 refl (ap held c.in_ok-share.ensures) c.in_ok-insert.ensures.updates,
+      listed_more slot_cmp (λ v. held (val_of v)) slot_cmp_total c.loop-slot.copy c.put.new.map inv.0 c.in-Some.slot.now c.in-Some.slot.now c.in-Some.value.now _ inv.2 refl (ap held c.in_ok-share.ensures) c.in_ok-put.ensures,
     )
 
 pub returns : goal.returns
