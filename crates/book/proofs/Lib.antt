@@ -1,2 +1,14 @@
+pub mod Along
+pub mod Lists
 pub mod Worlds
+pub mod Law
+pub mod Standing
+pub mod Entering
+pub mod Refused
+pub mod Marks
+pub mod Cones
+pub mod Least
+pub mod Marking
+pub mod Undoing
+pub mod Runs
 pub mod Steps

@@ -1,78 +1,49 @@
--- On steps of the world.
-use Rattle.std.proofs.Common.{◌≡◌, ℕ, ◌+◌, ◌≤◌, Bool, true, false, is_some, Option, Some, None, cond, refl, sym, ap, ◌∙◌, subst, arith}
+-- On single steps of the world.
+use Rattle.std.proofs.Common.{◌≡◌, ℕ, Bool, true, cond, List, [], ◌∷◌, ◌++◌, map, Option, Some, None, refl, sym, ap, ◌∙◌, subst}
+use Rattle.std.proofs.Math.Logic.{∥∥₁_map}
 use Rattle.kernele.specs.Tree.{Name, Trees}
-use Rattle.turn.specs.State.{State}
-use Rattle.turn.specs.Turn.{Outcome, Delivers}
-use Rattle.turn.specs.View.{delivery_of, state_of}
-use Rattle.turn.specs.declared.ticket.Out.{Out}
 use Rattle.ids.specs.declared.names.EventName.{EventName}
 use Rattle.ids.specs.declared.names.VatNo.{VatNo}
 use Rattle.ids.specs.declared.names.MsgId.{MsgId}
-use Rattle.ids.specs.declared.names.PromId.{PromId}
-use Rattle.ids.specs.declared.names.CellKey.{CellKey}
 use Rattle.ids.specs.declared.names.CellKey.TheVariants as key
-use Rattle.ids.specs.Cells.{same_key}
-use Rattle.ids.proofs.Keys.{same_key_exact}
-use Rattle.book.specs.World as model
-use Rattle.book.specs.World.{Content, World, put, done, at_vat, home, message, published, message_in}
-use Rattle.book.specs.Events.{Refusal, first, born, asked_of, turned, home_in, Step, turn, step_turn}
-use Rattle.book.specs.Turns.{Finds}
+use Rattle.turn.specs.State.{State}
+use Rattle.turn.specs.Outcomes.{End, value, halt, thrown, abandoned}
+use Rattle.turn.specs.Turn.{Outcome, Delivers}
+use Rattle.book.specs.World.{Vat, Place, at_vat, Message, Content, home, message, World, vat_named, message_of, message_in, done_in}
+use Rattle.book.specs.Events.{Event, Foot, Turn, Turns, InOrder, birth, ask, turn, new_state, done_and_published, Does, births, asks, turns}
+use Rattle.book.specs.Refusals.{Refusal, before, first, await_refusal, place_refusal, home_refusal, ready_refusal, ready_refusal_by}
+use Rattle.book.specs.Steps.{turn_cells}
 
--- a vat's number, by its birth's number
-abbrev pub vat_no : ℕ → VatNo
-vat_no n = record { 0 = record { 0 = n } }
+-- the keys of what a turn writes
+pub turn_keys : (v : VatNo) (x : Name) (s : State) (e : EventName) (m : MsgId) (g : Message) (r : Outcome) (o : End)
+    → map (λ p. p.0) (new_state v x s o ++ done_and_published e m g r) ≡ turn_cells v m g.result o
+turn_keys v x s e m g r (value u) = refl
+turn_keys v x s e m g r (halt (thrown problem)) = refl
+turn_keys v x s e m g r (halt (abandoned why)) = refl
 
--- no vat has a number from this one on
-abbrev pub IsFresh : ℕ → World → Type 0
-IsFresh next w = (n : ℕ) → next ≤ n → is_some (w (key.State (vat_no n))) ≡ false
+-- what a birth, an asked program and a turn need
+pub birth_free : (e : EventName) (x : Name) (script : Trees) (w : World) (f : Foot) → Does (record { name = e; act = birth x script }) w f → w (key.Name x) ≡ None
+birth_free e x script w f (births h) = h
 
--- a world that is the same has no more vats
-pub fresh_same : (next : ℕ) (old new : World) → new ≡ old → IsFresh next old → IsFresh next new
-fresh_same next old new e h n le = ap (λ (w : World). is_some (w (key.State (vat_no n)))) e ∙ h n le
+pub ask_there : (e : EventName) (x : Name) (program : Trees) (w : World) (f : Foot) → Does (record { name = e; act = ask x program }) w f → (v : Vat) × (vat_named w x ≡ Some v)
+ask_there e x program w f (asks {v = v} h) = (v, h)
 
-apart : (b : Bool) (x : Content) (o : Option Content) → (b ≡ true → ⊥) → is_some o ≡ false → is_some (cond b (Some x) o) ≡ false
-apart true x o h e = absurd (h refl)
-apart false x o h e = e
+pub turn_there : (e : EventName) (m : MsgId) (n : ℕ) (w : World) (f : Foot) → Does (record { name = e; act = turn m n }) w f → (t : Turn) × Turns e w m n t
+turn_there e m n w f (turns {t = t} h) = (t, h)
 
-abbrev number : CellKey → ℕ
-number (key.State v) = v.0.0
-number _ = 0
+in_order_none : (w : World) (after : Option MsgId) → InOrder w after → await_refusal w after ≡ None
+in_order_none w None h = refl
+in_order_none w (Some m) h = ap (λ b. cond b None (Some (before m))) h
 
--- a birth takes the next number
-pub fresh_born : (next : ℕ) (e : EventName) (x : Name) (script : Trees) (w : World) → e.0 ≡ next → IsFresh next w → IsFresh (next + 1) (born e x script w)
-fresh_born next e x script w named h n le =
-    apart (same_key (key.State (record { 0 = e })) (key.State (vat_no n))) _ (w (key.State (vat_no n)))
-    (λ same. let a : e.0 ≡ n = ap number (same_key_exact (key.State (record { 0 = e })) (key.State (vat_no n)) same) in omega (arith, a, named, le))
-    (h n (omega (arith, le)))
+-- a message that has a turn is ready
+pub turn_ready : (e : EventName) (w : World) (m : MsgId) (n : ℕ) (t : Turn) → Turns e w m n t → ready_refusal w m ≡ None
+turn_ready e w m n t h =
+    ap (λ (o : Option Content). ready_refusal_by w m (message_in o)) h.waiting
+    ∙ ap (λ (p : Place). first (place_refusal w p) (await_refusal w t.message.after)) h.there
+    ∙ ap (λ (o : Option Content). first (home_refusal o) (await_refusal w t.message.after)) h.at_home
+    ∙ in_order_none w t.message.after h.in_order
 
--- an asked program takes no vat's number
-pub fresh_asked : (next : ℕ) (e : EventName) (v : VatNo) (program : Trees) (w : World) → IsFresh next w → IsFresh (next + 1) (asked_of e v program w)
-fresh_asked next e v program w h n le = h n (omega (arith, le))
-
--- a turn gives a state to a vat that is there
-pub fresh_turned : (next : ℕ) (e : EventName) (m : MsgId) (g : model.Message) (v : VatNo) (x : Name) (s : State) (o : Outcome) (w : World)
-    → w (key.State v) ≡ Some (home x s) → IsFresh next w → IsFresh (next + 1) (turned e m g v x o w)
-fresh_turned next e m g v x s o w there h n le =
-    let no_state : is_some (w (key.State (vat_no n))) ≡ false = h n (omega (arith, le)) in
-    apart (same_key (key.State v) (key.State (vat_no n))) _ (w (key.State (vat_no n)))
-    (λ same. let a : true ≡ false = sym (ap is_some there) ∙ ap (λ (k : CellKey). is_some (w k)) (same_key_exact (key.State v) (key.State (vat_no n)) same) ∙ no_state in cc)
-    no_state
-
--- nothing refuses where neither refuses
-pub first_none : (a b : Option Refusal) → a ≡ None → b ≡ None → first a b ≡ None
-first_none a b e f = ap (λ (o : Option Refusal). first o b) e ∙ f
-
--- a turn of what was found, as it was carried, is a step
-pub turn_step : (e : EventName) (w new : World) (m : MsgId) (budget : ℕ) (p : PromId) (v : VatNo) (taken carried : Out) (o : Outcome)
-    → carried ≡ taken
-    → taken.budget ≡ budget
-    → (found : Finds w m (delivery_of taken.delivery) p v (state_of taken.state))
-    → ∥ Delivers (delivery_of carried.delivery) (state_of carried.state) carried.budget o ∥₁
-    → new ≡ turned e m (record { delivery = delivery_of taken.delivery; result = p; after = found.after; place = at_vat v }) v found.name o w
-    → Step e (turn m budget o) w new
-turn_step e w new m budget p v taken carried o same bounded found delivered entered =
-    let run : Out → Type 0 = λ t. ∥ Delivers (delivery_of t.delivery) (state_of t.state) t.budget o ∥₁ in
-    let within : ℕ → Type 0 = λ n. ∥ Delivers (delivery_of taken.delivery) (state_of taken.state) n o ∥₁ in
-    let goes : World → Type 0 = λ u. Step e (turn m budget o) w u in
-    subst goes (sym entered)
-    (step_turn (ap message_in found.waiting) refl found.in_order (ap home_in found.at_home) (subst within bounded (subst run same delivered)))
+-- a message that is ready, at a vat that is there, and its outcome, are a turn
+pub is_turn : (e : EventName) (w : World) (m : MsgId) (n : ℕ) (t : Turn) → w (key.Msg m) ≡ Some (message t.message) → t.message.place ≡ at_vat t.vat → InOrder w t.message.after
+    → w (key.State t.vat) ≡ Some (home t.name t.state) → ∥ Delivers t.message.delivery e t.vat t.state n t.outcome ∥₁ → ∥ Turns e w m n t ∥₁
+is_turn e w m n t waiting there in_order at_home d = ∥∥₁_map d (λ h. record { waiting = waiting; there = there; in_order = in_order; at_home = at_home; delivers = h })

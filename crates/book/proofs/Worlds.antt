@@ -2,7 +2,7 @@
 use Rattle.std.proofs.Common.{◌≡◌, ℕ, List, Bool, true, false, cond, Option, Some, None, refl, sym, ap, ◌∙◌, subst}
 use Rattle.ids.specs.declared.names.CellKey.{CellKey}
 use Rattle.ids.specs.Cells.{same_key}
-use Rattle.ids.proofs.Keys.{same_key_exact}
+use Rattle.ids.proofs.Keys.{same_key_exact, same_key_self}
 use Rattle.ids.specs.declared.names.CellKey.TheVariants as key
 use Rattle.ids.specs.declared.names.VatNo.{VatNo}
 use Rattle.ids.specs.Cells.{vat_cmp}
@@ -13,18 +13,26 @@ use Rattle.std.specs.BTreeMap.{BTreeMap, get, UpdatesBy}
 use Rattle.turn.specs.State.{State}
 use Rattle.turn.specs.View.{state_of}
 use Rattle.turn.specs.declared.heap.VatState.{VatState}
-use Rattle.book.specs.World.{Content, World, put, clear, home}
+use Rattle.book.specs.World.{Content, World, hold, put, clear, home}
 use Rattle.book.specs.View.{world_of, home_of}
 use Rattle.book.specs.declared.world.World as code
 use Rattle.book.specs.declared.world.Home.{Home}
 
-cleared_at : (k d : CellKey) (x : Content) (w : World) (b : Bool) → same_key k d ≡ b → w k ≡ None → cond b None (cond b (Some x) (w d)) ≡ w d
-cleared_at k d x w true e h = sym (subst (λ j. w j ≡ None) (same_key_exact k d e) h)
-cleared_at k d x w false e h = refl
+held_at : (k d : CellKey) (o : Option Content) (w : World) (b : Bool) → same_key k d ≡ b → cond b (w k) (cond b o (w d)) ≡ w d
+held_at k d o w true e = ap w (same_key_exact k d e)
+held_at k d o w false e = refl
 
--- a cell that was absent is taken back
+-- a cell is given back what it held
+pub hold-back : (k : CellKey) (o : Option Content) (w : World) → hold k (w k) (hold k o w) ≡ w
+hold-back k o w = λ i d. held_at k d o w (same_key k d) refl i
+
+-- a cell that held nothing is cleared again
 pub clear-put : (k : CellKey) (x : Content) (w : World) → w k ≡ None → clear k (put k x w) ≡ w
-clear-put k x w h = λ i d. cleared_at k d x w (same_key k d) refl h i
+clear-put k x w h = ap (λ (o : Option Content). hold k o (put k x w)) (sym h) ∙ hold-back k (Some x) w
+
+-- what was put into a cell is there
+pub put-there : (k : CellKey) (x : Content) (w : World) → put k x w k ≡ Some x
+put-there k x w = ap (λ b. cond b (Some x) (w k)) (same_key_self k)
 
 map_cond : {A B : Type 0} (f : A → B) (b : Bool) (x : A) (o : Option A) → option_map f (cond b (Some x) o) ≡ cond b (Some (f x)) (option_map f o)
 map_cond f true x o = refl

@@ -1,7 +1,8 @@
 -- What the program's book stands for.
 use Rattle.book.specs.Books as model
+use Rattle.book.specs.EventView.{lines_of}
 use Rattle.book.specs.View.{world_of}
 use Rattle.book.specs.declared.book.Book.{Book}
 
 abbrev pub book_of : Book → model.Book
-book_of b = record { world = world_of b.world; next = b.next }
+book_of b = record { world = world_of b.world; journal = lines_of b.entries.items; next = b.next; redoable = b.redoable.items }

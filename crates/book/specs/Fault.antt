@@ -1,11 +1,11 @@
 -- Refusals of the book, in words, and what they stand for.
 use Rattle.std.specs.Prelude.{◌≡◌, List, ℕ, ◌++◌, codes, Option, Some}
-use Rattle.ids.specs.Names.{message_text}
+use Rattle.ids.specs.Names.{event_text, message_text}
 use Rattle.kernele.specs.Check as check
 use Rattle.kernele.specs.Scope as scope
 use Rattle.kernele.specs.declared.checking.CheckFault.{CheckFault}
 use Rattle.kernele.specs.declared.checking.CheckFault.TheVariants as check-fault
-use Rattle.book.specs.Events.{Refusal, no_vat, name_taken, no_message, not_there, before, full, unchecked}
+use Rattle.book.specs.Refusals.{Refusal, no_vat, name_taken, no_message, not_there, before, full, no_event, not_live, still_live, not_closed, not_next, unchecked}
 use Rattle.book.specs.declared.fault.BookFault.{BookFault}
 use Rattle.book.specs.declared.fault.BookFault.TheVariants as fault
 
@@ -16,6 +16,11 @@ fault_text (fault.NoMessage m) = codes "B3 NoMessage " ++ message_text m
 fault_text fault.NotThere = codes "B4 NotThere"
 fault_text (fault.Before m) = codes "B6 Before " ++ message_text m
 fault_text fault.Full = codes "B8 Full"
+fault_text (fault.NoEvent e) = codes "B12 NoEvent " ++ event_text e
+fault_text (fault.NotLive e) = codes "B13 NotLive " ++ event_text e
+fault_text (fault.IsLive e) = codes "B14 IsLive " ++ event_text e
+fault_text (fault.NotClosed e f) = codes "B15 NotClosed " ++ (event_text e ++ (codes " " ++ event_text f))
+fault_text fault.NotNext = codes "B21 NotNext"
 fault_text (fault.Check f) = check.fault_text f
 fault_text fault.Memory = codes "B20 Memory"
 
@@ -35,5 +40,10 @@ Tells (fault.NoMessage m) refusal = refusal ≡ Some (no_message m)
 Tells fault.NotThere refusal = refusal ≡ Some not_there
 Tells (fault.Before m) refusal = refusal ≡ Some (before m)
 Tells fault.Full refusal = refusal ≡ Some full
+Tells (fault.NoEvent e) refusal = refusal ≡ Some (no_event e)
+Tells (fault.NotLive e) refusal = refusal ≡ Some (not_live e)
+Tells (fault.IsLive e) refusal = refusal ≡ Some (still_live e)
+Tells (fault.NotClosed e f) refusal = refusal ≡ Some (not_closed e f)
+Tells fault.NotNext refusal = refusal ≡ Some not_next
 Tells (fault.Check f) refusal = check_tells f refusal
 Tells fault.Memory refusal = Unit {0}

@@ -1,7 +1,12 @@
 pub mod World
 pub mod Events
+pub mod Journal
+pub mod Books
+pub mod Refusals
+pub mod Calls
+pub mod Steps
 pub mod View
 pub mod Fault
-pub mod Turns
-pub mod Books
+pub mod Causes
+pub mod EventView
 pub mod BookView

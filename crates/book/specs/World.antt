@@ -1,6 +1,7 @@
 -- The world: a finite map from keys to contents. That a key has none is a fact about the world.
 use Rattle.std.specs.Prelude.{List, Bool, true, false, cond, Option, Some, None}
 use Rattle.kernele.specs.Tree.{Name}
+use Rattle.kernele.specs.declared.naming.TopName.{TopName}
 use Rattle.values.specs.Data.{Val}
 use Rattle.turn.specs.State.{State}
 use Rattle.turn.specs.Turn.{Delivery}
@@ -15,12 +16,14 @@ use Rattle.ids.specs.declared.names.CellKey.TheVariants as key
 -- what is known of a vat by its name: its number, and the names that its script defines at the top
 pub record Vat : Type 0 where
   pub number : VatNo
-  pub tops : List Name
+  pub tops : List TopName
+  deriving IsSet as Vat-set
 
 -- where a message is: at a vat, or done in an event
 pub data Place : Type 0 where
   at_vat : (v : VatNo) → Place
   done : (e : EventName) → Place
+  deriving IsSet as Place-set
 
 -- what is delivered, the promise for its result, the message that must be done before, if any, and where it is
 pub record Message : Type 0 where
@@ -28,6 +31,7 @@ pub record Message : Type 0 where
   pub result : PromId
   pub after : Option MsgId
   pub place : Place
+  deriving IsSet as Message-set
 
 pub data Content : Type 0 where
   vat : (x : Vat) → Content
@@ -35,6 +39,7 @@ pub data Content : Type 0 where
   home : (name : Name) → (s : State) → Content
   message : (g : Message) → Content
   published : (v : Val) → Content
+  deriving IsSet as Content-set
 
 abbrev pub World : Type 0
 World = CellKey → Option Content
@@ -43,13 +48,17 @@ World = CellKey → Option Content
 abbrev pub empty : World
 empty k = None
 
+-- the world in which a cell holds this, or nothing
+abbrev pub hold : CellKey → Option Content → World → World
+hold k o w = λ d. cond (same_key k d) o (w d)
+
 -- the world with this content in a cell
 abbrev pub put : CellKey → Content → World → World
-put k x w = λ d. cond (same_key k d) (Some x) (w d)
+put k x w = hold k (Some x) w
 
 -- the world with nothing in a cell
 abbrev pub clear : CellKey → World → World
-clear k w = λ d. cond (same_key k d) None (w d)
+clear k w = hold k None w
 
 abbrev pub vat_in : Option Content → Option Vat
 vat_in (Some (vat x)) = Some x

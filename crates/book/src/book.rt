@@ -1,33 +1,43 @@
-// The book: the world, and the names that are not drawn yet.
-ghost use Rattle.std.specs.Prelude.{◌≡◌, ◌≤◌, ◌+◌, ℕ, List, None, Some, IfOk, IfErr, OnOk, OnErr, is_some, false};
+// The book: the world, the journal that made it, and the names that are not drawn yet.
+ghost use Rattle.std.specs.Prelude.{◌≡◌, ◌≤◌, ◌+◌, ◌++◌, ℕ, List, [], ◌∷◌, None, Some, IfOk, IfErr, OnOk, OnErr, length, filter};
 ghost use Rattle.ids.specs.declared.names.CellKey.TheVariants as key;
-ghost use Rattle.kernele.specs.Tree.{Name};
 ghost use Rattle.kernele.specs.View.{program_of};
 ghost use Rattle.kernele.specs.Check.{scopes_of};
 ghost use Rattle.kernele.specs.Scope.{checked_program};
-ghost use Rattle.book.specs.declared.fault.BookFault.TheVariants.{Memory};
-ghost use Rattle.turn.specs.Turn.{Outcome as ModelOutcome};
-ghost use Rattle.turn.specs.View.{ended_of, state_of, delivery_of};
-ghost use Rattle.book.specs.World.{home, vat_named, message_of, done_in, at_vat};
-ghost use Rattle.book.specs.Turns.{Finds};
-ghost use Rattle.book.specs.Events.{birth_refusal, ask_refusal, turn_refusal, full_refusal, check_refusal, taken_refusal, place_refusal, await_refusal, first_message as message_of_event, first_promise as promise_of_event, born, asked_of, birth, ask, turn};
-ghost use Rattle.book.specs.Books.{blank, Accepts};
+ghost use Rattle.kernele.specs.declared.naming.TopName.{TopName};
+ghost use Rattle.turn.specs.View.{ended_of};
+ghost use Rattle.book.specs.World.{vat_named};
+ghost use Rattle.book.specs.Events.{Turn, Turns, birth, ask, turn, birth_foot, ask_foot, turn_foot};
+ghost use Rattle.book.specs.Journal.{Line, live_events, causes_in, chosen, Cone};
+ghost use Rattle.book.specs.Refusals.{birth_refusal, ask_refusal, turn_refusal, ready_refusal, full_refusal, check_refusal, taken_refusal, undo_refusal, redo_refusal, cone_refusal};
+ghost use Rattle.book.specs.Books.{blank, PlainRun, Stands};
+ghost use Rattle.book.specs.Calls.{Enters, Undoes, Redoes};
 ghost use Rattle.book.specs.Fault.{Tells};
-ghost use Rattle.book.specs.View.{world_of, place_of};
+ghost use Rattle.book.specs.EventView.{event_of, lines_of};
+ghost use Rattle.book.specs.Steps.{refusal_of};
+ghost use Rattle.book.specs.View.{world_of};
 
+use crate::event::{Action, Event, share_program};
 use crate::fault::BookFault;
-use crate::world::{Home, Message, Place, Vat, World};
-use ids::names::{EventName, MsgId, PromId, VatNo};
+use crate::journal::{Entry, Mark, causes_of, count_of, mark_redone, mark_undone};
+use crate::step::{
+    Cells, StepFault, Unready, cells_of_ask, cells_of_birth, cells_of_turn, deliver, enter_ask,
+    enter_birth, enter_turn, plain_run, ready,
+};
+use crate::undoing::{check_redo, check_undo};
+use crate::world::World;
+use ids::names::{EventName, MsgId, VatNo};
 use ids::text::Text;
 use kernele::tree::Program;
-use kernele::{CheckFault, Outer, check, top_names};
-use std::alloc::Global;
-use turn::delivery::{Delivery, Ended, Outcome};
-use turn::heap::VatState;
-use turn::ticket::{Out, Ran, Ticket};
+use kernele::{CheckFault, Outer, check};
+use std::alloc::{AllocError, Global};
+use turn::delivery::Ended;
 
 /// The greatest name that an event may have.
 const LAST_NAME: u64 = 4_294_967_295;
+
+/// The most entries that a journal may have.
+const MOST_ENTRIES: usize = 1_048_576;
 
 /// A turn that was run: its event's name, and how it ended.
 #[derive(Drop)]
@@ -36,15 +46,17 @@ pub struct Turned {
     pub ended: Ended,
 }
 
-/// All that has happened: the world that it made, and the next event's name.
+/// All that has happened: the world, the journal whose live events made it, and the next event's name.
 #[derive(Drop)]
 pub struct Book {
     alloc: Global,
     world: World,
+    entries: Vec<Entry>,
     next: u64,
+    // The events of the last call, if it was an undo.
+    redoable: Vec<EventName>,
     ghost in_range: { next ≤ 4294967296 },
-    // No vat has a name that is not drawn yet.
-    ghost fresh: { (n : ℕ) → next ≤ n → is_some (world_of world (key.State (record { 0 = record { 0 = n } }))) ≡ false },
+    ghost stands: { Stands (record { world = world_of world; journal = lines_of entries.items; next = next; redoable = redoable.items }) },
 }
 
 fn check_program(alloc: Global, program: &Program, outer: &Outer) -> Result<(), BookFault>
@@ -58,92 +70,36 @@ fn check_program(alloc: Global, program: &Program, outer: &Outer) -> Result<(), 
     }
 }
 
-/// The first message that an event makes.
-fn first_message(event: EventName) -> MsgId
-    ensures { result ≡ message_of_event event }
-{
-    MsgId { event, index: 0 }
-}
-
-/// The first promise that an event makes, at home in a vat.
-fn first_promise(event: EventName, home: VatNo) -> PromId
-    ensures { result ≡ promise_of_event event home }
-{
-    PromId {
-        event,
-        index: 0,
-        home,
-    }
-}
-
-/// Enters a birth in the world, or changes nothing.
-fn enter_birth(
+/// Adds an entry for an event that touches these cells, with its causes, or changes nothing.
+fn add_entry(
     alloc: Global,
-    world: &mut World,
-    event: EventName,
-    name: &Text,
-    script: Program,
-) -> Result<(), BookFault>
-    requires free { world_of world.old (key.Name name.now) ≡ None }
-    requires new { world_of world.old (key.State (record { 0 = event })) ≡ None }
-    ensures ok { OnOk result (world_of world.new ≡ born event name.now (program_of script) (world_of world.old)) }
-    ensures err { IfErr result (λ fault. fault ≡ Memory) }
-    ensures unchanged { OnErr result (world_of world.new ≡ world_of world.old) }
+    entries: &mut Vec<Entry>,
+    event: Event,
+    cells: Cells,
+) -> Result<(), AllocError>
+    ensures ok { OnOk result (lines_of entries.new.items ≡ lines_of entries.old.items ++ (record { event = event_of event; touched = cells.touched.items; written = cells.written.items; causes = causes_in cells.touched.items (lines_of entries.old.items); live = true }) ∷ []) }
+    ensures shorter { OnOk result ((last : Entry) × (entries.new.items ≡ entries.old.items ++ last ∷ [])) }
+    ensures err { OnErr result (entries.new.items ≡ entries.old.items) }
 {
-    let number = VatNo(event);
-    let tops = top_names(alloc, &script)?;
-    let home = Home {
-        name: name.share()?,
-        state: VatState::new(alloc),
-    };
-    let opening = Message {
-        delivery: Delivery::Opening(script),
-        result: first_promise(event, number),
-        after: None,
-        place: Place::At(number),
-    };
-    world.add_vat(Vat { number, tops }, home, first_message(event), opening)?;
+    let Cells { touched, written } = cells;
+    let causes = causes_of(alloc, &touched, entries)?;
+    entries.push(Entry {
+        event,
+        touched,
+        written,
+        causes,
+        mark: Mark::Live,
+    })?;
     Ok(())
 }
 
-/// Enters an asked program in the world, or changes nothing.
-fn enter_ask(
-    world: &mut World,
-    event: EventName,
-    number: VatNo,
-    program: Program,
-) -> Result<(), BookFault>
-    ensures ok { OnOk result (world_of world.new ≡ asked_of event number (program_of program) (world_of world.old)) }
-    ensures err { IfErr result (λ fault. fault ≡ Memory) }
-    ensures unchanged { OnErr result (world_of world.new ≡ world_of world.old) }
+fn unready_fault(message: MsgId, unready: Unready) -> BookFault
+    ensures { Tells result (Some (refusal_of message unready)) }
 {
-    let message = Message {
-        delivery: Delivery::Asked(program),
-        result: first_promise(event, number),
-        after: Some(first_message(number.0)),
-        place: Place::At(number),
-    };
-    world.add_message(first_message(event), message)?;
-    Ok(())
-}
-
-/// A turn that may be run, with the promise for its result and the vat that runs it.
-struct Checkout {
-    ticket: Ticket<Out>,
-    promise: PromId,
-    number: VatNo,
-}
-
-fn run(ticket: Ticket<Out>) -> Result<Ran, BookFault>
-    ensures ok { IfOk result (λ ran. ran.carried ≡ ticket.stage) }
-    ensures err { IfErr result (λ fault. fault ≡ Memory) }
-{
-    match ticket.run() {
-        Ok(ran) => Ok(ran.into_parts()),
-        Err((ticket, _)) => {
-            ticket.discard();
-            Err(BookFault::Memory)
-        }
+    match unready {
+        Unready::NoMessage => BookFault::NoMessage(message),
+        Unready::NotThere => BookFault::NotThere,
+        Unready::Before(first) => BookFault::Before(first),
     }
 }
 
@@ -157,22 +113,33 @@ impl Book {
         Book {
             alloc,
             world: World::new(alloc),
+            entries: Vec::new(alloc),
             next: 1,
+            redoable: Vec::new(alloc),
         }
     }
 
+    /// The world: what the live events lead to from the empty world, one after another in the journal's order.
     pub fn world(&self) -> &World
-        ensures { world_of result.now ≡ (book_of self.now).world }
+        ensures same { world_of result.now ≡ (book_of self.now).world }
+        ensures plain_run { PlainRun (live_events (book_of self.now).journal) (world_of result.now) }
     {
         &self.world
     }
 
+    /// The journal, in the order in which the events were accepted.
+    pub fn journal(&self) -> &[Entry]
+        ensures { lines_of result.now ≡ (book_of self.now).journal }
+    {
+        self.entries.as_slice()
+    }
+
     /// The name that the next event is given.
     fn next_event(&self) -> Result<EventName, BookFault>
-        ensures ok { IfOk result (λ e. (e.0 ≡ self.now.next) × (self.now.next ≤ 4294967295) × (full_refusal self.now.next ≡ None)) }
-        ensures err { IfErr result (λ fault. Tells fault (full_refusal self.now.next)) }
+        ensures ok { IfOk result (λ e. (e.0 ≡ self.now.next) × (self.now.next ≤ 4294967295) × (full_refusal (book_of self.now) ≡ None)) }
+        ensures err { IfErr result (λ fault. Tells fault (full_refusal (book_of self.now))) }
     {
-        if self.next > LAST_NAME {
+        if self.next > LAST_NAME || self.entries.len() >= MOST_ENTRIES {
             return Err(BookFault::Full);
         }
         Ok(EventName(self.next))
@@ -190,8 +157,8 @@ impl Book {
 
     /// The name of a birth that may be entered.
     fn admit_birth(&self, name: &Text, script: &Program) -> Result<EventName, BookFault>
-        ensures ok { IfOk result (λ e. (e.0 ≡ self.now.next) × (self.now.next ≤ 4294967295) × (world_of self.now.world (key.Name name.now) ≡ None) × (birth_refusal (world_of self.now.world) self.now.next name.now (program_of script.now) ≡ None)) }
-        ensures err { IfErr result (λ fault. Tells fault (birth_refusal (world_of self.now.world) self.now.next name.now (program_of script.now))) }
+        ensures ok { IfOk result (λ e. (e.0 ≡ self.now.next) × (self.now.next ≤ 4294967295) × (world_of self.now.world (key.Name name.now) ≡ None) × (birth_refusal (book_of self.now) name.now (program_of script.now) ≡ None)) }
+        ensures err { IfErr result (λ fault. Tells fault (birth_refusal (book_of self.now) name.now (program_of script.now))) }
     {
         self.check_free(name)?;
         let outer = Outer::for_script(self.alloc, &[])?;
@@ -204,20 +171,35 @@ impl Book {
     /// # Errors
     /// `NameTaken`, a fault of the check, `Full`, `Memory`, tried in this order.
     pub fn birth(&mut self, name: &Text, script: Program) -> Result<EventName, BookFault>
-        ensures ok { IfOk result (λ e. (birth_refusal (book_of self.old).world (book_of self.old).next name.now (program_of script) ≡ None) × Accepts e (birth name.now (program_of script)) (book_of self.old) (book_of self.new)) }
-        ensures err { IfErr result (λ fault. Tells fault (birth_refusal (book_of self.old).world (book_of self.old).next name.now (program_of script))) }
+        ensures ok { IfOk result (λ e. (birth_refusal (book_of self.old) name.now (program_of script) ≡ None) × Enters (record { name = e; act = birth name.now (program_of script) }) (birth_foot e name.now (program_of script)) (book_of self.old) (book_of self.new)) }
+        ensures err { IfErr result (λ fault. Tells fault (birth_refusal (book_of self.old) name.now (program_of script))) }
         ensures unchanged { OnErr result (book_of self.new ≡ book_of self.old) }
     {
         let event = self.admit_birth(name, &script)?;
-        enter_birth(self.alloc, &mut self.world, event, name, script)?;
-        self.next += 1;
-        Ok(event)
+        let action = Action::Birth(name.share()?, share_program(&script)?);
+        let cells = cells_of_birth(self.alloc, event, name)?;
+        let entered = Event {
+            name: event,
+            action,
+        };
+        add_entry(self.alloc, &mut self.entries, entered, cells)?;
+        match enter_birth(self.alloc, &mut self.world, event, name, script) {
+            Ok(()) => {
+                self.next += 1;
+                self.redoable.clear();
+                Ok(event)
+            }
+            Err(_) => {
+                self.entries.pop();
+                Err(BookFault::Memory)
+            }
+        }
     }
 
     /// The name of an asked program that may be entered, and its vat.
     fn admit_ask(&self, name: &Text, program: &Program) -> Result<(EventName, VatNo), BookFault>
-        ensures ok { IfOk result (λ r. (r.0.0 ≡ self.now.next) × (self.now.next ≤ 4294967295) × ((tops : List Name) × (vat_named (world_of self.now.world) name.now ≡ Some (record { number = r.1; tops = tops }))) × (ask_refusal (world_of self.now.world) self.now.next name.now (program_of program.now) ≡ None)) }
-        ensures err { IfErr result (λ fault. Tells fault (ask_refusal (world_of self.now.world) self.now.next name.now (program_of program.now))) }
+        ensures ok { IfOk result (λ r. (r.0.0 ≡ self.now.next) × (self.now.next ≤ 4294967295) × ((tops : List TopName) × (vat_named (world_of self.now.world) name.now ≡ Some (record { number = r.1; tops = tops }))) × (ask_refusal (book_of self.now) name.now (program_of program.now) ≡ None)) }
+        ensures err { IfErr result (λ fault. Tells fault (ask_refusal (book_of self.now) name.now (program_of program.now))) }
     {
         let Some(vat) = self.world.vat(name) else {
             return Err(BookFault::NoVat(name.share()?));
@@ -233,83 +215,29 @@ impl Book {
     /// # Errors
     /// `NoVat`, a fault of the check, `Full`, `Memory`, tried in this order.
     pub fn ask(&mut self, name: &Text, program: Program) -> Result<EventName, BookFault>
-        ensures ok { IfOk result (λ e. (ask_refusal (book_of self.old).world (book_of self.old).next name.now (program_of program) ≡ None) × Accepts e (ask name.now (program_of program)) (book_of self.old) (book_of self.new)) }
-        ensures err { IfErr result (λ fault. Tells fault (ask_refusal (book_of self.old).world (book_of self.old).next name.now (program_of program))) }
+        ensures ok { IfOk result (λ e. (ask_refusal (book_of self.old) name.now (program_of program) ≡ None) × ((v : VatNo) × Enters (record { name = e; act = ask name.now (program_of program) }) (ask_foot e name.now v (program_of program)) (book_of self.old) (book_of self.new))) }
+        ensures err { IfErr result (λ fault. Tells fault (ask_refusal (book_of self.old) name.now (program_of program))) }
         ensures unchanged { OnErr result (book_of self.new ≡ book_of self.old) }
     {
         let (event, number) = self.admit_ask(name, &program)?;
-        enter_ask(&mut self.world, event, number, program)?;
-        self.next += 1;
-        Ok(event)
-    }
-
-    fn is_done(&self, message: MsgId) -> bool
-        ensures { result ≡ done_in (message_of (world_of self.now.world) message) }
-    {
-        match self.world.message(message) {
-            Some(message) => match message.place {
-                Place::At(_) => false,
-                Place::Done(_) => true,
-            },
-            None => false,
-        }
-    }
-
-    /// The vat where a message is.
-    fn home_at(&self, place: Place) -> Result<(VatNo, &Home), BookFault>
-        ensures ok { IfOk result (λ r. (place_of place ≡ at_vat r.0) × (world_of self.now.world (key.State r.0) ≡ Some (home r.1.now.name (state_of r.1.now.state)))) }
-        ensures err { IfErr result (λ fault. Tells fault (place_refusal (world_of self.now.world) (place_of place))) }
-    {
-        match place {
-            Place::At(number) => match self.world.home(number) {
-                Some(home) => Ok((number, home)),
-                None => Err(BookFault::NotThere),
-            },
-            Place::Done(_) => Err(BookFault::NotThere),
-        }
-    }
-
-    /// Checks that the message that must be done before is done.
-    fn check_after(&self, after: Option<MsgId>) -> Result<(), BookFault>
-        ensures ok { OnOk result (await_refusal (world_of self.now.world) after ≡ None) }
-        ensures err { IfErr result (λ fault. Tells fault (await_refusal (world_of self.now.world) after)) }
-    {
-        match after {
-            None => Ok(()),
-            Some(first) => {
-                if self.is_done(first) {
-                    Ok(())
-                } else {
-                    Err(BookFault::Before(first))
-                }
+        let action = Action::Ask(name.share()?, share_program(&program)?);
+        let cells = cells_of_ask(self.alloc, event, name)?;
+        let entered = Event {
+            name: event,
+            action,
+        };
+        add_entry(self.alloc, &mut self.entries, entered, cells)?;
+        match enter_ask(&mut self.world, event, number, program) {
+            Ok(()) => {
+                self.next += 1;
+                self.redoable.clear();
+                Ok(event)
+            }
+            Err(_) => {
+                self.entries.pop();
+                Err(BookFault::Memory)
             }
         }
-    }
-
-    /// The ticket of a message that may be delivered.
-    fn checkout(&self, message: MsgId, budget: u32) -> Result<Checkout, BookFault>
-        ensures ok { IfOk result (λ c. (c.ticket.stage.event.0 ≡ self.now.next) × (self.now.next ≤ 4294967295) × (c.ticket.stage.budget ≡ budget) × (turn_refusal (world_of self.now.world) self.now.next message ≡ None) × Finds (world_of self.now.world) message (delivery_of c.ticket.stage.delivery) c.promise c.number (state_of c.ticket.stage.state)) }
-        ensures err { IfErr result (λ fault. Tells fault (turn_refusal (world_of self.now.world) self.now.next message)) }
-    {
-        let Some(waiting) = self.world.message(message) else {
-            return Err(BookFault::NoMessage(message));
-        };
-        let (number, home) = self.home_at(waiting.place)?;
-        self.check_after(waiting.after)?;
-        let event = self.next_event()?;
-        let state = home.state.try_copy()?;
-        let delivery = waiting.delivery.share()?;
-        Ok(Checkout {
-            ticket: Ticket::new(Out {
-                event,
-                message,
-                state,
-                delivery,
-                budget,
-            }),
-            promise: waiting.result,
-            number,
-        })
     }
 
     /// Runs the turn of a message, with at most this many steps, and enters what it did.
@@ -317,26 +245,91 @@ impl Book {
     /// # Errors
     /// `NoMessage`, `NotThere`, `Before`, `Full`, `Memory`, tried in this order.
     pub fn turn(&mut self, message: MsgId, budget: u32) -> Result<Turned, BookFault>
-        ensures ok { IfOk result (λ t. (turn_refusal (book_of self.old).world (book_of self.old).next message ≡ None) × ((o : ModelOutcome) × Accepts t.event (turn message budget o) (book_of self.old) (book_of self.new) × (ended_of t.ended ≡ o.end))) }
-        ensures err { IfErr result (λ fault. Tells fault (turn_refusal (book_of self.old).world (book_of self.old).next message)) }
+        ensures ok { IfOk result (λ t. (turn_refusal (book_of self.old) message ≡ None) × ((u : Turn) × ∥ Turns t.event (book_of self.old).world message budget u ∥₁ × Enters (record { name = t.event; act = turn message budget }) (turn_foot t.event message u) (book_of self.old) (book_of self.new) × (ended_of t.ended ≡ u.outcome.end))) }
+        ensures err { IfErr result (λ fault. Tells fault (turn_refusal (book_of self.old) message)) }
         ensures unchanged { OnErr result (book_of self.new ≡ book_of self.old) }
     {
-        let Checkout {
-            ticket,
-            promise,
-            number,
-        } = self.checkout(message, budget)?;
-        let Ran { carried, outcome } = run(ticket)?;
-        let event = carried.event;
-        let Outcome {
-            state,
-            result,
-            ended,
-            steps: _,
-        } = outcome;
-        self.world
-            .finish(event, message, promise, number, state, result)?;
-        self.next += 1;
-        Ok(Turned { event, ended })
+        let (waiting, number, home) = match ready(&self.world, message) {
+            Ok(found) => found,
+            Err(unready) => return Err(unready_fault(message, unready)),
+        };
+        let event = self.next_event()?;
+        let delivered = deliver(event, message, budget, waiting, number, home)?;
+        let cells = cells_of_turn(self.alloc, message, &delivered)?;
+        let entered = Event {
+            name: event,
+            action: Action::Turn(message, budget),
+        };
+        add_entry(self.alloc, &mut self.entries, entered, cells)?;
+        match enter_turn(&mut self.world, event, message, delivered) {
+            Ok(ended) => {
+                self.next += 1;
+                self.redoable.clear();
+                Ok(Turned { event, ended })
+            }
+            Err(_) => {
+                self.entries.pop();
+                Err(BookFault::Memory)
+            }
+        }
+    }
+
+    /// Takes events back, with the world as if they had never been. Answers how many.
+    ///
+    /// # Errors
+    /// `NoEvent`, `NotLive`, `NotClosed`, `Memory`, tried in this order.
+    pub fn undo(&mut self, events: &[EventName]) -> Result<usize, BookFault>
+        ensures ok { IfOk result (λ count. (undo_refusal (book_of self.old).journal events.now ≡ None) × Undoes events.now (book_of self.old) (book_of self.new) × (count ≡ length (filter (chosen events.now) (book_of self.old).journal))) }
+        ensures err { IfErr result (λ fault. Tells fault (undo_refusal (book_of self.old).journal events.now)) }
+        ensures unchanged { OnErr result (book_of self.new ≡ book_of self.old) }
+    {
+        check_undo(&self.entries, events)?;
+        if events.is_empty() {
+            return Ok(0);
+        }
+        let redoable = Vec::from_slice(self.alloc, events)?;
+        let count = count_of(&self.entries, events);
+        mark_undone(&mut self.entries, events);
+        match plain_run(self.alloc, &self.entries) {
+            Ok(world) => {
+                self.world = world;
+                self.redoable = redoable;
+                Ok(count)
+            }
+            Err(StepFault::Memory) => {
+                mark_redone(&mut self.entries, events);
+                Err(BookFault::Memory)
+            }
+            Err(StepFault::Impossible) => unreachable!(),
+        }
+    }
+
+    /// Puts the events of the undo before back, with the world from before it. Answers how many.
+    ///
+    /// # Errors
+    /// `NoEvent`, `IsLive`, `NotNext`, `Memory`, tried in this order.
+    pub fn redo(&mut self, events: &[EventName]) -> Result<usize, BookFault>
+        ensures ok { IfOk result (λ count. (redo_refusal (book_of self.old) events.now ≡ None) × Redoes events.now (book_of self.old) (book_of self.new) × (count ≡ length (filter (chosen events.now) (book_of self.old).journal))) }
+        ensures err { IfErr result (λ fault. Tells fault (redo_refusal (book_of self.old) events.now)) }
+        ensures unchanged { OnErr result (book_of self.new ≡ book_of self.old) }
+    {
+        check_redo(&self.entries, events, &self.redoable)?;
+        if events.is_empty() {
+            return Ok(0);
+        }
+        let count = count_of(&self.entries, events);
+        mark_redone(&mut self.entries, events);
+        match plain_run(self.alloc, &self.entries) {
+            Ok(world) => {
+                self.world = world;
+                self.redoable.clear();
+                Ok(count)
+            }
+            Err(StepFault::Memory) => {
+                mark_undone(&mut self.entries, events);
+                Err(BookFault::Memory)
+            }
+            Err(StepFault::Impossible) => unreachable!(),
+        }
     }
 }

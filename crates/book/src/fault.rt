@@ -3,7 +3,7 @@ ghost use Rattle.std.specs.Prelude.{◌≡◌, Some};
 ghost use Rattle.book.specs.declared.fault.BookFault.TheVariants.{Memory};
 ghost use Rattle.book.specs.Fault.{fault_text};
 
-use ids::names::MsgId;
+use ids::names::{EventName, MsgId};
 use ids::text::Text;
 use kernele::CheckFault;
 use std::alloc::{AllocError, AllocFailed};
@@ -25,6 +25,16 @@ pub enum BookFault {
     Before(MsgId),
     /// Names are used up.
     Full,
+    /// No entry of the journal has this name.
+    NoEvent(EventName),
+    /// The event is undone.
+    NotLive(EventName),
+    /// The event is live already.
+    IsLive(EventName),
+    /// The second event is live, came of the first, and is not to be undone with it.
+    NotClosed(EventName, EventName),
+    /// The events are not those that were undone last.
+    NotNext,
     /// The program does not pass the check.
     Check(CheckFault),
     Memory,
@@ -41,6 +51,13 @@ impl Display for BookFault {
             BookFault::NotThere => write!(f, "B4 NotThere"),
             BookFault::Before(message) => write!(f, "B6 Before {message}"),
             BookFault::Full => write!(f, "B8 Full"),
+            BookFault::NoEvent(event) => write!(f, "B12 NoEvent {event}"),
+            BookFault::NotLive(event) => write!(f, "B13 NotLive {event}"),
+            BookFault::IsLive(event) => write!(f, "B14 IsLive {event}"),
+            BookFault::NotClosed(event, consequence) => {
+                write!(f, "B15 NotClosed {event} {consequence}")
+            }
+            BookFault::NotNext => write!(f, "B21 NotNext"),
             BookFault::Check(fault) => write!(f, "{fault}"),
             BookFault::Memory => write!(f, "B20 Memory"),
         }

@@ -2,7 +2,10 @@
 #![tactic(auto)]
 
 pub mod book;
+pub mod event;
 pub mod fault;
-#[cfg(test)]
-mod tests;
+pub mod journal;
+pub mod step;
+pub mod theorems;
+pub mod undoing;
 pub mod world;

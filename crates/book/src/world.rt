@@ -12,11 +12,12 @@ ghost use Rattle.std.specs.Prelude.{List, ℕ};
 ghost use Rattle.turn.specs.State.{State};
 ghost use Rattle.turn.specs.View.{state_of};
 ghost use Rattle.book.specs.World as model;
-ghost use Rattle.book.specs.World.{done, empty, put, clear, vat, home, message, published};
+ghost use Rattle.book.specs.World.{Content, done, empty, hold, put, clear, vat, home, message, published};
 ghost use Rattle.book.specs.View.{world_of, vat_of, home_of, message_of};
 
 use ids::names::{EventName, MsgId, PromId, VatNo};
 use ids::text::Text;
+use kernele::TopName;
 use std::alloc::{AllocError, Global};
 use std::collections::BTreeMap;
 use turn::delivery::Delivery;
@@ -28,7 +29,7 @@ use values::value::Value;
 pub struct Vat {
     pub number: VatNo,
     /// The names that its script defines at the top.
-    pub tops: Vec<Text>,
+    pub tops: Vec<TopName>,
 }
 
 /// A vat's name and its state.
@@ -119,18 +120,38 @@ impl World {
         self.vats.remove(name);
     }
 
-    fn put_home(&mut self, number: VatNo, added: Home) -> Result<(), AllocError>
+    /// Gives a vat's cell a content, and answers what it held.
+    fn put_home(&mut self, number: VatNo, added: Home) -> Result<Option<Home>, AllocError>
         ensures ok { OnOk result (world_of self.new ≡ put (key.State number) (home_of added) (world_of self.old)) }
+        ensures held { IfOk result (λ before. option_map home_of before ≡ world_of self.old (key.State number)) }
         ensures err { OnErr result (world_of self.new ≡ world_of self.old) }
     {
-        self.homes.insert(number, added)?;
-        Ok(())
+        Ok(self.homes.insert(number, added)?)
     }
 
     fn clear_home(&mut self, number: VatNo)
         ensures { world_of self.new ≡ clear (key.State number) (world_of self.old) }
     {
         self.homes.remove(&number);
+    }
+
+    /// Puts another content into a vat's cell that has one.
+    fn change_home(&mut self, number: VatNo, changed: Home)
+        ensures { (x : Content) → world_of self.old (key.State number) ≡ Some x → world_of self.new ≡ put (key.State number) (home_of changed) (world_of self.old) }
+    {
+        if let Some(home) = self.homes.get_mut(&number) {
+            *home = changed;
+        }
+    }
+
+    /// Puts back what a vat's cell held before it was given a content.
+    fn put_home_back(&mut self, number: VatNo, before: Option<Home>)
+        ensures { (x : Content) → world_of self.old (key.State number) ≡ Some x → world_of self.new ≡ hold (key.State number) (option_map home_of before) (world_of self.old) }
+    {
+        match before {
+            Some(home) => self.change_home(number, home),
+            None => self.clear_home(number),
+        }
     }
 
     /// Adds a vat's state and its opening message, or changes nothing.
@@ -141,15 +162,14 @@ impl World {
         name: MsgId,
         opening: Message,
     ) -> Result<(), AllocError>
-        requires { world_of self.old (key.State number) ≡ None }
         ensures ok { OnOk result (world_of self.new ≡ put (key.Msg name) (message (message_of opening)) (put (key.State number) (home_of added) (world_of self.old))) }
         ensures err { OnErr result (world_of self.new ≡ world_of self.old) }
     {
-        self.put_home(number, added)?;
+        let before = self.put_home(number, added)?;
         match self.add_message(name, opening) {
             Ok(()) => Ok(()),
             Err(error) => {
-                self.clear_home(number);
+                self.put_home_back(number, before);
                 Err(error)
             }
         }
@@ -164,7 +184,6 @@ impl World {
         opening: Message,
     ) -> Result<(), AllocError>
         requires free { world_of self.old (key.Name added.name) ≡ None }
-        requires new { world_of self.old (key.State vat.number) ≡ None }
         ensures ok { OnOk result (world_of self.new ≡ put (key.Msg name) (message (message_of opening)) (put (key.State vat.number) (home_of added) (put (key.Name added.name) (vat_of vat) (world_of self.old)))) }
         ensures err { OnErr result (world_of self.new ≡ world_of self.old) }
     {
@@ -197,7 +216,8 @@ impl World {
         }
     }
 
-    fn give_state(&mut self, number: VatNo, state: VatState)
+    /// Gives a vat a new state.
+    pub fn give_state(&mut self, number: VatNo, state: VatState)
         ensures { (x : List ℕ) (s : State) → world_of self.old (key.State number) ≡ Some (home x s) → world_of self.new ≡ put (key.State number) (home x (state_of state)) (world_of self.old) }
     {
         if let Some(home) = self.homes.get_mut(&number) {
@@ -205,22 +225,19 @@ impl World {
         }
     }
 
-    /// Publishes what a turn gave, marks its message as done, and gives its vat a new state; or changes nothing.
-    pub fn finish(
+    /// Publishes what a turn gave and marks its message as done, or changes nothing.
+    pub fn settle(
         &mut self,
         event: EventName,
         name: MsgId,
         promise: PromId,
-        number: VatNo,
-        state: VatState,
         value: Value,
     ) -> Result<(), AllocError>
-        ensures ok { OnOk result ((g : model.Message) (x : List ℕ) (s : State) → world_of self.old (key.Msg name) ≡ Some (message g) → world_of self.old (key.State number) ≡ Some (home x s) → world_of self.new ≡ put (key.State number) (home x (state_of state)) (put (key.Msg name) (message (record g { place = done event })) (put (key.Board promise) (published (val_of value)) (world_of self.old)))) }
+        ensures ok { OnOk result ((g : model.Message) → world_of self.old (key.Msg name) ≡ Some (message g) → world_of self.new ≡ put (key.Msg name) (message (record g { place = done event })) (put (key.Board promise) (published (val_of value)) (world_of self.old))) }
         ensures err { OnErr result (world_of self.new ≡ world_of self.old) }
     {
         self.publish(promise, value)?;
         self.mark_done(name, event);
-        self.give_state(number, state);
         Ok(())
     }
 

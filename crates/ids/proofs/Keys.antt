@@ -1,5 +1,6 @@
 -- Keys that are the same are equal.
-use Rattle.std.proofs.Common.{◌≡◌, ℕ, true, refl, ap}
+use Rattle.std.proofs.Common.{◌≡◌, ℕ, List, [], ◌∷◌, true, refl, sym, ap, ◌∙◌}
+use Rattle.std.specs.Cmp.{nat_cmp_is}
 use Rattle.std.specs.Ordering.{nat_cmp, ordering_then, is_eq}
 use Rattle.std.specs.Cmp.Lexicographic.{slice_cmp}
 use Rattle.std.specs.declared.cmp.Ordering.{Ordering}
@@ -48,3 +49,17 @@ same_key_exact (key.Msg m) (key.Board q) h = cc
 same_key_exact (key.Board p) (key.Name y) h = cc
 same_key_exact (key.Board p) (key.State w) h = cc
 same_key_exact (key.Board p) (key.Msg n) h = cc
+
+equal_self : (n : ℕ) → nat_cmp n n ≡ Equal
+equal_self n = sym (nat_cmp_is n n Equal refl)
+
+bytes_self : (xs : List ℕ) → slice_cmp nat_cmp xs xs ≡ Equal
+bytes_self [] = refl
+bytes_self (x ∷ xs) = ap (λ o. ordering_then o (slice_cmp nat_cmp xs xs)) (equal_self x) ∙ bytes_self xs
+
+-- a key is the same as itself
+pub same_key_self : (k : CellKey) → same_key k k ≡ true
+same_key_self (key.Name x) = ap is_eq (bytes_self x)
+same_key_self (key.State v) = ap is_eq (equal_self v.0.0)
+same_key_self (key.Msg m) = ap is_eq (ap (λ o. ordering_then o (nat_cmp m.index m.index)) (equal_self m.event.0) ∙ equal_self m.index)
+same_key_self (key.Board p) = ap is_eq (ap (λ o. ordering_then o (ordering_then (nat_cmp p.index p.index) (vat_cmp p.home p.home))) (equal_self p.event.0) ∙ ap (λ o. ordering_then o (vat_cmp p.home p.home)) (equal_self p.index) ∙ equal_self p.home.0.0)

@@ -6,6 +6,7 @@ use Rattle.std.specs.declared.cmp.Ordering.{Ordering}
 use Rattle.ids.specs.declared.names.VatNo.{VatNo}
 use Rattle.ids.specs.declared.names.MsgId.{MsgId}
 use Rattle.ids.specs.declared.names.PromId.{PromId}
+use Rattle.ids.specs.declared.names.SlotId.{SlotId}
 use Rattle.ids.specs.declared.names.CellKey.{CellKey}
 use Rattle.ids.specs.declared.names.CellKey.TheVariants as key
 
@@ -20,6 +21,10 @@ message_cmp m n = ordering_then (nat_cmp m.event.0 n.event.0) (nat_cmp m.index n
 -- by event, then by number, then by home
 abbrev pub promise_cmp : PromId → PromId → Ordering
 promise_cmp p q = ordering_then (nat_cmp p.event.0 q.event.0) (ordering_then (nat_cmp p.index q.index) (vat_cmp p.home q.home))
+
+-- by event, then by number, then by vat
+abbrev pub slot_cmp : SlotId → SlotId → Ordering
+slot_cmp s t = ordering_then (nat_cmp s.event.0 t.event.0) (ordering_then (nat_cmp s.index t.index) (vat_cmp s.vat t.vat))
 
 abbrev pub same_key : CellKey → CellKey → Bool
 same_key (key.Name x) (key.Name y) = is_eq (slice_cmp nat_cmp x y)

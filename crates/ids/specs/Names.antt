@@ -4,6 +4,7 @@ use Rattle.std.specs.Fmt.{decimal}
 use Rattle.ids.specs.declared.names.EventName.{EventName}
 use Rattle.ids.specs.declared.names.MsgId.{MsgId}
 use Rattle.ids.specs.declared.names.PromId.{PromId}
+use Rattle.ids.specs.declared.names.SlotId.{SlotId}
 
 -- e4
 abbrev pub event_text : EventName → List ℕ
@@ -16,3 +17,7 @@ message_text m = event_text m.event ++ codes ".m" ++ decimal m.index
 -- e4.p0
 abbrev pub promise_text : PromId → List ℕ
 promise_text p = event_text p.event ++ codes ".p" ++ decimal p.index
+
+-- e2.s0
+abbrev pub slot_text : SlotId → List ℕ
+slot_text s = event_text s.event ++ codes ".s" ++ decimal s.index

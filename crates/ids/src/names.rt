@@ -1,6 +1,6 @@
 // Names of events and of what they make.
 ghost use Rattle.std.specs.Prelude.{Some};
-ghost use Rattle.ids.specs.Names.{event_text, message_text, promise_text};
+ghost use Rattle.ids.specs.Names.{event_text, message_text, promise_text, slot_text};
 
 use crate::text::Text;
 use std::fmt;
@@ -26,6 +26,14 @@ pub struct PromId {
     pub event: EventName,
     pub index: u32,
     pub home: VatNo,
+}
+
+/// A variable's slot: the event that made it, its number among that event's slots, from 0, and its vat.
+#[derive(Clone, Copy, Debug, PartialEq, Eq, PartialOrd, Ord, Hash)]
+pub struct SlotId {
+    pub event: EventName,
+    pub index: u32,
+    pub vat: VatNo,
 }
 
 /// A cell of the world.
@@ -61,5 +69,13 @@ impl fmt::Display for PromId {
 
     fn fmt<W: fmt::Write>(&self, f: &mut fmt::Formatter<W>) -> fmt::Result {
         write!(f, "{}.p{}", self.event, self.index)
+    }
+}
+
+impl fmt::Display for SlotId {
+    ghost output = { λ s. Some (slot_text s) };
+
+    fn fmt<W: fmt::Write>(&self, f: &mut fmt::Formatter<W>) -> fmt::Result {
+        write!(f, "{}.s{}", self.event, self.index)
     }
 }

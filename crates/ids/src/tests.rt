@@ -1,6 +1,6 @@
 // What names and texts are written as.
 
-use crate::names::{EventName, MsgId, PromId, VatNo};
+use crate::names::{EventName, MsgId, PromId, SlotId, VatNo};
 use crate::quote::write_quoted;
 use crate::text::Text;
 use std::test::Fail;
@@ -22,8 +22,13 @@ fn names(rt: HostRuntime) -> Result<(), Fail> {
         index: 0,
         home: VatNo(EventName(3)),
     };
-    let text = format!(in rt.alloc(); "{event} {message} {promise}")?;
-    assert_eq!(rt; text.as_str(), "e8 e8.m1 e8.p0");
+    let slot = SlotId {
+        event,
+        index: 12,
+        vat: VatNo(EventName(3)),
+    };
+    let text = format!(in rt.alloc(); "{event} {message} {promise} {slot}")?;
+    assert_eq!(rt; text.as_str(), "e8 e8.m1 e8.p0 e8.s12");
     Ok(())
 }
 

@@ -1,7 +1,7 @@
 -- Counting nodes and depth.
 use Rattle.std.proofs.Common.{◌≡◌, ℕ, ◌+◌, ◌-◌, ◌≤◌, Option, Some, None, Bool, true, false, cond, arith, rules}
 use Rattle.std.specs.Prelude.{SomeIff, IsTrue, nat_lt, is_some}
-use Rattle.kernele.specs.Tree.{Tree, null_tree, bool_tree, int_tree, text_tree, noun, define, call, list_tree, same_tree, Trees}
+use Rattle.kernele.specs.Tree.{Tree, null_tree, bool_tree, int_tree, text_tree, noun, define, variable, assign, call, list_tree, same_tree, Trees}
 use Rattle.kernele.specs.Scope.{nodes, nodes_in, depth, depth_in, Scopes, Checked, checked_all, checked_program}
 
 -- a tree is a node
@@ -12,6 +12,8 @@ some_node (int_tree z) = omega arith
 some_node (text_tree s) = omega arith
 some_node (noun x) = omega arith
 some_node (define p e) = omega arith
+some_node (variable x e) = omega arith
+some_node (assign x e) = omega arith
 some_node (call r verb args) = omega arith
 some_node (list_tree items) = omega arith
 some_node (same_tree l r) = omega arith
@@ -24,6 +26,8 @@ some_depth (int_tree z) = omega arith
 some_depth (text_tree s) = omega arith
 some_depth (noun x) = omega arith
 some_depth (define p e) = omega arith
+some_depth (variable x e) = omega arith
+some_depth (assign x e) = omega arith
 some_depth (call r verb args) = omega arith
 some_depth (list_tree items) = omega arith
 some_depth (same_tree l r) = omega arith

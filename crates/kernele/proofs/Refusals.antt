@@ -8,6 +8,7 @@ use Rattle.kernele.specs.declared.checking.CheckFault.TheVariants as fault
 -- what refuses the first of two refuses both
 pub refuses_in_turn : (f : CheckFault) (first : Checked) (next : Scopes → Checked) → Refuses f first → Refuses f (in_turn first next)
 refuses_in_turn (fault.Unbound x) first next h = ap (λ r. in_turn r next) h
+refuses_in_turn (fault.AssignToDef x) first next h = ap (λ r. in_turn r next) h
 refuses_in_turn (fault.DuplicateName x) first next h = ap (λ r. in_turn r next) h
 refuses_in_turn fault.TooDeep first next h = ap (λ r. in_turn r next) h
 refuses_in_turn fault.TooLong first next h = ap (λ r. in_turn r next) h

@@ -1,10 +1,12 @@
 -- What the check's values stand for.
-use Rattle.std.specs.Prelude.{◌≡◌, ℕ, List, ◌++◌, Result, Ok, Err, ◌||◌, codes, MatchResult}
+use Rattle.std.specs.Prelude.{◌≡◌, ℕ, List, ◌++◌, Result, Ok, Err, codes, MatchResult}
 use Rattle.std.specs.Ordering.{nat_cmp}
 use Rattle.std.specs.Cmp.Lexicographic.{slice_cmp}
-use Rattle.std.specs.BTreeSet.{BTreeSet, contains}
+use Rattle.std.specs.Option.{option_or}
+use Rattle.std.specs.BTreeMap.{BTreeMap, get}
 use Rattle.kernele.specs.Tree.{Name}
-use Rattle.kernele.specs.Scope.{Names, Scopes, unbound, duplicate_name, too_deep, too_long, Checked}
+use Rattle.kernele.specs.Scope.{Names, Scopes, unbound, assign_to_def, duplicate_name, too_deep, too_long, Checked}
+use Rattle.kernele.specs.declared.naming.Kind.{Kind}
 use Rattle.kernele.specs.declared.checking.CheckFault.{CheckFault}
 use Rattle.kernele.specs.declared.checking.CheckFault.TheVariants as fault
 use Rattle.kernele.specs.declared.checking.Outer.{Outer}
@@ -13,14 +15,15 @@ use Rattle.kernele.specs.declared.checking.Scopes as code
 -- a fault in words
 abbrev pub fault_text : CheckFault → List ℕ
 fault_text (fault.Unbound x) = codes "K1 Unbound " ++ x
+fault_text (fault.AssignToDef x) = codes "K2 AssignToDef " ++ x
 fault_text (fault.DuplicateName x) = codes "K3 DuplicateName " ++ x
 fault_text fault.TooDeep = codes "K4 TooDeep"
 fault_text fault.TooLong = codes "K5 TooLong"
 fault_text fault.Memory = codes "B20 Memory"
 
--- the names of a set
-abbrev pub names_of : BTreeSet Name → Names
-names_of set = λ x. contains (slice_cmp nat_cmp) set x
+-- the names of a map
+abbrev pub names_of : BTreeMap Name Kind → Names
+names_of names = λ x. get (slice_cmp nat_cmp) names x
 
 -- what a program finds in scope
 abbrev pub scopes_of : Outer → Scopes
@@ -29,6 +32,7 @@ scopes_of outer = record { own = names_of outer.own; around = names_of outer.aro
 -- the fault tells why the program is refused, unless it is memory that failed
 abbrev pub Refuses : CheckFault → Checked → Type 0
 Refuses (fault.Unbound x) checked = checked ≡ Err (unbound x)
+Refuses (fault.AssignToDef x) checked = checked ≡ Err (assign_to_def x)
 Refuses (fault.DuplicateName x) checked = checked ≡ Err (duplicate_name x)
 Refuses fault.TooDeep checked = checked ≡ Err too_deep
 Refuses fault.TooLong checked = checked ≡ Err too_long
@@ -40,4 +44,4 @@ Gives result s checked = MatchResult result (λ done. checked ≡ Ok s) (λ faul
 
 -- the names that the program defined so far come before those that it found
 abbrev pub scopes_in : code.Scopes → Scopes
-scopes_in s = record { own = λ x. names_of s.defined x || names_of s.outer.now.own x; around = names_of s.outer.now.around }
+scopes_in s = record { own = λ x. option_or (names_of s.defined x) (names_of s.outer.now.own x); around = names_of s.outer.now.around }

@@ -1,10 +1,13 @@
 -- Which programs may be evaluated: their size, their depth, and the scope of their names.
-use Rattle.std.specs.Prelude.{◌≡◌, ℕ, ◌+◌, max, List, [], ◌∷◌, ◌++◌, Bool, false, ◌||◌, nat_lt, Result, Ok, Err, if◌then◌else◌}
-use Rattle.std.specs.List.{list_any}
+use Rattle.std.specs.Prelude.{◌≡◌, ℕ, ◌+◌, max, List, [], ◌∷◌, ◌++◌, map, Option, Some, None, is_some, nat_lt, Result, Ok, Err, if◌then◌else◌}
+use Rattle.std.specs.Option.{option_or}
 use Rattle.std.specs.Str.{bytes_eq}
-use Rattle.kernele.specs.Tree.{Name, Tree, null_tree, bool_tree, int_tree, text_tree, noun, define, call, list_tree, same_tree, Trees, none, and_then}
+use Rattle.kernele.specs.Tree.{Name, Tree, null_tree, bool_tree, int_tree, text_tree, noun, define, variable, assign, call, list_tree, same_tree, Trees, none, and_then}
 use Rattle.kernele.specs.declared.tree.Pattern.{Pattern}
 use Rattle.kernele.specs.declared.tree.Pattern.TheVariants as pattern
+use Rattle.kernele.specs.declared.naming.Kind.{Kind}
+use Rattle.kernele.specs.declared.naming.Kind.TheVariants as kind
+use Rattle.kernele.specs.declared.naming.TopName.{TopName}
 
 -- how many nodes a tree has; a block is none
 abbrev mutual
@@ -15,6 +18,8 @@ abbrev mutual
   nodes (text_tree s) = 1
   nodes (noun x) = 1
   nodes (define p e) = 1 + nodes e
+  nodes (variable x e) = 1 + nodes e
+  nodes (assign x e) = 1 + nodes e
   nodes (call r verb args) = 1 + nodes r + nodes_in args
   nodes (list_tree items) = 1 + nodes_in items
   nodes (same_tree l r) = 1 + nodes l + nodes r
@@ -32,6 +37,8 @@ abbrev mutual
   depth (text_tree s) = 1
   depth (noun x) = 1
   depth (define p e) = 1 + depth e
+  depth (variable x e) = 1 + depth e
+  depth (assign x e) = 1 + depth e
   depth (call r verb args) = 1 + max (depth r) (depth_in args)
   depth (list_tree items) = 1 + depth_in items
   depth (same_tree l r) = 1 + max (depth l) (depth r)
@@ -40,26 +47,38 @@ abbrev mutual
   depth_in none = 0
   depth_in (and_then t ts) = max (depth t) (depth_in ts)
 
--- a set of names: whether a name is in it
+-- the names of a scope: which kind a name is, if the scope has it
 abbrev pub Names : Type 0
-Names = Name → Bool
+Names = Name → Option Kind
 
--- no name is in it
+-- it has no name
 abbrev pub no_names : Names
-no_names = λ y. false
-
--- the names of a list
-abbrev pub names_in : List Name → Names
-names_in xs = λ y. list_any (λ x. bytes_eq x y) xs
+no_names = λ y. None
 
 -- one more name
-abbrev pub with_name : Name → Names → Names
-with_name x names = λ y. bytes_eq x y || names y
+abbrev pub with_name : TopName → Names → Names
+with_name t names = λ y. if bytes_eq t.name y then Some t.kind else names y
 
 -- the names of a list besides, in order
-abbrev pub with_names : List Name → Names → Names
+abbrev pub with_names : List TopName → Names → Names
 with_names [] names = names
-with_names (x ∷ xs) names = with_names xs (with_name x names)
+with_names (t ∷ ts) names = with_names ts (with_name t names)
+
+-- the names of a list
+abbrev pub names_in : List TopName → Names
+names_in ts = with_names ts no_names
+
+-- a name of a definition
+abbrev pub defined_name : Name → TopName
+defined_name x = record { name = x; kind = kind.Definition }
+
+-- a name of a variable
+abbrev pub variable_name : Name → TopName
+variable_name x = record { name = x; kind = kind.Variable }
+
+-- the names of earlier vats are no variables
+abbrev pub definitions : List Name → List TopName
+definitions xs = map defined_name xs
 
 -- where an expression stands: the names of the innermost scope so far, and those of the scopes around it
 pub record Scopes : Type 0 where
@@ -68,15 +87,16 @@ pub record Scopes : Type 0 where
 
 -- a script stands in a scope that has the names of earlier vats
 abbrev pub script_scopes : List Name → Scopes
-script_scopes earlier = record { own = names_in earlier; around = no_names }
+script_scopes earlier = record { own = names_in (definitions earlier); around = no_names }
 
 -- an asked program stands in a scope of its own, inside one that has the names of its vat
-abbrev pub asked_scopes : List Name → Scopes
+abbrev pub asked_scopes : List TopName → Scopes
 asked_scopes known = record { own = no_names; around = names_in known }
 
 -- why a program is refused
 pub data Refusal : Type 0 where
   unbound : (x : Name) → Refusal
+  assign_to_def : (x : Name) → Refusal
   duplicate_name : (x : Name) → Refusal
   too_deep : Refusal
   too_long : Refusal
@@ -90,13 +110,30 @@ abbrev pub in_turn : Checked → (Scopes → Checked) → Checked
 in_turn (Ok s) next = next s
 in_turn (Err refusal) next = Err refusal
 
+-- which kind a name is, where it is in one of the scopes; an inner name hides an outer one
+abbrev pub kind_in : Scopes → Name → Option Kind
+kind_in s x = option_or (s.own x) (s.around x)
+
 -- a noun is in one of the scopes
 abbrev pub found : Name → Scopes → Checked
-found x s = if s.own x || s.around x then Ok s else Err (unbound x)
+found x s = if is_some (kind_in s x) then Ok s else Err (unbound x)
 
--- a definition adds its name to its own scope, which must not have it; it may hide one of a scope around
+abbrev pub assigned_to : Option Kind → Name → Scopes → Checked
+assigned_to None x s = Err (unbound x)
+assigned_to (Some kind.Definition) x s = Err (assign_to_def x)
+assigned_to (Some kind.Variable) x s = Ok s
+
+-- the name that is assigned is that of a variable
+abbrev pub assigned : Name → Scopes → Checked
+assigned x s = assigned_to (kind_in s x) x s
+
+-- a name is added to its own scope, which must not have it; it may hide one of a scope around
+abbrev pub added : TopName → Scopes → Checked
+added t s = if is_some (s.own t.name) then Err (duplicate_name t.name) else Ok (record s { own = with_name t s.own })
+
+-- a definition adds the name of its pattern
 abbrev pub bound : Pattern → Scopes → Checked
-bound (pattern.Name x) s = if s.own x then Err (duplicate_name x) else Ok (record s { own = with_name x s.own })
+bound (pattern.Name x) s = added (defined_name x) s
 bound pattern.Ignore s = Ok s
 
 -- the names of an expression, in the order in which it is evaluated: a receiver before its arguments, those from the left
@@ -108,6 +145,8 @@ abbrev mutual
   checked (text_tree t) s = Ok s
   checked (noun x) s = found x s
   checked (define p e) s = in_turn (checked e s) (bound p)
+  checked (variable x e) s = in_turn (checked e s) (added (variable_name x))
+  checked (assign x e) s = in_turn (checked e s) (assigned x)
   checked (call r verb args) s = in_turn (checked r s) (checked_all args)
   checked (list_tree items) s = checked_all items s
   checked (same_tree l r) s = in_turn (checked l s) (checked r)
@@ -123,27 +162,29 @@ checked_program ts s =
     else (if nat_lt 200 (depth_in ts) then Err too_deep else checked_all ts s)
 
 -- the name that a definition adds
-abbrev pub name_of : Pattern → List Name
-name_of (pattern.Name x) = x ∷ []
+abbrev pub name_of : Pattern → List TopName
+name_of (pattern.Name x) = defined_name x ∷ []
 name_of pattern.Ignore = []
 
 -- the names that a program defines in its own scope, in the order in which they are defined
 abbrev mutual
-  pub own_names : Tree → List Name
+  pub own_names : Tree → List TopName
   own_names null_tree = []
   own_names (bool_tree b) = []
   own_names (int_tree z) = []
   own_names (text_tree s) = []
   own_names (noun x) = []
   own_names (define p e) = own_names e ++ name_of p
+  own_names (variable x e) = own_names e ++ variable_name x ∷ []
+  own_names (assign x e) = own_names e
   own_names (call r verb args) = own_names r ++ own_names_in args
   own_names (list_tree items) = own_names_in items
   own_names (same_tree l r) = own_names l ++ own_names r
 
-  pub own_names_in : Trees → List Name
+  pub own_names_in : Trees → List TopName
   own_names_in none = []
   own_names_in (and_then t ts) = own_names t ++ own_names_in ts
 
--- a program that is not refused adds the names that it defines to its own scope, and nothing else
+-- a program that is not refused adds the names that it defines to its own scope, as what it defines them, and nothing else
 abbrev pub AddsOwnNames : Type 0
 AddsOwnNames = (ts : Trees) (s r : Scopes) → checked_all ts s ≡ Ok r → r ≡ record s { own = with_names (own_names_in ts) s.own }

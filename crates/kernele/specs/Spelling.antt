@@ -2,7 +2,7 @@
 use Rattle.std.specs.Prelude.{ℕ, List, [], ◌∷◌, ◌++◌, Bool, true, false, codes, if◌then◌else◌}
 use Rattle.std.specs.Fmt.{signed_decimal}
 use Rattle.ids.specs.Quoted.{quoted}
-use Rattle.kernele.specs.Tree.{Name, Tree, null_tree, bool_tree, int_tree, text_tree, noun, define, call, list_tree, same_tree, Trees, none, and_then}
+use Rattle.kernele.specs.Tree.{Name, Tree, null_tree, bool_tree, int_tree, text_tree, noun, define, variable, assign, call, list_tree, same_tree, Trees, none, and_then}
 use Rattle.kernele.specs.declared.tree.Pattern.{Pattern}
 use Rattle.kernele.specs.declared.tree.Pattern.TheVariants as pattern
 
@@ -25,17 +25,19 @@ abbrev pub bound_name : Pattern → List ℕ
 bound_name (pattern.Name x) = x
 bound_name pattern.Ignore = codes "_"
 
--- only as an item of a block does a definition stand without brackets
-abbrev pub is_definition : Tree → Bool
-is_definition null_tree = false
-is_definition (bool_tree b) = false
-is_definition (int_tree z) = false
-is_definition (text_tree s) = false
-is_definition (noun x) = false
-is_definition (define p e) = true
-is_definition (call r verb args) = false
-is_definition (list_tree items) = false
-is_definition (same_tree l r) = false
+-- only as an item of a block does a definition, a variable or an assignment stand without brackets
+abbrev pub needs_brackets : Tree → Bool
+needs_brackets null_tree = false
+needs_brackets (bool_tree b) = false
+needs_brackets (int_tree z) = false
+needs_brackets (text_tree s) = false
+needs_brackets (noun x) = false
+needs_brackets (define p e) = true
+needs_brackets (variable x e) = true
+needs_brackets (assign x e) = true
+needs_brackets (call r verb args) = false
+needs_brackets (list_tree items) = false
+needs_brackets (same_tree l r) = false
 
 -- nouns, literals, lists, calls and comparisons are receivers without brackets
 abbrev pub is_bare_receiver : Tree → Bool
@@ -45,13 +47,15 @@ is_bare_receiver (int_tree z) = true
 is_bare_receiver (text_tree s) = true
 is_bare_receiver (noun x) = true
 is_bare_receiver (define p e) = false
+is_bare_receiver (variable x e) = false
+is_bare_receiver (assign x e) = false
 is_bare_receiver (call r verb args) = true
 is_bare_receiver (list_tree items) = true
 is_bare_receiver (same_tree l r) = true
 
 -- a part of another tree, from its spelling
 abbrev pub as_part : Tree → List ℕ → List ℕ
-as_part t s = bracketed (is_definition t) s
+as_part t s = bracketed (needs_brackets t) s
 
 -- a receiver, from its spelling
 abbrev pub as_receiver : Tree → List ℕ → List ℕ
@@ -70,6 +74,8 @@ abbrev mutual
   spelled (text_tree s) = quoted s
   spelled (noun x) = x
   spelled (define p e) = codes "def " ++ bound_name p ++ codes " := " ++ as_part e (spelled e)
+  spelled (variable x e) = codes "var " ++ x ++ codes " := " ++ as_part e (spelled e)
+  spelled (assign x e) = x ++ codes " := " ++ as_part e (spelled e)
   spelled (call r verb args) = as_receiver r (spelled r) ++ codes "." ++ message verb (spelled_parts args)
   spelled (list_tree items) = codes "[" ++ joined (codes ", ") (spelled_parts items) ++ codes "]"
   spelled (same_tree l r) = codes "(" ++ as_part l (spelled l) ++ codes " == " ++ as_part r (spelled r) ++ codes ")"

@@ -14,11 +14,15 @@ mutual
     text_tree : (s : Name) → Tree
     noun : (x : Name) → Tree
     define : (p : Pattern) → (e : Tree) → Tree
+    variable : (x : Name) → (e : Tree) → Tree
+    assign : (x : Name) → (e : Tree) → Tree
     call : (r : Tree) → (verb : Name) → (args : Trees) → Tree
     list_tree : (items : Trees) → Tree
     same_tree : (l : Tree) → (r : Tree) → Tree
+    deriving IsSet as Tree-set
 
   -- a block, arguments, or the items of a list
   pub data Trees : Type 0 where
     none : Trees
     and_then : (t : Tree) → (ts : Trees) → Trees
+    deriving IsSet as Trees-set

@@ -1,6 +1,6 @@
 -- What the program's trees stand for.
 use Rattle.std.specs.Prelude.{List, [], ◌∷◌}
-use Rattle.kernele.specs.Tree.{Tree, null_tree, bool_tree, int_tree, text_tree, noun, define, call, list_tree, same_tree, Trees, none, and_then}
+use Rattle.kernele.specs.Tree.{Tree, null_tree, bool_tree, int_tree, text_tree, noun, define, variable, assign, call, list_tree, same_tree, Trees, none, and_then}
 use Rattle.kernele.specs.declared.tree.Expr as code
 use Rattle.kernele.specs.declared.tree.Expr.{Expr}
 use Rattle.kernele.specs.declared.tree.Block.{Block}
@@ -14,6 +14,8 @@ abbrev mutual
   tree_of (code.Text s) = text_tree s
   tree_of (code.Noun x) = noun x
   tree_of (code.Def' pattern p e) = define pattern (tree_of e)
+  tree_of (code.Var' x p e) = variable x (tree_of e)
+  tree_of (code.Assign' x p e) = assign x (tree_of e)
   tree_of (code.Call' p r verb q shape args) = call (tree_of r) verb (trees_of_row args)
   tree_of (code.List' p shape items) = list_tree (trees_of_row items)
   tree_of (code.Same' p l q r) = same_tree (tree_of l) (tree_of r)

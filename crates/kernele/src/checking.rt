@@ -1,15 +1,16 @@
 // The check of a program before it is evaluated.
 ghost use Rattle.std.specs.Prelude.{◌≡◌, Some, Ok, IsOk, IfOk, IfErr, OnOk, MatchResult};
 ghost use Rattle.kernele.specs.View.{tree_of, trees_of, program_of};
-ghost use Rattle.kernele.specs.Scope.{checked, checked_all, checked_program, found, bound, script_scopes, asked_scopes, names_in, with_name};
-ghost use Rattle.kernele.specs.Check.{Gives, Refuses, fault_text, names_of, scopes_of, scopes_in};
+ghost use Rattle.kernele.specs.Scope.{checked, checked_all, checked_program, found, assigned, added, bound, script_scopes, asked_scopes, kind_in, with_name};
+ghost use Rattle.kernele.specs.Check.{Gives, Refuses, fault_text, scopes_of, scopes_in};
 ghost use Rattle.kernele.specs.declared.checking.CheckFault.TheVariants.{Memory};
 
 use crate::count::{are_within_depth, nodes_left_by_all};
+use crate::naming::{Kind, TopName};
 use crate::tree::{Expr, Pattern, Program};
 use ids::text::Text;
 use std::alloc::{AllocError, AllocFailed, Global};
-use std::collections::BTreeSet;
+use std::collections::BTreeMap;
 use std::error::Error;
 use std::fmt;
 use std::fmt::{Display, Formatter, Write};
@@ -25,6 +26,8 @@ const GREATEST_DEPTH: u32 = 200;
 pub enum CheckFault {
     /// A noun that no scope has.
     Unbound(Text),
+    /// The name that is assigned was made by no `var`.
+    AssignToDef(Text),
     /// A second definition of a name in one scope.
     DuplicateName(Text),
     /// Trees deeper than 200.
@@ -41,6 +44,7 @@ impl Display for CheckFault {
     fn fmt<W: Write>(&self, f: &mut Formatter<W>) -> fmt::Result {
         match self {
             CheckFault::Unbound(name) => write!(f, "K1 Unbound {name}"),
+            CheckFault::AssignToDef(name) => write!(f, "K2 AssignToDef {name}"),
             CheckFault::DuplicateName(name) => write!(f, "K3 DuplicateName {name}"),
             CheckFault::TooDeep => write!(f, "K4 TooDeep"),
             CheckFault::TooLong => write!(f, "K5 TooLong"),
@@ -71,9 +75,9 @@ impl<T: Drop> From<AllocFailed<T>> for CheckFault {
 #[derive(Drop)]
 pub struct Outer {
     /// Those of its own scope, which it may not define again.
-    own: BTreeSet<Text>,
+    own: BTreeMap<Text, Kind>,
     /// Those of the scope around it, which it may hide.
-    around: BTreeSet<Text>,
+    around: BTreeMap<Text, Kind>,
 }
 
 impl Outer {
@@ -81,35 +85,29 @@ impl Outer {
     pub fn for_script(alloc: Global, earlier: &[Text]) -> Result<Outer, AllocError>
         ensures { IfOk result (λ outer. scopes_of outer ≡ script_scopes earlier.now) }
     {
-        Ok(Outer {
-            own: set_of(alloc, earlier)?,
-            around: BTreeSet::new(alloc),
-        })
+        let mut own = BTreeMap::new(alloc);
+        for name in earlier {
+            own.insert(name.share()?, Kind::Definition)?;
+        }
+        let around = BTreeMap::new(alloc);
+        Ok(Outer { own, around })
     }
 
     /// For an asked program, which may hide the names that its vat knows.
-    pub fn for_asked(alloc: Global, known: &[Text]) -> Result<Outer, AllocError>
+    pub fn for_asked(alloc: Global, known: &[TopName]) -> Result<Outer, AllocError>
         ensures { IfOk result (λ outer. scopes_of outer ≡ asked_scopes known.now) }
     {
-        Ok(Outer {
-            own: BTreeSet::new(alloc),
-            around: set_of(alloc, known)?,
-        })
+        let mut around = BTreeMap::new(alloc);
+        for top in known {
+            around.insert(top.name.share()?, top.kind)?;
+        }
+        let own = BTreeMap::new(alloc);
+        Ok(Outer { own, around })
     }
-}
-
-fn set_of(alloc: Global, names: &[Text]) -> Result<BTreeSet<Text>, AllocError>
-    ensures { IfOk result (λ set. names_of set ≡ names_in names.now) }
-{
-    let mut set = BTreeSet::new(alloc);
-    for name in names {
-        set.insert(name.share()?)?;
-    }
-    Ok(set)
 }
 
 /// Checks that a program may be evaluated: first its size, then its depth, then that each noun is
-/// in scope where it stands and that no scope has a name twice.
+/// in scope where it stands, that what is assigned is a variable and that no scope has a name twice.
 pub fn check(alloc: Global, program: &Program, outer: &Outer) -> Result<(), CheckFault>
     ensures ok { OnOk result (IsOk (checked_program (program_of program.now) (scopes_of outer.now))) }
     ensures refused { IfErr result (λ fault. Refuses fault (checked_program (program_of program.now) (scopes_of outer.now))) }
@@ -123,7 +121,7 @@ pub fn check(alloc: Global, program: &Program, outer: &Outer) -> Result<(), Chec
     }
     let mut scopes = Scopes {
         outer,
-        defined: BTreeSet::new(alloc),
+        defined: BTreeMap::new(alloc),
     };
     check_all(trees, &mut scopes)
 }
@@ -133,27 +131,32 @@ pub fn check(alloc: Global, program: &Program, outer: &Outer) -> Result<(), Chec
 struct Scopes<'a> {
     outer: &'a Outer,
     /// The names that the program has defined so far.
-    defined: BTreeSet<Text>,
+    defined: BTreeMap<Text, Kind>,
 }
 
 impl<'a> Scopes<'a> {
-    fn has_own(&self, name: &Text) -> bool
+    /// What a name is in the innermost scope.
+    fn kind_in_own(&self, name: &Text) -> Option<Kind>
         ensures { result ≡ (scopes_in self.now).own name.now }
     {
-        self.defined.contains(name) || self.outer.own.contains(name)
+        self.defined.get(name).or(self.outer.own.get(name)).copied()
     }
 
-    fn has_around(&self, name: &Text) -> bool
-        ensures { result ≡ (scopes_in self.now).around name.now }
+    /// What a name is: one of an inner scope hides one of an outer scope.
+    fn kind(&self, name: &Text) -> Option<Kind>
+        ensures { result ≡ kind_in (scopes_in self.now) name.now }
     {
-        self.outer.around.contains(name)
+        self.kind_in_own(name).or(self.outer.around.get(name).copied())
     }
 
-    fn define(&mut self, name: &Text) -> Result<(), CheckFault>
-        ensures ok { OnOk result (scopes_in self.new ≡ record (scopes_in self.old) { own = with_name name.now (scopes_in self.old).own }) }
-        ensures err { IfErr result (λ fault. fault ≡ Memory) }
+    /// Adds a name to the innermost scope, which must not have it.
+    fn add(&mut self, name: &Text, kind: Kind) -> Result<(), CheckFault>
+        ensures { Gives result (scopes_in self.new) (added (record { name = name.now; kind = kind }) (scopes_in self.old)) }
     {
-        self.defined.insert(name.share()?)?;
+        if self.kind_in_own(name).is_some() {
+            return Err(CheckFault::DuplicateName(name.share()?));
+        }
+        self.defined.insert(name.share()?, kind)?;
         Ok(())
     }
 }
@@ -179,6 +182,14 @@ fn check_expr(e: &Expr, scopes: &mut Scopes) -> Result<(), CheckFault>
             check_expr(value, scopes)?;
             check_pattern(pattern, scopes)
         }
+        Expr::Var(name, value) => {
+            check_expr(value, scopes)?;
+            scopes.add(name, Kind::Variable)
+        }
+        Expr::Assign(name, value) => {
+            check_expr(value, scopes)?;
+            check_assigned(name, scopes)
+        }
         Expr::Call(receiver, _, args) => {
             check_expr(receiver, scopes)?;
             check_all(args, scopes)
@@ -194,10 +205,20 @@ fn check_expr(e: &Expr, scopes: &mut Scopes) -> Result<(), CheckFault>
 fn check_noun(name: &Text, scopes: &mut Scopes) -> Result<(), CheckFault>
     ensures { Gives result (scopes_in scopes.new) (found name.now (scopes_in scopes.old)) }
 {
-    if scopes.has_own(name) || scopes.has_around(name) {
+    if scopes.kind(name).is_some() {
         Ok(())
     } else {
         Err(CheckFault::Unbound(name.share()?))
+    }
+}
+
+fn check_assigned(name: &Text, scopes: &mut Scopes) -> Result<(), CheckFault>
+    ensures { Gives result (scopes_in scopes.new) (assigned name.now (scopes_in scopes.old)) }
+{
+    match scopes.kind(name) {
+        Some(Kind::Variable) => Ok(()),
+        Some(Kind::Definition) => Err(CheckFault::AssignToDef(name.share()?)),
+        None => Err(CheckFault::Unbound(name.share()?)),
     }
 }
 
@@ -205,12 +226,7 @@ fn check_pattern(pattern: &Pattern, scopes: &mut Scopes) -> Result<(), CheckFaul
     ensures { Gives result (scopes_in scopes.new) (bound pattern.now (scopes_in scopes.old)) }
 {
     match pattern {
-        Pattern::Name(name) => {
-            if scopes.has_own(name) {
-                return Err(CheckFault::DuplicateName(name.share()?));
-            }
-            scopes.define(name)
-        }
+        Pattern::Name(name) => scopes.add(name, Kind::Definition),
         Pattern::Ignore => Ok(()),
     }
 }

@@ -13,7 +13,9 @@ fn nodes_left(e: &Expr, limit: u32) -> Option<u32>
     let left = limit.checked_sub(1)?;
     match e {
         Expr::Null | Expr::Bool(_) | Expr::Int(_) | Expr::Text(_) | Expr::Noun(_) => Some(left),
-        Expr::Def(_, value) => nodes_left(value, left),
+        Expr::Def(_, value) | Expr::Var(_, value) | Expr::Assign(_, value) => {
+            nodes_left(value, left)
+        }
         Expr::Call(receiver, _, args) => nodes_left_by_all(args, nodes_left(receiver, left)?),
         Expr::List(items) => nodes_left_by_all(items, left),
         Expr::Same(one, other) => nodes_left(other, nodes_left(one, left)?),
@@ -41,7 +43,9 @@ fn is_within_depth(e: &Expr, limit: u32) -> bool
     }
     match e {
         Expr::Null | Expr::Bool(_) | Expr::Int(_) | Expr::Text(_) | Expr::Noun(_) => true,
-        Expr::Def(_, value) => is_within_depth(value, limit - 1),
+        Expr::Def(_, value) | Expr::Var(_, value) | Expr::Assign(_, value) => {
+            is_within_depth(value, limit - 1)
+        }
         Expr::Call(receiver, _, args) => {
             is_within_depth(receiver, limit - 1) && are_within_depth(args, limit - 1)
         }

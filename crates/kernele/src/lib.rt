@@ -10,5 +10,5 @@ mod tests;
 pub mod tree;
 
 pub use checking::{CheckFault, Outer, check};
-pub use naming::{adds_own_names, top_names};
+pub use naming::{Kind, TopName, adds_own_names, top_names};
 pub use printing::print;

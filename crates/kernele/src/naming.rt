@@ -1,5 +1,5 @@
 // The names that a program defines.
-ghost use Rattle.std.specs.Prelude.{◌≡◌, ◌++◌, IfOk, OnOk};
+ghost use Rattle.std.specs.Prelude.{◌≡◌, [], ◌∷◌, ◌++◌, IfOk, OnOk};
 ghost use Rattle.kernele.specs.View.{tree_of, trees_of, program_of};
 ghost use Rattle.kernele.specs.Scope.{own_names, own_names_in, name_of, AddsOwnNames};
 
@@ -7,8 +7,24 @@ use crate::tree::{Expr, Pattern, Program};
 use ids::text::Text;
 use std::alloc::{AllocError, Global};
 
+/// What a name in scope is.
+#[derive(Clone, Copy, Debug, PartialEq, Eq)]
+pub enum Kind {
+    /// What it stands for stays the same.
+    Definition,
+    /// It may be assigned.
+    Variable,
+}
+
+/// A name that a program defines in its own scope.
+#[derive(Drop)]
+pub struct TopName {
+    pub name: Text,
+    pub kind: Kind,
+}
+
 /// The names that a program defines in its own scope, in the order of their definitions.
-pub fn top_names(alloc: Global, program: &Program) -> Result<Vec<Text>, AllocError>
+pub fn top_names(alloc: Global, program: &Program) -> Result<Vec<TopName>, AllocError>
     ensures { IfOk result (λ names. names.items ≡ own_names_in (program_of program.now)) }
 {
     let mut names = Vec::new(alloc);
@@ -17,7 +33,7 @@ pub fn top_names(alloc: Global, program: &Program) -> Result<Vec<Text>, AllocErr
 }
 
 #[cycle(names)]
-fn add_all_names(trees: &[Expr], names: &mut Vec<Text>) -> Result<(), AllocError>
+fn add_all_names(trees: &[Expr], names: &mut Vec<TopName>) -> Result<(), AllocError>
     ensures { OnOk result (names.new.items ≡ names.old.items ++ own_names_in (trees_of trees.now)) }
 {
     for tree in trees {
@@ -27,15 +43,20 @@ fn add_all_names(trees: &[Expr], names: &mut Vec<Text>) -> Result<(), AllocError
 }
 
 #[cycle(names)]
-fn add_names(e: &Expr, names: &mut Vec<Text>) -> Result<(), AllocError>
+fn add_names(e: &Expr, names: &mut Vec<TopName>) -> Result<(), AllocError>
     ensures { OnOk result (names.new.items ≡ names.old.items ++ own_names (tree_of e.now)) }
 {
     match e {
         Expr::Null | Expr::Bool(_) | Expr::Int(_) | Expr::Text(_) | Expr::Noun(_) => Ok(()),
         Expr::Def(pattern, value) => {
             add_names(value, names)?;
-            add_name(pattern, names)
+            add_bound(pattern, names)
         }
+        Expr::Var(name, value) => {
+            add_names(value, names)?;
+            add_name(name, Kind::Variable, names)
+        }
+        Expr::Assign(_, value) => add_names(value, names),
         Expr::Call(receiver, _, args) => {
             add_names(receiver, names)?;
             add_all_names(args, names)
@@ -48,12 +69,20 @@ fn add_names(e: &Expr, names: &mut Vec<Text>) -> Result<(), AllocError>
     }
 }
 
-fn add_name(pattern: &Pattern, names: &mut Vec<Text>) -> Result<(), AllocError>
+fn add_bound(pattern: &Pattern, names: &mut Vec<TopName>) -> Result<(), AllocError>
     ensures { OnOk result (names.new.items ≡ names.old.items ++ name_of pattern.now) }
 {
-    if let Pattern::Name(name) = pattern {
-        names.push(name.share()?)?;
+    match pattern {
+        Pattern::Name(name) => add_name(name, Kind::Definition, names),
+        Pattern::Ignore => Ok(()),
     }
+}
+
+fn add_name(name: &Text, kind: Kind, names: &mut Vec<TopName>) -> Result<(), AllocError>
+    ensures { OnOk result (names.new.items ≡ names.old.items ++ record { name = name.now; kind = kind } ∷ []) }
+{
+    let name = name.share()?;
+    names.push(TopName { name, kind })?;
     Ok(())
 }
 

@@ -1,8 +1,8 @@
 // The canonical spelling of a program.
 ghost use Rattle.std.specs.Prelude.{◌≡◌, ◌++◌, IfOk, OnOk, string_bytes, codes, true};
-ghost use Rattle.kernele.specs.Tree.{bool_tree, define, list_tree};
+ghost use Rattle.kernele.specs.Tree.{bool_tree, define, variable, assign, list_tree};
 ghost use Rattle.kernele.specs.View.{tree_of, trees_of, program_of};
-ghost use Rattle.kernele.specs.Spelling.{spelling, spelled, spelled_parts, spelled_items, joined, bracketed, bound_name, is_definition as definition_test, is_bare_receiver as bare_receiver_test, as_part, as_receiver, message};
+ghost use Rattle.kernele.specs.Spelling.{spelling, spelled, spelled_parts, spelled_items, joined, bracketed, bound_name, needs_brackets as brackets_test, is_bare_receiver as bare_receiver_test, as_part, as_receiver, message};
 
 use crate::tree::{Expr, Pattern, Program};
 use ids::quote::write_quoted;
@@ -45,6 +45,8 @@ fn write_expr(e: &Expr, out: &mut String) -> Result<(), AllocError>
         Expr::Text(text) => write_quoted(text.as_str(), out),
         Expr::Noun(name) => out.push_str(name.as_str()),
         Expr::Def(pattern, value) => write_def(pattern, value, out),
+        Expr::Var(name, value) => write_var(name, value, out),
+        Expr::Assign(name, value) => write_assign(name, value, out),
         Expr::Call(receiver, verb, args) => {
             write_receiver(receiver, out)?;
             out.push_str(".")?;
@@ -67,6 +69,23 @@ fn write_def(pattern: &Pattern, value: &Expr, out: &mut String) -> Result<(), Al
 {
     out.push_str("def ")?;
     write_pattern(pattern, out)?;
+    out.push_str(" := ")?;
+    write_part(value, out)
+}
+
+#[cycle(print)]
+fn write_var(name: &Text, value: &Expr, out: &mut String) -> Result<(), AllocError>
+    ensures { OnOk result (string_bytes out.new ≡ string_bytes out.old ++ spelled (variable name.now (tree_of value.now))) }
+{
+    out.push_str("var ")?;
+    write_assign(name, value, out)
+}
+
+#[cycle(print)]
+fn write_assign(name: &Text, value: &Expr, out: &mut String) -> Result<(), AllocError>
+    ensures { OnOk result (string_bytes out.new ≡ string_bytes out.old ++ spelled (assign name.now (tree_of value.now))) }
+{
+    out.push_str(name.as_str())?;
     out.push_str(" := ")?;
     write_part(value, out)
 }
@@ -111,7 +130,7 @@ fn write_parts(parts: &[Expr], out: &mut String) -> Result<(), AllocError>
 fn write_part(e: &Expr, out: &mut String) -> Result<(), AllocError>
     ensures { OnOk result (string_bytes out.new ≡ string_bytes out.old ++ as_part (tree_of e.now) (spelled (tree_of e.now))) }
 {
-    if is_definition(e) {
+    if needs_brackets(e) {
         write_bracketed(e, out)
     } else {
         write_expr(e, out)
@@ -153,11 +172,11 @@ fn write_pattern(pattern: &Pattern, out: &mut String) -> Result<(), AllocError>
     }
 }
 
-fn is_definition(e: &Expr) -> bool
-    ensures { result ≡ definition_test (tree_of e.now) }
+fn needs_brackets(e: &Expr) -> bool
+    ensures { result ≡ brackets_test (tree_of e.now) }
 {
     match e {
-        Expr::Def(_, _) => true,
+        Expr::Def(_, _) | Expr::Var(_, _) | Expr::Assign(_, _) => true,
         Expr::Null
         | Expr::Bool(_)
         | Expr::Int(_)
@@ -173,7 +192,7 @@ fn is_bare_receiver(e: &Expr) -> bool
     ensures { result ≡ bare_receiver_test (tree_of e.now) }
 {
     match e {
-        Expr::Def(_, _) => false,
+        Expr::Def(_, _) | Expr::Var(_, _) | Expr::Assign(_, _) => false,
         Expr::Null
         | Expr::Bool(_)
         | Expr::Int(_)

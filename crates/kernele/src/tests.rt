@@ -1,5 +1,5 @@
 use crate::checking::{CheckFault, Outer, check};
-use crate::naming::{adds_own_names, top_names};
+use crate::naming::{Kind, TopName, adds_own_names, top_names};
 use crate::printing::print;
 use crate::tree::{Block, Expr, Pattern, Program};
 use ids::text::Text;
@@ -18,6 +18,14 @@ fn noun(alloc: Global, text: &str) -> Result<Expr, AllocError> {
 fn define(alloc: Global, text: &str, value: Expr) -> Result<Expr, AllocError> {
     let pattern = Pattern::Name(name(alloc, text)?);
     Ok(Expr::Def(pattern, Arc::new(alloc, value)?))
+}
+
+fn variable(alloc: Global, text: &str, value: Expr) -> Result<Expr, AllocError> {
+    Ok(Expr::Var(name(alloc, text)?, Arc::new(alloc, value)?))
+}
+
+fn assign(alloc: Global, text: &str, value: Expr) -> Result<Expr, AllocError> {
+    Ok(Expr::Assign(name(alloc, text)?, Arc::new(alloc, value)?))
 }
 
 fn call(alloc: Global, receiver: Expr, verb: &str, arg: Expr) -> Result<Expr, AllocError> {
@@ -49,6 +57,14 @@ fn hidden_definition(alloc: Global) -> Result<Program, AllocError> {
     program(alloc, vec![in alloc; first, second]?)
 }
 
+/// `var x := 1; x := x.add((x := 2))`
+fn counter(alloc: Global) -> Result<Program, AllocError> {
+    let first = variable(alloc, "x", Expr::Int(1))?;
+    let inner = assign(alloc, "x", Expr::Int(2))?;
+    let sum = call(alloc, noun(alloc, "x")?, "add", inner)?;
+    program(alloc, vec![in alloc; first, assign(alloc, "x", sum)?]?)
+}
+
 /// A sum of ones, as deep as it says.
 fn sum(alloc: Global, depth: u32) -> Result<Program, AllocError> {
     let mut e = Expr::Int(1);
@@ -73,11 +89,14 @@ fn verdict(
     script: bool,
     known: &str,
 ) -> Result<String, AllocError> {
-    let names = vec![in alloc; name(alloc, known)?]?;
     let outer = if script {
-        Outer::for_script(alloc, &names)?
+        Outer::for_script(alloc, &vec![in alloc; name(alloc, known)?]?)?
     } else {
-        Outer::for_asked(alloc, &names)?
+        let top = TopName {
+            name: name(alloc, known)?,
+            kind: Kind::Variable,
+        };
+        Outer::for_asked(alloc, &vec![in alloc; top]?)?
     };
     match check(alloc, program, &outer) {
         Ok(()) => String::from_str(alloc, "fits"),
@@ -110,6 +129,18 @@ fn spellings(rt: HostRuntime) -> Result<(), Fail> {
         print(alloc, &p)?.as_str(),
         "f.run((def y := 1)); def z := y"
     );
+
+    let p = counter(alloc)?;
+    assert_eq!(rt;
+        print(alloc, &p)?.as_str(),
+        "var x := 1; x := x.add((x := 2))"
+    );
+    let inner = variable(alloc, "x", Expr::Null)?;
+    let p = program(
+        alloc,
+        vec![in alloc; call(alloc, inner, "f", Expr::Null)?]?,
+    )?;
+    assert_eq!(rt; print(alloc, &p)?.as_str(), "(var x := null).f(null)");
     Ok(())
 }
 
@@ -118,8 +149,13 @@ fn names(rt: HostRuntime) -> Result<(), Fail> {
     let alloc = rt.alloc();
     let names = top_names(alloc, &hidden_definition(alloc)?)?;
     assert_eq!(rt; names.len(), 2);
-    assert_eq!(rt; names[0].as_str(), "y");
-    assert_eq!(rt; names[1].as_str(), "z");
+    assert_eq!(rt; names[0].name.as_str(), "y");
+    assert_eq!(rt; names[1].name.as_str(), "z");
+    assert!(rt; names[1].kind == Kind::Definition);
+    let names = top_names(alloc, &counter(alloc)?)?;
+    assert_eq!(rt; names.len(), 1);
+    assert_eq!(rt; names[0].name.as_str(), "x");
+    assert!(rt; names[0].kind == Kind::Variable);
     adds_own_names();
     Ok(())
 }
@@ -139,6 +175,35 @@ fn scopes(rt: HostRuntime) -> Result<(), Fail> {
         verdict(alloc, &shadow, true, "x")?.as_str(),
         "K3 DuplicateName x"
     );
+    Ok(())
+}
+
+#[test]
+fn variables(rt: HostRuntime) -> Result<(), Fail> {
+    let alloc = rt.alloc();
+    assert_eq!(rt; verdict(alloc, &counter(alloc)?, true, "f")?.as_str(), "fits");
+    assert_eq!(rt; verdict(alloc, &counter(alloc)?, false, "x")?.as_str(), "fits");
+    assert_eq!(rt;
+        verdict(alloc, &counter(alloc)?, true, "x")?.as_str(),
+        "K3 DuplicateName x"
+    );
+    let p = program(
+        alloc,
+        vec![in alloc; assign(alloc, "x", Expr::Null)?]?,
+    )?;
+    assert_eq!(rt; verdict(alloc, &p, false, "x")?.as_str(), "fits");
+    assert_eq!(rt; verdict(alloc, &p, true, "x")?.as_str(), "K2 AssignToDef x");
+    assert_eq!(rt; verdict(alloc, &p, false, "y")?.as_str(), "K1 Unbound x");
+    let hiding = program(
+        alloc,
+        vec![in alloc; define(alloc, "x", Expr::Null)?, assign(alloc, "x", Expr::Null)?]?,
+    )?;
+    assert_eq!(rt; verdict(alloc, &hiding, false, "x")?.as_str(), "K2 AssignToDef x");
+    let late = program(
+        alloc,
+        vec![in alloc; assign(alloc, "x", noun(alloc, "y")?)?]?,
+    )?;
+    assert_eq!(rt; verdict(alloc, &late, true, "x")?.as_str(), "K1 Unbound y");
     Ok(())
 }
 

@@ -20,6 +20,8 @@ pub enum Expr {
     Text(Text),
     Noun(Text),
     Def(Pattern, Arc<Expr>),
+    Var(Text, Arc<Expr>),
+    Assign(Text, Arc<Expr>),
     Call(Arc<Expr>, Text, Arc<Vec<Expr>>),
     List(Arc<Vec<Expr>>),
     Same(Arc<Expr>, Arc<Expr>),

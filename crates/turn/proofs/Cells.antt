@@ -1,58 +1,86 @@
--- On what a map of top nouns stands for.
-use Rattle.std.proofs.Common.{◌≡◌, ℕ, List, [], ◌∷◌, ◌++◌, Option, Some, Bool, true, false, cond, refl, sym, ap, ◌∙◌, append_assoc, append-nil}
+-- On what maps of top nouns and of slots stand for.
+use Rattle.std.proofs.Common.{◌≡◌, List, [], ◌∷◌, ◌++◌, Option, Some, Bool, true, false, cond, refl, sym, ap, ◌∙◌, append_assoc, append-nil}
+use Rattle.std.specs.Cmp.{IsTotalOrder}
 use Rattle.std.specs.Option.{option_map}
 use Rattle.std.specs.Ordering.{nat_cmp, is_eq}
 use Rattle.std.specs.Cmp.Lexicographic.{slice_cmp}
+use Rattle.std.specs.declared.cmp.Ordering.{Ordering}
 use Rattle.std.specs.BTreeMap.{BTreeMap, get, Updates, is_at}
 use Rattle.std.specs.Map.{lookup}
-use Rattle.std.proofs.lemmas.Cmp.{nat_list_eq_equiv}
+use Rattle.std.proofs.lemmas.Cmp.{eq_by_cmp_equiv, then_total, on_total, nat_cmp_total}
 use Rattle.std.proofs.lemmas.Map.Text.{is_eq-slice_cmp}
+use Rattle.ids.specs.Cells.{slot_cmp}
+use Rattle.ids.specs.declared.names.SlotId.{SlotId}
+use Rattle.kernele.specs.Tree.{Name}
 use Rattle.values.specs.declared.value.Value.{Value}
 use Rattle.values.specs.View.{val_of}
-use Rattle.turn.specs.State.{fixed, Cell, top, Content, bound, State, nothing, write}
-use Rattle.turn.specs.View.{cells_of}
+use Rattle.turn.specs.State.{Cell, top, slot_cell, Content, bound, held, State, write}
+use Rattle.turn.specs.View.{bind_of, tops_of, slots_of, cells_of}
+use Rattle.turn.specs.declared.heap.Binding.{Binding}
 
--- a value in a cell
-abbrev pub content_of : Value → Content
-content_of v = bound (fixed (val_of v))
+-- the order of slots is total: it compares numbers, one after another
+pub slot_cmp_total : IsTotalOrder slot_cmp
+slot_cmp_total = then_total (on_total (λ (s : SlotId). s.event.0) nat_cmp_total) (then_total (on_total (λ (s : SlotId). s.index) nat_cmp_total) (on_total (λ (s : SlotId). s.vat.0.0) nat_cmp_total))
 
-chosen : (b : Bool) (x : Option Value) (y : Option Value) → option_map content_of (cond b x y) ≡ cond b (option_map content_of x) (option_map content_of y)
-chosen true x y = refl
-chosen false x y = refl
+chosen : {V C : Type 0} (f : V → C) (b : Bool) (x : V) (y : Option V) → option_map f (cond b (Some x) y) ≡ cond b (Some (f x)) (option_map f y)
+chosen f true x y = refl
+chosen f false x y = refl
 
-cell_after : (m n : BTreeMap (List ℕ) Value) (x : List ℕ) (v : Value) → Updates (slice_cmp nat_cmp) m n x (Some v) → (c : Cell) → cells_of n c ≡ write (cells_of m) (top x) (content_of v) c
-cell_after m n x v u (top q) =
-    ap (option_map content_of) (u.0 q)
-    ∙ chosen (is_eq (slice_cmp nat_cmp x q)) (Some v) (get (slice_cmp nat_cmp) m q)
-    ∙ ap (λ b. cond b (Some (content_of v)) (option_map content_of (get (slice_cmp nat_cmp) m q))) (is_eq-slice_cmp x q)
+-- what a map holds after one key was set
+updated : {K V C : Type 0} (cmp : K → K → Ordering) (f : V → C) (m n : BTreeMap K V) (k : K) (v : V) → Updates cmp m n k (Some v) → (q : K)
+    → option_map f (get cmp n q) ≡ cond (is_eq (cmp k q)) (Some (f v)) (option_map f (get cmp m q))
+updated cmp f m n k v u q = ap (option_map f) (u.0 q) ∙ chosen f (is_eq (cmp k q)) v (get cmp m q)
+
+noun_written : (m n : BTreeMap Name Binding) (ss : BTreeMap SlotId Value) (x : Name) (b : Binding) → Updates (slice_cmp nat_cmp) m n x (Some b) → (c : Cell) → cells_of n ss c ≡ write (cells_of m ss) (top x) (bound (bind_of b)) c
+noun_written m n ss x b u (top y) =
+    updated (slice_cmp nat_cmp) (λ b. bound (bind_of b)) m n x b u y
+    ∙ ap (λ t. cond t (Some (bound (bind_of b))) (tops_of m y)) (is_eq-slice_cmp x y)
+noun_written m n ss x b u (slot_cell i) = refl
 
 -- a top noun that was bound is a cell that was written
-pub cells_after : (m n : BTreeMap (List ℕ) Value) (x : List ℕ) (v : Value) → Updates (slice_cmp nat_cmp) m n x (Some v) → cells_of n ≡ write (cells_of m) (top x) (content_of v)
-cells_after m n x v u = λ i c. cell_after m n x v u c i
+pub nouns_after_write : (m n : BTreeMap Name Binding) (ss : BTreeMap SlotId Value) (x : Name) (b : Binding) → Updates (slice_cmp nat_cmp) m n x (Some b) → cells_of n ss ≡ write (cells_of m ss) (top x) (bound (bind_of b))
+nouns_after_write m n ss x b u = λ i c. noun_written m n ss x b u c i
 
--- entries as cells
-abbrev pub cells_in : List (List ℕ × Value) → State
-cells_in es (top x) = option_map content_of (lookup (is_at (slice_cmp nat_cmp x)) es)
+slot_written : (ns : BTreeMap Name Binding) (m n : BTreeMap SlotId Value) (s : SlotId) (v : Value) → Updates slot_cmp m n s (Some v) → (c : Cell) → cells_of ns n c ≡ write (cells_of ns m) (slot_cell s) (held (val_of v)) c
+slot_written ns m n s v u (top y) = refl
+slot_written ns m n s v u (slot_cell t) = updated slot_cmp (λ v. held (val_of v)) m n s v u t
 
-cell_more : (es : List (List ℕ × Value)) (k : List ℕ) (v : Value) (c : Cell) → write (cells_in es) (top k) (content_of v) c ≡ cells_in ((k, v) ∷ es) c
-cell_more es k v (top q) =
-    ap (λ b. cond b (Some (content_of v)) (cells_in es (top q))) (nat_list_eq_equiv.symm k q ∙ sym (is_eq-slice_cmp q k))
-    ∙ sym (chosen (is_eq (slice_cmp nat_cmp q k)) (Some v) (lookup (is_at (slice_cmp nat_cmp q)) es))
+-- a slot that was set is a cell that was written
+pub slots_after_write : (ns : BTreeMap Name Binding) (m n : BTreeMap SlotId Value) (s : SlotId) (v : Value) → Updates slot_cmp m n s (Some v) → cells_of ns n ≡ write (cells_of ns m) (slot_cell s) (held (val_of v))
+slots_after_write ns m n s v u = λ i c. slot_written ns m n s v u c i
+
+same_cells : (m n : BTreeMap Name Binding) (rs ss : BTreeMap SlotId Value) → tops_of m ≡ tops_of n → slots_of rs ≡ slots_of ss → (c : Cell) → cells_of m rs c ≡ cells_of n ss c
+same_cells m n rs ss p q (top x) = λ i. p i x
+same_cells m n rs ss p q (slot_cell s) = λ i. q i s
+
+-- the same nouns and slots are the same cells
+pub cells_same : (m n : BTreeMap Name Binding) (rs ss : BTreeMap SlotId Value) → tops_of m ≡ tops_of n → slots_of rs ≡ slots_of ss → cells_of m rs ≡ cells_of n ss
+cells_same m n rs ss p q = λ i c. same_cells m n rs ss p q c i
+
+-- what entries say of each key
+abbrev pub listed : {K V C : Type 0} → (K → K → Ordering) → (V → C) → List (K × V) → K → Option C
+listed cmp f es k = option_map f (lookup (is_at (cmp k)) es)
+
+-- an empty map says nothing of any key
+pub listed_none : {K V C : Type 0} (cmp : K → K → Ordering) (f : V → C) (m : BTreeMap K V) → m.entries ≡ [] → (λ q. option_map f (get cmp m q)) ≡ listed cmp f []
+listed_none cmp f m e = ap (listed cmp f) e
+
+one_more : {K V C : Type 0} (cmp : K → K → Ordering) (f : V → C) → IsTotalOrder cmp → (m n : BTreeMap K V) (es : List (K × V)) (k x : K) (v w : V)
+    → (λ q. option_map f (get cmp m q)) ≡ listed cmp f es → x ≡ k → f w ≡ f v → Updates cmp m n x (Some w) → (q : K) → option_map f (get cmp n q) ≡ listed cmp f ((k, v) ∷ es) q
+one_more cmp f o m n es k x v w e p g u q =
+    updated cmp f m n x w u q
+    ∙ (λ i. cond (is_eq (cmp (p i) q)) (Some (g i)) (e i q))
+    ∙ ap (λ t. cond t (Some (f v)) (listed cmp f es q)) ((eq_by_cmp_equiv o).symm k q)
+    ∙ sym (chosen f (is_eq (cmp q k)) v (lookup (is_at (cmp q)) es))
 
 -- one more entry, in front of the others
-pub cells_more : (s t : State) (es : List (List ℕ × Value)) (k x : List ℕ) (v w : Value) → s ≡ cells_in es → x ≡ k → val_of w ≡ val_of v → t ≡ write s (top x) (content_of w) → t ≡ cells_in ((k, v) ∷ es)
-cells_more s t es k x v w e p q h =
-    h ∙ (λ i. write (e i) (top (p i)) (bound (fixed (q i)))) ∙ (λ i c. cell_more es k v c i)
+pub listed_more : {K V C : Type 0} (cmp : K → K → Ordering) (f : V → C) → IsTotalOrder cmp → (m n : BTreeMap K V) (es : List (K × V)) (k x : K) (v w : V)
+    → (λ q. option_map f (get cmp m q)) ≡ listed cmp f es → x ≡ k → f w ≡ f v → Updates cmp m n x (Some w) → (λ q. option_map f (get cmp n q)) ≡ listed cmp f ((k, v) ∷ es)
+listed_more cmp f o m n es k x v w e p g u = λ i q. one_more cmp f o m n es k x v w e p g u q i
 
 -- the last of the entries that are left comes before those that are done
 pub entries_more : {A : Type 0} (all left rest done : List A) (x : A) → all ≡ left ++ done → left ≡ rest ++ x ∷ [] → all ≡ rest ++ x ∷ done
 entries_more all left rest done x e f = e ∙ ap (λ xs. xs ++ done) f ∙ append_assoc rest (x ∷ []) done
-
-no_cell : (c : Cell) → nothing c ≡ cells_in [] c
-no_cell (top x) = refl
-
-pub no_cells : (s : State) → s ≡ nothing → s ≡ cells_in []
-no_cells s e = e ∙ (λ i c. no_cell c i)
 
 -- at first no entry is done
 pub entries_begin : {A : Type 0} (all left : List A) → all ≡ left → all ≡ left ++ []

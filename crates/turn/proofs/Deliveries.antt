@@ -1,5 +1,7 @@
 -- From a program's items to the delivery's outcome.
 use Rattle.std.proofs.Common.{◌≡◌, ℕ, Bool, true, false, List, [], subst, sym, ap, ◌∙◌, ◌⊎◌, inl, inr}
+use Rattle.ids.specs.declared.names.EventName.{EventName}
+use Rattle.ids.specs.declared.names.VatNo.{VatNo}
 use Rattle.kernele.specs.Tree.{Name, Trees}
 use Rattle.values.specs.Data.{Val, null}
 use Rattle.turn.specs.State.{State, At}
@@ -19,21 +21,21 @@ use Rattle.turn.specs.declared.delivery.Delivery.TheVariants as delivery
 use Rattle.turn.specs.declared.delivery.Outcome as code-outcome
 
 -- what a program's run gives
-abbrev pub Completes : Trees → Bool → State → ℕ → Outcome → Type 0
-Completes ts own s n r = (o : End) × (b : At) × Items 1 null ts (start own s n) o b × (r ≡ outcome s (settled o) b)
+abbrev pub Completes : Trees → Bool → EventName → VatNo → State → ℕ → Outcome → Type 0
+Completes ts own e v s n r = (o : End) × (b : At) × Items 1 null ts (start own e v s n) o b × (r ≡ outcome s (settled o) b)
 
 -- a program's items, begun where the program stands
-pub program_items : {us ts : Trees} {ns : List Noun} {own : Bool} {s t : State} {n : ℕ} {o : End} {b : At} → us ≡ ts → ns ≡ [] → s ≡ t → Items 1 null us (record { nouns = nouns_of ns; own_scope = own; state = s; left = n }) o b → Items 1 null ts (start own t n) o b
-program_items {us = us} {ns = ns} {own = own} {t = t} {n = n} {o = o} {b = b} p q r h =
-    subst (λ ts. Items 1 null ts (start own t n) o b) p
-    (subst (λ ms. Items 1 null us (record { nouns = nouns_of ms; own_scope = own; state = t; left = n }) o b) q
-    (subst (λ u. Items 1 null us (record { nouns = nouns_of ns; own_scope = own; state = u; left = n }) o b) r h))
+pub program_items : {us ts : Trees} {ns : List Noun} {own : Bool} {e : EventName} {v : VatNo} {s t : State} {n : ℕ} {o : End} {b : At} → us ≡ ts → ns ≡ [] → s ≡ t → Items 1 null us (record { nouns = nouns_of ns; own_scope = own; state = s; left = n; event = e; vat = v; slots = 0 }) o b → Items 1 null ts (start own e v t n) o b
+program_items {us = us} {ns = ns} {own = own} {e = e} {v = v} {t = t} {n = n} {o = o} {b = b} p q r h =
+    subst (λ ts. Items 1 null ts (start own e v t n) o b) p
+    (subst (λ ms. Items 1 null us (record { nouns = nouns_of ms; own_scope = own; state = t; left = n; event = e; vat = v; slots = 0 }) o b) q
+    (subst (λ u. Items 1 null us (record { nouns = nouns_of ns; own_scope = own; state = u; left = n; event = e; vat = v; slots = 0 }) o b) r h))
 
-pub opened : {d : code.Delivery} {p : Program} {s : State} {n : ℕ} (r : code-outcome.Outcome) → d ≡ delivery.Opening p → Completes (program_of p) true s n (outcome_of r) → Delivers (delivery_of d) s n (outcome_of r)
-opened {p = p} {s = s} {n = n} r e h = subst (λ x. Delivers (delivery_of x) s n (outcome_of r)) (sym e) (subst (λ m. Delivers (opening (program_of p)) s n m) (sym h.3) (opens h.2))
+pub opened : {d : code.Delivery} {p : Program} {e : EventName} {v : VatNo} {s : State} {n : ℕ} (r : code-outcome.Outcome) → d ≡ delivery.Opening p → Completes (program_of p) true e v s n (outcome_of r) → Delivers (delivery_of d) e v s n (outcome_of r)
+opened {p = p} {e = e} {v = v} {s = s} {n = n} r q h = subst (λ x. Delivers (delivery_of x) e v s n (outcome_of r)) (sym q) (subst (λ m. Delivers (opening (program_of p)) e v s n m) (sym h.3) (opens h.2))
 
-pub answered : {d : code.Delivery} {p : Program} {s : State} {n : ℕ} (r : code-outcome.Outcome) → d ≡ delivery.Asked p → Completes (program_of p) false s n (outcome_of r) → Delivers (delivery_of d) s n (outcome_of r)
-answered {p = p} {s = s} {n = n} r e h = subst (λ x. Delivers (delivery_of x) s n (outcome_of r)) (sym e) (subst (λ m. Delivers (asked (program_of p)) s n m) (sym h.3) (asks h.2))
+pub answered : {d : code.Delivery} {p : Program} {e : EventName} {v : VatNo} {s : State} {n : ℕ} (r : code-outcome.Outcome) → d ≡ delivery.Asked p → Completes (program_of p) false e v s n (outcome_of r) → Delivers (delivery_of d) e v s n (outcome_of r)
+answered {p = p} {e = e} {v = v} {s = s} {n = n} r q h = subst (λ x. Delivers (delivery_of x) e v s n (outcome_of r)) (sym q) (subst (λ m. Delivers (asked (program_of p)) e v s n m) (sym h.3) (asks h.2))
 
 abbrev pub outcome_at : State → Val → End → ℕ → Outcome
 outcome_at s v e n = record { state = s; result = v; end = e; left = n }
@@ -42,7 +44,7 @@ pub outcome_is : {s t : State} {v w : Val} {e f : End} {n : ℕ} → s ≡ t →
 outcome_is {n = n} p q r = λ i. outcome_at (p i) (q i) (r i) n
 
 -- what is known of a run that `finish` ends
-pub completed : {ts : Trees} {own : Bool} {s : State} {n : ℕ} {o : End} {b : At} {r : Outcome} → Items 1 null ts (start own s n) o b → r ≡ outcome s (settled o) b → Completes ts own s n r
+pub completed : {ts : Trees} {own : Bool} {e : EventName} {v : VatNo} {s : State} {n : ℕ} {o : End} {b : At} {r : Outcome} → Items 1 null ts (start own e v s n) o b → r ≡ outcome s (settled o) b → Completes ts own e v s n r
 completed {o = o} {b = b} h e = (o, b, h, e)
 
 -- a turn that was not abandoned keeps its new state

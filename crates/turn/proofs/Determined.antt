@@ -1,10 +1,12 @@
 -- At most one outcome.
 use Rattle.std.proofs.Common.{◌≡◌, ℕ, refl, sym, ap, subst, arith}
+use Rattle.ids.specs.declared.names.EventName.{EventName}
+use Rattle.ids.specs.declared.names.VatNo.{VatNo}
 use Rattle.kernele.specs.Tree.{Tree, Trees}
 use Rattle.values.specs.Data.{Val, no_vals}
 use Rattle.turn.specs.State.{At, State}
 use Rattle.turn.specs.Outcomes.{Halt, End, value, halt, Gather, values, halted}
-use Rattle.turn.specs.Rules.{defined, call_end, list_end, same_end, gather_first, Ends, at_budget, at_depth, at_node, Runs, run_null, run_bool, run_int, run_text, run_noun, run_define, run_call_receiver, run_call, run_list, run_same_left, run_same, Args, args_none, args_next, args_halt, Items, items_none, items_next, items_halt}
+use Rattle.turn.specs.Rules.{sought_slot, defined, declared, declared_end, assigned, assigned_end, call_end, list_end, same_end, gather_first, Ends, at_budget, at_depth, at_node, Runs, run_null, run_bool, run_int, run_text, run_noun, run_define, run_variable, run_assign, run_call_receiver, run_call, run_list, run_same_left, run_same, Args, args_none, args_next, args_halt, Items, items_none, items_next, items_halt}
 use Rattle.turn.specs.Turn.{Delivery, Outcome, outcome, settled, Delivers, opens, asks}
 
 -- the same end, at the same place
@@ -71,6 +73,8 @@ mutual
   runs_same run_text run_text = alike
   runs_same run_noun run_noun = alike
   runs_same (run_define {p = p} r) (run_define s) = along (λ o b. o) (λ o b. defined p o b) (ends_same r s)
+  runs_same (run_variable {x = x} r) (run_variable s) = along (λ o b. declared_end o b) (λ o b. declared x o b) (ends_same r s)
+  runs_same (run_assign {x = x} r) (run_assign s) = along (λ o b. assigned_end x o (sought_slot x b)) (λ o b. assigned o (sought_slot x b) b) (ends_same r s)
   runs_same (run_call_receiver r) (run_call_receiver s) = ends_same r s
   runs_same (run_call_receiver r) (run_call s u) = absurd (value_halt (sym (ends_same r s).end))
   runs_same (run_call r q) (run_call_receiver s) = absurd (value_halt (ends_same r s).end)
@@ -98,6 +102,6 @@ items_same (items_halt r) (items_halt s) = ends_same r s
 outcome_same : (s : State) {o p : End} {b c : At} → Same o p b c → outcome s (settled o) b ≡ outcome s (settled p) c
 outcome_same s t = λ i. outcome s (settled (t.end i)) (t.place i)
 
-pub delivery_same : {d : Delivery} {s : State} {n : ℕ} {o p : Outcome} → Delivers d s n o → Delivers d s n p → o ≡ p
+pub delivery_same : {d : Delivery} {e : EventName} {v : VatNo} {s : State} {n : ℕ} {o p : Outcome} → Delivers d e v s n o → Delivers d e v s n p → o ≡ p
 delivery_same (opens {s = s} r) (opens q) = outcome_same s (items_same r q)
 delivery_same (asks {s = s} r) (asks q) = outcome_same s (items_same r q)

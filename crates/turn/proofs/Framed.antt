@@ -1,14 +1,17 @@
 -- On a state that agrees on the cells touched, a tree ends the same and touches the same cells.
 use Rattle.std.proofs.Common.{◌≡◌, ℕ, ◌+◌, List, [], ◌∷◌, ◌++◌, Option, Some, None, Bool, true, false, cond, refl, ap, ◌∙◌, subst}
-use Rattle.kernele.specs.Tree.{Name, Tree, Trees, noun, define}
+use Rattle.ids.specs.declared.names.EventName.{EventName}
+use Rattle.ids.specs.declared.names.VatNo.{VatNo}
+use Rattle.ids.specs.declared.names.SlotId.{SlotId}
+use Rattle.kernele.specs.Tree.{Name, Tree, Trees, noun, define, variable, assign}
 use Rattle.kernele.specs.declared.tree.Pattern.{Pattern}
 use Rattle.kernele.specs.declared.tree.Pattern.TheVariants as pattern
 use Rattle.values.specs.Data.{Val}
-use Rattle.turn.specs.State.{Bind, fixed, lookup, Cell, top, Content, bound, same_cell, State, write, At}
+use Rattle.turn.specs.State.{Bind, fixed, slot, lookup, Cell, top, slot_cell, Content, bound, held, same_cell, State, write, At}
 use Rattle.turn.specs.Outcomes.{End, value, halt, Gather, thrown, abandoned}
-use Rattle.turn.specs.Rules.{content_end, noun_end, bound_in, defined, Ends, at_budget, at_depth, at_node, Runs, run_null, run_bool, run_int, run_text, run_noun, run_define, run_call_receiver, run_call, run_list, run_same_left, run_same, Args, args_none, args_next, args_halt, Items, items_none, items_next, items_halt}
+use Rattle.turn.specs.Rules.{top_bind, found, sought, slot_in, sought_slot, held_end, noun_end, bound_in, defined, next_slot, has_room, slot_made, made, made_end, declared, declared_end, assigned, assigned_end, Ends, at_budget, at_depth, at_node, Runs, run_null, run_bool, run_int, run_text, run_noun, run_define, run_variable, run_assign, run_call_receiver, run_call, run_list, run_same_left, run_same, Args, args_none, args_next, args_halt, Items, items_none, items_next, items_halt}
 use Rattle.turn.specs.Turn.{Delivery, Outcome, settled, kept, Delivers, opens, asks}
-use Rattle.turn.specs.Touched.{Touch, got, put, noun_touched, bound_touched, defined_touched, ends_touched, runs_touched, args_touched, items_touched, delivery_touched, Agree, in_state}
+use Rattle.turn.specs.Touched.{Touch, got, put, sought_touched, read_touched, set_touched, noun_touched, assigned_touched, bound_touched, defined_touched, made_touched, declared_touched, ends_touched, runs_touched, args_touched, items_touched, delivery_touched, Agree, in_state}
 
 -- the same evaluation from the state t in place of s: where it ends, its derivation, its cells, and that it keeps what agrees
 pub record Framed (D : State → Type 0) (touch : (u : State) → D u → List Touch) (s s' t : State) (ls : List Touch) : Type 0 where
@@ -35,9 +38,14 @@ agree_kept (put c ∷ xs) t s u v k h = (k c h.0, agree_kept xs t s u v k h.1)
 write_kept : (t s : State) (d : Cell) (x : Content) (c : Cell) → t c ≡ s c → write t d x c ≡ write s d x c
 write_kept t s d x c e = ap (λ y. cond (same_cell d c) (Some x) y) e
 
-noun_framed : (x : Name) (l : Option Bind) (t s : State) → Agree (noun_touched x l) t s → noun_end t x l ≡ noun_end s x l
+found_framed : (x : Name) (l : Option Bind) (t s : State) → Agree (sought_touched x l) t s → found t x l ≡ found s x l
+found_framed x (Some b) t s h = refl
+found_framed x None t s h = ap top_bind h.0
+
+noun_framed : (x : Name) (m : Option Bind) (t s : State) → Agree (read_touched (slot_in m)) t s → noun_end t x m ≡ noun_end s x m
 noun_framed x (Some (fixed v)) t s h = refl
-noun_framed x None t s h = ap (content_end x) h.0
+noun_framed x (Some (slot i)) t s h = ap (held_end x) h.0
+noun_framed x None t s h = refl
 
 -- the frames of each form
 abbrev EndsFrame : (k : ℕ) (t : Tree) (a : At) (o : End) (b : At) (u : State) → List Touch → Type 0
@@ -52,18 +60,67 @@ ArgsFrame k ts a g b u ls = Framed (λ s. Args k ts (in_state u a) g (in_state s
 abbrev ItemsFrame : (k : ℕ) (v : Val) (ts : Trees) (a : At) (o : End) (b : At) (u : State) → List Touch → Type 0
 ItemsFrame k v ts a o b u ls = Framed (λ s. Items k v ts (in_state u a) o (in_state s b)) (λ s r. items_touched r) a.state b.state u ls
 
-noun_case : (k : ℕ) (x : Name) (a : At) (u : State) → Agree (noun_touched x (lookup a.nouns x)) u a.state → RunsFrame k (noun x) a (noun_end a.state x (lookup a.nouns x)) a u (noun_touched x (lookup a.nouns x))
-noun_case k x a u h = subst (λ o. RunsFrame k (noun x) a o a u (noun_touched x (lookup a.nouns x))) (noun_framed x (lookup a.nouns x) u a.state h) (record { after = u; run = run_noun; same = refl; kept = λ c e. e })
+-- a noun stands for the same, so the same slot is read
+noun_case : (k : ℕ) (x : Name) (a : At) (u : State) → Agree (noun_touched x a) u a.state → RunsFrame k (noun x) a (noun_end a.state x (sought x a)) a u (noun_touched x a)
+noun_case k x a u h =
+    let e : found u x (lookup a.nouns x) ≡ found a.state x (lookup a.nouns x) = found_framed x (lookup a.nouns x) u a.state (agree_left (sought_touched x (lookup a.nouns x)) (read_touched (sought_slot x a)) u a.state h) in
+    let g : noun_end u x (sought x a) ≡ noun_end a.state x (sought x a) = noun_framed x (sought x a) u a.state (agree_right (sought_touched x (lookup a.nouns x)) (read_touched (sought_slot x a)) u a.state h) in
+    subst (λ o. RunsFrame k (noun x) a o a u (noun_touched x a)) (ap (noun_end u x) e ∙ g)
+    (record { after = u; run = run_noun; same = ap (λ m. sought_touched x (lookup a.nouns x) ++ read_touched (slot_in m)) e; kept = λ c q. q })
+
+-- what is made of a right side's end, where what is written is framed too
+wrapped : (k : ℕ) (t e : Tree) (a : At) (o p : End) (b c : At) (u : State) (ls more : List Touch) (f : EndsFrame (k + 1) e a o b u ls) (after : State) (run : Runs k t (in_state u a) p (in_state after c))
+    → runs_touched run ≡ ends_touched f.run ++ more → ((d : Cell) → f.after d ≡ b.state d → after d ≡ c.state d) → RunsFrame k t a p c u (ls ++ more)
+wrapped k t e a o p b c u ls more f after run m kept = record { after = after; run = run; same = m ∙ ap (λ l. l ++ more) f.same; kept = λ d q. kept d (f.kept d q) }
 
 -- a name bound where the innermost scope is known
 bound_case : (own : Bool) (k : ℕ) (x : Name) (e : Tree) (a : At) (v : Val) (b : At) (u : State) (ls : List Touch) (f : EndsFrame (k + 1) e a (value v) b u ls) (run : Runs k (define (pattern.Name x) e) (in_state u a) (value v) (bound_in own x (fixed v) (in_state f.after b))) → runs_touched run ≡ ends_touched f.run ++ bound_touched own x → RunsFrame k (define (pattern.Name x) e) a (value v) (bound_in own x (fixed v) b) u (ls ++ bound_touched own x)
-bound_case true k x e a v b u ls f run m = record { after = write f.after (top x) (bound (fixed v)); run = run; same = m ∙ ap (λ l. l ++ bound_touched true x) f.same; kept = λ c q. write_kept f.after b.state (top x) (bound (fixed v)) c (f.kept c q) }
-bound_case false k x e a v b u ls f run m = record { after = f.after; run = run; same = m ∙ ap (λ l. l ++ []) f.same; kept = f.kept }
+bound_case true k x e a v b u ls f run m = wrapped k (define (pattern.Name x) e) e a (value v) (value v) b (bound_in true x (fixed v) b) u ls (bound_touched true x) f (write f.after (top x) (bound (fixed v))) run m (λ c q. write_kept f.after b.state (top x) (bound (fixed v)) c q)
+bound_case false k x e a v b u ls f run m = wrapped k (define (pattern.Name x) e) e a (value v) (value v) b (bound_in false x (fixed v) b) u ls [] f f.after run m (λ c q. q)
 
 define_case : (k : ℕ) (p : Pattern) (e : Tree) (a : At) (o : End) (b : At) (u : State) (ls : List Touch) → EndsFrame (k + 1) e a o b u ls → RunsFrame k (define p e) a o (defined p o b) u (ls ++ defined_touched p o b)
-define_case k p e a (halt h) b u ls f = record { after = f.after; run = run_define f.run; same = ap (λ l. l ++ []) f.same; kept = f.kept }
-define_case k pattern.Ignore e a (value v) b u ls f = record { after = f.after; run = run_define f.run; same = ap (λ l. l ++ []) f.same; kept = f.kept }
+define_case k p e a (halt h) b u ls f = wrapped k (define p e) e a (halt h) (halt h) b b u ls [] f f.after (run_define f.run) refl (λ c q. q)
+define_case k pattern.Ignore e a (value v) b u ls f = wrapped k (define pattern.Ignore e) e a (value v) (value v) b b u ls [] f f.after (run_define f.run) refl (λ c q. q)
 define_case k (pattern.Name x) e a (value v) b u ls f = bound_case b.own_scope k x e a v b u ls f (run_define f.run) refl
+
+-- a slot is written in both states alike
+slot_kept : (t s : State) (i : SlotId) (v : Val) (c : Cell) → t c ≡ s c → write t (slot_cell i) (held v) c ≡ write s (slot_cell i) (held v) c
+slot_kept t s i v c e = write_kept t s (slot_cell i) (held v) c e
+
+-- a variable made where the innermost scope is known
+slot_case : (own : Bool) (k : ℕ) (x : Name) (e : Tree) (a : At) (v : Val) (b : At) (u : State) (ls : List Touch) (f : EndsFrame (k + 1) e a (value v) b u ls) (run : Runs k (variable x e) (in_state u a) (value v) (bound_in own x (slot (next_slot b)) (slot_made v (in_state f.after b))))
+    → runs_touched run ≡ ends_touched f.run ++ (put (slot_cell (next_slot b)) ∷ bound_touched own x) → RunsFrame k (variable x e) a (value v) (bound_in own x (slot (next_slot b)) (slot_made v b)) u (ls ++ (put (slot_cell (next_slot b)) ∷ bound_touched own x))
+slot_case true k x e a v b u ls f run m =
+    wrapped k (variable x e) e a (value v) (value v) b (bound_in true x (slot (next_slot b)) (slot_made v b)) u ls (put (slot_cell (next_slot b)) ∷ bound_touched true x) f
+    (write (write f.after (slot_cell (next_slot b)) (held v)) (top x) (bound (slot (next_slot b)))) run m
+    (λ c q. write_kept (write f.after (slot_cell (next_slot b)) (held v)) (write b.state (slot_cell (next_slot b)) (held v)) (top x) (bound (slot (next_slot b))) c (slot_kept f.after b.state (next_slot b) v c q))
+slot_case false k x e a v b u ls f run m =
+    wrapped k (variable x e) e a (value v) (value v) b (bound_in false x (slot (next_slot b)) (slot_made v b)) u ls (put (slot_cell (next_slot b)) ∷ []) f
+    (write f.after (slot_cell (next_slot b)) (held v)) run m (λ c q. slot_kept f.after b.state (next_slot b) v c q)
+
+-- a variable, where it is known whether there is room for it
+made_case : (room : Bool) (k : ℕ) (x : Name) (e : Tree) (a : At) (v : Val) (b : At) (u : State) (ls : List Touch) (f : EndsFrame (k + 1) e a (value v) b u ls) (run : Runs k (variable x e) (in_state u a) (made_end room v) (made room x v (in_state f.after b)))
+    → runs_touched run ≡ ends_touched f.run ++ made_touched room x (in_state f.after b) → RunsFrame k (variable x e) a (made_end room v) (made room x v b) u (ls ++ made_touched room x b)
+made_case true k x e a v b u ls f run m = slot_case b.own_scope k x e a v b u ls f run m
+made_case false k x e a v b u ls f run m = wrapped k (variable x e) e a (value v) (made_end false v) b b u ls [] f f.after run m (λ c q. q)
+
+declare_case : (k : ℕ) (x : Name) (e : Tree) (a : At) (o : End) (b : At) (u : State) (ls : List Touch) → EndsFrame (k + 1) e a o b u ls → RunsFrame k (variable x e) a (declared_end o b) (declared x o b) u (ls ++ declared_touched x o b)
+declare_case k x e a (value v) b u ls f = made_case (has_room b) k x e a v b u ls f (run_variable f.run) refl
+declare_case k x e a (halt h) b u ls f = wrapped k (variable x e) e a (halt h) (halt h) b b u ls [] f f.after (run_variable f.run) refl (λ c q. q)
+
+-- an assignment, where it is known for which slot its noun stands
+set_case : (i : Option SlotId) (k : ℕ) (x : Name) (e : Tree) (a : At) (v : Val) (b : At) (u : State) (ls gs : List Touch) (f : EndsFrame (k + 1) e a (value v) b u ls) (run : Runs k (assign x e) (in_state u a) (assigned_end x (value v) i) (assigned (value v) i (in_state f.after b)))
+    → runs_touched run ≡ ends_touched f.run ++ (gs ++ set_touched i) → RunsFrame k (assign x e) a (assigned_end x (value v) i) (assigned (value v) i b) u (ls ++ (gs ++ set_touched i))
+set_case (Some i) k x e a v b u ls gs f run m = wrapped k (assign x e) e a (value v) (value v) b (assigned (value v) (Some i) b) u ls (gs ++ set_touched (Some i)) f (write f.after (slot_cell i) (held v)) run m (λ c q. slot_kept f.after b.state i v c q)
+set_case None k x e a v b u ls gs f run m = wrapped k (assign x e) e a (value v) (assigned_end x (value v) None) b b u ls (gs ++ []) f f.after run m (λ c q. q)
+
+assign_case : (k : ℕ) (x : Name) (e : Tree) (a : At) (o : End) (b : At) (u : State) (ls : List Touch) (f : EndsFrame (k + 1) e a o b u ls) → Agree (assigned_touched x o b) f.after b.state
+    → RunsFrame k (assign x e) a (assigned_end x o (sought_slot x b)) (assigned o (sought_slot x b) b) u (ls ++ assigned_touched x o b)
+assign_case k x e a (value v) b u ls f h =
+    let g : found f.after x (lookup b.nouns x) ≡ found b.state x (lookup b.nouns x) = found_framed x (lookup b.nouns x) f.after b.state (agree_left (sought_touched x (lookup b.nouns x)) (set_touched (sought_slot x b)) f.after b.state h) in
+    subst (λ i. RunsFrame k (assign x e) a (assigned_end x (value v) i) (assigned (value v) i b) u (ls ++ (sought_touched x (lookup b.nouns x) ++ set_touched i))) (ap slot_in g)
+    (set_case (slot_in (found f.after x (lookup b.nouns x))) k x e a v b u ls (sought_touched x (lookup b.nouns x)) f (run_assign f.run) refl)
+assign_case k x e a (halt j) b u ls f h = wrapped k (assign x e) e a (halt j) (halt j) b b u ls [] f f.after (run_assign f.run) refl (λ c q. q)
 
 mutual
   pub ends_framed : {k : ℕ} {t : Tree} {a b : At} {o : End} (r : Ends k t a o b) (u : State) → Agree (ends_touched r) u a.state → EndsFrame k t a o b u (ends_touched r)
@@ -78,6 +135,10 @@ mutual
   runs_framed run_text u m = record { after = u; run = run_text; same = refl; kept = λ c e. e }
   runs_framed (run_noun {k = k} {x = x} {a = a}) u m = noun_case k x a u m
   runs_framed (run_define {k = k} {p = p} {e = e} {a = a} {b = b} {o = o} r) u m = define_case k p e a o b u (ends_touched r) (ends_framed r u (agree_left (ends_touched r) (defined_touched p o b) u a.state m))
+  runs_framed (run_variable {k = k} {x = x} {e = e} {a = a} {b = b} {o = o} r) u m = declare_case k x e a o b u (ends_touched r) (ends_framed r u (agree_left (ends_touched r) (declared_touched x o b) u a.state m))
+  runs_framed (run_assign {k = k} {x = x} {e = e} {a = a} {b = b} {o = o} r) u m =
+      let f = ends_framed r u (agree_left (ends_touched r) (assigned_touched x o b) u a.state m) in
+      assign_case k x e a o b u (ends_touched r) f (agree_kept (assigned_touched x o b) u a.state f.after b.state f.kept (agree_right (ends_touched r) (assigned_touched x o b) u a.state m))
   runs_framed (run_call_receiver r) u m = let f = ends_framed r u m in record { after = f.after; run = run_call_receiver f.run; same = f.same; kept = f.kept }
   runs_framed (run_call {a = a} {b = b} r q) u m =
       let f = ends_framed r u (agree_left (ends_touched r) (args_touched q) u a.state m) in
@@ -112,9 +173,9 @@ kept_agrees (value v) u s t b c p q = q
 kept_agrees (halt (thrown problem)) u s t b c p q = q
 kept_agrees (halt (abandoned why)) u s t b c p q = p
 
-abbrev DeliveryFrames : (d : Delivery) (s : State) (n : ℕ) (o : Outcome) (u : State) → List Touch → Type 0
-DeliveryFrames d s n o u ls = Framed (λ v. Delivers d u n (record o { state = v })) (λ v r. delivery_touched r) s o.state u ls
+abbrev DeliveryFrames : (d : Delivery) (e : EventName) (v : VatNo) (s : State) (n : ℕ) (o : Outcome) (u : State) → List Touch → Type 0
+DeliveryFrames d e v s n o u ls = Framed (λ t. Delivers d e v u n (record o { state = t })) (λ t r. delivery_touched r) s o.state u ls
 
-pub delivery_framed : {d : Delivery} {s : State} {n : ℕ} {o : Outcome} (r : Delivers d s n o) (u : State) → Agree (delivery_touched r) u s → DeliveryFrames d s n o u (delivery_touched r)
+pub delivery_framed : {d : Delivery} {e : EventName} {v : VatNo} {s : State} {n : ℕ} {o : Outcome} (r : Delivers d e v s n o) (u : State) → Agree (delivery_touched r) u s → DeliveryFrames d e v s n o u (delivery_touched r)
 delivery_framed (opens {s = s} {o = o} {b = b} r) u m = let f = items_framed r u m in record { after = kept (settled o) u f.after; run = opens f.run; same = f.same; kept = λ c h. kept_agrees (settled o) u s f.after b.state c h (f.kept c h) }
 delivery_framed (asks {s = s} {o = o} {b = b} r) u m = let f = items_framed r u m in record { after = kept (settled o) u f.after; run = asks f.run; same = f.same; kept = λ c h. kept_agrees (settled o) u s f.after b.state c h (f.kept c h) }

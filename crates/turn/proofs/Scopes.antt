@@ -1,29 +1,54 @@
 -- On the names of scopes, of which the program pushes the newest at the end.
-use Rattle.std.proofs.Common.{◌≡◌, List, [], ◌∷◌, ◌++◌, Some, true, false, cond, refl, sym, ap, ◌∙◌}
+use Rattle.std.proofs.Common.{◌≡◌, ℕ, ◌<◌, ltb, arith, List, [], ◌∷◌, ◌++◌, Option, Some, None, true, false, cond, refl, sym, ap, ◌∙◌}
+use Rattle.std.specs.Prelude.{Result, Ok, Err, IfOk}
+use Rattle.std.proofs.lemmas.Bool.Decides.{nat_tests}
 use Rattle.std.specs.Str.{bytes_eq}
+use Rattle.ids.specs.declared.names.SlotId.{SlotId}
 use Rattle.kernele.specs.Tree.{Name}
-use Rattle.values.specs.View.{val_of}
-use Rattle.turn.specs.State.{Bind, Nouns, lookup, fixed, top, bound, State, write, At}
-use Rattle.turn.specs.Rules.{binding, bound_in}
-use Rattle.turn.specs.View.{nouns_of, nouns_after}
+use Rattle.values.specs.Data.{Val}
+use Rattle.turn.specs.State.{Bind, slot, Nouns, lookup, top, slot_cell, bound, held, State, write, At}
+use Rattle.turn.specs.Outcomes.{value}
+use Rattle.turn.specs.Rules.{binding, bound_in, next_slot, slot_made, with_slot, made, declared, assigned}
+use Rattle.turn.specs.View.{bind_of, nouns_of, nouns_after}
 use Rattle.turn.specs.declared.working.Noun.{Noun}
 
 nouns_after-append : (ns : Nouns) (xs ys : List Noun) → nouns_after ns (xs ++ ys) ≡ nouns_after (nouns_after ns xs) ys
 nouns_after-append ns [] ys = refl
-nouns_after-append ns (x ∷ xs) ys = nouns_after-append ((x.name, fixed (val_of x.value)) ∷ ns) xs ys
+nouns_after-append ns (x ∷ xs) ys = nouns_after-append ((x.name, bind_of x.binding) ∷ ns) xs ys
 
 -- the newest name is the last one pushed
-pub nouns_of-push : (xs : List Noun) (n : Noun) → nouns_of (xs ++ n ∷ []) ≡ ((n.name, fixed (val_of n.value)) ∷ nouns_of xs)
+pub nouns_of-push : (xs : List Noun) (n : Noun) → nouns_of (xs ++ n ∷ []) ≡ ((n.name, bind_of n.binding) ∷ nouns_of xs)
 nouns_of-push xs n = nouns_after-append [] xs (n ∷ [])
 
 -- the newest name is the one that is sought
-pub find_here : (xs older : List Noun) (n : Noun) (x : Name) → xs ≡ older ++ n ∷ [] → bytes_eq n.name x ≡ true → Some (fixed (val_of n.value)) ≡ lookup (nouns_of xs) x
-find_here xs older n x e t = sym (ap (λ ys. lookup (nouns_of ys) x) e ∙ ap (λ ns. lookup ns x) (nouns_of-push older n) ∙ ap (λ b. cond b (Some (fixed (val_of n.value))) (lookup (nouns_of older) x)) t)
+pub find_here : (xs older : List Noun) (n : Noun) (x : Name) → xs ≡ older ++ n ∷ [] → bytes_eq n.name x ≡ true → Some (bind_of n.binding) ≡ lookup (nouns_of xs) x
+find_here xs older n x e t = sym (ap (λ ys. lookup (nouns_of ys) x) e ∙ ap (λ ns. lookup ns x) (nouns_of-push older n) ∙ ap (λ b. cond b (Some (bind_of n.binding)) (lookup (nouns_of older) x)) t)
 
 -- the newest name is another one
 pub find_on : (xs older : List Noun) (n : Noun) (x : Name) → xs ≡ older ++ n ∷ [] → bytes_eq n.name x ≡ false → lookup (nouns_of older) x ≡ lookup (nouns_of xs) x
-find_on xs older n x e t = sym (ap (λ ys. lookup (nouns_of ys) x) e ∙ ap (λ ns. lookup ns x) (nouns_of-push older n) ∙ ap (λ b. cond b (Some (fixed (val_of n.value))) (lookup (nouns_of older) x)) t)
+find_on xs older n x e t = sym (ap (λ ys. lookup (nouns_of ys) x) e ∙ ap (λ ns. lookup ns x) (nouns_of-push older n) ∙ ap (λ b. cond b (Some (bind_of n.binding)) (lookup (nouns_of older) x)) t)
 
 -- in the script's own scope a name is bound by a write of its cell
 pub bound_on_top : (x : Name) (b : Bind) (a : At) (s : State) → a.own_scope ≡ true → s ≡ write a.state (top x) (bound b) → record a { state = s } ≡ binding x b a
 bound_on_top x b a s h e = ap (λ u. record a { state = u }) e ∙ sym (ap (λ o. bound_in o x b a) h)
+
+-- what holds anyway holds of what was returned
+pub if_any : {X E P : Type 0} (r : Result X E) → P → IfOk r (λ x. P)
+if_any (Ok x) p = p
+if_any (Err e) p = tt
+
+-- an assignment to a slot
+pub assigned_there : (v w : Val) (i : SlotId) (l : Option SlotId) (a : At) (s : State) → l ≡ Some i → s ≡ write a.state (slot_cell i) (held w) → w ≡ v → record a { state = s } ≡ assigned (value v) l a
+assigned_there v w i l a s h e p = ap (λ u. record a { state = u }) (e ∙ ap (λ x. write a.state (slot_cell i) (held x)) p) ∙ sym (ap (λ m. assigned (value v) m a) h)
+
+-- an assignment to what is no slot
+pub assigned_nowhere : (v : Val) (l : Option SlotId) (a : At) → l ≡ None → a ≡ assigned (value v) l a
+assigned_nowhere v l a h = sym (ap (λ m. assigned (value v) m a) h)
+
+room : (n : ℕ) → n < 4096 → ltb n 4096 ≡ true
+room n h = grind (arith, nat_tests)
+
+-- a variable for whose slot there is room
+pub declared_there : (x : Name) (v w : Val) (i : SlotId) (a b c : At) → a.slots < 4096 → w ≡ v → i ≡ next_slot a → b ≡ slot_made w a → c ≡ binding x (slot i) b → c ≡ declared x (value v) a
+declared_there x v w i a b c h p q e f =
+    f ∙ (λ j. binding x (slot (q j)) (e j)) ∙ ap (λ u. with_slot x u a) p ∙ sym (ap (λ r. made r x v a) (room a.slots h))

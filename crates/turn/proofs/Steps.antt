@@ -1,5 +1,6 @@
 -- From the rules to what the program's functions ensure.
 use Rattle.std.proofs.Common.{◌≡◌, ℕ, ◌+◌, ◌<◌, ◌≤◌, List, [], ◌∷◌, ◌++◌, subst, sym, ap, refl, length, drop, get_or, add-one, ◌∙◌, suc}
+use Rattle.std.specs.Prelude.{Result, Ok, Err, IfOk}
 use Rattle.std.proofs.Math.Seq.{drop-cons}
 use Rattle.std.proofs.lemmas.List.{drop_all}
 use Rattle.kernele.specs.Tree.{Tree, Trees, and_then}
@@ -102,3 +103,8 @@ runs_to {k = k} {t = t} {a = a} {c = c} {p = p} r e f = subst (λ o. Runs k t a 
 -- a slice of what an `Arc` holds
 pub slice_of : {s : List Expr} {v u : Vec Expr Global} → s ≡ v.items → v ≡ u → s ≡ u.items
 slice_of e f = e ∙ ap (λ v. v.items) f
+
+-- two facts on what a call returned give a third
+pub if_both : {X E : Type 0} (r : Result X E) (P Q R : X → Type 0) → ((x : X) → P x → Q x → R x) → IfOk r P → IfOk r Q → IfOk r R
+if_both (Ok x) P Q R h p q = h x p q
+if_both (Err e) P Q R h p q = tt

@@ -1,14 +1,17 @@
 -- What is not written stays as it was.
-use Rattle.std.proofs.Common.{◌≡◌, ℕ, List, [], ◌∷◌, ◌++◌, Some, Bool, true, false, cond, refl, ap, ◌∙◌}
+use Rattle.std.proofs.Common.{◌≡◌, ℕ, List, [], ◌∷◌, ◌++◌, Option, Some, None, Bool, true, false, cond, refl, ap, ◌∙◌}
+use Rattle.ids.specs.declared.names.EventName.{EventName}
+use Rattle.ids.specs.declared.names.VatNo.{VatNo}
+use Rattle.ids.specs.declared.names.SlotId.{SlotId}
 use Rattle.kernele.specs.Tree.{Name, Tree, Trees}
 use Rattle.kernele.specs.declared.tree.Pattern.{Pattern}
 use Rattle.kernele.specs.declared.tree.Pattern.TheVariants as pattern
 use Rattle.values.specs.Data.{Val}
-use Rattle.turn.specs.State.{fixed, Cell, top, Content, bound, same_cell, State, write, At}
+use Rattle.turn.specs.State.{Bind, fixed, slot, lookup, Cell, top, slot_cell, Content, bound, held, same_cell, State, write, At}
 use Rattle.turn.specs.Outcomes.{End, value, halt, thrown, abandoned, Gather}
-use Rattle.turn.specs.Rules.{bound_in, defined, Ends, at_budget, at_depth, at_node, Runs, run_null, run_bool, run_int, run_text, run_noun, run_define, run_call_receiver, run_call, run_list, run_same_left, run_same, Args, args_none, args_next, args_halt, Items, items_none, items_next, items_halt}
+use Rattle.turn.specs.Rules.{sought_slot, bound_in, defined, next_slot, has_room, slot_made, made, declared, assigned, Ends, at_budget, at_depth, at_node, Runs, run_null, run_bool, run_int, run_text, run_noun, run_define, run_variable, run_assign, run_call_receiver, run_call, run_list, run_same_left, run_same, Args, args_none, args_next, args_halt, Items, items_none, items_next, items_halt}
 use Rattle.turn.specs.Turn.{Delivery, Outcome, settled, kept, Delivers, opens, asks}
-use Rattle.turn.specs.Touched.{Touch, got, put, bound_touched, defined_touched, ends_touched, runs_touched, args_touched, items_touched, delivery_touched, NotPut}
+use Rattle.turn.specs.Touched.{Touch, got, put, sought_touched, set_touched, assigned_touched, bound_touched, defined_touched, made_touched, declared_touched, ends_touched, runs_touched, args_touched, items_touched, delivery_touched, NotPut}
 
 left : (xs ys : List Touch) (c : Cell) → NotPut c (xs ++ ys) → NotPut c xs
 left [] ys c h = tt
@@ -23,14 +26,30 @@ right (put d ∷ xs) ys c h = right xs ys c h.1
 write_other : (s : State) (d : Cell) (x : Content) (c : Cell) → same_cell d c ≡ false → write s d x c ≡ s c
 write_other s d x c e = ap (λ b. cond b (Some x) (s c)) e
 
-bound_un : (own : Bool) (x : Name) (v : Val) (b : At) (c : Cell) → NotPut c (bound_touched own x) → (bound_in own x (fixed v) b).state c ≡ b.state c
-bound_un true x v b c h = write_other b.state (top x) (bound (fixed v)) c h.0
-bound_un false x v b c h = refl
+bound_un : (own : Bool) (x : Name) (y : Bind) (b : At) (c : Cell) → NotPut c (bound_touched own x) → (bound_in own x y b).state c ≡ b.state c
+bound_un true x y b c h = write_other b.state (top x) (bound y) c h.0
+bound_un false x y b c h = refl
 
 define_un : (p : Pattern) (o : End) (b : At) (c : Cell) → NotPut c (defined_touched p o b) → (defined p o b).state c ≡ b.state c
-define_un (pattern.Name x) (value v) b c h = bound_un b.own_scope x v b c h
+define_un (pattern.Name x) (value v) b c h = bound_un b.own_scope x (fixed v) b c h
 define_un pattern.Ignore (value v) b c h = refl
 define_un p (halt j) b c h = refl
+
+made_un : (room : Bool) (x : Name) (v : Val) (b : At) (c : Cell) → NotPut c (made_touched room x b) → (made room x v b).state c ≡ b.state c
+made_un true x v b c h = bound_un b.own_scope x (slot (next_slot b)) (slot_made v b) c h.1 ∙ write_other b.state (slot_cell (next_slot b)) (held v) c h.0
+made_un false x v b c h = refl
+
+declare_un : (x : Name) (o : End) (b : At) (c : Cell) → NotPut c (declared_touched x o b) → (declared x o b).state c ≡ b.state c
+declare_un x (value v) b c h = made_un (has_room b) x v b c h
+declare_un x (halt j) b c h = refl
+
+set_un : (v : Val) (i : Option SlotId) (b : At) (c : Cell) → NotPut c (set_touched i) → (assigned (value v) i b).state c ≡ b.state c
+set_un v (Some i) b c h = write_other b.state (slot_cell i) (held v) c h.0
+set_un v None b c h = refl
+
+assign_un : (x : Name) (o : End) (b : At) (c : Cell) → NotPut c (assigned_touched x o b) → (assigned o (sought_slot x b) b).state c ≡ b.state c
+assign_un x (value v) b c h = set_un v (sought_slot x b) b c (right (sought_touched x (lookup b.nouns x)) (set_touched (sought_slot x b)) c h)
+assign_un x (halt j) b c h = refl
 
 mutual
   pub ends_un : {k : ℕ} {t : Tree} {a b : At} {o : End} (r : Ends k t a o b) (c : Cell) → NotPut c (ends_touched r) → b.state c ≡ a.state c
@@ -45,6 +64,8 @@ mutual
   runs_un run_text c n = refl
   runs_un run_noun c n = refl
   runs_un (run_define {p = p} {b = b} {o = o} r) c n = define_un p o b c (right (ends_touched r) (defined_touched p o b) c n) ∙ ends_un r c (left (ends_touched r) (defined_touched p o b) c n)
+  runs_un (run_variable {x = x} {b = b} {o = o} r) c n = declare_un x o b c (right (ends_touched r) (declared_touched x o b) c n) ∙ ends_un r c (left (ends_touched r) (declared_touched x o b) c n)
+  runs_un (run_assign {x = x} {b = b} {o = o} r) c n = assign_un x o b c (right (ends_touched r) (assigned_touched x o b) c n) ∙ ends_un r c (left (ends_touched r) (assigned_touched x o b) c n)
   runs_un (run_call_receiver r) c n = ends_un r c n
   runs_un (run_call r q) c n = args_un q c (right (ends_touched r) (args_touched q) c n) ∙ ends_un r c (left (ends_touched r) (args_touched q) c n)
   runs_un (run_list r) c n = args_un r c n
@@ -66,6 +87,6 @@ kept_un (value v) s t c e = e
 kept_un (halt (thrown problem)) s t c e = e
 kept_un (halt (abandoned why)) s t c e = refl
 
-pub delivery_un : {d : Delivery} {s : State} {n : ℕ} {o : Outcome} (r : Delivers d s n o) (c : Cell) → NotPut c (delivery_touched r) → o.state c ≡ s c
+pub delivery_un : {d : Delivery} {e : EventName} {v : VatNo} {s : State} {n : ℕ} {o : Outcome} (r : Delivers d e v s n o) (c : Cell) → NotPut c (delivery_touched r) → o.state c ≡ s c
 delivery_un (opens {s = s} {o = o} {b = b} r) c n = kept_un (settled o) s b.state c (items_un r c n)
 delivery_un (asks {s = s} {o = o} {b = b} r) c n = kept_un (settled o) s b.state c (items_un r c n)

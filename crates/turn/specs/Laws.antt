@@ -1,5 +1,7 @@
 -- The laws of evaluation and of turns.
 use Rattle.std.specs.Prelude.{◌≡◌, ℕ, ◌≤◌}
+use Rattle.ids.specs.declared.names.EventName.{EventName}
+use Rattle.ids.specs.declared.names.VatNo.{VatNo}
 use Rattle.kernele.specs.Tree.{Tree}
 use Rattle.turn.specs.State.{Cell, State, At}
 use Rattle.turn.specs.Outcomes.{End}
@@ -13,7 +15,7 @@ AtMostOneOutcome = (k : ℕ) (t : Tree) (a b c : At) (o p : End) → Ends k t a 
 
 -- a delivery has at most one outcome
 abbrev pub AtMostOneDelivery : Type 0
-AtMostOneDelivery = (d : Delivery) (s : State) (n : ℕ) (o p : Outcome) → Delivers d s n o → Delivers d s n p → o ≡ p
+AtMostOneDelivery = (d : Delivery) (e : EventName) (v : VatNo) (s : State) (n : ℕ) (o p : Outcome) → Delivers d e v s n o → Delivers d e v s n p → o ≡ p
 
 -- in a state that agrees on the cells touched, a tree ends the same and touches the same cells,
 -- and whatever cells agreed before agree after
@@ -23,8 +25,8 @@ Frame = (k : ℕ) (t : Tree) (a b : At) (o : End) (r : Ends k t a o b) (u : Stat
 
 -- the same of a delivery: its result, its end and the steps left are the same, and it touches the same cells
 abbrev pub DeliveryFrame : Type 0
-DeliveryFrame = (d : Delivery) (s : State) (n : ℕ) (o : Outcome) (r : Delivers d s n o) (u : State) → Agree (delivery_touched r) u s →
-    (v : State) × (q : Delivers d u n (record o { state = v })) × (delivery_touched q ≡ delivery_touched r) × ((c : Cell) → u c ≡ s c → v c ≡ o.state c)
+DeliveryFrame = (d : Delivery) (e : EventName) (v : VatNo) (s : State) (n : ℕ) (o : Outcome) (r : Delivers d e v s n o) (u : State) → Agree (delivery_touched r) u s →
+    (t : State) × (q : Delivers d e v u n (record o { state = t })) × (delivery_touched q ≡ delivery_touched r) × ((c : Cell) → u c ≡ s c → t c ≡ o.state c)
 
 -- a cell that a tree did not write is as it was
 abbrev pub OthersStay : Type 0
@@ -32,7 +34,7 @@ OthersStay = (k : ℕ) (t : Tree) (a b : At) (o : End) (r : Ends k t a o b) (c :
 
 -- a cell that a delivery did not write is as it was
 abbrev pub OthersStayInTurns : Type 0
-OthersStayInTurns = (d : Delivery) (s : State) (n : ℕ) (o : Outcome) (r : Delivers d s n o) (c : Cell) → NotPut c (delivery_touched r) → o.state c ≡ s c
+OthersStayInTurns = (d : Delivery) (e : EventName) (v : VatNo) (s : State) (n : ℕ) (o : Outcome) (r : Delivers d e v s n o) (c : Cell) → NotPut c (delivery_touched r) → o.state c ≡ s c
 
 -- a tree gives no step back
 abbrev pub StepsOnlyFall : Type 0
@@ -40,4 +42,4 @@ StepsOnlyFall = (k : ℕ) (t : Tree) (a b : At) (o : End) → Ends k t a o b →
 
 -- a delivery leaves no more steps than its budget
 abbrev pub WithinBudget : Type 0
-WithinBudget = (d : Delivery) (s : State) (n : ℕ) (o : Outcome) → Delivers d s n o → o.left ≤ n
+WithinBudget = (d : Delivery) (e : EventName) (v : VatNo) (s : State) (n : ℕ) (o : Outcome) → Delivers d e v s n o → o.left ≤ n

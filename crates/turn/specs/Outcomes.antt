@@ -7,11 +7,13 @@ use Rattle.values.specs.Data.{Val, Vals, Reply, gives, throws}
 pub data Cause : Type 0 where
   budget_spent : Cause
   too_deep : Cause
+  too_large : Cause
 
 -- the problem that an abandoned turn leaves
 abbrev pub reason : Cause → Name
 reason budget_spent = codes "turn budget spent"
 reason too_deep = codes "calls too deep"
+reason too_large = codes "turn too large"
 
 -- why there is no value
 pub data Halt : Type 0 where

@@ -1,12 +1,19 @@
 -- The state of a vat: a finite map from cells to contents.
-use Rattle.std.specs.Prelude.{ℕ, Bool, Option, Some, None, List, [], ◌∷◌, cond}
+use Rattle.std.specs.Prelude.{ℕ, Bool, false, Option, Some, None, List, [], ◌∷◌, cond}
 use Rattle.std.specs.Str.{bytes_eq}
+use Rattle.std.specs.Ordering.{is_eq}
+use Rattle.ids.specs.Cells.{slot_cmp}
+use Rattle.ids.specs.declared.names.EventName.{EventName}
+use Rattle.ids.specs.declared.names.VatNo.{VatNo}
+use Rattle.ids.specs.declared.names.SlotId.{SlotId}
 use Rattle.kernele.specs.Tree.{Name}
 use Rattle.values.specs.Data.{Val}
 
--- what a name stands for: a value that never changes
+-- what a name stands for: a value that never changes, or a variable's slot
 pub data Bind : Type 0 where
   fixed : (v : Val) → Bind
+  slot : (s : SlotId) → Bind
+  deriving IsSet as Bind-set
 
 -- names and what they stand for, the newest first
 abbrev pub Nouns : Type 0
@@ -16,13 +23,16 @@ abbrev pub lookup : Nouns → Name → Option Bind
 lookup [] x = None
 lookup (n ∷ ns) x = cond (bytes_eq n.0 x) (Some n.1) (lookup ns x)
 
--- a cell of a vat: a name that its script defined
+-- a cell of a vat: a name that its script defined, or a slot
 pub data Cell : Type 0 where
   top : (x : Name) → Cell
+  slot_cell : (s : SlotId) → Cell
 
--- what a cell holds
+-- what a cell holds: a name's meaning, or a slot's value
 pub data Content : Type 0 where
   bound : (b : Bind) → Content
+  held : (v : Val) → Content
+  deriving IsSet as Content-set
 
 abbrev pub State : Type 0
 State = Cell → Option Content
@@ -33,6 +43,8 @@ nothing c = None
 
 abbrev pub same_cell : Cell → Cell → Bool
 same_cell (top x) (top y) = bytes_eq x y
+same_cell (slot_cell s) (slot_cell t) = is_eq (slot_cmp s t)
+same_cell _ _ = false
 
 -- the one way to read a cell, and the one way to write it
 abbrev pub read : State → Cell → Option Content
@@ -42,9 +54,12 @@ abbrev pub write : State → Cell → Content → State
 write s c x = λ d. cond (same_cell c d) (Some x) (s d)
 
 -- where an evaluation stands: the names of the scopes entered so far, whether the innermost scope is the script's own,
--- the state, and the steps left
+-- the state, the steps left, the turn's event and its vat, and how many slots the turn has made
 pub record At : Type 0 where
   pub nouns : Nouns
   pub own_scope : Bool
   pub state : State
   pub left : ℕ
+  pub event : EventName
+  pub vat : VatNo
+  pub slots : ℕ

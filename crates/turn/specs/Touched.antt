@@ -1,12 +1,15 @@
 -- The cells that an evaluation reads and writes, computed from its derivation.
 use Rattle.std.specs.Prelude.{◌≡◌, ℕ, Bool, true, false, Option, Some, None, List, [], ◌∷◌, ◌++◌}
+use Rattle.ids.specs.declared.names.EventName.{EventName}
+use Rattle.ids.specs.declared.names.VatNo.{VatNo}
+use Rattle.ids.specs.declared.names.SlotId.{SlotId}
 use Rattle.kernele.specs.Tree.{Name, Tree, Trees}
 use Rattle.kernele.specs.declared.tree.Pattern.{Pattern}
 use Rattle.kernele.specs.declared.tree.Pattern.TheVariants as pattern
 use Rattle.values.specs.Data.{Val}
-use Rattle.turn.specs.State.{Bind, lookup, Cell, top, State, same_cell, At}
+use Rattle.turn.specs.State.{Bind, lookup, Cell, top, slot_cell, State, same_cell, At}
 use Rattle.turn.specs.Outcomes.{End, value, halt, Gather}
-use Rattle.turn.specs.Rules.{Ends, at_budget, at_depth, at_node, Runs, run_null, run_bool, run_int, run_text, run_noun, run_define, run_call_receiver, run_call, run_list, run_same_left, run_same, Args, args_none, args_next, args_halt, Items, items_none, items_next, items_halt}
+use Rattle.turn.specs.Rules.{sought_slot, next_slot, has_room, Ends, at_budget, at_depth, at_node, Runs, run_null, run_bool, run_int, run_text, run_noun, run_define, run_variable, run_assign, run_call_receiver, run_call, run_list, run_same_left, run_same, Args, args_none, args_next, args_halt, Items, items_none, items_next, items_halt}
 use Rattle.turn.specs.Turn.{Delivery, Outcome, Delivers, opens, asks}
 
 -- a cell was read, or written
@@ -15,9 +18,26 @@ pub data Touch : Type 0 where
   put : (c : Cell) → Touch
 
 -- a noun of no scope reads its top noun
-abbrev pub noun_touched : Name → Option Bind → List Touch
-noun_touched x (Some b) = []
-noun_touched x None = got (top x) ∷ []
+abbrev pub sought_touched : Name → Option Bind → List Touch
+sought_touched x (Some b) = []
+sought_touched x None = got (top x) ∷ []
+
+-- a noun that stands for a slot reads the slot, an assignment writes it
+abbrev pub read_touched : Option SlotId → List Touch
+read_touched (Some i) = got (slot_cell i) ∷ []
+read_touched None = []
+
+abbrev pub set_touched : Option SlotId → List Touch
+set_touched (Some i) = put (slot_cell i) ∷ []
+set_touched None = []
+
+abbrev pub noun_touched : Name → At → List Touch
+noun_touched x a = sought_touched x (lookup a.nouns x) ++ read_touched (sought_slot x a)
+
+-- an assignment looks its noun up once its right side has given a value
+abbrev pub assigned_touched : Name → End → At → List Touch
+assigned_touched x (value v) a = sought_touched x (lookup a.nouns x) ++ set_touched (sought_slot x a)
+assigned_touched x (halt h) a = []
 
 -- in the script's own scope a definition writes its top noun
 abbrev pub bound_touched : Bool → Name → List Touch
@@ -32,6 +52,15 @@ abbrev pub defined_touched : Pattern → End → At → List Touch
 defined_touched p (value v) a = matched_touched p a
 defined_touched p (halt h) a = []
 
+-- a variable writes its new slot, and then its name is bound
+abbrev pub made_touched : Bool → Name → At → List Touch
+made_touched true x a = put (slot_cell (next_slot a)) ∷ bound_touched a.own_scope x
+made_touched false x a = []
+
+abbrev pub declared_touched : Name → End → At → List Touch
+declared_touched x (value v) a = made_touched (has_room a) x a
+declared_touched x (halt h) a = []
+
 abbrev mutual
   pub ends_touched : {k : ℕ} {t : Tree} {a b : At} {o : End} → Ends k t a o b → List Touch
   ends_touched (at_budget h) = []
@@ -43,8 +72,10 @@ abbrev mutual
   runs_touched run_bool = []
   runs_touched run_int = []
   runs_touched run_text = []
-  runs_touched (run_noun {x = x} {a = a}) = noun_touched x (lookup a.nouns x)
+  runs_touched (run_noun {x = x} {a = a}) = noun_touched x a
   runs_touched (run_define {p = p} {b = b} {o = o} r) = ends_touched r ++ defined_touched p o b
+  runs_touched (run_variable {x = x} {b = b} {o = o} r) = ends_touched r ++ declared_touched x o b
+  runs_touched (run_assign {x = x} {b = b} {o = o} r) = ends_touched r ++ assigned_touched x o b
   runs_touched (run_call_receiver r) = ends_touched r
   runs_touched (run_call r u) = ends_touched r ++ args_touched u
   runs_touched (run_list r) = args_touched r
@@ -62,7 +93,7 @@ items_touched (items_next r u) = ends_touched r ++ items_touched u
 items_touched (items_halt r) = ends_touched r
 
 -- of a turn: what its program touches
-abbrev pub delivery_touched : {d : Delivery} {s : State} {n : ℕ} {o : Outcome} → Delivers d s n o → List Touch
+abbrev pub delivery_touched : {d : Delivery} {e : EventName} {v : VatNo} {s : State} {n : ℕ} {o : Outcome} → Delivers d e v s n o → List Touch
 delivery_touched (opens r) = items_touched r
 delivery_touched (asks r) = items_touched r
 

@@ -1,5 +1,7 @@
 -- A turn: one delivery to a vat.
 use Rattle.std.specs.Prelude.{ℕ, Bool, true, false, []}
+use Rattle.ids.specs.declared.names.EventName.{EventName}
+use Rattle.ids.specs.declared.names.VatNo.{VatNo}
 use Rattle.kernele.specs.Tree.{Trees}
 use Rattle.values.specs.Data.{Val, null, broken}
 use Rattle.values.specs.Replies.{limited}
@@ -11,6 +13,7 @@ use Rattle.turn.specs.Rules.{Items}
 pub data Delivery : Type 0 where
   opening : (program : Trees) → Delivery
   asked : (program : Trees) → Delivery
+  deriving IsSet as Delivery-set
 
 -- what a turn leaves: the vat's state, what its result is published as, how it ended, and the steps left
 pub record Outcome : Type 0 where
@@ -19,9 +22,9 @@ pub record Outcome : Type 0 where
   pub end : End
   pub left : ℕ
 
--- where a turn begins: no names but the top nouns, and the whole budget
-abbrev pub start : Bool → State → ℕ → At
-start own s budget = record { nouns = []; own_scope = own; state = s; left = budget }
+-- where a turn of a vat begins: no names but the top nouns, the whole budget, and no slots made
+abbrev pub start : Bool → EventName → VatNo → State → ℕ → At
+start own e v s budget = record { nouns = []; own_scope = own; state = s; left = budget; event = e; vat = v; slots = 0 }
 
 -- a value past the limits of a value ends the turn with a problem
 abbrev pub settled : End → End
@@ -44,7 +47,7 @@ kept (halt (abandoned why)) old new = old
 abbrev pub outcome : State → End → At → Outcome
 outcome s o b = record { state = kept o s b.state; result = published o; end = o; left = b.left }
 
--- in the state s and with this budget, a delivery has this outcome: the items of its program are at level 1
-pub data Delivers : Delivery → State → ℕ → Outcome → Type 0 where
-  opens : {ts : Trees} {s : State} {n : ℕ} {o : End} {b : At} → Items 1 null ts (start true s n) o b → Delivers (opening ts) s n (outcome s (settled o) b)
-  asks : {ts : Trees} {s : State} {n : ℕ} {o : End} {b : At} → Items 1 null ts (start false s n) o b → Delivers (asked ts) s n (outcome s (settled o) b)
+-- at an event, in a vat's state s and with this budget, a delivery to the vat has this outcome: the items of its program are at level 1
+pub data Delivers : Delivery → EventName → VatNo → State → ℕ → Outcome → Type 0 where
+  opens : {ts : Trees} {e : EventName} {v : VatNo} {s : State} {n : ℕ} {o : End} {b : At} → Items 1 null ts (start true e v s n) o b → Delivers (opening ts) e v s n (outcome s (settled o) b)
+  asks : {ts : Trees} {e : EventName} {v : VatNo} {s : State} {n : ℕ} {o : End} {b : At} → Items 1 null ts (start false e v s n) o b → Delivers (asked ts) e v s n (outcome s (settled o) b)

@@ -1,13 +1,16 @@
 -- What the program's states, ends and turns stand for.
-use Rattle.std.specs.Prelude.{ℕ, List, [], ◌∷◌}
+use Rattle.std.specs.Prelude.{Option, List, [], ◌∷◌}
 use Rattle.std.specs.Option.{option_map}
 use Rattle.std.specs.Ordering.{nat_cmp}
 use Rattle.std.specs.Cmp.Lexicographic.{slice_cmp}
 use Rattle.std.specs.BTreeMap.{BTreeMap, get}
+use Rattle.ids.specs.Cells.{slot_cmp}
+use Rattle.ids.specs.declared.names.SlotId.{SlotId}
+use Rattle.kernele.specs.Tree.{Name}
 use Rattle.values.specs.declared.value.Value.{Value}
 use Rattle.values.specs.View.{val_of, vals_of}
-use Rattle.turn.specs.State.{fixed, Nouns, top, bound, State, At}
-use Rattle.turn.specs.Outcomes.{Cause, budget_spent, too_deep, Halt, thrown, abandoned, End, value, halt, Gather, values, halted}
+use Rattle.turn.specs.State.{Bind, fixed, slot, Nouns, top, slot_cell, Content, bound, held, State, At}
+use Rattle.turn.specs.Outcomes.{Cause, budget_spent, too_deep, too_large, Halt, thrown, abandoned, End, value, halt, Gather, values, halted}
 use Rattle.kernele.specs.View.{program_of}
 use Rattle.turn.specs.Turn.{Delivery, opening, asked, Outcome}
 use Rattle.turn.specs.declared.delivery.Delivery as code-delivery
@@ -16,6 +19,8 @@ use Rattle.turn.specs.declared.delivery.Ended.{Ended}
 use Rattle.turn.specs.declared.delivery.Ended.TheVariants as code-ended
 use Rattle.turn.specs.declared.delivery.Outcome as code-outcome
 use Rattle.turn.specs.declared.heap.VatState.{VatState}
+use Rattle.turn.specs.declared.heap.Binding.{Binding}
+use Rattle.turn.specs.declared.heap.Binding.TheVariants as binding
 use Rattle.turn.specs.declared.working.Noun.{Noun}
 use Rattle.turn.specs.declared.working.Working.{Working}
 use Rattle.turn.specs.declared.end.Abandon.{Abandon}
@@ -27,17 +32,30 @@ use Rattle.turn.specs.declared.end.End.TheVariants as code-end
 use Rattle.turn.specs.declared.end.Gathered.{Gathered}
 use Rattle.turn.specs.declared.end.Gathered.TheVariants as code-gathered
 
--- a map of top nouns, as cells
-abbrev pub cells_of : BTreeMap (List ℕ) Value → State
-cells_of nouns (top x) = option_map (λ v. bound (fixed (val_of v))) (get (slice_cmp nat_cmp) nouns x)
+abbrev pub bind_of : Binding → Bind
+bind_of (binding.Fixed v) = fixed (val_of v)
+bind_of (binding.Slot i) = slot i
+
+-- what the cells of top nouns hold, and those of slots
+abbrev pub tops_of : BTreeMap Name Binding → Name → Option Content
+tops_of nouns x = option_map (λ b. bound (bind_of b)) (get (slice_cmp nat_cmp) nouns x)
+
+abbrev pub slots_of : BTreeMap SlotId Value → SlotId → Option Content
+slots_of slots i = option_map (λ v. held (val_of v)) (get slot_cmp slots i)
+
+-- maps of top nouns and of slots, as cells
+abbrev pub cells_of : BTreeMap Name Binding → BTreeMap SlotId Value → State
+cells_of nouns slots (top x) = tops_of nouns x
+cells_of nouns slots (slot_cell i) = slots_of slots i
 
 -- a vat's state
 abbrev pub state_of : VatState → State
-state_of s = cells_of s.nouns
+state_of s = cells_of s.nouns s.slots
 
 abbrev pub cause_of : Abandon → Cause
 cause_of code-abandon.Budget = budget_spent
 cause_of code-abandon.Depth = too_deep
+cause_of code-abandon.Size = too_large
 
 abbrev pub halt_of : code.Halt → Halt
 halt_of (code-halt.Thrown problem) = thrown problem
@@ -54,14 +72,14 @@ gather_of (code-gathered.Halt h) = halted (halt_of h)
 -- names, the newest first: the program pushes the newest at the end
 abbrev pub nouns_after : Nouns → List Noun → Nouns
 nouns_after ns [] = ns
-nouns_after ns (n ∷ rest) = nouns_after ((n.name, fixed (val_of n.value)) ∷ ns) rest
+nouns_after ns (n ∷ rest) = nouns_after ((n.name, bind_of n.binding) ∷ ns) rest
 
 abbrev pub nouns_of : List Noun → Nouns
 nouns_of items = nouns_after [] items
 
 -- where the program stands
 abbrev pub at : Working → At
-at w = record { nouns = nouns_of w.nouns.items; own_scope = w.own_scope; state = state_of w.state; left = w.steps }
+at w = record { nouns = nouns_of w.nouns.items; own_scope = w.own_scope; state = state_of w.state; left = w.steps; event = w.event; vat = w.vat; slots = w.slots }
 
 abbrev pub delivery_of : code-delivery.Delivery → Delivery
 delivery_of (code-deliveries.Opening program) = opening (program_of program)

@@ -13,6 +13,7 @@ use crate::end::{Abandon, End, Halt};
 use crate::eval::eval_items;
 use crate::heap::VatState;
 use crate::working::Working;
+use ids::names::{EventName, VatNo};
 use ids::text::Text;
 use kernele::tree::{Block, Program};
 use std::alloc::{AllocError, Global};
@@ -69,24 +70,32 @@ fn shared(program: &Program) -> Result<Program, AllocError>
 }
 
 /// Runs a turn of a vat in this state, which itself stays as it is. Fails only for want of memory.
-pub fn deliver(state: &VatState, delivery: &Delivery, budget: u32) -> Result<Outcome, AllocError>
+pub fn deliver(
+    delivery: &Delivery,
+    event: EventName,
+    vat: VatNo,
+    state: &VatState,
+    budget: u32,
+) -> Result<Outcome, AllocError>
     ensures { IfOk result (λ o.
-        Delivers (delivery_of delivery.now) (state_of state.now) budget (outcome_of o)) }
+        Delivers (delivery_of delivery.now) event vat (state_of state.now) budget (outcome_of o)) }
 {
     match delivery {
-        Delivery::Opening(program) => run_program(state, program, true, budget),
-        Delivery::Asked(program) => run_program(state, program, false, budget),
+        Delivery::Opening(program) => run_program(program, true, event, vat, state, budget),
+        Delivery::Asked(program) => run_program(program, false, event, vat, state, budget),
     }
 }
 
 fn run_program(
-    state: &VatState,
     program: &Program,
     own_scope: bool,
+    event: EventName,
+    vat: VatNo,
+    state: &VatState,
     budget: u32,
 ) -> Result<Outcome, AllocError>
     ensures { IfOk result (λ r. (o : ModelEnd) × (b : At)
-        × Items 1 null (program_of program.now) (start own_scope (state_of state.now) budget) o b
+        × Items 1 null (program_of program.now) (start own_scope event vat (state_of state.now) budget) o b
         × (outcome_of r ≡ outcome (state_of state.now) (settled o) b)) }
 {
     let alloc = state.allocator();
@@ -96,6 +105,9 @@ fn run_program(
         own_scope,
         nouns: Vec::new(alloc),
         steps: budget,
+        event,
+        vat,
+        slots: 0,
     };
     let end = eval_items(&mut w, program.0.0.as_slice(), 1)?;
     finish(state, w, end)

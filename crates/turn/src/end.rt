@@ -11,6 +11,7 @@ use values::value::Value;
 pub enum Abandon {
     Budget,
     Depth,
+    Size,
 }
 
 /// Why an expression has no value: a problem that was thrown, or an abandoned turn.
@@ -42,6 +43,7 @@ impl Abandon {
         match self {
             Abandon::Budget => "turn budget spent",
             Abandon::Depth => "calls too deep",
+            Abandon::Size => "turn too large",
         }
     }
 }

@@ -1,19 +1,17 @@
 // Evaluation: one small function for each construct.
-ghost use Rattle.std.specs.Prelude.{◌≡◌, ◌≤◌, IfOk, OnOk};
-ghost use Rattle.std.specs.Option.{option_map};
-ghost use Rattle.kernele.specs.Tree.{define, call, list_tree, same_tree};
+ghost use Rattle.std.specs.Prelude.{◌≡◌, ◌≤◌, IfOk};
+ghost use Rattle.kernele.specs.Tree.{define, variable, assign as assign_tree, call, list_tree, same_tree};
 ghost use Rattle.kernele.specs.View.{tree_of, trees_of};
 ghost use Rattle.values.specs.Data.{null, int};
 ghost use Rattle.values.specs.Replies.{text_reply};
 ghost use Rattle.values.specs.View.{val_of, reply_of};
-ghost use Rattle.turn.specs.State.{fixed, lookup, read, top};
 ghost use Rattle.turn.specs.Outcomes.{value as value_end, reply_end};
-ghost use Rattle.turn.specs.Rules.{Ends, Runs, Args, Items, binding, matched, content_end, undefined_noun};
-ghost use Rattle.turn.specs.Rules.{noun_end as noun_end_of, list_end as list_end_of, call_end as call_end_of};
-ghost use Rattle.turn.specs.View.{at, end_of, gather_of, nouns_of, state_of};
+ghost use Rattle.turn.specs.Rules.{Ends, Runs, Args, Items, list_end as list_end_of, call_end as call_end_of};
+ghost use Rattle.turn.specs.View.{at, end_of, gather_of};
 
 use crate::end::{Abandon, End, Gathered, Halt};
-use crate::working::{Noun, Working};
+use crate::nouns::{assign, declare, match_pattern, noun_end};
+use crate::working::Working;
 use ids::text::Text;
 use kernele::tree::{Expr, Pattern};
 use std::alloc::{AllocError, Global};
@@ -56,6 +54,8 @@ pub fn eval(w: &mut Working, e: &Expr, level: u32) -> Result<End, AllocError>
         Expr::Text(text) => text_end(w.alloc, text),
         Expr::Noun(name) => noun_end(w, name),
         Expr::Def(pattern, right) => eval_def(w, pattern, right, level),
+        Expr::Var(name, right) => eval_var(w, name, right, level),
+        Expr::Assign(name, right) => eval_assign(w, name, right, level),
         Expr::Call(receiver, verb, args) => eval_call(w, receiver, verb, args, level),
         Expr::List(items) => eval_list(w, items, level),
         Expr::Same(left, right) => eval_same(w, left, right, level),
@@ -76,6 +76,31 @@ fn eval_def(
     let v = value!(eval(w, right, level + 1)?);
     match_pattern(w, pattern, &v)?;
     Ok(End::Value(v))
+}
+
+#[cycle(evaluate)]
+fn eval_var(w: &mut Working, name: &Text, right: &Arc<Expr>, level: u32) -> Result<End, AllocError>
+    requires { level ≤ 1000 }
+    ensures { IfOk result (λ o. Runs level (variable name.now (tree_of right.now.value))
+        (at w.old) (end_of o) (at w.new)) }
+{
+    let v = value!(eval(w, right, level + 1)?);
+    declare(w, name, v)
+}
+
+#[cycle(evaluate)]
+fn eval_assign(
+    w: &mut Working,
+    name: &Text,
+    right: &Arc<Expr>,
+    level: u32,
+) -> Result<End, AllocError>
+    requires { level ≤ 1000 }
+    ensures { IfOk result (λ o. Runs level (assign_tree name.now (tree_of right.now.value))
+        (at w.old) (end_of o) (at w.new)) }
+{
+    let v = value!(eval(w, right, level + 1)?);
+    assign(w, name, v)
 }
 
 #[cycle(evaluate)]
@@ -196,70 +221,5 @@ fn answer_end(answer: Answer) -> End
     match answer {
         Answer::Gives(value) => End::Value(value),
         Answer::Throws(problem) => End::Halt(Halt::Thrown(problem)),
-    }
-}
-
-/// The value of a noun: of the newest scope that has it, else of the vat's top nouns.
-fn noun_end(w: &Working, name: &Text) -> Result<End, AllocError>
-    ensures { IfOk result (λ o. end_of o
-        ≡ noun_end_of (state_of w.now.state) name.now (lookup (nouns_of w.now.nouns.items) name.now)) }
-{
-    match find(&w.nouns, name) {
-        Some(value) => Ok(End::Value(value.share()?)),
-        None => top_end(w, name),
-    }
-}
-
-fn top_end(w: &Working, name: &Text) -> Result<End, AllocError>
-    ensures { IfOk result (λ o. end_of o ≡ content_end name.now (read (state_of w.now.state) (top name.now))) }
-{
-    match w.state.top(name) {
-        Some(value) => Ok(End::Value(value.share()?)),
-        None => undefined(w.alloc, name),
-    }
-}
-
-fn undefined(alloc: Global, name: &Text) -> Result<End, AllocError>
-    ensures { IfOk result (λ o. end_of o ≡ undefined_noun name.now) }
-{
-    let mut problem = String::from_str(alloc, "undefined noun ")?;
-    problem.push_str(name.as_str())?;
-    Ok(End::Halt(Halt::Thrown(Text::from_string(problem)?)))
-}
-
-/// The newest meaning of a name.
-fn find<'a>(nouns: &'a Vec<Noun>, name: &Text) -> Option<&'a Value>
-    ensures { option_map (λ v. fixed (val_of v.now)) result ≡ lookup (nouns_of nouns.now.items) name.now }
-{
-    let mut rest = nouns.as_slice();
-    while let Some((newest, older)) = rest.split_last() {
-        if newest.name.as_str() == name.as_str() {
-            return Some(&newest.value);
-        }
-        rest = older;
-    }
-    None
-}
-
-/// Binds what a pattern names.
-fn match_pattern(w: &mut Working, pattern: &Pattern, value: &Value) -> Result<(), AllocError>
-    ensures { OnOk result (at w.new ≡ matched pattern.now (val_of value.now) (at w.old)) }
-{
-    match pattern {
-        Pattern::Name(name) => bind(w, name, value.share()?),
-        Pattern::Ignore => Ok(()),
-    }
-}
-
-/// Binds a name in the innermost scope.
-fn bind(w: &mut Working, name: &Text, value: Value) -> Result<(), AllocError>
-    ensures { OnOk result (at w.new ≡ binding name.now (fixed (val_of value)) (at w.old)) }
-{
-    let name = name.share()?;
-    if w.own_scope {
-        w.state.bind_top(name, value)
-    } else {
-        w.nouns.push(Noun { name, value })?;
-        Ok(())
     }
 }

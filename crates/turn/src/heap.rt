@@ -1,20 +1,43 @@
 // The state of a vat.
 ghost use Rattle.std.specs.Prelude.{◌≡◌, OnOk, OnErr, IfOk};
+ghost use Rattle.std.specs.BTreeMap.{Updates};
 ghost use Rattle.std.specs.Option.{option_map};
-ghost use Rattle.turn.specs.State.{top, bound, fixed, nothing, read, write};
-ghost use Rattle.turn.specs.View.{cells_of, state_of};
+ghost use Rattle.kernele.specs.Tree.{Name};
+ghost use Rattle.turn.specs.State.{top, slot_cell, bound, held, nothing, read, write};
+ghost use Rattle.turn.specs.View.{bind_of, tops_of, slots_of, state_of};
 ghost use Rattle.values.specs.View.{val_of};
 
+use ids::names::{EventName, SlotId, VatNo};
 use ids::text::Text;
 use std::alloc::{AllocError, Global};
 use std::collections::BTreeMap;
 use values::value::Value;
 
-/// A vat's state: what its top nouns are bound to.
+/// What a name stands for: a value that never changes, or a variable's slot.
+#[derive(Drop)]
+pub enum Binding {
+    Fixed(Value),
+    Slot(SlotId),
+}
+
+impl Binding {
+    /// The same meaning, whose value is shared. Fails only for want of memory.
+    pub fn share(&self) -> Result<Binding, AllocError>
+        ensures { IfOk result (λ b. bind_of b ≡ bind_of self.now) }
+    {
+        match self {
+            Binding::Fixed(value) => Ok(Binding::Fixed(value.share()?)),
+            Binding::Slot(slot) => Ok(Binding::Slot(*slot)),
+        }
+    }
+}
+
+/// A vat's state: what its top nouns stand for, and what its variables' slots hold.
 #[derive(Drop)]
 pub struct VatState {
     alloc: Global,
-    nouns: BTreeMap<Text, Value>,
+    nouns: BTreeMap<Text, Binding>,
+    slots: BTreeMap<SlotId, Value>,
 }
 
 impl VatState {
@@ -25,24 +48,59 @@ impl VatState {
         VatState {
             alloc,
             nouns: BTreeMap::new(alloc),
+            slots: BTreeMap::new(alloc),
         }
     }
 
-    /// What a top noun is bound to.
-    pub fn top(&self, name: &Text) -> Option<&Value>
-        ensures { option_map (λ v. bound (fixed (val_of v.now))) result
+    /// What a top noun stands for.
+    pub fn top(&self, name: &Text) -> Option<&Binding>
+        ensures { option_map (λ b. bound (bind_of b.now)) result
             ≡ read (state_of self.now) (top name.now) }
     {
         self.nouns.get(name)
     }
 
     /// Binds a top noun. Without memory for a new one the state stays as it was.
-    pub fn bind_top(&mut self, name: Text, value: Value) -> Result<(), AllocError>
+    pub fn bind_top(&mut self, name: Text, binding: Binding) -> Result<(), AllocError>
         ensures ok { OnOk result
-            (state_of self.new ≡ write (state_of self.old) (top name) (bound (fixed (val_of value)))) }
+            (state_of self.new ≡ write (state_of self.old) (top name) (bound (bind_of binding))) }
         ensures err { OnErr result (state_of self.new ≡ state_of self.old) }
     {
-        self.nouns.insert(name, value)?;
+        self.nouns.insert(name, binding)?;
+        Ok(())
+    }
+
+    /// What a slot holds.
+    pub fn read_slot(&self, slot: SlotId) -> Option<&Value>
+        ensures { option_map (λ v. held (val_of v.now)) result
+            ≡ read (state_of self.now) (slot_cell slot) }
+    {
+        self.slots.get(&slot)
+    }
+
+    /// Makes a slot that holds a value, by its event, its number among that event's slots, and its vat.
+    pub fn new_slot(
+        &mut self,
+        event: EventName,
+        index: u32,
+        vat: VatNo,
+        value: Value,
+    ) -> Result<SlotId, AllocError>
+        ensures { IfOk result (λ i. (i ≡ record { event = event; index = index; vat = vat })
+            × (state_of self.new ≡ write (state_of self.old) (slot_cell i) (held (val_of value)))) }
+    {
+        let slot = SlotId { event, index, vat };
+        self.write_slot(slot, value)?;
+        Ok(slot)
+    }
+
+    /// Lets a slot hold a value. Without memory for a new one the state stays as it was.
+    pub fn write_slot(&mut self, slot: SlotId, value: Value) -> Result<(), AllocError>
+        ensures ok { OnOk result
+            (state_of self.new ≡ write (state_of self.old) (slot_cell slot) (held (val_of value))) }
+        ensures err { OnErr result (state_of self.new ≡ state_of self.old) }
+    {
+        self.slots.insert(slot, value)?;
         Ok(())
     }
 
@@ -50,20 +108,25 @@ impl VatState {
     pub fn try_copy(&self) -> Result<VatState, AllocError>
         ensures { IfOk result (λ s. state_of s ≡ state_of self.now) }
     {
-        let mut copy = VatState::new(self.alloc);
-        let mut entries = self.nouns.iter();
-        // From the last one on, so that what is copied is just what stands behind the entries left.
-        while let Some((name, value)) = entries.next_back() {
-            copy.bind_top(name.share()?, value.share()?)?;
-        }
-        Ok(copy)
+        Ok(VatState {
+            alloc: self.alloc,
+            nouns: copied_nouns(self.alloc, &self.nouns)?,
+            slots: copied_slots(self.alloc, &self.slots)?,
+        })
     }
 
-    /// The top nouns with their values, in order of bytes.
-    pub fn nouns(&self) -> &BTreeMap<Text, Value>
-        ensures { cells_of result.now ≡ state_of self.now }
+    /// The top nouns with what they stand for, in order of bytes.
+    pub fn nouns(&self) -> &BTreeMap<Text, Binding>
+        ensures { (x : Name) → tops_of result.now x ≡ read (state_of self.now) (top x) }
     {
         &self.nouns
+    }
+
+    /// The slots with what they hold, in order of their names.
+    pub fn slots(&self) -> &BTreeMap<SlotId, Value>
+        ensures { (i : SlotId) → slots_of result.now i ≡ read (state_of self.now) (slot_cell i) }
+    {
+        &self.slots
     }
 
     /// What new values of this vat are allocated with.
@@ -72,4 +135,42 @@ impl VatState {
     {
         self.alloc
     }
+}
+
+/// Sets a key of a map, whatever it had.
+fn put<K: Ord + Drop, V: Drop>(map: &mut BTreeMap<K, V>, key: K, value: V) -> Result<(), AllocError>
+    ensures { OnOk result (Updates K.cmp map.old map.new key (Some value)) }
+{
+    map.insert(key, value)?;
+    Ok(())
+}
+
+fn copied_nouns(
+    alloc: Global,
+    nouns: &BTreeMap<Text, Binding>,
+) -> Result<BTreeMap<Text, Binding>, AllocError>
+    ensures { IfOk result (λ m. tops_of m ≡ tops_of nouns.now) }
+{
+    let mut copy = BTreeMap::new(alloc);
+    let mut entries = nouns.iter();
+    // From the last one on, so that what is copied is just what stands behind the entries left.
+    while let Some((name, binding)) = entries.next_back() {
+        put(&mut copy, name.share()?, binding.share()?)?;
+    }
+    Ok(copy)
+}
+
+fn copied_slots(
+    alloc: Global,
+    slots: &BTreeMap<SlotId, Value>,
+) -> Result<BTreeMap<SlotId, Value>, AllocError>
+    ensures { IfOk result (λ m. slots_of m ≡ slots_of slots.now) }
+{
+    let mut copy = BTreeMap::new(alloc);
+    let mut entries = slots.iter();
+    // From the last one on, as above.
+    while let Some((slot, value)) = entries.next_back() {
+        put(&mut copy, *slot, value.share()?)?;
+    }
+    Ok(copy)
 }

@@ -8,6 +8,7 @@ pub mod delivery;
 pub mod end;
 pub mod eval;
 pub mod heap;
+pub mod nouns;
 #[cfg(test)]
 mod tests;
 pub mod theorems;

@@ -2,9 +2,9 @@
 
 use crate::delivery::{Delivery, Ended, Outcome};
 use crate::end::Abandon;
-use crate::heap::VatState;
+use crate::heap::{Binding, VatState};
 use crate::ticket::{Out, Ticket};
-use ids::names::{EventName, MsgId};
+use ids::names::{EventName, MsgId, SlotId, VatNo};
 use ids::text::Text;
 use kernele::tree::{Block, Expr, Pattern, Program};
 use std::alloc::{AllocError, Global};
@@ -27,6 +27,14 @@ fn define(alloc: Global, name: &str, right: Expr) -> Result<Expr, AllocError> {
 
 fn noun(alloc: Global, name: &str) -> Result<Expr, AllocError> {
     Ok(Expr::Noun(word(alloc, name)?))
+}
+
+fn var(alloc: Global, name: &str, right: Expr) -> Result<Expr, AllocError> {
+    Ok(Expr::Var(word(alloc, name)?, Arc::new(alloc, right)?))
+}
+
+fn assign(alloc: Global, name: &str, right: Expr) -> Result<Expr, AllocError> {
+    Ok(Expr::Assign(word(alloc, name)?, Arc::new(alloc, right)?))
 }
 
 /// `2 + 3`.
@@ -61,6 +69,7 @@ fn run(state: VatState, delivery: Delivery, budget: u32) -> Result<Outcome, Allo
             event: EventName(1),
             index: 0,
         },
+        vat: VatNo(EventName(1)),
         state,
         delivery,
         budget,
@@ -92,8 +101,31 @@ fn is_abandoned(ended: &Ended, why: Abandon) -> bool {
 
 fn has_top(state: &VatState, name: &Text, value: &Value) -> bool {
     match state.top(name) {
-        Some(bound) => same(bound, value),
+        Some(Binding::Fixed(bound)) => same(bound, value),
+        Some(Binding::Slot(_)) | None => false,
+    }
+}
+
+/// A slot of the event that `run` runs.
+fn slot_of_run(index: u32) -> SlotId {
+    SlotId {
+        event: EventName(2),
+        index,
+        vat: VatNo(EventName(1)),
+    }
+}
+
+fn holds(state: &VatState, slot: SlotId, value: &Value) -> bool {
+    match state.read_slot(slot) {
+        Some(held) => same(held, value),
         None => false,
+    }
+}
+
+fn is_variable(state: &VatState, name: &Text, slot: SlotId) -> bool {
+    match state.top(name) {
+        Some(Binding::Slot(bound)) => *bound == slot,
+        Some(Binding::Fixed(_)) | None => false,
     }
 }
 
@@ -196,15 +228,19 @@ fn lists_are_the_same(rt: HostRuntime) -> Result<(), Fail> {
 fn a_copy_in_order_of_bytes(rt: HostRuntime) -> Result<(), Fail> {
     let alloc = rt.alloc();
     let mut state = VatState::new(alloc);
-    state.bind_top(word(alloc, "b")?, Value::Int(2))?;
-    state.bind_top(word(alloc, "a")?, Value::Int(1))?;
+    let slot = state.new_slot(EventName(3), 0, VatNo(EventName(1)), Value::Int(4))?;
+    state.bind_top(word(alloc, "b")?, Binding::Fixed(Value::Int(2)))?;
+    state.bind_top(word(alloc, "a")?, Binding::Slot(slot))?;
     let copy = state.try_copy()?;
     let mut names = String::new(alloc);
-    for (name, value) in copy.nouns() {
+    for (name, _) in copy.nouns() {
         names.push_str(name.as_str())?;
-        assert!(rt; has_top(&state, name, value));
     }
     assert_eq!(rt; names.as_str(), "ab");
+    assert!(rt; has_top(&copy, &word(alloc, "b")?, &Value::Int(2)));
+    assert!(rt; is_variable(&copy, &word(alloc, "a")?, slot));
+    assert_eq!(rt; copy.slots().len(), 1);
+    assert!(rt; holds(&copy, slot, &Value::Int(4)));
     Ok(())
 }
 
@@ -218,5 +254,125 @@ fn a_delivery_is_shared(rt: HostRuntime) -> Result<(), Fail> {
     assert!(rt; same(&outcome.result, &Value::Int(5)));
     let again = run(VatState::new(alloc), delivery, 3)?;
     assert!(rt; same(&again.result, &Value::Int(5)));
+    Ok(())
+}
+
+/// A variable of a script is a slot, which an asked program changes and another one reads.
+#[test]
+fn a_variable_is_assigned(rt: HostRuntime) -> Result<(), Fail> {
+    let alloc = rt.alloc();
+    let script = vec![in alloc; var(alloc, "n", Expr::Int(0))?]?;
+    let opened = run(
+        VatState::new(alloc),
+        Delivery::Opening(program(alloc, script)?),
+        2,
+    )?;
+    assert!(rt; same(&opened.result, &Value::Int(0)));
+    assert_eq!(rt; opened.steps, 0);
+    assert!(rt; is_variable(&opened.state, &word(alloc, "n")?, slot_of_run(0)));
+    assert!(rt; holds(&opened.state, slot_of_run(0), &Value::Int(0)));
+    let changed = asked(alloc, opened.state, assign(alloc, "n", Expr::Int(7))?, 2)?;
+    assert!(rt; same(&changed.result, &Value::Int(7)));
+    assert_eq!(rt; changed.steps, 0);
+    assert!(rt; is_variable(&changed.state, &word(alloc, "n")?, slot_of_run(0)));
+    assert_eq!(rt; changed.state.slots().len(), 1);
+    let read = asked(alloc, changed.state, noun(alloc, "n")?, 1)?;
+    assert!(rt; same(&read.result, &Value::Int(7)));
+    Ok(())
+}
+
+/// `[var m := 1, m := 5, m]`: the variable is the asked program's own, its slot stays in the vat.
+#[test]
+fn a_nested_variable(rt: HostRuntime) -> Result<(), Fail> {
+    let alloc = rt.alloc();
+    let items = vec![in alloc;
+        var(alloc, "m", Expr::Int(1))?,
+        assign(alloc, "m", Expr::Int(5))?,
+        noun(alloc, "m")?,
+    ]?;
+    let outcome = asked(
+        alloc,
+        VatState::new(alloc),
+        Expr::List(Arc::new(alloc, items)?),
+        100,
+    )?;
+    let three = vec![in alloc; Value::Int(1), Value::Int(5), Value::Int(5)]?;
+    assert!(rt; same(&outcome.result, &Value::List(Arc::new(alloc, three)?)));
+    assert_eq!(rt; outcome.steps, 94);
+    assert!(rt; outcome.state.top(&word(alloc, "m")?).is_none());
+    assert!(rt; holds(&outcome.state, slot_of_run(0), &Value::Int(5)));
+    Ok(())
+}
+
+/// The right side comes first, and so does its end.
+#[test]
+fn an_undefined_noun_is_assigned(rt: HostRuntime) -> Result<(), Fail> {
+    let alloc = rt.alloc();
+    let outcome = asked(
+        alloc,
+        VatState::new(alloc),
+        assign(alloc, "x", Expr::Int(1))?,
+        3,
+    )?;
+    assert!(rt; same(&outcome.result, &broken(alloc, "undefined noun x")?));
+    assert_eq!(rt; outcome.steps, 1);
+    let both = assign(alloc, "x", noun(alloc, "y")?)?;
+    let first = asked(alloc, VatState::new(alloc), both, 3)?;
+    assert!(rt; same(&first.result, &broken(alloc, "undefined noun y")?));
+    Ok(())
+}
+
+/// Variables of one name each, and then what the last one makes of the turn.
+fn variables(alloc: Global, count: u32, last: Expr) -> Result<Outcome, AllocError> {
+    let mut items = Vec::new(alloc);
+    for _ in 0..count {
+        items.push(var(alloc, "v", Expr::Null)?)?;
+    }
+    items.push(last)?;
+    run(
+        VatState::new(alloc),
+        Delivery::Asked(program(alloc, items)?),
+        10_000,
+    )
+}
+
+#[test]
+fn the_last_slot(rt: HostRuntime) -> Result<(), Fail> {
+    let alloc = rt.alloc();
+    let full = variables(alloc, 4095, var(alloc, "v", Expr::Int(3))?)?;
+    assert!(rt; same(&full.result, &Value::Int(3)));
+    assert_eq!(rt; full.steps, 10_000 - 8192);
+    assert_eq!(rt; full.state.slots().len(), 4096);
+    assert!(rt; holds(&full.state, slot_of_run(4095), &Value::Int(3)));
+    Ok(())
+}
+
+#[test]
+fn a_slot_too_many(rt: HostRuntime) -> Result<(), Fail> {
+    let alloc = rt.alloc();
+    let over = variables(alloc, 4096, var(alloc, "v", Expr::Int(3))?)?;
+    assert!(rt; is_abandoned(&over.ended, Abandon::Size));
+    assert!(rt; same(&over.result, &broken(alloc, "turn too large")?));
+    assert_eq!(rt; over.steps, 10_000 - 8194);
+    assert_eq!(rt; over.state.slots().len(), 0);
+    let thrown = variables(alloc, 4096, var(alloc, "v", noun(alloc, "y")?)?)?;
+    assert!(rt; same(&thrown.result, &broken(alloc, "undefined noun y")?));
+    Ok(())
+}
+
+/// An abandoned turn writes no slot, a turn that threw keeps what it wrote.
+#[test]
+fn what_is_kept_of_slots(rt: HostRuntime) -> Result<(), Fail> {
+    let alloc = rt.alloc();
+    let script = vec![in alloc; var(alloc, "n", Expr::Int(0))?]?;
+    let opening = Delivery::Opening(program(alloc, script)?);
+    let opened = run(VatState::new(alloc), opening, 2)?;
+    let items = vec![in alloc; assign(alloc, "n", Expr::Int(1))?, Expr::Null]?;
+    let short = run(opened.state, Delivery::Asked(program(alloc, items)?), 2)?;
+    assert!(rt; is_abandoned(&short.ended, Abandon::Budget));
+    assert!(rt; holds(&short.state, slot_of_run(0), &Value::Int(0)));
+    let items = vec![in alloc; assign(alloc, "n", Expr::Int(2))?, noun(alloc, "y")?]?;
+    let thrown = run(short.state, Delivery::Asked(program(alloc, items)?), 3)?;
+    assert!(rt; holds(&thrown.state, slot_of_run(0), &Value::Int(2)));
     Ok(())
 }

@@ -5,14 +5,15 @@ ghost use Rattle.turn.specs.View.{state_of, delivery_of, outcome_of};
 
 use crate::delivery::{Delivery, Outcome, deliver};
 use crate::heap::VatState;
-use ids::names::{EventName, MsgId};
+use ids::names::{EventName, MsgId, VatNo};
 use std::alloc::AllocError;
 
-/// A turn to be run: its event, its message, the vat's copied state, what is delivered, and the budget.
+/// A turn to be run: its event, its message, its vat and the vat's copied state, what is delivered, and the budget.
 #[derive(Drop)]
 pub struct Out {
     pub event: EventName,
     pub message: MsgId,
+    pub vat: VatNo,
     pub state: VatState,
     pub delivery: Delivery,
     pub budget: u32,
@@ -23,8 +24,8 @@ pub struct Out {
 pub struct Ran {
     pub carried: Out,
     pub outcome: Outcome,
-    pub ghost delivered: { ∥ Delivers (delivery_of carried.delivery) (state_of carried.state)
-        carried.budget (outcome_of outcome) ∥₁ },
+    pub ghost delivered: { ∥ Delivers (delivery_of carried.delivery) carried.event carried.vat
+        (state_of carried.state) carried.budget (outcome_of outcome) ∥₁ },
 }
 
 /// A turn checked out of a book. It must be spent: run and committed, or discarded.
@@ -53,7 +54,13 @@ impl Ticket<Out> {
         ensures err { IfErr result (λ e. e.0 ≡ self) }
     {
         let Ticket { stage } = self;
-        match deliver(&stage.state, &stage.delivery, stage.budget) {
+        match deliver(
+            &stage.delivery,
+            stage.event,
+            stage.vat,
+            &stage.state,
+            stage.budget,
+        ) {
             Ok(outcome) => Ok(Ticket {
                 stage: Ran {
                     carried: stage,
@@ -66,7 +73,7 @@ impl Ticket<Out> {
 }
 
 impl Ticket<Ran> {
-    /// What was carried: the ticket's event, its message, and the state that the turn began with.
+    /// What was carried: the ticket's event, its message, its vat, and the state that the turn began with.
     pub fn carried(&self) -> &Out
         ensures { result.now ≡ self.now.stage.carried }
     {

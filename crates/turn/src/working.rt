@@ -1,15 +1,15 @@
 // What a turn works on.
 
-use crate::heap::VatState;
+use crate::heap::{Binding, VatState};
+use ids::names::{EventName, VatNo};
 use ids::text::Text;
 use std::alloc::Global;
-use values::value::Value;
 
-/// A name of a scope, and its value.
+/// A name of a scope, and what it stands for.
 #[derive(Drop)]
 pub struct Noun {
     pub name: Text,
-    pub value: Value,
+    pub binding: Binding,
 }
 
 /// A turn under way, on a copy of its vat's state that it changes in place.
@@ -23,4 +23,8 @@ pub struct Working {
     pub nouns: Vec<Noun>,
     /// The steps left.
     pub steps: u32,
+    pub event: EventName,
+    pub vat: VatNo,
+    /// How many slots the turn has made.
+    pub slots: u32,
 }

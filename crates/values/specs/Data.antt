@@ -9,11 +9,13 @@ mutual
     text : (s : List ℕ) → Val
     list : (vs : Vals) → Val
     broken : (problem : List ℕ) → Val
+    deriving IsSet as Val-set
 
   -- items of a list, or arguments
   pub data Vals : Type 0 where
     no_vals : Vals
     and_val : (v : Val) → (vs : Vals) → Vals
+    deriving IsSet as Vals-set
 
 -- what a verb of data leads to: a value, or a problem that is thrown
 pub data Reply : Type 0 where

@@ -10,8 +10,8 @@ nodes_left-returns-in_err-left t c = rw c.from_residual.ensures (λ h. c.in_err-
 
 pub nodes_left-returns-in_ok-nodes_left-in-Call : goal.nodes_left-returns-in_ok-nodes_left-in-Call
 nodes_left-returns-in_ok-nodes_left-in-Call t c =
-    let is = ap nodes (tree_is_call c.in-Call.receiver c.in-Call.field-1 c.in-Call.args c.in-Call.is c.deref-in-Call-3.ensures c.deref-in-Call.ensures c.deref-in-Call-2.ensures.value) in
-    left_after c.nodes_left_by_all.result (1 + nodes (tree_of c.deref-in-Call-3.result.now)) (nodes_in (trees_of c.deref-in-Call-2.result.now)) _ c.in_ok-nodes_left-in-Call.field-0 c.args.limit
+    let is = ap nodes (tree_is_call c.in-Call.receiver c.in-Call.field-1 c.in-Call.args c.in-Call.is c.deref-in-Call-2.ensures c.deref.ensures c.deref-in-Call.ensures.value) in
+    left_after c.nodes_left_by_all.result (1 + nodes (tree_of c.deref-in-Call-2.result.now)) (nodes_in (trees_of c.deref-in-Call.result.now)) _ c.in_ok-nodes_left-in-Call.field-0 c.args.limit
     (omega (arith, is)) (omega (arith, c.in_ok-nodes_left-in-Call.ensures.0, c.in_ok-nodes_left-in-Call.ensures.1, c.in_ok-left.ensures.0, c.in_ok-left.ensures.1)) c.nodes_left_by_all.ensures
 
 pub nodes_left-returns-in-List : goal.nodes_left-returns-in-List

@@ -28,7 +28,7 @@ is_within_depth-returns-then-limit-eq0 t c = (λ h. absurd (not_true h), λ h. a
 
 pub is_within_depth-returns-then-is_within_depth : goal.is_within_depth-returns-then-is_within_depth
 is_within_depth-returns-then-is_within_depth t c =
-    let is = ap depth (tree_is_call c.in-Call.receiver c.in-Call.field-1 c.in-Call.args c.in-Call.is c.deref-in-Call.ensures c.deref-then-is_within_depth.ensures c.deref-then-is_within_depth-2.ensures.value) in
+    let is = ap depth (tree_is_call c.in-Call.receiver c.in-Call.field-1 c.in-Call.args c.in-Call.is c.deref.ensures c.deref-then-is_within_depth.ensures c.deref-then-is_within_depth-2.ensures.value) in
     (λ h. omega (arith, is, c.are_within_depth.ensures.0 h, c.if-is_within_depth.ensures.0 is_true), λ h. c.are_within_depth.ensures.1 (omega (arith, h, is)))
 
 pub is_within_depth-returns-in-List : goal.is_within_depth-returns-in-List

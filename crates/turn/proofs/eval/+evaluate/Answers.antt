@@ -3,8 +3,8 @@ use Rattle.std.proofs.lemmas.Result.{IfOk-weaker}
 use Rattle.kernele.specs.View.{tree_of}
 use Rattle.kernele.proofs.Views.{tree_of-Call, tree_of-List}
 use Rattle.turn.specs.View.{at}
-use Rattle.turn.specs.Rules.{at_budget, at_depth, run_null, run_bool, run_int, run_text, run_noun, run_define, run_call_receiver, run_call, run_list, run_same_left, run_same}
-use Rattle.turn.proofs.Steps.{node, child, children, slice_of, runs_as, args_begin, args_pushed, args_more, args_no_more, args_end, args_done}
+use Rattle.turn.specs.Rules.{at_budget, at_depth, run_null, run_bool, run_int, run_text, run_noun, run_define, run_variable, run_assign, run_call_receiver, run_call, run_list, run_same_left, run_same}
+use Rattle.turn.proofs.Steps.{node, child, children, slice_of, if_both, runs_as, runs_to, args_begin, args_pushed, args_more, args_no_more, args_end, args_done}
 use Rattle.turn.proofs.eval.+evaluate.Goals as goal
 
 pub eval-returns-then-w-eq0 : goal.eval-returns-then-w-eq0
@@ -31,6 +31,12 @@ eval-returns-in-Noun t c = IfOk-weaker _ _ _ (λ o h. node _ {a = at c.args.w.no
 pub eval-returns-in-Def : goal.eval-returns-in-Def
 eval-returns-in-Def t c = IfOk-weaker _ _ _ (λ o h. node _ (ap tree_of c.in-Def.is) h (omega arith) c.if-level-gt-DEEPEST.false) c.eval_def.ensures
 
+pub eval-returns-in-Var : goal.eval-returns-in-Var
+eval-returns-in-Var t c = IfOk-weaker _ _ _ (λ o h. node _ (ap tree_of c.in-Var.is) h (omega arith) c.if-level-gt-DEEPEST.false) c.eval_var.ensures
+
+pub eval-returns-in-Assign : goal.eval-returns-in-Assign
+eval-returns-in-Assign t c = IfOk-weaker _ _ _ (λ o h. node _ (ap tree_of c.in-Assign.is) h (omega arith) c.if-level-gt-DEEPEST.false) c.eval_assign.ensures
+
 pub eval-returns-in-Call : goal.eval-returns-in-Call
 eval-returns-in-Call t c = IfOk-weaker _ _ _ (λ o h. node _ (ap tree_of c.in-Call.is ∙ tree_of-Call c.in-Call.receiver c.in-Call.verb c.in-Call.args) h (omega arith) c.if-level-gt-DEEPEST.false) c.eval_call.ensures
 
@@ -45,6 +51,18 @@ eval_def-returns t c = rw c.in_ok-match_pattern.ensures (run_define (child c.der
 
 pub eval_def-returns-in-Halt : goal.eval_def-returns-in-Halt
 eval_def-returns-in-Halt t c = run_define (child c.deref.ensures c.in-Halt.is c.in_ok-value.ensures)
+
+pub eval_var-returns-in-Halt : goal.eval_var-returns-in-Halt
+eval_var-returns-in-Halt t c = run_variable (child c.deref.ensures c.in-Halt.is c.in_ok-value.ensures)
+
+pub eval_var-returns : goal.eval_var-returns
+eval_var-returns t c = if_both _ _ _ _ (λ o p q. runs_to (run_variable (child c.deref.ensures c.in-Value.is c.in_ok-value.ensures)) p q) c.declare.ensures.ends c.declare.ensures.makes
+
+pub eval_assign-returns-in-Halt : goal.eval_assign-returns-in-Halt
+eval_assign-returns-in-Halt t c = run_assign (child c.deref.ensures c.in-Halt.is c.in_ok-value.ensures)
+
+pub eval_assign-returns : goal.eval_assign-returns
+eval_assign-returns t c = if_both _ _ _ _ (λ o p q. runs_to (run_assign (child c.deref.ensures c.in-Value.is c.in_ok-value.ensures)) p q) c.assign.ensures.ends c.assign.ensures.writes
 
 pub eval_args-loop-arg-init : goal.eval_args-loop-arg-init
 eval_args-loop-arg-init t c = λ g b h. args_begin c.new-values.ensures.items h

@@ -18,6 +18,12 @@ decreases-eval_args l = 3 * (1001 - l.level) + 1
 abbrev pub decreases-eval_def : goal.decreases-eval_def
 decreases-eval_def l = 3 * (1000 - l.level) + 2
 
+abbrev pub decreases-eval_var : goal.decreases-eval_var
+decreases-eval_var l = 3 * (1000 - l.level) + 2
+
+abbrev pub decreases-eval_assign : goal.decreases-eval_assign
+decreases-eval_assign l = 3 * (1000 - l.level) + 2
+
 abbrev pub decreases-eval_call : goal.decreases-eval_call
 decreases-eval_call l = 3 * (1000 - l.level) + 2
 

@@ -2,4 +2,4 @@ use Rattle.turn.proofs.Spent.{delivery_left}
 use Rattle.turn.proofs.theorems.within_budget.Goals as goal
 
 pub returns : goal.returns
-returns c = λ d s n o r. delivery_left r
+returns c = λ d e v s n o r. delivery_left r

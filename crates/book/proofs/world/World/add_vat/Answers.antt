@@ -5,9 +5,6 @@ use Rattle.book.specs.View.{vat_of, home_of, message_of, world_of}
 use Rattle.book.proofs.Worlds.{clear-put}
 use Rattle.book.proofs.world.World.add_vat.Goals as goal
 
-pub add_home-requires : goal.add_home-requires
-add_home-requires c = ap (λ (w : World). w (key.State c.args.vat.number)) c.in_ok-put_vat.ensures.ok ∙ c.requires.new
-
 pub returns-in-Ok-clause-ok : goal.returns-in-Ok-clause-ok
 returns-in-Ok-clause-ok c =
     c.in-Ok.ensures.ok

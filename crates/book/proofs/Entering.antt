@@ -1,0 +1,64 @@
+-- An accepted event keeps the journal good.
+use Rattle.std.proofs.Common.{◌≡◌, ℕ, ◌+◌, ◌≤◌, ◌<◌, Bool, true, false, ◌||◌, List, [], ◌∷◌, ◌++◌, map, reverse, refl, sym, ap, ◌∙◌, subst, arith}
+use Rattle.std.proofs.Math.Logic.{∥∥₁_elim, ∥∥₁_map, ∥∥₁_prop}
+use Rattle.std.specs.List.{AllByRecursion}
+use Rattle.std.proofs.lemmas.List.{map-append}
+use Rattle.std.proofs.lemmas.Nat.{le_refl}
+use Rattle.history.specs.Subject.{after}
+use Rattle.history.specs.Journal.{Entry, live_set, both, named, Good, Named, Sound, NamesCauses, new_entry, causes_of}
+use Rattle.history.proofs.Lists.{all_of}
+use Rattle.history.proofs.Changes.{sound_same}
+use Rattle.history.proofs.Naming.{causes_named_reversed, causes_below_reversed, appended_named, appended}
+use Rattle.ids.specs.declared.names.EventName.{EventName}
+use Rattle.book.specs.World.{World, empty}
+use Rattle.book.specs.Events.{Event, Foot, Does, events}
+use Rattle.book.specs.Journal.{Line, causes_in}
+use Rattle.book.specs.Books.{Book, line_of, Kept, Stands}
+use Rattle.book.specs.Calls.{touched, new_line, Enters}
+use Rattle.book.proofs.Lists.{mapped_twice, mapped_same, reversed}
+use Rattle.book.proofs.Law.{events_laws}
+use Rattle.book.proofs.Standing.{numbers, told, causes_are}
+
+-- the entry of an event that is accepted over this journal
+abbrev entry_over : Event → Foot → List Line → Entry events
+entry_over e f lines = new_entry events e f (numbers (causes_in (touched f) lines))
+
+entry_line : (e : Event) (f : Foot) (lines : List Line) → line_of (entry_over e f lines) ≡ new_line e f lines
+entry_line e f lines =
+    ap (λ (names : List EventName). record { event = e; touched = touched f; written = map (λ p. p.0) f.writes; causes = names; live = true })
+    (mapped_twice (λ (n : EventName). n.0) (λ n. record { 0 = n }) (causes_in (touched f) lines) ∙ mapped_same (causes_in (touched f) lines))
+
+more_told : (e : Event) (f : Foot) (lines : List Line) (es : List (Entry events)) → lines ≡ told es → lines ++ new_line e f lines ∷ [] ≡ told (entry_over e f lines ∷ es)
+more_told e f lines es h =
+    ap (λ (l : Line). lines ++ l ∷ []) (sym (entry_line e f lines))
+    ∙ ap (λ (ls : List Line). ls ++ line_of (entry_over e f lines) ∷ []) h
+    ∙ sym (map-append line_of (reverse es) (entry_over e f lines ∷ []))
+    ∙ ap (map line_of) (sym (reversed (entry_over e f lines) es))
+
+or_false : (b : Bool) → b ≡ (b || false)
+or_false true = refl
+or_false false = refl
+
+-- with no event to redo, what is live is sound
+pub none_again : (es : List (Entry events)) → Sound events (live_set events) es → Sound events (both (live_set events) (named events (numbers []))) es
+none_again es h = sound_same events (live_set events) (both (live_set events) (named events [])) es (all_of (λ a. a.live ≡ (a.live || false)) es (λ a. or_false a.live)) h
+
+kept_entered : (e : Event) (f : Foot) (old new : Book) (es : List (Entry events)) → Kept old es → Does e old.world f → Enters e f old new → Kept new (entry_over e f old.journal ∷ es)
+kept_entered e f old new es k d n =
+    let lines = old.journal in
+    let ns : List ℕ = numbers (causes_in (touched f) lines) in
+    let same : reverse (causes_of events f es) ≡ ns = sym (causes_are f es) ∙ ap (λ ls. numbers (causes_in (touched f) ls)) (sym k.told) in
+    let causes : NamesCauses events ns f es = subst (λ ms. NamesCauses events ms f es) same (causes_named_reversed events f k.names) in
+    let below : AllByRecursion (λ m. m < old.next) ns = subst (AllByRecursion (λ m. m < old.next)) same (causes_below_reversed events f k.names) in
+    let le : old.next ≤ e.name.0 = subst (λ m. old.next ≤ m) (sym n.named) (le_refl old.next) in
+    let good : Good events empty (live_set events) (entry_over e f lines ∷ es) (after events f old.world) = appended events events_laws e f ns k.good k.names d le causes in
+    record {
+      told = n.entered ∙ more_told e f lines es k.told;
+      good = subst (Good events empty (live_set events) (entry_over e f lines ∷ es)) (sym n.step) good;
+      names = subst (λ m. Named events m (entry_over e f lines ∷ es)) (ap (λ m. m + 1) n.named ∙ sym n.drawn) (appended_named events e f ns k.names le below);
+      again = subst (λ names. Sound events (both (live_set events) (named events (numbers names))) (entry_over e f lines ∷ es)) (sym n.redoable) (none_again (entry_over e f lines ∷ es) good.sound);
+    }
+
+pub stands_entered : (e : Event) (f : Foot) (old new : Book) → Stands old → Enters e f old new → Stands new
+stands_entered e f old new h n =
+    ∥∥₁_elim h ∥∥₁_prop (λ (es, k). ∥∥₁_map n.does (λ d. (entry_over e f old.journal ∷ es, kept_entered e f old new es k d n)))

@@ -1,0 +1,11 @@
+use Rattle.std.proofs.Common.{◌∙◌, ap}
+use Rattle.ids.specs.declared.names.CellKey.TheVariants as key
+use Rattle.book.specs.World as model
+use Rattle.book.specs.World.{World, put, done, message}
+use Rattle.book.proofs.world.World.settle.Goals as goal
+
+pub returns-clause-ok : goal.returns-clause-ok
+returns-clause-ok c g waiting =
+    let first = c.in_ok-publish.ensures.ok in
+    let marked : model.Message = record { delivery = g.delivery; result = g.result; after = g.after; place = done c.args.event } in
+    c.mark_done.ensures g (ap (λ (w : World). w (key.Msg c.args.name)) first ∙ waiting) ∙ ap (put (key.Msg c.args.name) (message marked)) first

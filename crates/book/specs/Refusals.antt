@@ -1,0 +1,143 @@
+-- When a call of the book is refused.
+use Rattle.std.specs.Prelude.{◌≡◌, ℕ, ◌==◌, ◌&&◌, ◌||◌, not, Bool, cond, List, [], ◌∷◌, length, filter, Option, Some, None, Ok, Err, nat_lt, min}
+use Rattle.std.specs.List.{list_any, list_all}
+use Rattle.std.specs.Option.{option_map, option_or}
+use Rattle.kernele.specs.Tree.{Name, Trees}
+use Rattle.kernele.specs.Scope.{Checked, checked_program, script_scopes, asked_scopes}
+use Rattle.kernele.specs.Scope as scope
+use Rattle.ids.specs.declared.names.EventName.{EventName}
+use Rattle.ids.specs.declared.names.MsgId.{MsgId}
+use Rattle.ids.specs.declared.names.VatNo.{VatNo}
+use Rattle.ids.specs.declared.names.CellKey.TheVariants as key
+use Rattle.book.specs.World.{Vat, Place, at_vat, done, Message, Content, home, World, vat_named, message_of, done_in}
+use Rattle.book.specs.Journal.{Line, name_of, among, chosen}
+use Rattle.book.specs.Books.{Book}
+
+-- why a call is refused
+pub data Refusal : Type 0 where
+  no_vat : (x : Name) → Refusal
+  name_taken : (x : Name) → Refusal
+  no_message : (m : MsgId) → Refusal
+  not_there : Refusal
+  before : (m : MsgId) → Refusal
+  full : Refusal
+  no_event : (e : EventName) → Refusal
+  not_live : (e : EventName) → Refusal
+  still_live : (e : EventName) → Refusal
+  -- a member of the set, and a live consequence of it outside
+  not_closed : (e : EventName) → (f : EventName) → Refusal
+  not_next : Refusal
+  unchecked : (fault : scope.Refusal) → Refusal
+
+-- the first of two refusals, if there is one
+abbrev pub first : Option Refusal → Option Refusal → Option Refusal
+first None next = next
+first (Some refusal) next = Some refusal
+
+-- the first answer along a list
+abbrev pub first_some : {A B : Type 0} → (A → Option B) → List A → Option B
+first_some f [] = None
+first_some f (x ∷ xs) = option_or (f x) (first_some f xs)
+
+-- names are used up, or the journal has no room
+abbrev pub full_refusal : Book → Option Refusal
+full_refusal b = cond (nat_lt 4294967295 b.next || nat_lt 1048575 (length b.journal)) (Some full) None
+
+abbrev pub check_refusal : Checked → Option Refusal
+check_refusal (Ok s) = None
+check_refusal (Err fault) = Some (unchecked fault)
+
+abbrev pub taken_refusal : Name → Option Vat → Option Refusal
+taken_refusal x None = None
+taken_refusal x (Some v) = Some (name_taken x)
+
+-- a birth: the name is free, the script passes the check
+abbrev pub birth_refusal : Book → Name → Trees → Option Refusal
+birth_refusal b x script =
+    first (taken_refusal x (vat_named b.world x)) (first (check_refusal (checked_program script (script_scopes []))) (full_refusal b))
+
+abbrev pub ask_refusal_by : Option Vat → Book → Name → Trees → Option Refusal
+ask_refusal_by None b x program = Some (no_vat x)
+ask_refusal_by (Some v) b x program = first (check_refusal (checked_program program (asked_scopes v.tops))) (full_refusal b)
+
+-- an asked program: the vat is there, the program passes the check among the names that its script defines
+abbrev pub ask_refusal : Book → Name → Trees → Option Refusal
+ask_refusal b x program = ask_refusal_by (vat_named b.world x) b x program
+
+-- the message that must be done first
+abbrev pub await_refusal : World → Option MsgId → Option Refusal
+await_refusal w None = None
+await_refusal w (Some m) = cond (done_in (message_of w m)) None (Some (before m))
+
+abbrev pub home_refusal : Option Content → Option Refusal
+home_refusal (Some (home x s)) = None
+home_refusal _ = Some not_there
+
+abbrev pub place_refusal : World → Place → Option Refusal
+place_refusal w (at_vat v) = home_refusal (w (key.State v))
+place_refusal w (done e) = Some not_there
+
+abbrev pub ready_refusal_by : World → MsgId → Option Message → Option Refusal
+ready_refusal_by w m None = Some (no_message m)
+ready_refusal_by w m (Some g) = first (place_refusal w g.place) (await_refusal w g.after)
+
+-- a delivery: the message is there, at a vat, and what it waits for is done
+abbrev pub ready_refusal : World → MsgId → Option Refusal
+ready_refusal w m = ready_refusal_by w m (message_of w m)
+
+abbrev pub turn_refusal : Book → MsgId → Option Refusal
+turn_refusal b m = first (ready_refusal b.world m) (full_refusal b)
+
+abbrev pub is_entered : List Line → EventName → Bool
+is_entered lines e = list_any (λ l. (name_of l).0 == e.0) lines
+
+-- the lesser of a name and what is least of others
+abbrev pub lesser : EventName → Option EventName → Option EventName
+lesser a None = Some a
+lesser a (Some b) = Some (record { 0 = min a.0 b.0 })
+
+-- the least name of a list
+abbrev pub least : List EventName → Option EventName
+least [] = None
+least (e ∷ es) = lesser e (least es)
+
+-- the least name that the journal does not have
+abbrev pub missing_refusal : List EventName → List Line → Option Refusal
+missing_refusal names lines = option_map no_event (least (filter (λ e. not (is_entered lines e)) names))
+
+-- the first of the set that is undone
+abbrev pub undone_refusal : List EventName → List Line → Option Refusal
+undone_refusal names lines = first_some (λ l. cond (chosen names l && not l.live) (Some (not_live (name_of l))) None) lines
+
+-- the first of the set that is live
+abbrev pub live_refusal : List EventName → List Line → Option Refusal
+live_refusal names lines = first_some (λ l. cond (chosen names l && l.live) (Some (still_live (name_of l))) None) lines
+
+-- the first live line outside the set that has e as a cause
+abbrev pub consequence : List EventName → EventName → List Line → Option EventName
+consequence names e lines = first_some (λ l. cond (l.live && (not (chosen names l) && among l.causes e)) (Some (name_of l)) None) lines
+
+-- the first of the set that has such a consequence
+abbrev pub open_refusal : List EventName → List Line → Option Refusal
+open_refusal names lines = first_some (λ l. cond (chosen names l) (option_map (not_closed (name_of l)) (consequence names (name_of l) lines)) None) lines
+
+-- an undo: the events are in the journal, live, and have all their live consequences among them
+abbrev pub undo_refusal : List Line → List EventName → Option Refusal
+undo_refusal lines names = first (missing_refusal names lines) (first (undone_refusal names lines) (open_refusal names lines))
+
+-- two lists name the same events
+abbrev pub same_set : List EventName → List EventName → Bool
+same_set names others = list_all (among others) names && list_all (among names) others
+
+-- no event, or just those of the undo before
+abbrev pub next_refusal : List EventName → List EventName → Option Refusal
+next_refusal [] redoable = None
+next_refusal (e ∷ names) redoable = cond (same_set (e ∷ names) redoable) None (Some not_next)
+
+-- a redo: the events are in the journal, undone, and just those that were undone by the last call that changed the journal
+abbrev pub redo_refusal : Book → List EventName → Option Refusal
+redo_refusal b names = first (missing_refusal names b.journal) (first (live_refusal names b.journal) (next_refusal names b.redoable))
+
+-- a cone: the event is in the journal, and live
+abbrev pub cone_refusal : List Line → EventName → Option Refusal
+cone_refusal lines e = first (missing_refusal (e ∷ []) lines) (undone_refusal (e ∷ []) lines)

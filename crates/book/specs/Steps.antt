@@ -1,0 +1,55 @@
+-- What the parts of a step find and leave.
+use Rattle.std.specs.Prelude.{◌≡◌, ℕ, List, [], ◌∷◌, ◌++◌, Option, Some}
+use Rattle.kernele.specs.Tree.{Name}
+use Rattle.turn.specs.Outcomes.{End, value, halt, thrown, abandoned}
+use Rattle.ids.specs.declared.names.EventName.{EventName}
+use Rattle.ids.specs.declared.names.VatNo.{VatNo}
+use Rattle.ids.specs.declared.names.MsgId.{MsgId}
+use Rattle.ids.specs.declared.names.PromId.{PromId}
+use Rattle.ids.specs.declared.names.CellKey.{CellKey}
+use Rattle.ids.specs.declared.names.CellKey.TheVariants as key
+use Rattle.book.specs.World.{World}
+use Rattle.book.specs.Events.{Event, Foot, Does, first_message, awaited}
+use Rattle.book.specs.Books.{PlainRun}
+use Rattle.book.specs.Refusals.{Refusal, no_message, not_there, before}
+use Rattle.book.specs.declared.step.Unready.{Unready}
+use Rattle.book.specs.declared.step.Unready.TheVariants as unready
+use Rattle.book.specs.declared.step.StepFault.{StepFault}
+use Rattle.book.specs.declared.step.StepFault.TheVariants as fault
+
+-- why the message m may not be delivered
+abbrev pub refusal_of : MsgId → Unready → Refusal
+refusal_of m unready.NoMessage = no_message m
+refusal_of m unready.NotThere = not_there
+refusal_of m (unready.Before n) = before n
+
+-- an event that is impossible has no footprint; want of memory tells nothing
+abbrev pub TellsStep : Event → World → StepFault → Type 0
+TellsStep e w fault.Impossible = (f : Foot) → Does e w f → ⊥
+TellsStep e w fault.Memory = Unit {0}
+
+-- events of which one is impossible where it comes have no run
+abbrev pub TellsRun : List Event → StepFault → Type 0
+TellsRun es fault.Impossible = (w : World) → PlainRun es w → ⊥
+TellsRun es fault.Memory = Unit {0}
+
+-- the cells that a birth writes
+abbrev pub birth_cells : EventName → Name → List CellKey
+birth_cells e x = key.Msg (first_message e) ∷ key.State (record { 0 = e }) ∷ key.Name x ∷ []
+
+-- the cell that an asked program writes
+abbrev pub ask_cells : EventName → List CellKey
+ask_cells e = key.Msg (first_message e) ∷ []
+
+-- the vat's cell, unless the turn was abandoned
+abbrev pub state_cells : VatNo → End → List CellKey
+state_cells v (value u) = key.State v ∷ []
+state_cells v (halt (thrown problem)) = key.State v ∷ []
+state_cells v (halt (abandoned why)) = []
+
+-- the cells that a turn writes, and those that it reads
+abbrev pub turn_cells : VatNo → MsgId → PromId → End → List CellKey
+turn_cells v m p o = state_cells v o ++ key.Msg m ∷ key.Board p ∷ []
+
+abbrev pub turn_reads : VatNo → Option MsgId → List CellKey
+turn_reads v after = key.State v ∷ awaited after

@@ -1,0 +1,145 @@
+// What may be undone and redone, and what goes with an event that is undone.
+ghost use Rattle.std.specs.Prelude.{◌≡◌, IfErr, OnOk, not};
+ghost use Rattle.std.specs.List.{filter, list_all};
+ghost use Rattle.book.specs.Journal.{among};
+ghost use Rattle.book.specs.Refusals as refusals;
+ghost use Rattle.book.specs.Refusals.{least, lesser, consequence, first, missing_refusal, undone_refusal, live_refusal, open_refusal, undo_refusal, same_set, next_refusal};
+ghost use Rattle.book.specs.Fault.{Tells};
+ghost use Rattle.book.specs.EventView.{lines_of};
+
+use crate::fault::BookFault;
+use crate::journal::{Entry, Mark, is_among, is_entered};
+use ids::names::EventName;
+
+/// The lesser of a name and what was least before it.
+fn lesser_of(name: EventName, least: Option<EventName>) -> EventName
+    ensures { Some result ≡ lesser name least }
+{
+    match least {
+        Some(other) => EventName(name.0.min(other.0)),
+        None => name,
+    }
+}
+
+/// The least of these names that the journal does not have.
+fn least_missing(entries: &[Entry], names: &[EventName]) -> Option<EventName>
+    ensures { result ≡ least (filter (λ e. not (refusals.is_entered (lines_of entries.now) e)) names.now) }
+{
+    let mut missing = None;
+    for name in names {
+        if !is_entered(entries, *name) {
+            missing = Some(lesser_of(*name, missing));
+        }
+    }
+    missing
+}
+
+/// The events are in the journal.
+fn check_entered(entries: &[Entry], names: &[EventName]) -> Result<(), BookFault>
+    ensures ok { OnOk result (missing_refusal names.now (lines_of entries.now) ≡ None) }
+    ensures err { IfErr result (λ fault. Tells fault (missing_refusal names.now (lines_of entries.now))) }
+{
+    match least_missing(entries, names) {
+        Some(name) => Err(BookFault::NoEvent(name)),
+        None => Ok(()),
+    }
+}
+
+/// None of the events is undone.
+fn check_live(entries: &[Entry], names: &[EventName]) -> Result<(), BookFault>
+    ensures ok { OnOk result (undone_refusal names.now (lines_of entries.now) ≡ None) }
+    ensures err { IfErr result (λ fault. Tells fault (undone_refusal names.now (lines_of entries.now))) }
+{
+    for entry in entries {
+        if is_among(names, entry.event.name) && entry.mark == Mark::Undone {
+            return Err(BookFault::NotLive(entry.event.name));
+        }
+    }
+    Ok(())
+}
+
+/// None of the events is live.
+fn check_undone(entries: &[Entry], names: &[EventName]) -> Result<(), BookFault>
+    ensures ok { OnOk result (live_refusal names.now (lines_of entries.now) ≡ None) }
+    ensures err { IfErr result (λ fault. Tells fault (live_refusal names.now (lines_of entries.now))) }
+{
+    for entry in entries {
+        if is_among(names, entry.event.name) && entry.mark == Mark::Live {
+            return Err(BookFault::IsLive(entry.event.name));
+        }
+    }
+    Ok(())
+}
+
+/// The first live event outside a set that came of this one.
+fn consequence_of(entries: &[Entry], names: &[EventName], name: EventName) -> Option<EventName>
+    ensures { result ≡ consequence names.now name (lines_of entries.now) }
+{
+    for entry in entries {
+        let is_outside = entry.mark == Mark::Live && !is_among(names, entry.event.name);
+        if is_outside && is_among(&entry.causes, name) {
+            return Some(entry.event.name);
+        }
+    }
+    None
+}
+
+/// None of the events has a live consequence that is not among them.
+fn check_closed(entries: &[Entry], names: &[EventName]) -> Result<(), BookFault>
+    ensures ok { OnOk result (open_refusal names.now (lines_of entries.now) ≡ None) }
+    ensures err { IfErr result (λ fault. Tells fault (open_refusal names.now (lines_of entries.now))) }
+{
+    for entry in entries {
+        let name = entry.event.name;
+        if is_among(names, name) {
+            if let Some(consequence) = consequence_of(entries, names, name) {
+                return Err(BookFault::NotClosed(name, consequence));
+            }
+        }
+    }
+    Ok(())
+}
+
+/// Whether these events may be undone: all are in the journal and live, and so are all live
+/// events that came of them.
+pub fn check_undo(entries: &[Entry], names: &[EventName]) -> Result<(), BookFault>
+    ensures ok { OnOk result (undo_refusal (lines_of entries.now) names.now ≡ None) }
+    ensures err { IfErr result (λ fault. Tells fault (undo_refusal (lines_of entries.now) names.now)) }
+{
+    check_entered(entries, names)?;
+    check_live(entries, names)?;
+    check_closed(entries, names)
+}
+
+fn are_among(names: &[EventName], others: &[EventName]) -> bool
+    ensures { result ≡ list_all (among others.now) names.now }
+{
+    names.iter().all(|name| is_among(others, *name))
+}
+
+/// There are no events, or they are just those that may be redone.
+fn check_next(names: &[EventName], redoable: &[EventName]) -> Result<(), BookFault>
+    ensures ok { OnOk result (next_refusal names.now redoable.now ≡ None) }
+    ensures err { IfErr result (λ fault. Tells fault (next_refusal names.now redoable.now)) }
+{
+    if names.is_empty() || (are_among(names, redoable) && are_among(redoable, names)) {
+        Ok(())
+    } else {
+        Err(BookFault::NotNext)
+    }
+}
+
+/// Whether these events may be redone: all are in the journal and undone, and they are just those
+/// that may be redone.
+pub fn check_redo(
+    entries: &[Entry],
+    names: &[EventName],
+    redoable: &[EventName],
+) -> Result<(), BookFault>
+    ensures ok { OnOk result (first (missing_refusal names.now (lines_of entries.now)) (first (live_refusal names.now (lines_of entries.now)) (next_refusal names.now redoable.now)) ≡ None) }
+    ensures err { IfErr result (λ fault. Tells fault (first (missing_refusal names.now (lines_of entries.now)) (first (live_refusal names.now (lines_of entries.now)) (next_refusal names.now redoable.now)))) }
+{
+    check_entered(entries, names)?;
+    check_undone(entries, names)?;
+    check_next(names, redoable)
+}
