@@ -10,12 +10,16 @@ use Rattle.ereader.specs.Texts as texts
 use Rattle.ereader.specs.Shown as reading
 use Rattle.ereader.specs.declared.fault.ReadFault.{ReadFault}
 use Rattle.ereader.specs.declared.fault.ReadFault.TheVariants as read_fault
-use Rattle.book.specs.Events.{Refusal, no_vat, name_taken, no_message, not_there, before, full, unchecked, birth_refusal, ask_refusal, turn_refusal, birth, ask, turn}
-use Rattle.book.specs.Books.{Book, Accepts, blank}
+use Rattle.book.specs.Events.{Turn, Turns, birth, ask, turn, birth_foot, ask_foot, turn_foot}
+use Rattle.book.specs.Journal.{Line, Cone}
+use Rattle.book.specs.Refusals.{Refusal, no_vat, name_taken, no_message, not_there, before, full, no_event, not_live, still_live, not_closed, not_next, unchecked}
+use Rattle.book.specs.Refusals.{birth_refusal, ask_refusal, turn_refusal, undo_refusal, redo_refusal, cone_refusal}
+use Rattle.book.specs.Books.{Book, blank}
+use Rattle.book.specs.Calls.{Enters, Undoes, Redoes}
 use Rattle.ids.specs.declared.names.EventName.{EventName}
 use Rattle.ids.specs.declared.names.MsgId.{MsgId}
 use Rattle.turn.specs.Outcomes.{End}
-use Rattle.turn.specs.Turn.{Outcome}
+use Rattle.ids.specs.declared.names.VatNo.{VatNo}
 use Rattle.book.specs.Fault as book
 use Rattle.book.specs.Fault.{Tells, check_tells}
 use Rattle.book.specs.declared.fault.BookFault.{BookFault}
@@ -27,7 +31,8 @@ use Rattle.evats.specs.Commands as commands
 use Rattle.evats.specs.Commands.{Spelled, spelled_by, fault_text}
 use Rattle.evats.specs.Scripts.{script_of, behind_lines, fault_of}
 use Rattle.evats.specs.declared.command.LineFault.{LineFault}
-use Rattle.evats.specs.Replies.{refused, refusal_text, Answers, ask_without_memory, asked_without_memory, asked_unread, ask_refused, turn_without_memory, turn_refused, AnswersBirth, birth_without_memory, script_without_memory, script_unread, birth_refused, birth_accepted, ask_accepted, turn_accepted, queued_text, turned_text, FirstReply, born, answered, skipped, script_refused, said, said_by, Replies, first_and_more, no_more}
+use Rattle.evats.specs.Replies.{refused, refusal_text, Answers, ask_without_memory, asked_without_memory, asked_unread, ask_refused, turn_without_memory, turn_refused, count_of, undone_text, redone_text, listed, cone_found, undo_cone_found, cone_without_memory, cone_refused, undo_without_memory, undo_refused, undo_accepted, undo_cone_without_memory, undo_cone_refused, redo_without_memory, redo_refused, redo_accepted, AnswersBirth, birth_without_memory, script_without_memory, script_unread, birth_refused, birth_accepted, ask_accepted, turn_accepted, queued_text, turned_text, FirstReply, born, answered, skipped, script_refused, said, said_by, Replies, first_and_more, no_more}
+use Rattle.evats.specs.Listing.{journal_text, cone_text}
 use Rattle.evats.specs.Lines.{line_of, behind_line}
 
 -- what holds where a call succeeded leads to more
@@ -50,6 +55,11 @@ told (fault.NoMessage x) o T h g m = g (no_message x) h
 told fault.NotThere o T h g m = g not_there h
 told (fault.Before x) o T h g m = g (before x) h
 told fault.Full o T h g m = g full h
+told (fault.NoEvent e) o T h g m = g (no_event e) h
+told (fault.NotLive e) o T h g m = g (not_live e) h
+told (fault.IsLive e) o T h g m = g (still_live e) h
+told (fault.NotClosed e f) o T h g m = g (not_closed e f) h
+told fault.NotNext o T h g m = g not_next h
 told (fault.Check f) o T h g m = check_told f o T h g m
 told fault.Memory o T h g m = m
 
@@ -65,49 +75,89 @@ unread read_fault.TooLong text T h g m = g h
 unread read_fault.Memory text T h g m = m
 
 module _ (budget : ℕ) (b : Book) where
-  pub ask_told : (x text : List ℕ) (program : Trees) (f : BookFault) → ReadAs text (Ok program) → Tells f (ask_refusal b.world b.next x program)
+  pub ask_told : (x text : List ℕ) (program : Trees) (f : BookFault) → ReadAs text (Ok program) → Tells f (ask_refusal b x program)
       → Answers budget b (commands.ask x text) (refused (book.fault_text f)) true b
-  ask_told x text program f h t = told f (ask_refusal b.world b.next x program) (λ words. Answers budget b (commands.ask x text) (refused words) true b) t (λ r e. ask_refused h e) ask_without_memory
+  ask_told x text program f h t = told f (ask_refusal b x program) (λ words. Answers budget b (commands.ask x text) (refused words) true b) t (λ r e. ask_refused h e) ask_without_memory
 
   pub ask_not_read : (x text : List ℕ) (f : ReadFault) → texts.Answers text (Err f) → Answers budget b (commands.ask x text) (refused (reading.shown f)) true b
   ask_not_read x text f h = unread f text (λ words. Answers budget b (commands.ask x text) (refused words) true b) h (λ k. asked_unread k) asked_without_memory
 
-  pub turn_told : (m : MsgId) (f : BookFault) → Tells f (turn_refusal b.world b.next m) → Answers budget b (commands.turn m) (refused (book.fault_text f)) true b
-  turn_told m f t = told f (turn_refusal b.world b.next m) (λ words. Answers budget b (commands.turn m) (refused words) true b) t (λ r e. turn_refused e) turn_without_memory
+  pub turn_told : (m : MsgId) (f : BookFault) → Tells f (turn_refusal b m) → Answers budget b (commands.turn m) (refused (book.fault_text f)) true b
+  turn_told m f t = told f (turn_refusal b m) (λ words. Answers budget b (commands.turn m) (refused words) true b) t (λ r e. turn_refused e) turn_without_memory
 
-  pub birth_told : (x text : List ℕ) (program : Trees) (f : BookFault) → ReadAs text (Ok program) → Tells f (birth_refusal b.world b.next x program)
+  pub birth_told : (x text : List ℕ) (program : Trees) (f : BookFault) → ReadAs text (Ok program) → Tells f (birth_refusal b x program)
       → AnswersBirth b x (Ok text) (refused (book.fault_text f)) true b
-  birth_told x text program f h t = told f (birth_refusal b.world b.next x program) (λ words. AnswersBirth b x (Ok text) (refused words) true b) t (λ r e. birth_refused h e) birth_without_memory
+  birth_told x text program f h t = told f (birth_refusal b x program) (λ words. AnswersBirth b x (Ok text) (refused words) true b) t (λ r e. birth_refused h e) birth_without_memory
 
   pub birth_not_read : (x text : List ℕ) (f : ReadFault) → texts.Answers text (Err f) → AnswersBirth b x (Ok text) (refused (reading.shown f)) true b
   birth_not_read x text f h = unread f text (λ words. AnswersBirth b x (Ok text) (refused words) true b) h (λ k. script_unread k) script_without_memory
 
-  pub ask_done : {x y text : List ℕ} {program : Trees} {e : EventName} {d : Book} → y ≡ x → ReadAs text (Ok program) → (ask_refusal b.world b.next y program ≡ None) × Accepts e (ask y program) b d
+  pub ask_done : {x y text : List ℕ} {program : Trees} {e : EventName} {d : Book} → y ≡ x → ReadAs text (Ok program) → (ask_refusal b y program ≡ None) × ((v : VatNo) × Enters (record { name = e; act = ask y program }) (ask_foot e y v program) b d)
       → Answers budget b (commands.ask x text) (queued_text e) false d
-  ask_done {text = text} {program = program} {e = e} {d = d} same h a = subst (λ z. Answers budget b (commands.ask z text) (queued_text e) false d) same (ask_accepted h a.0 a.1)
+  ask_done {text = text} {program = program} {e = e} {d = d} same h a = subst (λ z. Answers budget b (commands.ask z text) (queued_text e) false d) same (ask_accepted {v = a.1.0} h a.0 a.1.1)
 
-  pub ask_fails : {x y text : List ℕ} {program : Trees} (f : BookFault) {d : Book} → y ≡ x → ReadAs text (Ok program) → Tells f (ask_refusal b.world b.next y program) → d ≡ b
+  pub ask_fails : {x y text : List ℕ} {program : Trees} (f : BookFault) {d : Book} → y ≡ x → ReadAs text (Ok program) → Tells f (ask_refusal b y program) → d ≡ b
       → Answers budget b (commands.ask x text) (refused (book.fault_text f)) true d
   ask_fails {y = y} {text = text} {program = program} f {d = d} same h t stays =
       subst (λ z. Answers budget b (commands.ask z text) (refused (book.fault_text f)) true d) same
       (subst (λ z. Answers budget b (commands.ask y text) (refused (book.fault_text f)) true z) (sym stays) (ask_told y text program f h t))
 
-  pub birth_done : {x y text : List ℕ} {program : Trees} {e : EventName} {d : Book} → y ≡ x → ReadAs text (Ok program) → (birth_refusal b.world b.next y program ≡ None) × Accepts e (birth y program) b d
+  pub birth_done : {x y text : List ℕ} {program : Trees} {e : EventName} {d : Book} → y ≡ x → ReadAs text (Ok program) → (birth_refusal b y program ≡ None) × Enters (record { name = e; act = birth y program }) (birth_foot e y program) b d
       → AnswersBirth b x (Ok text) (queued_text e) false d
   birth_done {text = text} {program = program} {e = e} {d = d} same h a = subst (λ z. AnswersBirth b z (Ok text) (queued_text e) false d) same (birth_accepted h a.0 a.1)
 
-  pub birth_fails : {x y text : List ℕ} {program : Trees} (f : BookFault) {d : Book} → y ≡ x → ReadAs text (Ok program) → Tells f (birth_refusal b.world b.next y program) → d ≡ b
+  pub birth_fails : {x y text : List ℕ} {program : Trees} (f : BookFault) {d : Book} → y ≡ x → ReadAs text (Ok program) → Tells f (birth_refusal b y program) → d ≡ b
       → AnswersBirth b x (Ok text) (refused (book.fault_text f)) true d
   birth_fails {y = y} {text = text} {program = program} f {d = d} same h t stays =
       subst (λ z. AnswersBirth b z (Ok text) (refused (book.fault_text f)) true d) same
       (subst (λ z. AnswersBirth b y (Ok text) (refused (book.fault_text f)) true z) (sym stays) (birth_told y text program f h t))
 
-  pub turn_done : {m : MsgId} {e : EventName} {d : Book} {o : End} → (turn_refusal b.world b.next m ≡ None) × ((p : Outcome) × Accepts e (turn m budget p) b d × (o ≡ p.end))
+  pub turn_done : {m : MsgId} {e : EventName} {d : Book} {o : End}
+      → (turn_refusal b m ≡ None) × ((t : Turn) × ∥ Turns e b.world m budget t ∥₁ × Enters (record { name = e; act = turn m budget }) (turn_foot e m t) b d × (o ≡ t.outcome.end))
       → Answers budget b (commands.turn m) (turned_text e o) false d
-  turn_done {m = m} {e = e} {d = d} (none, (p, a, same)) = subst (λ z. Answers budget b (commands.turn m) (turned_text e z) false d) (sym same) (turn_accepted none a)
+  turn_done {m = m} {e = e} {d = d} (none, (t, run, enters, same)) = subst (λ z. Answers budget b (commands.turn m) (turned_text e z) false d) (sym same) (turn_accepted {t = t} none run enters)
 
-  pub turn_fails : {m : MsgId} (f : BookFault) {d : Book} → Tells f (turn_refusal b.world b.next m) → d ≡ b → Answers budget b (commands.turn m) (refused (book.fault_text f)) true d
+  pub turn_fails : {m : MsgId} (f : BookFault) {d : Book} → Tells f (turn_refusal b m) → d ≡ b → Answers budget b (commands.turn m) (refused (book.fault_text f)) true d
   turn_fails {m = m} f t stays = subst (λ z. Answers budget b (commands.turn m) (refused (book.fault_text f)) true z) (sym stays) (turn_told m f t)
+
+  -- the journal as it is
+  pub all_listed : {lines : List Line} → lines ≡ b.journal → Answers budget b commands.journal (journal_text lines) false b
+  all_listed same = subst (λ ls. Answers budget b commands.journal (journal_text ls) false b) (sym same) listed
+
+  pub cone_done : {e : EventName} {names events : List EventName} → names ≡ events → (cone_refusal b.journal e ≡ None) × Cone b.journal e events
+      → Answers budget b (commands.cone e) (cone_text names) false b
+  cone_done {e = e} same (none, cone) = subst (λ es. Answers budget b (commands.cone e) (cone_text es) false b) (sym same) (cone_found none cone)
+
+  -- the cone is undone as if its events were named
+  pub cone_undone : {e : EventName} {names events : List EventName} {d : Book} {reply : List ℕ} {refusal : Bool} → names ≡ events → (cone_refusal b.journal e ≡ None) × Cone b.journal e events
+      → Answers budget b (commands.undo names) reply refusal d → Answers budget b (commands.undo_cone e) reply refusal d
+  cone_undone {d = d} {reply = reply} {refusal = refusal} same (none, cone) h = undo_cone_found none cone (subst (λ es. Answers budget b (commands.undo es) reply refusal d) same h)
+
+  pub cone_fails : {e : EventName} (f : BookFault) → Tells f (cone_refusal b.journal e) → Answers budget b (commands.cone e) (refused (book.fault_text f)) true b
+  cone_fails {e = e} f t = told f (cone_refusal b.journal e) (λ words. Answers budget b (commands.cone e) (refused words) true b) t (λ r h. cone_refused h) cone_without_memory
+
+  pub undo_cone_fails : {e : EventName} (f : BookFault) → Tells f (cone_refusal b.journal e) → Answers budget b (commands.undo_cone e) (refused (book.fault_text f)) true b
+  undo_cone_fails {e = e} f t = told f (cone_refusal b.journal e) (λ words. Answers budget b (commands.undo_cone e) (refused words) true b) t (λ r h. undo_cone_refused h) undo_cone_without_memory
+
+  undo_told : (events : List EventName) (f : BookFault) → Tells f (undo_refusal b.journal events) → Answers budget b (commands.undo events) (refused (book.fault_text f)) true b
+  undo_told events f t = told f (undo_refusal b.journal events) (λ words. Answers budget b (commands.undo events) (refused words) true b) t (λ r h. undo_refused h) undo_without_memory
+
+  pub undo_fails : {events : List EventName} (f : BookFault) {d : Book} → Tells f (undo_refusal b.journal events) → d ≡ b → Answers budget b (commands.undo events) (refused (book.fault_text f)) true d
+  undo_fails {events = events} f t stays = subst (λ z. Answers budget b (commands.undo events) (refused (book.fault_text f)) true z) (sym stays) (undo_told events f t)
+
+  pub undo_done : {events : List EventName} {d : Book} {count : ℕ} → (undo_refusal b.journal events ≡ None) × Undoes events b d × (count ≡ count_of events b.journal)
+      → Answers budget b (commands.undo events) (undone_text count) false d
+  undo_done {events = events} {d = d} (none, undoes, same) = subst (λ n. Answers budget b (commands.undo events) (undone_text n) false d) (sym same) (undo_accepted none undoes)
+
+  redo_told : (events : List EventName) (f : BookFault) → Tells f (redo_refusal b events) → Answers budget b (commands.redo events) (refused (book.fault_text f)) true b
+  redo_told events f t = told f (redo_refusal b events) (λ words. Answers budget b (commands.redo events) (refused words) true b) t (λ r h. redo_refused h) redo_without_memory
+
+  pub redo_fails : {events : List EventName} (f : BookFault) {d : Book} → Tells f (redo_refusal b events) → d ≡ b → Answers budget b (commands.redo events) (refused (book.fault_text f)) true d
+  redo_fails {events = events} f t stays = subst (λ z. Answers budget b (commands.redo events) (refused (book.fault_text f)) true z) (sym stays) (redo_told events f t)
+
+  pub redo_done : {events : List EventName} {d : Book} {count : ℕ} → (redo_refusal b events ≡ None) × Redoes events b d × (count ≡ count_of events b.journal)
+      → Answers budget b (commands.redo events) (redone_text count) false d
+  redo_done {events = events} {d = d} (none, redoes, same) = subst (λ n. Answers budget b (commands.redo events) (redone_text n) false d) (sym same) (redo_accepted none redoes)
 
 or_false : (s : Bool) → s ≡ (s || false)
 or_false true = refl

@@ -11,14 +11,19 @@ use Rattle.ids.specs.declared.names.MsgId.{MsgId}
 use Rattle.ids.specs.declared.names.PromId.{PromId}
 use Rattle.ids.specs.declared.names.CellKey.TheVariants as key
 use Rattle.ids.specs.Cells.{vat_cmp, message_cmp, promise_cmp}
+use Rattle.ids.specs.declared.names.SlotId.{SlotId}
+use Rattle.ids.specs.Cells.{slot_cmp}
+use Rattle.std.specs.Ordering.{nat_cmp}
+use Rattle.std.specs.Cmp.Lexicographic.{slice_cmp}
 use Rattle.values.specs.declared.value.Value.{Value}
-use Rattle.turn.specs.State.{State}
-use Rattle.turn.specs.View.{cells_of, state_of}
+use Rattle.turn.specs.State.{State, read, top, slot_cell}
+use Rattle.turn.specs.View.{tops_of, slots_of, state_of}
+use Rattle.turn.specs.declared.heap.Binding.{Binding}
 use Rattle.book.specs.World.{Content, World}
 use Rattle.book.specs.View.{home_of}
 use Rattle.book.specs.declared.world.Home.{Home}
-use Rattle.evats.specs.Show.{Lists, Nouns, noun_lines, vat_line, home_lines_none, home_lines_more, message_lines, board_lines, Shows}
-use Rattle.evats.specs.ShowView.{entries_as, nouns_in, HomeWritten, HomesWritten}
+use Rattle.evats.specs.Show.{Lists, Nouns, noun_lines, slot_lines, vat_line, home_lines_none, home_lines_more, message_lines, board_lines, Shows}
+use Rattle.evats.specs.ShowView.{entries_as, nouns_in, slots_in, HomeWritten, HomesWritten}
 
 keys_as : {K V W : Type 0} (f : V → W) (es : List (K × V)) → map (λ e. e.0) (entries_as f es) ≡ keys_of es
 keys_as f [] = refl
@@ -36,26 +41,40 @@ lookup_as f test (e ∷ es) = one f (test e.0) e.1 (lookup test es) ∙ ap (cond
 pub entries_list : {K V W : Type 0} (cmp : K → K → Ordering) (f : V → W) (m : BTreeMap K V) → IsOrdered cmp m → Lists cmp (λ k. option_map f (get cmp m k)) (entries_as f m.entries)
 entries_list cmp f m h = record { ordered = subst (IsStrictlySortedBy cmp) (sym (keys_as f m.entries)) h; listed = λ k. lookup_as f (λ q. is_eq (cmp k q)) m.entries }
 
--- a vat's own line and those of its nouns
-pub home_written : (v : VatNo) (h : Home) (m : BTreeMap (List ℕ) Value) (before mid now : List ℕ) → mid ≡ before ++ vat_line v h.name → now ≡ mid ++ noun_lines (nouns_in m)
-    → Nouns (cells_of m) (nouns_in m) → cells_of m ≡ state_of h.state → HomeWritten v h before now
-home_written v h m before mid now e f n s =
-    (nouns_in m, subst (λ (t : State). Nouns t (nouns_in m)) s n, f ∙ ap (λ t. t ++ noun_lines (nouns_in m)) e ∙ append_assoc before (vat_line v h.name) (noun_lines (nouns_in m)))
-
--- one vat, and then others
-pub homes_more : (v : VatNo) (h : Home) (hs : List (VatNo × Content)) (before mid now : List ℕ) → HomeWritten v h before mid → HomesWritten hs mid now → HomesWritten ((v, home_of h) ∷ hs) before now
-homes_more v h hs before mid now (es, ns, e) (lines, l, f) = (
-  vat_line v h.name ++ (noun_lines es ++ lines),
-  home_lines_more ns l,
-  f ∙ ap (λ t. t ++ lines) e ∙ append_assoc before (vat_line v h.name ++ noun_lines es) lines ∙ ap (λ t. before ++ t) (append_assoc (vat_line v h.name) (noun_lines es) lines),
-)
-
-pub homes_none : (now : List ℕ) → HomesWritten [] now now
-homes_none now = ([], home_lines_none, sym (append-nil now))
-
 -- a listing of the same map
 pub lists_along : {K V : Type 0} (cmp : K → K → Ordering) (f g : K → Option V) (xs : List (K × V)) → ((k : K) → f k ≡ g k) → Lists cmp f xs → Lists cmp g xs
 lists_along cmp f g xs h l = record { ordered = l.ordered; listed = λ k. sym (h k) ∙ l.listed k }
+
+-- a vat's own line and those of its nouns and slots
+pub home_written : (v : VatNo) (h : Home) (m : BTreeMap (List ℕ) Binding) (n : BTreeMap SlotId Value) (before mid later now : List ℕ)
+    → mid ≡ before ++ vat_line v h.name → later ≡ mid ++ noun_lines (nouns_in m) → now ≡ later ++ slot_lines (slots_in n)
+    → Lists (slice_cmp nat_cmp) (tops_of m) (nouns_in m) → Lists slot_cmp (slots_of n) (slots_in n)
+    → ((x : List ℕ) → tops_of m x ≡ read (state_of h.state) (top x)) → ((i : SlotId) → slots_of n i ≡ read (state_of h.state) (slot_cell i))
+    → HomeWritten v h before now
+home_written v h m n before mid later now e f g lm ln sm sn = record {
+  nouns = nouns_in m;
+  slots = slots_in n;
+  nouns_listed = lists_along (slice_cmp nat_cmp) _ _ (nouns_in m) sm lm;
+  slots_listed = lists_along slot_cmp _ _ (slots_in n) sn ln;
+  whole = g ∙ ap (λ t. t ++ slot_lines (slots_in n)) (f ∙ ap (λ t. t ++ noun_lines (nouns_in m)) e)
+      ∙ append_assoc (before ++ vat_line v h.name) (noun_lines (nouns_in m)) (slot_lines (slots_in n))
+      ∙ append_assoc before (vat_line v h.name) (noun_lines (nouns_in m) ++ slot_lines (slots_in n));
+}
+
+-- one vat, and then others
+pub homes_more : (v : VatNo) (h : Home) (hs : List (VatNo × Content)) (before mid now : List ℕ) → HomeWritten v h before mid → HomesWritten hs mid now → HomesWritten ((v, home_of h) ∷ hs) before now
+homes_more v h hs before mid now w (lines, l, f) =
+    let own = vat_line v h.name in
+    let nouns = noun_lines w.nouns in
+    let slots = slot_lines w.slots in (
+      own ++ (nouns ++ (slots ++ lines)),
+      home_lines_more w.nouns_listed w.slots_listed l,
+      f ∙ ap (λ t. t ++ lines) w.whole ∙ append_assoc before (own ++ (nouns ++ slots)) lines
+      ∙ ap (λ t. before ++ t) (append_assoc own (nouns ++ slots) lines ∙ ap (λ t. own ++ t) (append_assoc nouns slots lines)),
+    )
+
+pub homes_none : (now : List ℕ) → HomesWritten [] now now
+homes_none now = ([], home_lines_none, sym (append-nil now))
 
 -- the parts of the text, one after another
 pub all_written : (w : World) (hs : List (VatNo × Content)) (gs : List (MsgId × Content)) (ps : List (PromId × Content)) (a b c d : List ℕ)

@@ -1,6 +1,7 @@
 pub mod Commands
 pub mod Ended
 pub mod Lines
+pub mod Listing
 pub mod Numbers
 pub mod ScriptView
 pub mod Scripts

@@ -5,16 +5,17 @@ use Rattle.std.specs.Cmp.Lexicographic.{slice_cmp}
 use Rattle.std.specs.declared.cmp.Ordering.{Ordering}
 use Rattle.std.specs.List.Sorted.{IsStrictlySortedBy}
 use Rattle.std.specs.Map.{lookup}
-use Rattle.ids.specs.Names.{event_text, message_text, promise_text}
-use Rattle.ids.specs.Cells.{vat_cmp, message_cmp, promise_cmp}
+use Rattle.ids.specs.Names.{event_text, message_text, promise_text, slot_text}
+use Rattle.ids.specs.Cells.{vat_cmp, message_cmp, promise_cmp, slot_cmp}
 use Rattle.ids.specs.declared.names.VatNo.{VatNo}
 use Rattle.ids.specs.declared.names.MsgId.{MsgId}
 use Rattle.ids.specs.declared.names.PromId.{PromId}
+use Rattle.ids.specs.declared.names.SlotId.{SlotId}
 use Rattle.ids.specs.declared.names.CellKey.TheVariants as key
 use Rattle.kernele.specs.Tree.{Name}
 use Rattle.values.specs.Shown.{shown}
 use Rattle.turn.specs.State as state
-use Rattle.turn.specs.State.{State, top, bound, fixed}
+use Rattle.turn.specs.State.{State, top, slot_cell, bound, fixed, slot, held}
 use Rattle.book.specs.World.{Place, at_vat, done, Content, home, message, published, World}
 use Rattle.book.specs.Events.{home_of}
 
@@ -26,30 +27,45 @@ pub record Lists {K V : Type 0} (cmp : K → K → Ordering) (at : K → Option 
 abbrev pub line_feed : List ℕ
 line_feed = 10 ∷ []
 
-abbrev pub bound_text : state.Content → List ℕ
-bound_text (bound (fixed v)) = shown v
+-- VALUE, or slot SLOT
+abbrev pub content_text : state.Content → List ℕ
+content_text (bound (fixed v)) = shown v
+content_text (bound (slot s)) = codes "slot " ++ slot_text s
+content_text (held v) = shown v
 
---  noun NAME = VALUE
+--  noun NAME = VALUE, or noun NAME = slot SLOT
 abbrev pub noun_line : Name × state.Content → List ℕ
-noun_line e = codes " noun " ++ (e.0 ++ (codes " = " ++ (bound_text e.1 ++ line_feed)))
+noun_line e = codes " noun " ++ (e.0 ++ (codes " = " ++ (content_text e.1 ++ line_feed)))
 
 abbrev pub noun_lines : List (Name × state.Content) → List ℕ
 noun_lines [] = []
 noun_lines (e ∷ es) = noun_line e ++ noun_lines es
 
+--  slot SLOT = VALUE
+abbrev pub slot_line : SlotId × state.Content → List ℕ
+slot_line e = codes " slot " ++ (slot_text e.0 ++ (codes " = " ++ (content_text e.1 ++ line_feed)))
+
+abbrev pub slot_lines : List (SlotId × state.Content) → List ℕ
+slot_lines [] = []
+slot_lines (e ∷ es) = slot_line e ++ slot_lines es
+
 -- the top nouns of a vat, in order of bytes
 abbrev pub Nouns : State → List (Name × state.Content) → Type 0
 Nouns s es = Lists (slice_cmp nat_cmp) (λ x. s (top x)) es
+
+-- the slots of a vat, in order of their names
+abbrev pub Slots : State → List (SlotId × state.Content) → Type 0
+Slots s es = Lists slot_cmp (λ i. s (slot_cell i)) es
 
 -- vat NAME EVENT
 abbrev pub vat_line : VatNo → Name → List ℕ
 vat_line v x = codes "vat " ++ (x ++ (codes " " ++ (event_text v.0 ++ line_feed)))
 
--- the lines of vats: each its own, then those of its nouns
+-- the lines of vats: each its own, then those of its nouns and of its slots
 pub data HomeLines : List (VatNo × Content) → List ℕ → Type 0 where
   home_lines_none : HomeLines [] []
-  home_lines_more : {v : VatNo} {x : Name} {s : State} {es : List (Name × state.Content)} {hs : List (VatNo × Content)} {lines : List ℕ}
-      → Nouns s es → HomeLines hs lines → HomeLines ((v, home x s) ∷ hs) (vat_line v x ++ (noun_lines es ++ lines))
+  home_lines_more : {v : VatNo} {x : Name} {s : State} {nouns : List (Name × state.Content)} {slots : List (SlotId × state.Content)} {hs : List (VatNo × Content)} {lines : List ℕ}
+      → Nouns s nouns → Slots s slots → HomeLines hs lines → HomeLines ((v, home x s) ∷ hs) (vat_line v x ++ (noun_lines nouns ++ (slot_lines slots ++ lines)))
 
 abbrev pub at_text : Option (Name × State) → List ℕ
 at_text None = []

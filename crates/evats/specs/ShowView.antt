@@ -4,13 +4,15 @@ use Rattle.std.specs.BTreeMap.{BTreeMap}
 use Rattle.kernele.specs.Tree.{Name}
 use Rattle.values.specs.View.{val_of}
 use Rattle.values.specs.declared.value.Value.{Value}
-use Rattle.turn.specs.View.{state_of}
-use Rattle.evats.specs.Show.{Nouns, noun_lines, vat_line, HomeLines}
+use Rattle.turn.specs.View.{bind_of, state_of}
+use Rattle.turn.specs.declared.heap.Binding.{Binding}
+use Rattle.evats.specs.Show.{Nouns, Slots, noun_lines, slot_lines, vat_line, HomeLines}
 use Rattle.turn.specs.State as state
-use Rattle.turn.specs.State.{bound, fixed}
+use Rattle.turn.specs.State.{bound, held}
 use Rattle.ids.specs.declared.names.VatNo.{VatNo}
 use Rattle.ids.specs.declared.names.MsgId.{MsgId}
 use Rattle.ids.specs.declared.names.PromId.{PromId}
+use Rattle.ids.specs.declared.names.SlotId.{SlotId}
 use Rattle.book.specs.World.{Content, message, published}
 use Rattle.book.specs.View.{home_of, message_of}
 use Rattle.book.specs.declared.world.Home.{Home}
@@ -20,8 +22,11 @@ use Rattle.book.specs.declared.world.Message.{Message}
 abbrev pub entries_as : {K V W : Type 0} → (V → W) → List (K × V) → List (K × W)
 entries_as f es = map (λ e. (e.0, f e.1)) es
 
-abbrev pub noun_entries : List (Name × Value) → List (Name × state.Content)
-noun_entries es = entries_as (λ v. bound (fixed (val_of v))) es
+abbrev pub noun_entries : List (Name × Binding) → List (Name × state.Content)
+noun_entries es = entries_as (λ b. bound (bind_of b)) es
+
+abbrev pub slot_entries : List (SlotId × Value) → List (SlotId × state.Content)
+slot_entries es = entries_as (λ v. held (val_of v)) es
 
 abbrev pub home_entries : List (VatNo × Home) → List (VatNo × Content)
 home_entries es = entries_as home_of es
@@ -32,8 +37,11 @@ message_entries es = entries_as (λ g. message (message_of g)) es
 abbrev pub board_entries : List (PromId × Value) → List (PromId × Content)
 board_entries es = entries_as (λ v. published (val_of v)) es
 
-abbrev pub nouns_in : BTreeMap Name Value → List (Name × state.Content)
+abbrev pub nouns_in : BTreeMap Name Binding → List (Name × state.Content)
 nouns_in m = noun_entries m.entries
+
+abbrev pub slots_in : BTreeMap SlotId Value → List (SlotId × state.Content)
+slots_in m = slot_entries m.entries
 
 abbrev pub homes_in : BTreeMap VatNo Home → List (VatNo × Content)
 homes_in m = home_entries m.entries
@@ -44,9 +52,13 @@ messages_in m = message_entries m.entries
 abbrev pub board_in : BTreeMap PromId Value → List (PromId × Content)
 board_in m = board_entries m.entries
 
--- behind the text before stands now the line of this vat, and those of its nouns
-abbrev pub HomeWritten : VatNo → Home → List ℕ → List ℕ → Type 0
-HomeWritten v h before now = (es : List (Name × state.Content)) × Nouns (state_of h.state) es × (now ≡ before ++ (vat_line v h.name ++ noun_lines es))
+-- behind the text before stands now the line of this vat, and those of its nouns and slots
+pub record HomeWritten (v : VatNo) (h : Home) (before now : List ℕ) : Type 0 where
+  pub nouns : List (Name × state.Content)
+  pub slots : List (SlotId × state.Content)
+  pub nouns_listed : Nouns (state_of h.state) nouns
+  pub slots_listed : Slots (state_of h.state) slots
+  pub whole : now ≡ before ++ (vat_line v h.name ++ (noun_lines nouns ++ slot_lines slots))
 
 -- behind the text before stand now the lines of these vats
 abbrev pub HomesWritten : List (VatNo × Content) → List ℕ → List ℕ → Type 0

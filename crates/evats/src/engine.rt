@@ -18,7 +18,7 @@ use crate::script::{take_script, text_of};
 use book::book::{Book, Turned};
 use book::fault::BookFault;
 use ereader::read;
-use ids::names::MsgId;
+use ids::names::{EventName, MsgId};
 use ids::text::Text;
 use kernele::tree::Program;
 use std::alloc::{AllocError, Global};
@@ -121,6 +121,49 @@ impl Engine {
         self.written.world(self.book.world())
     }
 
+    fn journal(&mut self) -> Result<(), AllocError>
+        ensures { OnOk result (Happens self.old self.new (λ b r s d. Answers self.old.budget b commands.journal r s d)) }
+    {
+        self.written.journal(self.book.journal())
+    }
+
+    fn cone(&mut self, event: EventName) -> Result<(), AllocError>
+        ensures { OnOk result (Happens self.old self.new (λ b r s d. Answers self.old.budget b (commands.cone event) r s d)) }
+    {
+        match self.book.cone(event) {
+            Ok(events) => self.written.cone(&events),
+            Err(fault) => self.written.refuse_call(&fault),
+        }
+    }
+
+    fn undo(&mut self, events: &[EventName]) -> Result<(), AllocError>
+        ensures { OnOk result (Happens self.old self.new (λ b r s d. Answers self.old.budget b (commands.undo events.now) r s d)) }
+    {
+        match self.book.undo(events) {
+            Ok(count) => self.written.undone(count),
+            Err(fault) => self.written.refuse_call(&fault),
+        }
+    }
+
+    /// Undoes an event with its cone.
+    fn undo_cone(&mut self, event: EventName) -> Result<(), AllocError>
+        ensures { OnOk result (Happens self.old self.new (λ b r s d. Answers self.old.budget b (commands.undo_cone event) r s d)) }
+    {
+        match self.book.cone(event) {
+            Ok(events) => self.undo(&events),
+            Err(fault) => self.written.refuse_call(&fault),
+        }
+    }
+
+    fn redo(&mut self, events: &[EventName]) -> Result<(), AllocError>
+        ensures { OnOk result (Happens self.old self.new (λ b r s d. Answers self.old.budget b (commands.redo events.now) r s d)) }
+    {
+        match self.book.redo(events) {
+            Ok(count) => self.written.redone(count),
+            Err(fault) => self.written.refuse_call(&fault),
+        }
+    }
+
     fn birth_program(&mut self, name: &str, script: Program) -> Result<(), AllocError>
         ensures { (text : List ℕ) → ReadAs text (Ok (program_of script)) → OnOk result (Happens self.old self.new (λ b r s d. AnswersBirth b name.now (Ok text) r s d)) }
     {
@@ -175,8 +218,24 @@ impl Engine {
                 self.show()?;
                 Ok(input)
             }
-            _ => {
-                self.written.refuse_line(LineFault::UnknownCommand)?;
+            Command::Journal => {
+                self.journal()?;
+                Ok(input)
+            }
+            Command::Cone(event) => {
+                self.cone(event)?;
+                Ok(input)
+            }
+            Command::Undo(events) => {
+                self.undo(&events)?;
+                Ok(input)
+            }
+            Command::UndoCone(event) => {
+                self.undo_cone(event)?;
+                Ok(input)
+            }
+            Command::Redo(events) => {
+                self.redo(&events)?;
                 Ok(input)
             }
         }

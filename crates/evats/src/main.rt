@@ -5,6 +5,7 @@ mod command;
 mod ended;
 mod engine;
 mod lines;
+mod listing;
 mod numbers;
 mod options;
 mod reply;

@@ -5,12 +5,16 @@ ghost use Rattle.book.specs.Fault as book_fault;
 ghost use Rattle.book.specs.View.{world_of};
 ghost use Rattle.turn.specs.View.{ended_of};
 ghost use Rattle.evats.specs.Commands.{fault_text};
-ghost use Rattle.evats.specs.Replies.{refused, queued_text, turned_text, end_text};
+ghost use Rattle.evats.specs.Replies.{refused, queued_text, turned_text, end_text, undone_text, redone_text};
+ghost use Rattle.evats.specs.Listing.{journal_text, cone_text};
+ghost use Rattle.book.specs.EventView.{lines_of};
 ghost use Rattle.evats.specs.Show.{Shows};
 
 use crate::command::LineFault;
+use crate::listing::{write_cone, write_journal};
 use crate::show::write_world;
 use book::fault::BookFault;
+use book::journal::Entry;
 use book::world::World;
 use ereader::fault::ReadFault;
 use ids::names::{EventName, MsgId};
@@ -82,6 +86,36 @@ impl Written {
         ensures { OnOk result (AddsText self.old self.new (Shows (world_of world.now))) }
     {
         write_world(world, &mut self.text)
+    }
+
+    /// The journal is listed.
+    pub fn journal(&mut self, entries: &[Entry]) -> Result<(), AllocError>
+        ensures { OnOk result (Adds self.old self.new (journal_text (lines_of entries.now)) false) }
+    {
+        write_journal(entries, &mut self.text)
+    }
+
+    /// The events of a cone are named.
+    pub fn cone(&mut self, events: &[EventName]) -> Result<(), AllocError>
+        ensures { OnOk result (Adds self.old self.new (cone_text events.now) false) }
+    {
+        write_cone(events, &mut self.text)
+    }
+
+    /// So many entries were undone.
+    pub fn undone(&mut self, count: usize) -> Result<(), AllocError>
+        ensures { OnOk result (Adds self.old self.new (undone_text count) false) }
+    {
+        let out = &mut self.text;
+        write!(out, "ok undone {count}\n")
+    }
+
+    /// So many entries are live again.
+    pub fn redone(&mut self, count: usize) -> Result<(), AllocError>
+        ensures { OnOk result (Adds self.old self.new (redone_text count) false) }
+    {
+        let out = &mut self.text;
+        write!(out, "ok redone {count}\n")
     }
 
     pub fn refuse_line(&mut self, fault: LineFault) -> Result<(), AllocError>

@@ -1,40 +1,72 @@
 // The world as a text.
 ghost use Rattle.std.specs.Prelude.{◌≡◌, ◌++◌, OnOk, string_bytes, List, ℕ, codes, [], ◌∷◌};
 ghost use Rattle.values.specs.Shown.{shown};
-ghost use Rattle.ids.specs.Cells.{vat_cmp, message_cmp, promise_cmp};
+ghost use Rattle.ids.specs.Cells.{vat_cmp, message_cmp, promise_cmp, slot_cmp};
 ghost use Rattle.ids.specs.declared.names.CellKey.TheVariants as key;
-ghost use Rattle.turn.specs.View.{cells_of, state_of};
+ghost use Rattle.turn.specs.View.{bind_of, tops_of, slots_of};
+ghost use Rattle.turn.specs.State.{bound, held};
+ghost use Rattle.std.specs.Ordering.{nat_cmp};
+ghost use Rattle.std.specs.Cmp.Lexicographic.{slice_cmp};
 ghost use Rattle.values.specs.View.{val_of};
 ghost use Rattle.std.specs.Option.{option_map};
 ghost use Rattle.std.specs.BTreeMap.{get};
 ghost use Rattle.book.specs.World.{message as message_content, published};
 ghost use Rattle.book.specs.View.{world_of, place_of, message_of, home_of};
-ghost use Rattle.evats.specs.Show.{Nouns, noun_line, noun_lines, vat_line, HomeLines, place_text, message_line, message_lines, board_line, board_lines, Lists, Shows};
-ghost use Rattle.evats.specs.ShowView.{nouns_in, homes_in, messages_in, board_in, HomeWritten, HomesWritten};
+ghost use Rattle.evats.specs.Show.{content_text, noun_line, noun_lines, slot_line, slot_lines, vat_line, place_text, message_line, message_lines, board_line, board_lines, Lists, Shows};
+ghost use Rattle.evats.specs.ShowView.{nouns_in, slots_in, homes_in, messages_in, board_in, HomeWritten, HomesWritten};
 
 use book::world::{Home, Message, Place, World};
-use ids::names::{MsgId, PromId, VatNo};
+use ids::names::{MsgId, PromId, SlotId, VatNo};
 use ids::text::Text;
 use std::alloc::AllocError;
 use std::collections::BTreeMap;
+use turn::heap::Binding;
 use values::showing::write_value;
 use values::value::Value;
 
-fn write_noun(name: &Text, value: &Value, out: &mut String) -> Result<(), AllocError>
-    ensures { OnOk result (string_bytes out.new ≡ string_bytes out.old ++ (codes " noun " ++ (name.now ++ (codes " = " ++ (shown (val_of value.now) ++ (10 ∷ [])))))) }
+fn write_binding(binding: &Binding, out: &mut String) -> Result<(), AllocError>
+    ensures { OnOk result (string_bytes out.new ≡ string_bytes out.old ++ content_text (bound (bind_of binding.now))) }
+{
+    match binding {
+        Binding::Fixed(value) => write_value(value, out),
+        Binding::Slot(slot) => write!(out, "slot {slot}"),
+    }
+}
+
+fn write_noun(name: &Text, binding: &Binding, out: &mut String) -> Result<(), AllocError>
+    ensures { OnOk result (string_bytes out.new ≡ string_bytes out.old ++ noun_line (name.now, bound (bind_of binding.now))) }
 {
     write!(out, " noun {name} = ")?;
-    write_value(value, out)?;
+    write_binding(binding, out)?;
     out.push_str("\n")
 }
 
 /// Writes top nouns in order of bytes.
-fn write_nouns(nouns: &BTreeMap<Text, Value>, out: &mut String) -> Result<(), AllocError>
+fn write_nouns(nouns: &BTreeMap<Text, Binding>, out: &mut String) -> Result<(), AllocError>
     ensures written { OnOk result (string_bytes out.new ≡ string_bytes out.old ++ noun_lines (nouns_in nouns.now)) }
-    ensures listed { OnOk result (Nouns (cells_of nouns.now) (nouns_in nouns.now)) }
+    ensures listed { OnOk result (Lists (slice_cmp nat_cmp) (tops_of nouns.now) (nouns_in nouns.now)) }
 {
-    for (name, value) in nouns.iter() {
-        write_noun(name, value, out)?;
+    for (name, binding) in nouns.iter() {
+        write_noun(name, binding, out)?;
+    }
+    Ok(())
+}
+
+fn write_slot(slot: SlotId, value: &Value, out: &mut String) -> Result<(), AllocError>
+    ensures { OnOk result (string_bytes out.new ≡ string_bytes out.old ++ slot_line (slot, held (val_of value.now))) }
+{
+    write!(out, " slot {slot} = ")?;
+    write_value(value, out)?;
+    out.push_str("\n")
+}
+
+/// Writes slots in order of their names.
+fn write_slots(slots: &BTreeMap<SlotId, Value>, out: &mut String) -> Result<(), AllocError>
+    ensures written { OnOk result (string_bytes out.new ≡ string_bytes out.old ++ slot_lines (slots_in slots.now)) }
+    ensures listed { OnOk result (Lists slot_cmp (slots_of slots.now) (slots_in slots.now)) }
+{
+    for (slot, value) in slots.iter() {
+        write_slot(*slot, value, out)?;
     }
     Ok(())
 }
@@ -46,16 +78,17 @@ fn write_vat(number: VatNo, name: &Text, out: &mut String) -> Result<(), AllocEr
     write!(out, "vat {name} {event}\n")
 }
 
-/// Writes a vat and its top nouns.
+/// Writes a vat, its top nouns and its slots.
 fn write_home(number: VatNo, home: &Home, out: &mut String) -> Result<(), AllocError>
     ensures { OnOk result (HomeWritten number home.now (string_bytes out.old) (string_bytes out.new)) }
 {
     write_vat(number, &home.name, out)?;
     write_nouns(home.state.nouns(), out)?;
+    write_slots(home.state.slots(), out)?;
     Ok(())
 }
 
-/// Writes the vats in order of birth, each with its top nouns.
+/// Writes the vats in order of birth, each with its top nouns and slots.
 fn write_homes(homes: &BTreeMap<VatNo, Home>, out: &mut String) -> Result<(), AllocError>
     ensures written { OnOk result (HomesWritten (homes_in homes.now) (string_bytes out.old) (string_bytes out.new)) }
     ensures listed { OnOk result (Lists vat_cmp (λ v. option_map home_of (get vat_cmp homes.now v)) (homes_in homes.now)) }

@@ -141,6 +141,49 @@ fn the_world_is_shown(rt: HostRuntime) {
     expect(&rt, 10_000, commands, wanted, false);
 }
 
+#[test]
+fn the_journal_is_listed(rt: HostRuntime) {
+    let commands = b"journal\nvat a () 0\nturn e1.m0\nask a 2 + 3\nturn e3.m0\njournal";
+    let wanted =
+        "ok e1 e1.m0\nok e2 value null\nok e3 e3.m0\nok e4 value 5\n1 e1 live birth a causes\n2 e2 live turn e1.m0 causes e1\n3 e3 live ask a causes e1\n4 e4 live turn e3.m0 causes e1 e2 e3\n";
+    expect(&rt, 10_000, commands, wanted, false);
+}
+
+#[test]
+fn the_last_undo_alone_is_redone(rt: HostRuntime) {
+    let commands =
+        b"vat a () 1\nvar n := 0\nturn e1.m0\nask a n := 1\nask a n\nturn e3.m0\nundo e5\nturn e4.m0\nundo e2\nredo e5\nundo e6\nredo e6\njournal";
+    let wanted =
+        "ok e1 e1.m0\nok e2 value 0\nok e3 e3.m0\nok e4 e4.m0\nok e5 value 1\nok undone 1\nok e6 value 0\nno B15 NotClosed e2 e6\nno B21 NotNext\nok undone 1\nok redone 1\n1 e1 live birth a causes\n2 e2 live turn e1.m0 causes e1\n3 e3 live ask a causes e1\n4 e4 live ask a causes e1\n5 e5 undone turn e3.m0 causes e1 e2 e3\n6 e6 live turn e4.m0 causes e1 e2 e4\n";
+    expect(&rt, 10_000, commands, wanted, true);
+}
+
+#[test]
+fn cones_are_named_and_undone(rt: HostRuntime) {
+    let commands =
+        b"vat a () 2\nvar m := 0\nvar n := 0\nturn e1.m0\nask a m := 1\nask a n := 2\nturn e3.m0\nturn e4.m0\ncone e05\nundo-cone e5\ncone e5\nundo e6\nredo e6 e5 e6\nredo e5\nundo-cone e1\nshow\nundo e9";
+    let wanted =
+        "ok e1 e1.m0\nok e2 value 0\nok e3 e3.m0\nok e4 e4.m0\nok e5 value 1\nok e6 value 2\ncone e5 e6\nok undone 2\nno B13 NotLive e5\nno B13 NotLive e6\nok redone 2\nno B14 IsLive e5\nok undone 6\nno B12 NoEvent e9\n";
+    expect(&rt, 10_000, commands, wanted, true);
+}
+
+#[test]
+fn words_that_name_no_events(rt: HostRuntime) {
+    let commands =
+        b"journal all\ncone\ncone e1 e2\ncone 1\nundo\nundo e1 m2\nundo e4294967296\nundo-cone e1 e2\nredo\nredo e\nundo e4294967295  e9 ";
+    let wanted =
+        "no S2 BadWord\nno S2 BadWord\nno S2 BadWord\nno S2 BadWord\nno S2 BadWord\nno S2 BadWord\nno S2 BadWord\nno S2 BadWord\nno S2 BadWord\nno S2 BadWord\nno B12 NoEvent e9\n";
+    expect(&rt, 10_000, commands, wanted, true);
+}
+
+#[test]
+fn slots_are_shown(rt: HostRuntime) {
+    let commands = b"vat a () 3\nvar n := 5\ndef k := 1\nvar b := [n]\nturn e1.m0\nshow";
+    let wanted =
+        "ok e1 e1.m0\nok e2 value [5]\nvat a e1\n noun b = slot e2.s1\n noun k = 1\n noun n = slot e2.s0\n slot e2.s0 = 5\n slot e2.s1 = [5]\nmsg e1.m0 done e2\nboard e1.p0 = [5]\n";
+    expect(&rt, 10_000, commands, wanted, false);
+}
+
 /// A text of so many copies.
 fn copies(rt: &(impl Abort + AllocGlobal), text: &str, count: usize) -> Result<String, Fail> {
     let mut out = String::new(rt.alloc());

@@ -1,5 +1,5 @@
-use Rattle.std.proofs.Common.{ap}
-use Rattle.evats.specs.Commands.{command_of}
+use Rattle.std.proofs.Common.{ap, sym, ◌∙◌}
+use Rattle.evats.specs.Commands.{command_of, undo, redo}
 use Rattle.evats.proofs.Answered.{happens_as, born_at, answered_at}
 use Rattle.evats.proofs.engine.Engine.answer.Goals as goal
 
@@ -14,3 +14,18 @@ returns-in_ok-turn-in-Turn-clause-reply c = happens_as (λ b r s d k. answered_a
 
 pub returns-in_ok-show-in-Show-clause-reply : goal.returns-in_ok-show-in-Show-clause-reply
 returns-in_ok-show-in-Show-clause-reply c = happens_as (λ b r s d k. answered_at _ b d _ _ c.args.input.now r s (ap command_of c.in-Show.is) k) c.in_ok-show-in-Show.ensures
+
+pub returns-in_ok-journal-in-Journal-clause-reply : goal.returns-in_ok-journal-in-Journal-clause-reply
+returns-in_ok-journal-in-Journal-clause-reply c = happens_as (λ b r s d k. answered_at _ b d _ _ c.args.input.now r s (ap command_of c.in-Journal.is) k) c.in_ok-journal-in-Journal.ensures
+
+pub returns-in_ok-cone-in-Cone-clause-reply : goal.returns-in_ok-cone-in-Cone-clause-reply
+returns-in_ok-cone-in-Cone-clause-reply c = happens_as (λ b r s d k. answered_at _ b d _ _ c.args.input.now r s (ap command_of c.in-Cone.is) k) c.in_ok-cone-in-Cone.ensures
+
+pub returns-in_ok-undo_cone-in-UndoCone-clause-reply : goal.returns-in_ok-undo_cone-in-UndoCone-clause-reply
+returns-in_ok-undo_cone-in-UndoCone-clause-reply c = happens_as (λ b r s d k. answered_at _ b d _ _ c.args.input.now r s (ap command_of c.in-UndoCone.is) k) c.in_ok-undo_cone-in-UndoCone.ensures
+
+pub returns-in_ok-undo-in-Undo-clause-reply : goal.returns-in_ok-undo-in-Undo-clause-reply
+returns-in_ok-undo-in-Undo-clause-reply c = happens_as (λ b r s d k. answered_at _ b d _ _ c.args.input.now r s (ap command_of c.in-Undo.is ∙ ap undo (sym c.deref.ensures.value)) k) c.in_ok-undo-in-Undo.ensures
+
+pub returns-in_ok-redo-in-Redo-clause-reply : goal.returns-in_ok-redo-in-Redo-clause-reply
+returns-in_ok-redo-in-Redo-clause-reply c = happens_as (λ b r s d k. answered_at _ b d _ _ c.args.input.now r s (ap command_of c.in-Redo.is ∙ ap redo (sym c.deref-in-Redo.ensures.value)) k) c.in_ok-redo-in-Redo.ensures
