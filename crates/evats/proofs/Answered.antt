@@ -42,6 +42,7 @@ on_ok (Err e) f p = tt
 
 check_told : (f : CheckFault) (o : Option Refusal) (T : List ℕ → Type 0) → check_tells f o → ((r : Refusal) → o ≡ Some r → T (refusal_text r)) → T (codes "B20 Memory") → T (check.fault_text f)
 check_told (check_fault.Unbound x) o T h g m = g (unchecked (scope.unbound x)) h
+check_told (check_fault.AssignToDef x) o T h g m = g (unchecked (scope.assign_to_def x)) h
 check_told (check_fault.DuplicateName x) o T h g m = g (unchecked (scope.duplicate_name x)) h
 check_told check_fault.TooDeep o T h g m = g (unchecked scope.too_deep) h
 check_told check_fault.TooLong o T h g m = g (unchecked scope.too_long) h

@@ -1,5 +1,5 @@
 -- Cutting off one word after another gives all words of a text.
-use Rattle.std.proofs.Common.{◌≡◌, ℕ, suc, ◌+◌, ◌-◌, ◌<◌, ◌≤◌, List, [], ◌∷◌, ◌++◌, append_assoc, append-nil, length, take, drop, filter, Bool, true, false, not, cond, Option, Some, None, refl, sym, ap, ◌∙◌, arith, length-drop, ◌==◌}
+use Rattle.std.proofs.Common.{◌≡◌, ℕ, suc, ◌+◌, ◌-◌, ◌<◌, ◌≤◌, List, [], ◌∷◌, ◌++◌, append_assoc, append-nil, length, take, drop, filter, Bool, true, false, not, cond, Option, Some, None, refl, sym, ap, subst, ◌∙◌, arith, length-drop, ◌==◌}
 use Rattle.std.specs.Option.{option_map, option_and_then}
 use Rattle.std.specs.List.{position_or_len, slice_split, onto_first}
 use Rattle.ids.specs.declared.names.EventName.{EventName}
@@ -89,9 +89,6 @@ not_true : (b : Bool) → not b ≡ true → b ≡ false
 not_true true h = cc
 not_true false h = refl
 
-no_length : (n : ℕ) → not (suc n == 0) ≡ true
-no_length n = refl
-
 -- a text that begins with no blank begins with a word
 pub words_cut : (text : List ℕ) → begins text ≡ true → (length text == 0) ≡ false → words_in text ≡ first_word text ∷ words_in (behind_word text)
 words_cut [] h k = cc
@@ -116,9 +113,61 @@ pub no_words : (text : List ℕ) → (length text == 0) ≡ true → words_in te
 no_words [] h = refl
 no_words (b ∷ bs) h = cc
 
-named_none : (so_far : List EventName) → option_map (λ es. so_far ++ es) (events_named []) ≡ Some so_far
-named_none so_far = ap Some (append-nil so_far)
+named_from : (o : Option (List EventName)) → o ≡ option_map (λ es. [] ++ es) o
+named_from None = refl
+named_from (Some es) = refl
 
-more : (so_far : List EventName) (e : EventName) (o : Option (List EventName)) → option_map (λ es. so_far ++ es) (option_map (λ es. e ∷ es) o) ≡ option_map (λ es. (so_far ++ e ∷ []) ++ es) o
-more so_far e (Some es) = ap Some (sym (append_assoc so_far (e ∷ []) es))
-more so_far e None = refl
+-- before the first word no event is named
+pub named_first : (words rest : List ℕ) (events : List EventName) → events ≡ [] → rest ≡ without_blanks words
+    → events_named (words_in words) ≡ option_map (λ es. events ++ es) (events_named (words_in rest))
+named_first words rest events e f =
+    ap events_named (sym (words_behind_blanks words) ∙ sym (ap words_in f)) ∙ named_from (events_named (words_in rest))
+    ∙ sym (ap (λ (so_far : List EventName). option_map (λ es. so_far ++ es) (events_named (words_in rest))) e)
+
+more_named : (so_far : List EventName) (e : EventName) (o : Option (List EventName))
+    → option_map (λ es. so_far ++ es) (option_map (λ es. e ∷ es) o) ≡ option_map (λ es. (so_far ++ e ∷ []) ++ es) o
+more_named so_far e (Some es) = ap Some (sym (append_assoc so_far (e ∷ []) es))
+more_named so_far e None = refl
+
+-- one more word names an event
+pub named_more : (words rest word behind : List ℕ) (events later : List EventName) (e : EventName) → begins rest ≡ true → (length rest == 0) ≡ false
+    → word ≡ first_word rest → behind ≡ behind_word rest → Some e ≡ event_named word → later ≡ events ++ e ∷ []
+    → events_named (words_in words) ≡ option_map (λ es. events ++ es) (events_named (words_in rest))
+    → events_named (words_in words) ≡ option_map (λ es. later ++ es) (events_named (words_in behind))
+named_more words rest word behind events later e b l w r n g h =
+    let cut = words_cut rest b l ∙ ap (λ x. x ∷ words_in (behind_word rest)) (sym w) ∙ ap (λ x. word ∷ words_in x) (sym r) in
+    h ∙ ap (λ ws. option_map (λ es. events ++ es) (events_named ws)) cut
+    ∙ ap (λ o. option_map (λ es. events ++ es) (option_and_then (λ d. option_map (λ es. d ∷ es) (events_named (words_in behind))) o)) (sym n)
+    ∙ more_named events e (events_named (words_in behind))
+    ∙ sym (ap (λ (so_far : List EventName). option_map (λ es. so_far ++ es) (events_named (words_in behind))) g)
+
+none_of_more : (ws : List (List ℕ)) → events_named ws ≡ None → None ≡ one_or_more ws
+none_of_more [] h = refl
+none_of_more (w ∷ ws) h = sym h
+
+-- a word names none
+pub named_not : (words rest word : List ℕ) (events : List EventName) → begins rest ≡ true → (length rest == 0) ≡ false → word ≡ first_word rest → None ≡ event_named word
+    → events_named (words_in words) ≡ option_map (λ es. events ++ es) (events_named (words_in rest)) → None ≡ one_or_more (words_in words)
+named_not words rest word events b l w n h =
+    none_of_more (words_in words)
+    (h ∙ ap (λ ws. option_map (λ es. events ++ es) (events_named ws)) (words_cut rest b l ∙ ap (λ x. x ∷ words_in (behind_word rest)) (sym w))
+    ∙ ap (λ o. option_map (λ es. events ++ es) (option_and_then (λ d. option_map (λ es. d ∷ es) (events_named (words_in (behind_word rest)))) o)) (sym n))
+
+same_some : {A : Type 0} {x y : A} → Some x ≡ Some y → x ≡ y
+same_some h = cc
+
+some_by : (o : Option EventName) (p : Option (List EventName)) (events : List EventName) → option_and_then (λ e. option_map (λ es. e ∷ es) p) o ≡ Some events
+    → cond (not (length events == 0)) (Some events) None ≡ Some events
+some_by None p events h = cc
+some_by (Some e) None events h = cc
+some_by (Some e) (Some es) events h = subst (λ (xs : List EventName). cond (not (length xs == 0)) (Some xs) None ≡ Some xs) (same_some h) refl
+
+all_named : (ws : List (List ℕ)) (events : List EventName) → events_named ws ≡ Some events → cond (not (length events == 0)) (Some events) None ≡ one_or_more ws
+all_named [] events h = subst (λ (xs : List EventName). cond (not (length xs == 0)) (Some xs) None ≡ None) (same_some h) refl
+all_named (w ∷ ws) events h = some_by (event_named w) (events_named ws) events h ∙ sym h
+
+-- behind the last word all events are named
+pub named_all : (words rest : List ℕ) (events : List EventName) → (length rest == 0) ≡ true
+    → events_named (words_in words) ≡ option_map (λ es. events ++ es) (events_named (words_in rest)) → cond (not (length events == 0)) (Some events) None ≡ one_or_more (words_in words)
+named_all words rest events l h =
+    all_named (words_in words) events (h ∙ ap (λ ws. option_map (λ es. events ++ es) (events_named ws)) (no_words rest l) ∙ ap Some (append-nil events))

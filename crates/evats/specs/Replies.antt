@@ -33,6 +33,7 @@ refused words = codes "no " ++ (words ++ 10 ∷ [])
 
 abbrev pub check_text : scope.Refusal → List ℕ
 check_text (scope.unbound x) = codes "K1 Unbound " ++ x
+check_text (scope.assign_to_def x) = codes "K2 AssignToDef " ++ x
 check_text (scope.duplicate_name x) = codes "K3 DuplicateName " ++ x
 check_text scope.too_deep = codes "K4 TooDeep"
 check_text scope.too_long = codes "K5 TooLong"
