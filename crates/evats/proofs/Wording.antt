@@ -89,12 +89,15 @@ not_true : (b : Bool) → not b ≡ true → b ≡ false
 not_true true h = cc
 not_true false h = refl
 
+is_word_more : (b : ℕ) (bs : List ℕ) → is_word (b ∷ bs) ≡ true
+is_word_more b bs = grind arith
+
 -- a text that begins with no blank begins with a word
 pub words_cut : (text : List ℕ) → begins text ≡ true → (length text == 0) ≡ false → words_in text ≡ first_word text ∷ words_in (behind_word text)
 words_cut [] h k = cc
 words_cut (b ∷ bs) h k =
     let other = not_true (is_blank b) h in
-    let word : is_word (first_word (b ∷ bs)) ≡ true = ap is_word (first_other b bs other) in
+    let word : is_word (first_word (b ∷ bs)) ≡ true = ap is_word (first_other b bs other) ∙ is_word_more b (first_word bs) in
     ap (filter is_word) (parts (b ∷ bs))
     ∙ ap (λ t. cond t (first_word (b ∷ bs) ∷ filter is_word (parts_behind (behind (b ∷ bs)))) (filter is_word (parts_behind (behind (b ∷ bs))))) word
     ∙ ap (λ ws. first_word (b ∷ bs) ∷ ws) (words_behind (b ∷ bs) ∙ sym (words_behind_blanks (behind (b ∷ bs))))
@@ -111,7 +114,7 @@ shorter_behind (b ∷ bs) h k =
 
 pub no_words : (text : List ℕ) → (length text == 0) ≡ true → words_in text ≡ []
 no_words [] h = refl
-no_words (b ∷ bs) h = cc
+no_words (b ∷ bs) h = absurd (grind (arith, h))
 
 named_from : (o : Option (List EventName)) → o ≡ option_map (λ es. [] ++ es) o
 named_from None = refl
@@ -156,11 +159,14 @@ named_not words rest word events b l w n h =
 same_some : {A : Type 0} {x y : A} → Some x ≡ Some y → x ≡ y
 same_some h = cc
 
+some_more : (e : EventName) (es : List EventName) → (length (e ∷ es) == 0) ≡ false
+some_more e es = grind arith
+
 some_by : (o : Option EventName) (p : Option (List EventName)) (events : List EventName) → option_and_then (λ e. option_map (λ es. e ∷ es) p) o ≡ Some events
     → cond (not (length events == 0)) (Some events) None ≡ Some events
 some_by None p events h = cc
 some_by (Some e) None events h = cc
-some_by (Some e) (Some es) events h = subst (λ (xs : List EventName). cond (not (length xs == 0)) (Some xs) None ≡ Some xs) (same_some h) refl
+some_by (Some e) (Some es) events h = subst (λ (xs : List EventName). cond (not (length xs == 0)) (Some xs) None ≡ Some xs) (same_some h) (ap (λ b. cond (not b) (Some (e ∷ es)) None) (some_more e es))
 
 all_named : (ws : List (List ℕ)) (events : List EventName) → events_named ws ≡ Some events → cond (not (length events == 0)) (Some events) None ≡ one_or_more ws
 all_named [] events h = subst (λ (xs : List EventName). cond (not (length xs == 0)) (Some xs) None ≡ None) (same_some h) refl

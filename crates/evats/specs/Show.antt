@@ -17,7 +17,6 @@ use Rattle.values.specs.Shown.{shown}
 use Rattle.turn.specs.State as state
 use Rattle.turn.specs.State.{State, top, slot_cell, bound, fixed, slot, held}
 use Rattle.book.specs.World.{Place, at_vat, done, Content, home, message, published, World}
-use Rattle.book.specs.Events.{home_of}
 
 -- xs has the contents of a finite map with their keys, in the order of the keys
 pub record Lists {K V : Type 0} (cmp : K → K → Ordering) (at : K → Option V) (xs : List (K × V)) : Type 0 where
@@ -67,12 +66,12 @@ pub data HomeLines : List (VatNo × Content) → List ℕ → Type 0 where
   home_lines_more : {v : VatNo} {x : Name} {s : State} {nouns : List (Name × state.Content)} {slots : List (SlotId × state.Content)} {hs : List (VatNo × Content)} {lines : List ℕ}
       → Nouns s nouns → Slots s slots → HomeLines hs lines → HomeLines ((v, home x s) ∷ hs) (vat_line v x ++ (noun_lines nouns ++ (slot_lines slots ++ lines)))
 
-abbrev pub at_text : Option (Name × State) → List ℕ
-at_text None = []
-at_text (Some h) = codes " at " ++ h.0
+abbrev pub at_text : Option Content → List ℕ
+at_text (Some (home x s)) = codes " at " ++ x
+at_text _ = []
 
 abbrev pub place_text : World → Place → List ℕ
-place_text w (at_vat v) = at_text (home_of w v)
+place_text w (at_vat v) = at_text (w (key.State v))
 place_text w (done e) = codes " done " ++ event_text e
 
 -- msg MSG at NAME, or msg MSG done EVENT

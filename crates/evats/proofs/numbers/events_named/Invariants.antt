@@ -1,3 +1,5 @@
+use denote.Shadow.{shadow}
+use denote.Text.{Utf8}
 use Rattle.std.proofs.Common.{◌≡◌, ◌++◌, length, true}
 use Rattle.std.specs.Option.{option_map}
 use Rattle.evats.specs.Words.{words_in}
@@ -10,6 +12,7 @@ abbrev pub invariant-words : goal.invariant-words
 invariant-words l = record {
   named : events_named (words_in l.fn.words) ≡ option_map (λ es. l.events.items ++ es) (events_named (words_in l.rest));
   begins : begins l.rest ≡ true;
+  text : shadow (Utf8 l.rest);
 }
 
 abbrev pub decreases-words : goal.decreases-words
