@@ -16,13 +16,13 @@ use Rattle.ids.specs.Cells.{slot_cmp}
 use Rattle.std.specs.Ordering.{nat_cmp}
 use Rattle.std.specs.Cmp.Lexicographic.{slice_cmp}
 use Rattle.values.specs.declared.value.Value.{Value}
-use Rattle.turn.specs.State.{State, read, top, slot_cell}
+use Rattle.turn.specs.State.{read, top, slot_cell}
 use Rattle.turn.specs.View.{tops_of, slots_of, state_of}
 use Rattle.turn.specs.declared.heap.Binding.{Binding}
 use Rattle.book.specs.World.{Content, World}
 use Rattle.book.specs.View.{home_of}
 use Rattle.book.specs.declared.world.Home.{Home}
-use Rattle.evats.specs.Show.{Lists, Nouns, noun_lines, slot_lines, vat_line, home_lines_none, home_lines_more, message_lines, board_lines, Shows}
+use Rattle.evats.specs.Show.{Lists, noun_lines, slot_lines, vat_line, home_lines_none, home_lines_more, message_lines, board_lines, Shows}
 use Rattle.evats.specs.ShowView.{entries_as, nouns_in, slots_in, HomeWritten, HomesWritten}
 
 keys_as : {K V W : Type 0} (f : V → W) (es : List (K × V)) → map (λ e. e.0) (entries_as f es) ≡ keys_of es
@@ -70,7 +70,7 @@ homes_more v h hs before mid now w (lines, l, f) =
       own ++ (nouns ++ (slots ++ lines)),
       home_lines_more w.nouns_listed w.slots_listed l,
       f ∙ ap (λ t. t ++ lines) w.whole ∙ append_assoc before (own ++ (nouns ++ slots)) lines
-      ∙ ap (λ t. before ++ t) (append_assoc own (nouns ++ slots) lines ∙ ap (λ t. own ++ t) (append_assoc nouns slots lines)),
+          ∙ ap (λ t. before ++ t) (append_assoc own (nouns ++ slots) lines ∙ ap (λ t. own ++ t) (append_assoc nouns slots lines)),
     )
 
 pub homes_none : (now : List ℕ) → HomesWritten [] now now

@@ -1,7 +1,7 @@
-use Rattle.std.proofs.Common.{◌≡◌, ◌==◌, sym, ap, ◌∙◌, true, false, arith, rules, length, drop}
+use Rattle.std.proofs.Common.{◌≡◌, ◌==◌, ap, ◌∙◌, false, arith, rules, length, drop}
 use Rattle.std.specs.List.{position_or_len}
 use Rattle.evats.specs.Words.{is_blank}
-use Rattle.evats.proofs.Wording.{begins, blanks_gone, named_first, named_more, named_not, named_all, shorter_behind}
+use Rattle.evats.proofs.Wording.{begins, blanks_gone, named_first, named_more, named_not, shorter_behind}
 use Rattle.evats.proofs.numbers.events_named.Goals as goal
 
 pub words-init : goal.words-init
