@@ -13,6 +13,7 @@ use Rattle.values.specs.Data.{Val}
 pub data Bind : Type 0 where
   fixed : (v : Val) → Bind
   slot : (s : SlotId) → Bind
+  deriving IsSet as Bind-set
 
 -- names and what they stand for, the newest first
 abbrev pub Nouns : Type 0
@@ -31,6 +32,7 @@ pub data Cell : Type 0 where
 pub data Content : Type 0 where
   bound : (b : Bind) → Content
   held : (v : Val) → Content
+  deriving IsSet as Content-set
 
 abbrev pub State : Type 0
 State = Cell → Option Content

@@ -13,6 +13,7 @@ use Rattle.turn.specs.Rules.{Items}
 pub data Delivery : Type 0 where
   opening : (program : Trees) → Delivery
   asked : (program : Trees) → Delivery
+  deriving IsSet as Delivery-set
 
 -- what a turn leaves: the vat's state, what its result is published as, how it ended, and the steps left
 pub record Outcome : Type 0 where
