@@ -1,27 +1,16 @@
 -- A walk along the journal that gathers the cone of an event.
-use Rattle.std.proofs.Common.{◌≡◌, ℕ, List, [], ◌∷◌, ◌++◌, Bool, true, false, cond, refl, ap, sym, ◌∙◌, subst, map, append_assoc, append-nil, inl, inr}
+use Rattle.std.proofs.Common.{◌≡◌, ℕ, List, [], ◌∷◌, ◌++◌, Bool, true, false, cond, None, refl, ap, sym, ◌∙◌, subst, map, append_assoc, append-nil, inl, inr}
 use Rattle.std.specs.Prelude.{◌||◌, ◌&&◌, ◌==◌}
 use Rattle.std.specs.List.{list_any, filter, AllByRecursion}
 use Rattle.std.proofs.lemmas.Bool.{or_cases, or_left, or_right, or_from, or_parts, and_from, and_parts, cases_Bool}
 use Rattle.std.proofs.lemmas.List.Folds.{list_any-append}
 use Rattle.ids.specs.declared.names.EventName.{EventName}
 use Rattle.book.specs.Journal.{Line, name_of, among, chosen, Closed, Cone}
-use Rattle.book.specs.Refusals.{is_entered}
-use Rattle.book.specs.Causes.{ComesFirst, CausesComeFirst}
+use Rattle.book.specs.Refusals.{is_entered, missing_refusal, undone_refusal, cone_refusal}
+use Rattle.book.specs.Causes.{ComesFirst, CausesComeFirst, joins, joined_with, gathered}
 use Rattle.book.proofs.Along.{meet, each_append, each_map, same_name, itself, turned, each_among}
-
--- a line joins if it is the root, or is live and came of one that has joined
-abbrev pub joins : EventName → List EventName → Line → Bool
-joins root joined l = ((name_of l).0 == root.0) || (l.live && list_any (among joined) l.causes)
-
--- those that have joined, with one more if it joins
-abbrev pub joined_with : Bool → List EventName → Line → List EventName
-joined_with b joined l = cond b (joined ++ name_of l ∷ []) joined
-
--- those that have joined at the end
-abbrev pub gathered : EventName → List EventName → List Line → List EventName
-gathered root joined [] = joined
-gathered root joined (l ∷ lines) = gathered root (joined_with (joins root joined l) joined l) lines
+use Rattle.book.proofs.Refused.{next_is}
+use Rattle.book.proofs.Marks.{all_entered}
 
 -- one that joined is among them
 among_push : (joined : List EventName) (n e : EventName) → among (joined ++ n ∷ []) e ≡ (among joined e || ((n.0 == e.0) || false))
@@ -167,3 +156,9 @@ is_cone lines root h e = record {
   closed = is_closed root [] lines h;
   least = λ others r c. is_least root [] lines others r c tt;
 }
+
+-- a live event of the journal has what has joined at the end as its cone
+pub cone_of : (lines : List Line) (root : EventName) (names : List EventName) → CausesComeFirst lines → missing_refusal (root ∷ []) lines ≡ None → undone_refusal (root ∷ []) lines ≡ None → names ≡ gathered root [] lines → (cone_refusal lines root ≡ None) × Cone lines root names
+cone_of lines root names h missing undone e =
+    (next_is (missing_refusal (root ∷ []) lines) (undone_refusal (root ∷ []) lines) missing ∙ undone,
+     subst (Cone lines root) (sym e) (is_cone lines root h (all_entered lines (root ∷ []) missing).0))

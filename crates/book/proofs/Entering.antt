@@ -1,15 +1,15 @@
 -- An accepted event keeps the journal good.
-use Rattle.std.proofs.Common.{◌≡◌, ℕ, ◌+◌, ◌≤◌, ◌<◌, Bool, true, false, ◌||◌, List, [], ◌∷◌, ◌++◌, map, reverse, refl, sym, ap, ◌∙◌, subst, arith}
+use Rattle.std.proofs.Common.{◌≡◌, ℕ, ◌+◌, ◌≤◌, ◌<◌, Bool, true, false, ◌||◌, List, [], ◌∷◌, ◌++◌, map, reverse, refl, sym, ap, ◌∙◌, subst, arith, le_refl}
 use Rattle.std.proofs.Math.Logic.{∥∥₁_elim, ∥∥₁_map, ∥∥₁_prop}
 use Rattle.std.specs.List.{AllByRecursion}
 use Rattle.std.proofs.lemmas.List.{map-append}
-use Rattle.std.proofs.lemmas.Nat.{le_refl}
 use Rattle.history.specs.Subject.{after}
 use Rattle.history.specs.Journal.{Entry, live_set, both, named, Good, Named, Sound, NamesCauses, new_entry, causes_of}
 use Rattle.history.proofs.Lists.{all_of}
 use Rattle.history.proofs.Changes.{sound_same}
 use Rattle.history.proofs.Naming.{causes_named_reversed, causes_below_reversed, appended_named, appended}
 use Rattle.ids.specs.declared.names.EventName.{EventName}
+use Rattle.ids.specs.declared.names.CellKey.{CellKey}
 use Rattle.book.specs.World.{World, empty}
 use Rattle.book.specs.Events.{Event, Foot, Does, events}
 use Rattle.book.specs.Journal.{Line, causes_in}
@@ -56,9 +56,29 @@ kept_entered e f old new es k d n =
       told = n.entered ∙ more_told e f lines es k.told;
       good = subst (Good events empty (live_set events) (entry_over e f lines ∷ es)) (sym n.step) good;
       names = subst (λ m. Named events m (entry_over e f lines ∷ es)) (ap (λ m. m + 1) n.named ∙ sym n.drawn) (appended_named events e f ns k.names le below);
+      earlier = (subst (λ m. AllByRecursion (λ k. k < m) ns) (sym n.named) below, k.earlier);
       again = subst (λ names. Sound events (both (live_set events) (named events (numbers names))) (entry_over e f lines ∷ es)) (sym n.redoable) (none_again (entry_over e f lines ∷ es) good.sound);
     }
 
 pub stands_entered : (e : Event) (f : Foot) (old new : Book) → Stands old → Enters e f old new → Stands new
 stands_entered e f old new h n =
     ∥∥₁_elim h ∥∥₁_prop (λ (es, k). ∥∥₁_map n.does (λ d. (entry_over e f old.journal ∷ es, kept_entered e f old new es k d n)))
+
+-- what is entered is the event's line, with its cells and its causes
+pub enters : (e g : Event) (f : Foot) (old new : Book) (cells wrote : List CellKey) → e.name.0 ≡ old.next → new.next ≡ old.next + 1 → ∥ Does e old.world f ∥₁
+    → new.world ≡ after events f old.world
+    → new.journal ≡ old.journal ++ record { event = g; touched = cells; written = wrote; causes = causes_in cells old.journal; live = true } ∷ []
+    → g ≡ e → cells ≡ touched f → wrote ≡ map (λ p. p.0) f.writes → new.redoable ≡ [] → Enters e f old new
+enters e g f old new cells wrote named drawn does step entered is touches writes redoable = record {
+  named = named;
+  drawn = drawn;
+  does = does;
+  step = step;
+  entered = entered ∙ (λ i. old.journal ++ record { event = is i; touched = touches i; written = writes i; causes = causes_in (touches i) old.journal; live = true } ∷ []);
+  redoable = redoable;
+}
+
+-- the same world and journal stand too
+pub stands_so : (w v : World) (lines others : List Line) (next : ℕ) (names : List EventName) → v ≡ w → others ≡ lines
+    → Stands (record { world = w; journal = lines; next = next; redoable = names }) → Stands (record { world = v; journal = others; next = next; redoable = names })
+stands_so w v lines others next names e f h = subst Stands (λ i. record { world = sym e i; journal = sym f i; next = next; redoable = names }) h

@@ -9,6 +9,7 @@ pub mod Marks
 pub mod Cones
 pub mod Least
 pub mod Marking
-pub mod Undoing
+pub mod Kept
+pub mod Firsts
 pub mod Runs
 pub mod Steps

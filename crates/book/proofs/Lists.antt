@@ -1,6 +1,7 @@
 -- On lists that are mapped, filtered and reversed.
-use Rattle.std.proofs.Common.{◌≡◌, Bool, true, false, cond, ◌&&◌, ◌||◌, List, [], ◌∷◌, ◌++◌, map, filter, reverse, refl, sym, ap, ◌∙◌}
+use Rattle.std.proofs.Common.{◌≡◌, ℕ, ◌-◌, Bool, true, false, cond, ◌&&◌, ◌||◌, Option, Some, None, take, List, [], ◌∷◌, ◌++◌, map, filter, reverse, refl, sym, ap, ◌∙◌}
 use Rattle.std.specs.List.{list_any}
+use Rattle.std.specs.Option.{option_to_list, MatchOption}
 use Rattle.std.proofs.lemmas.List.{reverse-append, map-append}
 use Rattle.std.proofs.lemmas.List.Elements.{filter-append}
 
@@ -60,3 +61,26 @@ first_true false y h = h
 pub second_true : (x y : Bool) → (x && y) ≡ true → y ≡ true
 second_true true y h = h
 second_true false y h = cc
+
+-- a list without its last item
+abbrev front : {A : Type 0} → List A → List A
+front [] = []
+front (x ∷ []) = []
+front (x ∷ y ∷ ys) = x ∷ front (y ∷ ys)
+
+front_of : {A : Type 0} (xs : List A) (x : A) → front (xs ++ x ∷ []) ≡ xs
+front_of [] x = refl
+front_of (y ∷ []) x = refl
+front_of (y ∷ z ∷ xs) x = ap (λ us. y ∷ us) (front_of (z ∷ xs) x)
+
+not_empty : {A : Type 0} (xs : List A) (x : A) → xs ++ x ∷ [] ≡ [] → ⊥
+not_empty [] x h = cc
+not_empty (y ∷ xs) x h = cc
+
+-- what is left when the last item is taken away
+pub last_gone : {A B : Type 0} {C : A → Type 0} (r : Option A) (n : ℕ) (ys zs xs : List A) (x : A)
+    → zs ≡ ys ++ option_to_list r → zs ≡ xs ++ x ∷ [] → ys ≡ take (n - 1) zs → MatchOption r ((n ≡ 0) × B) C → ys ≡ xs
+last_gone (Some y) n ys zs xs x h g k m = sym (front_of ys y) ∙ ap front (sym h ∙ g) ∙ front_of xs x
+last_gone None n ys zs xs x h g k m =
+    let none : ys ≡ [] = k ∙ ap (λ j. take (j - 1) zs) m.0 in
+    absurd (not_empty xs x (sym g ∙ h ∙ ap (λ us. us ++ []) none))

@@ -19,6 +19,7 @@ next_is a b e = ap (λ o. first o b) e
 check_tells_first : (f : CheckFault) (a b : Option Refusal) → check_tells f a → check_tells f (first a b)
 check_tells_first (check-fault.Unbound x) a b e = ap (λ o. first o b) e
 check_tells_first (check-fault.DuplicateName x) a b e = ap (λ o. first o b) e
+check_tells_first (check-fault.AssignToDef x) a b e = ap (λ o. first o b) e
 check_tells_first check-fault.TooDeep a b e = ap (λ o. first o b) e
 check_tells_first check-fault.TooLong a b e = ap (λ o. first o b) e
 check_tells_first check-fault.Memory a b e = tt

@@ -9,7 +9,7 @@ use Rattle.book.specs.Books.{RunFrom}
 use Rattle.book.proofs.Law.{events_laws}
 
 -- a first event, and then a run from the world that it leaves
-run_after : {w u : World} {f : Foot} (e : Event) {es : List Event} → Does e w f → Run events (after events f w) es u → Run events w (es ++ e ∷ []) u
+run_after : {w : World} {f : Foot} (e : Event) → Does e w f → {es : List Event} {u : World} → Run events (after events f w) es u → Run events w (es ++ e ∷ []) u
 run_after e d run_none = run_more run_none d
 run_after e d (run_more r h) = run_more (run_after e d r) h
 
@@ -19,7 +19,7 @@ pub record Parts (e : Event) (es : List Event) (w u : World) : Type 0 where
   pub does : Does e w foot
   pub rest : Run events (after events foot w) es u
 
-run_parts : {w u : World} (e : Event) (es : List Event) → Run events w (es ++ e ∷ []) u → Parts e es w u
+run_parts : {w : World} (e : Event) (es : List Event) {u : World} → Run events w (es ++ e ∷ []) u → Parts e es w u
 run_parts e [] (run_more run_none d) = record { foot = _; does = d; rest = run_none }
 run_parts e (g ∷ es) (run_more r h) = let p = run_parts e es r in record { foot = p.foot; does = p.does; rest = run_more p.rest h }
 

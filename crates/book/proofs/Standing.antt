@@ -14,7 +14,7 @@ use Rattle.history.proofs.Naming.{causes_named_reversed, causes_below_reversed, 
 use Rattle.ids.specs.Cells.{same_key}
 use Rattle.ids.specs.declared.names.EventName.{EventName}
 use Rattle.ids.specs.declared.names.CellKey.{CellKey}
-use Rattle.book.specs.World.{World, Content, Content-set, empty}
+use Rattle.book.specs.World.{World, empty}
 use Rattle.book.specs.Events.{Event, Foot, Does, events}
 use Rattle.book.specs.Journal.{Line, name_of, among, chosen, has_key, wrote_one_of, causes_in, undone_in, redone_in, live_events, rest_of}
 use Rattle.book.specs.Books.{Book, PlainRun, line_of, Kept, Stands}
@@ -37,7 +37,7 @@ wrote_is f a = any_mapped (λ p. p.0) (has_key (touched f)) a.foot.writes
 abbrev pub told : List (Entry events) → List Line
 told es = map line_of (reverse es)
 
-causes_are : (f : Foot) (es : List (Entry events)) → numbers (causes_in (touched f) (told es)) ≡ reverse (causes_of events f es)
+pub causes_are : (f : Foot) (es : List (Entry events)) → numbers (causes_in (touched f) (told es)) ≡ reverse (causes_of events f es)
 causes_are f es =
     let p : Line → Bool = λ l. l.live && wrote_one_of (touched f) l in
     let q : Entry events → Bool = λ a. a.live && meets events a.foot f in
@@ -66,8 +66,8 @@ marked_lines : (mark : Line → Line) (t : Entry events → Bool) → ((a : Entr
 marked_lines mark t h es =
     mapped_twice line_of mark (reverse es)
     ∙ mapped (λ a. mark (line_of a)) (λ a. line_of (record a { live = t a })) h (reverse es)
-    ∙ sym (mapped_twice (λ a. record a { live = t a }) line_of (reverse es))
-    ∙ ap (map line_of) (mapped_reversed (λ a. record a { live = t a }) es)
+    ∙ sym (mapped_twice {A = Entry events} {B = Entry events} {C = Line} (λ a. record a { live = t a }) line_of (reverse es))
+    ∙ ap (map line_of) (mapped_reversed {A = Entry events} {B = Entry events} (λ a. record a { live = t a }) es)
 
 pub undone_lines : (names : List EventName) (es : List (Entry events)) → undone_in names (told es) ≡ told (marked events (without (live_set events) (named events (numbers names))) es)
 undone_lines names es = marked_lines _ (without (live_set events) (named events (numbers names))) (λ a. ap (λ (b : Bool). record (line_of a) { live = a.live && not b }) (among_is names a)) es
@@ -75,17 +75,34 @@ undone_lines names es = marked_lines _ (without (live_set events) (named events 
 pub redone_lines : (names : List EventName) (es : List (Entry events)) → redone_in names (told es) ≡ told (marked events (both (live_set events) (named events (numbers names))) es)
 redone_lines names es = marked_lines _ (both (live_set events) (named events (numbers names))) (λ a. ap (λ (b : Bool). record (line_of a) { live = a.live || b }) (among_is names a)) es
 
+record Whole : Type 0 where
+  world : World
+  deriving IsSet as Whole-set
+
 -- worlds are a set: any two proofs that two are the same are the same
 World-set : IsSet World
-World-set = Prim.hlevel Content-set
+World-set w v p q =
+    let whole : World → Whole = λ u. record { world = u } in
+    λ i j. (Whole-set (whole w) (whole v) (λ k. whole (p k)) (λ k. whole (q k)) i j).world
 
 -- a list of events has at most one plain run
 pub one_world : (es : List Event) (w v : World) → PlainRun es w → PlainRun es v → w ≡ v
 one_world es w v r s = ∥∥₁_elim r (World-set w v) (λ a. ∥∥₁_elim s (World-set w v) (λ b. runs_are_one events events_laws a b))
 
 -- the live events of a good journal run to its world
-run_of_good : (es : List (Entry events)) (w : World) → Good events empty (live_set events) es w → PlainRun (live_events (told es)) w
+pub run_of_good : (es : List (Entry events)) (w : World) → Good events empty (live_set events) es w → PlainRun (live_events (told es)) w
 run_of_good es w g = ∣ subst (λ xs. Run events empty xs w) (sym (chosen_events (λ l. l.live) (live_set events) (λ a. refl) es)) (good_run events events_laws g) ∣₁
 
 pub stands_run : (b : Book) → Stands b → PlainRun (live_events b.journal) b.world
 stands_run b h = ∥∥₁_elim h ∥∥₁_prop (λ (es, k). subst (λ ls. PlainRun (live_events ls) b.world) (sym k.told) (run_of_good es b.world k.good))
+
+-- nothing has happened, and the journal is good
+pub stands_blank : (w : World) (entries : List Line) (names : List EventName) → w ≡ empty → entries ≡ [] → names ≡ [] → Stands (record { world = w; journal = entries; next = 1; redoable = names })
+stands_blank w entries names empty_world no_lines no_names =
+    ∣ ([], record {
+      told = no_lines;
+      good = record { recorded = tt; sound = tt; ordered = tt; world = empty_world };
+      names = record { distinct = tt; below = tt };
+      earlier = tt;
+      again = tt;
+    }) ∣₁

@@ -1,5 +1,6 @@
 -- The book: what has happened so far, and the headline about it.
-use Rattle.std.specs.Prelude.{◌≡◌, ℕ, List, [], map, reverse}
+use Rattle.std.specs.Prelude.{◌≡◌, ◌<◌, ℕ, List, [], map, reverse}
+use Rattle.std.specs.List.{AllByRecursion}
 use Rattle.history.specs.Subject.{Footprint, Run}
 use Rattle.history.specs.Subject as history
 use Rattle.history.specs.Journal.{Entry, live_set, both, named, Good, Named, Sound}
@@ -31,11 +32,13 @@ RunFrom start es w = ∥ Run events start (reverse es) w ∥₁
 abbrev pub line_of : Entry events → Line
 line_of e = record { event = e.event; touched = history.touched events e.foot; written = map (λ p. p.0) e.foot.writes; causes = map (λ n. record { 0 = n }) e.causes; live = e.live }
 
--- entries, the newest first, are what the journal tells, and made the world; with them the events that may be redone would be sound again
+-- entries, the newest first, are what the journal tells, and made the world; causes have earlier names; with the events that may be
+-- redone the live ones would be sound again
 pub record Kept (b : Book) (es : List (Entry events)) : Type 0 where
   pub told : b.journal ≡ map line_of (reverse es)
   pub good : Good events empty (live_set events) es b.world
   pub names : Named events b.next es
+  pub earlier : AllByRecursion (λ e. AllByRecursion (λ n. n < e.event.name.0) e.causes) es
   pub again : Sound events (both (live_set events) (named events (map (λ e. e.0) b.redoable))) es
 
 -- THE INVARIANT: the journal is good

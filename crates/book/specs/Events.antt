@@ -1,5 +1,5 @@
 -- The events: what each touches, and what it does to the world.
-use Rattle.std.specs.Prelude.{◌≡◌, ℕ, cond, List, [], ◌∷◌, ◌++◌, true, Option, Some, None}
+use Rattle.std.specs.Prelude.{◌≡◌, ℕ, cond, List, [], ◌∷◌, ◌++◌, Bool, true, false, Option, Some, None}
 use Rattle.kernele.specs.Tree.{Name, Trees}
 use Rattle.kernele.specs.Scope.{own_names_in}
 use Rattle.turn.specs.State.{State, nothing}
@@ -68,11 +68,14 @@ abbrev pub awaited : Option MsgId → List CellKey
 awaited None = []
 awaited (Some m) = key.Msg m ∷ []
 
+abbrev pub is_abandoned : End → Bool
+is_abandoned (value u) = false
+is_abandoned (halt (thrown problem)) = false
+is_abandoned (halt (abandoned why)) = true
+
 -- the vat's new state, unless the turn was abandoned
 abbrev pub new_state : VatNo → Name → State → End → List (CellKey × Content)
-new_state v x s (value u) = (key.State v, home x s) ∷ []
-new_state v x s (halt (thrown problem)) = (key.State v, home x s) ∷ []
-new_state v x s (halt (abandoned why)) = []
+new_state v x s o = cond (is_abandoned o) [] ((key.State v, home x s) ∷ [])
 
 -- its message is done, its result is published
 abbrev pub done_and_published : EventName → MsgId → Message → Outcome → List (CellKey × Content)

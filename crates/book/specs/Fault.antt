@@ -28,6 +28,7 @@ fault_text fault.Memory = codes "B20 Memory"
 abbrev pub check_tells : CheckFault → Option Refusal → Type 0
 check_tells (check-fault.Unbound x) refusal = refusal ≡ Some (unchecked (scope.unbound x))
 check_tells (check-fault.DuplicateName x) refusal = refusal ≡ Some (unchecked (scope.duplicate_name x))
+check_tells (check-fault.AssignToDef x) refusal = refusal ≡ Some (unchecked (scope.assign_to_def x))
 check_tells check-fault.TooDeep refusal = refusal ≡ Some (unchecked scope.too_deep)
 check_tells check-fault.TooLong refusal = refusal ≡ Some (unchecked scope.too_long)
 check_tells check-fault.Memory refusal = Unit {0}

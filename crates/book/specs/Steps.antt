@@ -1,7 +1,7 @@
 -- What the parts of a step find and leave.
-use Rattle.std.specs.Prelude.{◌≡◌, ℕ, List, [], ◌∷◌, ◌++◌, Option, Some}
+use Rattle.std.specs.Prelude.{◌≡◌, ℕ, cond, List, [], ◌∷◌, ◌++◌, Option, Some}
 use Rattle.kernele.specs.Tree.{Name}
-use Rattle.turn.specs.Outcomes.{End, value, halt, thrown, abandoned}
+use Rattle.turn.specs.Outcomes.{End}
 use Rattle.ids.specs.declared.names.EventName.{EventName}
 use Rattle.ids.specs.declared.names.VatNo.{VatNo}
 use Rattle.ids.specs.declared.names.MsgId.{MsgId}
@@ -9,7 +9,7 @@ use Rattle.ids.specs.declared.names.PromId.{PromId}
 use Rattle.ids.specs.declared.names.CellKey.{CellKey}
 use Rattle.ids.specs.declared.names.CellKey.TheVariants as key
 use Rattle.book.specs.World.{World}
-use Rattle.book.specs.Events.{Event, Foot, Does, first_message, awaited}
+use Rattle.book.specs.Events.{Event, Foot, Does, first_message, awaited, is_abandoned}
 use Rattle.book.specs.Books.{PlainRun}
 use Rattle.book.specs.Refusals.{Refusal, no_message, not_there, before}
 use Rattle.book.specs.declared.step.Unready.{Unready}
@@ -43,9 +43,7 @@ ask_cells e = key.Msg (first_message e) ∷ []
 
 -- the vat's cell, unless the turn was abandoned
 abbrev pub state_cells : VatNo → End → List CellKey
-state_cells v (value u) = key.State v ∷ []
-state_cells v (halt (thrown problem)) = key.State v ∷ []
-state_cells v (halt (abandoned why)) = []
+state_cells v o = cond (is_abandoned o) [] (key.State v ∷ [])
 
 -- the cells that a turn writes, and those that it reads
 abbrev pub turn_cells : VatNo → MsgId → PromId → End → List CellKey

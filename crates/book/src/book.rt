@@ -1,5 +1,5 @@
 // The book: the world, the journal that made it, and the names that are not drawn yet.
-ghost use Rattle.std.specs.Prelude.{◌≡◌, ◌≤◌, ◌+◌, ◌++◌, ℕ, List, [], ◌∷◌, None, Some, IfOk, IfErr, OnOk, OnErr, length, filter};
+ghost use Rattle.std.specs.Prelude.{◌≡◌, ◌≤◌, ◌+◌, ◌++◌, ℕ, List, [], ◌∷◌, true, None, Some, IfOk, IfErr, OnOk, OnErr, length, filter};
 ghost use Rattle.ids.specs.declared.names.CellKey.TheVariants as key;
 ghost use Rattle.kernele.specs.View.{program_of};
 ghost use Rattle.kernele.specs.Check.{scopes_of};
@@ -24,7 +24,7 @@ use crate::step::{
     Cells, StepFault, Unready, cells_of_ask, cells_of_birth, cells_of_turn, deliver, enter_ask,
     enter_birth, enter_turn, plain_run, ready,
 };
-use crate::undoing::{check_redo, check_undo};
+use crate::undoing::{check_redo, check_undo, cone};
 use crate::world::World;
 use ids::names::{EventName, MsgId, VatNo};
 use ids::text::Text;
@@ -91,6 +91,13 @@ fn add_entry(
         mark: Mark::Live,
     })?;
     Ok(())
+}
+
+/// Takes the last entry away.
+fn remove_last(entries: &mut Vec<Entry>)
+    ensures { (before : List Entry) (last : Entry) → entries.old.items ≡ before ++ last ∷ [] → entries.new.items ≡ before }
+{
+    entries.pop();
 }
 
 fn unready_fault(message: MsgId, unready: Unready) -> BookFault
@@ -190,7 +197,7 @@ impl Book {
                 Ok(event)
             }
             Err(_) => {
-                self.entries.pop();
+                remove_last(&mut self.entries);
                 Err(BookFault::Memory)
             }
         }
@@ -234,7 +241,7 @@ impl Book {
                 Ok(event)
             }
             Err(_) => {
-                self.entries.pop();
+                remove_last(&mut self.entries);
                 Err(BookFault::Memory)
             }
         }
@@ -268,7 +275,7 @@ impl Book {
                 Ok(Turned { event, ended })
             }
             Err(_) => {
-                self.entries.pop();
+                remove_last(&mut self.entries);
                 Err(BookFault::Memory)
             }
         }
@@ -331,5 +338,16 @@ impl Book {
             }
             Err(StepFault::Impossible) => unreachable!(),
         }
+    }
+
+    /// An event and all that came of it, in the journal's order: the least set with it that may be undone.
+    ///
+    /// # Errors
+    /// `NoEvent`, `NotLive`, `Memory`, tried in this order.
+    pub fn cone(&self, event: EventName) -> Result<Vec<EventName>, BookFault>
+        ensures ok { IfOk result (λ names. (cone_refusal (book_of self.now).journal event ≡ None) × Cone (book_of self.now).journal event names.items) }
+        ensures err { IfErr result (λ fault. Tells fault (cone_refusal (book_of self.now).journal event)) }
+    {
+        cone(self.alloc, &self.entries, event)
     }
 }

@@ -1,6 +1,6 @@
 // What happens: the events of a book.
 ghost use Rattle.std.specs.Prelude.{◌≡◌, IfOk};
-ghost use Rattle.book.specs.EventView.{act_of};
+ghost use Rattle.kernele.specs.View.{program_of};
 
 use ids::names::{EventName, MsgId};
 use ids::text::Text;
@@ -28,7 +28,7 @@ pub struct Event {
 
 /// The same program, shared.
 pub fn share_program(program: &Program) -> Result<Program, AllocError>
-    ensures { IfOk result (λ p. p ≡ program.now) }
+    ensures { IfOk result (λ p. program_of p ≡ program_of program.now) }
 {
     Ok(Program(Block(Arc::try_clone(&program.0.0)?)))
 }

@@ -1,6 +1,7 @@
 // The journal: an entry for each event, in the order in which they were accepted.
 ghost use Rattle.std.specs.Prelude.{◌≡◌, IfOk, length};
 ghost use Rattle.std.specs.List.{filter};
+ghost use Rattle.ids.specs.Cells.{same_key};
 ghost use Rattle.book.specs.Journal.{among, has_key, wrote_one_of, causes_in, chosen, undone_in, redone_in};
 ghost use Rattle.book.specs.Refusals as refusals;
 ghost use Rattle.book.specs.EventView.{line_of, lines_of};
@@ -41,11 +42,24 @@ pub fn is_among(names: &[EventName], name: EventName) -> bool
     false
 }
 
+/// Whether two keys are of one cell.
+fn is_same(key: &CellKey, other: &CellKey) -> bool
+    ensures { result ≡ same_key key.now other.now }
+{
+    match (key, other) {
+        (CellKey::Name(name), CellKey::Name(other)) => name == other,
+        (CellKey::State(vat), CellKey::State(other)) => vat == other,
+        (CellKey::Msg(message), CellKey::Msg(other)) => message == other,
+        (CellKey::Board(promise), CellKey::Board(other)) => promise == other,
+        _ => false,
+    }
+}
+
 fn is_touched(touched: &[CellKey], key: &CellKey) -> bool
     ensures { result ≡ has_key touched.now key.now }
 {
     for other in touched {
-        if *other == *key {
+        if is_same(key, other) {
             return true;
         }
     }

@@ -8,8 +8,9 @@ ghost use Rattle.turn.specs.Turn.{Delivers};
 ghost use Rattle.turn.specs.View.{ended_of, state_of, delivery_of, outcome_of};
 ghost use Rattle.book.specs.World as model;
 ghost use Rattle.book.specs.World.{home, at_vat, done_in, message_of as message_in_world, message as message_content};
-ghost use Rattle.book.specs.Events.{Foot, Does, events, birth, ask, turn, InOrder, birth_foot, ask_foot, turn_foot, first_message as message_of_event, first_promise as promise_of_event};
+ghost use Rattle.book.specs.Events.{Foot, Does, events, birth, ask, turn, InOrder, birth_foot, ask_foot, turn_foot, is_abandoned as is_abandoned_end, first_message as message_of_event, first_promise as promise_of_event};
 ghost use Rattle.book.specs.Refusals.{ready_refusal, place_refusal, await_refusal};
+ghost use Rattle.book.specs.declared.step.StepFault.TheVariants.{Memory};
 ghost use Rattle.book.specs.Books.{PlainRun};
 ghost use Rattle.book.specs.Journal.{live_events};
 ghost use Rattle.book.specs.Steps.{refusal_of, TellsStep, TellsRun, birth_cells, ask_cells, turn_cells, turn_reads};
@@ -29,7 +30,7 @@ use turn::heap::VatState;
 use turn::ticket::{Out, Ran, Ticket};
 
 /// Why a message may not be delivered now.
-#[derive(Debug)]
+#[derive(Debug, Drop)]
 pub enum Unready {
     NoMessage,
     /// It is not at a vat.
@@ -39,7 +40,7 @@ pub enum Unready {
 }
 
 /// Why an event was not done.
-#[derive(Debug)]
+#[derive(Debug, Drop)]
 pub enum StepFault {
     /// It is not possible in this world.
     Impossible,
@@ -47,12 +48,16 @@ pub enum StepFault {
 }
 
 impl From<AllocError> for StepFault {
+    ghost from_gives = { λ _ e. e ≡ Memory };
+
     fn from(_error: AllocError) -> Self {
         StepFault::Memory
     }
 }
 
 impl<T: Drop> From<AllocFailed<T>> for StepFault {
+    ghost from_gives = { λ _ e. e ≡ Memory };
+
     fn from(_error: AllocFailed<T>) -> Self {
         StepFault::Memory
     }
@@ -100,7 +105,8 @@ pub fn enter_birth(
         after: None,
         place: Place::At(number),
     };
-    world.add_vat(Vat { number, tops }, home, first_message(event), opening)
+    world.add_vat(Vat { number, tops }, home, first_message(event), opening)?;
+    Ok(())
 }
 
 /// Enters an asked program in the world, or changes nothing.
@@ -119,7 +125,8 @@ pub fn enter_ask(
         after: Some(first_message(number.0)),
         place: Place::At(number),
     };
-    world.add_message(first_message(event), message)
+    world.add_message(first_message(event), message)?;
+    Ok(())
 }
 
 fn is_done(world: &World, message: MsgId) -> bool
@@ -228,6 +235,12 @@ pub fn deliver(
     })
 }
 
+fn is_abandoned(ended: &Ended) -> bool
+    ensures { result ≡ is_abandoned_end (ended_of ended.now) }
+{
+    matches!(ended, Ended::Abandoned(_))
+}
+
 /// Enters a turn that was run in the world, or changes nothing. An abandoned turn leaves its vat as it was.
 pub fn enter_turn(
     world: &mut World,
@@ -252,9 +265,8 @@ pub fn enter_turn(
         steps: _,
     } = outcome;
     world.settle(event, name, promise, result)?;
-    match &ended {
-        Ended::Abandoned(_) => {}
-        Ended::Value(_) | Ended::Problem(_) => world.give_state(number, state),
+    if !is_abandoned(&ended) {
+        world.give_state(number, state);
     }
     Ok(ended)
 }
@@ -313,9 +325,8 @@ fn add_turn_keys(
 ) -> Result<(), AllocError>
     ensures { OnOk result (keys.new.items ≡ keys.old.items ++ turn_cells delivered.now.number name delivered.now.promise (outcome_of delivered.now.outcome).end) }
 {
-    match &delivered.outcome.ended {
-        Ended::Abandoned(_) => {}
-        Ended::Value(_) | Ended::Problem(_) => keys.push(CellKey::State(delivered.number))?,
+    if !is_abandoned(&delivered.outcome.ended) {
+        keys.push(CellKey::State(delivered.number))?;
     }
     keys.push(CellKey::Msg(name))?;
     keys.push(CellKey::Board(delivered.promise))?;

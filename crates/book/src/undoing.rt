@@ -1,15 +1,17 @@
 // What may be undone and redone, and what goes with an event that is undone.
-ghost use Rattle.std.specs.Prelude.{◌≡◌, IfErr, OnOk, not};
-ghost use Rattle.std.specs.List.{filter, list_all};
-ghost use Rattle.book.specs.Journal.{among};
+ghost use Rattle.std.specs.Prelude.{◌≡◌, [], IfOk, IfErr, OnOk, None, not};
+ghost use Rattle.std.specs.List.{list_any, filter, list_all};
+ghost use Rattle.book.specs.Journal.{among, Cone};
+ghost use Rattle.book.specs.Causes.{CausesComeFirst, joins, gathered};
 ghost use Rattle.book.specs.Refusals as refusals;
-ghost use Rattle.book.specs.Refusals.{least, lesser, consequence, first, missing_refusal, undone_refusal, live_refusal, open_refusal, undo_refusal, same_set, next_refusal};
+ghost use Rattle.book.specs.Refusals.{least, lesser, consequence, first, missing_refusal, undone_refusal, live_refusal, open_refusal, undo_refusal, next_refusal, cone_refusal};
 ghost use Rattle.book.specs.Fault.{Tells};
-ghost use Rattle.book.specs.EventView.{lines_of};
+ghost use Rattle.book.specs.EventView.{line_of, lines_of};
 
 use crate::fault::BookFault;
 use crate::journal::{Entry, Mark, is_among, is_entered};
 use ids::names::EventName;
+use std::alloc::{AllocError, Global};
 
 /// The lesser of a name and what was least before it.
 fn lesser_of(name: EventName, least: Option<EventName>) -> EventName
@@ -142,4 +144,57 @@ pub fn check_redo(
     check_entered(entries, names)?;
     check_undone(entries, names)?;
     check_next(names, redoable)
+}
+
+/// Whether one of these causes has joined.
+fn is_caused(causes: &[EventName], joined: &[EventName]) -> bool
+    ensures { result ≡ list_any (among joined.now) causes.now }
+{
+    for cause in causes {
+        if is_among(joined, *cause) {
+            return true;
+        }
+    }
+    false
+}
+
+/// Whether an event goes with those that have joined: it is the root, or it is live and came of one of them.
+fn goes_with(entry: &Entry, joined: &[EventName], root: EventName) -> bool
+    ensures { result ≡ joins root joined.now (line_of entry.now) }
+{
+    entry.event.name == root
+        || (entry.mark == Mark::Live && is_caused(&entry.causes, joined))
+}
+
+/// Goes once over the journal. Causes come before their event, so each has joined by then, or never will.
+fn gather(
+    alloc: Global,
+    entries: &[Entry],
+    root: EventName,
+) -> Result<Vec<EventName>, AllocError>
+    ensures { IfOk result (λ names. names.items ≡ gathered root [] (lines_of entries.now)) }
+{
+    let mut joined = Vec::new(alloc);
+    for entry in entries {
+        if goes_with(entry, &joined, root) {
+            joined.push(entry.event.name)?;
+        }
+    }
+    Ok(joined)
+}
+
+/// The live events that go with an event when it is undone, and the event itself, in order.
+pub fn cone(
+    alloc: Global,
+    entries: &[Entry],
+    root: EventName,
+) -> Result<Vec<EventName>, BookFault>
+    requires { CausesComeFirst (lines_of entries.now) }
+    ensures ok { IfOk result (λ names. (cone_refusal (lines_of entries.now) root ≡ None) × Cone (lines_of entries.now) root names.items) }
+    ensures err { IfErr result (λ fault. Tells fault (cone_refusal (lines_of entries.now) root)) }
+{
+    let roots = [root];
+    check_entered(entries, &roots)?;
+    check_live(entries, &roots)?;
+    Ok(gather(alloc, entries, root)?)
 }

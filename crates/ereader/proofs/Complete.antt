@@ -5,19 +5,29 @@ use Rattle.etoken.specs.declared.token.Token.TheVariants as token
 use Rattle.etoken.specs.declared.token.Sign as signs
 use Rattle.etoken.specs.declared.token.Sign.TheVariants as sign
 use Rattle.kernele.specs.declared.tree.Pattern.{Pattern}
-use Rattle.kernele.specs.Tree.{Tree, define, call, list_tree, Trees, none, and_then}
+use Rattle.kernele.specs.Tree.{Tree, define, variable, assign, call, list_tree, Trees, none, and_then}
 use Rattle.ereader.specs.declared.operator.Link.TheVariants as link
 use Rattle.ereader.specs.declared.operator.Bracket.{Bracket}
 use Rattle.ereader.specs.declared.operator.Bracket.TheVariants as bracket
-use Rattle.ereader.specs.Grammar.{product_operator, sum_operator, comparison_operator, joined, prefix_verb, snoc, Expr, expr_define, expr_disjunction, Pat, pat_name, pat_ignore, Disjunction, disjunction_comparison, Comparison, comparison_sum, comparison_two, Sum, sum_product, sum_more, Product, product_unary, product_more, Unary, unary_postfix, unary_prefix, Postfix, postfix_primary, postfix_method, postfix_run, postfix_get, Primary, primary_int, primary_text, primary_true, primary_false, primary_null, primary_name, primary_list, primary_group, Args, args_none, args_some, Items, items_one, items_and, Semicolons, semicolons_none, semicolons_more, Sequence, sequence_one, sequence_and, Block, block_empty, block_items, Program}
-use Rattle.ereader.specs.Reading.{Read, ◌>>=◌, or_else, rest_of, sign_in, front, is_comma, is_semicolon, is_becomes, is_close, past, operand_next, items_next, items_at, args_at, pattern_at, define_at, expr_at, primary_at, link_of, linked_at, postfix_next, postfix_at, unary_at, product_at, sum_at, comparison_at, disjunction_at, skip_semicolons, separator_at, block_next, block_at, program_at}
+use Rattle.ereader.specs.declared.operator.Target.{Target}
+use Rattle.ereader.specs.declared.operator.Target.TheVariants as target
+use Rattle.ereader.specs.Grammar.{product_operator, sum_operator, comparison_operator, joined, prefix_verb, given, snoc, Expr, expr_define, expr_variable, expr_assign, expr_disjunction, Pat, pat_name, pat_ignore, Disjunction, disjunction_comparison, Comparison, comparison_sum, comparison_two, Sum, sum_product, sum_more, Product, product_unary, product_more, Unary, unary_postfix, unary_prefix, Postfix, postfix_primary, postfix_method, postfix_run, postfix_get, Primary, primary_int, primary_text, primary_true, primary_false, primary_null, primary_name, primary_list, primary_group, Args, args_none, args_some, Items, items_one, items_and, Semicolons, semicolons_none, semicolons_more, Sequence, sequence_one, sequence_and, Block, block_empty, block_items, Program}
+use Rattle.ereader.specs.Reading.{Read, ◌>>=◌, or_else, rest_of, sign_in, front, is_comma, is_semicolon, is_becomes, is_close, past, operand_next, items_next, items_at, args_at, is_at_word, is_def_word, is_var_word, is_assignment, pattern_at, define_at, target_at, expr_at, primary_at, link_of, linked_at, postfix_next, postfix_at, unary_at, product_at, sum_at, comparison_at, disjunction_at, skip_semicolons, separator_at, block_next, block_at, program_at}
 use Rattle.ereader.proofs.Turns.{Turns, turns_begin, turns_more, if_is, some_same, none_some}
 use Rattle.ereader.proofs.Steps.{operand_more, operand_end, postfix_end, items_end, skip-end, block_begin, block_more, block_end}
-use Rattle.ereader.proofs.Uses.{less_expr, less_pat, less_disjunction, less_sum, less_product, less_unary, less_postfix, less_args, less_items, le_semicolons, less_sequence, sign_strength, strength, Below, product_none, sum_none, comparison_none, link_none, front_none, product_strength, sum_strength, comparison_strength, no_prefix, no_close, no_def, start_postfix, start_disjunction, start_items, expr_begins, sequence_begins, not_empty}
+use Rattle.ereader.proofs.Uses.{less_expr, less_pat, less_disjunction, less_sum, less_product, less_unary, less_postfix, less_args, less_items, le_semicolons, less_sequence, sign_strength, strength, Below, product_none, sum_none, comparison_none, link_none, front_none, product_strength, sum_strength, comparison_strength, no_prefix, no_close, no_def, no_var, no_assignment, start_postfix, start_disjunction, start_items, expr_begins, sequence_begins, not_empty}
 
 complete_pat : (a r : List Token) (p : Pattern) → Pat a p r → pattern_at a ≡ Some (p, r)
 complete_pat _ _ _ pat_name = refl
 complete_pat _ _ _ pat_ignore = refl
+
+-- what a definition binds
+define_is : (a b : List Token) (p : Pattern) → Pat a p (token.Sign sign.Becomes ∷ b) → define_at a ≡ Some (Some (target.Definition p), b)
+define_is a b p q = ap (λ o. (o >>= past is_becomes) >>= λ y. Some (Some (target.Definition y.0), y.1)) (complete_pat a (token.Sign sign.Becomes ∷ b) p q)
+
+-- where there is no sign for it, a value is given to nothing
+no_target : (a : List Token) → is_at_word is_def_word a ≡ false → is_at_word is_var_word a ≡ false → is_assignment a ≡ false → target_at a ≡ Some (None, a)
+no_target a e f g = rw (e, f, g)
 
 -- what the grammar gives is read, where within reads what is no longer than m
 module _ (m : ℕ) (within : List Token → Read Tree) (inside : (a r : List Token) (t : Tree) → length a ≤ m → Disjunction a t r → Below 1 r → within a ≡ Some (t, r)) where
@@ -34,12 +44,18 @@ module _ (m : ℕ) (within : List Token → Read Tree) (inside : (a r : List Tok
       ∙ ap (λ o. o >>= past (is_close close)) (items_end within (turns_items a (token.Sign s ∷ r) ts h x w) n)
       ∙ ap (λ o. cond o (Some (ts, r)) None) e
 
+  -- the value behind what it is given to
+  abbrev value_at : Option Target × List Token → Read Tree
+  value_at g = or_else g.0 (within g.1) (λ t. within g.1 >>= λ x. Some (given t x.0, x.1))
+
   complete_expr : (a r : List Token) (t : Tree) → length a ≤ m → Expr a t r → Below 1 r → expr_at within a ≡ Some (t, r)
   complete_expr _ _ _ h (expr_define {a = a} {b = c} {r = r} {p = p} {t = t} q x) b =
-      ap (λ o. (o >>= past is_becomes) >>= λ y. within y.1 >>= λ x. Some (define y.0 x.0, x.1)) (complete_pat a (token.Sign sign.Becomes ∷ c) p q)
+      ap (λ o. o >>= value_at) (define_is a c p q)
       ∙ ap (λ o. o >>= λ x. Some (define p x.0, x.1)) (inside c r t (omega (arith, h, less_pat q)) x b)
+  complete_expr _ _ _ h (expr_variable {a = a} {r = r} {x = y} {t = t} x) b = ap (λ o. o >>= λ x. Some (variable y x.0, x.1)) (inside a r t (omega (arith, h)) x b)
+  complete_expr _ _ _ h (expr_assign {a = a} {r = r} {x = y} {t = t} x) b = ap (λ o. o >>= λ x. Some (assign y x.0, x.1)) (inside a r t (omega (arith, h)) x b)
   complete_expr _ _ _ h (expr_disjunction {a = a} {r = r} {t = t} x) b =
-      ap (λ o. cond o (define_at within (rest_of a)) (within a)) (no_def a (start_disjunction x)) ∙ inside a r t h x b
+      ap (λ o. o >>= value_at) (no_target a (no_def a (start_disjunction x)) (no_var a (start_disjunction x)) (no_assignment x b)) ∙ inside a r t h x b
 
   complete_primary : (a r : List Token) (t : Tree) → length a ≤ suc m → Primary a t r → primary_at within a ≡ Some (t, r)
   complete_primary _ _ _ h primary_int = refl

@@ -7,10 +7,10 @@ use Rattle.etoken.specs.declared.token.Sign.TheVariants as sign
 use Rattle.etoken.specs.Cutting.{blanks_none}
 use Rattle.kernele.specs.declared.tree.Pattern.{Pattern}
 use Rattle.kernele.specs.declared.tree.Pattern.TheVariants as pattern
-use Rattle.kernele.specs.Tree.{Tree, null_tree, bool_tree, int_tree, text_tree, noun, define, call, list_tree, same_tree, Trees, none, and_then}
+use Rattle.kernele.specs.Tree.{Tree, null_tree, bool_tree, int_tree, text_tree, noun, define, variable, assign, call, list_tree, same_tree, Trees, none, and_then}
 use Rattle.kernele.specs.Spelling as text
-use Rattle.kernele.specs.Spelling.{spelled, spelled_parts, spelled_items, spelling, as_part, as_receiver, bound_name}
-use Rattle.ereader.specs.Written.{Before, led_by, between, bracketed, bound, is_definition, written, written_parts, written_items, program_tokens}
+use Rattle.kernele.specs.Spelling.{spelled, spelled_parts, spelled_items, spelling, needs_brackets, as_part, as_receiver, bound_name}
+use Rattle.ereader.specs.Written.{Before, led_by, between, bracketed, bound, written, written_parts, written_items, program_tokens}
 use Rattle.ereader.specs.Spelled.{CutInto, SpelledBy, BindsName, IsSpellable, AreSpellable}
 use Rattle.ereader.proofs.Plainly.{InLine, in_line_end, cut_in_line, spaced, open_round_at, close_round_at, open_square_at, close_square_at, comma_at, semicolon_at, dot_at, becomes_at, equal_at, Ends, reserved_at, underscore_at, name_at, int_at, text_at}
 use Rattle.ereader.proofs.Spelled as tokens
@@ -19,26 +19,16 @@ use Rattle.ereader.proofs.Spelled as tokens
 abbrev Stands : List ℕ → Before → Type 0
 Stands bs w = (r : List ℕ) (us : List Token) → Ends r → InLine r us → InLine (bs ++ r) (w us)
 
--- a part is put in brackets where it is a definition
-as_part-is : (t : Tree) (s : List ℕ) → as_part t s ≡ text.bracketed (is_definition t) s
-as_part-is null_tree s = refl
-as_part-is (bool_tree b) s = refl
-as_part-is (int_tree z) s = refl
-as_part-is (text_tree t) s = refl
-as_part-is (noun x) s = refl
-as_part-is (define p e) s = refl
-as_part-is (call t verb ts) s = refl
-as_part-is (list_tree ts) s = refl
-as_part-is (same_tree t u) s = refl
-
--- a receiver too
-as_receiver-is : (t : Tree) (s : List ℕ) → as_receiver t s ≡ text.bracketed (is_definition t) s
+-- a receiver is put in brackets where it is wanted
+as_receiver-is : (t : Tree) (s : List ℕ) → as_receiver t s ≡ text.bracketed (needs_brackets t) s
 as_receiver-is null_tree s = refl
 as_receiver-is (bool_tree b) s = refl
 as_receiver-is (int_tree z) s = refl
 as_receiver-is (text_tree t) s = refl
 as_receiver-is (noun x) s = refl
 as_receiver-is (define p e) s = refl
+as_receiver-is (variable x e) s = refl
+as_receiver-is (assign x e) s = refl
 as_receiver-is (call t verb ts) s = refl
 as_receiver-is (list_tree ts) s = refl
 as_receiver-is (same_tree t u) s = refl
@@ -50,12 +40,12 @@ in_brackets true bs w h = λ r us ends rest.
 in_brackets false bs w h = h
 
 -- a part of another tree
-part : (t : Tree) → Stands (spelled t) (written t) → Stands (as_part t (spelled t)) (bracketed (is_definition t) (written t))
-part t h = subst (λ l. Stands l (bracketed (is_definition t) (written t))) (sym (as_part-is t (spelled t))) (in_brackets (is_definition t) (spelled t) (written t) h)
+part : (t : Tree) → Stands (spelled t) (written t) → Stands (as_part t (spelled t)) (bracketed (needs_brackets t) (written t))
+part t h = in_brackets (needs_brackets t) (spelled t) (written t) h
 
 -- a receiver
-receiver : (t : Tree) → Stands (spelled t) (written t) → Stands (as_receiver t (spelled t)) (bracketed (is_definition t) (written t))
-receiver t h = subst (λ l. Stands l (bracketed (is_definition t) (written t))) (sym (as_receiver-is t (spelled t))) (in_brackets (is_definition t) (spelled t) (written t) h)
+receiver : (t : Tree) → Stands (spelled t) (written t) → Stands (as_receiver t (spelled t)) (bracketed (needs_brackets t) (written t))
+receiver t h = subst (λ l. Stands l (bracketed (needs_brackets t) (written t))) (sym (as_receiver-is t (spelled t))) (in_brackets (needs_brackets t) (spelled t) (written t) h)
 
 -- two, one behind the other
 in_turn : (cs bs : List ℕ) (v w : Before) → Stands cs v → Stands bs w → ((r : List ℕ) → Ends r → Ends (bs ++ r)) → Stands (cs ++ bs) (λ us. v (w us))
@@ -75,6 +65,14 @@ bound_at pattern.Ignore h ends rest = underscore_at ends rest
 -- the bytes of a definition, with what is behind them
 define-bytes : (x e r : List ℕ) → (codes "def " ++ x ++ codes " := " ++ e) ++ r ≡ codes "def" ++ (32 ∷ (x ++ (32 ∷ 58 ∷ 61 ∷ 32 ∷ (e ++ r))))
 define-bytes x e r = simp append_assoc
+
+-- of a variable
+variable-bytes : (x e r : List ℕ) → (codes "var " ++ x ++ codes " := " ++ e) ++ r ≡ codes "var" ++ (32 ∷ (x ++ (32 ∷ 58 ∷ 61 ∷ 32 ∷ (e ++ r))))
+variable-bytes x e r = simp append_assoc
+
+-- of an assignment
+assign-bytes : (x e r : List ℕ) → (x ++ codes " := " ++ e) ++ r ≡ x ++ (32 ∷ 58 ∷ 61 ∷ 32 ∷ (e ++ r))
+assign-bytes x e r = simp append_assoc
 
 -- of a call
 call-bytes : (t verb args r : List ℕ) → (t ++ codes "." ++ (verb ++ codes "(" ++ args ++ codes ")")) ++ r ≡ t ++ (46 ∷ (verb ++ (40 ∷ (args ++ (41 ∷ r)))))
@@ -112,6 +110,12 @@ mutual
   stands (define p e) h = λ r us ends rest.
       subst (λ l. InLine l (written (define p e) us)) (sym (define-bytes (bound_name p) (as_part e (spelled e)) r))
       (reserved_at (codes "def") word.Def refl refl refl refl (spaced (bound_at p h.0 refl (spaced (becomes_at (spaced (part e (stands e h.1) r us ends rest)))))))
+  stands (variable x e) h = λ r us ends rest.
+      subst (λ l. InLine l (written (variable x e) us)) (sym (variable-bytes x (as_part e (spelled e)) r))
+      (reserved_at (codes "var") word.Var refl refl refl refl (spaced (name_at x h.0 refl (spaced (becomes_at (spaced (part e (stands e h.1) r us ends rest)))))))
+  stands (assign x e) h = λ r us ends rest.
+      subst (λ l. InLine l (written (assign x e) us)) (sym (assign-bytes x (as_part e (spelled e)) r))
+      (name_at x h.0 refl (spaced (becomes_at (spaced (part e (stands e h.1) r us ends rest)))))
   stands (call t verb ts) h = λ r us ends rest.
       subst (λ l. InLine l (written (call t verb ts) us)) (sym (call-bytes (as_receiver t (spelled t)) verb (text.joined (codes ", ") (spelled_parts ts)) r))
       (receiver t (stands t h.0) _ _ refl (dot_at (name_at verb h.1 refl (open_round_at ((stand_all ts h.2).1 (41 ∷ r) _ refl (close_round_at rest))))))
@@ -126,7 +130,7 @@ mutual
   stand_all : (ts : Trees) → AreSpellable ts → StandAll ts
   stand_all none h = (λ r us ends rest. rest, λ r us ends rest. rest)
   stand_all (and_then t ts) h =
-      let whole = in_turn (as_part t (spelled t)) (led ts) (bracketed (is_definition t) (written t)) (led_by (token.Sign sign.Comma) (written_parts ts)) (part t (stands t h.0)) (stand_all ts h.1).0 (led-ends ts) in
+      let whole = in_turn (as_part t (spelled t)) (led ts) (bracketed (needs_brackets t) (written t)) (led_by (token.Sign sign.Comma) (written_parts ts)) (part t (stands t h.0)) (stand_all ts h.1).0 (led-ends ts) in
       (λ r us ends rest. comma_at (spaced (whole r us ends rest)), whole)
 
 -- items, each behind a semicolon

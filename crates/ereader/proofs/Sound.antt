@@ -7,14 +7,16 @@ use Rattle.etoken.specs.declared.token.Reserved.TheVariants as word
 use Rattle.etoken.specs.declared.token.Sign as signs
 use Rattle.etoken.specs.declared.token.Sign.TheVariants as sign
 use Rattle.kernele.specs.declared.tree.Pattern.{Pattern}
-use Rattle.kernele.specs.Tree.{Name, Tree, define, call, list_tree, Trees, none, and_then}
+use Rattle.kernele.specs.Tree.{Name, Tree, define, variable, assign, call, list_tree, Trees, none, and_then}
 use Rattle.ereader.specs.declared.operator.Operator.{Operator}
 use Rattle.ereader.specs.declared.operator.Link.{Link}
 use Rattle.ereader.specs.declared.operator.Link.TheVariants as link
 use Rattle.ereader.specs.declared.operator.Bracket.{Bracket}
 use Rattle.ereader.specs.declared.operator.Bracket.TheVariants as bracket
-use Rattle.ereader.specs.Grammar.{product_operator, sum_operator, comparison_operator, prefix_operator, joined, prefix_verb, snoc, Expr, expr_define, expr_disjunction, Pat, pat_name, pat_ignore, Disjunction, disjunction_comparison, Comparison, comparison_sum, comparison_two, Sum, sum_product, sum_more, Product, product_unary, product_more, Unary, unary_postfix, unary_prefix, Postfix, postfix_primary, postfix_method, postfix_run, postfix_get, Primary, primary_int, primary_text, primary_true, primary_false, primary_null, primary_name, primary_list, primary_group, Args, args_none, args_some, Items, items_one, items_and, Semicolons, semicolons_none, semicolons_more, Sequence, sequence_one, sequence_and, Block, block_empty, block_items, Program}
-use Rattle.ereader.specs.Reading.{Read, ◌>>=◌, or_else, rest_of, is_empty, sign_in, front, is_def, is_def_word, is_comma, is_semicolon, is_becomes, is_open, is_close, repeat, past, operand_next, operands_at, items_next, items_at, args_at, list_at, pattern_at, pattern_at_sign, bound_at, define_at, expr_at, group_at, word_at, bracket_at, primary_at, link_of, closer, verb_at, linked_at, postfix_next, postfix_at, unary_at, product_at, sum_at, comparison_at, disjunction_at, skip_semicolons, separator_at, separated, block_next, block_at, program_at}
+use Rattle.ereader.specs.declared.operator.Target.{Target}
+use Rattle.ereader.specs.declared.operator.Target.TheVariants as target
+use Rattle.ereader.specs.Grammar.{product_operator, sum_operator, comparison_operator, prefix_operator, joined, prefix_verb, given, snoc, Expr, expr_define, expr_variable, expr_assign, expr_disjunction, Pat, pat_name, pat_ignore, Disjunction, disjunction_comparison, Comparison, comparison_sum, comparison_two, Sum, sum_product, sum_more, Product, product_unary, product_more, Unary, unary_postfix, unary_prefix, Postfix, postfix_primary, postfix_method, postfix_run, postfix_get, Primary, primary_int, primary_text, primary_true, primary_false, primary_null, primary_name, primary_list, primary_group, Args, args_none, args_some, Items, items_one, items_and, Semicolons, semicolons_none, semicolons_more, Sequence, sequence_one, sequence_and, Block, block_empty, block_items, Program}
+use Rattle.ereader.specs.Reading.{Read, ◌>>=◌, or_else, rest_of, is_empty, sign_in, front, is_at_word, is_def_word, is_var_word, is_assignment, is_comma, is_semicolon, is_becomes, is_open, is_close, repeat, past, operand_next, operands_at, items_next, items_at, args_at, list_at, pattern_at, pattern_at_sign, bound_at, assigned_at, define_at, variable_at, assign_at, target_at, expr_at, group_at, word_at, bracket_at, primary_at, link_of, closer, verb_at, linked_at, postfix_next, postfix_at, unary_at, product_at, sum_at, comparison_at, disjunction_at, skip_semicolons, separator_at, separated, block_next, block_at, program_at}
 use Rattle.ereader.proofs.Steps.{empty_is}
 use Rattle.ereader.proofs.Turns.{bind_some, or_else_is, if_is, some_same, none_some, repeat_sound}
 
@@ -70,10 +72,23 @@ def_word : (w : words.Reserved) → is_def_word w ≡ true → w ≡ word.Def
 def_word word.Def e = refl
 def_word _ e = absurd (cc)
 
-def_front : (a : List Token) → is_def a ≡ true → a ≡ token.Word word.Def ∷ rest_of a
-def_front [] e = absurd (cc)
-def_front (token.Word w ∷ a) e = ap (λ z. token.Word z ∷ a) (def_word w e)
-def_front (_ ∷ a) e = absurd (cc)
+var_word : (w : words.Reserved) → is_var_word w ≡ true → w ≡ word.Var
+var_word word.Var e = refl
+var_word _ e = absurd (cc)
+
+-- a word in front
+word_front : (is : words.Reserved → Bool) (v : words.Reserved) → ((w : words.Reserved) → is w ≡ true → w ≡ v) → (a : List Token) → is_at_word is a ≡ true → a ≡ token.Word v ∷ rest_of a
+word_front is v h [] e = absurd (cc)
+word_front is v h (token.Word w ∷ a) e = ap (λ z. token.Word z ∷ a) (h w e)
+word_front is v h (_ ∷ a) e = absurd (cc)
+
+-- a name and `:=` in front
+assigned_is : (a : List Token) (x : Name × List Token) → assigned_at a ≡ Some x → a ≡ token.Name x.0 ∷ token.Sign sign.Becomes ∷ x.1
+assigned_is [] x e = absurd (none_some e)
+assigned_is (token.Name n ∷ a) x e =
+    let p = past_is is_becomes sign.Becomes becomes_is (n, a) x e in
+    ap (λ z. token.Name n ∷ z) p.0 ∙ ap (λ z. token.Name z ∷ token.Sign sign.Becomes ∷ x.1) p.1
+assigned_is (_ ∷ a) x e = absurd (none_some e)
 
 -- operands with operators between them: Whole has the rules of such a level, and Part is what is read between operators
 module _ (of : signs.Sign → Option Operator) (part : List Token → Read Tree) (Whole Part : List Token → Tree → List Token → Type 0)
@@ -137,20 +152,44 @@ module _ (within : List Token → Read Tree) (inside : (a : List Token) (x : Tre
         args_some (subst (λ ts. Items a ts (token.Sign (close_sign c) ∷ x.1)) p.1 (subst (λ r. Items a g.0.0 r) p.0 (sound_items a g.0 g.1)))
   ]
 
-  sound_define : (a : List Token) (x : Tree × List Token) → define_at within a ≡ Some x → Expr (token.Word word.Def ∷ a) x.0 x.1
-  sound_define a x e =
-      let g = bind_some (bound_at a) (λ p. within p.1 >>= λ y. Some (define p.0 y.0, y.1)) e in
-      let f = bind_some (within g.0.1) (λ y. Some (define g.0.0 y.0, y.1)) g.2 in
-      let k = bind_some (pattern_at a) (past is_becomes) g.1 in
-      let p = past_is is_becomes sign.Becomes becomes_is k.0 g.0 k.2 in
-      subst (λ y. Expr (token.Word word.Def ∷ a) y.0 y.1) (some_same f.2)
-      (expr_define (subst (λ q. Pat a q (token.Sign sign.Becomes ∷ g.0.1)) p.1 (subst (λ r. Pat a k.0.0 r) p.0 (sound_pattern a k.0 k.1))) (inside g.0.1 f.0 f.1))
+  sound_define : (a : List Token) (p : Pattern × List Token) (x : Tree × List Token) → bound_at a ≡ Some p → within p.1 ≡ Some x → Expr (token.Word word.Def ∷ a) (define p.0 x.0) x.1
+  sound_define a p x e i =
+      let k = bind_some (pattern_at a) (past is_becomes) e in
+      let n = past_is is_becomes sign.Becomes becomes_is k.0 p k.2 in
+      expr_define (subst (λ q. Pat a q (token.Sign sign.Becomes ∷ p.1)) n.1 (subst (λ r. Pat a k.0.0 r) n.0 (sound_pattern a k.0 k.1))) (inside p.1 x i)
+
+  sound_variable : (a : List Token) (n : Name × List Token) (x : Tree × List Token) → assigned_at a ≡ Some n → within n.1 ≡ Some x → Expr (token.Word word.Var ∷ a) (variable n.0 x.0) x.1
+  sound_variable a n x e i = subst (λ z. Expr (token.Word word.Var ∷ z) (variable n.0 x.0) x.1) (sym (assigned_is a n e)) (expr_variable (inside n.1 x i))
+
+  sound_assign : (a : List Token) (n : Name × List Token) (x : Tree × List Token) → assigned_at a ≡ Some n → within n.1 ≡ Some x → Expr a (assign n.0 x.0) x.1
+  sound_assign a n x e i = subst (λ z. Expr z (assign n.0 x.0) x.1) (sym (assigned_is a n e)) (expr_assign (inside n.1 x i))
+
+  -- the value behind what it is given to
+  abbrev value_at : Option Target × List Token → Read Tree
+  value_at g = or_else g.0 (within g.1) (λ t. within g.1 >>= λ y. Some (given t y.0, y.1))
 
   sound_expr : (a : List Token) (x : Tree × List Token) → expr_at within a ≡ Some x → Expr a x.0 x.1
-  sound_expr a x e = elim (if_is (is_def a) (define_at within (rest_of a)) (within a) e) [
-    | inl h ↦ subst (λ z. Expr z x.0 x.1) (sym (def_front a h.0)) (sound_define (rest_of a) x h.1)
-    | inr h ↦ expr_disjunction (inside a x h.1)
-  ]
+  sound_expr a x e =
+      let g = bind_some (target_at a) value_at e in
+      elim (if_is (is_at_word is_def_word a) (define_at (rest_of a)) (cond (is_at_word is_var_word a) (variable_at (rest_of a)) (cond (is_assignment a) (assign_at a) (Some (None, a)))) g.1) [
+        | inl h ↦
+            let k = bind_some (bound_at (rest_of a)) (λ p. Some (Some (target.Definition p.0), p.1)) h.1 in
+            let f = bind_some (within k.0.1) (λ y. Some (define k.0.0 y.0, y.1)) (ap value_at (some_same k.2) ∙ g.2) in
+            subst (λ z. Expr z x.0 x.1) (sym (word_front is_def_word word.Def def_word a h.0)) (subst (λ y. Expr (token.Word word.Def ∷ rest_of a) y.0 y.1) (some_same f.2) (sound_define (rest_of a) k.0 f.0 k.1 f.1))
+        | inr o ↦ elim (if_is (is_at_word is_var_word a) (variable_at (rest_of a)) (cond (is_assignment a) (assign_at a) (Some (None, a))) o.1) [
+          | inl h ↦
+              let k = bind_some (assigned_at (rest_of a)) (λ n. Some (Some (target.Variable n.0), n.1)) h.1 in
+              let f = bind_some (within k.0.1) (λ y. Some (variable k.0.0 y.0, y.1)) (ap value_at (some_same k.2) ∙ g.2) in
+              subst (λ z. Expr z x.0 x.1) (sym (word_front is_var_word word.Var var_word a h.0)) (subst (λ y. Expr (token.Word word.Var ∷ rest_of a) y.0 y.1) (some_same f.2) (sound_variable (rest_of a) k.0 f.0 k.1 f.1))
+          | inr p ↦ elim (if_is (is_assignment a) (assign_at a) (Some (None, a)) p.1) [
+            | inl h ↦
+                let k = bind_some (assigned_at a) (λ n. Some (Some (target.Assignment n.0), n.1)) h.1 in
+                let f = bind_some (within k.0.1) (λ y. Some (assign k.0.0 y.0, y.1)) (ap value_at (some_same k.2) ∙ g.2) in
+                subst (λ y. Expr a y.0 y.1) (some_same f.2) (sound_assign a k.0 f.0 k.1 f.1)
+            | inr h ↦ expr_disjunction (inside a x (ap value_at (some_same h.1) ∙ g.2))
+          ]
+        ]
+      ]
 
   sound_list : (a : List Token) (x : Tree × List Token) → list_at within a ≡ Some x → Primary (token.Sign sign.OpenSquare ∷ a) x.0 x.1
   sound_list a x e =

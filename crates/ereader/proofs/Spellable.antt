@@ -22,7 +22,7 @@ use Rattle.ereader.specs.declared.operator.Operator.{Operator}
 use Rattle.ereader.specs.declared.operator.Operator.TheVariants as operator
 use Rattle.ereader.specs.declared.operator.Prefix.{Prefix}
 use Rattle.ereader.specs.declared.operator.Prefix.TheVariants as prefix
-use Rattle.ereader.specs.Grammar.{joined, prefix_verb, snoc, Expr, expr_define, expr_disjunction, Pat, pat_name, pat_ignore, Disjunction, disjunction_comparison, Comparison, comparison_sum, comparison_two, Sum, sum_product, sum_more, Product, product_unary, product_more, Unary, unary_postfix, unary_prefix, Postfix, postfix_primary, postfix_method, postfix_run, postfix_get, Primary, primary_int, primary_text, primary_true, primary_false, primary_null, primary_name, primary_list, primary_group, Args, args_none, args_some, Items, items_one, items_and, Semicolons, semicolons_none, semicolons_more, Sequence, sequence_one, sequence_and, Block, block_empty, block_items}
+use Rattle.ereader.specs.Grammar.{joined, prefix_verb, snoc, Expr, expr_define, expr_variable, expr_assign, expr_disjunction, Pat, pat_name, pat_ignore, Disjunction, disjunction_comparison, Comparison, comparison_sum, comparison_two, Sum, sum_product, sum_more, Product, product_unary, product_more, Unary, unary_postfix, unary_prefix, Postfix, postfix_primary, postfix_method, postfix_run, postfix_get, Primary, primary_int, primary_text, primary_true, primary_false, primary_null, primary_name, primary_list, primary_group, Args, args_none, args_some, Items, items_one, items_and, Semicolons, semicolons_none, semicolons_more, Sequence, sequence_one, sequence_and, Block, block_empty, block_items}
 use Rattle.ereader.specs.View.{plain}
 use Rattle.ereader.specs.Spelled.{CutInto, cut_into, SpelledBy, IsName, HasLiteral, BindsName, IsSpellable, AreSpellable}
 use Rattle.ereader.proofs.Retold.{spells_itself}
@@ -119,6 +119,8 @@ mutual
       let q = pat_spellable p h.1 in
       let y = disjunction x q.1.1 in
       ((q.0, y.0), y.1)
+  expr (expr_variable x) = λ h. let y = disjunction x h.1.1.1 in ((h.1.0, y.0), y.1)
+  expr (expr_assign x) = λ h. let y = disjunction x h.1.1 in ((h.0, y.0), y.1)
   expr (expr_disjunction x) = disjunction x
 
   disjunction : {a r : List Token} {t : Tree} → Disjunction a t r → Keeps a (IsSpellable t) r

@@ -5,9 +5,10 @@ use Rattle.etoken.specs.declared.token.Token.TheVariants as token
 use Rattle.etoken.specs.declared.token.Sign.TheVariants as sign
 use Rattle.kernele.specs.declared.tree.Pattern.{Pattern}
 use Rattle.kernele.specs.declared.tree.Pattern.TheVariants as pattern
-use Rattle.kernele.specs.Tree.{Tree, null_tree, bool_tree, int_tree, text_tree, noun, define, call, list_tree, same_tree, Trees, none, and_then}
-use Rattle.ereader.specs.Grammar.{snoc, Expr, expr_define, expr_disjunction, Pat, pat_name, pat_ignore, Disjunction, disjunction_comparison, Sum, comparison_sum, comparison_two, sum_product, product_unary, unary_postfix, Postfix, postfix_primary, postfix_method, Primary, primary_int, primary_text, primary_true, primary_false, primary_null, primary_name, primary_list, primary_group, Args, args_none, args_some, Items, items_one, items_and, semicolons_none, Sequence, sequence_one, sequence_and, block_empty, block_items, Program}
-use Rattle.ereader.specs.Written.{led_by, between, bracketed, bound, truth_word, is_definition, written, written_parts, written_items, program_tokens}
+use Rattle.kernele.specs.Tree.{Name, Tree, null_tree, bool_tree, int_tree, text_tree, noun, define, variable, assign, call, list_tree, same_tree, Trees, none, and_then}
+use Rattle.kernele.specs.Spelling.{needs_brackets}
+use Rattle.ereader.specs.Grammar.{snoc, Expr, expr_define, expr_variable, expr_assign, expr_disjunction, Pat, pat_name, pat_ignore, Disjunction, disjunction_comparison, Sum, comparison_sum, comparison_two, sum_product, product_unary, unary_postfix, Postfix, postfix_primary, postfix_method, Primary, primary_int, primary_text, primary_true, primary_false, primary_null, primary_name, primary_list, primary_group, Args, args_none, args_some, Items, items_one, items_and, semicolons_none, Sequence, sequence_one, sequence_and, block_empty, block_items, Program}
+use Rattle.ereader.specs.Written.{led_by, between, bracketed, bound, truth_word, written, written_parts, written_items, program_tokens}
 
 -- trees put at the end, one after another
 abbrev extend : Trees → Trees → Trees
@@ -42,7 +43,7 @@ truth_is false r = primary_false
 
 -- what is written of t is read as t: as an item of a block, and as a part of another tree
 abbrev Reads : Tree → Type 0
-Reads t = (r : List Token) → Expr (written t r) t r × Postfix (bracketed (is_definition t) (written t) r) t r
+Reads t = (r : List Token) → Expr (written t r) t r × Postfix (bracketed (needs_brackets t) (written t) r) t r
 
 both : {a r : List Token} {t : Tree} → Postfix a t r → Expr a t r × Postfix a t r
 both p = (expr_disjunction (disjunction p), p)
@@ -56,6 +57,12 @@ ReadsAll ts =
 defines : (p : Pattern) (e : Tree) → Reads e → (r : List Token) → Expr (written (define p e) r) (define p e) r
 defines p e h r = expr_define (bound_is p _) (disjunction (h r).1)
 
+varies : (x : Name) (e : Tree) → Reads e → (r : List Token) → Expr (written (variable x e) r) (variable x e) r
+varies x e h r = expr_variable (disjunction (h r).1)
+
+assigns : (x : Name) (e : Tree) → Reads e → (r : List Token) → Expr (written (assign x e) r) (assign x e) r
+assigns x e h r = expr_assign (disjunction (h r).1)
+
 mutual
   reads : (t : Tree) → Reads t
   reads null_tree = λ r. both (postfix_primary primary_null)
@@ -64,6 +71,8 @@ mutual
   reads (text_tree s) = λ r. both (postfix_primary primary_text)
   reads (noun x) = λ r. both (postfix_primary primary_name)
   reads (define p e) = λ r. (defines p e (reads e) r, postfix_primary (primary_group (defines p e (reads e) (token.Sign sign.CloseRound ∷ r))))
+  reads (variable x e) = λ r. (varies x e (reads e) r, postfix_primary (primary_group (varies x e (reads e) (token.Sign sign.CloseRound ∷ r))))
+  reads (assign x e) = λ r. (assigns x e (reads e) r, postfix_primary (primary_group (assigns x e (reads e) (token.Sign sign.CloseRound ∷ r))))
   reads (call t verb ts) = λ r. both (postfix_method (reads t _).1 ((reads_all ts).1 (token.Sign sign.CloseRound ∷ r)))
   reads (list_tree ts) = λ r. both (postfix_primary (primary_list ((reads_all ts).1 (token.Sign sign.CloseSquare ∷ r))))
   reads (same_tree t u) = λ r. both (postfix_primary (primary_group (expr_disjunction (disjunction_comparison (comparison_two (sum (reads t _).1) refl (sum (reads u (token.Sign sign.CloseRound ∷ r)).1))))))

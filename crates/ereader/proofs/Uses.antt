@@ -1,5 +1,6 @@
 -- How much of the tokens a part uses up, and how it begins.
-use Rattle.std.proofs.Common.{◌≡◌, ℕ, ◌<◌, ◌≤◌, List, [], ◌∷◌, length, false, Option, Some, None, refl, arith}
+use Rattle.std.proofs.Common.{◌≡◌, ℕ, ◌<◌, ◌≤◌, List, [], ◌∷◌, length, Bool, true, false, Option, Some, None, refl, sym, ◌∙◌, arith}
+use Rattle.std.proofs.lemmas.Bool.{false_from_ne_true}
 use Rattle.etoken.specs.declared.token.Token.{Token}
 use Rattle.etoken.specs.declared.token.Token.TheVariants as token
 use Rattle.etoken.specs.declared.token.Reserved as words
@@ -12,13 +13,16 @@ use Rattle.ereader.specs.declared.operator.Operator.{Operator}
 use Rattle.ereader.specs.declared.operator.Prefix.{Prefix}
 use Rattle.ereader.specs.declared.operator.Bracket.{Bracket}
 use Rattle.ereader.specs.declared.operator.Bracket.TheVariants as bracket
-use Rattle.ereader.specs.Grammar.{product_operator, sum_operator, comparison_operator, prefix_operator, Expr, expr_define, expr_disjunction, Pat, pat_name, pat_ignore, Disjunction, disjunction_comparison, Comparison, comparison_sum, comparison_two, Sum, sum_product, sum_more, Product, product_unary, product_more, Unary, unary_postfix, unary_prefix, Postfix, postfix_primary, postfix_method, postfix_run, postfix_get, Primary, primary_int, primary_text, primary_true, primary_false, primary_null, primary_name, primary_list, primary_group, Args, args_none, args_some, Items, items_one, items_and, Semicolons, semicolons_none, semicolons_more, Sequence, sequence_one, sequence_and}
-use Rattle.ereader.specs.Reading.{or_else, is_empty, sign_in, front, is_def, is_semicolon, is_close, link_of}
+use Rattle.ereader.specs.Grammar.{product_operator, sum_operator, comparison_operator, prefix_operator, Expr, expr_define, expr_variable, expr_assign, expr_disjunction, Pat, pat_name, pat_ignore, Disjunction, disjunction_comparison, Comparison, comparison_sum, comparison_two, Sum, sum_product, sum_more, Product, product_unary, product_more, Unary, unary_postfix, unary_prefix, Postfix, postfix_primary, postfix_method, postfix_run, postfix_get, Primary, primary_int, primary_text, primary_true, primary_false, primary_null, primary_name, primary_list, primary_group, Args, args_none, args_some, Items, items_one, items_and, Semicolons, semicolons_none, semicolons_more, Sequence, sequence_one, sequence_and}
+use Rattle.ereader.specs.Reading.{or_else, is_empty, sign_in, front, is_at_word, is_def_word, is_var_word, is_assignment, is_semicolon, is_becomes, is_close, link_of}
+use Rattle.ereader.proofs.Turns.{none_some}
 
 -- tokens are used up
 mutual
   pub less_expr : {a r : List Token} {t : Tree} → Expr a t r → length r < length a
   less_expr (expr_define p x) = omega (arith, less_pat p, less_disjunction x)
+  less_expr (expr_variable x) = omega (arith, less_disjunction x)
+  less_expr (expr_assign x) = omega (arith, less_disjunction x)
   less_expr (expr_disjunction x) = less_disjunction x
 
   pub less_pat : {a r : List Token} {p : Pattern} → Pat a p r → length r < length a
@@ -91,6 +95,7 @@ sign_strength sign.Less = 1
 sign_strength sign.AtMost = 1
 sign_strength sign.More = 1
 sign_strength sign.AtLeast = 1
+sign_strength sign.Becomes = 1
 sign_strength _ = 0
 
 abbrev pub strength : Option signs.Sign → ℕ
@@ -200,14 +205,24 @@ no_close b [] h = no_close_none b
 no_close b (token.Sign s ∷ a) h = no_close_sign b s h
 no_close b (_ ∷ a) h = no_close_none b
 
-no_def_word : (w : words.Reserved) (a : List Token) → 0 < word_start w → is_def (token.Word w ∷ a) ≡ false
-no_def_word word.Def a h = absurd (omega (arith, h))
-no_def_word _ a h = refl
+no_def_word : (w : words.Reserved) → 0 < word_start w → is_def_word w ≡ false
+no_def_word word.Def h = absurd (omega (arith, h))
+no_def_word _ h = refl
 
-pub no_def : (a : List Token) → 0 < start a → is_def a ≡ false
-no_def [] h = refl
-no_def (token.Word w ∷ a) h = no_def_word w a h
-no_def (_ ∷ a) h = refl
+no_var_word : (w : words.Reserved) → 0 < word_start w → is_var_word w ≡ false
+no_var_word word.Var h = absurd (omega (arith, h))
+no_var_word _ h = refl
+
+no_word : (is : words.Reserved → Bool) → ((w : words.Reserved) → 0 < word_start w → is w ≡ false) → (a : List Token) → 0 < start a → is_at_word is a ≡ false
+no_word is never [] h = refl
+no_word is never (token.Word w ∷ a) h = never w h
+no_word is never (_ ∷ a) h = refl
+
+pub no_def : (a : List Token) → 0 < start a → is_at_word is_def_word a ≡ false
+no_def = no_word is_def_word no_def_word
+
+pub no_var : (a : List Token) → 0 < start a → is_at_word is_var_word a ≡ false
+no_var = no_word is_var_word no_var_word
 
 no_semicolon_sign : (s : signs.Sign) → 0 < sign_start s → is_semicolon (Some s) ≡ false
 no_semicolon_sign sign.Semicolon h = absurd (omega (arith, h))
@@ -262,9 +277,63 @@ pub start_items : {a r : List Token} {ts : Trees} → Items a ts r → 0 < start
 start_items (items_one x) = start_disjunction x
 start_items (items_and s x) = start_items s
 
+-- no operator is `:=`
+no_becomes : {A : Type 0} (of : signs.Sign → Option A) (s : signs.Sign) {o : A} → of sign.Becomes ≡ None → of s ≡ Some o → is_becomes (Some s) ≡ false
+no_becomes of sign.Becomes n e = absurd (none_some (sym n ∙ e))
+no_becomes of _ n e = refl
+
+true_false : {b : Bool} → b ≡ true → b ≡ false → ⊥
+true_false e f = cc
+
+-- behind a name with `:=` behind it, an expression goes no further
+stops_primary : {a r : List Token} {t : Tree} → Primary a t r → is_assignment a ≡ true → is_becomes (sign_in r) ≡ true
+stops_primary primary_int h = absurd (cc)
+stops_primary primary_text h = absurd (cc)
+stops_primary primary_true h = absurd (cc)
+stops_primary primary_false h = absurd (cc)
+stops_primary primary_null h = absurd (cc)
+stops_primary primary_name h = h
+stops_primary (primary_list x) h = absurd (cc)
+stops_primary (primary_group x) h = absurd (cc)
+
+stops_postfix : {a r : List Token} {t : Tree} → Postfix a t r → is_assignment a ≡ true → is_becomes (sign_in r) ≡ true
+stops_postfix (postfix_primary p) h = stops_primary p h
+stops_postfix (postfix_method s p) h = absurd (true_false (stops_postfix s h) refl)
+stops_postfix (postfix_run s p) h = absurd (true_false (stops_postfix s h) refl)
+stops_postfix (postfix_get s p) h = absurd (true_false (stops_postfix s h) refl)
+
+stops_unary : {a r : List Token} {t : Tree} → Unary a t r → is_assignment a ≡ true → is_becomes (sign_in r) ≡ true
+stops_unary (unary_postfix p) h = stops_postfix p h
+stops_unary (unary_prefix e p) h = absurd (cc)
+
+stops_product : {a r : List Token} {t : Tree} → Product a t r → is_assignment a ≡ true → is_becomes (sign_in r) ≡ true
+stops_product (product_unary p) h = stops_unary p h
+stops_product (product_more {s = s} q e p) h = absurd (true_false (stops_product q h) (no_becomes product_operator s refl e))
+
+stops_sum : {a r : List Token} {t : Tree} → Sum a t r → is_assignment a ≡ true → is_becomes (sign_in r) ≡ true
+stops_sum (sum_product p) h = stops_product p h
+stops_sum (sum_more {s = s} q e p) h = absurd (true_false (stops_sum q h) (no_becomes sum_operator s refl e))
+
+stops_comparison : {a r : List Token} {t : Tree} → Comparison a t r → is_assignment a ≡ true → is_becomes (sign_in r) ≡ true
+stops_comparison (comparison_sum s) h = stops_sum s h
+stops_comparison (comparison_two {s = s} q e p) h = absurd (true_false (stops_sum q h) (no_becomes comparison_operator s refl e))
+
+stops_disjunction : {a r : List Token} {t : Tree} → Disjunction a t r → is_assignment a ≡ true → is_becomes (sign_in r) ≡ true
+stops_disjunction (disjunction_comparison x) h = stops_comparison x h
+
+becomes_strength : (o : Option signs.Sign) → is_becomes o ≡ true → strength o ≡ 1
+becomes_strength (Some sign.Becomes) e = refl
+becomes_strength _ e = absurd (cc)
+
+-- an expression with no `:=` behind it is no assignment
+pub no_assignment : {a r : List Token} {t : Tree} → Disjunction a t r → Below 1 r → is_assignment a ≡ false
+no_assignment {a = a} {r = r} x b = false_from_ne_true (is_assignment a) (λ h. absurd (omega (arith, b, becomes_strength (sign_in r) (stops_disjunction x h))))
+
 -- an expression begins with no semicolon
 pub expr_begins : {a r : List Token} {t : Tree} → Expr a t r → is_semicolon (sign_in a) ≡ false
 expr_begins (expr_define p x) = refl
+expr_begins (expr_variable x) = refl
+expr_begins (expr_assign x) = refl
 expr_begins (expr_disjunction {a = a} x) = no_semicolon a (start_disjunction x)
 
 pub sequence_begins : {a r : List Token} {ts : Trees} → Sequence a ts r → is_semicolon (sign_in a) ≡ false

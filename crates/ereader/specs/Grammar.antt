@@ -7,11 +7,13 @@ use Rattle.etoken.specs.declared.token.Sign as signs
 use Rattle.etoken.specs.declared.token.Sign.TheVariants as sign
 use Rattle.kernele.specs.declared.tree.Pattern.{Pattern}
 use Rattle.kernele.specs.declared.tree.Pattern.TheVariants as pattern
-use Rattle.kernele.specs.Tree.{Name, Tree, null_tree, bool_tree, int_tree, text_tree, noun, define, call, list_tree, same_tree, Trees, none, and_then}
+use Rattle.kernele.specs.Tree.{Name, Tree, null_tree, bool_tree, int_tree, text_tree, noun, define, variable, assign, call, list_tree, same_tree, Trees, none, and_then}
 use Rattle.ereader.specs.declared.operator.Operator.{Operator}
 use Rattle.ereader.specs.declared.operator.Operator.TheVariants as operator
 use Rattle.ereader.specs.declared.operator.Prefix.{Prefix}
 use Rattle.ereader.specs.declared.operator.Prefix.TheVariants as prefix
+use Rattle.ereader.specs.declared.operator.Target.{Target}
+use Rattle.ereader.specs.declared.operator.Target.TheVariants as target
 
 -- the tokens that rules name
 abbrev pub dot : Token
@@ -91,6 +93,12 @@ abbrev pub prefix_verb : Prefix → Name
 prefix_verb prefix.Not = codes "not"
 prefix_verb prefix.Negate = codes "negate"
 
+-- the tree of a value and what it is given to
+abbrev pub given : Target → Tree → Tree
+given (target.Definition p) t = define p t
+given (target.Variable x) t = variable x t
+given (target.Assignment x) t = assign x t
+
 -- one more at the end
 abbrev pub snoc : Trees → Tree → Trees
 snoc none t = and_then t none
@@ -102,6 +110,10 @@ mutual
   pub data Expr : List Token → Tree → List Token → Type 0 where
     expr_define : {a b r : List Token} {p : Pattern} {t : Tree}
         → Pat a p (becomes ∷ b) → Disjunction b t r → Expr (token.Word word.Def ∷ a) (define p t) r
+    expr_variable : {a r : List Token} {x : Name} {t : Tree}
+        → Disjunction a t r → Expr (token.Word word.Var ∷ token.Name x ∷ becomes ∷ a) (variable x t) r
+    expr_assign : {a r : List Token} {x : Name} {t : Tree}
+        → Disjunction a t r → Expr (token.Name x ∷ becomes ∷ a) (assign x t) r
     expr_disjunction : {a r : List Token} {t : Tree} → Disjunction a t r → Expr a t r
 
   -- what a definition binds

@@ -8,13 +8,15 @@ use Rattle.etoken.specs.declared.token.Sign as signs
 use Rattle.etoken.specs.declared.token.Sign.TheVariants as sign
 use Rattle.kernele.specs.declared.tree.Pattern.{Pattern}
 use Rattle.kernele.specs.declared.tree.Pattern.TheVariants as pattern
-use Rattle.kernele.specs.Tree.{Name, Tree, null_tree, bool_tree, int_tree, text_tree, noun, define, call, list_tree, Trees, none, and_then}
+use Rattle.kernele.specs.Tree.{Name, Tree, null_tree, bool_tree, int_tree, text_tree, noun, call, list_tree, Trees, none, and_then}
 use Rattle.ereader.specs.declared.operator.Operator.{Operator}
 use Rattle.ereader.specs.declared.operator.Link.{Link}
 use Rattle.ereader.specs.declared.operator.Link.TheVariants as link
 use Rattle.ereader.specs.declared.operator.Bracket.{Bracket}
 use Rattle.ereader.specs.declared.operator.Bracket.TheVariants as bracket
-use Rattle.ereader.specs.Grammar.{product_operator, sum_operator, comparison_operator, prefix_operator, joined, prefix_verb, snoc}
+use Rattle.ereader.specs.declared.operator.Target.{Target}
+use Rattle.ereader.specs.declared.operator.Target.TheVariants as target
+use Rattle.ereader.specs.Grammar.{product_operator, sum_operator, comparison_operator, prefix_operator, joined, prefix_verb, given, snoc}
 
 -- what is read, and the tokens after it
 abbrev pub Read : Type 0 → Type 0
@@ -55,14 +57,15 @@ abbrev pub is_def_word : words.Reserved → Bool
 is_def_word word.Def = true
 is_def_word _ = false
 
-abbrev pub is_def_token : Token → Bool
-is_def_token (token.Word w) = is_def_word w
-is_def_token _ = false
+abbrev pub is_var_word : words.Reserved → Bool
+is_var_word word.Var = true
+is_var_word _ = false
 
--- a definition is in front
-abbrev pub is_def : List Token → Bool
-is_def [] = false
-is_def (x ∷ xs) = is_def_token x
+-- a word that passes a test is in front
+abbrev pub is_at_word : (words.Reserved → Bool) → List Token → Bool
+is_at_word is [] = false
+is_at_word is (token.Word w ∷ xs) = is w
+is_at_word is (_ ∷ xs) = false
 
 abbrev pub is_comma : Option signs.Sign → Bool
 is_comma (Some sign.Comma) = true
@@ -75,6 +78,12 @@ is_semicolon _ = false
 abbrev pub is_becomes : Option signs.Sign → Bool
 is_becomes (Some sign.Becomes) = true
 is_becomes _ = false
+
+-- a name and the sign behind it are in front
+abbrev pub is_assignment : List Token → Bool
+is_assignment [] = false
+is_assignment (token.Name x ∷ a) = is_becomes (sign_in a)
+is_assignment (_ ∷ a) = false
 
 abbrev pub is_open : Option signs.Sign → Bool
 is_open (Some sign.OpenRound) = true
@@ -132,12 +141,35 @@ pattern_at _ = None
 abbrev pub bound_at : List Token → Read Pattern
 bound_at a = pattern_at a >>= past is_becomes
 
--- a definition, behind its first word
-abbrev pub define_at : (List Token → Read Tree) → List Token → Read Tree
-define_at within a = bound_at a >>= λ p. within p.1 >>= λ x. Some (define p.0 x.0, x.1)
+abbrev pub name_at : List Token → Read Name
+name_at [] = None
+name_at (token.Name v ∷ a) = Some (v, a)
+name_at _ = None
+
+-- a name and the sign behind it
+abbrev pub assigned_at : List Token → Read Name
+assigned_at a = name_at a >>= past is_becomes
+
+-- what a definition binds, behind its first word
+abbrev pub define_at : List Token → Read (Option Target)
+define_at a = bound_at a >>= λ p. Some (Some (target.Definition p.0), p.1)
+
+-- the name of a variable, behind its first word
+abbrev pub variable_at : List Token → Read (Option Target)
+variable_at a = assigned_at a >>= λ x. Some (Some (target.Variable x.0), x.1)
+
+-- the name that is assigned
+abbrev pub assign_at : List Token → Read (Option Target)
+assign_at a = assigned_at a >>= λ x. Some (Some (target.Assignment x.0), x.1)
+
+-- what the value behind it is given to, if there is a sign for it
+abbrev pub target_at : List Token → Read (Option Target)
+target_at a =
+    cond (is_at_word is_def_word a) (define_at (rest_of a))
+    (cond (is_at_word is_var_word a) (variable_at (rest_of a)) (cond (is_assignment a) (assign_at a) (Some (None, a))))
 
 abbrev pub expr_at : (List Token → Read Tree) → List Token → Read Tree
-expr_at within a = cond (is_def a) (define_at within (rest_of a)) (within a)
+expr_at within a = target_at a >>= λ g. or_else g.0 (within g.1) (λ t. within g.1 >>= λ x. Some (given t x.0, x.1))
 
 -- an expression in brackets, behind the opening one
 abbrev pub group_at : (List Token → Read Tree) → List Token → Read Tree
@@ -178,11 +210,6 @@ closer link.Method = bracket.Round
 closer link.Run = bracket.Round
 closer link.Index = bracket.Square
 
-abbrev pub name_at : List Token → Read Name
-name_at [] = None
-name_at (token.Name v ∷ a) = Some (v, a)
-name_at _ = None
-
 -- the verb, up to the arguments
 abbrev pub verb_at : Link → List Token → Read Name
 verb_at link.Method a = name_at a >>= past is_open
@@ -211,7 +238,7 @@ sum_at within = operands_at sum_operator (product_at within)
 abbrev pub comparison_at : (List Token → Read Tree) → List Token → Read Tree
 comparison_at within a = sum_at within a >>= λ x. or_else (front comparison_operator x.1) (Some x) (λ o. sum_at within (rest_of x.1) >>= λ y. Some (joined o x.0 y.0, y.1))
 
--- an expression that defines nothing, where fewer than n tokens have to be gone past
+-- an expression that gives its value to no name, where fewer than n tokens have to be gone past
 abbrev pub disjunction_at : ℕ → List Token → Read Tree
 disjunction_at zero a = None
 disjunction_at (suc n) a = comparison_at (disjunction_at n) a

@@ -6,7 +6,7 @@ use Rattle.etoken.specs.Breaks.{with_breaks}
 use Rattle.etoken.specs.Names.{is_name}
 use Rattle.kernele.specs.declared.tree.Pattern.{Pattern}
 use Rattle.kernele.specs.declared.tree.Pattern.TheVariants as pattern
-use Rattle.kernele.specs.Tree.{Name, Tree, null_tree, bool_tree, int_tree, text_tree, noun, define, call, list_tree, same_tree, Trees, none, and_then}
+use Rattle.kernele.specs.Tree.{Name, Tree, null_tree, bool_tree, int_tree, text_tree, noun, define, variable, assign, call, list_tree, same_tree, Trees, none, and_then}
 use Rattle.ereader.specs.Grammar.{Program}
 use Rattle.ereader.specs.View.{plain}
 
@@ -32,7 +32,7 @@ abbrev pub BindsName : Pattern → Type 0
 BindsName (pattern.Name x) = IsName x
 BindsName pattern.Ignore = Unit {0}
 
--- each noun, verb and defined name of a tree is a name of the language, and each integer has a literal
+-- each noun, verb and each name that a tree defines or assigns is a name of the language, and each integer has a literal
 abbrev mutual
   pub IsSpellable : Tree → Type 0
   IsSpellable null_tree = Unit {0}
@@ -41,6 +41,8 @@ abbrev mutual
   IsSpellable (text_tree s) = Unit {0}
   IsSpellable (noun x) = IsName x
   IsSpellable (define p e) = BindsName p × IsSpellable e
+  IsSpellable (variable x e) = IsName x × IsSpellable e
+  IsSpellable (assign x e) = IsName x × IsSpellable e
   IsSpellable (call r verb args) = IsSpellable r × IsName verb × AreSpellable args
   IsSpellable (list_tree items) = AreSpellable items
   IsSpellable (same_tree l r) = IsSpellable l × IsSpellable r

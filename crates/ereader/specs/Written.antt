@@ -8,7 +8,8 @@ use Rattle.etoken.specs.declared.token.Sign.TheVariants as sign
 use Rattle.kernele.specs.declared.tree.Pattern.{Pattern}
 use Rattle.kernele.specs.declared.tree.Pattern.TheVariants as pattern
 use Rattle.ereader.specs.Grammar.{dot, comma, semicolon, becomes, open_round, close_round, open_square, close_square, underscore}
-use Rattle.kernele.specs.Tree.{Tree, null_tree, bool_tree, int_tree, text_tree, noun, define, call, list_tree, same_tree, Trees, none, and_then}
+use Rattle.kernele.specs.Spelling.{needs_brackets}
+use Rattle.kernele.specs.Tree.{Tree, null_tree, bool_tree, int_tree, text_tree, noun, define, variable, assign, call, list_tree, same_tree, Trees, none, and_then}
 
 -- tokens put before others
 abbrev pub Before : Type 0
@@ -38,18 +39,6 @@ abbrev pub truth_word : Bool → words.Reserved
 truth_word true = word.True
 truth_word false = word.False
 
--- a definition stands without brackets as an item of a block, and nowhere else
-abbrev pub is_definition : Tree → Bool
-is_definition null_tree = false
-is_definition (bool_tree b) = false
-is_definition (int_tree z) = false
-is_definition (text_tree s) = false
-is_definition (noun x) = false
-is_definition (define p e) = true
-is_definition (call t verb ts) = false
-is_definition (list_tree ts) = false
-is_definition (same_tree t u) = false
-
 abbrev mutual
   -- a tree, as an item of a block
   pub written : Tree → Before
@@ -59,20 +48,24 @@ abbrev mutual
   written (text_tree s) r = token.Text s ∷ r
   written (noun x) r = token.Name x ∷ r
   written (define p e) r =
-      token.Word word.Def ∷ bound p ∷ becomes ∷ bracketed (is_definition e) (written e) r
+      token.Word word.Def ∷ bound p ∷ becomes ∷ bracketed (needs_brackets e) (written e) r
+  written (variable x e) r =
+      token.Word word.Var ∷ token.Name x ∷ becomes ∷ bracketed (needs_brackets e) (written e) r
+  written (assign x e) r =
+      token.Name x ∷ becomes ∷ bracketed (needs_brackets e) (written e) r
   written (call t verb ts) r =
-      bracketed (is_definition t) (written t)
+      bracketed (needs_brackets t) (written t)
       (dot ∷ token.Name verb ∷ open_round ∷ between comma (written_parts ts) (close_round ∷ r))
   written (list_tree ts) r =
       open_square ∷ between comma (written_parts ts) (close_square ∷ r)
   written (same_tree t u) r =
-      open_round ∷ bracketed (is_definition t) (written t)
-      (token.Sign sign.Equal ∷ bracketed (is_definition u) (written u) (close_round ∷ r))
+      open_round ∷ bracketed (needs_brackets t) (written t)
+      (token.Sign sign.Equal ∷ bracketed (needs_brackets u) (written u) (close_round ∷ r))
 
   -- arguments, or the items of a list
   pub written_parts : Trees → List Before
   written_parts none = []
-  written_parts (and_then t ts) = bracketed (is_definition t) (written t) ∷ written_parts ts
+  written_parts (and_then t ts) = bracketed (needs_brackets t) (written t) ∷ written_parts ts
 
 -- the items of a block
 abbrev pub written_items : Trees → List Before

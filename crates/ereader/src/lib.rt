@@ -14,6 +14,7 @@ mod depth;
 pub mod fault;
 mod nodes;
 mod operator;
+mod peek;
 mod reader;
 #[cfg(test)]
 mod tests;

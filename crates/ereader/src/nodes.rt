@@ -1,17 +1,17 @@
 // The nodes of trees, and what operators stand for.
 ghost use Rattle.std.specs.Prelude.{◌≡◌, IfOk, IfErr};
-ghost use Rattle.kernele.specs.Tree.{call as call_tree, list_tree, none, define as define_tree};
+ghost use Rattle.kernele.specs.Tree.{call as call_tree, list_tree, none};
 ghost use Rattle.kernele.specs.View.{tree_of, trees_of};
-ghost use Rattle.ereader.specs.Grammar.{binary as binary_tree, joined, prefix_verb};
+ghost use Rattle.ereader.specs.Grammar.{binary as binary_tree, given, joined, prefix_verb};
 ghost use Rattle.ereader.specs.Reading.{literal_of};
 ghost use Rattle.ereader.specs.View.{GivesTree};
 ghost use Rattle.ereader.specs.declared.fault.Stop.TheVariants as stop;
 
 use crate::fault::Stop;
-use crate::operator::{Operator, Prefix};
+use crate::operator::{Operator, Prefix, Target};
 use etoken::token::Reserved;
 use ids::text::Text;
-use kernele::tree::{Expr, Pattern};
+use kernele::tree::Expr;
 use std::alloc::Global;
 use std::sync::Arc;
 
@@ -31,11 +31,17 @@ pub fn list(alloc: Global, items: Vec<Expr>) -> Result<Expr, Stop>
     Ok(Expr::List(Arc::new(alloc, items)?))
 }
 
-pub fn define(alloc: Global, pattern: Pattern, value: Expr) -> Result<Expr, Stop>
-    ensures ok { IfOk result (λ e. tree_of e ≡ define_tree pattern (tree_of value)) }
+/// A value and what it is given to.
+pub fn give(alloc: Global, target: Target, value: Expr) -> Result<Expr, Stop>
+    ensures ok { IfOk result (λ e. tree_of e ≡ given target (tree_of value)) }
     ensures err { IfErr result (λ e. e ≡ stop.Memory) }
 {
-    Ok(Expr::Def(pattern, Arc::new(alloc, value)?))
+    let value = Arc::new(alloc, value)?;
+    Ok(match target {
+        Target::Definition(pattern) => Expr::Def(pattern, value),
+        Target::Variable(name) => Expr::Var(name, value),
+        Target::Assignment(name) => Expr::Assign(name, value),
+    })
 }
 
 fn same(alloc: Global, left: Expr, right: Expr) -> Result<Expr, Stop>

@@ -1,6 +1,9 @@
-// Signs, by what they stand for where they stand.
+// Signs, by what they stand for where they stand, and what stands before a value.
 ghost use Rattle.std.specs.Prelude.{◌≡◌};
 ghost use Rattle.ereader.specs.Reading.{closer};
+
+use ids::text::Text;
+use kernele::tree::Pattern;
 
 /// A sign between two operands.
 #[derive(Clone, Copy)]
@@ -52,4 +55,15 @@ impl Link {
 pub enum Bracket {
     Round,
     Square,
+}
+
+/// What a value is given to.
+#[derive(Drop)]
+pub enum Target {
+    /// What a definition binds.
+    Definition(Pattern),
+    /// The name of a new variable.
+    Variable(Text),
+    /// The name that is assigned.
+    Assignment(Text),
 }

@@ -1,15 +1,14 @@
 // A reader of tokens by recursive descent: one method for each row of the grammar.
 ghost use Rattle.std.specs.Prelude.{◌≡◌, ◌≤◌, length, OnOk};
 ghost use Rattle.kernele.specs.View.{tree_of};
-ghost use Rattle.ereader.specs.Grammar as grammar;
 ghost use Rattle.ereader.specs.Reading as reading;
-ghost use Rattle.ereader.specs.Reading.{front, rest_of, sign_in, disjunction_at};
+ghost use Rattle.ereader.specs.Reading.{rest_of, disjunction_at};
 ghost use Rattle.ereader.specs.View.{left_of, Advances, IsNoLonger, Gives, GivesMany, GivesAll, GivesPlain, GoesTo};
 
 use crate::fault::Stop;
 use crate::nodes;
-use crate::operator::{Bracket, Link, Operator, Prefix};
-use etoken::token::{Placed, Reserved, Sign, Token};
+use crate::operator::{Bracket, Link, Target};
+use etoken::token::{Placed, Sign, Token};
 use ids::text::Text;
 use kernele::tree::{Expr, Pattern};
 use std::alloc::Global;
@@ -23,126 +22,12 @@ pub struct Reader<'a> {
 }
 
 impl<'a> Reader<'a> {
-    /// The sign in front.
-    fn sign(&self) -> Option<Sign>
-        ensures { result ≡ sign_in (left_of self.now) }
-    {
-        match self.rest.first()?.token {
-            Token::Sign(sign) => Some(sign),
-            _ => None,
-        }
-    }
-
     /// Goes past a token, if there is one.
     fn skip(&mut self)
         ensures { left_of self.new ≡ rest_of (left_of self.old) }
     {
         if let Some((_, rest)) = self.rest.split_first() {
             self.rest = rest;
-        }
-    }
-
-    fn at_end(&self) -> bool
-        ensures { result ≡ reading.is_empty (left_of self.now) }
-    {
-        self.rest.is_empty()
-    }
-
-    fn sum_operator(&self) -> Option<Operator>
-        ensures { result ≡ front grammar.sum_operator (left_of self.now) }
-    {
-        match self.sign()? {
-            Sign::Plus => Some(Operator::Add),
-            Sign::Minus => Some(Operator::Subtract),
-            _ => None,
-        }
-    }
-
-    fn product_operator(&self) -> Option<Operator>
-        ensures { result ≡ front grammar.product_operator (left_of self.now) }
-    {
-        match self.sign()? {
-            Sign::Times => Some(Operator::Multiply),
-            Sign::Divide => Some(Operator::FloorDivide),
-            _ => None,
-        }
-    }
-
-    fn comparison_operator(&self) -> Option<Operator>
-        ensures { result ≡ front grammar.comparison_operator (left_of self.now) }
-    {
-        match self.sign()? {
-            Sign::Equal => Some(Operator::Same),
-            Sign::NotEqual => Some(Operator::Differ),
-            Sign::Less => Some(Operator::LessThan),
-            Sign::AtMost => Some(Operator::AtMost),
-            Sign::More => Some(Operator::MoreThan),
-            Sign::AtLeast => Some(Operator::AtLeast),
-            _ => None,
-        }
-    }
-
-    fn prefix_operator(&self) -> Option<Prefix>
-        ensures { result ≡ front grammar.prefix_operator (left_of self.now) }
-    {
-        match self.sign()? {
-            Sign::Not => Some(Prefix::Not),
-            Sign::Minus => Some(Prefix::Negate),
-            _ => None,
-        }
-    }
-
-    /// What makes a call of what was read, if that goes on.
-    fn link(&self) -> Option<Link>
-        ensures { result ≡ front reading.link_of (left_of self.now) }
-    {
-        match self.sign()? {
-            Sign::Dot => Some(Link::Method),
-            Sign::OpenRound => Some(Link::Run),
-            Sign::OpenSquare => Some(Link::Index),
-            _ => None,
-        }
-    }
-
-    fn at_definition(&self) -> bool
-        ensures { result ≡ reading.is_def (left_of self.now) }
-    {
-        match self.rest.first() {
-            Some(placed) => matches!(placed.token, Token::Word(Reserved::Def)),
-            None => false,
-        }
-    }
-
-    fn at_comma(&self) -> bool
-        ensures { result ≡ reading.is_comma (sign_in (left_of self.now)) }
-    {
-        matches!(self.sign(), Some(Sign::Comma))
-    }
-
-    fn at_semicolon(&self) -> bool
-        ensures { result ≡ reading.is_semicolon (sign_in (left_of self.now)) }
-    {
-        matches!(self.sign(), Some(Sign::Semicolon))
-    }
-
-    fn at_becomes(&self) -> bool
-        ensures { result ≡ reading.is_becomes (sign_in (left_of self.now)) }
-    {
-        matches!(self.sign(), Some(Sign::Becomes))
-    }
-
-    fn at_open(&self) -> bool
-        ensures { result ≡ reading.is_open (sign_in (left_of self.now)) }
-    {
-        matches!(self.sign(), Some(Sign::OpenRound))
-    }
-
-    fn at_close(&self, bracket: Bracket) -> bool
-        ensures { result ≡ reading.is_close bracket (sign_in (left_of self.now)) }
-    {
-        match bracket {
-            Bracket::Round => matches!(self.sign(), Some(Sign::CloseRound)),
-            Bracket::Square => matches!(self.sign(), Some(Sign::CloseSquare)),
         }
     }
 
@@ -233,7 +118,39 @@ impl<'a> Reader<'a> {
         Ok(pattern)
     }
 
-    /// An expression that defines nothing, where at most `left` more brackets are opened.
+    /// A name and the `:=` behind it.
+    fn assigned(&mut self) -> Result<Text, Stop>
+        ensures gives { GivesPlain result self.old self.new reading.assigned_at }
+        ensures shorter { OnOk result (Advances self.old self.new) }
+    {
+        let name = self.name()?;
+        if !self.at_becomes() {
+            return Err(Stop::Unexpected);
+        }
+        self.skip();
+        Ok(name)
+    }
+
+    /// What the value behind it is given to, if there is a `:=`.
+    fn target(&mut self) -> Result<Option<Target>, Stop>
+        ensures gives { GivesPlain result self.old self.new reading.target_at }
+        ensures shorter { OnOk result (IsNoLonger self.old self.new) }
+    {
+        if self.at_definition() {
+            self.skip();
+            return Ok(Some(Target::Definition(self.bound()?)));
+        }
+        if self.at_variable() {
+            self.skip();
+            return Ok(Some(Target::Variable(self.assigned()?)));
+        }
+        if self.at_assignment() {
+            return Ok(Some(Target::Assignment(self.assigned()?)));
+        }
+        Ok(None)
+    }
+
+    /// An expression that gives its value to no name, where at most `left` more brackets are opened.
     #[cycle(read)]
     fn disjunction(&mut self, left: usize) -> Result<Expr, Stop>
         ensures gives { Gives result self.old self.new (disjunction_at left) }
@@ -438,22 +355,11 @@ impl<'a> Reader<'a> {
         ensures gives { Gives result self.old self.new (reading.expr_at (disjunction_at left)) }
         ensures shorter { OnOk result (Advances self.old self.new) }
     {
-        if !self.at_definition() {
+        let Some(target) = self.target()? else {
             return self.disjunction(left);
-        }
-        self.skip();
-        self.definition(left)
-    }
-
-    /// A definition, behind its first word.
-    #[cycle(read)]
-    fn definition(&mut self, left: usize) -> Result<Expr, Stop>
-        ensures gives { Gives result self.old self.new (reading.define_at (disjunction_at left)) }
-        ensures shorter { OnOk result (Advances self.old self.new) }
-    {
-        let pattern = self.bound()?;
+        };
         let value = self.disjunction(left)?;
-        nodes::define(self.alloc, pattern, value)
+        nodes::give(self.alloc, target, value)
     }
 
     /// The items of a block, up to the end.

@@ -34,6 +34,16 @@ fn show(tree: &Expr, out: &mut String) -> Result<(), AllocError> {
             show(value, out)?;
             out.push_str(")")
         }
+        Expr::Var(name, value) => {
+            write!(out, "(var {name} ")?;
+            show(value, out)?;
+            out.push_str(")")
+        }
+        Expr::Assign(name, value) => {
+            write!(out, "(assign {name} ")?;
+            show(value, out)?;
+            out.push_str(")")
+        }
         Expr::Call(receiver, verb, args) => {
             write!(out, "({verb} ")?;
             show(receiver, out)?;
@@ -98,6 +108,14 @@ fn reads_programs(rt: HostRuntime) -> Result<(), Fail> {
         ("[ ] ; [ 1 , [ 2 ] ]", " [ ] [ 1 [ 2 ] ]"),
         ("def x := 1 + 2", " (def x (add 1 2))"),
         ("( def _ := 1 ) + 2", " (add (def _ 1) 2)"),
+        ("var x := 1 + 2", " (var x (add 1 2))"),
+        ("x := x == 1 ; y", " (assign x (same x 1)) y"),
+        ("( var x := 1 ) + 2", " (add (var x 1) 2)"),
+        ("f ( ( x := 1 ) )", " (run f (assign x 1))"),
+        (
+            "x:=y\nz := (y := 2)",
+            " (assign x y) (assign z (assign y 2))",
+        ),
         (
             "def x:=-1\n# a comment\nx!=2",
             " (def x (negate 1)) (not (same x 2))",
@@ -125,7 +143,18 @@ fn refuses_what_is_no_program(rt: HostRuntime) -> Result<(), Fail> {
         ("def 1 := 2", "L5 Unexpected 4"),
         ("def x 2", "L5 Unexpected 6"),
         ("def x := def y := 1", "L5 Unexpected 9"),
-        ("x := 1", "L5 Unexpected 2"),
+        ("var 1 := 2", "L5 Unexpected 4"),
+        ("var _ := 2", "L5 Unexpected 4"),
+        ("var x 2", "L5 Unexpected 6"),
+        ("var", "L5 Unexpected 3"),
+        ("var x", "L5 Unexpected 5"),
+        ("x :=", "L5 Unexpected 4"),
+        ("x := y := 1", "L5 Unexpected 7"),
+        ("x := var y := 1", "L5 Unexpected 5"),
+        ("_ := 1", "L5 Unexpected 0"),
+        ("x . y ( ) := 1", "L5 Unexpected 10"),
+        ("f ( x := 1 )", "L5 Unexpected 6"),
+        ("1 + x := 1", "L5 Unexpected 6"),
         ("if ( a )", "L5 Unexpected 0"),
         ("{ 1 }", "L5 Unexpected 0"),
         ("1 )", "L5 Unexpected 2"),

@@ -146,7 +146,8 @@ impl<'a> Scopes<'a> {
     fn kind(&self, name: &Text) -> Option<Kind>
         ensures { result ≡ kind_in (scopes_in self.now) name.now }
     {
-        self.kind_in_own(name).or(self.outer.around.get(name).copied())
+        let own = self.kind_in_own(name);
+        own.or(self.outer.around.get(name).copied())
     }
 
     /// Adds a name to the innermost scope, which must not have it.

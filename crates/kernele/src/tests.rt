@@ -136,10 +136,7 @@ fn spellings(rt: HostRuntime) -> Result<(), Fail> {
         "var x := 1; x := x.add((x := 2))"
     );
     let inner = variable(alloc, "x", Expr::Null)?;
-    let p = program(
-        alloc,
-        vec![in alloc; call(alloc, inner, "f", Expr::Null)?]?,
-    )?;
+    let p = program(alloc, vec![in alloc; call(alloc, inner, "f", Expr::Null)?]?)?;
     assert_eq!(rt; print(alloc, &p)?.as_str(), "(var x := null).f(null)");
     Ok(())
 }
@@ -181,24 +178,33 @@ fn scopes(rt: HostRuntime) -> Result<(), Fail> {
 #[test]
 fn variables(rt: HostRuntime) -> Result<(), Fail> {
     let alloc = rt.alloc();
-    assert_eq!(rt; verdict(alloc, &counter(alloc)?, true, "f")?.as_str(), "fits");
-    assert_eq!(rt; verdict(alloc, &counter(alloc)?, false, "x")?.as_str(), "fits");
+    assert_eq!(rt;
+        verdict(alloc, &counter(alloc)?, true, "f")?.as_str(),
+        "fits"
+    );
+    assert_eq!(rt;
+        verdict(alloc, &counter(alloc)?, false, "x")?.as_str(),
+        "fits"
+    );
     assert_eq!(rt;
         verdict(alloc, &counter(alloc)?, true, "x")?.as_str(),
         "K3 DuplicateName x"
     );
-    let p = program(
-        alloc,
-        vec![in alloc; assign(alloc, "x", Expr::Null)?]?,
-    )?;
+    let p = program(alloc, vec![in alloc; assign(alloc, "x", Expr::Null)?]?)?;
     assert_eq!(rt; verdict(alloc, &p, false, "x")?.as_str(), "fits");
     assert_eq!(rt; verdict(alloc, &p, true, "x")?.as_str(), "K2 AssignToDef x");
     assert_eq!(rt; verdict(alloc, &p, false, "y")?.as_str(), "K1 Unbound x");
     let hiding = program(
         alloc,
-        vec![in alloc; define(alloc, "x", Expr::Null)?, assign(alloc, "x", Expr::Null)?]?,
+        vec![in alloc;
+            define(alloc, "x", Expr::Null)?,
+            assign(alloc, "x", Expr::Null)?,
+        ]?,
     )?;
-    assert_eq!(rt; verdict(alloc, &hiding, false, "x")?.as_str(), "K2 AssignToDef x");
+    assert_eq!(rt;
+        verdict(alloc, &hiding, false, "x")?.as_str(),
+        "K2 AssignToDef x"
+    );
     let late = program(
         alloc,
         vec![in alloc; assign(alloc, "x", noun(alloc, "y")?)?]?,

@@ -14,7 +14,7 @@ use Rattle.ids.specs.declared.names.SlotId.{SlotId}
 use Rattle.kernele.specs.Tree.{Name}
 use Rattle.values.specs.declared.value.Value.{Value}
 use Rattle.values.specs.View.{val_of}
-use Rattle.turn.specs.State.{Cell, top, slot_cell, Content, bound, held, State, write}
+use Rattle.turn.specs.State.{Cell, top, slot_cell, bound, held, write}
 use Rattle.turn.specs.View.{bind_of, tops_of, slots_of, cells_of}
 use Rattle.turn.specs.declared.heap.Binding.{Binding}
 

@@ -2,6 +2,7 @@ use Rattle.std.proofs.Common.{◌∙◌, ap}
 use Rattle.ids.specs.declared.names.CellKey.TheVariants as key
 use Rattle.book.specs.World as model
 use Rattle.book.specs.World.{World, put, done, message}
+use Rattle.book.proofs.Worlds.{on_err}
 use Rattle.book.proofs.world.World.settle.Goals as goal
 
 pub returns-clause-ok : goal.returns-clause-ok
@@ -9,3 +10,6 @@ returns-clause-ok c g waiting =
     let first = c.in_ok-publish.ensures.ok in
     let marked : model.Message = record { delivery = g.delivery; result = g.result; after = g.after; place = done c.args.event } in
     c.mark_done.ensures g (ap (λ (w : World). w (key.Msg c.args.name)) first ∙ waiting) ∙ ap (put (key.Msg c.args.name) (message marked)) first
+
+pub returns-in_err-publish-clause-err : goal.returns-in_err-publish-clause-err
+returns-in_err-publish-clause-err c = on_err c.from_residual.result c.in_err-publish.ensures.err

@@ -9,9 +9,6 @@ use Rattle.ereader.proofs.reader.Reader.+read.Given as goal
 abbrev pub decreases-disjunction : goal.decreases-disjunction
 decreases-disjunction l = 16 * l.left + 0
 
-abbrev pub decreases-definition : goal.decreases-definition
-decreases-definition l = 16 * l.left + 1
-
 abbrev pub decreases-expr : goal.decreases-expr
 decreases-expr l = 16 * l.left + 2
 

@@ -1,5 +1,5 @@
 -- Undo and redo keep the journal good, and are never stuck.
-use Rattle.std.proofs.Common.{◌≡◌, ℕ, ◌+◌, ◌==◌, Bool, true, false, cond, ◌&&◌, ◌||◌, not, List, [], ◌∷◌, ◌++◌, map, filter, reverse, None, refl, sym, ap, ◌∙◌, subst, eqb-true, eq-eqb}
+use Rattle.std.proofs.Common.{◌≡◌, ℕ, ◌+◌, ◌==◌, ◌<◌, Bool, true, false, cond, ◌&&◌, ◌||◌, not, List, [], ◌∷◌, ◌++◌, map, filter, reverse, None, refl, sym, ap, ◌∙◌, subst, eqb-true, eq-eqb}
 use Rattle.std.proofs.Math.Logic.{∥∥₁_elim, ∥∥₁_map, ∥∥₁_prop}
 use Rattle.std.specs.List.{list_any, list_all, AllByRecursion}
 use Rattle.std.proofs.lemmas.Bool.{or_left, or_right}
@@ -59,6 +59,12 @@ part_of b names es k ok =
     all_map (λ a. chosen names (line_of a) ≡ true → a.live ≡ true) (λ a. named events (numbers names) a ≡ true → a.live ≡ true) es (λ a h c. h (among_is names a ∙ c))
     (all_told (λ l. chosen names l ≡ true → l.live ≡ true) es (subst (AllByRecursion (λ l. chosen names l ≡ true → l.live ≡ true)) k.told (chosen_live b.journal names ok)))
 
+-- marks change no causes
+earlier_marked : (t : Entry events → Bool) (es : List (Entry events)) → AllByRecursion (λ e. AllByRecursion (λ n. n < e.event.name.0) e.causes) es
+    → AllByRecursion (λ e. AllByRecursion (λ n. n < e.event.name.0) e.causes) (marked events t es)
+earlier_marked t [] h = tt
+earlier_marked t (e ∷ es) (p, h) = (p, earlier_marked t es h)
+
 -- the entries after an undo, and what they leave
 abbrev undone_entries : List EventName → List (Entry events) → List (Entry events)
 undone_entries names es = marked events (without (live_set events) (named events (numbers names))) es
@@ -92,6 +98,7 @@ kept_undone e names old new es k ok u =
       told = u.marked ∙ ap (undone_in all) k.told ∙ undone_lines all es;
       good = subst (Good events empty (live_set events) (undone_entries all es)) same (good_undone old all es k ok);
       names = subst (λ n. Named events n (undone_entries all es)) (sym u.same_next) (named_marked events _ k.names);
+      earlier = earlier_marked (without (live_set events) (named events (numbers all))) es k.earlier;
       again = subst (λ ns. Sound events (both (live_set events) (named events (numbers ns))) (undone_entries all es)) (sym u.redoable)
           (sound_before_undo events (numbers all) es k.good.sound (part_of old all es k ok));
     }
@@ -102,11 +109,11 @@ stands_undone e names old new h ok u = ∥∥₁_map h (λ (es, k). (undone_entr
 -- names that are all among others
 all_among : (names others : List EventName) (e : EventName) → list_all (among others) names ≡ true → among names e ≡ true → among others e ≡ true
 all_among [] others e h p = cc
-all_among (n ∷ names) others e h p = one (n.0 == e.0) refl p
+all_among (n ∷ names) others e h p = one (n.0 == e.0) refl p (λ g. all_among names others e (second_true _ _ h) g)
   where
-    one : (b : Bool) → (n.0 == e.0) ≡ b → (b || among names e) ≡ true → among others e ≡ true
-    one true q g = let is : n.0 ≡ e.0 = eqb-true n.0 e.0 q in subst (λ (m : EventName). among others m ≡ true) (ap (λ k. record { 0 = k }) is) (first_true _ _ h)
-    one false q g = all_among names others e (second_true _ _ h) g
+    one : (b : Bool) → (n.0 == e.0) ≡ b → (b || among names e) ≡ true → (among names e ≡ true → among others e ≡ true) → among others e ≡ true
+    one true q g ih = let is : n.0 ≡ e.0 = eqb-true n.0 e.0 q in subst (λ (m : EventName). among others m ≡ true) (ap (λ k. record { 0 = k }) is) (first_true _ _ h)
+    one false q g ih = ih g
 
 both_ways : (a b : Bool) → (a ≡ true → b ≡ true) → (b ≡ true → a ≡ true) → a ≡ b
 both_ways true b f g = sym (f refl)
@@ -144,6 +151,7 @@ kept_redone e names old new es k ok u =
       told = u.marked ∙ ap (redone_in all) k.told ∙ redone_lines all es;
       good = subst (Good events empty (live_set events) (redone_entries all es)) same good;
       names = subst (λ n. Named events n (redone_entries all es)) (sym u.same_next) (named_marked events _ k.names);
+      earlier = earlier_marked (both (live_set events) (named events (numbers all))) es k.earlier;
       again = subst (λ ns. Sound events (both (live_set events) (named events (numbers ns))) (redone_entries all es)) (sym u.redoable) (none_again (redone_entries all es) good.sound);
     }
 

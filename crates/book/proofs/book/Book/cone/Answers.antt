@@ -1,0 +1,9 @@
+use Rattle.std.proofs.Common.{sym, ap, subst}
+use Rattle.book.specs.BookView.{book_of}
+use Rattle.book.specs.EventView.{lines_of}
+use Rattle.book.specs.Causes.{CausesComeFirst}
+use Rattle.book.proofs.Firsts.{causes_first}
+use Rattle.book.proofs.book.Book.cone.Goals as goal
+
+pub cone-requires : goal.cone-requires
+cone-requires c = subst CausesComeFirst (ap lines_of (sym c.deref.ensures.value)) (causes_first (book_of c.args.self.now) c.args.self.now.stands)

@@ -1,0 +1,152 @@
+// What stands in front of a reader.
+ghost use Rattle.std.specs.Prelude.{◌≡◌};
+ghost use Rattle.ereader.specs.Grammar as grammar;
+ghost use Rattle.ereader.specs.Reading as reading;
+ghost use Rattle.ereader.specs.Reading.{front, sign_in};
+ghost use Rattle.ereader.specs.View.{plain, left_of};
+
+use crate::operator::{Bracket, Link, Operator, Prefix};
+use crate::reader::Reader;
+use etoken::token::{Placed, Reserved, Sign, Token};
+
+/// The sign that the first token is.
+fn front_sign(tokens: &[Placed]) -> Option<Sign>
+    ensures { result ≡ sign_in (plain tokens.now) }
+{
+    match tokens.first()?.token {
+        Token::Sign(sign) => Some(sign),
+        _ => None,
+    }
+}
+
+impl<'a> Reader<'a> {
+    /// The sign in front.
+    fn sign(&self) -> Option<Sign>
+        ensures { result ≡ sign_in (left_of self.now) }
+    {
+        front_sign(self.rest)
+    }
+
+    pub fn at_end(&self) -> bool
+        ensures { result ≡ reading.is_empty (left_of self.now) }
+    {
+        self.rest.is_empty()
+    }
+
+    pub fn sum_operator(&self) -> Option<Operator>
+        ensures { result ≡ front grammar.sum_operator (left_of self.now) }
+    {
+        match self.sign()? {
+            Sign::Plus => Some(Operator::Add),
+            Sign::Minus => Some(Operator::Subtract),
+            _ => None,
+        }
+    }
+
+    pub fn product_operator(&self) -> Option<Operator>
+        ensures { result ≡ front grammar.product_operator (left_of self.now) }
+    {
+        match self.sign()? {
+            Sign::Times => Some(Operator::Multiply),
+            Sign::Divide => Some(Operator::FloorDivide),
+            _ => None,
+        }
+    }
+
+    pub fn comparison_operator(&self) -> Option<Operator>
+        ensures { result ≡ front grammar.comparison_operator (left_of self.now) }
+    {
+        match self.sign()? {
+            Sign::Equal => Some(Operator::Same),
+            Sign::NotEqual => Some(Operator::Differ),
+            Sign::Less => Some(Operator::LessThan),
+            Sign::AtMost => Some(Operator::AtMost),
+            Sign::More => Some(Operator::MoreThan),
+            Sign::AtLeast => Some(Operator::AtLeast),
+            _ => None,
+        }
+    }
+
+    pub fn prefix_operator(&self) -> Option<Prefix>
+        ensures { result ≡ front grammar.prefix_operator (left_of self.now) }
+    {
+        match self.sign()? {
+            Sign::Not => Some(Prefix::Not),
+            Sign::Minus => Some(Prefix::Negate),
+            _ => None,
+        }
+    }
+
+    /// What makes a call of what was read, if that goes on.
+    pub fn link(&self) -> Option<Link>
+        ensures { result ≡ front reading.link_of (left_of self.now) }
+    {
+        match self.sign()? {
+            Sign::Dot => Some(Link::Method),
+            Sign::OpenRound => Some(Link::Run),
+            Sign::OpenSquare => Some(Link::Index),
+            _ => None,
+        }
+    }
+
+    pub fn at_definition(&self) -> bool
+        ensures { result ≡ reading.is_at_word reading.is_def_word (left_of self.now) }
+    {
+        match self.rest.first() {
+            Some(placed) => matches!(placed.token, Token::Word(Reserved::Def)),
+            None => false,
+        }
+    }
+
+    pub fn at_variable(&self) -> bool
+        ensures { result ≡ reading.is_at_word reading.is_var_word (left_of self.now) }
+    {
+        match self.rest.first() {
+            Some(placed) => matches!(placed.token, Token::Word(Reserved::Var)),
+            None => false,
+        }
+    }
+
+    /// Whether a name is in front, and `:=` behind it.
+    pub fn at_assignment(&self) -> bool
+        ensures { result ≡ reading.is_assignment (left_of self.now) }
+    {
+        let Some((first, rest)) = self.rest.split_first() else {
+            return false;
+        };
+        matches!(first.token, Token::Name(_)) && matches!(front_sign(rest), Some(Sign::Becomes))
+    }
+
+    pub fn at_comma(&self) -> bool
+        ensures { result ≡ reading.is_comma (sign_in (left_of self.now)) }
+    {
+        matches!(self.sign(), Some(Sign::Comma))
+    }
+
+    pub fn at_semicolon(&self) -> bool
+        ensures { result ≡ reading.is_semicolon (sign_in (left_of self.now)) }
+    {
+        matches!(self.sign(), Some(Sign::Semicolon))
+    }
+
+    pub fn at_becomes(&self) -> bool
+        ensures { result ≡ reading.is_becomes (sign_in (left_of self.now)) }
+    {
+        matches!(self.sign(), Some(Sign::Becomes))
+    }
+
+    pub fn at_open(&self) -> bool
+        ensures { result ≡ reading.is_open (sign_in (left_of self.now)) }
+    {
+        matches!(self.sign(), Some(Sign::OpenRound))
+    }
+
+    pub fn at_close(&self, bracket: Bracket) -> bool
+        ensures { result ≡ reading.is_close bracket (sign_in (left_of self.now)) }
+    {
+        match bracket {
+            Bracket::Round => matches!(self.sign(), Some(Sign::CloseRound)),
+            Bracket::Square => matches!(self.sign(), Some(Sign::CloseSquare)),
+        }
+    }
+}
