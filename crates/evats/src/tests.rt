@@ -96,6 +96,7 @@ fn refused_texts(rt: HostRuntime) -> Result<(), Fail> {
     let rows = [
         ("x", "no K1 Unbound x"),
         ("def x := 1; def x := 2", "no K3 DuplicateName x"),
+        ("def x := 1; x := 2", "no K2 AssignToDef x"),
         ("\"x", "no L2 UnclosedText 0"),
         ("1 +", "no L5 Unexpected 3"),
         ("1 < 2 < 3", "no L5 Unexpected 6"),
