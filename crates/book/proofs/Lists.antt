@@ -78,9 +78,9 @@ not_empty [] x h = cc
 not_empty (y ∷ xs) x h = cc
 
 -- what is left when the last item is taken away
-pub last_gone : {A B : Type 0} {C : A → Type 0} (r : Option A) (n : ℕ) (ys zs xs : List A) (x : A)
+pub last_gone : {A : Type 0} (B : Type 0) (C : A → Type 0) (r : Option A) (n : ℕ) (ys zs xs : List A) (x : A)
     → zs ≡ ys ++ option_to_list r → zs ≡ xs ++ x ∷ [] → ys ≡ take (n - 1) zs → MatchOption r ((n ≡ 0) × B) C → ys ≡ xs
-last_gone (Some y) n ys zs xs x h g k m = sym (front_of ys y) ∙ ap front (sym h ∙ g) ∙ front_of xs x
-last_gone None n ys zs xs x h g k m =
+last_gone B C (Some y) n ys zs xs x h g k m = sym (front_of ys y) ∙ ap front (sym h ∙ g) ∙ front_of xs x
+last_gone B C None n ys zs xs x h g k m =
     let none : ys ≡ [] = k ∙ ap (λ j. take (j - 1) zs) m.0 in
     absurd (not_empty xs x (sym g ∙ h ∙ ap (λ us. us ++ []) none))

@@ -360,12 +360,12 @@ fn step_birth(
     name: &Text,
     script: &Program,
 ) -> Result<(), StepFault>
-    ensures ok { OnOk result ((world_of world.old (key.Name name.now) ≡ None) × (world_of world.new ≡ after_event events (birth_foot event name.now (program_of script.now)) (world_of world.old))) }
+    ensures ok { OnOk result ((f : Foot) × Does (record { name = event; act = birth name.now (program_of script.now) }) (world_of world.old) f × (world_of world.new ≡ after_event events f (world_of world.old))) }
     ensures err { IfErr result (λ fault. TellsStep (record { name = event; act = birth name.now (program_of script.now) }) (world_of world.old) fault) }
 {
-    if world.vat(name).is_some() {
+    let None = world.vat(name) else {
         return Err(StepFault::Impossible);
-    }
+    };
     enter_birth(alloc, world, event, name, share_program(script)?)?;
     Ok(())
 }
