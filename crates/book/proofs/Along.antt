@@ -10,7 +10,7 @@ use Rattle.book.specs.Journal.{among}
 use Rattle.book.specs.Refusals.{first_some}
 
 -- what is left of a list from an index on: the item there, and those behind it
-from_here : {X Y : Type 0} (F : List X → Y) (xs : List X) (i : ℕ) (x : X) → i < length xs → x ≡ get_or xs i x → F (drop i xs) ≡ F (x ∷ drop (i + 1) xs)
+pub from_here : {X Y : Type 0} (F : List X → Y) (xs : List X) (i : ℕ) (x : X) → i < length xs → x ≡ get_or xs i x → F (drop i xs) ≡ F (x ∷ drop (i + 1) xs)
 from_here F xs i x h e = at_drop_more F xs i x h ∙ ap (λ y. F (y ∷ drop (i + 1) xs)) (sym e)
 
 -- a test passes at this item, or some item behind it decides

@@ -1,5 +1,5 @@
 -- On lists that are mapped, filtered and reversed.
-use Rattle.std.proofs.Common.{◌≡◌, ℕ, ◌-◌, Bool, true, false, cond, ◌&&◌, ◌||◌, Option, Some, None, take, List, [], ◌∷◌, ◌++◌, map, filter, reverse, refl, sym, ap, ◌∙◌}
+use Rattle.std.proofs.Common.{◌≡◌, ℕ, ◌-◌, Bool, true, false, cond, ◌&&◌, ◌||◌, Option, Some, None, take, length, List, [], ◌∷◌, ◌++◌, map, filter, reverse, refl, sym, ap, ◌∙◌}
 use Rattle.std.specs.List.{list_any}
 use Rattle.std.specs.Option.{option_to_list, MatchOption}
 use Rattle.std.proofs.lemmas.List.{reverse-append, map-append}
@@ -84,3 +84,12 @@ last_gone B C (Some y) n ys zs xs x h g k m = sym (front_of ys y) ∙ ap front (
 last_gone B C None n ys zs xs x h g k m =
     let none : ys ≡ [] = k ∙ ap (λ j. take (j - 1) zs) m.0 in
     absurd (not_empty xs x (sym g ∙ h ∙ ap (λ us. us ++ []) none))
+
+-- the first items, as many as there are
+take_front : {A : Type 0} (xs zs : List A) → take (length xs) (xs ++ zs) ≡ xs
+take_front [] [] = refl
+take_front [] (z ∷ zs) = refl
+take_front (x ∷ xs) zs = ap (λ ys. x ∷ ys) (take_front xs zs)
+
+pub same_items : {A : Type 0} (n : ℕ) (xs zs : List A) → length xs ≡ n → take n (xs ++ zs) ≡ xs
+same_items n xs zs h = ap (λ k. take k (xs ++ zs)) (sym h) ∙ take_front xs zs

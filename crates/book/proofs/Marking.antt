@@ -119,3 +119,7 @@ pub redo_other : (names : List EventName) (x : Entry) → among names x.event.na
 redo_other names x e =
     let live : is_live x.mark ≡ (is_live x.mark || among names x.event.name) = sym (ap (λ b. is_live x.mark || b) e ∙ or_false (is_live x.mark)) in
     λ i. record (line_of x) { live = live i }
+
+-- marks leave as many entries
+pub same_length : (f : Line → Line) (xs ys : List Entry) → lines_of xs ≡ map f (lines_of ys) → length xs ≡ length ys
+same_length f xs ys h = sym (length-map xs line_of) ∙ ap length h ∙ length-map (lines_of ys) f ∙ length-map ys line_of

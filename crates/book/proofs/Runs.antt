@@ -7,6 +7,9 @@ use Rattle.book.specs.World.{World, empty}
 use Rattle.book.specs.Events.{Event, Foot, Does, events}
 use Rattle.book.specs.Journal.{Line, live_events}
 use Rattle.book.specs.Books.{RunFrom}
+use Rattle.book.specs.Steps.{TellsStep, TellsRun}
+use Rattle.book.specs.declared.step.StepFault.{StepFault}
+use Rattle.book.specs.declared.step.StepFault.TheVariants as faults
 use Rattle.book.proofs.Law.{events_laws}
 
 -- a first event, and then a run from the world that it leaves
@@ -77,3 +80,8 @@ joined_start w all h = record {
   on = λ u r. subst (λ (v : World). RunFrom v (live_events all) u) h r;
   back = λ u r. subst (λ (v : World). RunFrom v (live_events all) u) (sym h) r;
 }
+
+-- what an impossible event tells of a whole run
+pub tells_run : (fault : StepFault) (l : Line) (rest all : List Line) (w : World) → l.live ≡ true → ∥ Joined w (l ∷ rest) all ∥₁ → TellsStep l.event w fault → TellsRun (live_events all) fault
+tells_run faults.Impossible l rest all w live j h = λ u r. ∥∥₁_elim j (λ a. absurd a) (λ k. joined_never l rest all w live k h u r)
+tells_run faults.Memory l rest all w live j h = tt

@@ -423,8 +423,12 @@ pub fn plain_run(alloc: Global, entries: &[Entry]) -> Result<World, StepFault>
 {
     let mut world = World::new(alloc);
     for entry in entries {
-        if entry.mark == Mark::Live {
-            step(alloc, &mut world, &entry.event)?;
+        match entry.mark {
+            Mark::Live => match step(alloc, &mut world, &entry.event) {
+                Ok(()) => {}
+                Err(fault) => return Err(fault),
+            },
+            Mark::Undone => {}
         }
     }
     Ok(world)
