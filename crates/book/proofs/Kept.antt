@@ -1,5 +1,5 @@
 -- Undo and redo keep the journal good, and are never stuck.
-use Rattle.std.proofs.Common.{◌≡◌, ℕ, ◌+◌, ◌==◌, ◌<◌, Bool, true, false, cond, ◌&&◌, ◌||◌, not, List, [], ◌∷◌, ◌++◌, map, filter, length, reverse, None, refl, sym, ap, ◌∙◌, subst, eqb-true, eq-eqb}
+use Rattle.std.proofs.Common.{◌≡◌, ℕ, ◌+◌, ◌==◌, ◌<◌, Bool, true, false, cond, ◌&&◌, ◌||◌, not, List, [], ◌∷◌, ◌++◌, map, filter, length, reverse, None, refl, sym, ap, ◌∙◌, subst, eqb-true, arith}
 use Rattle.std.proofs.Math.Logic.{∥∥₁_elim, ∥∥₁_map, ∥∥₁_prop}
 use Rattle.std.specs.List.{list_any, list_all, AllByRecursion}
 use Rattle.std.proofs.lemmas.Bool.{or_left, or_right}
@@ -197,7 +197,7 @@ undoes_none [] b h s = (
   },
   none_chosen b.journal,
 )
-undoes_none (e ∷ names) b h s = cc
+undoes_none (e ∷ names) b h s = absurd (let z : length (e ∷ names) ≡ 0 = eqb-true _ 0 h in omega (arith, z))
 
 pub redoes_none : (names : List EventName) (b : Book) → (length names == 0) ≡ true → Stands b → Redoes names b b × (0 ≡ length (filter (chosen names) b.journal))
 redoes_none [] b h s =
@@ -211,7 +211,7 @@ redoes_none [] b h s =
       },
       none_chosen b.journal,
     )
-redoes_none (e ∷ names) b h s = cc
+redoes_none (e ∷ names) b h s = absurd (let z : length (e ∷ names) ≡ 0 = eqb-true _ 0 h in omega (arith, z))
 
 -- the same of some events
 pub now_those : (names redoable : List EventName) → (length names == 0) ≡ false → now_redoable names redoable ≡ names

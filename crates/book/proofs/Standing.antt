@@ -90,10 +90,13 @@ stands_run b h = ∥∥₁_elim h ∥∥₁_prop (λ (es, k). subst (λ ls. Plai
 -- nothing has happened, and the journal is good
 pub stands_blank : (w : World) (entries : List Line) (names : List EventName) → w ≡ empty → entries ≡ [] → names ≡ [] → Stands (record { world = w; journal = entries; next = 1; redoable = names })
 stands_blank w entries names empty_world no_lines no_names =
-    ∣ ([], record {
-      told = no_lines;
-      good = record { recorded = tt; sound = tt; ordered = tt; world = empty_world };
-      names = record { distinct = tt; below = tt };
-      earlier = tt;
-      again = tt;
-    }) ∣₁
+    ∣ (
+      [],
+      record {
+        told = no_lines;
+        good = record { recorded = tt; sound = tt; ordered = tt; world = empty_world };
+        names = record { distinct = tt; below = tt };
+        earlier = tt;
+        again = tt;
+      },
+    ) ∣₁

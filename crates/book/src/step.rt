@@ -279,11 +279,7 @@ pub struct Cells {
 }
 
 /// The cells of a birth.
-pub fn cells_of_birth(
-    alloc: Global,
-    event: EventName,
-    name: &Text,
-) -> Result<Cells, AllocError>
+pub fn cells_of_birth(alloc: Global, event: EventName, name: &Text) -> Result<Cells, AllocError>
     ensures { IfOk result (λ cells. (cells.touched.items ≡ birth_cells event name.now) × (cells.written.items ≡ birth_cells event name.now)) }
 {
     Ok(Cells {
@@ -292,11 +288,7 @@ pub fn cells_of_birth(
     })
 }
 
-fn birth_keys(
-    alloc: Global,
-    event: EventName,
-    name: &Text,
-) -> Result<Vec<CellKey>, AllocError>
+fn birth_keys(alloc: Global, event: EventName, name: &Text) -> Result<Vec<CellKey>, AllocError>
     ensures { IfOk result (λ keys. keys.items ≡ birth_cells event name.now) }
 {
     let mut keys = Vec::new(alloc);
@@ -334,11 +326,7 @@ fn add_turn_keys(
 }
 
 /// The cells of a turn that was run.
-pub fn cells_of_turn(
-    alloc: Global,
-    name: MsgId,
-    delivered: &Delivered,
-) -> Result<Cells, AllocError>
+pub fn cells_of_turn(alloc: Global, name: MsgId, delivered: &Delivered) -> Result<Cells, AllocError>
     ensures touched { IfOk result (λ cells. cells.touched.items ≡ turn_reads delivered.now.number delivered.now.after ++ turn_cells delivered.now.number name delivered.now.promise (outcome_of delivered.now.outcome).end) }
     ensures written { IfOk result (λ cells. cells.written.items ≡ turn_cells delivered.now.number name delivered.now.promise (outcome_of delivered.now.outcome).end) }
 {
@@ -387,12 +375,7 @@ fn step_ask(
     Ok(())
 }
 
-fn step_turn(
-    world: &mut World,
-    event: EventName,
-    name: MsgId,
-    budget: u32,
-) -> Result<(), StepFault>
+fn step_turn(world: &mut World, event: EventName, name: MsgId, budget: u32) -> Result<(), StepFault>
     ensures ok { OnOk result ((f : Foot) × ∥ Does (record { name = event; act = turn name budget }) (world_of world.old) f ∥₁ × (world_of world.new ≡ after_event events f (world_of world.old))) }
     ensures err { IfErr result (λ fault. TellsStep (record { name = event; act = turn name budget }) (world_of world.old) fault) }
 {

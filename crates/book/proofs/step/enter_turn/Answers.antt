@@ -18,10 +18,10 @@ returns-clause-ok c g x s waiting same at_home =
     let first = c.in_ok-settle.ensures.ok g waiting in
     let kept : List (CellKey × Content) = (key.State d.number, home x (state_of d.outcome.state)) ∷ [] in
     elim c.if-not-is_abandoned.branch [
-      then-not-is_abandoned w ↦ settled r.end kept d.number x r.state c.args.event c.args.name g r d.promise _ _
+      | then-not-is_abandoned w ↦ settled r.end kept d.number x r.state c.args.event c.args.name g r d.promise _ _
           (ap (λ (b : Bool). cond b [] kept) (sym c.is_abandoned.ensures ∙ w.if-not-is_abandoned.true)) same
           (ap world_of w.world-is ∙ w.give_state.ensures x s (ap (λ (u : World). u (key.State d.number)) first ∙ at_home) ∙ ap (λ (u : World). λ k. cond (same_key (key.State d.number) k) (Some (home x (state_of d.outcome.state))) (u k)) first)
-    | else-not-is_abandoned w ↦ settled r.end [] d.number x r.state c.args.event c.args.name g r d.promise _ _
+      | else-not-is_abandoned w ↦ settled r.end [] d.number x r.state c.args.event c.args.name g r d.promise _ _
           (ap (λ (b : Bool). cond b [] kept) (sym c.is_abandoned.ensures ∙ w.if-not-is_abandoned.false)) same
           (ap world_of w.world-is ∙ first)
     ]

@@ -40,7 +40,7 @@ loop-entry-preserved c =
     let here : lines_of (drop i xs) ≡ line_of e ∷ rest = from_here lines_of xs i e c.loop-entry-test.true c.entry-item.is in
     let j : ∥ Joined w (line_of e ∷ rest) (lines_of xs) ∥₁ = subst (λ (ls : List Line). ∥ Joined w ls (lines_of xs) ∥₁) here c.loop-entry.invariant in
     elim c.match-entry.branch [
-      in-Live+in-Ok b ↦ let s = b.in-Ok.ensures.ok in
+      | in-Live+in-Ok b ↦ let s = b.in-Ok.ensures.ok in
           ∥∥₁_map j (λ k. joined_step (line_of e) rest (lines_of xs) s.0 w (world_of c.match-entry.world) (ap is_live b.in-Live.is) k s.1 (ap world_of b.world-is ∙ s.2))
-    | in-Undone b ↦ ∥∥₁_map j (λ k. subst (λ (v : World). Joined v rest (lines_of xs)) (sym (ap world_of b.world-is)) (joined_skip (line_of e) rest (lines_of xs) w (ap is_live b.in-Undone.is) k))
+      | in-Undone b ↦ ∥∥₁_map j (λ k. subst (λ (v : World). Joined v rest (lines_of xs)) (sym (ap world_of b.world-is)) (joined_skip (line_of e) rest (lines_of xs) w (ap is_live b.in-Undone.is) k))
     ]

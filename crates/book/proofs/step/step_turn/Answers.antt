@@ -20,8 +20,8 @@ returns-clause-ok c =
     let u : Turn = record { message = g; vat = d.number; name = c.in-Ok.home.now.name; state = state_of c.in-Ok.home.now.state; outcome = outcome_of d.outcome } in
     let at_home = ap (λ (v : VatNo). w (key.State v)) same.0 ∙ c.in-Ok.ensures.there.1 in
     let t : ∥ Turns c.args.event w m c.args.budget u ∥₁ =
-        is_turn c.args.event w m c.args.budget u c.in-Ok.ensures.waiting (c.in-Ok.ensures.there.0 ∙ ap at_vat (sym same.0)) c.in-Ok.ensures.in_order at_home
-        (subst (λ (v : VatNo). ∥ Delivers g.delivery c.args.event v u.state c.args.budget u.outcome ∥₁) (sym same.0) c.in_ok-delivered.ensures.run) in (
+    is_turn c.args.event w m c.args.budget u c.in-Ok.ensures.waiting (c.in-Ok.ensures.there.0 ∙ ap at_vat (sym same.0)) c.in-Ok.ensures.in_order at_home
+    (subst (λ (v : VatNo). ∥ Delivers g.delivery c.args.event v u.state c.args.budget u.outcome ∥₁) (sym same.0) c.in_ok-delivered.ensures.run) in (
       turn_foot c.args.event m u,
       ∥∥₁_map t (λ h. turns h),
       c.in_ok-enter_turn.ensures.ok g u.name u.state c.in-Ok.ensures.waiting (sym same.2) at_home,

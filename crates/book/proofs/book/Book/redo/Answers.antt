@@ -21,8 +21,8 @@ returns-then-is_empty-clause-ok c =
     let old = book_of c.args.self.now in
     let ev = c.args.events.now in
     let ok : redo_refusal old ev ≡ None =
-        (λ i. first (missing_refusal ev (lines_of (sym c.deref.ensures.value i))) (first (live_refusal ev (lines_of (sym c.deref.ensures.value i))) (next_refusal ev (sym c.deref-2.ensures.value i))))
-        ∙ c.in_ok-check_redo.ensures.ok in
+    (λ i. first (missing_refusal ev (lines_of (sym c.deref.ensures.value i))) (first (live_refusal ev (lines_of (sym c.deref.ensures.value i))) (next_refusal ev (sym c.deref-2.ensures.value i))))
+    ∙ c.in_ok-check_redo.ensures.ok in
     let none = redoes_none ev old (sym c.is_empty.ensures ∙ c.if-is_empty.true) c.args.self.now.stands in
     (ok, none.0, none.1)
 
@@ -31,8 +31,8 @@ invariant_of-self-in-Ok-clause-stands c =
     let old = book_of c.args.self.now in
     let ev = c.args.events.now in
     let ok : redo_refusal old ev ≡ None =
-        (λ i. first (missing_refusal ev (lines_of (sym c.deref.ensures.value i))) (first (live_refusal ev (lines_of (sym c.deref.ensures.value i))) (next_refusal ev (sym c.deref-2.ensures.value i))))
-        ∙ c.in_ok-check_redo.ensures.ok in
+    (λ i. first (missing_refusal ev (lines_of (sym c.deref.ensures.value i))) (first (live_refusal ev (lines_of (sym c.deref.ensures.value i))) (next_refusal ev (sym c.deref-2.ensures.value i))))
+    ∙ c.in_ok-check_redo.ensures.ok in
     let some : (length ev == 0) ≡ false = sym c.is_empty.ensures ∙ c.if-is_empty.false in
     let lines = lines_of c.redo_entries.new.entries.items in
     let run : PlainRun (live_events lines) (world_of c.in-Ok.world) = subst (λ (es : List Entry). PlainRun (live_events (lines_of es)) (world_of c.in-Ok.world)) c.deref-4.ensures.value c.in-Ok.ensures.ok in
@@ -51,8 +51,8 @@ invariant_of-self-in-Err-Memory-clause-stands c =
     let old = book_of c.args.self.now in
     let ev = c.args.events.now in
     let ok : redo_refusal old ev ≡ None =
-        (λ i. first (missing_refusal ev (lines_of (sym c.deref.ensures.value i))) (first (live_refusal ev (lines_of (sym c.deref.ensures.value i))) (next_refusal ev (sym c.deref-2.ensures.value i))))
-        ∙ c.in_ok-check_redo.ensures.ok in
+    (λ i. first (missing_refusal ev (lines_of (sym c.deref.ensures.value i))) (first (live_refusal ev (lines_of (sym c.deref.ensures.value i))) (next_refusal ev (sym c.deref-2.ensures.value i))))
+    ∙ c.in_ok-check_redo.ensures.ok in
     stands_so _ _ _ _ _ _ refl (c.undo_entries.ensures ∙ ap (undone_in ev) c.redo_entries.ensures ∙ undone-redone old ev ok) c.args.self.now.stands
 
 pub unreachable-requires : goal.unreachable-requires
@@ -60,8 +60,8 @@ unreachable-requires c =
     let old = book_of c.args.self.now in
     let ev = c.args.events.now in
     let ok : redo_refusal old ev ≡ None =
-        (λ i. first (missing_refusal ev (lines_of (sym c.deref.ensures.value i))) (first (live_refusal ev (lines_of (sym c.deref.ensures.value i))) (next_refusal ev (sym c.deref-2.ensures.value i))))
-        ∙ c.in_ok-check_redo.ensures.ok in
+    (λ i. first (missing_refusal ev (lines_of (sym c.deref.ensures.value i))) (first (live_refusal ev (lines_of (sym c.deref.ensures.value i))) (next_refusal ev (sym c.deref-2.ensures.value i))))
+    ∙ c.in_ok-check_redo.ensures.ok in
     let some : (length ev == 0) ≡ false = sym c.is_empty.ensures ∙ c.if-is_empty.false in
     let lines = lines_of c.redo_entries.new.entries.items in
     redo_goes old ev some c.args.self.now.stands ok
@@ -73,8 +73,8 @@ returns-in-Ok-clause-ok c =
     let old = book_of c.args.self.now in
     let ev = c.args.events.now in
     let ok : redo_refusal old ev ≡ None =
-        (λ i. first (missing_refusal ev (lines_of (sym c.deref.ensures.value i))) (first (live_refusal ev (lines_of (sym c.deref.ensures.value i))) (next_refusal ev (sym c.deref-2.ensures.value i))))
-        ∙ c.in_ok-check_redo.ensures.ok in
+    (λ i. first (missing_refusal ev (lines_of (sym c.deref.ensures.value i))) (first (live_refusal ev (lines_of (sym c.deref.ensures.value i))) (next_refusal ev (sym c.deref-2.ensures.value i))))
+    ∙ c.in_ok-check_redo.ensures.ok in
     let some : (length ev == 0) ≡ false = sym c.is_empty.ensures ∙ c.if-is_empty.false in
     let lines = lines_of c.redo_entries.new.entries.items in
     let run : PlainRun (live_events lines) (world_of c.in-Ok.world) = subst (λ (es : List Entry). PlainRun (live_events (lines_of es)) (world_of c.in-Ok.world)) c.deref-4.ensures.value c.in-Ok.ensures.ok in
@@ -93,7 +93,7 @@ returns-in-Err-Memory-clause-unchanged c =
     let old = book_of c.args.self.now in
     let ev = c.args.events.now in
     let ok : redo_refusal old ev ≡ None =
-        (λ i. first (missing_refusal ev (lines_of (sym c.deref.ensures.value i))) (first (live_refusal ev (lines_of (sym c.deref.ensures.value i))) (next_refusal ev (sym c.deref-2.ensures.value i))))
-        ∙ c.in_ok-check_redo.ensures.ok in
+    (λ i. first (missing_refusal ev (lines_of (sym c.deref.ensures.value i))) (first (live_refusal ev (lines_of (sym c.deref.ensures.value i))) (next_refusal ev (sym c.deref-2.ensures.value i))))
+    ∙ c.in_ok-check_redo.ensures.ok in
     let back = c.undo_entries.ensures ∙ ap (undone_in ev) c.redo_entries.ensures ∙ undone-redone old ev ok in
     λ i. record { world = old.world; journal = back i; next = old.next; redoable = old.redoable }

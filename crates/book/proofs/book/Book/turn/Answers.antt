@@ -35,16 +35,16 @@ invariant_of-self-in-Ok-enter_turn-clause-stands c =
     let new : Book = record { world = world_of c.enter_turn.new.world; journal = lines_of c.add_entry.new.entries.items; next = c.args.self.now.next + 1; redoable = c.clear.new.self.items } in
     let at_home = ap (λ (v : VatNo). old.world (key.State v)) same.0 ∙ c.in-Ok.ensures.there.1 in
     let t : ∥ Turns e old.world m c.args.budget u ∥₁ =
-        is_turn e old.world m c.args.budget u c.in-Ok.ensures.waiting (c.in-Ok.ensures.there.0 ∙ ap at_vat (sym same.0)) c.in-Ok.ensures.in_order at_home
-        (subst (λ (v : VatNo). ∥ Delivers g.delivery e v u.state c.args.budget u.outcome ∥₁) (sym same.0) c.in_ok-delivered.ensures.run) in
+    is_turn e old.world m c.args.budget u c.in-Ok.ensures.waiting (c.in-Ok.ensures.there.0 ∙ ap at_vat (sym same.0)) c.in-Ok.ensures.in_order at_home
+    (subst (λ (v : VatNo). ∥ Delivers g.delivery e v u.state c.args.budget u.outcome ∥₁) (sym same.0) c.in_ok-delivered.ensures.run) in
     let keys = sym (turn_keys d.number u.name u.outcome.state e m g u.outcome u.outcome.end) in
     let ev : Event = record { name = e; act = turn m c.args.budget } in
     let f = turn_foot e m u in
     let n : Enters ev f old new =
-        enters ev ev f old new c.in_ok-cells.cells.touched.items c.in_ok-cells.cells.written.items c.in_ok-event.ensures.ok.0 refl (∥∥₁_map t (λ h. turns h))
-        (c.in-Ok-enter_turn.ensures.ok g u.name u.state c.in-Ok.ensures.waiting (sym same.2) at_home) c.in_ok-add_entry.ensures.ok refl
-        (c.in_ok-cells.ensures.touched ∙ (λ i. turn_reads d.number (same.1 i) ++ turn_cells d.number m (same.2 i) u.outcome.end) ∙ ap (λ (ks : List CellKey). turn_reads d.number g.after ++ ks) keys)
-        (c.in_ok-cells.ensures.written ∙ (λ i. turn_cells d.number m (same.2 i) u.outcome.end) ∙ keys) c.clear.ensures.items in
+    enters ev ev f old new c.in_ok-cells.cells.touched.items c.in_ok-cells.cells.written.items c.in_ok-event.ensures.ok.0 refl (∥∥₁_map t (λ h. turns h))
+    (c.in-Ok-enter_turn.ensures.ok g u.name u.state c.in-Ok.ensures.waiting (sym same.2) at_home) c.in_ok-add_entry.ensures.ok refl
+    (c.in_ok-cells.ensures.touched ∙ (λ i. turn_reads d.number (same.1 i) ++ turn_cells d.number m (same.2 i) u.outcome.end) ∙ ap (λ (ks : List CellKey). turn_reads d.number g.after ++ ks) keys)
+    (c.in_ok-cells.ensures.written ∙ (λ i. turn_cells d.number m (same.2 i) u.outcome.end) ∙ keys) c.clear.ensures.items in
     stands_entered ev f old new c.args.self.now.stands n
 
 pub invariant_of-self-in-Err-enter_turn-clause-stands : goal.invariant_of-self-in-Err-enter_turn-clause-stands
@@ -65,16 +65,16 @@ returns-in-Ok-enter_turn-clause-ok c =
     let new : Book = record { world = world_of c.enter_turn.new.world; journal = lines_of c.add_entry.new.entries.items; next = c.args.self.now.next + 1; redoable = c.clear.new.self.items } in
     let at_home = ap (λ (v : VatNo). old.world (key.State v)) same.0 ∙ c.in-Ok.ensures.there.1 in
     let t : ∥ Turns e old.world m c.args.budget u ∥₁ =
-        is_turn e old.world m c.args.budget u c.in-Ok.ensures.waiting (c.in-Ok.ensures.there.0 ∙ ap at_vat (sym same.0)) c.in-Ok.ensures.in_order at_home
-        (subst (λ (v : VatNo). ∥ Delivers g.delivery e v u.state c.args.budget u.outcome ∥₁) (sym same.0) c.in_ok-delivered.ensures.run) in
+    is_turn e old.world m c.args.budget u c.in-Ok.ensures.waiting (c.in-Ok.ensures.there.0 ∙ ap at_vat (sym same.0)) c.in-Ok.ensures.in_order at_home
+    (subst (λ (v : VatNo). ∥ Delivers g.delivery e v u.state c.args.budget u.outcome ∥₁) (sym same.0) c.in_ok-delivered.ensures.run) in
     let keys = sym (turn_keys d.number u.name u.outcome.state e m g u.outcome u.outcome.end) in
     let ev : Event = record { name = e; act = turn m c.args.budget } in
     let f = turn_foot e m u in
     let n : Enters ev f old new =
-        enters ev ev f old new c.in_ok-cells.cells.touched.items c.in_ok-cells.cells.written.items c.in_ok-event.ensures.ok.0 refl (∥∥₁_map t (λ h. turns h))
-        (c.in-Ok-enter_turn.ensures.ok g u.name u.state c.in-Ok.ensures.waiting (sym same.2) at_home) c.in_ok-add_entry.ensures.ok refl
-        (c.in_ok-cells.ensures.touched ∙ (λ i. turn_reads d.number (same.1 i) ++ turn_cells d.number m (same.2 i) u.outcome.end) ∙ ap (λ (ks : List CellKey). turn_reads d.number g.after ++ ks) keys)
-        (c.in_ok-cells.ensures.written ∙ (λ i. turn_cells d.number m (same.2 i) u.outcome.end) ∙ keys) c.clear.ensures.items in
+    enters ev ev f old new c.in_ok-cells.cells.touched.items c.in_ok-cells.cells.written.items c.in_ok-event.ensures.ok.0 refl (∥∥₁_map t (λ h. turns h))
+    (c.in-Ok-enter_turn.ensures.ok g u.name u.state c.in-Ok.ensures.waiting (sym same.2) at_home) c.in_ok-add_entry.ensures.ok refl
+    (c.in_ok-cells.ensures.touched ∙ (λ i. turn_reads d.number (same.1 i) ++ turn_cells d.number m (same.2 i) u.outcome.end) ∙ ap (λ (ks : List CellKey). turn_reads d.number g.after ++ ks) keys)
+    (c.in_ok-cells.ensures.written ∙ (λ i. turn_cells d.number m (same.2 i) u.outcome.end) ∙ keys) c.clear.ensures.items in
     (next_is (ready_refusal old.world m) (full_refusal old) c.in-Ok.ensures.ok ∙ c.in_ok-event.ensures.ok.2, (u, t, n, c.in-Ok-enter_turn.ensures.ended))
 
 pub returns-in-Err-enter_turn-clause-unchanged : goal.returns-in-Err-enter_turn-clause-unchanged

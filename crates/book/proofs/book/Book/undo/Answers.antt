@@ -24,23 +24,6 @@ returns-then-is_empty-clause-ok c =
     let none = undoes_none ev old (sym c.is_empty.ensures ∙ c.if-is_empty.true) c.args.self.now.stands in
     (ok, none.0, none.1)
 
-pub invariant_of-self-in-Ok-clause-stands : goal.invariant_of-self-in-Ok-clause-stands
-invariant_of-self-in-Ok-clause-stands c =
-    let old = book_of c.args.self.now in
-    let ev = c.args.events.now in
-    let ok : undo_refusal old.journal ev ≡ None = ap (λ (es : List Entry). undo_refusal (lines_of es) ev) (sym c.deref.ensures.value) ∙ c.in_ok-check_undo.ensures.ok in
-    let some : (length ev == 0) ≡ false = sym c.is_empty.ensures ∙ c.if-is_empty.false in
-    let lines = lines_of c.undo_entries.new.entries.items in
-    let new : Book = record { world = world_of c.in-Ok.world; journal = lines; next = c.args.self.now.next; redoable = c.in_ok-redoable.redoable.items } in
-    let rest : live_events (lines_of c.deref-3.result.now) ≡ rest_of ev old.journal = ap live_events (ap lines_of c.deref-3.ensures.value ∙ c.undo_entries.ensures) ∙ live_events-undone ev old.journal in
-    let u : Undoes ev old new = record {
-      rest = subst (λ es. PlainRun es new.world) rest c.in-Ok.ensures.ok;
-      marked = c.undo_entries.ensures;
-      same_next = refl;
-      redoable = c.in_ok-redoable.ensures.items ∙ sym (now_those ev old.redoable some);
-    } in
-    stands_after_undo ev old new some c.args.self.now.stands ok u
-
 pub invariant_of-self-in-Err-Memory-clause-stands : goal.invariant_of-self-in-Err-Memory-clause-stands
 invariant_of-self-in-Err-Memory-clause-stands c =
     let old = book_of c.args.self.now in
@@ -81,3 +64,20 @@ returns-in-Err-Memory-clause-unchanged c =
     let ok : undo_refusal old.journal ev ≡ None = ap (λ (es : List Entry). undo_refusal (lines_of es) ev) (sym c.deref.ensures.value) ∙ c.in_ok-check_undo.ensures.ok in
     let back = c.redo_entries.ensures ∙ ap (redone_in ev) c.undo_entries.ensures ∙ redone-undone old.journal ev ok in
     λ i. record { world = old.world; journal = back i; next = old.next; redoable = old.redoable }
+
+pub invariant_of-self : goal.invariant_of-self
+invariant_of-self c =
+    let old = book_of c.args.self.now in
+    let ev = c.args.events.now in
+    let ok : undo_refusal old.journal ev ≡ None = ap (λ (es : List Entry). undo_refusal (lines_of es) ev) (sym c.deref.ensures.value) ∙ c.in_ok-check_undo.ensures.ok in
+    let some : (length ev == 0) ≡ false = sym c.is_empty.ensures ∙ c.if-is_empty.false in
+    let lines = lines_of c.undo_entries.new.entries.items in
+    let new : Book = record { world = world_of c.in-Ok.world; journal = lines; next = c.args.self.now.next; redoable = c.in_ok-redoable.redoable.items } in
+    let rest : live_events (lines_of c.deref-3.result.now) ≡ rest_of ev old.journal = ap live_events (ap lines_of c.deref-3.ensures.value ∙ c.undo_entries.ensures) ∙ live_events-undone ev old.journal in
+    let u : Undoes ev old new = record {
+      rest = subst (λ es. PlainRun es new.world) rest c.in-Ok.ensures.ok;
+      marked = c.undo_entries.ensures;
+      same_next = refl;
+      redoable = c.in_ok-redoable.ensures.items ∙ sym (now_those ev old.redoable some);
+    } in
+    record { in_range = c.args.self.now.in_range; stands = stands_after_undo ev old new some c.args.self.now.stands ok u }
