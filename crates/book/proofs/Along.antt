@@ -1,24 +1,24 @@
--- Walks along a list: what is left of it, and what holds of each of its items.
-use Rattle.std.proofs.Common.{◌≡◌, ℕ, ◌+◌, ◌<◌, ◌≤◌, List, [], ◌∷◌, ◌++◌, Bool, true, false, cond, Option, Some, None, refl, ap, sym, ◌∙◌, subst, length, drop, get_or, map, set, inl, inr}
-use Rattle.std.specs.Prelude.{◌||◌, ◌==◌, ◌⊎◌}
-use Rattle.std.specs.List.{list_any, list_all, filter, AllByRecursion}
+-- On the items of a list, one by one.
+use Rattle.std.proofs.Common.{◌≡◌, ℕ, ◌+◌, ◌<◌, List, [], ◌∷◌, ◌++◌, length, drop, get_or, Bool, true, false, cond, Option, Some, None, refl, ap, sym, ◌∙◌, inl, inr}
+use Rattle.std.specs.Prelude.{◌||◌, ◌==◌}
+use Rattle.std.specs.List.{list_any, filter, AllByRecursion}
 use Rattle.std.specs.Option.{option_or}
-use Rattle.std.proofs.lemmas.Bool.{or_parts, or_cases, or_left, or_right, eqb-true, eq-eqb}
-use Rattle.std.proofs.lemmas.List.{at_drop_more, at_drop_all}
+use Rattle.std.proofs.lemmas.Bool.{or_cases, or_left, or_right, eqb-true, eq-eqb}
+use Rattle.std.proofs.lemmas.List.{at_drop_more}
 use Rattle.ids.specs.declared.names.EventName.{EventName}
 use Rattle.book.specs.Journal.{among}
 use Rattle.book.specs.Refusals.{first_some}
 
--- what is left from an index on: the item there, and those behind it
-pub left : {X Y : Type 0} (F : List X → Y) (xs : List X) (i : ℕ) (x : X) → i < length xs → x ≡ get_or xs i x → F (drop i xs) ≡ F (x ∷ drop (i + 1) xs)
-left F xs i x h e = at_drop_more F xs i x h ∙ ap (λ y. F (y ∷ drop (i + 1) xs)) (sym e)
+-- what is left of a list from an index on: the item there, and those behind it
+pub from_here : {X Y : Type 0} (F : List X → Y) (xs : List X) (i : ℕ) (x : X) → i < length xs → x ≡ get_or xs i x → F (drop i xs) ≡ F (x ∷ drop (i + 1) xs)
+from_here F xs i x h e = at_drop_more F xs i x h ∙ ap (λ y. F (y ∷ drop (i + 1) xs)) (sym e)
 
--- the first answer is at this item, or behind it
-pub some_here : {X B : Type 0} (f : X → Option B) (xs : List X) (i : ℕ) (x : X) (y : B) → i < length xs → x ≡ get_or xs i x → f x ≡ Some y → first_some f (drop i xs) ≡ Some y
-some_here f xs i x y h e here = left (first_some f) xs i x h e ∙ ap (λ o. option_or o (first_some f (drop (i + 1) xs))) here
+-- a test passes at this item, or some item behind it decides
+pub any_here : {X : Type 0} (p : X → Bool) (xs : List X) (i : ℕ) (x : X) → i < length xs → x ≡ get_or xs i x → p x ≡ true → list_any p (drop i xs) ≡ true
+any_here p xs i x h e here = from_here (list_any p) xs i x h e ∙ ap (λ b. b || list_any p (drop (i + 1) xs)) here
 
-pub some_on : {X B : Type 0} (f : X → Option B) (xs : List X) (i : ℕ) (x : X) → i < length xs → x ≡ get_or xs i x → f x ≡ None → first_some f (drop (i + 1) xs) ≡ first_some f (drop i xs)
-some_on f xs i x h e here = sym (left (first_some f) xs i x h e ∙ ap (λ o. option_or o (first_some f (drop (i + 1) xs))) here)
+pub any_on : {X : Type 0} (p : X → Bool) (xs : List X) (i : ℕ) (x : X) → i < length xs → x ≡ get_or xs i x → p x ≡ false → list_any p (drop (i + 1) xs) ≡ list_any p (drop i xs)
+any_on p xs i x h e here = sym (from_here (list_any p) xs i x h e ∙ ap (λ b. b || list_any p (drop (i + 1) xs)) here)
 
 or_none : {B : Type 0} (a b : Option B) → option_or a b ≡ None → (a ≡ None) × (b ≡ None)
 or_none None b e = (refl, e)
@@ -45,11 +45,6 @@ each_map P Q f (x ∷ xs) h = (f x h.0, each_map P Q f xs h.1)
 pub each : {X : Type 0} (Q : X → Type 0) → ((x : X) → Q x) → (xs : List X) → AllByRecursion Q xs
 each Q f [] = tt
 each Q f (x ∷ xs) = (f x, each Q f xs)
-
--- a test that passes at one of the items
-pub none_any : {X : Type 0} (p : X → Bool) (xs : List X) → list_any p xs ≡ false → AllByRecursion (λ x. p x ≡ false) xs
-none_any p [] e = tt
-none_any p (x ∷ xs) e = let parts = or_parts (p x) (list_any p xs) e in (parts.0, none_any p xs parts.1)
 
 kept_split : {X : Type 0} (b : Bool) (x : X) (xs : List X) → cond b (x ∷ xs) xs ≡ [] → (b ≡ false) × (xs ≡ [])
 kept_split true x xs e = cc

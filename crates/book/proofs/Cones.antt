@@ -1,14 +1,14 @@
 -- A walk along the journal that gathers the cone of an event.
-use Rattle.std.proofs.Common.{◌≡◌, ℕ, List, [], ◌∷◌, ◌++◌, Bool, true, false, cond, None, refl, ap, sym, ◌∙◌, subst, map, append_assoc, append-nil, inl, inr}
+use Rattle.std.proofs.Common.{◌≡◌, List, [], ◌∷◌, ◌++◌, Bool, true, false, cond, None, refl, ap, sym, ◌∙◌, subst, map, append_assoc, append-nil, inl, inr}
 use Rattle.std.specs.Prelude.{◌||◌, ◌&&◌, ◌==◌}
 use Rattle.std.specs.List.{list_any, filter, AllByRecursion}
-use Rattle.std.proofs.lemmas.Bool.{or_cases, or_left, or_right, or_from, or_parts, and_from, and_parts, cases_Bool}
+use Rattle.std.proofs.lemmas.Bool.{or_cases, or_left, or_right, or_from, or_parts, and_from, and_parts}
 use Rattle.std.proofs.lemmas.List.Folds.{list_any-append}
 use Rattle.ids.specs.declared.names.EventName.{EventName}
 use Rattle.book.specs.Journal.{Line, name_of, among, chosen, Closed, Cone}
 use Rattle.book.specs.Refusals.{is_entered, missing_refusal, undone_refusal, cone_refusal}
-use Rattle.book.specs.Causes.{ComesFirst, CausesComeFirst, joins, joined_with, gathered}
-use Rattle.book.proofs.Along.{meet, each_append, each_map, same_name, itself, turned, each_among}
+use Rattle.book.specs.Causes.{CausesComeFirst, joins, joined_with, gathered}
+use Rattle.book.proofs.Along.{meet, each_append, same_name, itself, turned}
 use Rattle.book.proofs.Refused.{next_is}
 use Rattle.book.proofs.Marks.{all_entered}
 
@@ -70,16 +70,16 @@ in_order root joined [] h g = sym (append-nil joined)
 in_order root joined (l ∷ lines) h g =
     let b = joins root joined l in
     order_step b joined l lines (gathered root (joined_with b joined l) lines) g.0
-        (unnamed root (joined_with b joined l) lines (name_of l) h.0.distinct)
-        (in_order root (joined_with b joined l) lines h.1 (fresh_with b joined l lines h.0.distinct g.1))
+    (unnamed root (joined_with b joined l) lines (name_of l) h.0.distinct)
+    (in_order root (joined_with b joined l) lines h.1 (fresh_with b joined l lines h.0.distinct g.1))
 
 -- the root has joined at the end
 has_root : (root : EventName) (joined : List EventName) (lines : List Line) → is_entered lines root ≡ true → among (gathered root joined lines) root ≡ true
 has_root root joined [] h = cc
 has_root root joined (l ∷ lines) h = elim (or_cases ((name_of l).0 == root.0) (is_entered lines root) h) [
-    inl here ↦ stays root (joined_with (joins root joined l) joined l) lines root (here_among here)
+  | inl here ↦ stays root (joined_with (joins root joined l) joined l) lines root (here_among here)
   | inr there ↦ has_root root (joined_with (joins root joined l) joined l) lines there
-  ]
+]
   where
     here_among : ((name_of l).0 == root.0) ≡ true → among (joined_with (joins root joined l) joined l) root ≡ true
     here_among e =
@@ -128,21 +128,21 @@ among_within others names e h g =
 any_within : (others names causes : List EventName) → Within others names → list_any (among names) causes ≡ true → list_any (among others) causes ≡ true
 any_within others names [] h g = g
 any_within others names (n ∷ causes) h g = elim (or_cases (among names n) (list_any (among names) causes) g) [
-    inl here ↦ or_left _ _ (among_within others names n h here)
+  | inl here ↦ or_left _ _ (among_within others names n h here)
   | inr there ↦ or_right (among others n) _ (any_within others names causes h there)
-  ]
+]
 
 least_step : (root : EventName) (joined others : List EventName) (l : Line) → among others root ≡ true → (l.live ≡ true → list_any (among others) l.causes ≡ true → chosen others l ≡ true) → Within others joined → joins root joined l ≡ true → among others (name_of l) ≡ true
 least_step root joined others l r c g e = elim (or_cases ((name_of l).0 == root.0) (l.live && list_any (among joined) l.causes) e) [
-    inl here ↦ ap (among others) (same_name (name_of l) root here) ∙ r
+  | inl here ↦ ap (among others) (same_name (name_of l) root here) ∙ r
   | inr there ↦ let parts = and_parts l.live (list_any (among joined) l.causes) there in c parts.0 (any_within others joined l.causes g parts.1)
-  ]
+]
 
 is_least : (root : EventName) (joined : List EventName) (lines : List Line) (others : List EventName) → among others root ≡ true → Closed others lines → Within others joined → Within others (gathered root joined lines)
 is_least root joined [] others r c g = g
 is_least root joined (l ∷ lines) others r c g =
     is_least root (joined_with (joins root joined l) joined l) lines others r c.1
-        (within_with (joins root joined l) others joined l (least_step root joined others l r c.0 g) g)
+    (within_with (joins root joined l) others joined l (least_step root joined others l r c.0 g) g)
 
 all_fresh : (lines : List Line) → Fresh [] lines
 all_fresh [] = tt
@@ -159,6 +159,7 @@ is_cone lines root h e = record {
 
 -- a live event of the journal has what has joined at the end as its cone
 pub cone_of : (lines : List Line) (root : EventName) (names : List EventName) → CausesComeFirst lines → missing_refusal (root ∷ []) lines ≡ None → undone_refusal (root ∷ []) lines ≡ None → names ≡ gathered root [] lines → (cone_refusal lines root ≡ None) × Cone lines root names
-cone_of lines root names h missing undone e =
-    (next_is (missing_refusal (root ∷ []) lines) (undone_refusal (root ∷ []) lines) missing ∙ undone,
-     subst (Cone lines root) (sym e) (is_cone lines root h (all_entered lines (root ∷ []) missing).0))
+cone_of lines root names h missing undone e = (
+  next_is (missing_refusal (root ∷ []) lines) (undone_refusal (root ∷ []) lines) missing ∙ undone,
+  subst (Cone lines root) (sym e) (is_cone lines root h (all_entered lines (root ∷ []) missing).0),
+)

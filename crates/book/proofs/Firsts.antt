@@ -57,8 +57,8 @@ come_first : (es : List (Entry events)) → Ordered events es → Distinct event
 come_first [] o d b = tt
 come_first (e ∷ es) (p, o) (q, d) (r, b) =
     let older : AllByRecursion (λ a. Before (line_of e) (line_of a)) es =
-        all_both (λ a. caused events a e ≡ false) (λ a. entry_name events a ≢ entry_name events e) (λ a. Before (line_of e) (line_of a)) es
-        (λ a c n. (among_causes a e.event.name ∙ c, ne_eqb (entry_name events a) (entry_name events e) n)) p q in
+    all_both (λ a. caused events a e ≡ false) (λ a. entry_name events a ≢ entry_name events e) (λ a. Before (line_of e) (line_of a)) es
+    (λ a c n. (among_causes a e.event.name ∙ c, ne_eqb (entry_name events a) (entry_name events e) n)) p q in
     subst CausesComeFirst (sym (ap (map line_of) (reversed e es) ∙ map-append line_of (reverse es) (e ∷ [])))
     (one_more (line_of e) (told es) (come_first es o d b) (all_mapped line_of (Before (line_of e)) (reverse es) (all_reversed (λ a. Before (line_of e) (line_of a)) es older))
     (among_causes e e.event.name ∙ above e.event.name.0 e.causes r))

@@ -1,5 +1,5 @@
 -- Undo and redo keep the journal good, and are never stuck.
-use Rattle.std.proofs.Common.{◌≡◌, ℕ, ◌+◌, ◌==◌, ◌<◌, Bool, true, false, cond, ◌&&◌, ◌||◌, not, List, [], ◌∷◌, ◌++◌, map, filter, reverse, None, refl, sym, ap, ◌∙◌, subst, eqb-true, eq-eqb}
+use Rattle.std.proofs.Common.{◌≡◌, ℕ, ◌+◌, ◌==◌, ◌<◌, Bool, true, false, cond, ◌&&◌, ◌||◌, not, List, [], ◌∷◌, ◌++◌, map, filter, length, reverse, None, refl, sym, ap, ◌∙◌, subst, eqb-true, arith}
 use Rattle.std.proofs.Math.Logic.{∥∥₁_elim, ∥∥₁_map, ∥∥₁_prop}
 use Rattle.std.specs.List.{list_any, list_all, AllByRecursion}
 use Rattle.std.proofs.lemmas.Bool.{or_left, or_right}
@@ -15,11 +15,12 @@ use Rattle.book.specs.Events.{Event, events}
 use Rattle.book.specs.Journal.{Line, name_of, among, chosen, undone_in, redone_in, live_events, rest_of, Closed}
 use Rattle.book.specs.Refusals.{undo_refusal, redo_refusal, live_refusal, same_set}
 use Rattle.book.specs.Books.{Book, PlainRun, line_of, Kept, Stands}
-use Rattle.book.specs.Calls.{Undoes, Redoes}
+use Rattle.book.specs.Calls.{Undoes, Redoes, now_redoable, still_redoable}
 use Rattle.book.proofs.Lists.{first_true, second_true}
 use Rattle.book.proofs.Law.{events_laws}
 use Rattle.book.proofs.Standing.{numbers, told, among_is, undone_lines, redone_lines, one_world, run_of_good, stands_run}
 use Rattle.book.proofs.Entering.{none_again}
+use Rattle.book.proofs.Refused.{neither}
 use Rattle.book.proofs.Marks.{chosen_live, chosen_undone, redone-undone, live_events-undone, closed, redo_names_those}
 
 -- what holds of all lines holds of all entries that they are told of
@@ -164,3 +165,88 @@ pub former : (names : List EventName) (before old : Book) (w : World) (lines : L
 former names before old w lines run marked h ok u =
     let same : lines ≡ before.journal = marked ∙ ap (redone_in names) u.marked ∙ redone-undone before.journal names ok in
     (one_world (live_events before.journal) w before.world (subst (λ ls. PlainRun (live_events ls) w) same run) (stands_run before h), same)
+
+-- no event
+none_undone : (lines : List Line) → undone_in [] lines ≡ lines
+none_undone [] = refl
+none_undone (l ∷ lines) = λ i. record l { live = and_true l.live i } ∷ none_undone lines i
+  where
+    and_true : (b : Bool) → (b && true) ≡ b
+    and_true true = refl
+    and_true false = refl
+
+none_redone : (lines : List Line) → redone_in [] lines ≡ lines
+none_redone [] = refl
+none_redone (l ∷ lines) = λ i. record l { live = or_false l.live i } ∷ none_redone lines i
+  where
+    or_false : (b : Bool) → (b || false) ≡ b
+    or_false true = refl
+    or_false false = refl
+
+none_chosen : (lines : List Line) → 0 ≡ length (filter (chosen []) lines)
+none_chosen [] = refl
+none_chosen (l ∷ lines) = none_chosen lines
+
+pub undoes_none : (names : List EventName) (b : Book) → (length names == 0) ≡ true → Stands b → Undoes names b b × (0 ≡ length (filter (chosen names) b.journal))
+undoes_none [] b h s = (
+  record {
+    rest = subst (λ es. PlainRun es b.world) (ap live_events (sym (none_undone b.journal)) ∙ live_events-undone [] b.journal) (stands_run b s);
+    marked = sym (none_undone b.journal);
+    same_next = refl;
+    redoable = refl;
+  },
+  none_chosen b.journal,
+)
+undoes_none (e ∷ names) b h s = absurd (let z : length (e ∷ names) ≡ 0 = eqb-true _ 0 h in omega (arith, z))
+
+pub redoes_none : (names : List EventName) (b : Book) → (length names == 0) ≡ true → Stands b → Redoes names b b × (0 ≡ length (filter (chosen names) b.journal))
+redoes_none [] b h s =
+    let run : PlainRun (live_events b.journal) b.world = stands_run b s in (
+      record {
+        run = subst (λ ls. PlainRun (live_events ls) b.world) (sym (none_redone b.journal)) run;
+        marked = sym (none_redone b.journal);
+        same_next = refl;
+        redoable = refl;
+        former = λ before t ok u. former [] before b b.world b.journal run (sym (none_redone b.journal)) t ok u;
+      },
+      none_chosen b.journal,
+    )
+redoes_none (e ∷ names) b h s = absurd (let z : length (e ∷ names) ≡ 0 = eqb-true _ 0 h in omega (arith, z))
+
+-- the same of some events
+pub now_those : (names redoable : List EventName) → (length names == 0) ≡ false → now_redoable names redoable ≡ names
+now_those [] redoable h = cc
+now_those (e ∷ names) redoable h = refl
+
+pub still_none : (names redoable : List EventName) → (length names == 0) ≡ false → still_redoable names redoable ≡ []
+still_none [] redoable h = cc
+still_none (e ∷ names) redoable h = refl
+
+pub stands_after_undo : (names : List EventName) (old new : Book) → (length names == 0) ≡ false → Stands old → undo_refusal old.journal names ≡ None → Undoes names old new → Stands new
+stands_after_undo [] old new h = cc
+stands_after_undo (e ∷ names) old new h = stands_undone e names old new
+
+pub stands_after_redo : (names : List EventName) (old new : Book) → (length names == 0) ≡ false → Stands old → redo_refusal old names ≡ None → Redoes names old new → Stands new
+stands_after_redo [] old new h = cc
+stands_after_redo (e ∷ names) old new h = stands_redone e names old new
+
+pub redo_goes : (b : Book) (names : List EventName) → (length names == 0) ≡ false → Stands b → redo_refusal b names ≡ None → ((w : World) → PlainRun (live_events (redone_in names b.journal)) w → ⊥) → ⊥
+redo_goes b [] h = cc
+redo_goes b (e ∷ names) h = redo_runs b e names
+
+undone_again : (live ch : Bool) → (ch ≡ true → live ≡ false) → ((live || ch) && not ch) ≡ live
+undone_again live true h = and_false (live || true) ∙ sym (h refl)
+  where
+    and_false : (b : Bool) → (b && false) ≡ false
+    and_false true = refl
+    and_false false = refl
+undone_again true false h = refl
+undone_again false false h = refl
+
+all_undone_again : (names : List EventName) (lines : List Line) → AllByRecursion (λ l. chosen names l ≡ true → l.live ≡ false) lines → undone_in names (redone_in names lines) ≡ lines
+all_undone_again names [] h = refl
+all_undone_again names (l ∷ lines) (p, h) = λ i. record l { live = undone_again l.live (chosen names l) p i } ∷ all_undone_again names lines h i
+
+-- a redo that is given up leaves the journal as it was
+pub undone-redone : (b : Book) (names : List EventName) → redo_refusal b names ≡ None → undone_in names (redone_in names b.journal) ≡ b.journal
+undone-redone b names ok = all_undone_again names b.journal (chosen_undone b.journal names (neither _ _ (neither _ _ ok).1).0)

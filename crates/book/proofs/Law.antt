@@ -67,8 +67,8 @@ one_turn e w m n t u h k =
     let x : t.name ≡ u.name = ap (name_or t.name) there in
     let s : t.state ≡ u.state = ap (state_or t.state) there in
     let one : Delivers u.message.delivery e u.vat u.state n t.outcome =
-        subst (λ (r : State). Delivers u.message.delivery e u.vat r n t.outcome) s
-        (subst (λ (r : VatNo). Delivers u.message.delivery e r t.state n t.outcome) v (subst (λ (r : Message). Delivers r.delivery e t.vat t.state n t.outcome) g h.delivers)) in
+    subst (λ (r : State). Delivers u.message.delivery e u.vat r n t.outcome) s
+    (subst (λ (r : VatNo). Delivers u.message.delivery e r t.state n t.outcome) v (subst (λ (r : Message). Delivers r.delivery e t.vat t.state n t.outcome) g h.delivers)) in
     let o : t.outcome ≡ u.outcome = delivery_same one k.delivers in
     λ i. record { message = g i; vat = v i; name = x i; state = s i; outcome = o i }
 

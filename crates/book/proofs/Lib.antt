@@ -2,6 +2,7 @@ pub mod Along
 pub mod Lists
 pub mod Worlds
 pub mod Law
+pub mod Sets
 pub mod Standing
 pub mod Entering
 pub mod Refused
@@ -13,3 +14,4 @@ pub mod Kept
 pub mod Firsts
 pub mod Runs
 pub mod Steps
+pub mod Keys

@@ -1,5 +1,5 @@
 -- On lists that are mapped, filtered and reversed.
-use Rattle.std.proofs.Common.{◌≡◌, ℕ, ◌-◌, Bool, true, false, cond, ◌&&◌, ◌||◌, Option, Some, None, take, List, [], ◌∷◌, ◌++◌, map, filter, reverse, refl, sym, ap, ◌∙◌}
+use Rattle.std.proofs.Common.{◌≡◌, ℕ, ◌-◌, Bool, true, false, cond, ◌&&◌, ◌||◌, Option, Some, None, take, length, List, [], ◌∷◌, ◌++◌, map, filter, reverse, refl, sym, ap, ◌∙◌}
 use Rattle.std.specs.List.{list_any}
 use Rattle.std.specs.Option.{option_to_list, MatchOption}
 use Rattle.std.proofs.lemmas.List.{reverse-append, map-append}
@@ -78,9 +78,18 @@ not_empty [] x h = cc
 not_empty (y ∷ xs) x h = cc
 
 -- what is left when the last item is taken away
-pub last_gone : {A B : Type 0} {C : A → Type 0} (r : Option A) (n : ℕ) (ys zs xs : List A) (x : A)
+pub last_gone : {A : Type 0} (B : Type 0) (C : A → Type 0) (r : Option A) (n : ℕ) (ys zs xs : List A) (x : A)
     → zs ≡ ys ++ option_to_list r → zs ≡ xs ++ x ∷ [] → ys ≡ take (n - 1) zs → MatchOption r ((n ≡ 0) × B) C → ys ≡ xs
-last_gone (Some y) n ys zs xs x h g k m = sym (front_of ys y) ∙ ap front (sym h ∙ g) ∙ front_of xs x
-last_gone None n ys zs xs x h g k m =
+last_gone B C (Some y) n ys zs xs x h g k m = sym (front_of ys y) ∙ ap front (sym h ∙ g) ∙ front_of xs x
+last_gone B C None n ys zs xs x h g k m =
     let none : ys ≡ [] = k ∙ ap (λ j. take (j - 1) zs) m.0 in
     absurd (not_empty xs x (sym g ∙ h ∙ ap (λ us. us ++ []) none))
+
+-- the first items, as many as there are
+take_front : {A : Type 0} (xs zs : List A) → take (length xs) (xs ++ zs) ≡ xs
+take_front [] [] = refl
+take_front [] (z ∷ zs) = refl
+take_front (x ∷ xs) zs = ap (λ ys. x ∷ ys) (take_front xs zs)
+
+pub same_items : {A : Type 0} (n : ℕ) (xs zs : List A) → length xs ≡ n → take n (xs ++ zs) ≡ xs
+same_items n xs zs h = ap (λ k. take k (xs ++ zs)) (sym h) ∙ take_front xs zs

@@ -1,12 +1,14 @@
 -- Lists whose first items are changed, and lines that are marked.
-use Rattle.std.proofs.Common.{◌≡◌, ℕ, suc, zero, ◌+◌, ◌<◌, ◌≤◌, List, [], ◌∷◌, Bool, true, false, cond, Option, Some, None, refl, ap, sym, ◌∙◌, map, set, length, get_or, subst, arith, add-one}
-use Rattle.std.proofs.lemmas.List.{length-map}
+use Rattle.std.proofs.Common.{◌≡◌, ℕ, suc, zero, ◌+◌, ◌<◌, ◌≤◌, List, [], ◌∷◌, Bool, true, false, cond, Option, None, refl, ap, sym, ◌∙◌, map, set, length, get_or, arith, add-one}
 use Rattle.std.specs.Prelude.{◌||◌, ◌&&◌, not}
 use Rattle.std.specs.Option.{option_map}
 use Rattle.ids.specs.declared.names.EventName.{EventName}
-use Rattle.book.specs.Journal.{Line, name_of, chosen}
-use Rattle.book.specs.EventView.{line_of, lines_of}
+use Rattle.std.proofs.lemmas.List.{map-set, length-map}
+use Rattle.book.specs.Journal.{Line, name_of, among, chosen}
+use Rattle.book.specs.EventView.{is_live, line_of, lines_of}
 use Rattle.book.specs.declared.journal.Entry.{Entry}
+use Rattle.book.specs.declared.journal.Mark.{Mark}
+use Rattle.book.specs.declared.journal.Mark.TheVariants as mark
 use Rattle.book.specs.Refusals.{Refusal, not_closed, consequence}
 
 abbrev pub undo_line : List EventName → Line → Line
@@ -41,70 +43,83 @@ partly_all f [] (suc i) h = refl
 partly_all f (x ∷ xs) zero h = absurd (omega arith)
 partly_all f (x ∷ xs) (suc i) h = ap (λ ys. f x ∷ ys) (partly_all f xs i (omega arith))
 
--- at the end all lines are changed
-pub marked_all : (f : Line → Line) (old : List Entry) (i : ℕ) → length old ≤ i → partly f i (lines_of old) ≡ map f (lines_of old)
-marked_all f old i h = partly_all f (lines_of old) i (subst (λ n. n ≤ i) (sym (length-map old line_of)) h)
-
 -- whether a line of the set has a live consequence outside, among these lines
 abbrev pub open_at : List EventName → List Line → Line → Option Refusal
 open_at names lines l = cond (chosen names l) (option_map (not_closed (name_of l)) (consequence names (name_of l) lines)) None
 
-mapped_set : {A B : Type 0} (f : A → B) (xs : List A) (i : ℕ) (y : A) → map f (set xs i y) ≡ set (map f xs) i (f y)
-mapped_set f [] zero y = refl
-mapped_set f [] (suc i) y = refl
-mapped_set f (x ∷ xs) zero y = refl
-mapped_set f (x ∷ xs) (suc i) y = ap (λ ys. f x ∷ ys) (mapped_set f xs i y)
+length_partly : {X : Type 0} (f : X → X) (i : ℕ) (xs : List X) → length (partly f i xs) ≡ length xs
+length_partly f zero xs = refl
+length_partly f (suc i) [] = refl
+length_partly f (suc i) (x ∷ xs) = ap suc (length_partly f i xs)
 
-mapped_get : {A B : Type 0} (f : A → B) (xs : List A) (i : ℕ) (d : A) → get_or (map f xs) i (f d) ≡ f (get_or xs i d)
-mapped_get f [] zero d = refl
-mapped_get f [] (suc i) d = refl
-mapped_get f (x ∷ xs) zero d = refl
-mapped_get f (x ∷ xs) (suc i) d = mapped_get f xs i d
+get_or_lines : (es : List Entry) (i : ℕ) (x : Entry) → get_or (lines_of es) i (line_of x) ≡ line_of (get_or es i x)
+get_or_lines [] i x = refl
+get_or_lines (e ∷ es) zero x = refl
+get_or_lines (e ∷ es) (suc i) x = get_or_lines es i x
 
-set_same : {A : Type 0} (xs : List A) (i : ℕ) (x : A) → x ≡ get_or xs i x → set xs i x ≡ xs
-set_same [] zero x h = refl
-set_same [] (suc i) x h = refl
-set_same (y ∷ xs) zero x h = ap (λ z. z ∷ xs) h
-set_same (y ∷ xs) (suc i) x h = ap (λ zs. y ∷ zs) (set_same xs i x h)
+-- an entry that stays is written back
+pub stays_here : (es : List Entry) (i : ℕ) (x : Entry) → x ≡ get_or es i x → set es i (get_or es i x) ≡ set es i x
+stays_here es i x e = ap (λ (y : Entry). set es i y) (sym e)
+
+-- the mark of the entry that was read
+pub marked_here : (m : Mark) (es : List Entry) (i : ℕ) (x : Entry) → x ≡ get_or es i x → set es i (record (get_or es i x) { mark = m }) ≡ set es i (record x { mark = m })
+marked_here m es i x e = ap (λ (y : Entry). set es i (record y { mark = m })) (sym e)
 
 -- one more entry is marked
-pub marked_on : (f : Line → Line) (xs old : List Entry) (i : ℕ) (x y : Entry) → lines_of xs ≡ partly f i (lines_of old) → i < length old → x ≡ get_or xs i x → line_of y ≡ f (line_of x)
-    → lines_of (set xs i y) ≡ partly f (suc i) (lines_of old)
-marked_on f xs old i x y h lt there is =
-    let here : line_of x ≡ get_or (lines_of old) i (line_of x) =
-        ap line_of there ∙ sym (mapped_get line_of xs i x) ∙ ap (λ ls. get_or ls i (line_of x)) h ∙ partly_there f (lines_of old) i (line_of x) in
-    mapped_set line_of xs i y ∙ ap (λ ls. set ls i (line_of y)) h ∙ ap (set (partly f i (lines_of old)) i) (is ∙ ap f here) ∙ partly_next f (lines_of old) i (line_of x) (subst (λ n. i < n) (sym (length-map old line_of)) lt)
-
--- one more entry stays as it is
-pub stayed_on : (f : Line → Line) (xs old : List Entry) (i : ℕ) (x : Entry) → lines_of xs ≡ partly f i (lines_of old) → i < length old → x ≡ get_or xs i x → line_of x ≡ f (line_of x)
-    → lines_of xs ≡ partly f (suc i) (lines_of old)
-stayed_on f xs old i x h lt there is = sym (ap lines_of (set_same xs i x there)) ∙ marked_on f xs old i x x h lt there is
-
--- a line of the set is undone, or live again; another stays
-pub undone_is : (names : List EventName) (l : Line) → chosen names l ≡ true → record l { live = false } ≡ undo_line names l
-undone_is names l h = ap (λ (b : Bool). record l { live = b }) (sym (ap (λ c. l.live && not c) h ∙ and_false l.live))
+pub marked : (f : Line → Line) (start : List Line) (was now : List Entry) (i : ℕ) (x y : Entry) → i < length was → lines_of was ≡ partly f i start → x ≡ get_or was i x → now ≡ set was i y → line_of y ≡ f (line_of x) → lines_of now ≡ partly f (i + 1) start
+marked f start was now i x y h invariant read written changed =
+    ap lines_of written
+    ∙ map-set line_of was i y
+    ∙ ap (λ l. set (lines_of was) i l) (changed ∙ ap f there)
+    ∙ ap (λ ls. set ls i (f (get_or start i (line_of x)))) invariant
+    ∙ rw add-one (partly_next f start i (line_of x) within)
   where
-    and_false : (b : Bool) → (b && false) ≡ false
-    and_false true = refl
-    and_false false = refl
+    there : line_of x ≡ get_or start i (line_of x)
+    there = ap line_of read ∙ sym (get_or_lines was i x) ∙ ap (λ ls. get_or ls i (line_of x)) invariant ∙ partly_there f start i (line_of x)
 
-pub redone_is : (names : List EventName) (l : Line) → chosen names l ≡ true → record l { live = true } ≡ redo_line names l
-redone_is names l h = ap (λ (b : Bool). record l { live = b }) (sym (ap (λ c. l.live || c) h ∙ or_true l.live))
-  where
-    or_true : (b : Bool) → (b || true) ≡ true
-    or_true true = refl
-    or_true false = refl
+    within : i < length start
+    within = omega (arith, h, length_partly f i start, ap length invariant, length-map was line_of)
 
-pub undo_stays : (names : List EventName) (l : Line) → chosen names l ≡ false → l ≡ undo_line names l
-undo_stays names l h = ap (λ (b : Bool). record l { live = b }) (sym (ap (λ c. l.live && not c) h ∙ and_true l.live))
-  where
-    and_true : (b : Bool) → (b && true) ≡ b
-    and_true true = refl
-    and_true false = refl
+-- at the end all are
+pub marked_all : (f : Line → Line) (start now : List Entry) (i : ℕ) → length start ≤ i → lines_of now ≡ partly f i (lines_of start) → lines_of now ≡ map f (lines_of start)
+marked_all f start now i h invariant = invariant ∙ partly_all f (lines_of start) i (omega (arith, length-map start line_of))
 
-pub redo_stays : (names : List EventName) (l : Line) → chosen names l ≡ false → l ≡ redo_line names l
-redo_stays names l h = ap (λ (b : Bool). record l { live = b }) (sym (ap (λ c. l.live || c) h ∙ or_false l.live))
-  where
-    or_false : (b : Bool) → (b || false) ≡ b
-    or_false true = refl
-    or_false false = refl
+and_false : (b : Bool) → (b && false) ≡ false
+and_false true = refl
+and_false false = refl
+
+and_true : (b : Bool) → (b && true) ≡ b
+and_true true = refl
+and_true false = refl
+
+or_true : (b : Bool) → (b || true) ≡ true
+or_true true = refl
+or_true false = refl
+
+or_false : (b : Bool) → (b || false) ≡ b
+or_false true = refl
+or_false false = refl
+
+pub undo_chosen : (names : List EventName) (x : Entry) → among names x.event.name ≡ true → line_of (record x { mark = mark.Undone }) ≡ undo_line names (line_of x)
+undo_chosen names x e =
+    let live : false ≡ (is_live x.mark && not (among names x.event.name)) = sym (ap (λ b. is_live x.mark && not b) e ∙ and_false (is_live x.mark)) in
+    λ i. record (line_of x) { live = live i }
+
+pub undo_other : (names : List EventName) (x : Entry) → among names x.event.name ≡ false → line_of x ≡ undo_line names (line_of x)
+undo_other names x e =
+    let live : is_live x.mark ≡ (is_live x.mark && not (among names x.event.name)) = sym (ap (λ b. is_live x.mark && not b) e ∙ and_true (is_live x.mark)) in
+    λ i. record (line_of x) { live = live i }
+
+pub redo_chosen : (names : List EventName) (x : Entry) → among names x.event.name ≡ true → line_of (record x { mark = mark.Live }) ≡ redo_line names (line_of x)
+redo_chosen names x e =
+    let live : true ≡ (is_live x.mark || among names x.event.name) = sym (ap (λ b. is_live x.mark || b) e ∙ or_true (is_live x.mark)) in
+    λ i. record (line_of x) { live = live i }
+
+pub redo_other : (names : List EventName) (x : Entry) → among names x.event.name ≡ false → line_of x ≡ redo_line names (line_of x)
+redo_other names x e =
+    let live : is_live x.mark ≡ (is_live x.mark || among names x.event.name) = sym (ap (λ b. is_live x.mark || b) e ∙ or_false (is_live x.mark)) in
+    λ i. record (line_of x) { live = live i }
+
+-- marks leave as many entries
+pub same_length : (f : Line → Line) (xs ys : List Entry) → lines_of xs ≡ map f (lines_of ys) → length xs ≡ length ys
+same_length f xs ys h = sym (length-map xs line_of) ∙ ap length h ∙ length-map (lines_of ys) f ∙ length-map ys line_of

@@ -1,14 +1,13 @@
 -- Marks of the journal: undone, and live again.
-use Rattle.std.proofs.Common.{◌≡◌, ℕ, List, [], ◌∷◌, Bool, true, false, cond, Option, Some, None, refl, ap, sym, ◌∙◌, subst, map, inl, inr}
+use Rattle.std.proofs.Common.{◌≡◌, List, [], ◌∷◌, Bool, true, false, cond, Option, Some, None, refl, ap, sym, ◌∙◌, map, inl, inr}
 use Rattle.std.specs.Prelude.{◌||◌, ◌&&◌, ◌==◌, not}
 use Rattle.std.specs.List.{list_any, filter, AllByRecursion}
 use Rattle.std.specs.Option.{option_map}
 use Rattle.std.proofs.lemmas.Bool.{not-false, both_ways, cases_Bool}
 use Rattle.ids.specs.declared.names.EventName.{EventName}
-use Rattle.book.specs.Events.{Event}
 use Rattle.book.specs.Journal.{Line, name_of, among, chosen, undone_in, redone_in, live_events, rest_of, Closed}
 use Rattle.book.specs.Books.{Book}
-use Rattle.book.specs.Refusals.{Refusal, no_event, not_live, still_live, not_closed, not_next, first, least, lesser, is_entered, missing_refusal, undone_refusal, live_refusal, consequence, open_refusal, undo_refusal, same_set, next_refusal, redo_refusal}
+use Rattle.book.specs.Refusals.{Refusal, no_event, not_live, still_live, not_closed, not_next, least, lesser, is_entered, missing_refusal, undone_refusal, live_refusal, consequence, open_refusal, undo_refusal, same_set, redo_refusal}
 use Rattle.book.proofs.Along.{none_each, none_kept, meet, each_map, each, swapped, each_among, same_name}
 use Rattle.book.proofs.Refused.{neither}
 
@@ -99,9 +98,9 @@ no_consequence false e o h p = cc
 
 apart_from : (lines : List Line) (names : List EventName) (l : Line) → cond (chosen names l) (option_map (not_closed (name_of l)) (consequence names (name_of l) lines)) None ≡ None → AllByRecursion (λ m. Apart names l m) lines
 apart_from lines names l h = elim (cases_Bool (chosen names l)) [
-    inl e ↦ each_map _ _ (λ m g _. apart_at m.live (chosen names m) (among m.causes (name_of l)) (name_of m) g) lines (none_each _ lines (no_consequence (chosen names l) (name_of l) (consequence names (name_of l) lines) h e))
+  | inl e ↦ each_map _ _ (λ m g _. apart_at m.live (chosen names m) (among m.causes (name_of l)) (name_of m) g) lines (none_each _ lines (no_consequence (chosen names l) (name_of l) (consequence names (name_of l) lines) h e))
   | inr e ↦ each _ (λ m p. absurd (both_ways _ e p)) lines
-  ]
+]
 
 all_apart : (lines : List Line) (names : List EventName) → open_refusal names lines ≡ None → AllByRecursion (λ m. AllByRecursion (λ l. Apart names l m) lines) lines
 all_apart lines names e = swapped (Apart names) lines lines (each_map _ _ (apart_from lines names) lines (none_each _ lines e))

@@ -1,11 +1,15 @@
 -- Runs of events that begin in another world.
-use Rattle.std.proofs.Common.{◌≡◌, List, [], ◌∷◌, ◌++◌, reverse, refl, sym, ap, ◌∙◌, subst}
+use Rattle.std.proofs.Common.{◌≡◌, Bool, true, false, cond, List, [], ◌∷◌, ◌++◌, map, filter, reverse, refl, sym, ap, ◌∙◌, subst}
 use Rattle.std.proofs.Math.Logic.{∥∥₁_elim, ∥∥₁_map, ∥∥₁_prop}
 use Rattle.std.proofs.lemmas.List.{reverse-append}
 use Rattle.history.specs.Subject.{Run, run_none, run_more, after}
-use Rattle.book.specs.World.{World}
+use Rattle.book.specs.World.{World, empty}
 use Rattle.book.specs.Events.{Event, Foot, Does, events}
+use Rattle.book.specs.Journal.{Line, live_events}
 use Rattle.book.specs.Books.{RunFrom}
+use Rattle.book.specs.Steps.{TellsStep, TellsRun}
+use Rattle.book.specs.declared.step.StepFault.{StepFault}
+use Rattle.book.specs.declared.step.StepFault.TheVariants as faults
 use Rattle.book.proofs.Law.{events_laws}
 
 -- a first event, and then a run from the world that it leaves
@@ -42,3 +46,42 @@ came_from e es f w v u d is r =
 pub no_run : (e : Event) (es : List Event) (w u : World) → ((f : Foot) → Does e w f → ⊥) → RunFrom w (e ∷ es) u → ⊥
 no_run e es w u h r =
     ∥∥₁_elim r (λ a. absurd a) (λ a. let p = run_parts e (reverse es) (subst (λ xs. Run events w xs u) (first_last e es) a) in h p.foot p.does)
+
+-- from this world the lines that are left run just where all lines run from the empty one
+pub record Joined (w : World) (rest all : List Line) : Type 0 where
+  pub on : (u : World) → RunFrom w (live_events rest) u → RunFrom empty (live_events all) u
+  pub back : (u : World) → RunFrom empty (live_events all) u → RunFrom w (live_events rest) u
+
+live_first : (l : Line) (rest : List Line) (b : Bool) → l.live ≡ b → live_events (l ∷ rest) ≡ map (λ (k : Line). k.event) (cond b (l ∷ filter (λ k. k.live) rest) (filter (λ k. k.live) rest))
+live_first l rest b h = ap (λ (c : Bool). map (λ (k : Line). k.event) (cond c (l ∷ filter (λ k. k.live) rest) (filter (λ k. k.live) rest))) h
+
+-- a live line is run, an undone one is passed over
+pub joined_step : (l : Line) (rest all : List Line) (f : Foot) (w v : World) → l.live ≡ true → Joined w (l ∷ rest) all → ∥ Does l.event w f ∥₁ → v ≡ after events f w → Joined v rest all
+joined_step l rest all f w v live j d is = record {
+  on = λ u r. j.on u (subst (λ es. RunFrom w es u) (sym (live_first l rest true live)) (goes_on l.event (live_events rest) f w v u d is r));
+  back = λ u r. came_from l.event (live_events rest) f w v u d is (subst (λ es. RunFrom w es u) (live_first l rest true live) (j.back u r));
+}
+
+pub joined_skip : (l : Line) (rest all : List Line) (w : World) → l.live ≡ false → Joined w (l ∷ rest) all → Joined w rest all
+joined_skip l rest all w undone j = record {
+  on = λ u r. j.on u (subst (λ es. RunFrom w es u) (sym (live_first l rest false undone)) r);
+  back = λ u r. subst (λ es. RunFrom w es u) (live_first l rest false undone) (j.back u r);
+}
+
+-- at the end there is a run; at an impossible event there is none
+pub joined_end : (all : List Line) (w : World) → Joined w [] all → RunFrom empty (live_events all) w
+joined_end all w j = j.on w ∣ run_none ∣₁
+
+pub joined_never : (l : Line) (rest all : List Line) (w : World) → l.live ≡ true → Joined w (l ∷ rest) all → ((f : Foot) → Does l.event w f → ⊥) → (u : World) → RunFrom empty (live_events all) u → ⊥
+joined_never l rest all w live j none u r = no_run l.event (live_events rest) w u none (subst (λ es. RunFrom w es u) (live_first l rest true live) (j.back u r))
+
+pub joined_start : (w : World) (all : List Line) → w ≡ empty → Joined w all all
+joined_start w all h = record {
+  on = λ u r. subst (λ (v : World). RunFrom v (live_events all) u) h r;
+  back = λ u r. subst (λ (v : World). RunFrom v (live_events all) u) (sym h) r;
+}
+
+-- what an impossible event tells of a whole run
+pub tells_run : (fault : StepFault) (l : Line) (rest all : List Line) (w : World) → l.live ≡ true → ∥ Joined w (l ∷ rest) all ∥₁ → TellsStep l.event w fault → TellsRun (live_events all) fault
+tells_run faults.Impossible l rest all w live j h = λ u r. ∥∥₁_elim j (λ a. absurd a) (λ k. joined_never l rest all w live k h u r)
+tells_run faults.Memory l rest all w live j h = tt

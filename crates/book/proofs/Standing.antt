@@ -21,6 +21,7 @@ use Rattle.book.specs.Books.{Book, PlainRun, line_of, Kept, Stands}
 use Rattle.book.specs.Calls.{touched, new_line, Enters}
 use Rattle.book.proofs.Lists.{mapped, mapped_twice, mapped_same, reversed, mapped_reversed, filtered_map, filtered, filtered_reversed, any_mapped}
 use Rattle.book.proofs.Law.{events_laws}
+use Rattle.book.proofs.Sets.{World-set}
 
 -- a name as a number
 abbrev pub numbers : List EventName → List ℕ
@@ -75,16 +76,6 @@ undone_lines names es = marked_lines _ (without (live_set events) (named events 
 pub redone_lines : (names : List EventName) (es : List (Entry events)) → redone_in names (told es) ≡ told (marked events (both (live_set events) (named events (numbers names))) es)
 redone_lines names es = marked_lines _ (both (live_set events) (named events (numbers names))) (λ a. ap (λ (b : Bool). record (line_of a) { live = a.live || b }) (among_is names a)) es
 
-record Whole : Type 0 where
-  world : World
-  deriving IsSet as Whole-set
-
--- worlds are a set: any two proofs that two are the same are the same
-World-set : IsSet World
-World-set w v p q =
-    let whole : World → Whole = λ u. record { world = u } in
-    λ i j. (Whole-set (whole w) (whole v) (λ k. whole (p k)) (λ k. whole (q k)) i j).world
-
 -- a list of events has at most one plain run
 pub one_world : (es : List Event) (w v : World) → PlainRun es w → PlainRun es v → w ≡ v
 one_world es w v r s = ∥∥₁_elim r (World-set w v) (λ a. ∥∥₁_elim s (World-set w v) (λ b. runs_are_one events events_laws a b))
@@ -99,10 +90,13 @@ stands_run b h = ∥∥₁_elim h ∥∥₁_prop (λ (es, k). subst (λ ls. Plai
 -- nothing has happened, and the journal is good
 pub stands_blank : (w : World) (entries : List Line) (names : List EventName) → w ≡ empty → entries ≡ [] → names ≡ [] → Stands (record { world = w; journal = entries; next = 1; redoable = names })
 stands_blank w entries names empty_world no_lines no_names =
-    ∣ ([], record {
-      told = no_lines;
-      good = record { recorded = tt; sound = tt; ordered = tt; world = empty_world };
-      names = record { distinct = tt; below = tt };
-      earlier = tt;
-      again = tt;
-    }) ∣₁
+    ∣ (
+      [],
+      record {
+        told = no_lines;
+        good = record { recorded = tt; sound = tt; ordered = tt; world = empty_world };
+        names = record { distinct = tt; below = tt };
+        earlier = tt;
+        again = tt;
+      },
+    ) ∣₁

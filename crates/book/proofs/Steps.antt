@@ -9,8 +9,11 @@ use Rattle.ids.specs.declared.names.CellKey.TheVariants as key
 use Rattle.turn.specs.State.{State}
 use Rattle.turn.specs.Outcomes.{End, value, halt, thrown, abandoned}
 use Rattle.turn.specs.Turn.{Outcome, Delivers}
-use Rattle.book.specs.World.{Vat, Place, at_vat, Message, Content, home, message, World, vat_named, message_of, message_in, done_in}
-use Rattle.book.specs.Events.{Event, Foot, Turn, Turns, InOrder, birth, ask, turn, new_state, done_and_published, Does, births, asks, turns}
+use Rattle.history.specs.Subject.{written}
+use Rattle.ids.specs.declared.names.PromId.{PromId}
+use Rattle.ids.specs.declared.names.CellKey.{CellKey}
+use Rattle.book.specs.World.{Vat, Place, at_vat, done, Message, Content, home, message, published, World, vat_named, message_of, message_in, done_in}
+use Rattle.book.specs.Events.{Event, Foot, Turn, Turns, InOrder, birth, ask, turn, new_state, done_and_published, Does, births, asks, turns, events}
 use Rattle.book.specs.Refusals.{Refusal, before, first, await_refusal, place_refusal, home_refusal, ready_refusal, ready_refusal_by}
 use Rattle.book.specs.Steps.{turn_cells}
 
@@ -47,3 +50,11 @@ turn_ready e w m n t h =
 pub is_turn : (e : EventName) (w : World) (m : MsgId) (n : ℕ) (t : Turn) → w (key.Msg m) ≡ Some (message t.message) → t.message.place ≡ at_vat t.vat → InOrder w t.message.after
     → w (key.State t.vat) ≡ Some (home t.name t.state) → ∥ Delivers t.message.delivery e t.vat t.state n t.outcome ∥₁ → ∥ Turns e w m n t ∥₁
 is_turn e w m n t waiting there in_order at_home d = ∥∥₁_map d (λ h. record { waiting = waiting; there = there; in_order = in_order; at_home = at_home; delivers = h })
+
+-- what is written by a turn that was settled
+pub settled : (o : End) (left : List (CellKey × Content)) (v : VatNo) (x : Name) (s : State) (e : EventName) (m : MsgId) (g : Message) (r : Outcome) (p : PromId) (w u : World)
+    → new_state v x s o ≡ left → g.result ≡ p
+    → u ≡ written events (left ++ (key.Msg m, message (record g { place = done e })) ∷ (key.Board p, published r.result) ∷ []) w
+    → u ≡ written events (new_state v x s o ++ done_and_published e m g r) w
+settled o left v x s e m g r p w u is same h =
+    h ∙ (λ i. written events (sym is i ++ (key.Msg m, message (record g { place = done e })) ∷ (key.Board (sym same i), published r.result) ∷ []) w)

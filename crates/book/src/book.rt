@@ -8,7 +8,7 @@ ghost use Rattle.kernele.specs.declared.naming.TopName.{TopName};
 ghost use Rattle.turn.specs.View.{ended_of};
 ghost use Rattle.book.specs.World.{vat_named};
 ghost use Rattle.book.specs.Events.{Turn, Turns, birth, ask, turn, birth_foot, ask_foot, turn_foot};
-ghost use Rattle.book.specs.Journal.{Line, live_events, causes_in, chosen, Cone};
+ghost use Rattle.book.specs.Journal.{Line, live_events, causes_in, chosen, undone_in, redone_in, Cone};
 ghost use Rattle.book.specs.Refusals.{birth_refusal, ask_refusal, turn_refusal, ready_refusal, full_refusal, check_refusal, taken_refusal, undo_refusal, redo_refusal, cone_refusal};
 ghost use Rattle.book.specs.Books.{blank, PlainRun, Stands};
 ghost use Rattle.book.specs.Calls.{Enters, Undoes, Redoes};
@@ -91,6 +91,20 @@ fn add_entry(
         mark: Mark::Live,
     })?;
     Ok(())
+}
+
+/// Marks entries as undone.
+fn undo_entries(entries: &mut Vec<Entry>, names: &[EventName])
+    ensures { lines_of entries.new.items ≡ undone_in names.now (lines_of entries.old.items) }
+{
+    mark_undone(entries, names);
+}
+
+/// Marks entries as live.
+fn redo_entries(entries: &mut Vec<Entry>, names: &[EventName])
+    ensures { lines_of entries.new.items ≡ redone_in names.now (lines_of entries.old.items) }
+{
+    mark_redone(entries, names);
 }
 
 /// Takes the last entry away.
@@ -296,7 +310,7 @@ impl Book {
         }
         let redoable = Vec::from_slice(self.alloc, events)?;
         let count = count_of(&self.entries, events);
-        mark_undone(&mut self.entries, events);
+        undo_entries(&mut self.entries, events);
         match plain_run(self.alloc, &self.entries) {
             Ok(world) => {
                 self.world = world;
@@ -304,7 +318,7 @@ impl Book {
                 Ok(count)
             }
             Err(StepFault::Memory) => {
-                mark_redone(&mut self.entries, events);
+                redo_entries(&mut self.entries, events);
                 Err(BookFault::Memory)
             }
             Err(StepFault::Impossible) => unreachable!(),
@@ -325,7 +339,7 @@ impl Book {
             return Ok(0);
         }
         let count = count_of(&self.entries, events);
-        mark_redone(&mut self.entries, events);
+        redo_entries(&mut self.entries, events);
         match plain_run(self.alloc, &self.entries) {
             Ok(world) => {
                 self.world = world;
@@ -333,7 +347,7 @@ impl Book {
                 Ok(count)
             }
             Err(StepFault::Memory) => {
-                mark_undone(&mut self.entries, events);
+                undo_entries(&mut self.entries, events);
                 Err(BookFault::Memory)
             }
             Err(StepFault::Impossible) => unreachable!(),

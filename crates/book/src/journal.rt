@@ -42,17 +42,11 @@ pub fn is_among(names: &[EventName], name: EventName) -> bool
     false
 }
 
-/// Whether two keys are of one cell.
-fn is_same(key: &CellKey, other: &CellKey) -> bool
-    ensures { result ≡ same_key key.now other.now }
+/// Whether two keys are of the same cell.
+fn is_same(left: &CellKey, right: &CellKey) -> bool
+    ensures { result ≡ same_key left.now right.now }
 {
-    match (key, other) {
-        (CellKey::Name(name), CellKey::Name(other)) => name == other,
-        (CellKey::State(vat), CellKey::State(other)) => vat == other,
-        (CellKey::Msg(message), CellKey::Msg(other)) => message == other,
-        (CellKey::Board(promise), CellKey::Board(other)) => promise == other,
-        _ => false,
-    }
+    *left == *right
 }
 
 fn is_touched(touched: &[CellKey], key: &CellKey) -> bool

@@ -6,6 +6,8 @@ pub mod event;
 pub mod fault;
 pub mod journal;
 pub mod step;
+#[cfg(test)]
+mod tests;
 pub mod theorems;
 pub mod undoing;
 pub mod world;

@@ -279,11 +279,7 @@ pub struct Cells {
 }
 
 /// The cells of a birth.
-pub fn cells_of_birth(
-    alloc: Global,
-    event: EventName,
-    name: &Text,
-) -> Result<Cells, AllocError>
+pub fn cells_of_birth(alloc: Global, event: EventName, name: &Text) -> Result<Cells, AllocError>
     ensures { IfOk result (λ cells. (cells.touched.items ≡ birth_cells event name.now) × (cells.written.items ≡ birth_cells event name.now)) }
 {
     Ok(Cells {
@@ -292,11 +288,7 @@ pub fn cells_of_birth(
     })
 }
 
-fn birth_keys(
-    alloc: Global,
-    event: EventName,
-    name: &Text,
-) -> Result<Vec<CellKey>, AllocError>
+fn birth_keys(alloc: Global, event: EventName, name: &Text) -> Result<Vec<CellKey>, AllocError>
     ensures { IfOk result (λ keys. keys.items ≡ birth_cells event name.now) }
 {
     let mut keys = Vec::new(alloc);
@@ -334,11 +326,7 @@ fn add_turn_keys(
 }
 
 /// The cells of a turn that was run.
-pub fn cells_of_turn(
-    alloc: Global,
-    name: MsgId,
-    delivered: &Delivered,
-) -> Result<Cells, AllocError>
+pub fn cells_of_turn(alloc: Global, name: MsgId, delivered: &Delivered) -> Result<Cells, AllocError>
     ensures touched { IfOk result (λ cells. cells.touched.items ≡ turn_reads delivered.now.number delivered.now.after ++ turn_cells delivered.now.number name delivered.now.promise (outcome_of delivered.now.outcome).end) }
     ensures written { IfOk result (λ cells. cells.written.items ≡ turn_cells delivered.now.number name delivered.now.promise (outcome_of delivered.now.outcome).end) }
 {
@@ -360,12 +348,12 @@ fn step_birth(
     name: &Text,
     script: &Program,
 ) -> Result<(), StepFault>
-    ensures ok { OnOk result ((world_of world.old (key.Name name.now) ≡ None) × (world_of world.new ≡ after_event events (birth_foot event name.now (program_of script.now)) (world_of world.old))) }
+    ensures ok { OnOk result ((f : Foot) × Does (record { name = event; act = birth name.now (program_of script.now) }) (world_of world.old) f × (world_of world.new ≡ after_event events f (world_of world.old))) }
     ensures err { IfErr result (λ fault. TellsStep (record { name = event; act = birth name.now (program_of script.now) }) (world_of world.old) fault) }
 {
-    if world.vat(name).is_some() {
+    let None = world.vat(name) else {
         return Err(StepFault::Impossible);
-    }
+    };
     enter_birth(alloc, world, event, name, share_program(script)?)?;
     Ok(())
 }
@@ -387,12 +375,7 @@ fn step_ask(
     Ok(())
 }
 
-fn step_turn(
-    world: &mut World,
-    event: EventName,
-    name: MsgId,
-    budget: u32,
-) -> Result<(), StepFault>
+fn step_turn(world: &mut World, event: EventName, name: MsgId, budget: u32) -> Result<(), StepFault>
     ensures ok { OnOk result ((f : Foot) × ∥ Does (record { name = event; act = turn name budget }) (world_of world.old) f ∥₁ × (world_of world.new ≡ after_event events f (world_of world.old))) }
     ensures err { IfErr result (λ fault. TellsStep (record { name = event; act = turn name budget }) (world_of world.old) fault) }
 {
@@ -423,8 +406,12 @@ pub fn plain_run(alloc: Global, entries: &[Entry]) -> Result<World, StepFault>
 {
     let mut world = World::new(alloc);
     for entry in entries {
-        if entry.mark == Mark::Live {
-            step(alloc, &mut world, &entry.event)?;
+        match entry.mark {
+            Mark::Live => match step(alloc, &mut world, &entry.event) {
+                Ok(()) => {}
+                Err(fault) => return Err(fault),
+            },
+            Mark::Undone => {}
         }
     }
     Ok(world)

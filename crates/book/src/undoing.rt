@@ -1,6 +1,6 @@
 // What may be undone and redone, and what goes with an event that is undone.
 ghost use Rattle.std.specs.Prelude.{◌≡◌, [], IfOk, IfErr, OnOk, None, not};
-ghost use Rattle.std.specs.List.{list_any, filter, list_all};
+ghost use Rattle.std.specs.List.{filter, list_all, list_any};
 ghost use Rattle.book.specs.Journal.{among, Cone};
 ghost use Rattle.book.specs.Causes.{CausesComeFirst, joins, gathered};
 ghost use Rattle.book.specs.Refusals as refusals;
@@ -146,11 +146,11 @@ pub fn check_redo(
     check_next(names, redoable)
 }
 
-/// Whether one of these causes has joined.
-fn is_caused(causes: &[EventName], joined: &[EventName]) -> bool
-    ensures { result ≡ list_any (among joined.now) causes.now }
+/// Whether an event came of one of those that have joined.
+fn came_of(entry: &Entry, joined: &[EventName]) -> bool
+    ensures { result ≡ list_any (among joined.now) entry.now.causes.items }
 {
-    for cause in causes {
+    for cause in &entry.causes {
         if is_among(joined, *cause) {
             return true;
         }
@@ -158,25 +158,20 @@ fn is_caused(causes: &[EventName], joined: &[EventName]) -> bool
     false
 }
 
-/// Whether an event goes with those that have joined: it is the root, or it is live and came of one of them.
-fn goes_with(entry: &Entry, joined: &[EventName], root: EventName) -> bool
+/// Whether an event joins: it is the root, or it is live and came of one that has joined.
+fn does_join(entry: &Entry, joined: &[EventName], root: EventName) -> bool
     ensures { result ≡ joins root joined.now (line_of entry.now) }
 {
-    entry.event.name == root
-        || (entry.mark == Mark::Live && is_caused(&entry.causes, joined))
+    entry.event.name == root || (entry.mark == Mark::Live && came_of(entry, joined))
 }
 
 /// Goes once over the journal. Causes come before their event, so each has joined by then, or never will.
-fn gather(
-    alloc: Global,
-    entries: &[Entry],
-    root: EventName,
-) -> Result<Vec<EventName>, AllocError>
+fn gather(alloc: Global, entries: &[Entry], root: EventName) -> Result<Vec<EventName>, AllocError>
     ensures { IfOk result (λ names. names.items ≡ gathered root [] (lines_of entries.now)) }
 {
     let mut joined = Vec::new(alloc);
     for entry in entries {
-        if goes_with(entry, &joined, root) {
+        if does_join(entry, &joined, root) {
             joined.push(entry.event.name)?;
         }
     }
@@ -184,11 +179,7 @@ fn gather(
 }
 
 /// The live events that go with an event when it is undone, and the event itself, in order.
-pub fn cone(
-    alloc: Global,
-    entries: &[Entry],
-    root: EventName,
-) -> Result<Vec<EventName>, BookFault>
+pub fn cone(alloc: Global, entries: &[Entry], root: EventName) -> Result<Vec<EventName>, BookFault>
     requires { CausesComeFirst (lines_of entries.now) }
     ensures ok { IfOk result (λ names. (cone_refusal (lines_of entries.now) root ≡ None) × Cone (lines_of entries.now) root names.items) }
     ensures err { IfErr result (λ fault. Tells fault (cone_refusal (lines_of entries.now) root)) }

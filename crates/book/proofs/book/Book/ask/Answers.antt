@@ -10,8 +10,8 @@ use Rattle.book.specs.View.{world_of}
 use Rattle.book.proofs.Entering.{enters, stands_entered, stands_so}
 use Rattle.book.proofs.book.Book.ask.Goals as goal
 
-pub invariant_of-self-clause-stands : goal.invariant_of-self-clause-stands
-invariant_of-self-clause-stands c = stands_so _ _ _ _ _ _ refl (ap lines_of c.in_err-add_entry.ensures.err) c.args.self.now.stands
+pub invariant_of-self : goal.invariant_of-self
+invariant_of-self c = record { in_range = c.args.self.now.in_range; stands = stands_so _ _ _ _ _ _ refl (ap lines_of c.in_err-add_entry.ensures.err) c.args.self.now.stands }
 
 pub invariant_of-self-in-Ok-clause-stands : goal.invariant_of-self-in-Ok-clause-stands
 invariant_of-self-in-Ok-clause-stands c =
@@ -22,8 +22,8 @@ invariant_of-self-in-Ok-clause-stands c =
     let entered : Event = record { name = e; act = ask c.in_ok-share.field-0 (program_of c.in_ok-share_program.field-0) } in
     let f = ask_foot e c.args.name.now c.in_ok-event.number (program_of c.args.program) in
     let n : Enters ev f old new =
-        enters ev entered f old new c.in_ok-cells.cells.touched.items c.in_ok-cells.cells.written.items c.in_ok-event.ensures.ok.0 refl ∣ asks c.in_ok-event.ensures.ok.2.0.1 ∣₁ (c.in-Ok.ensures.ok c.args.name.now) c.in_ok-add_entry.ensures.ok
-        (λ i. record { name = e; act = ask (c.in_ok-share.ensures i) (c.in_ok-share_program.ensures i) }) c.in_ok-cells.ensures.0 c.in_ok-cells.ensures.1 c.clear.ensures.items in
+    enters ev entered f old new c.in_ok-cells.cells.touched.items c.in_ok-cells.cells.written.items c.in_ok-event.ensures.ok.0 refl ∣ asks c.in_ok-event.ensures.ok.2.1 ∣₁ (c.in-Ok.ensures.ok c.args.name.now) c.in_ok-add_entry.ensures.ok
+    (λ i. record { name = e; act = ask (c.in_ok-share.ensures i) (c.in_ok-share_program.ensures i) }) c.in_ok-cells.ensures.0 c.in_ok-cells.ensures.1 c.clear.ensures.items in
     stands_entered ev f old new c.args.self.now.stands n
 
 pub invariant_of-self-in-Err-clause-stands : goal.invariant_of-self-in-Err-clause-stands
@@ -40,9 +40,9 @@ returns-in-Ok-clause-ok c =
     let entered : Event = record { name = e; act = ask c.in_ok-share.field-0 (program_of c.in_ok-share_program.field-0) } in
     let f = ask_foot e c.args.name.now c.in_ok-event.number (program_of c.args.program) in
     let n : Enters ev f old new =
-        enters ev entered f old new c.in_ok-cells.cells.touched.items c.in_ok-cells.cells.written.items c.in_ok-event.ensures.ok.0 refl ∣ asks c.in_ok-event.ensures.ok.2.0.1 ∣₁ (c.in-Ok.ensures.ok c.args.name.now) c.in_ok-add_entry.ensures.ok
-        (λ i. record { name = e; act = ask (c.in_ok-share.ensures i) (c.in_ok-share_program.ensures i) }) c.in_ok-cells.ensures.0 c.in_ok-cells.ensures.1 c.clear.ensures.items in
-    (c.in_ok-event.ensures.ok.2.1, (c.in_ok-event.number, n))
+    enters ev entered f old new c.in_ok-cells.cells.touched.items c.in_ok-cells.cells.written.items c.in_ok-event.ensures.ok.0 refl ∣ asks c.in_ok-event.ensures.ok.2.1 ∣₁ (c.in-Ok.ensures.ok c.args.name.now) c.in_ok-add_entry.ensures.ok
+    (λ i. record { name = e; act = ask (c.in_ok-share.ensures i) (c.in_ok-share_program.ensures i) }) c.in_ok-cells.ensures.0 c.in_ok-cells.ensures.1 c.clear.ensures.items in
+    (c.in_ok-event.ensures.ok.3, (c.in_ok-event.number, n))
 
 pub returns-in-Err-clause-unchanged : goal.returns-in-Err-clause-unchanged
 returns-in-Err-clause-unchanged c =

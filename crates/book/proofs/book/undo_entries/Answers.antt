@@ -1,0 +1,14 @@
+use Rattle.std.proofs.Common.{◌∙◌, List, sym, ap}
+use Rattle.book.specs.Journal.{undone_in}
+use Rattle.book.specs.EventView.{lines_of}
+use Rattle.book.specs.declared.journal.Entry.{Entry}
+use Rattle.book.proofs.Lists.{same_items}
+use Rattle.book.proofs.Marking.{same_length, undo_line}
+use Rattle.book.proofs.book.undo_entries.Goals as goal
+
+pub returns : goal.returns
+returns c =
+    let names = c.args.names.now in
+    let new = c.mark_undone.new.entries in
+    ap lines_of (same_items c.args.entries.now.len new _ (same_length (undo_line names) new c.deref_mut.result.now c.mark_undone.ensures ∙ c.deref_mut.ensures.len))
+    ∙ c.mark_undone.ensures ∙ ap (λ (es : List Entry). undone_in names (lines_of es)) c.deref_mut.ensures.value
