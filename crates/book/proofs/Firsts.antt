@@ -1,15 +1,15 @@
 -- In a good journal causes come before what they cause.
-use Rattle.std.proofs.Common.{◌≡◌, ◌≢◌, ℕ, ◌<◌, ◌==◌, Bool, true, false, ◌||◌, List, [], ◌∷◌, ◌++◌, map, reverse, refl, sym, ap, ◌∙◌, subst, arith, ne_eqb}
+use Rattle.std.proofs.Common.{◌≡◌, ◌≢◌, ℕ, ◌<◌, ◌==◌, false, List, [], ◌∷◌, ◌++◌, map, reverse, refl, sym, ap, ◌∙◌, subst, arith, ne_eqb}
 use Rattle.std.proofs.Math.Bool.{Bool-set}
 use Rattle.std.proofs.Math.Logic.{∥∥₁_elim}
-use Rattle.std.specs.List.{list_any, AllByRecursion}
+use Rattle.std.specs.List.{AllByRecursion}
 use Rattle.std.proofs.lemmas.List.{map-append}
 use Rattle.history.specs.Journal.{Entry, name_of as entry_name, caused, is_in, Distinct, Ordered}
-use Rattle.history.proofs.Lists.{all_map, all_both, all_mapped, all_reversed}
+use Rattle.history.proofs.Lists.{all_both, all_mapped, all_reversed}
 use Rattle.ids.specs.declared.names.EventName.{EventName}
 use Rattle.book.specs.Events.{events}
 use Rattle.book.specs.Journal.{Line, name_of, among}
-use Rattle.book.specs.Books.{Book, line_of, Kept, Stands}
+use Rattle.book.specs.Books.{Book, line_of, Stands}
 use Rattle.book.specs.Causes.{ComesFirst, CausesComeFirst}
 use Rattle.book.proofs.Lists.{any_mapped, reversed}
 use Rattle.book.proofs.Standing.{told}

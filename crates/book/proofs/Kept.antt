@@ -1,23 +1,21 @@
 -- Undo and redo keep the journal good, and are never stuck.
-use Rattle.std.proofs.Common.{◌≡◌, ℕ, ◌+◌, ◌==◌, ◌<◌, Bool, true, false, cond, ◌&&◌, ◌||◌, not, List, [], ◌∷◌, ◌++◌, map, filter, length, reverse, None, refl, sym, ap, ◌∙◌, subst, eqb-true, arith}
-use Rattle.std.proofs.Math.Logic.{∥∥₁_elim, ∥∥₁_map, ∥∥₁_prop}
+use Rattle.std.proofs.Common.{◌≡◌, ℕ, ◌==◌, ◌<◌, Bool, true, false, ◌&&◌, ◌||◌, not, List, [], ◌∷◌, map, filter, length, reverse, None, refl, sym, ap, ◌∙◌, subst, eqb-true, arith}
+use Rattle.std.proofs.Math.Logic.{∥∥₁_elim, ∥∥₁_map}
 use Rattle.std.specs.List.{list_any, list_all, AllByRecursion}
 use Rattle.std.proofs.lemmas.Bool.{or_left, or_right}
 use Rattle.std.proofs.lemmas.List.{reverse-reverse}
-use Rattle.history.specs.Subject.{Run}
 use Rattle.history.specs.Journal.{Entry, live_set, without, both, named, is_in, marked, over, Good, Named, Sound, Closed as ClosedSet, Part}
 use Rattle.history.proofs.Lists.{all_of, all_map, all_reversed}
-use Rattle.history.proofs.Changes.{good_run, undone, redone, sound_same, sound_before_undo}
+use Rattle.history.proofs.Changes.{undone, redone, sound_same, sound_before_undo}
 use Rattle.history.proofs.Marks.{named_marked}
 use Rattle.ids.specs.declared.names.EventName.{EventName}
 use Rattle.book.specs.World.{World, empty}
-use Rattle.book.specs.Events.{Event, events}
-use Rattle.book.specs.Journal.{Line, name_of, among, chosen, undone_in, redone_in, live_events, rest_of, Closed}
-use Rattle.book.specs.Refusals.{undo_refusal, redo_refusal, live_refusal, same_set}
+use Rattle.book.specs.Events.{events}
+use Rattle.book.specs.Journal.{Line, among, chosen, undone_in, redone_in, live_events, rest_of, Closed}
+use Rattle.book.specs.Refusals.{undo_refusal, redo_refusal, same_set}
 use Rattle.book.specs.Books.{Book, PlainRun, line_of, Kept, Stands}
 use Rattle.book.specs.Calls.{Undoes, Redoes, now_redoable, still_redoable}
 use Rattle.book.proofs.Lists.{first_true, second_true}
-use Rattle.book.proofs.Law.{events_laws}
 use Rattle.book.proofs.Standing.{numbers, told, among_is, undone_lines, redone_lines, one_world, run_of_good, stands_run}
 use Rattle.book.proofs.Entering.{none_again}
 use Rattle.book.proofs.Refused.{neither}

@@ -1,5 +1,5 @@
 -- Each kind of event obeys the law of undo: it depends on no cell but those that it touches.
-use Rattle.std.proofs.Common.{◌≡◌, ℕ, List, [], ◌∷◌, ◌++◌, map, Option, Some, None, unwrap_or, refl, sym, ap, ◌∙◌, subst}
+use Rattle.std.proofs.Common.{◌≡◌, ℕ, List, ◌++◌, map, Option, Some, None, unwrap_or, refl, sym, ap, ◌∙◌, subst}
 use Rattle.std.specs.List.{AllByRecursion}
 use Rattle.history.specs.Subject.{Laws, Agree}
 use Rattle.ids.specs.declared.names.EventName.{EventName}
@@ -9,11 +9,11 @@ use Rattle.ids.specs.declared.names.CellKey.{CellKey}
 use Rattle.ids.specs.declared.names.CellKey.TheVariants as key
 use Rattle.ids.proofs.Keys.{same_key_exact, same_key_self}
 use Rattle.kernele.specs.Tree.{Name}
-use Rattle.turn.specs.State.{State, nothing}
+use Rattle.turn.specs.State.{State}
 use Rattle.turn.specs.Outcomes.{End, value, halt, thrown, abandoned}
 use Rattle.turn.specs.Turn.{Outcome, Delivers}
 use Rattle.turn.proofs.Determined.{delivery_same}
-use Rattle.book.specs.World.{Vat, Place, at_vat, done, Message, Content, home, message, World, vat_in, message_in, done_in}
+use Rattle.book.specs.World.{Vat, Place, at_vat, done, Message, Content, home, World, vat_in, message_in, done_in}
 use Rattle.book.specs.Events.{Event, Foot, Turn, Turns, InOrder, awaited, new_state, done_and_published, ask_foot, turn_foot, Does, births, asks, turns, events}
 
 -- what waits in order in one world does so in another that holds the same message

@@ -1,14 +1,7 @@
 -- Worlds are a set: any two proofs that two worlds are the same are the same.
-use Rattle.std.proofs.Common.{Bool, ℕ, ℤ, List, Option}
 use Rattle.std.proofs.Props.{props}
-use Rattle.ids.specs.declared.names.EventName.{EventName}
-use Rattle.ids.specs.declared.names.VatNo.{VatNo}
-use Rattle.ids.specs.declared.names.MsgId.{MsgId}
-use Rattle.ids.specs.declared.names.PromId.{PromId}
-use Rattle.ids.specs.declared.names.SlotId.{SlotId}
 use Rattle.kernele.specs.declared.tree.Pattern.{Pattern}
-use Rattle.kernele.specs.declared.naming.TopName.{TopName}
-use Rattle.kernele.specs.Tree.{Name, Tree, Trees, Trees-set}
+use Rattle.kernele.specs.Tree.{Name, Trees, Trees-set}
 use Rattle.values.specs.Data.{Val, Val-set}
 use Rattle.turn.specs.State.{Bind, Bind-set, State}
 use Rattle.turn.specs.State as state

@@ -1,25 +1,18 @@
 -- The invariant: what the journal tells, and that each call keeps it.
-use Rattle.std.proofs.Common.{◌≡◌, ℕ, ◌+◌, ◌==◌, ◌≤◌, Bool, true, false, ◌&&◌, ◌||◌, not, List, [], ◌∷◌, ◌++◌, map, filter, reverse, refl, sym, ap, ◌∙◌, subst, arith}
-use Rattle.std.proofs.Math.Logic.{∥∥₁_elim, ∥∥₁_map, ∥∥₁_prop}
-use Rattle.std.specs.List.{list_any, list_all, AllByRecursion}
-use Rattle.std.proofs.lemmas.List.{map-append, reverse-reverse}
-use Rattle.history.specs.Subject.{Run, meets, after}
-use Rattle.history.specs.Subject as history
-use Rattle.history.specs.Journal.{Entry, live_set, without, both, named, is_in, marked, over, Good, Named, Sound, Closed as ClosedSet, Part, NamesCauses, new_entry, causes_of}
-use Rattle.history.proofs.Lists.{all_of, all_map}
+use Rattle.std.proofs.Common.{◌≡◌, ℕ, ◌==◌, Bool, ◌&&◌, ◌||◌, not, List, [], map, filter, reverse, refl, sym, ap, ◌∙◌, subst}
+use Rattle.std.proofs.Math.Logic.{∥∥₁_elim, ∥∥₁_prop}
+use Rattle.std.proofs.lemmas.List.{reverse-reverse}
+use Rattle.history.specs.Subject.{Run, meets}
+use Rattle.history.specs.Journal.{Entry, live_set, without, both, named, marked, Good, causes_of}
 use Rattle.history.proofs.Core.{runs_are_one}
-use Rattle.history.proofs.Changes.{good_run, undone, redone, sound_same, sound_before_undo, appended_good}
-use Rattle.history.proofs.Marks.{named_marked}
-use Rattle.history.proofs.Naming.{causes_named_reversed, causes_below_reversed, appended_named, appended}
-use Rattle.ids.specs.Cells.{same_key}
+use Rattle.history.proofs.Changes.{good_run}
 use Rattle.ids.specs.declared.names.EventName.{EventName}
-use Rattle.ids.specs.declared.names.CellKey.{CellKey}
 use Rattle.book.specs.World.{World, empty}
-use Rattle.book.specs.Events.{Event, Foot, Does, events}
-use Rattle.book.specs.Journal.{Line, name_of, among, chosen, has_key, wrote_one_of, causes_in, undone_in, redone_in, live_events, rest_of}
-use Rattle.book.specs.Books.{Book, PlainRun, line_of, Kept, Stands}
-use Rattle.book.specs.Calls.{touched, new_line, Enters}
-use Rattle.book.proofs.Lists.{mapped, mapped_twice, mapped_same, reversed, mapped_reversed, filtered_map, filtered, filtered_reversed, any_mapped}
+use Rattle.book.specs.Events.{Event, Foot, events}
+use Rattle.book.specs.Journal.{Line, name_of, among, has_key, wrote_one_of, causes_in, undone_in, redone_in, live_events}
+use Rattle.book.specs.Books.{Book, PlainRun, line_of, Stands}
+use Rattle.book.specs.Calls.{touched}
+use Rattle.book.proofs.Lists.{mapped, mapped_twice, mapped_reversed, filtered_map, filtered, filtered_reversed, any_mapped}
 use Rattle.book.proofs.Law.{events_laws}
 use Rattle.book.proofs.Sets.{World-set}
 

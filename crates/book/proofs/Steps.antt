@@ -1,5 +1,5 @@
 -- On single steps of the world.
-use Rattle.std.proofs.Common.{◌≡◌, ℕ, Bool, true, cond, List, [], ◌∷◌, ◌++◌, map, Option, Some, None, refl, sym, ap, ◌∙◌, subst}
+use Rattle.std.proofs.Common.{◌≡◌, ℕ, cond, List, [], ◌∷◌, ◌++◌, map, Option, Some, None, refl, sym, ap, ◌∙◌}
 use Rattle.std.proofs.Math.Logic.{∥∥₁_map}
 use Rattle.kernele.specs.Tree.{Name, Trees}
 use Rattle.ids.specs.declared.names.EventName.{EventName}
@@ -12,9 +12,9 @@ use Rattle.turn.specs.Turn.{Outcome, Delivers}
 use Rattle.history.specs.Subject.{written}
 use Rattle.ids.specs.declared.names.PromId.{PromId}
 use Rattle.ids.specs.declared.names.CellKey.{CellKey}
-use Rattle.book.specs.World.{Vat, Place, at_vat, done, Message, Content, home, message, published, World, vat_named, message_of, message_in, done_in}
-use Rattle.book.specs.Events.{Event, Foot, Turn, Turns, InOrder, birth, ask, turn, new_state, done_and_published, Does, births, asks, turns, events}
-use Rattle.book.specs.Refusals.{Refusal, before, first, await_refusal, place_refusal, home_refusal, ready_refusal, ready_refusal_by}
+use Rattle.book.specs.World.{Vat, Place, at_vat, done, Message, Content, home, message, published, World, vat_named, message_in}
+use Rattle.book.specs.Events.{Foot, Turn, Turns, InOrder, birth, ask, turn, new_state, done_and_published, Does, births, asks, turns, events}
+use Rattle.book.specs.Refusals.{before, first, await_refusal, place_refusal, home_refusal, ready_refusal, ready_refusal_by}
 use Rattle.book.specs.Steps.{turn_cells}
 
 -- the keys of what a turn writes

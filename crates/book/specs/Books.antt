@@ -7,7 +7,7 @@ use Rattle.history.specs.Journal.{Entry, live_set, both, named, Good, Named, Sou
 use Rattle.ids.specs.declared.names.EventName.{EventName}
 use Rattle.book.specs.World.{World, empty}
 use Rattle.book.specs.Events.{Event, events}
-use Rattle.book.specs.Journal.{Line, live_events}
+use Rattle.book.specs.Journal.{Line}
 
 -- the world, the journal, the name that the next event is given, and the events that may be redone: those of an undo just now
 pub record Book : Type 0 where

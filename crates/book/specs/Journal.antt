@@ -1,5 +1,5 @@
 -- The journal: a line for each event, in the order in which they were accepted. A set of events is a list of their names.
-use Rattle.std.specs.Prelude.{◌≡◌, ℕ, ◌==◌, Bool, true, false, ◌&&◌, ◌||◌, not, cond, List, [], ◌∷◌, map, filter, Option, Some, None}
+use Rattle.std.specs.Prelude.{◌≡◌, ◌==◌, Bool, true, ◌&&◌, ◌||◌, not, List, map, filter}
 use Rattle.std.specs.List.{list_any, AllByRecursion}
 use Rattle.ids.specs.Cells.{same_key}
 use Rattle.ids.specs.declared.names.EventName.{EventName}

@@ -1,5 +1,5 @@
 -- When a call of the book is refused.
-use Rattle.std.specs.Prelude.{◌≡◌, ℕ, ◌==◌, ◌&&◌, ◌||◌, not, Bool, cond, List, [], ◌∷◌, length, filter, Option, Some, None, Ok, Err, nat_lt, min}
+use Rattle.std.specs.Prelude.{◌==◌, ◌&&◌, ◌||◌, not, Bool, cond, List, [], ◌∷◌, length, filter, Option, Some, None, Ok, Err, nat_lt, min}
 use Rattle.std.specs.List.{list_any, list_all}
 use Rattle.std.specs.Option.{option_map, option_or}
 use Rattle.kernele.specs.Tree.{Name, Trees}
@@ -7,7 +7,6 @@ use Rattle.kernele.specs.Scope.{Checked, checked_program, script_scopes, asked_s
 use Rattle.kernele.specs.Scope as scope
 use Rattle.ids.specs.declared.names.EventName.{EventName}
 use Rattle.ids.specs.declared.names.MsgId.{MsgId}
-use Rattle.ids.specs.declared.names.VatNo.{VatNo}
 use Rattle.ids.specs.declared.names.CellKey.TheVariants as key
 use Rattle.book.specs.World.{Vat, Place, at_vat, done, Message, Content, home, World, vat_named, message_of, done_in}
 use Rattle.book.specs.Journal.{Line, name_of, among, chosen}

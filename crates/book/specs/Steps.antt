@@ -1,5 +1,5 @@
 -- What the parts of a step find and leave.
-use Rattle.std.specs.Prelude.{◌≡◌, ℕ, cond, List, [], ◌∷◌, ◌++◌, Option, Some}
+use Rattle.std.specs.Prelude.{cond, List, [], ◌∷◌, ◌++◌, Option}
 use Rattle.kernele.specs.Tree.{Name}
 use Rattle.turn.specs.Outcomes.{End}
 use Rattle.ids.specs.declared.names.EventName.{EventName}

@@ -1,4 +1,4 @@
-use Rattle.std.proofs.Common.{◌∙◌, List, sym, ap}
+use Rattle.std.proofs.Common.{◌∙◌, List, ap}
 use Rattle.book.specs.Journal.{redone_in}
 use Rattle.book.specs.EventView.{lines_of}
 use Rattle.book.specs.declared.journal.Entry.{Entry}

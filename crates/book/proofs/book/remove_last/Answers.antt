@@ -1,4 +1,3 @@
-use Rattle.std.proofs.Common.{◌∙◌, sym}
 use Rattle.book.proofs.Lists.{last_gone}
 use Rattle.book.proofs.book.remove_last.Goals as goal
 

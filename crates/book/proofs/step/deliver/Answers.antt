@@ -1,4 +1,4 @@
-use Rattle.std.proofs.Common.{ℕ, ◌∙◌, ap, sym, subst}
+use Rattle.std.proofs.Common.{◌∙◌, subst}
 use Rattle.turn.specs.Turn.{Delivery, Delivers}
 use Rattle.turn.specs.State.{State}
 use Rattle.turn.specs.View.{delivery_of, state_of, outcome_of}

@@ -1,12 +1,10 @@
-use Rattle.std.proofs.Common.{◌≡◌, ◌∙◌, ◌∷◌, Bool, true, false, cond, List, [], not, Some, refl, sym, ap}
+use Rattle.std.proofs.Common.{◌∙◌, ◌∷◌, Bool, cond, List, [], Some, sym, ap}
 use Rattle.ids.specs.Cells.{same_key}
 use Rattle.ids.specs.declared.names.CellKey.{CellKey}
 use Rattle.ids.specs.declared.names.CellKey.TheVariants as key
 use Rattle.turn.specs.View.{outcome_of, state_of}
 use Rattle.book.specs.World.{World, Content, home}
-use Rattle.book.specs.Events.{is_abandoned}
 use Rattle.book.specs.View.{world_of}
-use Rattle.book.specs.declared.world.World as code
 use Rattle.book.proofs.Steps.{settled}
 use Rattle.book.proofs.step.enter_turn.Goals as goal
 use Rattle.book.proofs.step.enter_turn.Goals.{then-not-is_abandoned, else-not-is_abandoned}

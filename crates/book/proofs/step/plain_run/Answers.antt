@@ -2,10 +2,9 @@ use Rattle.std.proofs.Common.{◌≡◌, ◌∙◌, ◌∷◌, ◌+◌, List, []
 use Rattle.std.proofs.Math.Logic.{∥∥₁_elim, ∥∥₁_map, ∥∥₁_prop}
 use Rattle.std.proofs.lemmas.List.{drop_all}
 use Rattle.book.specs.World.{World}
-use Rattle.book.specs.Journal.{Line, live_events}
+use Rattle.book.specs.Journal.{Line}
 use Rattle.book.specs.EventView.{lines_of, line_of, is_live}
 use Rattle.book.specs.View.{world_of}
-use Rattle.book.specs.declared.journal.Entry.{Entry}
 use Rattle.book.proofs.Along.{from_here}
 use Rattle.book.proofs.Runs.{Joined, joined_start, joined_step, joined_skip, joined_end, tells_run}
 use Rattle.book.proofs.step.plain_run.Goals as goal

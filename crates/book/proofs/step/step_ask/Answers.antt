@@ -1,11 +1,10 @@
-use Rattle.std.proofs.Common.{◌∙◌, Option, sym, ap}
-use Rattle.std.specs.Option.{option_map}
+use Rattle.std.proofs.Common.{◌∙◌, sym, ap}
 use Rattle.kernele.specs.View.{program_of}
 use Rattle.kernele.specs.Tree.{Trees}
 use Rattle.history.specs.Subject.{after}
-use Rattle.book.specs.World.{Content, vat_in}
+use Rattle.book.specs.World.{vat_in}
 use Rattle.book.specs.Events.{events, ask_foot, asks}
-use Rattle.book.specs.View.{world_of, vat_of}
+use Rattle.book.specs.View.{world_of}
 use Rattle.book.proofs.step.step_ask.Goals as goal
 
 pub returns-clause-ok : goal.returns-clause-ok

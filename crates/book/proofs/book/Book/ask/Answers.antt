@@ -1,7 +1,6 @@
-use Rattle.std.proofs.Common.{◌+◌, ◌∙◌, refl, sym, ap}
+use Rattle.std.proofs.Common.{◌+◌, refl, ap}
 use Rattle.kernele.specs.View.{program_of}
-use Rattle.book.specs.World.{vat_in}
-use Rattle.book.specs.Events.{Event, birth, ask, births, asks, birth_foot, ask_foot}
+use Rattle.book.specs.Events.{Event, ask, asks, ask_foot}
 use Rattle.book.specs.Books.{Book}
 use Rattle.book.specs.Calls.{Enters}
 use Rattle.book.specs.BookView.{book_of}

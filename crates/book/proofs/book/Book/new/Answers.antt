@@ -1,4 +1,4 @@
-use Rattle.std.proofs.Common.{List, [], ◌∷◌, ap, refl}
+use Rattle.std.proofs.Common.{ap}
 use Rattle.book.specs.EventView.{lines_of}
 use Rattle.book.proofs.Standing.{stands_blank}
 use Rattle.book.proofs.book.Book.new.Goals as goal

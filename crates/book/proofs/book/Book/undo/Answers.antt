@@ -1,19 +1,16 @@
-use Rattle.std.proofs.Common.{◌≡◌, ◌∙◌, ◌==◌, false, List, Option, None, length, filter, refl, sym, ap, subst}
-use Rattle.ids.specs.declared.names.EventName.{EventName}
-use Rattle.book.specs.World.{World}
-use Rattle.book.specs.Journal.{Line, chosen, undone_in, redone_in, live_events, rest_of}
-use Rattle.book.specs.Refusals.{Refusal, first, missing_refusal, live_refusal, next_refusal, undo_refusal, redo_refusal}
+use Rattle.std.proofs.Common.{◌≡◌, ◌∙◌, ◌==◌, false, List, None, length, filter, refl, sym, ap, subst}
+use Rattle.book.specs.Journal.{chosen, redone_in, live_events, rest_of}
+use Rattle.book.specs.Refusals.{undo_refusal}
 use Rattle.book.specs.Books.{Book, PlainRun}
-use Rattle.book.specs.Calls.{Undoes, Redoes}
+use Rattle.book.specs.Calls.{Undoes}
 use Rattle.book.specs.Steps.{TellsRun}
 use Rattle.book.specs.BookView.{book_of}
 use Rattle.book.specs.EventView.{lines_of}
 use Rattle.book.specs.View.{world_of}
 use Rattle.book.specs.declared.journal.Entry.{Entry}
-use Rattle.book.specs.declared.step.StepFault.{StepFault}
 use Rattle.book.proofs.Entering.{stands_so}
 use Rattle.book.proofs.Marks.{redone-undone, live_events-undone}
-use Rattle.book.proofs.Kept.{former, undo_runs, redo_goes, undoes_none, redoes_none, now_those, still_none, stands_after_undo, stands_after_redo, undone-redone}
+use Rattle.book.proofs.Kept.{undo_runs, undoes_none, now_those, stands_after_undo}
 use Rattle.book.proofs.book.Book.undo.Goals as goal
 
 pub returns-then-is_empty-clause-ok : goal.returns-then-is_empty-clause-ok
