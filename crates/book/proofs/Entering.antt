@@ -10,13 +10,13 @@ use Rattle.history.proofs.Changes.{sound_same}
 use Rattle.history.proofs.Naming.{causes_named_reversed, causes_below_reversed, appended_named, appended}
 use Rattle.ids.specs.declared.names.EventName.{EventName}
 use Rattle.ids.specs.declared.names.CellKey.{CellKey}
-use Rattle.book.specs.World.{World, empty}
-use Rattle.book.specs.Events.{Event, Foot, Does, events}
+use Rattle.world.specs.World.{World, empty}
+use Rattle.world.specs.Events.{Event, Foot, Does, events}
 use Rattle.book.specs.Journal.{Line, causes_in}
 use Rattle.book.specs.Books.{Book, line_of, Kept, Stands}
 use Rattle.book.specs.Calls.{touched, new_line, Enters}
 use Rattle.book.proofs.Lists.{mapped_twice, mapped_same, reversed}
-use Rattle.book.proofs.Law.{events_laws}
+use Rattle.world.proofs.Law.{events_laws}
 use Rattle.book.proofs.Standing.{numbers, told, causes_are}
 
 -- the entry of an event that is accepted over this journal

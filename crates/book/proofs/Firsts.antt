@@ -7,7 +7,7 @@ use Rattle.std.proofs.lemmas.List.{map-append}
 use Rattle.history.specs.Journal.{Entry, name_of as entry_name, caused, is_in, Distinct, Ordered}
 use Rattle.history.proofs.Lists.{all_both, all_mapped, all_reversed}
 use Rattle.ids.specs.declared.names.EventName.{EventName}
-use Rattle.book.specs.Events.{events}
+use Rattle.world.specs.Events.{events}
 use Rattle.book.specs.Journal.{Line, name_of, among}
 use Rattle.book.specs.Books.{Book, line_of, Stands}
 use Rattle.book.specs.Causes.{ComesFirst, CausesComeFirst}

@@ -9,8 +9,8 @@ use Rattle.history.proofs.Lists.{all_of, all_map, all_reversed}
 use Rattle.history.proofs.Changes.{undone, redone, sound_same, sound_before_undo}
 use Rattle.history.proofs.Marks.{named_marked}
 use Rattle.ids.specs.declared.names.EventName.{EventName}
-use Rattle.book.specs.World.{World, empty}
-use Rattle.book.specs.Events.{events}
+use Rattle.world.specs.World.{World, empty}
+use Rattle.world.specs.Events.{events}
 use Rattle.book.specs.Journal.{Line, among, chosen, undone_in, redone_in, live_events, rest_of, Closed}
 use Rattle.book.specs.Refusals.{undo_refusal, redo_refusal, same_set}
 use Rattle.book.specs.Books.{Book, PlainRun, line_of, Kept, Stands}

@@ -1,8 +1,5 @@
 pub mod Along
 pub mod Lists
-pub mod Worlds
-pub mod Law
-pub mod Sets
 pub mod Standing
 pub mod Entering
 pub mod Refused
@@ -13,5 +10,4 @@ pub mod Marking
 pub mod Kept
 pub mod Firsts
 pub mod Runs
-pub mod Steps
 pub mod Keys

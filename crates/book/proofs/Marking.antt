@@ -5,7 +5,7 @@ use Rattle.std.specs.Option.{option_map}
 use Rattle.ids.specs.declared.names.EventName.{EventName}
 use Rattle.std.proofs.lemmas.List.{map-set, length-map}
 use Rattle.book.specs.Journal.{Line, name_of, among, chosen}
-use Rattle.book.specs.EventView.{is_live, line_of, lines_of}
+use Rattle.book.specs.EntryView.{is_live, line_of, lines_of}
 use Rattle.book.specs.declared.journal.Entry.{Entry}
 use Rattle.book.specs.declared.journal.Mark.{Mark}
 use Rattle.book.specs.declared.journal.Mark.TheVariants as mark

@@ -3,14 +3,15 @@ use Rattle.std.proofs.Common.{◌≡◌, Bool, true, false, cond, List, [], ◌�
 use Rattle.std.proofs.Math.Logic.{∥∥₁_elim, ∥∥₁_map, ∥∥₁_prop}
 use Rattle.std.proofs.lemmas.List.{reverse-append}
 use Rattle.history.specs.Subject.{Run, run_none, run_more, after}
-use Rattle.book.specs.World.{World, empty}
-use Rattle.book.specs.Events.{Event, Foot, Does, events}
+use Rattle.world.specs.World.{World, empty}
+use Rattle.world.specs.Events.{Event, Foot, Does, events}
 use Rattle.book.specs.Journal.{Line, live_events}
 use Rattle.book.specs.Books.{RunFrom}
-use Rattle.book.specs.Steps.{TellsStep, TellsRun}
-use Rattle.book.specs.declared.step.StepFault.{StepFault}
-use Rattle.book.specs.declared.step.StepFault.TheVariants as faults
-use Rattle.book.proofs.Law.{events_laws}
+use Rattle.world.specs.Steps.{TellsStep}
+use Rattle.book.specs.Rerun.{TellsRun}
+use Rattle.world.specs.declared.step.StepFault.{StepFault}
+use Rattle.world.specs.declared.step.StepFault.TheVariants as faults
+use Rattle.world.proofs.Law.{events_laws}
 
 -- a first event, and then a run from the world that it leaves
 run_after : {w : World} {f : Foot} (e : Event) → Does e w f → {es : List Event} {u : World} → Run events (after events f w) es u → Run events w (es ++ e ∷ []) u

@@ -1,7 +1,7 @@
 -- What the program's book stands for.
 use Rattle.book.specs.Books as model
-use Rattle.book.specs.EventView.{lines_of}
-use Rattle.book.specs.View.{world_of}
+use Rattle.book.specs.EntryView.{lines_of}
+use Rattle.world.specs.View.{world_of}
 use Rattle.book.specs.declared.book.Book.{Book}
 
 abbrev pub book_of : Book → model.Book

@@ -5,8 +5,8 @@ use Rattle.history.specs.Subject.{Footprint, Run}
 use Rattle.history.specs.Subject as history
 use Rattle.history.specs.Journal.{Entry, live_set, both, named, Good, Named, Sound}
 use Rattle.ids.specs.declared.names.EventName.{EventName}
-use Rattle.book.specs.World.{World, empty}
-use Rattle.book.specs.Events.{Event, events}
+use Rattle.world.specs.World.{World, empty}
+use Rattle.world.specs.Events.{Event, events}
 use Rattle.book.specs.Journal.{Line}
 
 -- the world, the journal, the name that the next event is given, and the events that may be redone: those of an undo just now

@@ -4,7 +4,7 @@ use Rattle.std.specs.List.{list_any, AllByRecursion}
 use Rattle.ids.specs.Cells.{same_key}
 use Rattle.ids.specs.declared.names.EventName.{EventName}
 use Rattle.ids.specs.declared.names.CellKey.{CellKey}
-use Rattle.book.specs.Events.{Event}
+use Rattle.world.specs.Events.{Event}
 
 -- an event, the cells that it touched, those of them that it wrote, the names of its causes, and whether it is live
 pub record Line : Type 0 where

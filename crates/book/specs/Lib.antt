@@ -1,12 +1,9 @@
-pub mod World
-pub mod Events
 pub mod Journal
 pub mod Books
 pub mod Refusals
 pub mod Calls
-pub mod Steps
-pub mod View
+pub mod Rerun
 pub mod Fault
 pub mod Causes
-pub mod EventView
+pub mod EntryView
 pub mod BookView

@@ -7,8 +7,10 @@ use Rattle.kernele.specs.Scope.{Checked, checked_program, script_scopes, asked_s
 use Rattle.kernele.specs.Scope as scope
 use Rattle.ids.specs.declared.names.EventName.{EventName}
 use Rattle.ids.specs.declared.names.MsgId.{MsgId}
-use Rattle.ids.specs.declared.names.CellKey.TheVariants as key
-use Rattle.book.specs.World.{Vat, Place, at_vat, done, Message, Content, home, World, vat_named, message_of, done_in}
+use Rattle.world.specs.World.{Vat, World, vat_named}
+use Rattle.world.specs.Ready.{unready}
+use Rattle.world.specs.declared.ready.Unready.{Unready}
+use Rattle.world.specs.declared.ready.Unready.TheVariants as why
 use Rattle.book.specs.Journal.{Line, name_of, among, chosen}
 use Rattle.book.specs.Books.{Book}
 
@@ -63,26 +65,15 @@ ask_refusal_by (Some v) b x program = first (check_refusal (checked_program prog
 abbrev pub ask_refusal : Book → Name → Trees → Option Refusal
 ask_refusal b x program = ask_refusal_by (vat_named b.world x) b x program
 
--- the message that must be done first
-abbrev pub await_refusal : World → Option MsgId → Option Refusal
-await_refusal w None = None
-await_refusal w (Some m) = cond (done_in (message_of w m)) None (Some (before m))
-
-abbrev pub home_refusal : Option Content → Option Refusal
-home_refusal (Some (home x s)) = None
-home_refusal _ = Some not_there
-
-abbrev pub place_refusal : World → Place → Option Refusal
-place_refusal w (at_vat v) = home_refusal (w (key.State v))
-place_refusal w (done e) = Some not_there
-
-abbrev pub ready_refusal_by : World → MsgId → Option Message → Option Refusal
-ready_refusal_by w m None = Some (no_message m)
-ready_refusal_by w m (Some g) = first (place_refusal w g.place) (await_refusal w g.after)
+-- why a message may not be delivered
+abbrev pub refusal_of : MsgId → Unready → Refusal
+refusal_of m why.NoMessage = no_message m
+refusal_of m why.NotThere = not_there
+refusal_of m (why.Before n) = before n
 
 -- a delivery: the message is there, at a vat, and what it waits for is done
 abbrev pub ready_refusal : World → MsgId → Option Refusal
-ready_refusal w m = ready_refusal_by w m (message_of w m)
+ready_refusal w m = option_map (refusal_of m) (unready w m)
 
 abbrev pub turn_refusal : Book → MsgId → Option Refusal
 turn_refusal b m = first (ready_refusal b.world m) (full_refusal b)

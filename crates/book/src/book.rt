@@ -6,32 +6,33 @@ ghost use Rattle.kernele.specs.Check.{scopes_of};
 ghost use Rattle.kernele.specs.Scope.{checked_program};
 ghost use Rattle.kernele.specs.declared.naming.TopName.{TopName};
 ghost use Rattle.turn.specs.View.{ended_of};
-ghost use Rattle.book.specs.World.{vat_named};
-ghost use Rattle.book.specs.Events.{Turn, Turns, birth, ask, turn, birth_foot, ask_foot, turn_foot};
+ghost use Rattle.world.specs.World.{vat_named};
+ghost use Rattle.world.specs.Events.{Turn, Turns, birth, ask, turn, birth_foot, ask_foot, turn_foot};
 ghost use Rattle.book.specs.Journal.{Line, live_events, causes_in, chosen, undone_in, redone_in, Cone};
 ghost use Rattle.book.specs.Refusals.{birth_refusal, ask_refusal, turn_refusal, ready_refusal, full_refusal, check_refusal, taken_refusal, undo_refusal, redo_refusal, cone_refusal};
 ghost use Rattle.book.specs.Books.{blank, PlainRun, Stands};
 ghost use Rattle.book.specs.Calls.{Enters, Undoes, Redoes};
 ghost use Rattle.book.specs.Fault.{Tells};
-ghost use Rattle.book.specs.EventView.{event_of, lines_of};
-ghost use Rattle.book.specs.Steps.{refusal_of};
-ghost use Rattle.book.specs.View.{world_of};
+ghost use Rattle.world.specs.EventView.{event_of};
+ghost use Rattle.book.specs.EntryView.{lines_of};
+ghost use Rattle.book.specs.Refusals.{refusal_of};
+ghost use Rattle.world.specs.View.{world_of};
 
-use crate::event::{Action, Event, share_program};
 use crate::fault::BookFault;
 use crate::journal::{Entry, Mark, causes_of, count_of, mark_redone, mark_undone};
-use crate::step::{
-    Cells, StepFault, Unready, cells_of_ask, cells_of_birth, cells_of_turn, deliver, enter_ask,
-    enter_birth, enter_turn, plain_run, ready,
-};
+use crate::rerun::plain_run;
 use crate::undoing::{check_redo, check_undo, cone};
-use crate::world::World;
 use ids::names::{EventName, MsgId, VatNo};
 use ids::text::Text;
 use kernele::tree::Program;
 use kernele::{CheckFault, Outer, check};
 use std::alloc::{AllocError, Global};
 use turn::delivery::Ended;
+use world::cells::{Cells, cells_of_ask, cells_of_birth, cells_of_turn};
+use world::event::{Action, Event, share_program};
+use world::ready::{Unready, ready};
+use world::step::{StepFault, deliver, enter_ask, enter_birth, enter_turn};
+use world::world::World;
 
 /// The greatest name that an event may have.
 const LAST_NAME: u64 = 4_294_967_295;

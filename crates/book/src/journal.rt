@@ -4,11 +4,11 @@ ghost use Rattle.std.specs.List.{filter};
 ghost use Rattle.ids.specs.Cells.{same_key};
 ghost use Rattle.book.specs.Journal.{among, has_key, wrote_one_of, causes_in, chosen, undone_in, redone_in};
 ghost use Rattle.book.specs.Refusals as refusals;
-ghost use Rattle.book.specs.EventView.{line_of, lines_of};
+ghost use Rattle.book.specs.EntryView.{line_of, lines_of};
 
-use crate::event::Event;
 use ids::names::{CellKey, EventName};
 use std::alloc::{AllocError, Global};
+use world::event::Event;
 
 /// Whether an event counts: an undone one is as if it had never been.
 #[derive(Clone, Copy, Debug, PartialEq, Eq)]

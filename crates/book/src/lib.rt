@@ -1,13 +1,10 @@
-//! The world, and the book that all events go through.
+//! The book that all events go through: the world, and the journal that made it.
 #![tactic(auto)]
 
 pub mod book;
-pub mod event;
 pub mod fault;
 pub mod journal;
-pub mod step;
+pub mod rerun;
 #[cfg(test)]
 mod tests;
-pub mod theorems;
 pub mod undoing;
-pub mod world;

@@ -6,7 +6,7 @@ ghost use Rattle.book.specs.Causes.{CausesComeFirst, joins, gathered};
 ghost use Rattle.book.specs.Refusals as refusals;
 ghost use Rattle.book.specs.Refusals.{least, lesser, consequence, first, missing_refusal, undone_refusal, live_refusal, open_refusal, undo_refusal, next_refusal, cone_refusal};
 ghost use Rattle.book.specs.Fault.{Tells};
-ghost use Rattle.book.specs.EventView.{line_of, lines_of};
+ghost use Rattle.book.specs.EntryView.{line_of, lines_of};
 
 use crate::fault::BookFault;
 use crate::journal::{Entry, Mark, is_among, is_entered};

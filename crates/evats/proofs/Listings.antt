@@ -19,9 +19,9 @@ use Rattle.values.specs.declared.value.Value.{Value}
 use Rattle.turn.specs.State.{read, top, slot_cell}
 use Rattle.turn.specs.View.{tops_of, slots_of, state_of}
 use Rattle.turn.specs.declared.heap.Binding.{Binding}
-use Rattle.book.specs.World.{Content, World}
-use Rattle.book.specs.View.{home_of}
-use Rattle.book.specs.declared.world.Home.{Home}
+use Rattle.world.specs.World.{Content, World}
+use Rattle.world.specs.View.{home_of}
+use Rattle.world.specs.declared.world.Home.{Home}
 use Rattle.evats.specs.Show.{Lists, noun_lines, slot_lines, vat_line, home_lines_none, home_lines_more, message_lines, board_lines, Shows}
 use Rattle.evats.specs.ShowView.{entries_as, nouns_in, slots_in, HomeWritten, HomesWritten}
 

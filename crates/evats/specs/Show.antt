@@ -16,7 +16,7 @@ use Rattle.kernele.specs.Tree.{Name}
 use Rattle.values.specs.Shown.{shown}
 use Rattle.turn.specs.State as state
 use Rattle.turn.specs.State.{State, top, slot_cell, bound, fixed, slot, held}
-use Rattle.book.specs.World.{Place, at_vat, done, Content, home, message, published, World}
+use Rattle.world.specs.World.{Place, at_vat, done, Content, home, message, published, World}
 
 -- xs has the contents of a finite map with their keys, in the order of the keys
 pub record Lists {K V : Type 0} (cmp : K → K → Ordering) (at : K → Option V) (xs : List (K × V)) : Type 0 where

@@ -13,10 +13,10 @@ use Rattle.ids.specs.declared.names.VatNo.{VatNo}
 use Rattle.ids.specs.declared.names.MsgId.{MsgId}
 use Rattle.ids.specs.declared.names.PromId.{PromId}
 use Rattle.ids.specs.declared.names.SlotId.{SlotId}
-use Rattle.book.specs.World.{Content, message, published}
-use Rattle.book.specs.View.{home_of, message_of}
-use Rattle.book.specs.declared.world.Home.{Home}
-use Rattle.book.specs.declared.world.Message.{Message}
+use Rattle.world.specs.World.{Content, message, published}
+use Rattle.world.specs.View.{home_of, message_of}
+use Rattle.world.specs.declared.world.Home.{Home}
+use Rattle.world.specs.declared.world.Message.{Message}
 
 -- entries, each content as what it stands for
 abbrev pub entries_as : {K V W : Type 0} → (V → W) → List (K × V) → List (K × W)

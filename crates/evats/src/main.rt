@@ -21,7 +21,12 @@ use options::{Options, Parsed, parse};
 use std::io::{Read, Write};
 use std::process::ExitCode;
 use std::rt::Runtime;
+use std::thread::{Builder, Threads};
 use std::{fs, io};
+
+/// The bytes of the stack on which commands are answered: a text may nest thousands of levels deep, and the calls that
+/// read it nest with it.
+const STACK: usize = 256 << 20;
 
 /// What is read: a file, or standard input.
 fn input<R: Runtime + AllocGlobal>(rt: &R, file: Option<&str>) -> Result<Vec<u8>, Ended> {
@@ -37,13 +42,28 @@ fn input<R: Runtime + AllocGlobal>(rt: &R, file: Option<&str>) -> Result<Vec<u8>
     }
 }
 
+/// The replies to all commands, made on a stack of their own.
+fn replies_of<R: Runtime + AllocGlobal + Threads>(
+    rt: &R,
+    bytes: Vec<u8>,
+    limits: Limits,
+) -> Result<(Vec<u8>, Summary), Fault> {
+    let alloc = rt.alloc();
+    let answering = move || replies(alloc, &bytes, limits);
+    match Builder::new().stack_size(STACK).spawn(rt, answering) {
+        Ok(thread) => thread.join(rt),
+        // The stack is memory too.
+        Err(_) => Err(Fault::Memory),
+    }
+}
+
 /// Answers all commands, and writes the replies at once.
-fn answer<R: Runtime + AllocGlobal>(rt: &R, options: &Options) -> Ended {
+fn answer<R: Runtime + AllocGlobal + Threads>(rt: &R, options: &Options) -> Ended {
     let bytes = match input(rt, options.file) {
         Ok(bytes) => bytes,
         Err(ended) => return ended,
     };
-    match replies(rt.alloc(), &bytes, options.limits) {
+    match replies_of(rt, bytes, options.limits) {
         Ok((written, summary)) => match io::writer(rt).write_all(&written) {
             Ok(()) => Ended::Ran(Ok(summary)),
             Err(_) => Ended::Ran(Err(Fault::Writer)),
@@ -52,7 +72,7 @@ fn answer<R: Runtime + AllocGlobal>(rt: &R, options: &Options) -> Ended {
     }
 }
 
-fn run<R: Runtime + AllocGlobal>(rt: &R) -> io::Result<Ended> {
+fn run<R: Runtime + AllocGlobal + Threads>(rt: &R) -> io::Result<Ended> {
     let words: Vec<String> = std::env::args(rt)?.collect(rt.alloc())?;
     let ended = match parse(rt, words.as_slice())? {
         Parsed::Options(options) => {

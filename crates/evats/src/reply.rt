@@ -2,12 +2,12 @@
 ghost use Rattle.std.specs.Prelude.{◌≡◌, ◌++◌, [], true, false, OnOk, string_bytes};
 ghost use Rattle.ereader.specs.Shown.{shown};
 ghost use Rattle.book.specs.Fault as book_fault;
-ghost use Rattle.book.specs.View.{world_of};
+ghost use Rattle.world.specs.View.{world_of};
 ghost use Rattle.turn.specs.View.{ended_of};
 ghost use Rattle.evats.specs.Commands.{fault_text};
 ghost use Rattle.evats.specs.Replies.{refused, queued_text, turned_text, end_text, undone_text, redone_text};
 ghost use Rattle.evats.specs.Listing.{journal_text, cone_text};
-ghost use Rattle.book.specs.EventView.{lines_of};
+ghost use Rattle.book.specs.EntryView.{lines_of};
 ghost use Rattle.evats.specs.Show.{Shows};
 
 use crate::command::LineFault;
@@ -15,7 +15,7 @@ use crate::listing::{write_cone, write_journal};
 use crate::show::write_world;
 use book::fault::BookFault;
 use book::journal::Entry;
-use book::world::World;
+use world::world::World;
 use ereader::fault::ReadFault;
 use ids::names::{EventName, MsgId};
 use ids::quote::write_quoted;

@@ -10,12 +10,12 @@ ghost use Rattle.std.specs.Cmp.Lexicographic.{slice_cmp};
 ghost use Rattle.values.specs.View.{val_of};
 ghost use Rattle.std.specs.Option.{option_map};
 ghost use Rattle.std.specs.BTreeMap.{get};
-ghost use Rattle.book.specs.World.{message as message_content, published};
-ghost use Rattle.book.specs.View.{world_of, place_of, message_of, home_of};
+ghost use Rattle.world.specs.World.{message as message_content, published};
+ghost use Rattle.world.specs.View.{world_of, place_of, message_of, home_of};
 ghost use Rattle.evats.specs.Show.{content_text, noun_line, noun_lines, slot_line, slot_lines, vat_line, place_text, message_line, message_lines, board_line, board_lines, Lists, Shows};
 ghost use Rattle.evats.specs.ShowView.{nouns_in, slots_in, homes_in, messages_in, board_in, HomeWritten, HomesWritten};
 
-use book::world::{Home, Message, Place, World};
+use world::world::{Home, Message, Place, World};
 use ids::names::{MsgId, PromId, SlotId, VatNo};
 use ids::text::Text;
 use std::alloc::AllocError;

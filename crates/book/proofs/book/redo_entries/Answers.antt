@@ -1,6 +1,6 @@
 use Rattle.std.proofs.Common.{◌∙◌, List, ap}
 use Rattle.book.specs.Journal.{redone_in}
-use Rattle.book.specs.EventView.{lines_of}
+use Rattle.book.specs.EntryView.{lines_of}
 use Rattle.book.specs.declared.journal.Entry.{Entry}
 use Rattle.book.proofs.Lists.{same_items}
 use Rattle.book.proofs.Marking.{same_length, redo_line}

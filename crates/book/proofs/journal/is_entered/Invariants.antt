@@ -1,6 +1,6 @@
 use Rattle.std.proofs.Common.{◌≡◌, drop}
 use Rattle.book.specs.Refusals.{is_entered}
-use Rattle.book.specs.EventView.{lines_of}
+use Rattle.book.specs.EntryView.{lines_of}
 use Rattle.book.proofs.journal.is_entered.Given as goal
 
 abbrev pub invariant-loop-entry : goal.invariant-loop-entry

@@ -1,5 +1,5 @@
 use Rattle.std.proofs.Common.{◌≡◌}
-use Rattle.book.specs.EventView.{lines_of}
+use Rattle.book.specs.EntryView.{lines_of}
 use Rattle.book.proofs.Marking.{partly, redo_line}
 use Rattle.book.proofs.journal.mark_redone.Given as goal
 

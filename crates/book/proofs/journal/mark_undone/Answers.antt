@@ -1,6 +1,6 @@
 use Rattle.std.proofs.Common.{sym, ap, ◌∙◌, arith}
 use Rattle.book.specs.Journal.{among}
-use Rattle.book.specs.EventView.{lines_of}
+use Rattle.book.specs.EntryView.{lines_of}
 use Rattle.book.specs.declared.journal.Entry.{Entry}
 use Rattle.book.specs.declared.journal.Mark.TheVariants as mark
 use Rattle.book.proofs.Marking.{undo_line, stays_here, marked, marked_here, marked_all, undo_chosen, undo_other}

@@ -1,6 +1,6 @@
 use Rattle.std.proofs.Common.{◌≡◌, drop}
 use Rattle.book.specs.Refusals.{first_some, open_refusal}
-use Rattle.book.specs.EventView.{lines_of}
+use Rattle.book.specs.EntryView.{lines_of}
 use Rattle.book.proofs.Marking.{open_at}
 use Rattle.book.proofs.undoing.check_closed.Given as goal
 

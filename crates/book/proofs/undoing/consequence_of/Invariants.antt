@@ -1,6 +1,6 @@
 use Rattle.std.proofs.Common.{◌≡◌, drop}
 use Rattle.book.specs.Refusals.{consequence}
-use Rattle.book.specs.EventView.{lines_of}
+use Rattle.book.specs.EntryView.{lines_of}
 use Rattle.book.proofs.undoing.consequence_of.Given as goal
 
 abbrev pub invariant-loop-entry : goal.invariant-loop-entry

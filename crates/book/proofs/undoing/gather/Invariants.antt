@@ -1,6 +1,6 @@
 use Rattle.std.proofs.Common.{◌≡◌, [], drop}
 use Rattle.book.specs.Causes.{gathered}
-use Rattle.book.specs.EventView.{lines_of}
+use Rattle.book.specs.EntryView.{lines_of}
 use Rattle.book.proofs.undoing.gather.Given as goal
 
 abbrev pub invariant-loop-entry : goal.invariant-loop-entry

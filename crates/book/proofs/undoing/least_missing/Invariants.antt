@@ -2,7 +2,7 @@ use Rattle.std.proofs.Common.{◌≡◌, drop}
 use Rattle.std.specs.Prelude.{not}
 use Rattle.std.specs.List.{filter}
 use Rattle.book.specs.Refusals.{least, is_entered}
-use Rattle.book.specs.EventView.{lines_of}
+use Rattle.book.specs.EntryView.{lines_of}
 use Rattle.book.proofs.Least.{least_with}
 use Rattle.book.proofs.undoing.least_missing.Given as goal
 

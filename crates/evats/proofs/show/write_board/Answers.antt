@@ -1,6 +1,6 @@
 use Rattle.ids.specs.Cells.{promise_cmp}
 use Rattle.values.specs.View.{val_of}
-use Rattle.book.specs.World.{published}
+use Rattle.world.specs.World.{published}
 use Rattle.evats.proofs.Listings.{entries_list}
 use Rattle.evats.proofs.show.write_board.Goals as goal
 

@@ -4,7 +4,7 @@ use Rattle.std.specs.Map.Iter.{deref_pair}
 use Rattle.std.proofs.lemmas.Map.Iter.{rest_more, rest_all}
 use Rattle.evats.specs.ShowView.{home_entries, HomesWritten}
 use Rattle.ids.specs.Cells.{vat_cmp}
-use Rattle.book.specs.View.{home_of}
+use Rattle.world.specs.View.{home_of}
 use Rattle.evats.proofs.Listings.{entries_list, homes_more, homes_none}
 use Rattle.evats.proofs.show.write_homes.Goals as goal
 

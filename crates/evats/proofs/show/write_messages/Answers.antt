@@ -1,6 +1,6 @@
 use Rattle.ids.specs.Cells.{message_cmp}
-use Rattle.book.specs.World.{message}
-use Rattle.book.specs.View.{message_of}
+use Rattle.world.specs.World.{message}
+use Rattle.world.specs.View.{message_of}
 use Rattle.evats.proofs.Listings.{entries_list}
 use Rattle.evats.proofs.show.write_messages.Goals as goal
 

@@ -1,6 +1,6 @@
 use Rattle.std.proofs.Common.{◌≡◌, ◌++◌}
 use Rattle.std.specs.Prelude.{string_bytes}
-use Rattle.book.specs.View.{world_of}
+use Rattle.world.specs.View.{world_of}
 use Rattle.evats.specs.Show.{message_lines}
 use Rattle.evats.specs.ShowView.{messages_in, message_entries}
 use Rattle.evats.proofs.show.write_messages.Given as goal

@@ -1,6 +1,6 @@
 use Rattle.std.specs.Prelude.{string_bytes}
 use Rattle.ids.specs.Cells.{vat_cmp, message_cmp, promise_cmp}
-use Rattle.book.specs.View.{world_of}
+use Rattle.world.specs.View.{world_of}
 use Rattle.evats.specs.ShowView.{homes_in, messages_in, board_in}
 use Rattle.evats.proofs.Listings.{all_written, lists_along}
 use Rattle.evats.proofs.show.write_world.Goals as goal

@@ -1,11 +1,11 @@
 use Rattle.std.proofs.Common.{◌+◌, refl, ap}
 use Rattle.kernele.specs.View.{program_of}
-use Rattle.book.specs.Events.{Event, ask, asks, ask_foot}
+use Rattle.world.specs.Events.{Event, ask, asks, ask_foot}
 use Rattle.book.specs.Books.{Book}
 use Rattle.book.specs.Calls.{Enters}
 use Rattle.book.specs.BookView.{book_of}
-use Rattle.book.specs.EventView.{lines_of}
-use Rattle.book.specs.View.{world_of}
+use Rattle.book.specs.EntryView.{lines_of}
+use Rattle.world.specs.View.{world_of}
 use Rattle.book.proofs.Entering.{enters, stands_entered, stands_so}
 use Rattle.book.proofs.book.Book.ask.Goals as goal
 

@@ -1,5 +1,5 @@
 use Rattle.std.proofs.Common.{ap}
-use Rattle.book.specs.EventView.{lines_of}
+use Rattle.book.specs.EntryView.{lines_of}
 use Rattle.book.proofs.Standing.{stands_blank}
 use Rattle.book.proofs.book.Book.new.Goals as goal
 

@@ -3,10 +3,10 @@ use Rattle.book.specs.Journal.{Line, chosen, undone_in, live_events}
 use Rattle.book.specs.Refusals.{first, missing_refusal, live_refusal, next_refusal, redo_refusal}
 use Rattle.book.specs.Books.{Book, PlainRun}
 use Rattle.book.specs.Calls.{Redoes}
-use Rattle.book.specs.Steps.{TellsRun}
+use Rattle.book.specs.Rerun.{TellsRun}
 use Rattle.book.specs.BookView.{book_of}
-use Rattle.book.specs.EventView.{lines_of}
-use Rattle.book.specs.View.{world_of}
+use Rattle.book.specs.EntryView.{lines_of}
+use Rattle.world.specs.View.{world_of}
 use Rattle.book.specs.declared.journal.Entry.{Entry}
 use Rattle.book.proofs.Entering.{stands_so}
 use Rattle.book.proofs.Kept.{former, redo_goes, redoes_none, still_none, stands_after_redo, undone-redone}

@@ -5,18 +5,18 @@ use Rattle.ids.specs.declared.names.CellKey.{CellKey}
 use Rattle.ids.specs.declared.names.CellKey.TheVariants as key
 use Rattle.turn.specs.Turn.{Delivers}
 use Rattle.turn.specs.View.{state_of, outcome_of}
-use Rattle.book.specs.World.{at_vat}
-use Rattle.book.specs.Events.{Event, Turn, Turns, turn, turns, turn_foot}
+use Rattle.world.specs.World.{at_vat}
+use Rattle.world.specs.Events.{Event, Turn, Turns, turn, turns, turn_foot}
 use Rattle.book.specs.Books.{Book}
 use Rattle.book.specs.Calls.{Enters}
 use Rattle.book.specs.Refusals.{ready_refusal, full_refusal}
-use Rattle.book.specs.Steps.{turn_cells, turn_reads}
+use Rattle.world.specs.Steps.{turn_cells, turn_reads}
 use Rattle.book.specs.BookView.{book_of}
-use Rattle.book.specs.EventView.{lines_of}
-use Rattle.book.specs.View.{world_of, message_of}
+use Rattle.book.specs.EntryView.{lines_of}
+use Rattle.world.specs.View.{world_of, message_of}
 use Rattle.book.proofs.Entering.{enters, stands_entered, stands_so}
 use Rattle.book.proofs.Refused.{next_is}
-use Rattle.book.proofs.Steps.{is_turn, turn_keys}
+use Rattle.world.proofs.Steps.{is_turn, turn_keys}
 use Rattle.book.proofs.book.Book.turn.Goals as goal
 
 pub invariant_of-self : goal.invariant_of-self

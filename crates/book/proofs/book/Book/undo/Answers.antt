@@ -3,10 +3,10 @@ use Rattle.book.specs.Journal.{chosen, redone_in, live_events, rest_of}
 use Rattle.book.specs.Refusals.{undo_refusal}
 use Rattle.book.specs.Books.{Book, PlainRun}
 use Rattle.book.specs.Calls.{Undoes}
-use Rattle.book.specs.Steps.{TellsRun}
+use Rattle.book.specs.Rerun.{TellsRun}
 use Rattle.book.specs.BookView.{book_of}
-use Rattle.book.specs.EventView.{lines_of}
-use Rattle.book.specs.View.{world_of}
+use Rattle.book.specs.EntryView.{lines_of}
+use Rattle.world.specs.View.{world_of}
 use Rattle.book.specs.declared.journal.Entry.{Entry}
 use Rattle.book.proofs.Entering.{stands_so}
 use Rattle.book.proofs.Marks.{redone-undone, live_events-undone}

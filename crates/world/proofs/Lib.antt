@@ -1,0 +1,4 @@
+pub mod Worlds
+pub mod Law
+pub mod Sets
+pub mod Steps

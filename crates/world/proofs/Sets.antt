@@ -1,0 +1,48 @@
+-- Worlds are a set: any two proofs that two worlds are the same are the same.
+use Rattle.std.proofs.Props.{props}
+use Rattle.kernele.specs.declared.tree.Pattern.{Pattern}
+use Rattle.kernele.specs.Tree.{Name, Trees, Trees-set}
+use Rattle.values.specs.Data.{Val, Val-set}
+use Rattle.turn.specs.State.{Bind, Bind-set, State}
+use Rattle.turn.specs.State as state
+use Rattle.turn.specs.Turn.{Delivery, Delivery-set}
+use Rattle.world.specs.World.{Vat, Vat-set, Place, Place-set, Message, Message-set, Content, Content-set, World}
+
+names : IsSet Name
+names = Prim.hlevel props
+
+patterns : IsSet Pattern
+patterns = Prim.hlevel props
+
+trees : IsSet Trees
+trees = Trees-set (Prim.hlevel props) (Prim.hlevel props) names patterns
+
+vals : IsSet Val
+vals = Val-set (Prim.hlevel props) (Prim.hlevel props) names
+
+binds : IsSet Bind
+binds = Bind-set vals (Prim.hlevel props)
+
+state_contents : IsSet state.Content
+state_contents = state.Content-set binds vals
+
+states : IsSet State
+states = Prim.hlevel (props, state_contents)
+
+deliveries : IsSet Delivery
+deliveries = Delivery-set trees
+
+vats : IsSet Vat
+vats = Prim.hlevel (props, Vat-set)
+
+places : IsSet Place
+places = Prim.hlevel (props, Place-set)
+
+messages : IsSet Message
+messages = Message-set deliveries (Prim.hlevel props) (Prim.hlevel props) places
+
+contents : IsSet Content
+contents = Content-set vats names states messages vals
+
+pub World-set : IsSet World
+World-set = Prim.hlevel (props, contents)

@@ -1,0 +1,6 @@
+pub mod World
+pub mod Events
+pub mod Ready
+pub mod Steps
+pub mod View
+pub mod EventView

@@ -1,0 +1,11 @@
+//! The world, the events that change it, and one step of it.
+#![tactic(auto)]
+
+pub mod cells;
+pub mod event;
+pub mod ready;
+pub mod step;
+#[cfg(test)]
+mod tests;
+pub mod theorems;
+pub mod world;
