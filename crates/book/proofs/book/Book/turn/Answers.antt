@@ -9,7 +9,8 @@ use Rattle.world.specs.World.{at_vat}
 use Rattle.world.specs.Events.{Event, Turn, Turns, turn, turns, turn_foot}
 use Rattle.book.specs.Books.{Book}
 use Rattle.book.specs.Calls.{Enters}
-use Rattle.book.specs.Refusals.{ready_refusal, full_refusal}
+use Rattle.std.specs.Option.{option_map}
+use Rattle.book.specs.Refusals.{refusal_of, ready_refusal, full_refusal}
 use Rattle.world.specs.Steps.{turn_cells, turn_reads}
 use Rattle.book.specs.BookView.{book_of}
 use Rattle.book.specs.EntryView.{lines_of}
@@ -75,7 +76,7 @@ returns-in-Ok-enter_turn-clause-ok c =
     (c.in-Ok-enter_turn.ensures.ok g u.name u.state c.in-Ok.ensures.waiting (sym same.2) at_home) c.in_ok-add_entry.ensures.ok refl
     (c.in_ok-cells.ensures.touched ∙ (λ i. turn_reads d.number (same.1 i) ++ turn_cells d.number m (same.2 i) u.outcome.end) ∙ ap (λ (ks : List CellKey). turn_reads d.number g.after ++ ks) keys)
     (c.in_ok-cells.ensures.written ∙ (λ i. turn_cells d.number m (same.2 i) u.outcome.end) ∙ keys) c.clear.ensures.items in
-    (next_is (ready_refusal old.world m) (full_refusal old) c.in-Ok.ensures.ok ∙ c.in_ok-event.ensures.ok.2, (u, t, n, c.in-Ok-enter_turn.ensures.ended))
+    (next_is (ready_refusal old.world m) (full_refusal old) (ap (option_map (refusal_of m)) c.in-Ok.ensures.ok) ∙ c.in_ok-event.ensures.ok.2, (u, t, n, c.in-Ok-enter_turn.ensures.ended))
 
 pub returns-in-Err-enter_turn-clause-unchanged : goal.returns-in-Err-enter_turn-clause-unchanged
 returns-in-Err-enter_turn-clause-unchanged c =
