@@ -2,7 +2,7 @@ use Rattle.std.proofs.Common.{refl, ap, sym, ◌∙◌, ◌++◌, append_assoc, 
 use Rattle.std.proofs.lemmas.Result.{IfOk-equal}
 use Rattle.kernele.specs.Spelling.{led_by, joined, spelled, spelled_parts, spelled_items, as_part}
 use Rattle.kernele.specs.View.{tree_of, trees_of}
-use Rattle.kernele.proofs.Walks.{tree_is_call, tree_is_list, append_more, append_end}
+use Rattle.kernele.proofs.Walks.{tree_is_call, tree_is_list, tree_is_hide, tree_is_if, tree_is_while, tree_is_for, tree_is_try, append_more, append_end}
 use Rattle.kernele.proofs.printing.+print.Goals as goal
 
 pub write_expr-returns-in_ok-push_str-in-Call : goal.write_expr-returns-in_ok-push_str-in-Call
@@ -38,3 +38,8 @@ write_items-returns-after-loop-item t c =
     written ∙ ap (λ s. s ++ led_by (codes "; ") (spelled_items (trees_of c.in-Some.rest.now))) c.in_ok-write_expr.ensures
     ∙ append_assoc (string_bytes c.args.out.now) (spelled (tree_of c.in-Some.first.now)) (led_by (codes "; ") (spelled_items (trees_of c.in-Some.rest.now)))
     ∙ ap (λ xs. string_bytes c.args.out.now ++ joined (codes "; ") (spelled_items (trees_of xs))) (sym c.in-Some.ensures.cases.0)
+
+pub write_expr-returns-in-Hide : goal.write_expr-returns-in-Hide
+write_expr-returns-in-Hide t c =
+    let is = tree_is_hide c.in-Hide.body c.in-Hide.is c.deref-in-Hide.ensures c.deref-in-Hide-2.ensures.value in
+    rw is c.write_block.ensures
