@@ -1,9 +1,10 @@
 -- Steps of a walk over trees.
-use Rattle.std.proofs.Common.{◌≡◌, ℕ, ◌+◌, ◌<◌, ◌≤◌, List, [], ◌∷◌, ◌++◌, ap, sym, ◌∙◌, length, drop, get_or, add-one, suc, append_assoc, append-nil}
+use Rattle.std.proofs.Common.{◌≡◌, ℕ, ◌+◌, ◌<◌, ◌≤◌, List, [], ◌∷◌, ◌++◌, ap, sym, ◌∙◌, length, drop, get_or, add-one, suc, append_assoc, append-nil, Bool, false, ◌==◌, codes, refl}
 use Rattle.std.proofs.Math.Seq.{drop-cons}
 use Rattle.std.proofs.lemmas.List.{drop_all}
 use Rattle.kernele.specs.Tree.{Name, Tree, call, list_tree, hide, if_tree, while_tree, for_tree, try_tree, Trees, none, and_then}
 use Rattle.kernele.specs.View.{tree_of, trees_of}
+use Rattle.kernele.specs.Spelling.{joined, in_braces, spelled_items}
 use Rattle.kernele.proofs.Views.{tree_of-Call, tree_of-List, tree_of-Hide, tree_of-If, tree_of-While, tree_of-For, tree_of-Try}
 use Rattle.kernele.specs.declared.tree.Expr as code
 use Rattle.kernele.specs.declared.tree.Expr.{Expr}
@@ -92,3 +93,8 @@ append_more all one law was xs i x h e appended = items_more (λ es. all (trees_
 
 pub append_end : {A : Type 0} (all : Trees → List A) → all none ≡ [] → {now whole : List A} (xs : List Expr) (i : ℕ) → length xs ≤ i → now ++ all (trees_of (drop i xs)) ≡ whole → now ≡ whole
 append_end all law xs i h invariant = items_end (λ es. all (trees_of es)) law xs i h invariant
+
+-- the braces of a block that has items
+pub braces : (es : List Expr) (empty : Bool) → empty ≡ (length es == 0) → empty ≡ false → in_braces (spelled_items (trees_of es)) ≡ codes "{ " ++ joined (codes "; ") (spelled_items (trees_of es)) ++ codes " }"
+braces [] empty same e = absurd (cc)
+braces (x ∷ xs) empty same e = refl
