@@ -7,7 +7,7 @@ use Rattle.kernele.specs.declared.tree.Pattern.{Pattern}
 use Rattle.values.specs.Data.{Val, text, Vals, no_vals}
 use Rattle.turn.specs.State.{At, State}
 use Rattle.turn.specs.Outcomes.{Halt, End, value, halt, Gather, values, halted}
-use Rattle.turn.specs.Rules.{Listing, listed, unlisted, listing_of, parts_of, parts_bound, parts_end, Choice, goes, ends, choice_of, chosen, thrown_end, caught, entering, leaving, again, matched, sought_slot, defined, declared, declared_end, assigned, assigned_end, call_end, list_end, same_end, gather_first, Ends, at_budget, at_depth, at_node, Runs, run_null, run_bool, run_int, run_text, run_noun, run_define, run_variable, run_assign, run_call_receiver, run_call, run_list, run_same_left, run_same, run_define_list, run_hide, run_throw, run_if_goes, run_if_ends, run_while_again, run_while_halts, run_while_done, run_while_ends, run_for, run_for_ends, run_try, run_try_caught, Args, args_none, args_next, args_halt, Items, items_none, items_next, items_halt, Block, in_block, Taking, in_taking, Each, each_none, each_next, each_halt}
+use Rattle.turn.specs.Rules.{Listing, listed, unlisted, listing_of, parts_of, parts_bound, parts_end, Choice, goes, ends, choice_of, chosen, thrown_end, caught, leaving, again, sought_slot, defined, declared, declared_end, assigned, assigned_end, call_end, list_end, same_end, gather_first, Ends, at_budget, at_depth, at_node, Runs, run_null, run_bool, run_int, run_text, run_noun, run_define, run_variable, run_assign, run_call_receiver, run_call, run_list, run_same_left, run_same, run_define_list, run_hide, run_throw, run_if_goes, run_if_ends, run_while_again, run_while_halts, run_while_done, run_while_ends, run_for, run_for_ends, run_try, run_try_caught, Args, args_none, args_next, args_halt, Items, items_none, items_next, items_halt, Block, in_block, Taking, in_taking, Each, each_none, each_next, each_halt}
 use Rattle.turn.specs.Turn.{Delivery, Outcome, outcome, settled, Delivers, opens, asks}
 
 -- the same end, at the same place

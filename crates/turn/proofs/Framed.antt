@@ -9,7 +9,7 @@ use Rattle.kernele.specs.declared.tree.Pattern.TheVariants as pattern
 use Rattle.values.specs.Data.{Val, Vals}
 use Rattle.turn.specs.State.{Bind, fixed, slot, lookup, Cell, top, slot_cell, Content, bound, held, same_cell, State, write, At}
 use Rattle.turn.specs.Outcomes.{End, value, halt, Gather, thrown, abandoned}
-use Rattle.turn.specs.Rules.{Listing, listed, unlisted, parts_of, parts_bound, parts_end, matched_all, entering, leaving, again, top_bind, found, sought, slot_in, sought_slot, held_end, noun_end, bound_in, defined, next_slot, has_room, slot_made, made, made_end, declared, declared_end, assigned, assigned_end, Ends, at_budget, at_depth, at_node, Runs, run_null, run_bool, run_int, run_text, run_noun, run_define, run_variable, run_assign, run_call_receiver, run_call, run_list, run_same_left, run_same, run_define_list, run_hide, run_throw, run_if_goes, run_if_ends, run_while_again, run_while_halts, run_while_done, run_while_ends, run_for, run_for_ends, run_try, run_try_caught, Args, args_none, args_next, args_halt, Items, items_none, items_next, items_halt, Block, in_block, Taking, in_taking, Each, each_none, each_next, each_halt}
+use Rattle.turn.specs.Rules.{Listing, listed, unlisted, parts_of, parts_bound, parts_end, matched_all, top_bind, found, sought, slot_in, sought_slot, held_end, noun_end, bound_in, defined, next_slot, has_room, slot_made, made, made_end, declared, declared_end, assigned, assigned_end, Ends, at_budget, at_depth, at_node, Runs, run_null, run_bool, run_int, run_text, run_noun, run_define, run_variable, run_assign, run_call_receiver, run_call, run_list, run_same_left, run_same, run_define_list, run_hide, run_throw, run_if_goes, run_if_ends, run_while_again, run_while_halts, run_while_done, run_while_ends, run_for, run_for_ends, run_try, run_try_caught, Args, args_none, args_next, args_halt, Items, items_none, items_next, items_halt, Block, in_block, Taking, in_taking, Each, each_none, each_next, each_halt}
 use Rattle.turn.specs.Turn.{Delivery, Outcome, settled, kept, Delivers, opens, asks}
 use Rattle.turn.proofs.Patterns.{all_moved, all_kept}
 use Rattle.turn.specs.Touched.{Touch, got, put, sought_touched, read_touched, set_touched, noun_touched, assigned_touched, bound_touched, defined_touched, all_touched, parts_touched, made_touched, declared_touched, ends_touched, runs_touched, args_touched, items_touched, block_touched, taking_touched, each_touched, delivery_touched, Agree, in_state}

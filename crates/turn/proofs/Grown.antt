@@ -110,5 +110,9 @@ items_grow (items_next {a = a} {b = b} {c = c} r u) = both a b c (ends_grow r) (
 items_grow (items_halt r) = ends_grow r
 
 -- the items of a block that takes a value keep the names from before it
-pub taken_grow : {k : ℕ} {v w : Val} {ts : Trees} (p : Pattern) {a b : At} {o : End} → Items k w ts (matched p v a) o b → Grown a b
-taken_grow {v = v} p {a = a} {b = b} r = both a (matched p v a) b (matched_grow p v a) (items_grow r)
+pub taken_grow : {k : ℕ} {w : Val} {ts : Trees} (p : Pattern) (v : Val) (a : At) {b : At} {o : End} → Items k w ts (matched p v a) o b → Grown a b
+taken_grow p v a {b = b} r = both a (matched p v a) b (matched_grow p v a) (items_grow r)
+
+-- a round of a While
+pub round_grow : {k : ℕ} {t : Tree} {ts : Trees} {a b c : At} {o p : End} → Ends k t a o b → Block k ts b p c → Grown a c
+round_grow {a = a} {b = b} {c = c} r q = both a b c (ends_grow r) (same b c (block_names q))

@@ -21,8 +21,8 @@ use Rattle.turn.specs.declared.delivery.Ended.TheVariants as code-ended
 use Rattle.turn.specs.declared.delivery.Outcome as code-outcome
 use Rattle.turn.specs.declared.wanted.Choosing.{Choosing}
 use Rattle.turn.specs.declared.wanted.Choosing.TheVariants as code-choosing
-use Rattle.turn.specs.declared.wanted.Items.{Items}
-use Rattle.turn.specs.declared.wanted.Items.TheVariants as code-items
+use Rattle.turn.specs.declared.wanted.Listing as code-list
+use Rattle.turn.specs.declared.wanted.Listing.TheVariants as code-listing
 use Rattle.turn.specs.declared.heap.VatState.{VatState}
 use Rattle.turn.specs.declared.heap.Binding.{Binding}
 use Rattle.turn.specs.declared.heap.Binding.TheVariants as binding
@@ -103,6 +103,6 @@ abbrev pub choice_view : Choosing → Choice
 choice_view (code-choosing.Goes q) = goes q
 choice_view (code-choosing.Ends e) = ends (end_of e)
 
-abbrev pub listing_view : Items → Listing
-listing_view (code-items.Listed items) = listed (vals_of items.value.items)
-listing_view (code-items.Ends e) = unlisted (end_of e)
+abbrev pub listing_view : code-list.Listing → Listing
+listing_view (code-listing.Listed items) = listed (vals_of items.value.items)
+listing_view (code-listing.Ends e) = unlisted (end_of e)

@@ -9,8 +9,8 @@ ghost use Rattle.turn.specs.View.{at, end_of};
 use crate::end::End;
 use crate::eval::{eval, eval_items};
 use crate::nouns::match_pattern;
-use crate::scopes::{enter, leave};
-use crate::wanted::{Choosing, Items, caught, choose, halt_in, items};
+use crate::blocks::{enter, leave};
+use crate::wanted::{Choosing, Listing, caught, choose, halt_in, items_of};
 use crate::working::Working;
 use kernele::tree::{Expr, Pattern};
 use std::alloc::AllocError;
@@ -100,10 +100,10 @@ pub(crate) fn eval_for(
         (at w.old) (end_of o) (at w.new)) }
 {
     let ended = eval(w, list, level + 1)?;
-    let gone_over = items(w.alloc, ended)?;
+    let gone_over = items_of(w.alloc, ended)?;
     match gone_over {
-        Items::Ends(end) => Ok(end),
-        Items::Listed(values) => {
+        Listing::Ends(end) => Ok(end),
+        Listing::Listed(values) => {
             let end = eval_each(w, pattern, &values, body, level + 1)?;
             Ok(end)
         }
@@ -179,9 +179,9 @@ fn eval_each(
         (at w.old) (end_of o) (at w.new)) }
 {
     for value in values {
-        match eval_taking(w, pattern, value, items, level)? {
-            End::Value(_) => {}
-            End::Halt(halt) => return Ok(End::Halt(halt)),
+        let ended = eval_taking(w, pattern, value, items, level)?;
+        if let Some(halt) = halt_in(ended) {
+            return Ok(End::Halt(halt));
         }
     }
     Ok(End::Value(Value::Null))

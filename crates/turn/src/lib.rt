@@ -4,6 +4,7 @@
 //! the one that the definitions give: `specs/Turn.antt` for the turn, `specs/Rules.antt` for the evaluation in it.
 #![tactic(auto)]
 
+pub mod blocks;
 pub mod control;
 pub mod delivery;
 pub mod end;
@@ -11,7 +12,7 @@ pub mod eval;
 pub mod heap;
 pub mod nouns;
 pub mod results;
-pub mod scopes;
+
 #[cfg(test)]
 mod tests;
 pub mod theorems;

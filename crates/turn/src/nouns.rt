@@ -1,5 +1,5 @@
 // Nouns: what they stand for, and how they are bound, declared and assigned.
-ghost use Rattle.std.specs.Prelude.{◌≡◌, ◌<◌, IfOk, OnOk, length};
+ghost use Rattle.std.specs.Prelude.{◌≡◌, ◌<◌, IfOk, IfSome, OnOk, length};
 ghost use Rattle.std.specs.Option.{option_map};
 ghost use Rattle.values.specs.Replies.{items_in};
 ghost use Rattle.values.specs.View.{val_of, vals_of};
@@ -115,7 +115,8 @@ pub fn bind_parts(w: &mut Working, patterns: &[Pattern], value: Value) -> Result
 
 /// The items of a list, where there are as many as patterns.
 fn parts<'a>(patterns: &[Pattern], value: &'a Value) -> Option<&'a [Value]>
-    ensures { option_map (λ s. vals_of s.now) result ≡ taken patterns.now (items_in (val_of value.now)) }
+    ensures items { option_map (λ s. vals_of s.now) result ≡ taken patterns.now (items_in (val_of value.now)) }
+    ensures count { IfSome result (λ s. length s.now ≡ length patterns.now) }
 {
     match value.as_items() {
         Some(values) => {

@@ -1,7 +1,9 @@
 // Where a datum is wanted: what a condition, a list and a throw make of a value.
 ghost use Rattle.std.specs.Prelude.{◌≡◌, IfOk, MatchOption, MatchResult, None, Some};
+ghost use Rattle.std.specs.Option.{option_map};
 ghost use Rattle.values.specs.Data.{Val};
-ghost use Rattle.values.specs.View.{val_of};
+ghost use Rattle.values.specs.Replies.{items_in};
+ghost use Rattle.values.specs.View.{val_of, vals_of};
 ghost use Rattle.turn.specs.Rules.{bool_in, choice_of, listing_of, mismatch as mismatch_of, thrown_end, caught as caught_of};
 ghost use Rattle.turn.specs.Outcomes.{value as value_end, halt as halt_end};
 ghost use Rattle.turn.specs.View.{choice_view, end_of, halt_of, listing_view};
@@ -21,7 +23,7 @@ pub enum Choosing {
 
 /// What a For goes over: the items of a list, or an end in place of them.
 #[derive(Drop)]
-pub enum Items {
+pub enum Listing {
     Listed(Arc<Vec<Value>>),
     Ends(End),
 }
@@ -62,18 +64,26 @@ pub fn choose(alloc: Global, tested: End) -> Result<Choosing, AllocError>
     }
 }
 
+/// The items of the list that a value is, shared.
+fn shared_items(value: &Value) -> Result<Option<Arc<Vec<Value>>>, AllocError>
+    ensures { IfOk result (λ l. option_map (λ a. vals_of a.value.items) l ≡ items_in (val_of value.now)) }
+{
+    match value {
+        Value::List(items) => Ok(Some(Arc::try_clone(items)?)),
+        Value::Null | Value::Bool(_) | Value::Int(_) | Value::Text(_) | Value::Broken(_) => Ok(None),
+    }
+}
+
 /// What a For goes over whose list ended so.
-pub fn items(alloc: Global, ended: End) -> Result<Items, AllocError>
+pub fn items_of(alloc: Global, ended: End) -> Result<Listing, AllocError>
     ensures { IfOk result (λ l. listing_view l ≡ listing_of (end_of ended)) }
 {
     match ended {
-        End::Value(value) => match value {
-            Value::List(items) => Ok(Items::Listed(items)),
-            Value::Null | Value::Bool(_) | Value::Int(_) | Value::Text(_) | Value::Broken(_) => {
-                Ok(Items::Ends(mismatch(alloc, "not a list", &value)?))
-            }
+        End::Value(value) => match shared_items(&value)? {
+            Some(items) => Ok(Listing::Listed(items)),
+            None => Ok(Listing::Ends(mismatch(alloc, "not a list", &value)?)),
         },
-        End::Halt(halt) => Ok(Items::Ends(End::Halt(halt))),
+        End::Halt(halt) => Ok(Listing::Ends(End::Halt(halt))),
     }
 }
 

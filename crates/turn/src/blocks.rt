@@ -6,6 +6,7 @@ ghost use Rattle.turn.specs.View.{at, nouns_of};
 use crate::working::Working;
 
 /// What a scope around a block was when the block began.
+#[derive(Clone, Copy)]
 pub struct Outer {
     /// How many names there were.
     names: usize,
