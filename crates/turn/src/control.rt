@@ -6,10 +6,10 @@ ghost use Rattle.values.specs.View.{val_of, vals_of};
 ghost use Rattle.turn.specs.Rules.{Runs, Block, Taking, Each};
 ghost use Rattle.turn.specs.View.{at, end_of};
 
+use crate::blocks::{enter, leave};
 use crate::end::End;
 use crate::eval::{eval, eval_items};
 use crate::nouns::match_pattern;
-use crate::blocks::{enter, leave};
 use crate::wanted::{Choosing, Listing, caught, choose, halt_in, items_of};
 use crate::working::Working;
 use kernele::tree::{Expr, Pattern};
@@ -18,7 +18,11 @@ use std::sync::Arc;
 use values::value::Value;
 
 #[cycle(evaluate)]
-pub(crate) fn eval_hide(w: &mut Working, body: &Arc<Vec<Expr>>, level: u32) -> Result<End, AllocError>
+pub(crate) fn eval_hide(
+    w: &mut Working,
+    body: &Arc<Vec<Expr>>,
+    level: u32,
+) -> Result<End, AllocError>
     requires { level ≤ 1000 }
     ensures { IfOk result (λ o. Runs level (hide (trees_of body.now.value.items))
         (at w.old) (end_of o) (at w.new)) }

@@ -12,9 +12,10 @@ pub mod eval;
 pub mod heap;
 pub mod nouns;
 pub mod results;
-
 #[cfg(test)]
 mod tests;
+#[cfg(test)]
+mod tests_of_control;
 pub mod theorems;
 pub mod ticket;
 pub mod wanted;

@@ -70,7 +70,9 @@ fn shared_items(value: &Value) -> Result<Option<Arc<Vec<Value>>>, AllocError>
 {
     match value {
         Value::List(items) => Ok(Some(Arc::try_clone(items)?)),
-        Value::Null | Value::Bool(_) | Value::Int(_) | Value::Text(_) | Value::Broken(_) => Ok(None),
+        Value::Null | Value::Bool(_) | Value::Int(_) | Value::Text(_) | Value::Broken(_) => Ok(
+            None,
+        ),
     }
 }
 
