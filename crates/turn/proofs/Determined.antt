@@ -1,12 +1,13 @@
 -- At most one outcome.
-use Rattle.std.proofs.Common.{◌≡◌, ℕ, refl, sym, ap, subst, arith}
+use Rattle.std.proofs.Common.{◌≡◌, ℕ, Option, Some, None, Bool, true, false, refl, sym, ap, ◌∙◌, subst, arith}
 use Rattle.ids.specs.declared.names.EventName.{EventName}
 use Rattle.ids.specs.declared.names.VatNo.{VatNo}
-use Rattle.kernele.specs.Tree.{Tree, Trees}
-use Rattle.values.specs.Data.{Val, no_vals}
+use Rattle.kernele.specs.Tree.{Name, Tree, Trees}
+use Rattle.kernele.specs.declared.tree.Pattern.{Pattern}
+use Rattle.values.specs.Data.{Val, text, Vals, no_vals}
 use Rattle.turn.specs.State.{At, State}
 use Rattle.turn.specs.Outcomes.{Halt, End, value, halt, Gather, values, halted}
-use Rattle.turn.specs.Rules.{sought_slot, defined, declared, declared_end, assigned, assigned_end, call_end, list_end, same_end, gather_first, Ends, at_budget, at_depth, at_node, Runs, run_null, run_bool, run_int, run_text, run_noun, run_define, run_variable, run_assign, run_call_receiver, run_call, run_list, run_same_left, run_same, Args, args_none, args_next, args_halt, Items, items_none, items_next, items_halt}
+use Rattle.turn.specs.Rules.{Listing, listed, unlisted, listing_of, parts_of, parts_bound, parts_end, Choice, goes, ends, choice_of, chosen, thrown_end, caught, leaving, again, sought_slot, defined, declared, declared_end, assigned, assigned_end, call_end, list_end, same_end, gather_first, Ends, at_budget, at_depth, at_node, Runs, run_null, run_bool, run_int, run_text, run_noun, run_define, run_variable, run_assign, run_call_receiver, run_call, run_list, run_same_left, run_same, run_define_list, run_hide, run_throw, run_if_goes, run_if_ends, run_while_again, run_while_halts, run_while_done, run_while_ends, run_for, run_for_ends, run_try, run_try_caught, Args, args_none, args_next, args_halt, Items, items_none, items_next, items_halt, Block, in_block, Taking, in_taking, Each, each_none, each_next, each_halt}
 use Rattle.turn.specs.Turn.{Delivery, Outcome, outcome, settled, Delivers, opens, asks}
 
 -- the same end, at the same place
@@ -44,6 +45,62 @@ halted_same : {h j : Halt} → halt h ≡ halt j → halted h ≡ halted j
 unfolding gathered
 halted_same e = ap gathered e
 
+goes_ends : {q : Bool} {o : End} → goes q ≡ ends o → ⊥
+goes_ends e = cc
+
+false_true : false ≡ true → ⊥
+false_true e = cc
+
+listed_unlisted : {vs : Vals} {o : End} → listed vs ≡ unlisted o → ⊥
+listed_unlisted e = cc
+
+none_some : {x : Name} → None ≡ Some x → ⊥
+none_some e = cc
+
+way_in : Choice → Bool
+way_in (goes q) = q
+way_in (ends o) = false
+
+goes_same : {q r : Bool} → goes q ≡ goes r → q ≡ r
+unfolding way_in
+goes_same e = ap way_in e
+
+end_in : End → Choice → End
+end_in o (goes q) = o
+end_in o (ends p) = p
+
+ends_alike : {o p : End} → ends o ≡ ends p → o ≡ p
+unfolding end_in
+ends_alike {o = o} e = ap (end_in o) e
+
+items_in : Listing → Vals
+items_in (listed vs) = vs
+items_in (unlisted o) = no_vals
+
+listed_same : {vs ws : Vals} → listed vs ≡ listed ws → vs ≡ ws
+unfolding items_in
+listed_same e = ap items_in e
+
+unlisted_in : End → Listing → End
+unlisted_in o (listed vs) = o
+unlisted_in o (unlisted p) = p
+
+unlisted_same : {o p : End} → unlisted o ≡ unlisted p → o ≡ p
+unfolding unlisted_in
+unlisted_same {o = o} e = ap (unlisted_in o) e
+
+some_in : Name → Option Name → Name
+some_in x (Some y) = y
+some_in x None = x
+
+some_same : {x y : Name} → Some x ≡ Some y → x ≡ y
+unfolding some_in
+some_same {x = x} e = ap (some_in x) e
+
+-- what one function gives of two ends that are the same
+meet : {A : Type 0} {o p : End} {b c : At} {x y : A} (f : End → A) → Same o p b c → f o ≡ x → f p ≡ y → x ≡ y
+meet f t e g = sym e ∙ ap f t.end ∙ g
+
 -- the same derivation, from the same place
 ends_at : {k : ℕ} {t : Tree} {a b d : At} {o : End} → a ≡ b → Ends k t b o d → Ends k t a o d
 ends_at {k = k} {t = t} {d = d} {o = o} q r = subst (λ x. Ends k t x o d) (sym q) r
@@ -53,6 +110,18 @@ args_at {k = k} {ts = ts} {d = d} {g = g} q r = subst (λ x. Args k ts x g d) (s
 
 items_at : {k : ℕ} {v w : Val} {ts : Trees} {a b d : At} {o : End} → v ≡ w → a ≡ b → Items k w ts b o d → Items k v ts a o d
 items_at {k = k} {w = w} {ts = ts} {a = a} {d = d} {o = o} p q r = subst (λ v. Items k v ts a o d) (sym p) (subst (λ x. Items k w ts x o d) (sym q) r)
+
+runs_at : {k : ℕ} {t : Tree} {a b d : At} {o : End} → a ≡ b → Runs k t b o d → Runs k t a o d
+runs_at {k = k} {t = t} {d = d} {o = o} q r = subst (λ x. Runs k t x o d) (sym q) r
+
+block_at : {k : ℕ} {ts us : Trees} {a b d : At} {o : End} → ts ≡ us → a ≡ b → Block k us b o d → Block k ts a o d
+block_at {k = k} {us = us} {a = a} {d = d} {o = o} p q r = subst (λ ts. Block k ts a o d) (sym p) (subst (λ x. Block k us x o d) (sym q) r)
+
+taking_at : {k : ℕ} {p : Pattern} {v w : Val} {ts : Trees} {a b d : At} {o : End} → v ≡ w → a ≡ b → Taking k p w ts b o d → Taking k p v ts a o d
+taking_at {k = k} {p = p} {w = w} {ts = ts} {a = a} {d = d} {o = o} e q r = subst (λ v. Taking k p v ts a o d) (sym e) (subst (λ x. Taking k p w ts x o d) (sym q) r)
+
+each_at : {k : ℕ} {p : Pattern} {ts : Trees} {vs ws : Vals} {a b d : At} {o : End} → vs ≡ ws → a ≡ b → Each k p ts ws b o d → Each k p ts vs a o d
+each_at {k = k} {p = p} {ts = ts} {ws = ws} {a = a} {d = d} {o = o} e q r = subst (λ vs. Each k p ts vs a o d) (sym e) (subst (λ x. Each k p ts ws x o d) (sym q) r)
 
 mutual
   pub ends_same : {k : ℕ} {t : Tree} {a b c : At} {o p : End} → Ends k t a o b → Ends k t a p c → Same o p b c
@@ -84,6 +153,37 @@ mutual
   runs_same (run_same_left r) (run_same s u) = absurd (value_halt (sym (ends_same r s).end))
   runs_same (run_same r q) (run_same_left s) = absurd (value_halt (ends_same r s).end)
   runs_same (run_same r q) (run_same s u) = let t = ends_same r s in with_value same_end (value_same t.end) (ends_same q (ends_at t.place u))
+  runs_same (run_define_list {ps = ps} r) (run_define_list s) = along (λ o b. parts_end o (parts_of ps o)) (λ o b. parts_bound ps (parts_of ps o) b) (ends_same r s)
+  runs_same (run_hide q) (run_hide u) = block_same q u
+  runs_same (run_throw r) (run_throw s) = along (λ o b. thrown_end o) (λ o b. b) (ends_same r s)
+  runs_same (run_if_goes {first = first} {second = second} r e q) (run_if_goes s f u) = let t = ends_same r s in block_same q (block_at (ap (λ m. chosen m first second) (goes_same (meet choice_of t e f))) t.place u)
+  runs_same (run_if_goes r e q) (run_if_ends s f) = absurd (goes_ends (meet choice_of (ends_same r s) e f))
+  runs_same (run_if_ends r e) (run_if_goes s f u) = absurd (goes_ends (sym (meet choice_of (ends_same r s) e f)))
+  runs_same (run_if_ends r e) (run_if_ends s f) = let t = ends_same r s in record { end = ends_alike (meet choice_of t e f); place = t.place }
+  runs_same {a = a} (run_while_again r e q v) (run_while_again s f u w) = let t = ends_same r s in let z = block_same q (block_at refl t.place u) in runs_same v (runs_at (λ i. again a (z.place i)) w)
+  runs_same (run_while_again r e q v) (run_while_halts s f u) = absurd (value_halt (block_same q (block_at refl (ends_same r s).place u)).end)
+  runs_same (run_while_again r e q v) (run_while_done s f) = absurd (false_true (sym (goes_same (meet choice_of (ends_same r s) e f))))
+  runs_same (run_while_again r e q v) (run_while_ends s f) = absurd (goes_ends (meet choice_of (ends_same r s) e f))
+  runs_same (run_while_halts r e q) (run_while_again s f u w) = absurd (value_halt (sym (block_same q (block_at refl (ends_same r s).place u)).end))
+  runs_same (run_while_halts r e q) (run_while_halts s f u) = let t = ends_same r s in block_same q (block_at refl t.place u)
+  runs_same (run_while_halts r e q) (run_while_done s f) = absurd (false_true (sym (goes_same (meet choice_of (ends_same r s) e f))))
+  runs_same (run_while_halts r e q) (run_while_ends s f) = absurd (goes_ends (meet choice_of (ends_same r s) e f))
+  runs_same (run_while_done r e) (run_while_again s f u w) = absurd (false_true (goes_same (meet choice_of (ends_same r s) e f)))
+  runs_same (run_while_done r e) (run_while_halts s f u) = absurd (false_true (goes_same (meet choice_of (ends_same r s) e f)))
+  runs_same (run_while_done r e) (run_while_done s f) = record { end = refl; place = (ends_same r s).place }
+  runs_same (run_while_done r e) (run_while_ends s f) = absurd (goes_ends (meet choice_of (ends_same r s) e f))
+  runs_same (run_while_ends r e) (run_while_again s f u w) = absurd (goes_ends (sym (meet choice_of (ends_same r s) e f)))
+  runs_same (run_while_ends r e) (run_while_halts s f u) = absurd (goes_ends (sym (meet choice_of (ends_same r s) e f)))
+  runs_same (run_while_ends r e) (run_while_done s f) = absurd (goes_ends (sym (meet choice_of (ends_same r s) e f)))
+  runs_same (run_while_ends r e) (run_while_ends s f) = let t = ends_same r s in record { end = ends_alike (meet choice_of t e f); place = t.place }
+  runs_same (run_for r e q) (run_for s f u) = let t = ends_same r s in each_same q (each_at (listed_same (meet listing_of t e f)) t.place u)
+  runs_same (run_for r e q) (run_for_ends s f) = absurd (listed_unlisted (meet listing_of (ends_same r s) e f))
+  runs_same (run_for_ends r e) (run_for s f u) = absurd (listed_unlisted (sym (meet listing_of (ends_same r s) e f)))
+  runs_same (run_for_ends r e) (run_for_ends s f) = let t = ends_same r s in record { end = unlisted_same (meet listing_of t e f); place = t.place }
+  runs_same (run_try q e) (run_try u f) = block_same q u
+  runs_same (run_try q e) (run_try_caught u f w) = absurd (none_some (meet caught (block_same q u) e f))
+  runs_same (run_try_caught q e v) (run_try u f) = absurd (none_some (sym (meet caught (block_same q u) e f)))
+  runs_same (run_try_caught q e v) (run_try_caught u f w) = let t = block_same q u in taking_same v (taking_at (ap text (some_same (meet caught t e f))) t.place w)
 
   pub args_same : {k : ℕ} {ts : Trees} {a b c : At} {g h : Gather} → Args k ts a g b → Args k ts a h c → Same g h b c
   args_same args_none args_none = alike
@@ -92,12 +192,25 @@ mutual
   args_same (args_halt r) (args_next s w) = absurd (value_halt (sym (ends_same r s).end))
   args_same (args_halt r) (args_halt s) = let t = ends_same r s in record { end = halted_same t.end; place = t.place }
 
-pub items_same : {k : ℕ} {v : Val} {ts : Trees} {a b c : At} {o p : End} → Items k v ts a o b → Items k v ts a p c → Same o p b c
-items_same items_none items_none = alike
-items_same (items_next r u) (items_next s w) = let t = ends_same r s in items_same u (items_at (value_same t.end) t.place w)
-items_same (items_next r u) (items_halt s) = absurd (value_halt (ends_same r s).end)
-items_same (items_halt r) (items_next s w) = absurd (value_halt (sym (ends_same r s).end))
-items_same (items_halt r) (items_halt s) = ends_same r s
+  pub items_same : {k : ℕ} {v : Val} {ts : Trees} {a b c : At} {o p : End} → Items k v ts a o b → Items k v ts a p c → Same o p b c
+  items_same items_none items_none = alike
+  items_same (items_next r u) (items_next s w) = let t = ends_same r s in items_same u (items_at (value_same t.end) t.place w)
+  items_same (items_next r u) (items_halt s) = absurd (value_halt (ends_same r s).end)
+  items_same (items_halt r) (items_next s w) = absurd (value_halt (sym (ends_same r s).end))
+  items_same (items_halt r) (items_halt s) = ends_same r s
+
+  pub block_same : {k : ℕ} {ts : Trees} {a b c : At} {o p : End} → Block k ts a o b → Block k ts a p c → Same o p b c
+  block_same {a = a} (in_block r) (in_block s) = let t = items_same r s in record { end = t.end; place = λ i. leaving a (t.place i) }
+
+  pub taking_same : {k : ℕ} {p : Pattern} {v : Val} {ts : Trees} {a b c : At} {o q : End} → Taking k p v ts a o b → Taking k p v ts a q c → Same o q b c
+  taking_same {a = a} (in_taking r) (in_taking s) = let t = items_same r s in record { end = t.end; place = λ i. leaving a (t.place i) }
+
+  pub each_same : {k : ℕ} {p : Pattern} {ts : Trees} {vs : Vals} {a b c : At} {o q : End} → Each k p ts vs a o b → Each k p ts vs a q c → Same o q b c
+  each_same each_none each_none = alike
+  each_same (each_next r u) (each_next s w) = each_same u (each_at refl (taking_same r s).place w)
+  each_same (each_next r u) (each_halt s) = absurd (value_halt (taking_same r s).end)
+  each_same (each_halt r) (each_next s w) = absurd (value_halt (sym (taking_same r s).end))
+  each_same (each_halt r) (each_halt s) = taking_same r s
 
 outcome_same : (s : State) {o p : End} {b c : At} → Same o p b c → outcome s (settled o) b ≡ outcome s (settled p) c
 outcome_same s t = λ i. outcome s (settled (t.end i)) (t.place i)

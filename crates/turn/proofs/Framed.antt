@@ -1,17 +1,18 @@
 -- On a state that agrees on the cells touched, a tree ends the same and touches the same cells.
-use Rattle.std.proofs.Common.{◌≡◌, ℕ, ◌+◌, List, [], ◌∷◌, ◌++◌, Option, Some, None, Bool, true, false, cond, refl, ap, ◌∙◌, subst}
+use Rattle.std.proofs.Common.{◌≡◌, ℕ, ◌+◌, List, [], ◌∷◌, ◌++◌, Option, Some, None, Bool, true, false, cond, refl, sym, ap, ◌∙◌, subst}
 use Rattle.ids.specs.declared.names.EventName.{EventName}
 use Rattle.ids.specs.declared.names.VatNo.{VatNo}
 use Rattle.ids.specs.declared.names.SlotId.{SlotId}
-use Rattle.kernele.specs.Tree.{Name, Tree, Trees, noun, define, variable, assign}
+use Rattle.kernele.specs.Tree.{Name, Tree, Trees, noun, define, variable, assign, define_list}
 use Rattle.kernele.specs.declared.tree.Pattern.{Pattern}
 use Rattle.kernele.specs.declared.tree.Pattern.TheVariants as pattern
-use Rattle.values.specs.Data.{Val}
+use Rattle.values.specs.Data.{Val, Vals}
 use Rattle.turn.specs.State.{Bind, fixed, slot, lookup, Cell, top, slot_cell, Content, bound, held, same_cell, State, write, At}
 use Rattle.turn.specs.Outcomes.{End, value, halt, Gather, thrown, abandoned}
-use Rattle.turn.specs.Rules.{top_bind, found, sought, slot_in, sought_slot, held_end, noun_end, bound_in, defined, next_slot, has_room, slot_made, made, made_end, declared, declared_end, assigned, assigned_end, Ends, at_budget, at_depth, at_node, Runs, run_null, run_bool, run_int, run_text, run_noun, run_define, run_variable, run_assign, run_call_receiver, run_call, run_list, run_same_left, run_same, Args, args_none, args_next, args_halt, Items, items_none, items_next, items_halt}
+use Rattle.turn.specs.Rules.{Listing, listed, unlisted, parts_of, parts_bound, parts_end, matched_all, top_bind, found, sought, slot_in, sought_slot, held_end, noun_end, bound_in, defined, next_slot, has_room, slot_made, made, made_end, declared, declared_end, assigned, assigned_end, Ends, at_budget, at_depth, at_node, Runs, run_null, run_bool, run_int, run_text, run_noun, run_define, run_variable, run_assign, run_call_receiver, run_call, run_list, run_same_left, run_same, run_define_list, run_hide, run_throw, run_if_goes, run_if_ends, run_while_again, run_while_halts, run_while_done, run_while_ends, run_for, run_for_ends, run_try, run_try_caught, Args, args_none, args_next, args_halt, Items, items_none, items_next, items_halt, Block, in_block, Taking, in_taking, Each, each_none, each_next, each_halt}
 use Rattle.turn.specs.Turn.{Delivery, Outcome, settled, kept, Delivers, opens, asks}
-use Rattle.turn.specs.Touched.{Touch, got, put, sought_touched, read_touched, set_touched, noun_touched, assigned_touched, bound_touched, defined_touched, made_touched, declared_touched, ends_touched, runs_touched, args_touched, items_touched, delivery_touched, Agree, in_state}
+use Rattle.turn.proofs.Patterns.{all_moved, all_kept}
+use Rattle.turn.specs.Touched.{Touch, got, put, sought_touched, read_touched, set_touched, noun_touched, assigned_touched, bound_touched, defined_touched, all_touched, parts_touched, made_touched, declared_touched, ends_touched, runs_touched, args_touched, items_touched, block_touched, taking_touched, each_touched, delivery_touched, Agree, in_state}
 
 -- the same evaluation from the state t in place of s: where it ends, its derivation, its cells, and that it keeps what agrees
 pub record Framed (D : State → Type 0) (touch : (u : State) → D u → List Touch) (s s' t : State) (ls : List Touch) : Type 0 where
@@ -59,6 +60,15 @@ ArgsFrame k ts a g b u ls = Framed (λ s. Args k ts (in_state u a) g (in_state s
 
 abbrev ItemsFrame : (k : ℕ) (v : Val) (ts : Trees) (a : At) (o : End) (b : At) (u : State) → List Touch → Type 0
 ItemsFrame k v ts a o b u ls = Framed (λ s. Items k v ts (in_state u a) o (in_state s b)) (λ s r. items_touched r) a.state b.state u ls
+
+abbrev BlockFrame : (k : ℕ) (ts : Trees) (a : At) (o : End) (b : At) (u : State) → List Touch → Type 0
+BlockFrame k ts a o b u ls = Framed (λ s. Block k ts (in_state u a) o (in_state s b)) (λ s r. block_touched r) a.state b.state u ls
+
+abbrev TakingFrame : (k : ℕ) (p : Pattern) (v : Val) (ts : Trees) (a : At) (o : End) (b : At) (u : State) → List Touch → Type 0
+TakingFrame k p v ts a o b u ls = Framed (λ s. Taking k p v ts (in_state u a) o (in_state s b)) (λ s r. taking_touched r) a.state b.state u ls
+
+abbrev EachFrame : (k : ℕ) (p : Pattern) (ts : Trees) (vs : Vals) (a : At) (o : End) (b : At) (u : State) → List Touch → Type 0
+EachFrame k p ts vs a o b u ls = Framed (λ s. Each k p ts vs (in_state u a) o (in_state s b)) (λ s r. each_touched r) a.state b.state u ls
 
 -- a noun stands for the same, so the same slot is read
 noun_case : (k : ℕ) (x : Name) (a : At) (u : State) → Agree (noun_touched x a) u a.state → RunsFrame k (noun x) a (noun_end a.state x (sought x a)) a u (noun_touched x a)
@@ -122,6 +132,21 @@ assign_case k x e a (value v) b u ls f h =
     (set_case (slot_in (found f.after x (lookup b.nouns x))) k x e a v b u ls (sought_touched x (lookup b.nouns x)) f (run_assign f.run) refl)
 assign_case k x e a (halt j) b u ls f h = wrapped k (assign x e) e a (halt j) (halt j) b b u ls [] f f.after (run_assign f.run) refl (λ c q. q)
 
+-- the same, where the place in the other state is known only by an equation
+moved_case : (k : ℕ) (t e : Tree) (a : At) (o p : End) (b c : At) (u : State) (ls more : List Touch) (f : EndsFrame (k + 1) e a o b u ls) (after : State) (d : At) → d ≡ in_state after c → (run : Runs k t (in_state u a) p d)
+    → runs_touched run ≡ ends_touched f.run ++ more → ((x : Cell) → f.after x ≡ b.state x → after x ≡ c.state x) → RunsFrame k t a p c u (ls ++ more)
+moved_case k t e a o p b c u ls more f after d q run m kept =
+    subst (λ z. (run : Runs k t (in_state u a) p z) → runs_touched run ≡ ends_touched f.run ++ more → RunsFrame k t a p c u (ls ++ more)) (sym q)
+    (λ run m. wrapped k t e a o p b c u ls more f after run m kept) run m
+
+-- a list of patterns, where it is known what it takes
+parts_case : (l : Listing) (k : ℕ) (ps : List Pattern) (e : Tree) (a : At) (o : End) (b : At) (u : State) (ls : List Touch) (f : EndsFrame (k + 1) e a o b u ls) (run : Runs k (define_list ps e) (in_state u a) (parts_end o l) (parts_bound ps l (in_state f.after b)))
+    → runs_touched run ≡ ends_touched f.run ++ parts_touched ps l (in_state f.after b) → RunsFrame k (define_list ps e) a (parts_end o l) (parts_bound ps l b) u (ls ++ parts_touched ps l b)
+parts_case (listed vs) k ps e a o b u ls f run m =
+    moved_case k (define_list ps e) e a o o b (matched_all ps vs b) u ls (all_touched b.own_scope ps vs) f (matched_all ps vs (in_state f.after b)).state (matched_all ps vs (in_state f.after b)) (all_moved ps vs b f.after) run m
+    (λ c q. all_kept ps vs b f.after c q)
+parts_case (unlisted p) k ps e a o b u ls f run m = wrapped k (define_list ps e) e a o p b b u ls [] f f.after run m (λ c q. q)
+
 mutual
   pub ends_framed : {k : ℕ} {t : Tree} {a b : At} {o : End} (r : Ends k t a o b) (u : State) → Agree (ends_touched r) u a.state → EndsFrame k t a o b u (ends_touched r)
   ends_framed (at_budget h) u m = record { after = u; run = at_budget h; same = refl; kept = λ c e. e }
@@ -150,6 +175,38 @@ mutual
       let f = ends_framed r u (agree_left (ends_touched r) (ends_touched q) u a.state m) in
       let g = ends_framed q f.after (agree_kept (ends_touched q) u a.state f.after b.state f.kept (agree_right (ends_touched r) (ends_touched q) u a.state m)) in
       record { after = g.after; run = run_same f.run g.run; same = λ i. f.same i ++ g.same i; kept = λ c h. g.kept c (f.kept c h) }
+  runs_framed (run_define_list {k = k} {ps = ps} {e = e} {a = a} {b = b} {o = o} r) u m =
+      let f = ends_framed r u (agree_left (ends_touched r) (parts_touched ps (parts_of ps o) b) u a.state m) in
+      parts_case (parts_of ps o) k ps e a o b u (ends_touched r) f (run_define_list f.run) refl
+  runs_framed (run_hide q) u m = let f = block_framed q u m in record { after = f.after; run = run_hide f.run; same = f.same; kept = f.kept }
+  runs_framed (run_throw r) u m = let f = ends_framed r u m in record { after = f.after; run = run_throw f.run; same = f.same; kept = f.kept }
+  runs_framed (run_if_goes {a = a} {b = b} r e q) u m =
+      let f = ends_framed r u (agree_left (ends_touched r) (block_touched q) u a.state m) in
+      let g = block_framed q f.after (agree_kept (block_touched q) u a.state f.after b.state f.kept (agree_right (ends_touched r) (block_touched q) u a.state m)) in
+      record { after = g.after; run = run_if_goes f.run e g.run; same = λ i. f.same i ++ g.same i; kept = λ c h. g.kept c (f.kept c h) }
+  runs_framed (run_if_ends r e) u m = let f = ends_framed r u m in record { after = f.after; run = run_if_ends f.run e; same = f.same; kept = f.kept }
+  runs_framed (run_while_again {a = a} {b = b} {d = d} r e q w) u m =
+      let l = agree_left (ends_touched r ++ block_touched q) (runs_touched w) u a.state m in
+      let f = ends_framed r u (agree_left (ends_touched r) (block_touched q) u a.state l) in
+      let g = block_framed q f.after (agree_kept (block_touched q) u a.state f.after b.state f.kept (agree_right (ends_touched r) (block_touched q) u a.state l)) in
+      let h = runs_framed w g.after (agree_kept (runs_touched w) u a.state g.after d.state (λ c x. g.kept c (f.kept c x)) (agree_right (ends_touched r ++ block_touched q) (runs_touched w) u a.state m)) in
+      record { after = h.after; run = run_while_again f.run e g.run h.run; same = λ i. (f.same i ++ g.same i) ++ h.same i; kept = λ c x. h.kept c (g.kept c (f.kept c x)) }
+  runs_framed (run_while_halts {a = a} {b = b} r e q) u m =
+      let f = ends_framed r u (agree_left (ends_touched r) (block_touched q) u a.state m) in
+      let g = block_framed q f.after (agree_kept (block_touched q) u a.state f.after b.state f.kept (agree_right (ends_touched r) (block_touched q) u a.state m)) in
+      record { after = g.after; run = run_while_halts f.run e g.run; same = λ i. f.same i ++ g.same i; kept = λ c h. g.kept c (f.kept c h) }
+  runs_framed (run_while_done r e) u m = let f = ends_framed r u m in record { after = f.after; run = run_while_done f.run e; same = f.same; kept = f.kept }
+  runs_framed (run_while_ends r e) u m = let f = ends_framed r u m in record { after = f.after; run = run_while_ends f.run e; same = f.same; kept = f.kept }
+  runs_framed (run_for {a = a} {b = b} r e q) u m =
+      let f = ends_framed r u (agree_left (ends_touched r) (each_touched q) u a.state m) in
+      let g = each_framed q f.after (agree_kept (each_touched q) u a.state f.after b.state f.kept (agree_right (ends_touched r) (each_touched q) u a.state m)) in
+      record { after = g.after; run = run_for f.run e g.run; same = λ i. f.same i ++ g.same i; kept = λ c h. g.kept c (f.kept c h) }
+  runs_framed (run_for_ends r e) u m = let f = ends_framed r u m in record { after = f.after; run = run_for_ends f.run e; same = f.same; kept = f.kept }
+  runs_framed (run_try q e) u m = let f = block_framed q u m in record { after = f.after; run = run_try f.run e; same = f.same; kept = f.kept }
+  runs_framed (run_try_caught {a = a} {b = b} q e w) u m =
+      let f = block_framed q u (agree_left (block_touched q) (taking_touched w) u a.state m) in
+      let g = taking_framed w f.after (agree_kept (taking_touched w) u a.state f.after b.state f.kept (agree_right (block_touched q) (taking_touched w) u a.state m)) in
+      record { after = g.after; run = run_try_caught f.run e g.run; same = λ i. f.same i ++ g.same i; kept = λ c h. g.kept c (f.kept c h) }
 
   pub args_framed : {k : ℕ} {ts : Trees} {a b : At} {g : Gather} (r : Args k ts a g b) (u : State) → Agree (args_touched r) u a.state → ArgsFrame k ts a g b u (args_touched r)
   args_framed args_none u m = record { after = u; run = args_none; same = refl; kept = λ c e. e }
@@ -159,13 +216,28 @@ mutual
       record { after = g.after; run = args_next f.run g.run; same = λ i. f.same i ++ g.same i; kept = λ c h. g.kept c (f.kept c h) }
   args_framed (args_halt r) u m = let f = ends_framed r u m in record { after = f.after; run = args_halt f.run; same = f.same; kept = f.kept }
 
-pub items_framed : {k : ℕ} {v : Val} {ts : Trees} {a b : At} {o : End} (r : Items k v ts a o b) (u : State) → Agree (items_touched r) u a.state → ItemsFrame k v ts a o b u (items_touched r)
-items_framed items_none u m = record { after = u; run = items_none; same = refl; kept = λ c e. e }
-items_framed (items_next {a = a} {b = b} r q) u m =
-    let f = ends_framed r u (agree_left (ends_touched r) (items_touched q) u a.state m) in
-    let g = items_framed q f.after (agree_kept (items_touched q) u a.state f.after b.state f.kept (agree_right (ends_touched r) (items_touched q) u a.state m)) in
-    record { after = g.after; run = items_next f.run g.run; same = λ i. f.same i ++ g.same i; kept = λ c h. g.kept c (f.kept c h) }
-items_framed (items_halt r) u m = let f = ends_framed r u m in record { after = f.after; run = items_halt f.run; same = f.same; kept = f.kept }
+  pub items_framed : {k : ℕ} {v : Val} {ts : Trees} {a b : At} {o : End} (r : Items k v ts a o b) (u : State) → Agree (items_touched r) u a.state → ItemsFrame k v ts a o b u (items_touched r)
+  items_framed items_none u m = record { after = u; run = items_none; same = refl; kept = λ c e. e }
+  items_framed (items_next {a = a} {b = b} r q) u m =
+      let f = ends_framed r u (agree_left (ends_touched r) (items_touched q) u a.state m) in
+      let g = items_framed q f.after (agree_kept (items_touched q) u a.state f.after b.state f.kept (agree_right (ends_touched r) (items_touched q) u a.state m)) in
+      record { after = g.after; run = items_next f.run g.run; same = λ i. f.same i ++ g.same i; kept = λ c h. g.kept c (f.kept c h) }
+  items_framed (items_halt r) u m = let f = ends_framed r u m in record { after = f.after; run = items_halt f.run; same = f.same; kept = f.kept }
+
+  pub block_framed : {k : ℕ} {ts : Trees} {a b : At} {o : End} (r : Block k ts a o b) (u : State) → Agree (block_touched r) u a.state → BlockFrame k ts a o b u (block_touched r)
+  block_framed (in_block r) u m = let f = items_framed r u m in record { after = f.after; run = in_block f.run; same = f.same; kept = f.kept }
+
+  pub taking_framed : {k : ℕ} {p : Pattern} {v : Val} {ts : Trees} {a b : At} {o : End} (r : Taking k p v ts a o b) (u : State) → Agree (taking_touched r) u a.state → TakingFrame k p v ts a o b u (taking_touched r)
+  taking_framed (in_taking {p = pattern.Name x} {v = v} {a = a} r) u m = let f = items_framed r u m in record { after = f.after; run = in_taking {p = pattern.Name x} {v = v} {a = in_state u a} f.run; same = f.same; kept = f.kept }
+  taking_framed (in_taking {p = pattern.Ignore} {v = v} {a = a} r) u m = let f = items_framed r u m in record { after = f.after; run = in_taking {p = pattern.Ignore} {v = v} {a = in_state u a} f.run; same = f.same; kept = f.kept }
+
+  pub each_framed : {k : ℕ} {p : Pattern} {ts : Trees} {vs : Vals} {a b : At} {o : End} (r : Each k p ts vs a o b) (u : State) → Agree (each_touched r) u a.state → EachFrame k p ts vs a o b u (each_touched r)
+  each_framed each_none u m = record { after = u; run = each_none; same = refl; kept = λ c e. e }
+  each_framed (each_next {a = a} {b = b} r q) u m =
+      let f = taking_framed r u (agree_left (taking_touched r) (each_touched q) u a.state m) in
+      let g = each_framed q f.after (agree_kept (each_touched q) u a.state f.after b.state f.kept (agree_right (taking_touched r) (each_touched q) u a.state m)) in
+      record { after = g.after; run = each_next f.run g.run; same = λ i. f.same i ++ g.same i; kept = λ c h. g.kept c (f.kept c h) }
+  each_framed (each_halt r) u m = let f = taking_framed r u m in record { after = f.after; run = each_halt f.run; same = f.same; kept = f.kept }
 
 -- what is kept of two states that agree where the others did
 kept_agrees : (o : End) (u s t b : State) (c : Cell) → u c ≡ s c → t c ≡ b c → kept o u t c ≡ kept o s b c

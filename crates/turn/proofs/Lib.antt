@@ -2,6 +2,8 @@ pub mod Cells
 pub mod Deliveries
 pub mod Determined
 pub mod Framed
+pub mod Grown
+pub mod Patterns
 pub mod Scopes
 pub mod Spent
 pub mod Steps

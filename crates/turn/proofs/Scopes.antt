@@ -1,6 +1,7 @@
 -- On the names of scopes, of which the program pushes the newest at the end.
-use Rattle.std.proofs.Common.{◌≡◌, ℕ, ◌<◌, ltb, arith, List, [], ◌∷◌, ◌++◌, Option, Some, None, true, false, cond, refl, sym, ap, ◌∙◌}
+use Rattle.std.proofs.Common.{◌≡◌, ℕ, ◌+◌, ◌<◌, ltb, arith, List, [], ◌∷◌, ◌++◌, length, take, drop, length-append, length-drop, append_assoc, Option, Some, None, true, false, cond, refl, sym, ap, ◌∙◌}
 use Rattle.std.specs.Prelude.{Result, Ok, Err, IfOk}
+use Rattle.std.proofs.lemmas.List.{take-append-drop, length-take-le}
 use Rattle.std.proofs.lemmas.Bool.Decides.{nat_tests}
 use Rattle.std.specs.Str.{bytes_eq}
 use Rattle.ids.specs.declared.names.SlotId.{SlotId}
@@ -52,3 +53,34 @@ room n h = grind (arith, nat_tests)
 pub declared_there : (x : Name) (v w : Val) (i : SlotId) (a b c : At) → a.slots < 4096 → w ≡ v → i ≡ next_slot a → b ≡ slot_made w a → c ≡ binding x (slot i) b → c ≡ declared x (value v) a
 declared_there x v w i a b c h p q e f =
     f ∙ (λ j. binding x (slot (q j)) (e j)) ∙ ap (λ u. with_slot x u a) p ∙ sym (ap (λ r. made r x v a) (room a.slots h))
+
+nouns_after-split : (ns : Nouns) (xs : List Noun) → nouns_after ns xs ≡ nouns_of xs ++ ns
+nouns_after-split ns [] = refl
+nouns_after-split ns (x ∷ xs) =
+    nouns_after-split ((x.name, bind_of x.binding) ∷ ns) xs
+    ∙ sym (ap (λ ms. ms ++ ns) (nouns_after-split ((x.name, bind_of x.binding) ∷ []) xs) ∙ append_assoc (nouns_of xs) ((x.name, bind_of x.binding) ∷ []) ns)
+
+length-nouns_of : (xs : List Noun) → length (nouns_of xs) ≡ length xs
+length-nouns_of [] = refl
+length-nouns_of (x ∷ xs) = ap length (nouns_after-split ((x.name, bind_of x.binding) ∷ []) xs) ∙ omega (arith, length-append (nouns_of xs) ((x.name, bind_of x.binding) ∷ []), length-nouns_of xs)
+
+-- lists that end alike, from equal lengths on
+same_end : (ps qs ss ts : Nouns) → ps ++ ss ≡ qs ++ ts → length ps ≡ length qs → ss ≡ ts
+same_end [] [] ss ts e h = e
+same_end [] (q ∷ qs) ss ts e h = absurd (omega arith)
+same_end (p ∷ ps) [] ss ts e h = absurd (omega arith)
+same_end (p ∷ ps) (q ∷ qs) ss ts e h = same_end ps qs ss ts (cc) (omega arith)
+
+-- the names that were there before others were added
+pub truncated : (xs ys : List Noun) (n : ℕ) → n ≡ length xs → (more : Nouns) × (nouns_of ys ≡ more ++ nouns_of xs) → nouns_of (take n ys) ≡ nouns_of xs
+truncated xs ys n e g =
+    let whole : nouns_of ys ≡ nouns_of (drop n ys) ++ nouns_of (take n ys) = ap nouns_of (sym (take-append-drop n ys)) ∙ nouns_after-append [] (take n ys) (drop n ys) ∙ nouns_after-split (nouns_of (take n ys)) (drop n ys) in
+    let l1 : length (nouns_of ys) ≡ length g.0 + length (nouns_of xs) = ap length g.1 ∙ length-append g.0 (nouns_of xs) in
+    same_end (nouns_of (drop n ys)) g.0 (nouns_of (take n ys)) (nouns_of xs) (sym whole ∙ g.1)
+    (omega (arith, l1, e, length-nouns_of xs, length-nouns_of ys, length-nouns_of (drop n ys), length-drop n ys))
+
+-- as many as there were
+pub truncated-length : (xs ys : List Noun) (n : ℕ) → n ≡ length xs → (more : Nouns) × (nouns_of ys ≡ more ++ nouns_of xs) → n ≡ length (take n ys)
+truncated-length xs ys n e g =
+    let l1 : length (nouns_of ys) ≡ length g.0 + length (nouns_of xs) = ap length g.1 ∙ length-append g.0 (nouns_of xs) in
+    sym (length-take-le n ys (omega (arith, l1, e, length-nouns_of xs, length-nouns_of ys)))

@@ -1,18 +1,23 @@
 -- From the rules to what the program's functions ensure.
-use Rattle.std.proofs.Common.{◌≡◌, ℕ, ◌+◌, ◌<◌, ◌≤◌, List, [], ◌∷◌, ◌++◌, subst, sym, ap, refl, length, drop, get_or, add-one, ◌∙◌, suc}
+use Rattle.std.proofs.Common.{◌≡◌, ℕ, ◌+◌, ◌<◌, ◌≤◌, Bool, List, [], ◌∷◌, ◌++◌, subst, sym, ap, refl, length, take, drop, get_or, add-one, ◌∙◌, suc}
 use Rattle.std.specs.Prelude.{Result, Ok, Err, IfOk}
 use Rattle.std.proofs.Math.Seq.{drop-cons}
 use Rattle.std.proofs.lemmas.List.{drop_all}
-use Rattle.kernele.specs.Tree.{Tree, Trees, and_then}
+use Rattle.kernele.specs.Tree.{Tree, define_list, Trees, and_then}
 use Rattle.kernele.specs.View.{tree_of, trees_of}
 use Rattle.kernele.specs.declared.tree.Expr.{Expr}
-use Rattle.values.specs.Data.{Val, Vals, and_val, no_vals}
+use Rattle.values.specs.Data.{Val, null, Vals, and_val, no_vals}
 use Rattle.values.specs.View.{val_of, vals_of}
 use Rattle.values.specs.declared.value.Value.{Value}
 use Rattle.turn.specs.State.{At}
 use Rattle.turn.specs.Outcomes.{End, Halt, value, halt, Gather, values, halted}
-use Rattle.turn.specs.Rules.{Ends, at_node, Runs, begun, Args, args_none, args_next, args_halt, Items, items_none, items_next, items_halt}
-use Rattle.turn.specs.View.{end_of, gather_of}
+use Rattle.turn.specs.Rules.{parts_of, parts_bound, parts_end, run_define_list, entering, leaving, again, matched, Ends, at_node, Runs, begun, Args, args_none, args_next, args_halt, Items, items_none, items_next, items_halt, Block, in_block, Taking, in_taking, Each, each_none, each_next, each_halt}
+use Rattle.turn.specs.View.{at, end_of, gather_of, nouns_of}
+use Rattle.turn.proofs.Scopes.{truncated}
+use Rattle.turn.proofs.Grown.{Grown, items_grow, taken_grow}
+use Rattle.turn.specs.declared.working.Noun.{Noun}
+use Rattle.turn.specs.declared.working.Working.{Working}
+use Rattle.kernele.specs.declared.tree.Pattern.{Pattern}
 use Rattle.turn.specs.declared.end.End as code
 use Rattle.turn.specs.declared.end.Gathered.{Gathered}
 use Rattle.std.specs.declared.vec.Vec.{Vec}
@@ -100,11 +105,68 @@ runs_as {k = k} {t = t} {a = a} {b = b} r e = subst (λ o. Runs k t a o b) (sym 
 pub runs_to : {k : ℕ} {t : Tree} {a b c : At} {o p : End} → Runs k t a p b → o ≡ p → c ≡ b → Runs k t a o c
 runs_to {k = k} {t = t} {a = a} {c = c} {p = p} r e f = subst (λ o. Runs k t a o c) (sym e) (subst (λ d. Runs k t a p d) (sym f) r)
 
+-- a definition with a list of patterns, of which the program has a slice
+pub parts_run : {k : ℕ} {ps qs : List Pattern} {e : Tree} {a b c : At} {o p : End} → ps ≡ qs → Ends (k + 1) e a o b → p ≡ parts_end o (parts_of ps o) → c ≡ parts_bound ps (parts_of ps o) b → Runs k (define_list qs e) a p c
+parts_run {b = b} {o = o} q r f g = runs_to (run_define_list r) (f ∙ ap (λ ps. parts_end o (parts_of ps o)) q) (g ∙ ap (λ ps. parts_bound ps (parts_of ps o) b) q)
+
 -- a slice of what an `Arc` holds
-pub slice_of : {s : List Expr} {v u : Vec Expr Global} → s ≡ v.items → v ≡ u → s ≡ u.items
+pub slice_of : {X : Type 0} {s : List X} {v u : Vec X Global} → s ≡ v.items → v ≡ u → s ≡ u.items
 slice_of e f = e ∙ ap (λ v. v.items) f
 
 -- two facts on what a call returned give a third
 pub if_both : {X E : Type 0} (r : Result X E) (P Q R : X → Type 0) → ((x : X) → P x → Q x → R x) → IfOk r P → IfOk r Q → IfOk r R
 if_both (Ok x) P Q R h p q = h x p q
 if_both (Err e) P Q R h p q = tt
+
+-- a block's items, where its block is known
+pub blocks : {xs ys : List Expr} {o p : code.End} {k : ℕ} {a b : At} → xs ≡ ys → o ≡ p → Block k (trees_of xs) a (end_of o) b → Block k (trees_of ys) a (end_of p) b
+blocks {ys = ys} {o = o} {k = k} {a = a} {b = b} same is r = subst (λ q. Block k (trees_of ys) a (end_of q) b) is (subst (λ x. Block k (trees_of x) a (end_of o) b) same r)
+
+-- the same, where its end is known by an equation
+pub block_ending : {xs ys : List Expr} {o p : End} {k : ℕ} {a b : At} → xs ≡ ys → o ≡ p → Block k (trees_of xs) a o b → Block k (trees_of ys) a p b
+block_ending {ys = ys} {o = o} {k = k} {a = a} {b = b} same is r = subst (λ q. Block k (trees_of ys) a q b) is (subst (λ x. Block k (trees_of x) a o b) same r)
+
+pub taking : {xs ys : List Expr} {k : ℕ} {p : Pattern} {v w : Val} {a b : At} {o : End} → xs ≡ ys → v ≡ w → Taking k p v (trees_of xs) a o b → Taking k p w (trees_of ys) a o b
+taking {ys = ys} {k = k} {p = p} {v = v} {a = a} {b = b} {o = o} same is r = subst (λ w. Taking k p w (trees_of ys) a o b) is (subst (λ x. Taking k p v (trees_of x) a o b) same r)
+
+pub taking_ending : {k : ℕ} {p : Pattern} {v : Val} {ts : Trees} {a b : At} {o q : End} → o ≡ q → Taking k p v ts a o b → Taking k p v ts a q b
+taking_ending {k = k} {p = p} {v = v} {ts = ts} {a = a} {b = b} e r = subst (λ q. Taking k p v ts a q b) e r
+
+pub each : {xs ys : List Expr} {k : ℕ} {p : Pattern} {vs ws : List Value} {a b : At} {o : End} → xs ≡ ys → vs ≡ ws → Each k p (trees_of xs) (vals_of vs) a o b → Each k p (trees_of ys) (vals_of ws) a o b
+each {ys = ys} {k = k} {p = p} {vs = vs} {a = a} {b = b} {o = o} same is r = subst (λ ws. Each k p (trees_of ys) (vals_of ws) a o b) is (subst (λ x. Each k p (trees_of x) (vals_of vs) a o b) same r)
+
+-- the names of a scope are truncated to those from before it
+place_after : (w u : Working) (z : At) (n : ℕ) (own : Bool) → n ≡ length w.nouns.items → own ≡ w.own_scope → Grown (at w) (at u) → z ≡ record (at u) { nouns = nouns_of (take n u.nouns.items); own_scope = own } → z ≡ leaving (at w) (at u)
+place_after w u z n own e f g h = h ∙ (λ i. record (at u) { nouns = truncated w.nouns.items u.nouns.items n e g i; own_scope = f i })
+
+-- a block's scope ends
+pub block_end : {k : ℕ} {ts : Trees} (w u : Working) {b z : At} {n : ℕ} {own : Bool} {o : End} → n ≡ length w.nouns.items → own ≡ w.own_scope → b ≡ entering (at w) → Items k null ts b o (at u) → z ≡ record (at u) { nouns = nouns_of (take n u.nouns.items); own_scope = own } → Block k ts (at w) o z
+block_end {k = k} {ts = ts} w u {z = z} {n = n} {own = own} {o = o} e f q r h =
+    let s : Items k null ts (entering (at w)) o (at u) = subst (λ x. Items k null ts x o (at u)) q r in
+    subst (λ x. Block k ts (at w) o x) (sym (place_after w u z n own e f (items_grow s) h)) (in_block s)
+
+-- the same of a block that takes a value
+pub taking_end : {k : ℕ} {ts : Trees} (p : Pattern) (v : Val) (w u : Working) {b c z : At} {n : ℕ} {own : Bool} {o : End} → n ≡ length w.nouns.items → own ≡ w.own_scope → b ≡ entering (at w) → c ≡ matched p v b → Items k null ts c o (at u) → z ≡ record (at u) { nouns = nouns_of (take n u.nouns.items); own_scope = own } → Taking k p v ts (at w) o z
+taking_end {k = k} {ts = ts} p v w u {z = z} {n = n} {own = own} {o = o} e f q m r h =
+    let s : Items k null ts (matched p v (entering (at w))) o (at u) = subst (λ x. Items k null ts x o (at u)) (m ∙ ap (matched p v) q) r in
+    subst (λ x. Taking k p v ts (at w) o x) (sym (place_after w u z n own e f (taken_grow p v (entering (at w)) s) h)) (in_taking s)
+
+-- the values from an index on
+pub vals_from : (xs : List Value) (i : ℕ) (x : Value) → i < length xs → x ≡ get_or xs i x → vals_of (drop i xs) ≡ and_val (val_of x) (vals_of (drop (i + 1) xs))
+vals_from xs i x h e = rw add-one (ap vals_of (drop-cons xs i x h) ∙ ap (λ y. and_val (val_of y) (vals_of (drop (suc i) xs))) (sym e))
+
+-- a block for one more value
+pub each_more : {k : ℕ} {p : Pattern} {ts : Trees} (xs : List Value) {i : ℕ} {x : Value} {a b c : At} {v : Val} {o : End} → i < length xs → x ≡ get_or xs i x → Taking k p (val_of x) ts a (value v) b → Each k p ts (vals_of (drop (i + 1) xs)) b o c → Each k p ts (vals_of (drop i xs)) a o c
+each_more {k = k} {p = p} {ts = ts} xs {i = i} {x = x} {a = a} {c = c} {o = o} h e f r = subst (λ vs. Each k p ts vs a o c) (sym (vals_from xs i x h e)) (each_next f r)
+
+pub each_no_more : {k : ℕ} {p : Pattern} {ts : Trees} (xs : List Value) {i : ℕ} {x : Value} {a b : At} {s : Halt} → i < length xs → x ≡ get_or xs i x → Taking k p (val_of x) ts a (halt s) b → Each k p ts (vals_of (drop i xs)) a (halt s) b
+each_no_more {k = k} {p = p} {ts = ts} xs {i = i} {x = x} {a = a} {b = b} {s = s} h e f = subst (λ vs. Each k p ts vs a (halt s) b) (sym (vals_from xs i x h e)) (each_halt f)
+
+pub each_end : {k : ℕ} {p : Pattern} {ts : Trees} (xs : List Value) {i : ℕ} {a : At} → length xs ≤ i → Each k p ts (vals_of (drop i xs)) a (value null) a
+each_end {k = k} {p = p} {ts = ts} xs {i = i} {a = a} h = subst (λ ys. Each k p ts (vals_of ys) a (value null) a) (sym (drop_all i xs h)) each_none
+
+-- what the next rounds of a While give, where the names are those of this round's beginning
+pub next_round : {k : ℕ} {t : Tree} (w u : Working) {zs : List Noun} {n : ℕ} {p : End} {e : At} → n ≡ length w.nouns.items → Grown (at w) (at u) → zs ≡ take n u.nouns.items → Runs k t (record (at u) { nouns = nouns_of zs }) p e → Runs k t (again (at w) (at u)) p e
+next_round {k = k} {t = t} w u {n = n} {p = p} {e = e} l g h r =
+    subst (λ ns. Runs k t (record (at u) { nouns = ns }) p e) (truncated w.nouns.items u.nouns.items n l g)
+    (subst (λ zs. Runs k t (record (at u) { nouns = nouns_of zs }) p e) h r)

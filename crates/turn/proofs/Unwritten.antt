@@ -1,17 +1,18 @@
 -- What is not written stays as it was.
-use Rattle.std.proofs.Common.{◌≡◌, ℕ, List, [], ◌∷◌, ◌++◌, Option, Some, None, Bool, true, false, cond, refl, ap, ◌∙◌}
+use Rattle.std.proofs.Common.{◌≡◌, ℕ, List, [], ◌∷◌, ◌++◌, Option, Some, None, Bool, true, false, cond, refl, sym, ap, ◌∙◌, subst}
 use Rattle.ids.specs.declared.names.EventName.{EventName}
 use Rattle.ids.specs.declared.names.VatNo.{VatNo}
 use Rattle.ids.specs.declared.names.SlotId.{SlotId}
 use Rattle.kernele.specs.Tree.{Name, Tree, Trees}
 use Rattle.kernele.specs.declared.tree.Pattern.{Pattern}
 use Rattle.kernele.specs.declared.tree.Pattern.TheVariants as pattern
-use Rattle.values.specs.Data.{Val}
+use Rattle.values.specs.Data.{Val, Vals, no_vals, and_val}
 use Rattle.turn.specs.State.{Bind, fixed, slot, lookup, Cell, top, slot_cell, Content, bound, held, same_cell, State, write, At}
 use Rattle.turn.specs.Outcomes.{End, value, halt, thrown, abandoned, Gather}
-use Rattle.turn.specs.Rules.{sought_slot, bound_in, defined, next_slot, has_room, slot_made, made, declared, assigned, Ends, at_budget, at_depth, at_node, Runs, run_null, run_bool, run_int, run_text, run_noun, run_define, run_variable, run_assign, run_call_receiver, run_call, run_list, run_same_left, run_same, Args, args_none, args_next, args_halt, Items, items_none, items_next, items_halt}
+use Rattle.turn.specs.Rules.{Listing, listed, unlisted, parts_of, parts_bound, entering, sought_slot, bound_in, matched, matched_all, defined, next_slot, has_room, slot_made, made, declared, assigned, Ends, at_budget, at_depth, at_node, Runs, run_null, run_bool, run_int, run_text, run_noun, run_define, run_variable, run_assign, run_call_receiver, run_call, run_list, run_same_left, run_same, run_define_list, run_hide, run_throw, run_if_goes, run_if_ends, run_while_again, run_while_halts, run_while_done, run_while_ends, run_for, run_for_ends, run_try, run_try_caught, Args, args_none, args_next, args_halt, Items, items_none, items_next, items_halt, Block, in_block, Taking, in_taking, Each, each_none, each_next, each_halt}
 use Rattle.turn.specs.Turn.{Delivery, Outcome, settled, kept, Delivers, opens, asks}
-use Rattle.turn.specs.Touched.{Touch, got, put, sought_touched, set_touched, assigned_touched, bound_touched, defined_touched, made_touched, declared_touched, ends_touched, runs_touched, args_touched, items_touched, delivery_touched, NotPut}
+use Rattle.turn.proofs.Patterns.{matched_own}
+use Rattle.turn.specs.Touched.{Touch, got, put, sought_touched, set_touched, assigned_touched, bound_touched, matched_touched, defined_touched, all_touched, parts_touched, made_touched, declared_touched, ends_touched, runs_touched, args_touched, items_touched, block_touched, taking_touched, each_touched, delivery_touched, NotPut}
 
 left : (xs ys : List Touch) (c : Cell) → NotPut c (xs ++ ys) → NotPut c xs
 left [] ys c h = tt
@@ -30,10 +31,29 @@ bound_un : (own : Bool) (x : Name) (y : Bind) (b : At) (c : Cell) → NotPut c (
 bound_un true x y b c h = write_other b.state (top x) (bound y) c h.0
 bound_un false x y b c h = refl
 
+matched_un : (p : Pattern) (v : Val) (b : At) (c : Cell) → NotPut c (matched_touched b.own_scope p) → (matched p v b).state c ≡ b.state c
+matched_un (pattern.Name x) v b c h = bound_un b.own_scope x (fixed v) b c h
+matched_un pattern.Ignore v b c h = refl
+
 define_un : (p : Pattern) (o : End) (b : At) (c : Cell) → NotPut c (defined_touched p o b) → (defined p o b).state c ≡ b.state c
-define_un (pattern.Name x) (value v) b c h = bound_un b.own_scope x (fixed v) b c h
-define_un pattern.Ignore (value v) b c h = refl
+define_un p (value v) b c h = matched_un p v b c h
 define_un p (halt j) b c h = refl
+
+all_un : (ps : List Pattern) (vs : Vals) (b : At) (c : Cell) → NotPut c (all_touched b.own_scope ps vs) → (matched_all ps vs b).state c ≡ b.state c
+all_un [] vs b c h = refl
+all_un (p ∷ ps) no_vals b c h = refl
+all_un (p ∷ ps) (and_val v vs) b c h =
+    all_un ps vs (matched p v b) c (subst (λ own. NotPut c (all_touched own ps vs)) (sym (matched_own p v b)) (right (matched_touched b.own_scope p) (all_touched b.own_scope ps vs) c h))
+    ∙ matched_un p v b c (left (matched_touched b.own_scope p) (all_touched b.own_scope ps vs) c h)
+
+parts_un : (ps : List Pattern) (l : Listing) (b : At) (c : Cell) → NotPut c (parts_touched ps l b) → (parts_bound ps l b).state c ≡ b.state c
+parts_un ps (listed vs) b c h = all_un ps vs b c h
+parts_un ps (unlisted o) b c h = refl
+
+-- a pattern that is bound in a block's scope writes nothing
+entered_un : (p : Pattern) (v : Val) (a : At) (c : Cell) → (matched p v (entering a)).state c ≡ a.state c
+entered_un (pattern.Name x) v a c = refl
+entered_un pattern.Ignore v a c = refl
 
 made_un : (room : Bool) (x : Name) (v : Val) (b : At) (c : Cell) → NotPut c (made_touched room x b) → (made room x v b).state c ≡ b.state c
 made_un true x v b c h = bound_un b.own_scope x (slot (next_slot b)) (slot_made v b) c h.1 ∙ write_other b.state (slot_cell (next_slot b)) (held v) c h.0
@@ -71,16 +91,42 @@ mutual
   runs_un (run_list r) c n = args_un r c n
   runs_un (run_same_left r) c n = ends_un r c n
   runs_un (run_same r q) c n = ends_un q c (right (ends_touched r) (ends_touched q) c n) ∙ ends_un r c (left (ends_touched r) (ends_touched q) c n)
+  runs_un (run_define_list {ps = ps} {b = b} {o = o} r) c n = parts_un ps (parts_of ps o) b c (right (ends_touched r) (parts_touched ps (parts_of ps o) b) c n) ∙ ends_un r c (left (ends_touched r) (parts_touched ps (parts_of ps o) b) c n)
+  runs_un (run_hide q) c n = block_un q c n
+  runs_un (run_throw r) c n = ends_un r c n
+  runs_un (run_if_goes r e q) c n = block_un q c (right (ends_touched r) (block_touched q) c n) ∙ ends_un r c (left (ends_touched r) (block_touched q) c n)
+  runs_un (run_if_ends r e) c n = ends_un r c n
+  runs_un (run_while_again r e q w) c n =
+      let m = left (ends_touched r ++ block_touched q) (runs_touched w) c n in
+      runs_un w c (right (ends_touched r ++ block_touched q) (runs_touched w) c n) ∙ (block_un q c (right (ends_touched r) (block_touched q) c m) ∙ ends_un r c (left (ends_touched r) (block_touched q) c m))
+  runs_un (run_while_halts r e q) c n = block_un q c (right (ends_touched r) (block_touched q) c n) ∙ ends_un r c (left (ends_touched r) (block_touched q) c n)
+  runs_un (run_while_done r e) c n = ends_un r c n
+  runs_un (run_while_ends r e) c n = ends_un r c n
+  runs_un (run_for r e q) c n = each_un q c (right (ends_touched r) (each_touched q) c n) ∙ ends_un r c (left (ends_touched r) (each_touched q) c n)
+  runs_un (run_for_ends r e) c n = ends_un r c n
+  runs_un (run_try q e) c n = block_un q c n
+  runs_un (run_try_caught q e w) c n = taking_un w c (right (block_touched q) (taking_touched w) c n) ∙ block_un q c (left (block_touched q) (taking_touched w) c n)
 
   pub args_un : {k : ℕ} {ts : Trees} {a b : At} {g : Gather} (r : Args k ts a g b) (c : Cell) → NotPut c (args_touched r) → b.state c ≡ a.state c
   args_un args_none c n = refl
   args_un (args_next r q) c n = args_un q c (right (ends_touched r) (args_touched q) c n) ∙ ends_un r c (left (ends_touched r) (args_touched q) c n)
   args_un (args_halt r) c n = ends_un r c n
 
-pub items_un : {k : ℕ} {v : Val} {ts : Trees} {a b : At} {o : End} (r : Items k v ts a o b) (c : Cell) → NotPut c (items_touched r) → b.state c ≡ a.state c
-items_un items_none c n = refl
-items_un (items_next r q) c n = items_un q c (right (ends_touched r) (items_touched q) c n) ∙ ends_un r c (left (ends_touched r) (items_touched q) c n)
-items_un (items_halt r) c n = ends_un r c n
+  pub items_un : {k : ℕ} {v : Val} {ts : Trees} {a b : At} {o : End} (r : Items k v ts a o b) (c : Cell) → NotPut c (items_touched r) → b.state c ≡ a.state c
+  items_un items_none c n = refl
+  items_un (items_next r q) c n = items_un q c (right (ends_touched r) (items_touched q) c n) ∙ ends_un r c (left (ends_touched r) (items_touched q) c n)
+  items_un (items_halt r) c n = ends_un r c n
+
+  pub block_un : {k : ℕ} {ts : Trees} {a b : At} {o : End} (r : Block k ts a o b) (c : Cell) → NotPut c (block_touched r) → b.state c ≡ a.state c
+  block_un (in_block r) c n = items_un r c n
+
+  pub taking_un : {k : ℕ} {p : Pattern} {v : Val} {ts : Trees} {a b : At} {o : End} (r : Taking k p v ts a o b) (c : Cell) → NotPut c (taking_touched r) → b.state c ≡ a.state c
+  taking_un (in_taking {p = p} {v = v} {a = a} r) c n = items_un r c n ∙ entered_un p v a c
+
+  pub each_un : {k : ℕ} {p : Pattern} {ts : Trees} {vs : Vals} {a b : At} {o : End} (r : Each k p ts vs a o b) (c : Cell) → NotPut c (each_touched r) → b.state c ≡ a.state c
+  each_un each_none c n = refl
+  each_un (each_next r q) c n = each_un q c (right (taking_touched r) (each_touched q) c n) ∙ taking_un r c (left (taking_touched r) (each_touched q) c n)
+  each_un (each_halt r) c n = taking_un r c n
 
 kept_un : (o : End) (s t : State) (c : Cell) → t c ≡ s c → kept o s t c ≡ s c
 kept_un (value v) s t c e = e

@@ -1,9 +1,9 @@
 -- The laws of evaluation and of turns.
-use Rattle.std.specs.Prelude.{◌≡◌, ℕ, ◌≤◌}
+use Rattle.std.specs.Prelude.{◌≡◌, ℕ, ◌≤◌, ◌++◌}
 use Rattle.ids.specs.declared.names.EventName.{EventName}
 use Rattle.ids.specs.declared.names.VatNo.{VatNo}
 use Rattle.kernele.specs.Tree.{Tree}
-use Rattle.turn.specs.State.{Cell, State, At}
+use Rattle.turn.specs.State.{Nouns, Cell, State, At}
 use Rattle.turn.specs.Outcomes.{End}
 use Rattle.turn.specs.Rules.{Ends}
 use Rattle.turn.specs.Turn.{Delivery, Outcome, Delivers}
@@ -43,3 +43,7 @@ StepsOnlyFall = (k : ℕ) (t : Tree) (a b : At) (o : End) → Ends k t a o b →
 -- a delivery leaves no more steps than its budget
 abbrev pub WithinBudget : Type 0
 WithinBudget = (d : Delivery) (e : EventName) (v : VatNo) (s : State) (n : ℕ) (o : Outcome) → Delivers d e v s n o → o.left ≤ n
+
+-- a tree takes no name from the scopes and puts none behind another: it only adds newer ones
+abbrev pub NamesAreOnlyAdded : Type 0
+NamesAreOnlyAdded = (k : ℕ) (t : Tree) (a b : At) (o : End) → Ends k t a o b → (more : Nouns) × (b.nouns ≡ more ++ a.nouns)

@@ -1,11 +1,11 @@
 -- The rules of evaluation.
-use Rattle.std.specs.Prelude.{◌≡◌, ℕ, ◌+◌, ◌-◌, ◌<◌, ◌≤◌, ltb, ℤ, Bool, true, false, Option, Some, None, ◌∷◌, ◌++◌, codes}
+use Rattle.std.specs.Prelude.{◌≡◌, ℕ, ◌+◌, ◌-◌, ◌<◌, ◌≤◌, ltb, ℤ, Bool, true, false, Option, Some, None, List, [], ◌∷◌, ◌++◌, cond, codes}
 use Rattle.ids.specs.declared.names.SlotId.{SlotId}
-use Rattle.kernele.specs.Tree.{Name, Tree, null_tree, bool_tree, int_tree, text_tree, noun, define, variable, assign, call, list_tree, same_tree, Trees, none, and_then}
+use Rattle.kernele.specs.Tree.{Name, Tree, null_tree, bool_tree, int_tree, text_tree, noun, define, variable, assign, call, list_tree, same_tree, define_list, hide, if_tree, while_tree, for_tree, try_tree, throw_tree, Trees, none, and_then}
 use Rattle.kernele.specs.declared.tree.Pattern.{Pattern}
 use Rattle.kernele.specs.declared.tree.Pattern.TheVariants as pattern
-use Rattle.values.specs.Data.{Val, null, bool, int, no_vals, and_val}
-use Rattle.values.specs.Replies.{data_reply, list_reply, text_reply}
+use Rattle.values.specs.Data.{Val, null, bool, int, text, broken, Vals, no_vals, and_val}
+use Rattle.values.specs.Replies.{data_reply, list_reply, text_reply, text_in, items_in}
 use Rattle.values.specs.Same.{same_as}
 use Rattle.turn.specs.State.{Bind, fixed, slot, lookup, top, slot_cell, Content, bound, held, State, read, write, At}
 use Rattle.turn.specs.Outcomes.{budget_spent, too_deep, too_large, Halt, thrown, abandoned, End, value, halt, Gather, values, halted, reply_end}
@@ -71,6 +71,56 @@ abbrev pub defined : Pattern → End → At → At
 defined p (value v) a = matched p v a
 defined p (halt h) a = a
 
+-- patterns take values from the left
+abbrev pub matched_all : List Pattern → Vals → At → At
+matched_all (p ∷ ps) (and_val v vs) a = matched_all ps vs (matched p v a)
+matched_all _ _ a = a
+
+-- there are as many values as patterns
+abbrev pub as_many : List Pattern → Vals → Bool
+as_many [] no_vals = true
+as_many (p ∷ ps) (and_val v vs) = as_many ps vs
+as_many _ _ = false
+
+-- a value that is not of the kind that is wanted throws this problem, and a broken one its own
+abbrev pub mismatch : Name → Val → End
+mismatch words (broken problem) = halt (thrown problem)
+mismatch words _ = halt (thrown words)
+
+-- where a list is wanted: its items, or an end in place of them
+pub data Listing : Type 0 where
+  listed : (vs : Vals) → Listing
+  unlisted : (o : End) → Listing
+
+abbrev pub listing_by : Name → Val → Option Vals → Listing
+listing_by words v (Some vs) = listed vs
+listing_by words v None = unlisted (mismatch words v)
+
+-- what a For goes over
+abbrev pub listing_of : End → Listing
+listing_of (value v) = listing_by (codes "not a list") v (items_in v)
+listing_of (halt h) = unlisted (halt h)
+
+-- items, where there are as many as patterns
+abbrev pub taken : List Pattern → Option Vals → Option Vals
+taken ps (Some vs) = cond (as_many ps vs) (Some vs) None
+taken ps None = None
+
+-- what a list of patterns takes: the items of a list of as many
+abbrev pub parts_of : List Pattern → End → Listing
+parts_of ps (value v) = listing_by (codes "wrong list") v (taken ps (items_in v))
+parts_of ps (halt h) = unlisted (halt h)
+
+-- a definition with a list of patterns binds them all or none
+abbrev pub parts_bound : List Pattern → Listing → At → At
+parts_bound ps (listed vs) a = matched_all ps vs a
+parts_bound ps (unlisted o) a = a
+
+-- and gives the value of its right side as it is
+abbrev pub parts_end : End → Listing → End
+parts_end o (listed vs) = o
+parts_end o (unlisted p) = p
+
 -- the slot that a turn makes next: they are numbered from 0 in order of making
 abbrev pub next_slot : At → SlotId
 next_slot a = record { event = a.event; index = a.slots; vat = a.vat }
@@ -131,6 +181,55 @@ abbrev pub same_end : Val → End → End
 same_end v (value w) = value (bool (same_as v w))
 same_end v (halt h) = halt h
 
+-- what a condition leads to: one of two ways, or an end
+pub data Choice : Type 0 where
+  goes : (q : Bool) → Choice
+  ends : (o : End) → Choice
+
+abbrev pub bool_in : Val → Option Bool
+bool_in (bool q) = Some q
+bool_in _ = None
+
+abbrev pub choice_by : Val → Option Bool → Choice
+choice_by v (Some q) = goes q
+choice_by v None = ends (mismatch (codes "not a truth value") v)
+
+abbrev pub choice_of : End → Choice
+choice_of (value v) = choice_by v (bool_in v)
+choice_of (halt h) = ends (halt h)
+
+-- the block of the way that is gone
+abbrev pub chosen : Bool → Trees → Trees → Trees
+chosen true first second = first
+chosen false first second = second
+
+abbrev pub thrown_by : Val → Option Name → End
+thrown_by v (Some problem) = halt (thrown problem)
+thrown_by v None = mismatch (codes "not a text") v
+
+-- a text is thrown as a problem
+abbrev pub thrown_end : End → End
+thrown_end (value v) = thrown_by v (text_in v)
+thrown_end (halt h) = halt h
+
+-- what a Try catches: a problem that was thrown, and no abandoned turn
+abbrev pub caught : End → Option Name
+caught (value v) = None
+caught (halt (thrown problem)) = Some problem
+caught (halt (abandoned why)) = None
+
+-- a block stands in a scope of its own
+abbrev pub entering : At → At
+entering a = record a { own_scope = false }
+
+-- whose names end with it
+abbrev pub leaving : At → At → At
+leaving a b = record b { nouns = a.nouns; own_scope = a.own_scope }
+
+-- names that a condition defines are not in scope when it is evaluated the next time
+abbrev pub again : At → At → At
+again a d = record d { nouns = a.nouns }
+
 -- a value, before how the rest ends
 abbrev pub gather_first : Val → Gather → Gather
 gather_first v (values vs) = values (and_val v vs)
@@ -159,6 +258,19 @@ mutual
     run_list : {k : ℕ} {ts : Trees} {a b : At} {g : Gather} → Args (k + 1) ts a g b → Runs k (list_tree ts) a (list_end g) b
     run_same_left : {k : ℕ} {l r : Tree} {a b : At} {h : Halt} → Ends (k + 1) l a (halt h) b → Runs k (same_tree l r) a (halt h) b
     run_same : {k : ℕ} {l r : Tree} {a b c : At} {v : Val} {o : End} → Ends (k + 1) l a (value v) b → Ends (k + 1) r b o c → Runs k (same_tree l r) a (same_end v o) c
+    run_define_list : {k : ℕ} {ps : List Pattern} {e : Tree} {a b : At} {o : End} → Ends (k + 1) e a o b → Runs k (define_list ps e) a (parts_end o (parts_of ps o)) (parts_bound ps (parts_of ps o) b)
+    run_hide : {k : ℕ} {ts : Trees} {a b : At} {o : End} → Block (k + 1) ts a o b → Runs k (hide ts) a o b
+    run_throw : {k : ℕ} {e : Tree} {a b : At} {o : End} → Ends (k + 1) e a o b → Runs k (throw_tree e) a (thrown_end o) b
+    run_if_goes : {k : ℕ} {c : Tree} {first second : Trees} {a b d : At} {o p : End} {q : Bool} → Ends (k + 1) c a o b → choice_of o ≡ goes q → Block (k + 1) (chosen q first second) b p d → Runs k (if_tree c first second) a p d
+    run_if_ends : {k : ℕ} {c : Tree} {first second : Trees} {a b : At} {o p : End} → Ends (k + 1) c a o b → choice_of o ≡ ends p → Runs k (if_tree c first second) a p b
+    run_while_again : {k : ℕ} {c : Tree} {body : Trees} {a b d e : At} {o p : End} {v : Val} → Ends (k + 1) c a o b → choice_of o ≡ goes true → Block (k + 1) body b (value v) d → Runs k (while_tree c body) (again a d) p e → Runs k (while_tree c body) a p e
+    run_while_halts : {k : ℕ} {c : Tree} {body : Trees} {a b d : At} {o : End} {h : Halt} → Ends (k + 1) c a o b → choice_of o ≡ goes true → Block (k + 1) body b (halt h) d → Runs k (while_tree c body) a (halt h) d
+    run_while_done : {k : ℕ} {c : Tree} {body : Trees} {a b : At} {o : End} → Ends (k + 1) c a o b → choice_of o ≡ goes false → Runs k (while_tree c body) a (value null) b
+    run_while_ends : {k : ℕ} {c : Tree} {body : Trees} {a b : At} {o p : End} → Ends (k + 1) c a o b → choice_of o ≡ ends p → Runs k (while_tree c body) a p b
+    run_for : {k : ℕ} {p : Pattern} {e : Tree} {body : Trees} {a b d : At} {o q : End} {vs : Vals} → Ends (k + 1) e a o b → listing_of o ≡ listed vs → Each (k + 1) p body vs b q d → Runs k (for_tree p e body) a q d
+    run_for_ends : {k : ℕ} {p : Pattern} {e : Tree} {body : Trees} {a b : At} {o q : End} → Ends (k + 1) e a o b → listing_of o ≡ unlisted q → Runs k (for_tree p e body) a q b
+    run_try : {k : ℕ} {body : Trees} {p : Pattern} {handler : Trees} {a b : At} {o : End} → Block (k + 1) body a o b → caught o ≡ None → Runs k (try_tree body p handler) a o b
+    run_try_caught : {k : ℕ} {body : Trees} {p : Pattern} {handler : Trees} {a b d : At} {o q : End} {problem : Name} → Block (k + 1) body a o b → caught o ≡ Some problem → Taking (k + 1) p (text problem) handler b q d → Runs k (try_tree body p handler) a q d
 
   -- trees from left to right, as arguments or as the items of a list
   pub data Args : ℕ → Trees → At → Gather → At → Type 0 where
@@ -171,3 +283,17 @@ mutual
     items_none : {k : ℕ} {v : Val} {a : At} → Items k v none a (value v) a
     items_next : {k : ℕ} {v w : Val} {t : Tree} {ts : Trees} {a b c : At} {o : End} → Ends k t a (value w) b → Items k w ts b o c → Items k v (and_then t ts) a o c
     items_halt : {k : ℕ} {v : Val} {t : Tree} {ts : Trees} {a b : At} {h : Halt} → Ends k t a (halt h) b → Items k v (and_then t ts) a (halt h) b
+
+  -- a block, in a scope of its own
+  pub data Block : ℕ → Trees → At → End → At → Type 0 where
+    in_block : {k : ℕ} {ts : Trees} {a b : At} {o : End} → Items k null ts (entering a) o b → Block k ts a o (leaving a b)
+
+  -- a block that takes a value: its pattern is bound first, in the block's own scope
+  pub data Taking : ℕ → Pattern → Val → Trees → At → End → At → Type 0 where
+    in_taking : {k : ℕ} {p : Pattern} {v : Val} {ts : Trees} {a b : At} {o : End} → Items k null ts (matched p v (entering a)) o b → Taking k p v ts a o (leaving a b)
+
+  -- a block that takes each of the values from the left, to the first that halts it
+  pub data Each : ℕ → Pattern → Trees → Vals → At → End → At → Type 0 where
+    each_none : {k : ℕ} {p : Pattern} {ts : Trees} {a : At} → Each k p ts no_vals a (value null) a
+    each_next : {k : ℕ} {p : Pattern} {ts : Trees} {v w : Val} {vs : Vals} {a b c : At} {o : End} → Taking k p v ts a (value w) b → Each k p ts vs b o c → Each k p ts (and_val v vs) a o c
+    each_halt : {k : ℕ} {p : Pattern} {ts : Trees} {v : Val} {vs : Vals} {a b : At} {h : Halt} → Taking k p v ts a (halt h) b → Each k p ts (and_val v vs) a (halt h) b

@@ -6,10 +6,10 @@ use Rattle.ids.specs.declared.names.SlotId.{SlotId}
 use Rattle.kernele.specs.Tree.{Name, Tree, Trees}
 use Rattle.kernele.specs.declared.tree.Pattern.{Pattern}
 use Rattle.kernele.specs.declared.tree.Pattern.TheVariants as pattern
-use Rattle.values.specs.Data.{Val}
+use Rattle.values.specs.Data.{Val, Vals, and_val}
 use Rattle.turn.specs.State.{Bind, lookup, Cell, top, slot_cell, State, same_cell, At}
 use Rattle.turn.specs.Outcomes.{End, value, halt, Gather}
-use Rattle.turn.specs.Rules.{sought_slot, next_slot, has_room, Ends, at_budget, at_depth, at_node, Runs, run_null, run_bool, run_int, run_text, run_noun, run_define, run_variable, run_assign, run_call_receiver, run_call, run_list, run_same_left, run_same, Args, args_none, args_next, args_halt, Items, items_none, items_next, items_halt}
+use Rattle.turn.specs.Rules.{Listing, listed, unlisted, parts_of, sought_slot, next_slot, has_room, Ends, at_budget, at_depth, at_node, Runs, run_null, run_bool, run_int, run_text, run_noun, run_define, run_variable, run_assign, run_call_receiver, run_call, run_list, run_same_left, run_same, run_define_list, run_hide, run_throw, run_if_goes, run_if_ends, run_while_again, run_while_halts, run_while_done, run_while_ends, run_for, run_for_ends, run_try, run_try_caught, Args, args_none, args_next, args_halt, Items, items_none, items_next, items_halt, Block, in_block, Taking, in_taking, Each, each_none, each_next, each_halt}
 use Rattle.turn.specs.Turn.{Delivery, Outcome, Delivers, opens, asks}
 
 -- a cell was read, or written
@@ -44,13 +44,22 @@ abbrev pub bound_touched : Bool → Name → List Touch
 bound_touched true x = put (top x) ∷ []
 bound_touched false x = []
 
-abbrev pub matched_touched : Pattern → At → List Touch
-matched_touched (pattern.Name x) a = bound_touched a.own_scope x
-matched_touched pattern.Ignore a = []
+abbrev pub matched_touched : Bool → Pattern → List Touch
+matched_touched own (pattern.Name x) = bound_touched own x
+matched_touched own pattern.Ignore = []
 
 abbrev pub defined_touched : Pattern → End → At → List Touch
-defined_touched p (value v) a = matched_touched p a
+defined_touched p (value v) a = matched_touched a.own_scope p
 defined_touched p (halt h) a = []
+
+-- and so does each of the patterns that take the items of a list
+abbrev pub all_touched : Bool → List Pattern → Vals → List Touch
+all_touched own (p ∷ ps) (and_val v vs) = matched_touched own p ++ all_touched own ps vs
+all_touched own _ _ = []
+
+abbrev pub parts_touched : List Pattern → Listing → At → List Touch
+parts_touched ps (listed vs) a = all_touched a.own_scope ps vs
+parts_touched ps (unlisted o) a = []
 
 -- a variable writes its new slot, and then its name is bound
 abbrev pub made_touched : Bool → Name → At → List Touch
@@ -81,16 +90,40 @@ abbrev mutual
   runs_touched (run_list r) = args_touched r
   runs_touched (run_same_left r) = ends_touched r
   runs_touched (run_same r u) = ends_touched r ++ ends_touched u
+  runs_touched (run_define_list {ps = ps} {b = b} {o = o} r) = ends_touched r ++ parts_touched ps (parts_of ps o) b
+  runs_touched (run_hide q) = block_touched q
+  runs_touched (run_throw r) = ends_touched r
+  runs_touched (run_if_goes r e q) = ends_touched r ++ block_touched q
+  runs_touched (run_if_ends r e) = ends_touched r
+  runs_touched (run_while_again r e q w) = (ends_touched r ++ block_touched q) ++ runs_touched w
+  runs_touched (run_while_halts r e q) = ends_touched r ++ block_touched q
+  runs_touched (run_while_done r e) = ends_touched r
+  runs_touched (run_while_ends r e) = ends_touched r
+  runs_touched (run_for r e q) = ends_touched r ++ each_touched q
+  runs_touched (run_for_ends r e) = ends_touched r
+  runs_touched (run_try q e) = block_touched q
+  runs_touched (run_try_caught q e w) = block_touched q ++ taking_touched w
 
   pub args_touched : {k : ℕ} {ts : Trees} {a b : At} {g : Gather} → Args k ts a g b → List Touch
   args_touched args_none = []
   args_touched (args_next r u) = ends_touched r ++ args_touched u
   args_touched (args_halt r) = ends_touched r
 
-abbrev pub items_touched : {k : ℕ} {v : Val} {ts : Trees} {a b : At} {o : End} → Items k v ts a o b → List Touch
-items_touched items_none = []
-items_touched (items_next r u) = ends_touched r ++ items_touched u
-items_touched (items_halt r) = ends_touched r
+  pub items_touched : {k : ℕ} {v : Val} {ts : Trees} {a b : At} {o : End} → Items k v ts a o b → List Touch
+  items_touched items_none = []
+  items_touched (items_next r u) = ends_touched r ++ items_touched u
+  items_touched (items_halt r) = ends_touched r
+
+  pub block_touched : {k : ℕ} {ts : Trees} {a b : At} {o : End} → Block k ts a o b → List Touch
+  block_touched (in_block r) = items_touched r
+
+  pub taking_touched : {k : ℕ} {p : Pattern} {v : Val} {ts : Trees} {a b : At} {o : End} → Taking k p v ts a o b → List Touch
+  taking_touched (in_taking r) = items_touched r
+
+  pub each_touched : {k : ℕ} {p : Pattern} {ts : Trees} {vs : Vals} {a b : At} {o : End} → Each k p ts vs a o b → List Touch
+  each_touched each_none = []
+  each_touched (each_next r u) = taking_touched r ++ each_touched u
+  each_touched (each_halt r) = taking_touched r
 
 -- of a turn: what its program touches
 abbrev pub delivery_touched : {d : Delivery} {e : EventName} {v : VatNo} {s : State} {n : ℕ} {o : Outcome} → Delivers d e v s n o → List Touch

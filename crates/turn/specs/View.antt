@@ -11,6 +11,7 @@ use Rattle.values.specs.declared.value.Value.{Value}
 use Rattle.values.specs.View.{val_of, vals_of}
 use Rattle.turn.specs.State.{Bind, fixed, slot, Nouns, top, slot_cell, Content, bound, held, State, At}
 use Rattle.turn.specs.Outcomes.{Cause, budget_spent, too_deep, too_large, Halt, thrown, abandoned, End, value, halt, Gather, values, halted}
+use Rattle.turn.specs.Rules.{Choice, goes, ends, Listing, listed, unlisted}
 use Rattle.kernele.specs.View.{program_of}
 use Rattle.turn.specs.Turn.{Delivery, opening, asked, Outcome}
 use Rattle.turn.specs.declared.delivery.Delivery as code-delivery
@@ -18,6 +19,10 @@ use Rattle.turn.specs.declared.delivery.Delivery.TheVariants as code-deliveries
 use Rattle.turn.specs.declared.delivery.Ended.{Ended}
 use Rattle.turn.specs.declared.delivery.Ended.TheVariants as code-ended
 use Rattle.turn.specs.declared.delivery.Outcome as code-outcome
+use Rattle.turn.specs.declared.wanted.Choosing.{Choosing}
+use Rattle.turn.specs.declared.wanted.Choosing.TheVariants as code-choosing
+use Rattle.turn.specs.declared.wanted.Listing as code-list
+use Rattle.turn.specs.declared.wanted.Listing.TheVariants as code-listing
 use Rattle.turn.specs.declared.heap.VatState.{VatState}
 use Rattle.turn.specs.declared.heap.Binding.{Binding}
 use Rattle.turn.specs.declared.heap.Binding.TheVariants as binding
@@ -92,3 +97,12 @@ ended_of (code-ended.Abandoned why) = halt (abandoned (cause_of why))
 
 abbrev pub outcome_of : code-outcome.Outcome → Outcome
 outcome_of o = record { state = state_of o.state; result = val_of o.result; end = ended_of o.ended; left = o.steps }
+
+-- what a condition leads to, and what stands where a list is wanted
+abbrev pub choice_view : Choosing → Choice
+choice_view (code-choosing.Goes q) = goes q
+choice_view (code-choosing.Ends e) = ends (end_of e)
+
+abbrev pub listing_view : code-list.Listing → Listing
+listing_view (code-listing.Listed items) = listed (vals_of items.value.items)
+listing_view (code-listing.Ends e) = unlisted (end_of e)

@@ -1,26 +1,23 @@
-// Evaluation: one small function for each construct.
+// Evaluation: one small function for each construct; those that have blocks are in `control`.
 ghost use Rattle.std.specs.Prelude.{◌≡◌, ◌≤◌, IfOk};
-ghost use Rattle.kernele.specs.Tree.{define, variable, assign as assign_tree, call, list_tree, same_tree};
+ghost use Rattle.kernele.specs.Tree.{define, define_list, variable, assign as assign_tree, call, list_tree, same_tree, throw_tree};
 ghost use Rattle.kernele.specs.View.{tree_of, trees_of};
-ghost use Rattle.values.specs.Data.{null, int};
-ghost use Rattle.values.specs.Replies.{text_reply};
-ghost use Rattle.values.specs.View.{val_of, reply_of};
-ghost use Rattle.turn.specs.Outcomes.{value as value_end, reply_end};
-ghost use Rattle.turn.specs.Rules.{Ends, Runs, Args, Items, list_end as list_end_of, call_end as call_end_of};
+ghost use Rattle.values.specs.Data.{null};
+ghost use Rattle.turn.specs.Rules.{Ends, Runs, Args, Items};
 ghost use Rattle.turn.specs.View.{at, end_of, gather_of};
 
+use crate::control::{eval_for, eval_hide, eval_if, eval_try, eval_while};
 use crate::end::{Abandon, End, Gathered, Halt};
-use crate::nouns::{assign, declare, match_pattern, noun_end};
+use crate::nouns::{assign, bind_parts, declare, match_pattern, noun_end};
+use crate::results::{call_end, int_end, list_end, text_end};
+use crate::wanted::thrown;
 use crate::working::Working;
 use ids::text::Text;
 use kernele::tree::{Expr, Pattern};
-use std::alloc::{AllocError, Global};
+use std::alloc::AllocError;
 use std::sync::Arc;
-use values::calls::data_call;
-use values::lists::list_value;
 use values::sameness::same;
-use values::texts::text_value;
-use values::value::{Answer, Value};
+use values::value::Value;
 
 /// The deepest level at which a node may begin.
 const DEEPEST: u32 = 1000;
@@ -59,6 +56,13 @@ pub fn eval(w: &mut Working, e: &Expr, level: u32) -> Result<End, AllocError>
         Expr::Call(receiver, verb, args) => eval_call(w, receiver, verb, args, level),
         Expr::List(items) => eval_list(w, items, level),
         Expr::Same(left, right) => eval_same(w, left, right, level),
+        Expr::DefList(patterns, right) => eval_def_list(w, patterns, right, level),
+        Expr::Hide(body) => eval_hide(w, body, level),
+        Expr::If(condition, first, second) => eval_if(w, condition, first, second, level),
+        Expr::While(condition, body) => eval_while(w, condition, body, level),
+        Expr::For(pattern, list, body) => eval_for(w, pattern, list, body, level),
+        Expr::Try(body, pattern, handler) => eval_try(w, body, pattern, handler, level),
+        Expr::Throw(problem) => eval_throw(w, problem, level),
     }
 }
 
@@ -76,6 +80,21 @@ fn eval_def(
     let v = value!(eval(w, right, level + 1)?);
     match_pattern(w, pattern, &v)?;
     Ok(End::Value(v))
+}
+
+#[cycle(evaluate)]
+fn eval_def_list(
+    w: &mut Working,
+    patterns: &Arc<Vec<Pattern>>,
+    right: &Arc<Expr>,
+    level: u32,
+) -> Result<End, AllocError>
+    requires { level ≤ 1000 }
+    ensures { IfOk result (λ o. Runs level (define_list patterns.now.value.items (tree_of right.now.value))
+        (at w.old) (end_of o) (at w.new)) }
+{
+    let v = value!(eval(w, right, level + 1)?);
+    bind_parts(w, patterns, v)
 }
 
 #[cycle(evaluate)]
@@ -146,6 +165,16 @@ fn eval_same(
     Ok(End::Value(Value::Bool(same(&l, &r))))
 }
 
+#[cycle(evaluate)]
+fn eval_throw(w: &mut Working, problem: &Arc<Expr>, level: u32) -> Result<End, AllocError>
+    requires { level ≤ 1000 }
+    ensures { IfOk result (λ o. Runs level (throw_tree (tree_of problem.now.value))
+        (at w.old) (end_of o) (at w.new)) }
+{
+    let v = value!(eval(w, problem, level + 1)?);
+    thrown(w.alloc, &v)
+}
+
 /// Evaluates arguments or items of a list from left to right.
 #[cycle(evaluate)]
 fn eval_args(w: &mut Working, args: &[Expr], level: u32) -> Result<Gathered, AllocError>
@@ -163,6 +192,7 @@ fn eval_args(w: &mut Working, args: &[Expr], level: u32) -> Result<Gathered, All
 }
 
 /// Evaluates the items of a block in order: the last one's value, or null.
+#[cycle(evaluate)]
 pub fn eval_items(w: &mut Working, items: &[Expr], level: u32) -> Result<End, AllocError>
     requires { level ≤ 1001 }
     ensures { IfOk result (λ o. Items level null (trees_of items.now) (at w.old) (end_of o) (at w.new)) }
@@ -175,51 +205,4 @@ pub fn eval_items(w: &mut Working, items: &[Expr], level: u32) -> Result<End, Al
         }
     }
     Ok(End::Value(last))
-}
-
-fn int_end(n: i64) -> End
-    ensures { end_of result ≡ value_end (int n) }
-{
-    End::Value(Value::Int(n))
-}
-
-fn text_end(alloc: Global, text: &Text) -> Result<End, AllocError>
-    ensures { IfOk result (λ o. end_of o ≡ reply_end (text_reply text.now)) }
-{
-    Ok(answer_end(text_value(alloc, text)?))
-}
-
-fn list_end(alloc: Global, gathered: Gathered) -> Result<End, AllocError>
-    ensures { IfOk result (λ o. end_of o ≡ list_end_of (gather_of gathered)) }
-{
-    match gathered {
-        Gathered::Values(values) => Ok(answer_end(list_value(alloc, values)?)),
-        Gathered::Halt(halt) => Ok(End::Halt(halt)),
-    }
-}
-
-fn call_end(
-    alloc: Global,
-    receiver: &Value,
-    verb: &Text,
-    gathered: Gathered,
-) -> Result<End, AllocError>
-    ensures { IfOk result (λ o. end_of o ≡ call_end_of (val_of receiver.now) verb.now (gather_of gathered)) }
-{
-    match gathered {
-        Gathered::Values(args) => {
-            Ok(answer_end(data_call(alloc, receiver, verb.as_str(), args.as_slice())?))
-        }
-        Gathered::Halt(halt) => Ok(End::Halt(halt)),
-    }
-}
-
-/// An answer of data as an end.
-fn answer_end(answer: Answer) -> End
-    ensures { end_of result ≡ reply_end (reply_of answer) }
-{
-    match answer {
-        Answer::Gives(value) => End::Value(value),
-        Answer::Throws(problem) => End::Halt(Halt::Thrown(problem)),
-    }
 }

@@ -4,13 +4,19 @@
 //! the one that the definitions give: `specs/Turn.antt` for the turn, `specs/Rules.antt` for the evaluation in it.
 #![tactic(auto)]
 
+pub mod blocks;
+pub mod control;
 pub mod delivery;
 pub mod end;
 pub mod eval;
 pub mod heap;
 pub mod nouns;
+pub mod results;
 #[cfg(test)]
 mod tests;
+#[cfg(test)]
+mod tests_of_control;
 pub mod theorems;
 pub mod ticket;
+pub mod wanted;
 pub mod working;

@@ -1,16 +1,18 @@
 // Nouns: what they stand for, and how they are bound, declared and assigned.
-ghost use Rattle.std.specs.Prelude.{◌≡◌, ◌<◌, IfOk, OnOk};
+ghost use Rattle.std.specs.Prelude.{◌≡◌, ◌<◌, IfOk, IfSome, OnOk, length};
 ghost use Rattle.std.specs.Option.{option_map};
-ghost use Rattle.values.specs.View.{val_of};
+ghost use Rattle.values.specs.Replies.{items_in};
+ghost use Rattle.values.specs.View.{val_of, vals_of};
 ghost use Rattle.turn.specs.State.{lookup, read, slot_cell};
 ghost use Rattle.turn.specs.Outcomes.{value as value_end};
-ghost use Rattle.turn.specs.Rules.{binding as binding_of, matched, sought, sought_slot, held_end, undefined_noun};
+ghost use Rattle.turn.specs.Rules.{binding as binding_of, matched, matched_all, taken, parts_of, parts_bound, parts_end, sought, sought_slot, held_end, undefined_noun};
 ghost use Rattle.turn.specs.Rules.{next_slot, slot_made, declared, declared_end, assigned, assigned_end};
 ghost use Rattle.turn.specs.Rules.{noun_end as noun_end_of};
 ghost use Rattle.turn.specs.View.{at, bind_of, end_of, nouns_of, state_of};
 
 use crate::end::{Abandon, End, Halt};
 use crate::heap::Binding;
+use crate::wanted::mismatch;
 use crate::working::{Noun, Working};
 use ids::names::SlotId;
 use ids::text::Text;
@@ -93,6 +95,50 @@ pub fn match_pattern(w: &mut Working, pattern: &Pattern, value: &Value) -> Resul
         Pattern::Name(name) => bind(w, name, Binding::Fixed(value.share()?)),
         Pattern::Ignore => Ok(()),
     }
+}
+
+/// Binds what a list of patterns names, where the value is a list of as many items.
+pub fn bind_parts(w: &mut Working, patterns: &[Pattern], value: Value) -> Result<End, AllocError>
+    ensures ends { IfOk result (λ o. end_of o
+        ≡ parts_end (value_end (val_of value)) (parts_of patterns.now (value_end (val_of value)))) }
+    ensures binds { IfOk result (λ o. at w.new
+        ≡ parts_bound patterns.now (parts_of patterns.now (value_end (val_of value))) (at w.old)) }
+{
+    match parts(patterns, &value) {
+        Some(values) => {
+            match_all(w, patterns, values)?;
+            Ok(End::Value(value))
+        }
+        None => mismatch(w.alloc, "wrong list", &value),
+    }
+}
+
+/// The items of a list, where there are as many as patterns.
+fn parts<'a>(patterns: &[Pattern], value: &'a Value) -> Option<&'a [Value]>
+    ensures items { option_map (λ s. vals_of s.now) result ≡ taken patterns.now (items_in (val_of value.now)) }
+    ensures count { IfSome result (λ s. length s.now ≡ length patterns.now) }
+{
+    match value.as_items() {
+        Some(values) => {
+            if values.len() == patterns.len() {
+                Some(values)
+            } else {
+                None
+            }
+        }
+        None => None,
+    }
+}
+
+/// Binds what patterns name, from the left.
+fn match_all(w: &mut Working, patterns: &[Pattern], values: &[Value]) -> Result<(), AllocError>
+    requires { length values.now ≡ length patterns.now }
+    ensures { OnOk result (at w.new ≡ matched_all patterns.now (vals_of values.now) (at w.old)) }
+{
+    for i in 0..patterns.len() {
+        match_pattern(w, &patterns[i], &values[i])?;
+    }
+    Ok(())
 }
 
 /// Binds a name in the innermost scope.

@@ -13,27 +13,27 @@ use std::test::Fail;
 use values::sameness::same;
 use values::value::Value;
 
-fn word(alloc: Global, text: &str) -> Result<Text, AllocError> {
+pub(crate) fn word(alloc: Global, text: &str) -> Result<Text, AllocError> {
     Text::new(alloc, text)
 }
 
-fn program(alloc: Global, items: Vec<Expr>) -> Result<Program, AllocError> {
+pub(crate) fn program(alloc: Global, items: Vec<Expr>) -> Result<Program, AllocError> {
     Ok(Program(Block(Arc::new(alloc, items)?)))
 }
 
-fn define(alloc: Global, name: &str, right: Expr) -> Result<Expr, AllocError> {
+pub(crate) fn define(alloc: Global, name: &str, right: Expr) -> Result<Expr, AllocError> {
     Ok(Expr::Def(Pattern::Name(word(alloc, name)?), Arc::new(alloc, right)?))
 }
 
-fn noun(alloc: Global, name: &str) -> Result<Expr, AllocError> {
+pub(crate) fn noun(alloc: Global, name: &str) -> Result<Expr, AllocError> {
     Ok(Expr::Noun(word(alloc, name)?))
 }
 
-fn var(alloc: Global, name: &str, right: Expr) -> Result<Expr, AllocError> {
+pub(crate) fn var(alloc: Global, name: &str, right: Expr) -> Result<Expr, AllocError> {
     Ok(Expr::Var(word(alloc, name)?, Arc::new(alloc, right)?))
 }
 
-fn assign(alloc: Global, name: &str, right: Expr) -> Result<Expr, AllocError> {
+pub(crate) fn assign(alloc: Global, name: &str, right: Expr) -> Result<Expr, AllocError> {
     Ok(Expr::Assign(word(alloc, name)?, Arc::new(alloc, right)?))
 }
 
@@ -62,7 +62,7 @@ fn nested(alloc: Global, depth: u32) -> Result<Expr, AllocError> {
 }
 
 /// Runs a turn by a ticket.
-fn run(state: VatState, delivery: Delivery, budget: u32) -> Result<Outcome, AllocError> {
+pub(crate) fn run(state: VatState, delivery: Delivery, budget: u32) -> Result<Outcome, AllocError> {
     let ticket = Ticket::new(Out {
         event: EventName(2),
         message: MsgId {
@@ -83,23 +83,28 @@ fn run(state: VatState, delivery: Delivery, budget: u32) -> Result<Outcome, Allo
     }
 }
 
-fn asked(alloc: Global, state: VatState, e: Expr, budget: u32) -> Result<Outcome, AllocError> {
+pub(crate) fn asked(
+    alloc: Global,
+    state: VatState,
+    e: Expr,
+    budget: u32,
+) -> Result<Outcome, AllocError> {
     let items = vec![in alloc; e]?;
     run(state, Delivery::Asked(program(alloc, items)?), budget)
 }
 
-fn broken(alloc: Global, problem: &str) -> Result<Value, AllocError> {
+pub(crate) fn broken(alloc: Global, problem: &str) -> Result<Value, AllocError> {
     Ok(Value::Broken(word(alloc, problem)?))
 }
 
-fn is_abandoned(ended: &Ended, why: Abandon) -> bool {
+pub(crate) fn is_abandoned(ended: &Ended, why: Abandon) -> bool {
     match ended {
         Ended::Abandoned(cause) => *cause == why,
         Ended::Value(_) | Ended::Problem(_) => false,
     }
 }
 
-fn has_top(state: &VatState, name: &Text, value: &Value) -> bool {
+pub(crate) fn has_top(state: &VatState, name: &Text, value: &Value) -> bool {
     match state.top(name) {
         Some(Binding::Fixed(bound)) => same(bound, value),
         Some(Binding::Slot(_)) | None => false,
@@ -107,7 +112,7 @@ fn has_top(state: &VatState, name: &Text, value: &Value) -> bool {
 }
 
 /// A slot of the event that `run` runs.
-fn slot_of_run(index: u32) -> SlotId {
+pub(crate) fn slot_of_run(index: u32) -> SlotId {
     SlotId {
         event: EventName(2),
         index,
@@ -115,7 +120,7 @@ fn slot_of_run(index: u32) -> SlotId {
     }
 }
 
-fn holds(state: &VatState, slot: SlotId, value: &Value) -> bool {
+pub(crate) fn holds(state: &VatState, slot: SlotId, value: &Value) -> bool {
     match state.read_slot(slot) {
         Some(held) => same(held, value),
         None => false,

@@ -1,6 +1,6 @@
 // What holds of evaluation and of turns: each function's contract is a law.
 ghost use Rattle.turn.specs.Laws.{AtMostOneOutcome, AtMostOneDelivery, Frame, DeliveryFrame};
-ghost use Rattle.turn.specs.Laws.{OthersStay, OthersStayInTurns, StepsOnlyFall, WithinBudget};
+ghost use Rattle.turn.specs.Laws.{OthersStay, OthersStayInTurns, StepsOnlyFall, WithinBudget, NamesAreOnlyAdded};
 
 /// A tree has at most one outcome.
 pub fn at_most_one_outcome()
@@ -40,4 +40,9 @@ pub fn steps_only_fall()
 /// A delivery leaves no more steps than its budget.
 pub fn within_budget()
     ensures { WithinBudget }
+{}
+
+/// A tree adds newer names to the scopes, and takes none away.
+pub fn names_are_only_added()
+    ensures { NamesAreOnlyAdded }
 {}

@@ -1,0 +1,67 @@
+// What literals, lists and calls of data give, as ends.
+ghost use Rattle.std.specs.Prelude.{◌≡◌, IfOk};
+ghost use Rattle.values.specs.Data.{int};
+ghost use Rattle.values.specs.Replies.{text_reply};
+ghost use Rattle.values.specs.View.{val_of, reply_of};
+ghost use Rattle.turn.specs.Outcomes.{value as value_end, reply_end};
+ghost use Rattle.turn.specs.Rules.{list_end as list_end_of, call_end as call_end_of};
+ghost use Rattle.turn.specs.View.{end_of, gather_of};
+
+use crate::end::{End, Gathered, Halt};
+use ids::text::Text;
+use std::alloc::{AllocError, Global};
+use values::calls::data_call;
+use values::lists::list_value;
+use values::texts::text_value;
+use values::value::{Answer, Value};
+
+/// What an integer literal gives.
+pub fn int_end(n: i64) -> End
+    ensures { end_of result ≡ value_end (int n) }
+{
+    End::Value(Value::Int(n))
+}
+
+/// What a text literal gives.
+pub fn text_end(alloc: Global, text: &Text) -> Result<End, AllocError>
+    ensures { IfOk result (λ o. end_of o ≡ reply_end (text_reply text.now)) }
+{
+    Ok(answer_end(text_value(alloc, text)?))
+}
+
+/// What a list literal gives, once its items are there.
+pub fn list_end(alloc: Global, gathered: Gathered) -> Result<End, AllocError>
+    ensures { IfOk result (λ o. end_of o ≡ list_end_of (gather_of gathered)) }
+{
+    match gathered {
+        Gathered::Values(values) => Ok(answer_end(list_value(alloc, values)?)),
+        Gathered::Halt(halt) => Ok(End::Halt(halt)),
+    }
+}
+
+/// What a call on data gives, once its arguments are there.
+pub fn call_end(
+    alloc: Global,
+    receiver: &Value,
+    verb: &Text,
+    gathered: Gathered,
+) -> Result<End, AllocError>
+    ensures { IfOk result (λ o. end_of o ≡ call_end_of (val_of receiver.now) verb.now (gather_of gathered)) }
+{
+    match gathered {
+        Gathered::Values(args) => {
+            Ok(answer_end(data_call(alloc, receiver, verb.as_str(), args.as_slice())?))
+        }
+        Gathered::Halt(halt) => Ok(End::Halt(halt)),
+    }
+}
+
+/// An answer of data as an end.
+fn answer_end(answer: Answer) -> End
+    ensures { end_of result ≡ reply_end (reply_of answer) }
+{
+    match answer {
+        Answer::Gives(value) => End::Value(value),
+        Answer::Throws(problem) => End::Halt(Halt::Thrown(problem)),
+    }
+}
