@@ -1,7 +1,7 @@
 -- Counting nodes and depth.
 use Rattle.std.proofs.Common.{◌≡◌, ℕ, ◌+◌, ◌-◌, ◌≤◌, Option, Some, None, Bool, true, false, cond, arith, rules}
 use Rattle.std.specs.Prelude.{SomeIff, IsTrue, nat_lt, is_some}
-use Rattle.kernele.specs.Tree.{Tree, null_tree, bool_tree, int_tree, text_tree, noun, define, variable, assign, call, list_tree, same_tree, Trees}
+use Rattle.kernele.specs.Tree.{Tree, null_tree, bool_tree, int_tree, text_tree, noun, define, variable, assign, call, list_tree, same_tree, define_list, hide, if_tree, while_tree, for_tree, try_tree, throw_tree, Trees}
 use Rattle.kernele.specs.Scope.{nodes, nodes_in, depth, depth_in, Scopes, Checked, checked_all, checked_program}
 
 -- a tree is a node
@@ -17,6 +17,13 @@ some_node (assign x e) = omega arith
 some_node (call r verb args) = omega arith
 some_node (list_tree items) = omega arith
 some_node (same_tree l r) = omega arith
+some_node (define_list ps e) = omega arith
+some_node (hide body) = omega arith
+some_node (if_tree c first second) = omega arith
+some_node (while_tree c body) = omega arith
+some_node (for_tree p e body) = omega arith
+some_node (try_tree body p handler) = omega arith
+some_node (throw_tree e) = omega arith
 
 -- a tree has a depth
 pub some_depth : (t : Tree) → 1 ≤ depth t
@@ -31,6 +38,13 @@ some_depth (assign x e) = omega arith
 some_depth (call r verb args) = omega arith
 some_depth (list_tree items) = omega arith
 some_depth (same_tree l r) = omega arith
+some_depth (define_list ps e) = omega arith
+some_depth (hide body) = omega arith
+some_depth (if_tree c first second) = omega arith
+some_depth (while_tree c body) = omega arith
+some_depth (for_tree p e body) = omega arith
+some_depth (try_tree body p handler) = omega arith
+some_depth (throw_tree e) = omega arith
 
 -- what is left of a number after some nodes is what is left after more of a greater number
 pub left_after : (o : Option ℕ) (more part whole left limit : ℕ) → whole ≡ part + more → limit ≡ left + more → SomeIff o (part ≤ left) (left - part) → SomeIff o (whole ≤ limit) (limit - whole)

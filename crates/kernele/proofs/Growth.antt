@@ -1,7 +1,7 @@
 -- What a check adds to the scopes.
 use Rattle.std.proofs.Common.{◌≡◌, List, [], ◌∷◌, ◌++◌, Bool, true, false, Option, Some, None, Ok, Err, ap, sym, refl, ◌∙◌, cond}
-use Rattle.kernele.specs.Tree.{Name, Tree, null_tree, bool_tree, int_tree, text_tree, noun, define, variable, assign, call, list_tree, same_tree, Trees, none, and_then}
-use Rattle.kernele.specs.Scope.{Names, Scopes, Refusal, Checked, in_turn, added, bound, assigned, assigned_to, kind_in, checked, checked_all, with_names, with_name, defined_name, variable_name, name_of, own_names, own_names_in}
+use Rattle.kernele.specs.Tree.{Name, Tree, null_tree, bool_tree, int_tree, text_tree, noun, define, variable, assign, call, list_tree, same_tree, define_list, hide, if_tree, while_tree, for_tree, try_tree, throw_tree, Trees, none, and_then}
+use Rattle.kernele.specs.Scope.{Names, Scopes, Refusal, Checked, in_turn, added, bound, all_bound, entered, left_for, in_block, checked_with, assigned, assigned_to, kind_in, checked, checked_all, with_names, with_name, defined_name, variable_name, name_of, names_of_all, own_names, own_names_in}
 use Rattle.kernele.specs.declared.tree.Pattern.{Pattern}
 use Rattle.kernele.specs.declared.tree.Pattern.TheVariants as pattern
 use Rattle.kernele.specs.declared.naming.Kind.{Kind}
@@ -55,6 +55,16 @@ bound_grows : (p : Pattern) (s r : Scopes) → bound p s ≡ Ok r → r ≡ grow
 bound_grows (pattern.Name x) s r e = added_grows (defined_name x) s r e
 bound_grows pattern.Ignore s r e = same_scopes e
 
+-- a definition of a list adds the names of its patterns
+all_bound_grow : (ps : List Pattern) (s r : Scopes) → all_bound ps s ≡ Ok r → r ≡ grown (names_of_all ps) s
+all_bound_grow [] s r e = same_scopes e
+all_bound_grow (p ∷ ps) s r e = in_both (bound p s) (all_bound ps) (name_of p) (names_of_all ps) s r (λ q. bound_grows p s q) (λ q. all_bound_grow ps q r) e
+
+-- a block adds nothing
+block_grows : (inside : Checked) (s r : Scopes) → left_for s inside ≡ Ok r → r ≡ s
+block_grows (Ok inner) s r e = same_scopes e
+block_grows (Err f) s r e = absurd (cc)
+
 -- an assignment adds nothing
 assigned_grows_case : (o : Option Kind) (x : Name) (s r : Scopes) → assigned_to o x s ≡ Ok r → r ≡ s
 assigned_grows_case None x s r e = absurd (cc)
@@ -78,6 +88,18 @@ mutual
   grows (call t verb args) s r e = in_both (checked t s) (checked_all args) (own_names t) (own_names_in args) s r (grows t s) (λ q. all_grow args q r) e
   grows (list_tree items) s r e = all_grow items s r e
   grows (same_tree t u) s r e = in_both (checked t s) (checked u) (own_names t) (own_names u) s r (grows t s) (λ q. grows u q r) e
+  grows (define_list ps t) s r e = in_both (checked t s) (all_bound ps) (own_names t) (names_of_all ps) s r (grows t s) (λ q. all_bound_grow ps q r) e
+  grows (hide body) s r e = block_grows (checked_all body (entered s)) s r e
+  grows (if_tree t first second) s r e =
+      in_first (in_turn (checked t s) (in_block (checked_all first))) (in_block (checked_all second)) (own_names t) s r
+      (λ p. in_first (checked t s) (in_block (checked_all first)) (own_names t) s p (grows t s) (λ q. block_grows (checked_all first (entered q)) q p))
+      (λ q. block_grows (checked_all second (entered q)) q r) e
+  grows (while_tree t body) s r e = in_first (checked t s) (in_block (checked_all body)) (own_names t) s r (grows t s) (λ q. block_grows (checked_all body (entered q)) q r) e
+  grows (for_tree p t body) s r e = in_first (checked t s) (in_block (checked_with p (checked_all body))) (own_names t) s r (grows t s) (λ q. block_grows (checked_with p (checked_all body) (entered q)) q r) e
+  grows (try_tree body p handler) s r e =
+      in_first (in_block (checked_all body) s) (in_block (checked_with p (checked_all handler))) [] s r
+      (λ q. block_grows (checked_all body (entered s)) s q) (λ q. block_grows (checked_with p (checked_all handler) (entered q)) q r) e
+  grows (throw_tree t) s r e = grows t s r e
 
   -- so do trees in order
   pub all_grow : (ts : Trees) (s r : Scopes) → checked_all ts s ≡ Ok r → r ≡ grown (own_names_in ts) s

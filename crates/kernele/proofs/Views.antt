@@ -1,9 +1,10 @@
 -- A node that holds a vector stands for a tree of the vector's trees.
 use Rattle.std.proofs.Common.{◌≡◌, List, ℕ, refl, ap, ◌∙◌}
-use Rattle.kernele.specs.Tree.{call, list_tree, and_then}
+use Rattle.kernele.specs.Tree.{call, list_tree, hide, if_tree, while_tree, for_tree, try_tree, and_then}
 use Rattle.kernele.specs.View.{tree_of, trees_of, trees_of_row}
 use Rattle.kernele.specs.declared.tree.Expr as code
 use Rattle.kernele.specs.declared.tree.Expr.{Expr}
+use Rattle.kernele.specs.declared.tree.Pattern.{Pattern}
 use Rattle.std.specs.declared.sync.Arc.{Arc}
 use Rattle.std.specs.declared.vec.Vec.{Vec}
 use Rattle.std.specs.declared.alloc.Global.{Global}
@@ -20,3 +21,18 @@ tree_of-Call r verb args = ap (call (tree_of r.value) verb) (trees_row args.valu
 
 pub tree_of-List : (items : Arc (Vec Expr Global) Global) → tree_of (code.List items) ≡ list_tree (trees_of items.value.items)
 tree_of-List items = ap list_tree (trees_row items.value)
+
+pub tree_of-Hide : (body : Arc (Vec Expr Global) Global) → tree_of (code.Hide body) ≡ hide (trees_of body.value.items)
+tree_of-Hide body = ap hide (trees_row body.value)
+
+pub tree_of-If : (c : Arc Expr Global) (first second : Arc (Vec Expr Global) Global) → tree_of (code.If c first second) ≡ if_tree (tree_of c.value) (trees_of first.value.items) (trees_of second.value.items)
+tree_of-If c first second = ap (λ ts. if_tree (tree_of c.value) ts (trees_of_row (code.TheBlock.hidden-the_row-Expr-0 second.value))) (trees_row first.value) ∙ ap (if_tree (tree_of c.value) (trees_of first.value.items)) (trees_row second.value)
+
+pub tree_of-While : (c : Arc Expr Global) (body : Arc (Vec Expr Global) Global) → tree_of (code.While c body) ≡ while_tree (tree_of c.value) (trees_of body.value.items)
+tree_of-While c body = ap (while_tree (tree_of c.value)) (trees_row body.value)
+
+pub tree_of-For : (p : Pattern) (e : Arc Expr Global) (body : Arc (Vec Expr Global) Global) → tree_of (code.For p e body) ≡ for_tree p (tree_of e.value) (trees_of body.value.items)
+tree_of-For p e body = ap (for_tree p (tree_of e.value)) (trees_row body.value)
+
+pub tree_of-Try : (body : Arc (Vec Expr Global) Global) (p : Pattern) (handler : Arc (Vec Expr Global) Global) → tree_of (code.Try body p handler) ≡ try_tree (trees_of body.value.items) p (trees_of handler.value.items)
+tree_of-Try body p handler = ap (λ ts. try_tree ts p (trees_of_row (code.TheBlock.hidden-the_row-Expr-0 handler.value))) (trees_row body.value) ∙ ap (try_tree (trees_of body.value.items) p) (trees_row handler.value)

@@ -2,11 +2,12 @@
 use Rattle.std.proofs.Common.{◌≡◌, ℕ, ◌+◌, ◌<◌, ◌≤◌, List, [], ◌++◌, ap, sym, ◌∙◌, length, drop, get_or, add-one, suc, append_assoc, append-nil}
 use Rattle.std.proofs.Math.Seq.{drop-cons}
 use Rattle.std.proofs.lemmas.List.{drop_all}
-use Rattle.kernele.specs.Tree.{Name, Tree, call, list_tree, Trees, none, and_then}
+use Rattle.kernele.specs.Tree.{Name, Tree, call, list_tree, hide, if_tree, while_tree, for_tree, try_tree, Trees, none, and_then}
 use Rattle.kernele.specs.View.{tree_of, trees_of}
-use Rattle.kernele.proofs.Views.{tree_of-Call, tree_of-List}
+use Rattle.kernele.proofs.Views.{tree_of-Call, tree_of-List, tree_of-Hide, tree_of-If, tree_of-While, tree_of-For, tree_of-Try}
 use Rattle.kernele.specs.declared.tree.Expr as code
 use Rattle.kernele.specs.declared.tree.Expr.{Expr}
+use Rattle.kernele.specs.declared.tree.Pattern.{Pattern}
 use Rattle.std.specs.declared.sync.Arc.{Arc}
 use Rattle.std.specs.declared.vec.Vec.{Vec}
 use Rattle.std.specs.declared.alloc.Global.{Global}
@@ -22,6 +23,44 @@ tree_is_call {x = x} r verb args is receiver held items =
 pub tree_is_list : {e : Expr} {v : Vec Expr Global} {xs : List Expr} (items : Arc (Vec Expr Global) Global) → e ≡ code.List items → v ≡ items.value → xs ≡ v.items → tree_of e ≡ list_tree (trees_of xs)
 tree_is_list items is held slice =
     ap tree_of is ∙ tree_of-List items ∙ ap (λ ys. list_tree (trees_of ys)) (sym (slice ∙ ap (λ w. w.items) held))
+
+-- the tree of a hidden block, from the slice of its items
+pub tree_is_hide : {e : Expr} {v : Vec Expr Global} {xs : List Expr} (body : Arc (Vec Expr Global) Global) → e ≡ code.Hide body → v ≡ body.value → xs ≡ v.items → tree_of e ≡ hide (trees_of xs)
+tree_is_hide body is held slice =
+    ap tree_of is ∙ tree_of-Hide body ∙ ap (λ ys. hide (trees_of ys)) (sym (slice ∙ ap (λ w. w.items) held))
+
+-- the tree of an `if`, from the references to its parts
+pub tree_is_if : {e x : Expr} {v w : Vec Expr Global} {xs ys : List Expr} (condition : Arc Expr Global) (first second : Arc (Vec Expr Global) Global) → e ≡ code.If condition first second → x ≡ condition.value
+    → v ≡ first.value → xs ≡ v.items → w ≡ second.value → ys ≡ w.items → tree_of e ≡ if_tree (tree_of x) (trees_of xs) (trees_of ys)
+tree_is_if {x = x} {xs = xs} condition first second is test held slice held' slice' =
+    ap tree_of is ∙ tree_of-If condition first second
+    ∙ ap (λ y. if_tree (tree_of y) (trees_of first.value.items) (trees_of second.value.items)) (sym test)
+    ∙ ap (λ ys. if_tree (tree_of x) (trees_of ys) (trees_of second.value.items)) (sym (slice ∙ ap (λ u. u.items) held))
+    ∙ ap (λ ys. if_tree (tree_of x) (trees_of xs) (trees_of ys)) (sym (slice' ∙ ap (λ u. u.items) held'))
+
+-- the tree of a `while`, from the references to its parts
+pub tree_is_while : {e x : Expr} {v : Vec Expr Global} {xs : List Expr} (condition : Arc Expr Global) (body : Arc (Vec Expr Global) Global) → e ≡ code.While condition body → x ≡ condition.value → v ≡ body.value → xs ≡ v.items → tree_of e ≡ while_tree (tree_of x) (trees_of xs)
+tree_is_while {x = x} condition body is test held slice =
+    ap tree_of is ∙ tree_of-While condition body
+    ∙ ap (λ y. while_tree (tree_of y) (trees_of body.value.items)) (sym test)
+    ∙ ap (λ ys. while_tree (tree_of x) (trees_of ys)) (sym (slice ∙ ap (λ u. u.items) held))
+
+-- the tree of a `for`, from the references to its parts
+pub tree_is_for : {e x : Expr} {p : Pattern} {v : Vec Expr Global} {xs : List Expr} (pattern : Pattern) (list : Arc Expr Global) (body : Arc (Vec Expr Global) Global) → e ≡ code.For pattern list body → p ≡ pattern → x ≡ list.value → v ≡ body.value → xs ≡ v.items → tree_of e ≡ for_tree p (tree_of x) (trees_of xs)
+tree_is_for {x = x} {p = p} pattern list body is bound from held slice =
+    ap tree_of is ∙ tree_of-For pattern list body
+    ∙ ap (λ q. for_tree q (tree_of list.value) (trees_of body.value.items)) (sym bound)
+    ∙ ap (λ y. for_tree p (tree_of y) (trees_of body.value.items)) (sym from)
+    ∙ ap (λ ys. for_tree p (tree_of x) (trees_of ys)) (sym (slice ∙ ap (λ u. u.items) held))
+
+-- the tree of a `try`, from the references to its parts
+pub tree_is_try : {e : Expr} {p : Pattern} {v w : Vec Expr Global} {xs ys : List Expr} (body : Arc (Vec Expr Global) Global) (pattern : Pattern) (handler : Arc (Vec Expr Global) Global) → e ≡ code.Try body pattern handler → v ≡ body.value → xs ≡ v.items
+    → p ≡ pattern → w ≡ handler.value → ys ≡ w.items → tree_of e ≡ try_tree (trees_of xs) p (trees_of ys)
+tree_is_try {p = p} {xs = xs} body pattern handler is held slice bound held' slice' =
+    ap tree_of is ∙ tree_of-Try body pattern handler
+    ∙ ap (λ ys. try_tree (trees_of ys) pattern (trees_of handler.value.items)) (sym (slice ∙ ap (λ u. u.items) held))
+    ∙ ap (λ q. try_tree (trees_of xs) q (trees_of handler.value.items)) (sym bound)
+    ∙ ap (λ ys. try_tree (trees_of xs) p (trees_of ys)) (sym (slice' ∙ ap (λ u. u.items) held'))
 
 -- the trees from an index on: the one there, and those behind it
 pub trees_from : (xs : List Expr) (i : ℕ) (x : Expr) → i < length xs → x ≡ get_or xs i x → trees_of (drop i xs) ≡ and_then (tree_of x) (trees_of (drop (i + 1) xs))

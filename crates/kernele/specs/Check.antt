@@ -5,11 +5,13 @@ use Rattle.std.specs.Cmp.Lexicographic.{slice_cmp}
 use Rattle.std.specs.Option.{option_or}
 use Rattle.std.specs.BTreeMap.{BTreeMap, get}
 use Rattle.kernele.specs.Tree.{Name}
-use Rattle.kernele.specs.Scope.{Names, Scopes, unbound, assign_to_def, duplicate_name, too_deep, too_long, Checked}
+use Rattle.kernele.specs.Scope.{Names, Scopes, kind_in, unbound, assign_to_def, duplicate_name, too_deep, too_long, Checked}
 use Rattle.kernele.specs.declared.naming.Kind.{Kind}
 use Rattle.kernele.specs.declared.checking.CheckFault.{CheckFault}
 use Rattle.kernele.specs.declared.checking.CheckFault.TheVariants as fault
 use Rattle.kernele.specs.declared.checking.Outer.{Outer}
+use Rattle.kernele.specs.declared.checking.Around.{Around}
+use Rattle.kernele.specs.declared.checking.Around.TheVariants as around
 use Rattle.kernele.specs.declared.checking.Scopes as code
 
 -- a fault in words
@@ -42,6 +44,12 @@ Refuses fault.Memory checked = Unit {0}
 abbrev pub Gives : Result (Unit {0}) CheckFault → Scopes → Checked → Type 0
 Gives result s checked = MatchResult result (λ done. checked ≡ Ok s) (λ fault. Refuses fault checked)
 
--- the names that the program defined so far come before those that it found
+-- where the innermost scope has defined these names so far, and this lies around them: in its own scope a program's definitions
+-- come before the names that it found there; what lies around a block is all that is in scope where the block stands
+abbrev pub scopes_with : Around → Names → Scopes
+scopes_with (around.Program outer) defined = record { own = λ x. option_or (defined x) (names_of outer.own x); around = names_of outer.around }
+scopes_with (around.Block names rest) defined = record { own = defined; around = kind_in (scopes_with rest (names_of names)) }
+
+-- the scopes where an expression stands
 abbrev pub scopes_in : code.Scopes → Scopes
-scopes_in s = record { own = λ x. option_or (names_of s.defined x) (names_of s.outer.now.own x); around = names_of s.outer.now.around }
+scopes_in s = scopes_with s.around (names_of s.defined)

@@ -2,14 +2,14 @@
 use Rattle.std.specs.Prelude.{◌≡◌, ℕ, ◌+◌, max, List, [], ◌∷◌, ◌++◌, map, Option, Some, None, is_some, nat_lt, Result, Ok, Err, if◌then◌else◌}
 use Rattle.std.specs.Option.{option_or}
 use Rattle.std.specs.Str.{bytes_eq}
-use Rattle.kernele.specs.Tree.{Name, Tree, null_tree, bool_tree, int_tree, text_tree, noun, define, variable, assign, call, list_tree, same_tree, Trees, none, and_then}
+use Rattle.kernele.specs.Tree.{Name, Tree, null_tree, bool_tree, int_tree, text_tree, noun, define, variable, assign, call, list_tree, same_tree, define_list, hide, if_tree, while_tree, for_tree, try_tree, throw_tree, Trees, none, and_then}
 use Rattle.kernele.specs.declared.tree.Pattern.{Pattern}
 use Rattle.kernele.specs.declared.tree.Pattern.TheVariants as pattern
 use Rattle.kernele.specs.declared.naming.Kind.{Kind}
 use Rattle.kernele.specs.declared.naming.Kind.TheVariants as kind
 use Rattle.kernele.specs.declared.naming.TopName.{TopName}
 
--- how many nodes a tree has; a block is none
+-- how many nodes a tree has; a block is none, and its items belong to the node that has the block
 abbrev mutual
   pub nodes : Tree → ℕ
   nodes null_tree = 1
@@ -23,6 +23,13 @@ abbrev mutual
   nodes (call r verb args) = 1 + nodes r + nodes_in args
   nodes (list_tree items) = 1 + nodes_in items
   nodes (same_tree l r) = 1 + nodes l + nodes r
+  nodes (define_list ps e) = 1 + nodes e
+  nodes (hide body) = 1 + nodes_in body
+  nodes (if_tree c first second) = 1 + nodes c + nodes_in first + nodes_in second
+  nodes (while_tree c body) = 1 + nodes c + nodes_in body
+  nodes (for_tree p e body) = 1 + nodes e + nodes_in body
+  nodes (try_tree body p handler) = 1 + nodes_in body + nodes_in handler
+  nodes (throw_tree e) = 1 + nodes e
 
   pub nodes_in : Trees → ℕ
   nodes_in none = 0
@@ -42,6 +49,13 @@ abbrev mutual
   depth (call r verb args) = 1 + max (depth r) (depth_in args)
   depth (list_tree items) = 1 + depth_in items
   depth (same_tree l r) = 1 + max (depth l) (depth r)
+  depth (define_list ps e) = 1 + depth e
+  depth (hide body) = 1 + depth_in body
+  depth (if_tree c first second) = 1 + max (depth c) (max (depth_in first) (depth_in second))
+  depth (while_tree c body) = 1 + max (depth c) (depth_in body)
+  depth (for_tree p e body) = 1 + max (depth e) (depth_in body)
+  depth (try_tree body p handler) = 1 + max (depth_in body) (depth_in handler)
+  depth (throw_tree e) = 1 + depth e
 
   pub depth_in : Trees → ℕ
   depth_in none = 0
@@ -136,7 +150,30 @@ abbrev pub bound : Pattern → Scopes → Checked
 bound (pattern.Name x) s = added (defined_name x) s
 bound pattern.Ignore s = Ok s
 
--- the names of an expression, in the order in which it is evaluated: a receiver before its arguments, those from the left
+-- a definition of a list adds the names of its patterns, from the left
+abbrev pub all_bound : List Pattern → Scopes → Checked
+all_bound [] s = Ok s
+all_bound (p ∷ ps) s = in_turn (bound p s) (all_bound ps)
+
+-- inside the braces of a block begins a scope without names; all that was in scope lies around it
+abbrev pub entered : Scopes → Scopes
+entered s = record { own = no_names; around = kind_in s }
+
+-- behind its braces the scopes are those from before
+abbrev pub left_for : Scopes → Checked → Checked
+left_for s (Ok inner) = Ok s
+left_for s (Err refusal) = Err refusal
+
+-- what stands in a block
+abbrev pub in_block : (Scopes → Checked) → Scopes → Checked
+in_block inside s = left_for s (inside (entered s))
+
+-- what stands behind a pattern, in its scope
+abbrev pub checked_with : Pattern → (Scopes → Checked) → Scopes → Checked
+checked_with p next s = in_turn (bound p s) next
+
+-- the names of an expression, in the order in which it is evaluated: a receiver before its arguments, those from the left,
+-- a condition before its blocks, a list before the body, a body before its handler; each block is a scope of its own
 abbrev mutual
   pub checked : Tree → Scopes → Checked
   checked null_tree s = Ok s
@@ -150,6 +187,13 @@ abbrev mutual
   checked (call r verb args) s = in_turn (checked r s) (checked_all args)
   checked (list_tree items) s = checked_all items s
   checked (same_tree l r) s = in_turn (checked l s) (checked r)
+  checked (define_list ps e) s = in_turn (checked e s) (all_bound ps)
+  checked (hide body) s = in_block (checked_all body) s
+  checked (if_tree c first second) s = in_turn (in_turn (checked c s) (in_block (checked_all first))) (in_block (checked_all second))
+  checked (while_tree c body) s = in_turn (checked c s) (in_block (checked_all body))
+  checked (for_tree p e body) s = in_turn (checked e s) (in_block (checked_with p (checked_all body)))
+  checked (try_tree body p handler) s = in_turn (in_block (checked_all body) s) (in_block (checked_with p (checked_all handler)))
+  checked (throw_tree e) s = checked e s
 
   pub checked_all : Trees → Scopes → Checked
   checked_all none s = Ok s
@@ -166,7 +210,12 @@ abbrev pub name_of : Pattern → List TopName
 name_of (pattern.Name x) = defined_name x ∷ []
 name_of pattern.Ignore = []
 
--- the names that a program defines in its own scope, in the order in which they are defined
+-- the names that a definition of a list adds
+abbrev pub names_of_all : List Pattern → List TopName
+names_of_all [] = []
+names_of_all (p ∷ ps) = name_of p ++ names_of_all ps
+
+-- the names that a program defines in its own scope, in the order in which they are defined; those of a block end with it
 abbrev mutual
   pub own_names : Tree → List TopName
   own_names null_tree = []
@@ -180,6 +229,13 @@ abbrev mutual
   own_names (call r verb args) = own_names r ++ own_names_in args
   own_names (list_tree items) = own_names_in items
   own_names (same_tree l r) = own_names l ++ own_names r
+  own_names (define_list ps e) = own_names e ++ names_of_all ps
+  own_names (hide body) = []
+  own_names (if_tree c first second) = own_names c
+  own_names (while_tree c body) = own_names c
+  own_names (for_tree p e body) = own_names e
+  own_names (try_tree body p handler) = []
+  own_names (throw_tree e) = own_names e
 
   pub own_names_in : Trees → List TopName
   own_names_in none = []

@@ -1,8 +1,8 @@
 -- The canonical spelling: one way to write each tree.
-use Rattle.std.specs.Prelude.{ℕ, List, [], ◌∷◌, ◌++◌, Bool, true, false, codes, if◌then◌else◌}
+use Rattle.std.specs.Prelude.{ℕ, List, [], ◌∷◌, ◌++◌, map, Bool, true, false, codes, if◌then◌else◌}
 use Rattle.std.specs.Fmt.{signed_decimal}
 use Rattle.ids.specs.Quoted.{quoted}
-use Rattle.kernele.specs.Tree.{Name, Tree, null_tree, bool_tree, int_tree, text_tree, noun, define, variable, assign, call, list_tree, same_tree, Trees, none, and_then}
+use Rattle.kernele.specs.Tree.{Name, Tree, null_tree, bool_tree, int_tree, text_tree, noun, define, variable, assign, call, list_tree, same_tree, define_list, hide, if_tree, while_tree, for_tree, try_tree, throw_tree, Trees, none, and_then}
 use Rattle.kernele.specs.declared.tree.Pattern.{Pattern}
 use Rattle.kernele.specs.declared.tree.Pattern.TheVariants as pattern
 
@@ -25,7 +25,7 @@ abbrev pub bound_name : Pattern → List ℕ
 bound_name (pattern.Name x) = x
 bound_name pattern.Ignore = codes "_"
 
--- only as an item of a block does a definition, a variable or an assignment stand without brackets
+-- only as an item of a block does a definition, of a name or a list, a variable or an assignment stand without brackets
 abbrev pub needs_brackets : Tree → Bool
 needs_brackets null_tree = false
 needs_brackets (bool_tree b) = false
@@ -38,6 +38,13 @@ needs_brackets (assign x e) = true
 needs_brackets (call r verb args) = false
 needs_brackets (list_tree items) = false
 needs_brackets (same_tree l r) = false
+needs_brackets (define_list ps e) = true
+needs_brackets (hide body) = false
+needs_brackets (if_tree c first second) = false
+needs_brackets (while_tree c body) = false
+needs_brackets (for_tree p e body) = false
+needs_brackets (try_tree body p handler) = false
+needs_brackets (throw_tree e) = false
 
 -- nouns, literals, lists, calls and comparisons are receivers without brackets
 abbrev pub is_bare_receiver : Tree → Bool
@@ -52,6 +59,13 @@ is_bare_receiver (assign x e) = false
 is_bare_receiver (call r verb args) = true
 is_bare_receiver (list_tree items) = true
 is_bare_receiver (same_tree l r) = true
+is_bare_receiver (define_list ps e) = false
+is_bare_receiver (hide body) = false
+is_bare_receiver (if_tree c first second) = false
+is_bare_receiver (while_tree c body) = false
+is_bare_receiver (for_tree p e body) = false
+is_bare_receiver (try_tree body p handler) = false
+is_bare_receiver (throw_tree e) = false
 
 -- a part of another tree, from its spelling
 abbrev pub as_part : Tree → List ℕ → List ℕ
@@ -64,6 +78,11 @@ as_receiver t s = if is_bare_receiver t then s else bracketed true s
 -- a verb with its arguments
 abbrev pub message : Name → List (List ℕ) → List ℕ
 message verb args = verb ++ codes "(" ++ joined (codes ", ") args ++ codes ")"
+
+-- the items of a block, in its braces
+abbrev pub in_braces : List (List ℕ) → List ℕ
+in_braces [] = codes "{ }"
+in_braces (s ∷ rest) = codes "{ " ++ joined (codes "; ") (s ∷ rest) ++ codes " }"
 
 abbrev mutual
   -- a tree, as it stands as an item of a block
@@ -79,16 +98,23 @@ abbrev mutual
   spelled (call r verb args) = as_receiver r (spelled r) ++ codes "." ++ message verb (spelled_parts args)
   spelled (list_tree items) = codes "[" ++ joined (codes ", ") (spelled_parts items) ++ codes "]"
   spelled (same_tree l r) = codes "(" ++ as_part l (spelled l) ++ codes " == " ++ as_part r (spelled r) ++ codes ")"
+  spelled (define_list ps e) = codes "def [" ++ joined (codes ", ") (map bound_name ps) ++ codes "] := " ++ as_part e (spelled e)
+  spelled (hide body) = in_braces (spelled_items body)
+  spelled (if_tree c first second) = codes "if (" ++ as_part c (spelled c) ++ codes ") " ++ in_braces (spelled_items first) ++ codes " else " ++ in_braces (spelled_items second)
+  spelled (while_tree c body) = codes "while (" ++ as_part c (spelled c) ++ codes ") " ++ in_braces (spelled_items body)
+  spelled (for_tree p e body) = codes "for " ++ bound_name p ++ codes " in " ++ as_part e (spelled e) ++ codes " " ++ in_braces (spelled_items body)
+  spelled (try_tree body p handler) = codes "try " ++ in_braces (spelled_items body) ++ codes " catch " ++ bound_name p ++ codes " " ++ in_braces (spelled_items handler)
+  spelled (throw_tree e) = codes "throw(" ++ as_part e (spelled e) ++ codes ")"
 
   -- arguments, or the items of a list
   pub spelled_parts : Trees → List (List ℕ)
   spelled_parts none = []
   spelled_parts (and_then t ts) = as_part t (spelled t) ∷ spelled_parts ts
 
--- the items of a block
-abbrev pub spelled_items : Trees → List (List ℕ)
-spelled_items none = []
-spelled_items (and_then t ts) = spelled t ∷ spelled_items ts
+  -- the items of a block
+  pub spelled_items : Trees → List (List ℕ)
+  spelled_items none = []
+  spelled_items (and_then t ts) = spelled t ∷ spelled_items ts
 
 -- a program: the items of its block, without braces
 abbrev pub spelling : Trees → List ℕ

@@ -19,6 +19,13 @@ mutual
     call : (r : Tree) → (verb : Name) → (args : Trees) → Tree
     list_tree : (items : Trees) → Tree
     same_tree : (l : Tree) → (r : Tree) → Tree
+    define_list : (ps : List Pattern) → (e : Tree) → Tree
+    hide : (body : Trees) → Tree
+    if_tree : (c : Tree) → (first : Trees) → (second : Trees) → Tree
+    while_tree : (c : Tree) → (body : Trees) → Tree
+    for_tree : (p : Pattern) → (e : Tree) → (body : Trees) → Tree
+    try_tree : (body : Trees) → (p : Pattern) → (handler : Trees) → Tree
+    throw_tree : (e : Tree) → Tree
     deriving IsSet as Tree-set
 
   -- a block, arguments, or the items of a list

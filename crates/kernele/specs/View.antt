@@ -1,6 +1,6 @@
 -- What the program's trees stand for.
 use Rattle.std.specs.Prelude.{List, [], ◌∷◌}
-use Rattle.kernele.specs.Tree.{Tree, null_tree, bool_tree, int_tree, text_tree, noun, define, variable, assign, call, list_tree, same_tree, Trees, none, and_then}
+use Rattle.kernele.specs.Tree.{Tree, null_tree, bool_tree, int_tree, text_tree, noun, define, variable, assign, call, list_tree, same_tree, define_list, hide, if_tree, while_tree, for_tree, try_tree, throw_tree, Trees, none, and_then}
 use Rattle.kernele.specs.declared.tree.Expr as code
 use Rattle.kernele.specs.declared.tree.Expr.{Expr}
 use Rattle.kernele.specs.declared.tree.Block.{Block}
@@ -19,6 +19,13 @@ abbrev mutual
   tree_of (code.Call' p r verb q shape args) = call (tree_of r) verb (trees_of_row args)
   tree_of (code.List' p shape items) = list_tree (trees_of_row items)
   tree_of (code.Same' p l q r) = same_tree (tree_of l) (tree_of r)
+  tree_of (code.DefList' patterns p e) = define_list patterns.value.items (tree_of e)
+  tree_of (code.Hide' p shape body) = hide (trees_of_row body)
+  tree_of (code.If' p c q shape first r shape2 second) = if_tree (tree_of c) (trees_of_row first) (trees_of_row second)
+  tree_of (code.While' p c q shape body) = while_tree (tree_of c) (trees_of_row body)
+  tree_of (code.For' pattern p e q shape body) = for_tree pattern (tree_of e) (trees_of_row body)
+  tree_of (code.Try' p shape body pattern q shape2 handler) = try_tree (trees_of_row body) pattern (trees_of_row handler)
+  tree_of (code.Throw' p e) = throw_tree (tree_of e)
 
   pub trees_of_row : {n : _} → code.Row_of-Expr n → Trees
   trees_of_row code.end_of-Expr = none

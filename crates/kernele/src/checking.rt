@@ -1,8 +1,8 @@
 // The check of a program before it is evaluated.
 ghost use Rattle.std.specs.Prelude.{◌≡◌, Some, Ok, IsOk, IfOk, IfErr, OnOk, MatchResult};
 ghost use Rattle.kernele.specs.View.{tree_of, trees_of, program_of};
-ghost use Rattle.kernele.specs.Scope.{checked, checked_all, checked_program, found, assigned, added, bound, script_scopes, asked_scopes, kind_in, with_name};
-ghost use Rattle.kernele.specs.Check.{Gives, Refuses, fault_text, scopes_of, scopes_in};
+ghost use Rattle.kernele.specs.Scope.{checked, checked_all, checked_program, found, assigned, added, bound, all_bound, entered, in_block, checked_with, script_scopes, asked_scopes, kind_in, with_name};
+ghost use Rattle.kernele.specs.Check.{Gives, Refuses, fault_text, names_of, scopes_of, scopes_in, scopes_with};
 ghost use Rattle.kernele.specs.declared.checking.CheckFault.TheVariants.{Memory};
 
 use crate::count::{are_within_depth, nodes_left_by_all};
@@ -120,18 +120,56 @@ pub fn check(alloc: Global, program: &Program, outer: &Outer) -> Result<(), Chec
         return Err(CheckFault::TooDeep);
     }
     let mut scopes = Scopes {
-        outer,
+        alloc,
+        around: Around::Program(outer),
         defined: BTreeMap::new(alloc),
     };
     check_all(trees, &mut scopes)
 }
 
+/// What lies around the definitions of the innermost scope.
+#[derive(Drop)]
+enum Around<'a> {
+    /// The scope is the program's own.
+    Program(&'a Outer),
+    /// The scope is a block's: the definitions of the scope where the block stands, and what lies
+    /// around those.
+    Block(&'a BTreeMap<Text, Kind>, &'a Around<'a>),
+}
+
 /// The scopes where an expression stands.
 #[derive(Drop)]
 struct Scopes<'a> {
-    outer: &'a Outer,
-    /// The names that the program has defined so far.
+    alloc: Global,
+    around: Around<'a>,
+    /// The names that the innermost scope has defined so far.
     defined: BTreeMap<Text, Kind>,
+}
+
+impl<'a> Around<'a> {
+    /// What a name is in the scope with these definitions.
+    fn kind_in_own(&self, defined: &BTreeMap<Text, Kind>, name: &Text) -> Option<Kind>
+        ensures { result ≡ (scopes_with self.now (names_of defined.now)).own name.now }
+    {
+        let found = defined.get(name).copied();
+        match self {
+            Around::Program(outer) => found.or(outer.own.get(name).copied()),
+            Around::Block(_, _) => found,
+        }
+    }
+
+    /// What a name is: one of an inner scope hides one of an outer scope.
+    fn kind(&self, defined: &BTreeMap<Text, Kind>, name: &Text) -> Option<Kind>
+        ensures { result ≡ kind_in (scopes_with self.now (names_of defined.now)) name.now }
+    {
+        if let Some(kind) = self.kind_in_own(defined, name) {
+            return Some(kind);
+        }
+        match self {
+            Around::Program(outer) => outer.around.get(name).copied(),
+            Around::Block(names, around) => around.kind(names, name),
+        }
+    }
 }
 
 impl<'a> Scopes<'a> {
@@ -139,15 +177,25 @@ impl<'a> Scopes<'a> {
     fn kind_in_own(&self, name: &Text) -> Option<Kind>
         ensures { result ≡ (scopes_in self.now).own name.now }
     {
-        self.defined.get(name).or(self.outer.own.get(name)).copied()
+        self.around.kind_in_own(&self.defined, name)
     }
 
     /// What a name is: one of an inner scope hides one of an outer scope.
     fn kind(&self, name: &Text) -> Option<Kind>
         ensures { result ≡ kind_in (scopes_in self.now) name.now }
     {
-        let own = self.kind_in_own(name);
-        own.or(self.outer.around.get(name).copied())
+        self.around.kind(&self.defined, name)
+    }
+
+    /// The scopes where a block begins.
+    fn enter(&self) -> Scopes<'_>
+        ensures { scopes_in result ≡ entered (scopes_in self.now) }
+    {
+        Scopes {
+            alloc: self.alloc,
+            around: Around::Block(&self.defined, &self.around),
+            defined: BTreeMap::new(self.alloc),
+        }
     }
 
     /// Adds a name to the innermost scope, which must not have it.
@@ -200,7 +248,52 @@ fn check_expr(e: &Expr, scopes: &mut Scopes) -> Result<(), CheckFault>
             check_expr(left, scopes)?;
             check_expr(right, scopes)
         }
+        Expr::DefList(patterns, value) => {
+            check_expr(value, scopes)?;
+            check_patterns(patterns, scopes)
+        }
+        Expr::Hide(body) => check_block(body, scopes),
+        Expr::If(condition, first, second) => {
+            check_expr(condition, scopes)?;
+            check_block(first, scopes)?;
+            check_block(second, scopes)
+        }
+        Expr::While(condition, body) => {
+            check_expr(condition, scopes)?;
+            check_block(body, scopes)
+        }
+        Expr::For(pattern, list, body) => {
+            check_expr(list, scopes)?;
+            check_bound_block(pattern, body, scopes)
+        }
+        Expr::Try(body, pattern, handler) => {
+            check_block(body, scopes)?;
+            check_bound_block(pattern, handler, scopes)
+        }
+        Expr::Throw(problem) => check_expr(problem, scopes),
     }
+}
+
+/// Checks a block in a scope of its own.
+#[cycle(check)]
+fn check_block(body: &[Expr], scopes: &Scopes<'_>) -> Result<(), CheckFault>
+    ensures { Gives result (scopes_in scopes.now) (in_block (checked_all (trees_of body.now)) (scopes_in scopes.now)) }
+{
+    check_all(body, &mut scopes.enter())
+}
+
+/// Checks a block in a scope of its own, which begins with the name of a pattern.
+#[cycle(check)]
+fn check_bound_block(
+    pattern: &Pattern,
+    body: &[Expr],
+    scopes: &Scopes<'_>,
+) -> Result<(), CheckFault>
+    ensures { Gives result (scopes_in scopes.now) (in_block (checked_with pattern.now (checked_all (trees_of body.now))) (scopes_in scopes.now)) }
+{
+    let mut inner = scopes.enter();
+    check_pattern(pattern, &mut inner)?;
+    check_all(body, &mut inner)
 }
 
 fn check_noun(name: &Text, scopes: &mut Scopes) -> Result<(), CheckFault>
@@ -221,6 +314,15 @@ fn check_assigned(name: &Text, scopes: &mut Scopes) -> Result<(), CheckFault>
         Some(Kind::Definition) => Err(CheckFault::AssignToDef(name.share()?)),
         None => Err(CheckFault::Unbound(name.share()?)),
     }
+}
+
+fn check_patterns(patterns: &[Pattern], scopes: &mut Scopes) -> Result<(), CheckFault>
+    ensures { Gives result (scopes_in scopes.new) (all_bound patterns.now (scopes_in scopes.old)) }
+{
+    for pattern in patterns {
+        check_pattern(pattern, scopes)?;
+    }
+    Ok(())
 }
 
 fn check_pattern(pattern: &Pattern, scopes: &mut Scopes) -> Result<(), CheckFault>

@@ -13,12 +13,22 @@ fn nodes_left(e: &Expr, limit: u32) -> Option<u32>
     let left = limit.checked_sub(1)?;
     match e {
         Expr::Null | Expr::Bool(_) | Expr::Int(_) | Expr::Text(_) | Expr::Noun(_) => Some(left),
-        Expr::Def(_, value) | Expr::Var(_, value) | Expr::Assign(_, value) => {
-            nodes_left(value, left)
-        }
+        Expr::Def(_, value)
+        | Expr::Var(_, value)
+        | Expr::Assign(_, value)
+        | Expr::DefList(_, value)
+        | Expr::Throw(value) => nodes_left(value, left),
         Expr::Call(receiver, _, args) => nodes_left_by_all(args, nodes_left(receiver, left)?),
         Expr::List(items) => nodes_left_by_all(items, left),
         Expr::Same(one, other) => nodes_left(other, nodes_left(one, left)?),
+        Expr::Hide(body) => nodes_left_by_all(body, left),
+        Expr::If(condition, first, second) => {
+            let left = nodes_left(condition, left)?;
+            nodes_left_by_all(second, nodes_left_by_all(first, left)?)
+        }
+        Expr::While(condition, body) => nodes_left_by_all(body, nodes_left(condition, left)?),
+        Expr::For(_, list, body) => nodes_left_by_all(body, nodes_left(list, left)?),
+        Expr::Try(body, _, handler) => nodes_left_by_all(handler, nodes_left_by_all(body, left)?),
     }
 }
 
@@ -43,15 +53,32 @@ fn is_within_depth(e: &Expr, limit: u32) -> bool
     }
     match e {
         Expr::Null | Expr::Bool(_) | Expr::Int(_) | Expr::Text(_) | Expr::Noun(_) => true,
-        Expr::Def(_, value) | Expr::Var(_, value) | Expr::Assign(_, value) => {
-            is_within_depth(value, limit - 1)
-        }
+        Expr::Def(_, value)
+        | Expr::Var(_, value)
+        | Expr::Assign(_, value)
+        | Expr::DefList(_, value)
+        | Expr::Throw(value) => is_within_depth(value, limit - 1),
         Expr::Call(receiver, _, args) => {
             is_within_depth(receiver, limit - 1) && are_within_depth(args, limit - 1)
         }
         Expr::List(items) => are_within_depth(items, limit - 1),
         Expr::Same(left, right) => {
             is_within_depth(left, limit - 1) && is_within_depth(right, limit - 1)
+        }
+        Expr::Hide(body) => are_within_depth(body, limit - 1),
+        Expr::If(condition, first, second) => {
+            is_within_depth(condition, limit - 1)
+                && are_within_depth(first, limit - 1)
+                && are_within_depth(second, limit - 1)
+        }
+        Expr::While(condition, body) => {
+            is_within_depth(condition, limit - 1) && are_within_depth(body, limit - 1)
+        }
+        Expr::For(_, list, body) => {
+            is_within_depth(list, limit - 1) && are_within_depth(body, limit - 1)
+        }
+        Expr::Try(body, _, handler) => {
+            are_within_depth(body, limit - 1) && are_within_depth(handler, limit - 1)
         }
     }
 }

@@ -1,7 +1,7 @@
 // The names that a program defines.
 ghost use Rattle.std.specs.Prelude.{◌≡◌, [], ◌∷◌, ◌++◌, IfOk, OnOk};
 ghost use Rattle.kernele.specs.View.{tree_of, trees_of, program_of};
-ghost use Rattle.kernele.specs.Scope.{own_names, own_names_in, name_of, AddsOwnNames};
+ghost use Rattle.kernele.specs.Scope.{own_names, own_names_in, name_of, names_of_all, AddsOwnNames};
 
 use crate::tree::{Expr, Pattern, Program};
 use ids::text::Text;
@@ -56,7 +56,14 @@ fn add_names(e: &Expr, names: &mut Vec<TopName>) -> Result<(), AllocError>
             add_names(value, names)?;
             add_name(name, Kind::Variable, names)
         }
-        Expr::Assign(_, value) => add_names(value, names),
+        Expr::DefList(patterns, value) => {
+            add_names(value, names)?;
+            add_all_bound(patterns, names)
+        }
+        Expr::Assign(_, value) | Expr::Throw(value) => add_names(value, names),
+        Expr::Hide(_) | Expr::Try(_, _, _) => Ok(()),
+        Expr::If(condition, _, _) | Expr::While(condition, _) => add_names(condition, names),
+        Expr::For(_, list, _) => add_names(list, names),
         Expr::Call(receiver, _, args) => {
             add_names(receiver, names)?;
             add_all_names(args, names)
@@ -67,6 +74,15 @@ fn add_names(e: &Expr, names: &mut Vec<TopName>) -> Result<(), AllocError>
             add_names(right, names)
         }
     }
+}
+
+fn add_all_bound(patterns: &[Pattern], names: &mut Vec<TopName>) -> Result<(), AllocError>
+    ensures { OnOk result (names.new.items ≡ names.old.items ++ names_of_all patterns.now) }
+{
+    for pattern in patterns {
+        add_bound(pattern, names)?;
+    }
+    Ok(())
 }
 
 fn add_bound(pattern: &Pattern, names: &mut Vec<TopName>) -> Result<(), AllocError>

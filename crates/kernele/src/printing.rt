@@ -1,8 +1,8 @@
 // The canonical spelling of a program.
-ghost use Rattle.std.specs.Prelude.{◌≡◌, ◌++◌, IfOk, OnOk, string_bytes, codes, true};
-ghost use Rattle.kernele.specs.Tree.{bool_tree, define, variable, assign, list_tree};
+ghost use Rattle.std.specs.Prelude.{◌≡◌, ◌++◌, IfOk, OnOk, string_bytes, codes, map, true};
+ghost use Rattle.kernele.specs.Tree.{bool_tree, define, define_list, variable, assign, list_tree, if_tree, while_tree, for_tree, try_tree, throw_tree};
 ghost use Rattle.kernele.specs.View.{tree_of, trees_of, program_of};
-ghost use Rattle.kernele.specs.Spelling.{spelling, spelled, spelled_parts, spelled_items, joined, bracketed, bound_name, needs_brackets as brackets_test, is_bare_receiver as bare_receiver_test, as_part, as_receiver, message};
+ghost use Rattle.kernele.specs.Spelling.{spelling, spelled, spelled_parts, spelled_items, joined, bracketed, in_braces, bound_name, needs_brackets as brackets_test, is_bare_receiver as bare_receiver_test, as_part, as_receiver, message};
 
 use crate::tree::{Expr, Pattern, Program};
 use ids::quote::write_quoted;
@@ -20,6 +20,7 @@ pub fn print(alloc: Global, program: &Program) -> Result<String, AllocError>
 }
 
 /// Writes the items of a block.
+#[cycle(print)]
 fn write_items(items: &[Expr], out: &mut String) -> Result<(), AllocError>
     ensures { OnOk result (string_bytes out.new ≡ string_bytes out.old ++ joined (codes "; ") (spelled_items (trees_of items.now))) }
 {
@@ -60,6 +61,13 @@ fn write_expr(e: &Expr, out: &mut String) -> Result<(), AllocError>
             write_part(right, out)?;
             out.push_str(")")
         }
+        Expr::DefList(patterns, value) => write_def_list(patterns, value, out),
+        Expr::Hide(body) => write_block(body, out),
+        Expr::If(condition, first, second) => write_if(condition, first, second, out),
+        Expr::While(condition, body) => write_while(condition, body, out),
+        Expr::For(pattern, list, body) => write_for(pattern, list, body, out),
+        Expr::Try(body, pattern, handler) => write_try(body, pattern, handler, out),
+        Expr::Throw(problem) => write_throw(problem, out),
     }
 }
 
@@ -70,6 +78,16 @@ fn write_def(pattern: &Pattern, value: &Expr, out: &mut String) -> Result<(), Al
     out.push_str("def ")?;
     write_pattern(pattern, out)?;
     out.push_str(" := ")?;
+    write_part(value, out)
+}
+
+#[cycle(print)]
+fn write_def_list(patterns: &[Pattern], value: &Expr, out: &mut String) -> Result<(), AllocError>
+    ensures { OnOk result (string_bytes out.new ≡ string_bytes out.old ++ spelled (define_list patterns.now (tree_of value.now))) }
+{
+    out.push_str("def [")?;
+    write_patterns(patterns, out)?;
+    out.push_str("] := ")?;
     write_part(value, out)
 }
 
@@ -88,6 +106,89 @@ fn write_assign(name: &Text, value: &Expr, out: &mut String) -> Result<(), Alloc
     out.push_str(name.as_str())?;
     out.push_str(" := ")?;
     write_part(value, out)
+}
+
+#[cycle(print)]
+fn write_if(
+    condition: &Expr,
+    first: &[Expr],
+    second: &[Expr],
+    out: &mut String,
+) -> Result<(), AllocError>
+    ensures { OnOk result (string_bytes out.new ≡ string_bytes out.old ++ spelled (if_tree (tree_of condition.now) (trees_of first.now) (trees_of second.now))) }
+{
+    out.push_str("if (")?;
+    write_part(condition, out)?;
+    out.push_str(") ")?;
+    write_block(first, out)?;
+    out.push_str(" else ")?;
+    write_block(second, out)
+}
+
+#[cycle(print)]
+fn write_while(condition: &Expr, body: &[Expr], out: &mut String) -> Result<(), AllocError>
+    ensures { OnOk result (string_bytes out.new ≡ string_bytes out.old ++ spelled (while_tree (tree_of condition.now) (trees_of body.now))) }
+{
+    out.push_str("while (")?;
+    write_part(condition, out)?;
+    out.push_str(") ")?;
+    write_block(body, out)
+}
+
+#[cycle(print)]
+fn write_for(
+    pattern: &Pattern,
+    list: &Expr,
+    body: &[Expr],
+    out: &mut String,
+) -> Result<(), AllocError>
+    ensures { OnOk result (string_bytes out.new ≡ string_bytes out.old ++ spelled (for_tree pattern.now (tree_of list.now) (trees_of body.now))) }
+{
+    out.push_str("for ")?;
+    write_pattern(pattern, out)?;
+    out.push_str(" in ")?;
+    write_part(list, out)?;
+    out.push_str(" ")?;
+    write_block(body, out)
+}
+
+#[cycle(print)]
+fn write_try(
+    body: &[Expr],
+    pattern: &Pattern,
+    handler: &[Expr],
+    out: &mut String,
+) -> Result<(), AllocError>
+    ensures { OnOk result (string_bytes out.new ≡ string_bytes out.old ++ spelled (try_tree (trees_of body.now) pattern.now (trees_of handler.now))) }
+{
+    out.push_str("try ")?;
+    write_block(body, out)?;
+    out.push_str(" catch ")?;
+    write_pattern(pattern, out)?;
+    out.push_str(" ")?;
+    write_block(handler, out)
+}
+
+#[cycle(print)]
+fn write_throw(problem: &Expr, out: &mut String) -> Result<(), AllocError>
+    ensures { OnOk result (string_bytes out.new ≡ string_bytes out.old ++ spelled (throw_tree (tree_of problem.now))) }
+{
+    out.push_str("throw(")?;
+    write_part(problem, out)?;
+    out.push_str(")")
+}
+
+/// Writes a block in its braces.
+#[cycle(print)]
+fn write_block(items: &[Expr], out: &mut String) -> Result<(), AllocError>
+    ensures { OnOk result (string_bytes out.new ≡ string_bytes out.old ++ in_braces (spelled_items (trees_of items.now))) }
+{
+    if items.is_empty() {
+        return out.push_str("{ }");
+    }
+    out.push_str("{ ")?;
+    write_items(items, out)?;
+    out.push_str(" }")
 }
 
 /// Writes a verb with its arguments.
@@ -163,6 +264,20 @@ fn write_bool(b: bool, out: &mut String) -> Result<(), AllocError>
     out.push_str(if b { "true" } else { "false" })
 }
 
+/// Writes patterns, with commas between them.
+fn write_patterns(patterns: &[Pattern], out: &mut String) -> Result<(), AllocError>
+    ensures { OnOk result (string_bytes out.new ≡ string_bytes out.old ++ joined (codes ", ") (map bound_name patterns.now)) }
+{
+    if let Some((first, rest)) = patterns.split_first() {
+        write_pattern(first, out)?;
+        for pattern in rest {
+            out.push_str(", ")?;
+            write_pattern(pattern, out)?;
+        }
+    }
+    Ok(())
+}
+
 fn write_pattern(pattern: &Pattern, out: &mut String) -> Result<(), AllocError>
     ensures { OnOk result (string_bytes out.new ≡ string_bytes out.old ++ bound_name pattern.now) }
 {
@@ -176,7 +291,7 @@ fn needs_brackets(e: &Expr) -> bool
     ensures { result ≡ brackets_test (tree_of e.now) }
 {
     match e {
-        Expr::Def(_, _) | Expr::Var(_, _) | Expr::Assign(_, _) => true,
+        Expr::Def(_, _) | Expr::DefList(_, _) | Expr::Var(_, _) | Expr::Assign(_, _) => true,
         Expr::Null
         | Expr::Bool(_)
         | Expr::Int(_)
@@ -184,7 +299,13 @@ fn needs_brackets(e: &Expr) -> bool
         | Expr::Noun(_)
         | Expr::Call(_, _, _)
         | Expr::List(_)
-        | Expr::Same(_, _) => false,
+        | Expr::Same(_, _)
+        | Expr::Hide(_)
+        | Expr::If(_, _, _)
+        | Expr::While(_, _)
+        | Expr::For(_, _, _)
+        | Expr::Try(_, _, _)
+        | Expr::Throw(_) => false,
     }
 }
 
@@ -192,7 +313,16 @@ fn is_bare_receiver(e: &Expr) -> bool
     ensures { result ≡ bare_receiver_test (tree_of e.now) }
 {
     match e {
-        Expr::Def(_, _) | Expr::Var(_, _) | Expr::Assign(_, _) => false,
+        Expr::Def(_, _)
+        | Expr::DefList(_, _)
+        | Expr::Var(_, _)
+        | Expr::Assign(_, _)
+        | Expr::Hide(_)
+        | Expr::If(_, _, _)
+        | Expr::While(_, _)
+        | Expr::For(_, _, _)
+        | Expr::Try(_, _, _)
+        | Expr::Throw(_) => false,
         Expr::Null
         | Expr::Bool(_)
         | Expr::Int(_)

@@ -25,6 +25,18 @@ pub enum Expr {
     Call(Arc<Expr>, Text, Arc<Vec<Expr>>),
     List(Arc<Vec<Expr>>),
     Same(Arc<Expr>, Arc<Expr>),
+    /// Names for the items of a list.
+    DefList(Arc<Vec<Pattern>>, Arc<Expr>),
+    /// A block in braces, with a scope of its own.
+    Hide(Arc<Vec<Expr>>),
+    /// A condition, and a block for each of its answers.
+    If(Arc<Expr>, Arc<Vec<Expr>>, Arc<Vec<Expr>>),
+    While(Arc<Expr>, Arc<Vec<Expr>>),
+    /// What each item of a list is bound to, the list, and the body.
+    For(Pattern, Arc<Expr>, Arc<Vec<Expr>>),
+    /// A body, what its problem is bound to, and the handler.
+    Try(Arc<Vec<Expr>>, Pattern, Arc<Vec<Expr>>),
+    Throw(Arc<Expr>),
 }
 
 /// Expressions that are evaluated in order.

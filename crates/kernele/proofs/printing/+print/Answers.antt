@@ -1,6 +1,6 @@
 use Rattle.std.proofs.Common.{refl, ap, sym, ◌∙◌, ◌++◌, append_assoc, rules, string_bytes, codes}
 use Rattle.std.proofs.lemmas.Result.{IfOk-equal}
-use Rattle.kernele.specs.Spelling.{led_by, joined, spelled, spelled_parts, as_part}
+use Rattle.kernele.specs.Spelling.{led_by, joined, spelled, spelled_parts, spelled_items, as_part}
 use Rattle.kernele.specs.View.{tree_of, trees_of}
 use Rattle.kernele.proofs.Walks.{tree_is_call, tree_is_list, append_more, append_end}
 use Rattle.kernele.proofs.printing.+print.Goals as goal
@@ -26,3 +26,15 @@ write_parts-returns-after-loop-part t c =
     written ∙ ap (λ s. s ++ led_by (codes ", ") (spelled_parts (trees_of c.in-Some.rest.now))) c.in_ok-write_part.ensures
     ∙ append_assoc (string_bytes c.args.out.now) (as_part (tree_of c.in-Some.first.now) (spelled (tree_of c.in-Some.first.now))) (led_by (codes ", ") (spelled_parts (trees_of c.in-Some.rest.now)))
     ∙ ap (λ xs. string_bytes c.args.out.now ++ joined (codes ", ") (spelled_parts (trees_of xs))) (sym c.in-Some.ensures.cases.0)
+
+pub write_items-loop-item-preserved : goal.write_items-loop-item-preserved
+write_items-loop-item-preserved t c =
+    append_more (λ ts. led_by (codes "; ") (spelled_items ts)) (λ t. codes "; " ++ spelled t) (λ t ts. refl) (string_bytes c.loop-item.out) c.in-Some.rest.now c.loop-item.item-index c.item-item.result c.loop-item-test.true c.item-item.is (search (rules, append_assoc))
+    ∙ c.loop-item.invariant
+
+pub write_items-returns-after-loop-item : goal.write_items-returns-after-loop-item
+write_items-returns-after-loop-item t c =
+    let written = append_end (λ ts. led_by (codes "; ") (spelled_items ts)) refl c.in-Some.rest.now c.loop-item.item-index c.loop-item-test.false c.loop-item.invariant in
+    written ∙ ap (λ s. s ++ led_by (codes "; ") (spelled_items (trees_of c.in-Some.rest.now))) c.in_ok-write_expr.ensures
+    ∙ append_assoc (string_bytes c.args.out.now) (spelled (tree_of c.in-Some.first.now)) (led_by (codes "; ") (spelled_items (trees_of c.in-Some.rest.now)))
+    ∙ ap (λ xs. string_bytes c.args.out.now ++ joined (codes "; ") (spelled_items (trees_of xs))) (sym c.in-Some.ensures.cases.0)
