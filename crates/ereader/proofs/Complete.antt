@@ -139,20 +139,24 @@ module _ (m : ℕ) (within : Within)
   complete_condition : (a r : List Token) (t : Tree) → length a ≤ suc m → Condition a t r → condition_at within a ≡ Some (t, r)
   complete_condition _ r t h (condition {a = a} x) = ap (λ o. o >>= past (is_close bracket.Round)) (inside a (token.Sign sign.CloseRound ∷ r) t (omega (arith, h)) x (omega arith))
 
+  -- the second block of a choice, behind the first
+  abbrev chosen_at : Tree → Trees → Read Trees → Read Tree
+  chosen_at t ts o = o >>= λ d. Some (if_tree t ts d.0, d.1)
+
   complete_if : (a r : List Token) (t : Tree) → length a ≤ suc m → Conditional a t r → Below 7 r → if_at within a ≡ Some (t, r)
   complete_if _ _ _ h (conditional_alone {a = a} {b = b} {r = r} {t = t} {ts = ts} x y) k =
       ap (λ o. o >>= λ c. braced_at within c.1 >>= λ b. else_at within b.1 >>= λ d. Some (if_tree c.0 b.0 d.0, d.1)) (complete_condition a b t h x)
       ∙ ap (λ o. o >>= λ b. else_at within b.1 >>= λ d. Some (if_tree t b.0 d.0, d.1)) (complete_braced b r ts (omega (arith, h, less_condition x)) y)
-      ∙ ap (λ o. cond o (branch_at within (rest_of r)) (Some (none, r)) >>= λ d. Some (if_tree t ts d.0, d.1)) (no_else r k)
+      ∙ ap (λ o. chosen_at t ts (cond o (branch_at within (rest_of r)) (Some (none, r)))) (no_else r k)
   complete_if _ _ _ h (conditional_else {a = a} {b = b} {c = c} {r = r} {t = t} {ts = ts} {us = us} x y z) k =
       ap (λ o. o >>= λ c. braced_at within c.1 >>= λ b. else_at within b.1 >>= λ d. Some (if_tree c.0 b.0 d.0, d.1)) (complete_condition a b t h x)
       ∙ ap (λ o. o >>= λ b. else_at within b.1 >>= λ d. Some (if_tree t b.0 d.0, d.1)) (complete_braced b (token.Word word.Else ∷ c) ts (omega (arith, h, less_condition x)) y)
-      ∙ ap (λ o. cond o (within.conditional (rest_of c) >>= λ u. Some (alone u.0, u.1)) (braced_at within c) >>= λ d. Some (if_tree t ts d.0, d.1)) (braced_begins z is_if_word)
-      ∙ ap (λ o. o >>= λ d. Some (if_tree t ts d.0, d.1)) (complete_braced c r us (omega (arith, h, less_condition x, less_braced y)) z)
+      ∙ ap (λ o. chosen_at t ts (cond o (within.conditional (rest_of c) >>= λ u. Some (alone u.0, u.1)) (braced_at within c))) (braced_begins z is_if_word)
+      ∙ ap (chosen_at t ts) (complete_braced c r us (omega (arith, h, less_condition x, less_braced y)) z)
   complete_if _ _ _ h (conditional_else_if {a = a} {b = b} {c = c} {r = r} {t = t} {u = u} {ts = ts} x y z) k =
       ap (λ o. o >>= λ c. braced_at within c.1 >>= λ b. else_at within b.1 >>= λ d. Some (if_tree c.0 b.0 d.0, d.1)) (complete_condition a b t h x)
       ∙ ap (λ o. o >>= λ b. else_at within b.1 >>= λ d. Some (if_tree t b.0 d.0, d.1)) (complete_braced b (token.Word word.Else ∷ token.Word word.If ∷ c) ts (omega (arith, h, less_condition x)) y)
-      ∙ ap (λ o. (o >>= λ u. Some (alone u.0, u.1)) >>= λ d. Some (if_tree t ts d.0, d.1)) (chained c r u (omega (arith, h, less_condition x, less_braced y)) z k)
+      ∙ ap (λ o. chosen_at t ts (o >>= λ u. Some (alone u.0, u.1))) (chained c r u (omega (arith, h, less_condition x, less_braced y)) z k)
 
   brace_below : {a r : List Token} {ts : Trees} → Braced a ts r → Below 1 a
   brace_below (braced x) = omega arith

@@ -251,7 +251,7 @@ begun_and a b r ts t (begun_more s p) h x = sequence_and s p x
 begun_block : (a b r : List Token) (ts : Trees) → Semicolons a b → Begun b ts r → Block a ts r
 begun_block a b r _ s (begun_none e) = block_empty (subst (λ z. Semicolons a z) (sym e) s)
 begun_block a b r ts s (begun_end q e) = block_items s q semicolons_none
-begun_block a b r ts s (begun_more q p) = block_items s q p
+begun_block a b r ts s (begun_more q p) = block_items s q (semicolons_more p)
 
 -- what is read is in the grammar, where that holds of within
 module _ (within : Within)

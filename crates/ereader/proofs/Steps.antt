@@ -7,10 +7,13 @@ use Rattle.etoken.specs.declared.token.Sign.TheVariants as sign
 use Rattle.kernele.specs.declared.tree.Expr.{Expr}
 use Rattle.kernele.specs.Tree.{Tree, Trees, none, and_then}
 use Rattle.kernele.specs.View.{tree_of, trees_of}
+use Rattle.ereader.specs.declared.fault.Stop.{Stop}
+use Rattle.ereader.specs.declared.fault.Stop.TheVariants as stop
 use Rattle.ereader.specs.declared.operator.Operator.{Operator}
 use Rattle.ereader.specs.declared.operator.Link.{Link}
 use Rattle.ereader.specs.Grammar.{joined, snoc}
 use Rattle.ereader.specs.Reading.{Read, ◌>>=◌, or_else, rest_of, is_empty, sign_in, front, is_comma, is_semicolon, Within, link_of, linked_at, postfix_next, commas_next, operand_next, skip_semicolons, skip_semicolons_sign, repeat, is_block_end, separator_at, separated, expr_at, block_next, block_at}
+use Rattle.ereader.specs.View.{Fails}
 use Rattle.ereader.proofs.Turns.{Turns, turns_more, turns_fail, turns_end, if_is, some_same, none_some}
 
 pub rest_le : (a : List Token) → length (rest_of a) ≤ length a
@@ -46,6 +49,11 @@ module _ (of : signs.Sign → Option Operator) (part : List Token → Read Tree)
   operand_fail {t = t} {a = a} b {o = o} c e k g =
       turns_fail (operand_next of part) (part (rest_of a) >>= λ x. Some (joined o t x.0, x.1)) c (operand_goes t a e)
       (ap (λ y. y >>= λ x. Some (joined o t x.0, x.1)) (ap part (sym k) ∙ g)) (omega (arith, front_length of a e))
+
+  pub operand_fails : (e : Stop) {read : Read Tree} {t : Tree} {a : List Token} (b : List Token) {o : Operator}
+      → Turns (operand_next of part) read t a → front of a ≡ Some o → b ≡ rest_of a → Fails e (part b) → Fails e read
+  operand_fails stop.Unexpected b c e k g = operand_fail b c e k g
+  operand_fails stop.Memory b c e k g = tt
 
   pub operand_end : {read : Read Tree} {t : Tree} {a : List Token} → Turns (operand_next of part) read t a → front of a ≡ None → read ≡ Some (t, a)
   operand_end {t = t} {a = a} c e = turns_end (operand_next of part) c (ap (λ o. or_else o None (λ o. Some (part (rest_of a) >>= λ x. Some (joined o t x.0, x.1)))) e)
@@ -155,6 +163,11 @@ module _ (within : Within) where
   block_part_fail {ts = ts} u {a = a} b c e g s =
       turns_fail (block_next within) (expr_at within a >>= λ x. separated (snoc ts x.0) x.1) c (block_goes ts a e)
       (ap (λ y. y >>= λ x. separated (snoc ts x.0) x.1) g ∙ ap (λ y. y >>= λ z. Some (snoc ts u, z)) s) (more_length a e)
+
+  pub block_part_fails : (e : Stop) {read : Read Trees} {ts : Trees} (u : Tree) {a : List Token} (b : List Token)
+      → Turns (block_next within) read ts a → is_block_end a ≡ false → expr_at within a ≡ Some (u, b) → Fails e (separator_at b) → Fails e read
+  block_part_fails stop.Unexpected u b c e g s = block_part_fail u b c e g s
+  block_part_fails stop.Memory u b c e g s = tt
 
   pub block_end : {read : Read Trees} {ts : Trees} {a : List Token} → Turns (block_next within) read ts a → is_block_end a ≡ true → read ≡ Some (ts, a)
   block_end {ts = ts} {a = a} c e =
