@@ -1,4 +1,4 @@
-use Rattle.std.proofs.Common.{arith, length, sym, ap, ◌∙◌}
+use Rattle.std.proofs.Common.{rules, arith, length, sym, ap, ◌∙◌}
 use Rattle.std.proofs.lemmas.Result.{err_from_is_err_and}
 use Rattle.ereader.proofs.Steps.{rest_le, skip-le, trees_push, operand_more, operand_fails, operand_end, postfix_more, postfix_end, commas_more, commas_end, block_begin, block_more, block_part_fails, block_end}
 use Rattle.ereader.specs.Grammar.{sum_operator, product_operator, and_operator, or_operator, snoc}
@@ -19,7 +19,7 @@ disjunction-returns-in_err-right-clause-gives t c =
     rw (k.1, k.2) (operand_fails or_operator (conjunction_at (within_at c.args.left)) c.in_err-right.field-0.0 (plain c.skip.new.self.rest.now) c.more.invariant.comes (sym c.or_operator.ensures ∙ c.in-Some.is) c.skip.ensures c.in_err-right.ensures.gives)
 
 pub disjunction-returns-clause-gives : goal.disjunction-returns-clause-gives
-disjunction-returns-clause-gives t c = operand_end or_operator (conjunction_at (within_at c.args.left)) c.more.invariant.comes (sym c.or_operator.ensures ∙ c.in-None.is)
+disjunction-returns-clause-gives t c = operand_end or_operator (conjunction_at (within_at c.args.left)) c.more.invariant.comes (search rules)
 
 pub conjunction-more-preserved : goal.conjunction-more-preserved
 conjunction-more-preserved t c = record {
@@ -34,7 +34,7 @@ conjunction-returns-in_err-right-clause-gives t c =
     rw (k.1, k.2) (operand_fails and_operator (comparison_at (within_at c.args.left)) c.in_err-right.field-0.0 (plain c.skip.new.self.rest.now) c.more.invariant.comes (sym c.and_operator.ensures ∙ c.in-Some.is) c.skip.ensures c.in_err-right.ensures.gives)
 
 pub conjunction-returns-clause-gives : goal.conjunction-returns-clause-gives
-conjunction-returns-clause-gives t c = operand_end and_operator (comparison_at (within_at c.args.left)) c.more.invariant.comes (sym c.and_operator.ensures ∙ c.in-None.is)
+conjunction-returns-clause-gives t c = operand_end and_operator (comparison_at (within_at c.args.left)) c.more.invariant.comes (search rules)
 
 pub sum-more-preserved : goal.sum-more-preserved
 sum-more-preserved t c = record {
@@ -49,7 +49,7 @@ sum-returns-in_err-right-clause-gives t c =
     rw (k.1, k.2) (operand_fails sum_operator (product_at (within_at c.args.left)) c.in_err-right.field-0.0 (plain c.skip.new.self.rest.now) c.more.invariant.comes (sym c.sum_operator.ensures ∙ c.in-Some.is) c.skip.ensures c.in_err-right.ensures.gives)
 
 pub sum-returns-clause-gives : goal.sum-returns-clause-gives
-sum-returns-clause-gives t c = operand_end sum_operator (product_at (within_at c.args.left)) c.more.invariant.comes (sym c.sum_operator.ensures ∙ c.in-None.is)
+sum-returns-clause-gives t c = operand_end sum_operator (product_at (within_at c.args.left)) c.more.invariant.comes (search rules)
 
 pub product-more-preserved : goal.product-more-preserved
 product-more-preserved t c = record {
@@ -64,7 +64,7 @@ product-returns-in_err-right-clause-gives t c =
     rw (k.1, k.2) (operand_fails product_operator (unary_at (within_at c.args.left)) c.in_err-right.field-0.0 (plain c.skip.new.self.rest.now) c.more.invariant.comes (sym c.product_operator.ensures ∙ c.in-Some.is) c.skip.ensures c.in_err-right.ensures.gives)
 
 pub product-returns-clause-gives : goal.product-returns-clause-gives
-product-returns-clause-gives t c = operand_end product_operator (unary_at (within_at c.args.left)) c.more.invariant.comes (sym c.product_operator.ensures ∙ c.in-None.is)
+product-returns-clause-gives t c = operand_end product_operator (unary_at (within_at c.args.left)) c.more.invariant.comes (search rules)
 
 pub postfix-more-preserved : goal.postfix-more-preserved
 postfix-more-preserved t c = record {
@@ -73,7 +73,7 @@ postfix-more-preserved t c = record {
 }
 
 pub postfix-returns-clause-gives : goal.postfix-returns-clause-gives
-postfix-returns-clause-gives t c = postfix_end (within_at c.args.left) c.more.invariant.comes (sym c.link.ensures ∙ c.in-None.is)
+postfix-returns-clause-gives t c = postfix_end (within_at c.args.left) c.more.invariant.comes (search rules)
 
 pub items-more-preserved : goal.items-more-preserved
 items-more-preserved t c = record {
