@@ -2,165 +2,271 @@
 use Rattle.std.proofs.Common.{◌≡◌, ℕ, zero, suc, ◌<◌, ◌≤◌, List, [], ◌∷◌, length, Option, Some, None, refl, sym, ap, ◌∙◌, arith, true, false, cond, inl, inr, codes}
 use Rattle.etoken.specs.declared.token.Token.{Token}
 use Rattle.etoken.specs.declared.token.Token.TheVariants as token
+use Rattle.etoken.specs.declared.token.Reserved.TheVariants as word
 use Rattle.etoken.specs.declared.token.Sign as signs
 use Rattle.etoken.specs.declared.token.Sign.TheVariants as sign
 use Rattle.kernele.specs.declared.tree.Pattern.{Pattern}
-use Rattle.kernele.specs.Tree.{Tree, define, variable, assign, call, list_tree, Trees, none, and_then}
+use Rattle.kernele.specs.Tree.{Tree, define, define_list, variable, assign, call, list_tree, hide, if_tree, while_tree, for_tree, try_tree, throw_tree, Trees, none, and_then}
 use Rattle.ereader.specs.declared.operator.Link.TheVariants as link
 use Rattle.ereader.specs.declared.operator.Bracket.{Bracket}
 use Rattle.ereader.specs.declared.operator.Bracket.TheVariants as bracket
-use Rattle.ereader.specs.declared.operator.Target.{Target}
-use Rattle.ereader.specs.declared.operator.Target.TheVariants as target
-use Rattle.ereader.specs.Grammar.{product_operator, sum_operator, comparison_operator, joined, prefix_verb, given, snoc, Expr, expr_define, expr_variable, expr_assign, expr_disjunction, Pat, pat_name, pat_ignore, Disjunction, disjunction_comparison, Comparison, comparison_sum, comparison_two, Sum, sum_product, sum_more, Product, product_unary, product_more, Unary, unary_postfix, unary_prefix, Postfix, postfix_primary, postfix_method, postfix_run, postfix_get, Primary, primary_int, primary_text, primary_true, primary_false, primary_null, primary_name, primary_list, primary_group, Args, args_none, args_some, Items, items_one, items_and, Semicolons, semicolons_none, semicolons_more, Sequence, sequence_one, sequence_and, Block, block_empty, block_items, Program}
-use Rattle.ereader.specs.Reading.{Read, ◌>>=◌, or_else, rest_of, sign_in, front, is_comma, is_semicolon, is_becomes, is_close, past, operand_next, items_next, items_at, args_at, is_at_word, is_def_word, is_var_word, is_assignment, pattern_at, define_at, target_at, expr_at, primary_at, link_of, linked_at, postfix_next, postfix_at, unary_at, product_at, sum_at, comparison_at, disjunction_at, skip_semicolons, separator_at, block_next, block_at, program_at}
+use Rattle.ereader.specs.Grammar.{product_operator, sum_operator, comparison_operator, and_operator, or_operator, joined, prefix_verb, given, snoc, alone, Place, definition, definitions, Pat, pat_name, pat_ignore, Pats, pats_one, pats_and, PatList, pat_list_none, pat_list_some, Semicolons, semicolons_none, semicolons_more, Expr, expr_define, expr_define_list, expr_variable, expr_assign, expr_disjunction, Disjunction, disjunction_conjunction, disjunction_more, Conjunction, conjunction_comparison, conjunction_more, Comparison, comparison_sum, comparison_two, Sum, sum_product, sum_more, Product, product_unary, product_more, Unary, unary_postfix, unary_prefix, Postfix, postfix_primary, postfix_method, postfix_run, postfix_get, Primary, primary_int, primary_text, primary_true, primary_false, primary_null, primary_name, primary_list, primary_group, primary_hide, primary_if, primary_while, primary_for, primary_try, primary_throw, Conditional, conditional_alone, conditional_else, conditional_else_if, Condition, condition, Braced, braced, Args, args_none, args_some, Items, items_one, items_and, Sequence, sequence_one, sequence_and, Block, block_empty, block_items, Program}
+use Rattle.ereader.specs.Reading.{Read, ◌>>=◌, or_else, rest_of, sign_in, front, is_comma, is_semicolon, is_becomes, is_open, is_close, past, past_word, operand_next, operands_at, commas_next, commas_at, closed_at, push_pattern, Within, items_at, args_at, is_at_word, is_def_word, is_var_word, is_if_word, is_else_word, is_in_word, is_catch_word, is_assignment, pattern_at, patterns_at, pattern_list_at, define_list_at, define_one_at, define_at, target_at, expr_at, primary_at, link_of, linked_at, postfix_next, postfix_at, unary_at, product_at, sum_at, comparison_at, conjunction_at, disjunction_at, if_at, within_at, skip_semicolons, is_block_end, separator_at, block_next, block_at, block_past_at, braced_at, condition_at, branch_at, else_at, each_at, tried_at, ended, program_at}
 use Rattle.ereader.proofs.Turns.{Turns, turns_begin, turns_more, if_is, some_same, none_some}
-use Rattle.ereader.proofs.Steps.{operand_more, operand_end, postfix_end, items_end, skip-end, block_begin, block_more, block_end}
-use Rattle.ereader.proofs.Uses.{less_expr, less_pat, less_disjunction, less_sum, less_product, less_unary, less_postfix, less_args, less_items, le_semicolons, less_sequence, sign_strength, strength, Below, product_none, sum_none, comparison_none, link_none, front_none, product_strength, sum_strength, comparison_strength, no_prefix, no_close, no_def, no_var, no_assignment, start_postfix, start_disjunction, start_items, expr_begins, sequence_begins, not_empty}
+use Rattle.ereader.proofs.Steps.{operand_more, operand_end, postfix_end, commas_end, skip-end, block_begin, block_more, block_end}
+use Rattle.ereader.proofs.Uses.{less_expr, less_pat, less_pats, less_pat_list, less_disjunction, less_conjunction, less_comparison, less_sum, less_product, less_unary, less_postfix, less_conditional, less_condition, less_braced, less_args, less_items, le_semicolons, less_sequence, sign_strength, strength, Below, product_none, sum_none, comparison_none, and_none, or_none, link_none, front_none, no_else, product_strength, sum_strength, comparison_strength, and_strength, or_strength, no_prefix, no_close, no_def, no_var, no_assignment, start_postfix, start_disjunction, start_items, expr_begins, expr_goes, sequence_begins, pat_begins, pats_begin, braced_begins}
 
 complete_pat : (a r : List Token) (p : Pattern) → Pat a p r → pattern_at a ≡ Some (p, r)
 complete_pat _ _ _ pat_name = refl
 complete_pat _ _ _ pat_ignore = refl
 
+turns_pats : (a r : List Token) (ps : List Pattern) → Pats a ps r → Turns (commas_next push_pattern pattern_at) (patterns_at a) ps r
+turns_pats _ _ _ (pats_one {a = a} {r = r} {p = p} x) = turns_begin (commas_next push_pattern pattern_at) (λ p. p ∷ []) (pattern_at a) (complete_pat a r p x)
+turns_pats _ _ _ (pats_and {b = c} {r = r} {p = p} {ps = ps} s x) =
+    turns_more (commas_next push_pattern pattern_at) (pattern_at c >>= λ y. Some (push_pattern ps y.0, y.1)) (turns_pats _ _ _ s) refl
+    (ap (λ o. o >>= λ y. Some (push_pattern ps y.0, y.1)) (complete_pat c r p x)) (omega (arith, less_pat x))
+
+complete_pat_list : (a r : List Token) (ps : List Pattern) → PatList a ps (token.Sign sign.CloseSquare ∷ r) → pattern_list_at a ≡ Some (ps, r)
+complete_pat_list _ r _ pat_list_none = refl
+complete_pat_list _ r _ (pat_list_some {a = a} {ps = ps} x) =
+    ap (λ o. cond o (Some ([], rest_of a)) (patterns_at a >>= past (is_close bracket.Square))) (pats_begin x)
+    ∙ ap (λ o. o >>= past (is_close bracket.Square)) (commas_end push_pattern pattern_at (turns_pats a (token.Sign sign.CloseSquare ∷ r) ps x) refl)
+
 -- what a definition binds
-define_is : (a b : List Token) (p : Pattern) → Pat a p (token.Sign sign.Becomes ∷ b) → define_at a ≡ Some (Some (target.Definition p), b)
-define_is a b p q = ap (λ o. (o >>= past is_becomes) >>= λ y. Some (Some (target.Definition y.0), y.1)) (complete_pat a (token.Sign sign.Becomes ∷ b) p q)
+define_is : (a b : List Token) (p : Pattern) → Pat a p (token.Sign sign.Becomes ∷ b) → define_at a ≡ Some (Some (definition p), b)
+define_is a b p q =
+    ap (λ o. cond o (define_list_at (rest_of a)) (define_one_at a)) (pat_begins q)
+    ∙ ap (λ o. (o >>= past is_becomes) >>= λ y. Some (Some (definition y.0), y.1)) (complete_pat a (token.Sign sign.Becomes ∷ b) p q)
+
+define_list_is : (a b : List Token) (ps : List Pattern) → PatList a ps (token.Sign sign.CloseSquare ∷ token.Sign sign.Becomes ∷ b) → define_at (token.Sign sign.OpenSquare ∷ a) ≡ Some (Some (definitions ps), b)
+define_list_is a b ps q = ap (λ o. (o >>= past is_becomes) >>= λ y. Some (Some (definitions y.0), y.1)) (complete_pat_list a (token.Sign sign.Becomes ∷ b) ps q)
 
 -- where there is no sign for it, a value is given to nothing
 no_target : (a : List Token) → is_at_word is_def_word a ≡ false → is_at_word is_var_word a ≡ false → is_assignment a ≡ false → target_at a ≡ Some (None, a)
 no_target a e f g = rw (e, f, g)
-
--- what the grammar gives is read, where within reads what is no longer than m
-module _ (m : ℕ) (within : List Token → Read Tree) (inside : (a r : List Token) (t : Tree) → length a ≤ m → Disjunction a t r → Below 1 r → within a ≡ Some (t, r)) where
-  turns_items : (a r : List Token) (ts : Trees) → length a ≤ m → Items a ts r → Below 1 r → Turns (items_next within) (items_at within a) ts r
-  turns_items _ _ _ h (items_one {a = a} {r = r} {t = t} x) b = turns_begin (items_next within) (λ u. and_then u none) (within a) (inside a r t h x b)
-  turns_items _ _ _ h (items_and {b = c} {r = r} {t = t} {ts = ts} s x) b =
-      turns_more (items_next within) (within c >>= λ y. Some (snoc ts y.0, y.1)) (turns_items _ _ _ h s (omega arith)) refl
-      (ap (λ o. o >>= λ y. Some (snoc ts y.0, y.1)) (inside c r t (omega (arith, h, less_items s)) x b)) (omega (arith, less_disjunction x))
-
-  complete_args : (close : Bracket) (s : signs.Sign) (a r : List Token) (ts : Trees) → is_close close (Some s) ≡ true → is_comma (Some s) ≡ false → sign_strength s < 1 → length a ≤ m → Args a ts (token.Sign s ∷ r) → args_at within close a ≡ Some (ts, r)
-  complete_args close s _ r _ e n w h args_none = ap (λ o. cond o (Some (none, r)) (items_at within (token.Sign s ∷ r) >>= past (is_close close))) e
-  complete_args close s _ r _ e n w h (args_some {a = a} {ts = ts} x) =
-      ap (λ o. cond o (Some (none, rest_of a)) (items_at within a >>= past (is_close close))) (no_close close a (start_items x))
-      ∙ ap (λ o. o >>= past (is_close close)) (items_end within (turns_items a (token.Sign s ∷ r) ts h x w) n)
-      ∙ ap (λ o. cond o (Some (ts, r)) None) e
-
-  -- the value behind what it is given to
-  abbrev value_at : Option Target × List Token → Read Tree
-  value_at g = or_else g.0 (within g.1) (λ t. within g.1 >>= λ x. Some (given t x.0, x.1))
-
-  complete_expr : (a r : List Token) (t : Tree) → length a ≤ m → Expr a t r → Below 1 r → expr_at within a ≡ Some (t, r)
-  complete_expr _ _ _ h (expr_define {a = a} {b = c} {r = r} {p = p} {t = t} q x) b =
-      ap (λ o. o >>= value_at) (define_is a c p q)
-      ∙ ap (λ o. o >>= λ x. Some (define p x.0, x.1)) (inside c r t (omega (arith, h, less_pat q)) x b)
-  complete_expr _ _ _ h (expr_variable {a = a} {r = r} {x = y} {t = t} x) b = ap (λ o. o >>= λ x. Some (variable y x.0, x.1)) (inside a r t (omega (arith, h)) x b)
-  complete_expr _ _ _ h (expr_assign {a = a} {r = r} {x = y} {t = t} x) b = ap (λ o. o >>= λ x. Some (assign y x.0, x.1)) (inside a r t (omega (arith, h)) x b)
-  complete_expr _ _ _ h (expr_disjunction {a = a} {r = r} {t = t} x) b =
-      ap (λ o. o >>= value_at) (no_target a (no_def a (start_disjunction x)) (no_var a (start_disjunction x)) (no_assignment x b)) ∙ inside a r t h x b
-
-  complete_primary : (a r : List Token) (t : Tree) → length a ≤ suc m → Primary a t r → primary_at within a ≡ Some (t, r)
-  complete_primary _ _ _ h primary_int = refl
-  complete_primary _ _ _ h primary_text = refl
-  complete_primary _ _ _ h primary_true = refl
-  complete_primary _ _ _ h primary_false = refl
-  complete_primary _ _ _ h primary_null = refl
-  complete_primary _ _ _ h primary_name = refl
-  complete_primary _ _ _ h (primary_list {a = a} {r = r} {ts = ts} x) =
-      ap (λ o. o >>= λ y. Some (list_tree y.0, y.1)) (complete_args bracket.Square sign.CloseSquare a r ts refl refl (omega arith) (omega (arith, h)) x)
-  complete_primary _ _ _ h (primary_group {a = a} {r = r} {t = t} x) =
-      ap (λ o. o >>= past (is_close bracket.Round)) (complete_expr a (token.Sign sign.CloseRound ∷ r) t (omega (arith, h)) x (omega arith))
-
-  turns_postfix : (a r : List Token) (t : Tree) → length a ≤ suc m → Postfix a t r → Turns (postfix_next within) (postfix_at within a) t r
-  turns_postfix _ _ _ h (postfix_primary {a = a} {r = r} {t = t} p) = turns_begin (postfix_next within) (λ u. u) (primary_at within a) (complete_primary a r t h p)
-  turns_postfix _ _ _ h (postfix_method {b = b} {r = r} {t = t} {verb = verb} {ts = ts} s p) =
-      turns_more (postfix_next within) (linked_at within link.Method t (token.Name verb ∷ token.Sign sign.OpenRound ∷ b)) (turns_postfix _ _ _ h s) refl
-      (ap (λ o. o >>= λ y. Some (call t verb y.0, y.1)) (complete_args bracket.Round sign.CloseRound b r ts refl refl (omega arith) (omega (arith, h, less_postfix s)) p)) (omega (arith, less_args p))
-  turns_postfix _ _ _ h (postfix_run {b = b} {r = r} {t = t} {ts = ts} s p) =
-      turns_more (postfix_next within) (linked_at within link.Run t b) (turns_postfix _ _ _ h s) refl
-      (ap (λ o. o >>= λ y. Some (call t (codes "run") y.0, y.1)) (complete_args bracket.Round sign.CloseRound b r ts refl refl (omega arith) (omega (arith, h, less_postfix s)) p)) (omega (arith, less_args p))
-  turns_postfix _ _ _ h (postfix_get {b = b} {r = r} {t = t} {ts = ts} s p) =
-      turns_more (postfix_next within) (linked_at within link.Index t b) (turns_postfix _ _ _ h s) refl
-      (ap (λ o. o >>= λ y. Some (call t (codes "get") y.0, y.1)) (complete_args bracket.Square sign.CloseSquare b r ts refl refl (omega arith) (omega (arith, h, less_postfix s)) p)) (omega (arith, less_args p))
-
-  complete_postfix : (a r : List Token) (t : Tree) → length a ≤ suc m → Postfix a t r → Below 4 r → postfix_at within a ≡ Some (t, r)
-  complete_postfix a r t h p b = postfix_end within (turns_postfix a r t h p) (front_none link_of 4 link_none r b)
-
-  complete_unary : (a r : List Token) (t : Tree) → length a ≤ suc m → Unary a t r → Below 4 r → unary_at within a ≡ Some (t, r)
-  complete_unary _ _ _ h (unary_postfix {a = a} {r = r} {t = t} p) b =
-      ap (λ o. or_else o (postfix_at within a) (λ o. postfix_at within (rest_of a) >>= λ x. Some (call x.0 (prefix_verb o) none, x.1))) (no_prefix a (start_postfix p)) ∙ complete_postfix a r t h p b
-  complete_unary _ _ _ h (unary_prefix {a = a} {r = r} {t = t} {s = s} {o = o} e p) b =
-      ap (λ o. or_else o (postfix_at within (token.Sign s ∷ a)) (λ o. postfix_at within a >>= λ x. Some (call x.0 (prefix_verb o) none, x.1))) e
-      ∙ ap (λ y. y >>= λ x. Some (call x.0 (prefix_verb o) none, x.1)) (complete_postfix a r t (omega (arith, h)) p b)
-
-  turns_product : (a r : List Token) (t : Tree) → length a ≤ suc m → Product a t r → Below 4 r → Turns (operand_next product_operator (unary_at within)) (product_at within a) t r
-  turns_product _ _ _ h (product_unary {a = a} {r = r} {t = t} p) b = turns_begin (operand_next product_operator (unary_at within)) (λ u. u) (unary_at within a) (complete_unary a r t h p b)
-  turns_product _ _ _ h (product_more {b = c} {r = r} {u = u} {s = s} q e p) b =
-      operand_more product_operator (unary_at within) u c r (turns_product _ _ _ h q (product_strength s e)) e refl (complete_unary c r u (omega (arith, h, less_product q)) p b) (less_unary p)
-
-  complete_product : (a r : List Token) (t : Tree) → length a ≤ suc m → Product a t r → Below 3 r → product_at within a ≡ Some (t, r)
-  complete_product a r t h p b = operand_end product_operator (unary_at within) (turns_product a r t h p (omega (arith, b))) (front_none product_operator 3 product_none r b)
-
-  turns_sum : (a r : List Token) (t : Tree) → length a ≤ suc m → Sum a t r → Below 3 r → Turns (operand_next sum_operator (product_at within)) (sum_at within a) t r
-  turns_sum _ _ _ h (sum_product {a = a} {r = r} {t = t} p) b = turns_begin (operand_next sum_operator (product_at within)) (λ u. u) (product_at within a) (complete_product a r t h p b)
-  turns_sum _ _ _ h (sum_more {b = c} {r = r} {u = u} {s = s} q e p) b =
-      operand_more sum_operator (product_at within) u c r (turns_sum _ _ _ h q (sum_strength s e)) e refl (complete_product c r u (omega (arith, h, less_sum q)) p b) (less_product p)
-
-  complete_sum : (a r : List Token) (t : Tree) → length a ≤ suc m → Sum a t r → Below 2 r → sum_at within a ≡ Some (t, r)
-  complete_sum a r t h p b = operand_end sum_operator (product_at within) (turns_sum a r t h p (omega (arith, b))) (front_none sum_operator 2 sum_none r b)
-
-  complete_comparison : (a r : List Token) (t : Tree) → length a ≤ suc m → Comparison a t r → Below 1 r → comparison_at within a ≡ Some (t, r)
-  complete_comparison _ _ _ h (comparison_sum {a = a} {r = r} {t = t} s) b =
-      ap (λ o. o >>= λ x. or_else (front comparison_operator x.1) (Some x) (λ o. sum_at within (rest_of x.1) >>= λ y. Some (joined o x.0 y.0, y.1))) (complete_sum a r t h s (omega (arith, b)))
-      ∙ ap (λ o. or_else o (Some (t, r)) (λ o. sum_at within (rest_of r) >>= λ y. Some (joined o t y.0, y.1))) (front_none comparison_operator 1 comparison_none r b)
-  complete_comparison _ _ _ h (comparison_two {a = a} {b = c} {r = r} {t = t} {u = u} {s = s} {o = o} q e p) b =
-      ap (λ o. o >>= λ x. or_else (front comparison_operator x.1) (Some x) (λ o. sum_at within (rest_of x.1) >>= λ y. Some (joined o x.0 y.0, y.1))) (complete_sum a (token.Sign s ∷ c) t h q (comparison_strength s e))
-      ∙ ap (λ o. or_else o (Some (t, token.Sign s ∷ c)) (λ o. sum_at within c >>= λ y. Some (joined o t y.0, y.1))) e
-      ∙ ap (λ y. y >>= λ y. Some (joined o t y.0, y.1)) (complete_sum c r u (omega (arith, h, less_sum q)) p (omega (arith, b)))
-
-complete_disjunction : (n : ℕ) (a r : List Token) (t : Tree) → length a ≤ n → Disjunction a t r → Below 1 r → disjunction_at n a ≡ Some (t, r)
-complete_disjunction zero a r t h x b = absurd (omega (arith, h, less_disjunction x))
-complete_disjunction (suc n) a r t h (disjunction_comparison x) b = complete_comparison n (disjunction_at n) (complete_disjunction n) a r t h x b
 
 -- semicolons are gone past
 skip_is : (a r : List Token) → Semicolons a r → is_semicolon (sign_in r) ≡ false → skip_semicolons a ≡ r
 skip_is a _ semicolons_none h = skip-end a h
 skip_is _ r (semicolons_more {a = a} s) h = skip_is a r s h
 
-separator_is : (a : List Token) → Semicolons a [] → separator_at a ≡ Some []
-separator_is _ semicolons_none = refl
-separator_is _ (semicolons_more {a = a} s) = ap (λ r. Some r) (skip_is a [] s refl)
+-- no semicolon is in front where a block ends
+end_stops : (a : List Token) → is_block_end a ≡ true → is_semicolon (sign_in a) ≡ false
+end_stops [] e = refl
+end_stops (token.Sign s ∷ a) e = end_sign s e
+  where
+    end_sign : (s : signs.Sign) → is_close bracket.Curly (Some s) ≡ true → is_semicolon (Some s) ≡ false
+    end_sign sign.CloseCurly e = refl
+    end_sign _ e = absurd (cc)
+end_stops (_ ∷ a) e = refl
 
-no_sign : (o : Option signs.Sign) → is_semicolon o ≡ true → strength o < 1
-no_sign (Some sign.Semicolon) e = omega arith
-no_sign _ e = absurd (cc)
+separator_is : (a r : List Token) → Semicolons a r → is_block_end r ≡ true → separator_at a ≡ Some r
+separator_is a _ semicolons_none e = ap (λ o. cond o (Some a) (cond (is_semicolon (sign_in a)) (Some (skip_semicolons a)) None)) e
+separator_is _ r (semicolons_more {a = a} s) e = ap (λ r. Some r) (skip_is a r s (end_stops r e))
+
+separates : (s : signs.Sign) → is_semicolon (Some s) ≡ true → sign_strength s < 1
+separates sign.Semicolon e = omega arith
+separates _ e = absurd (cc)
+
+closes : (s : signs.Sign) → is_close bracket.Curly (Some s) ≡ true → sign_strength s < 1
+closes sign.CloseCurly e = omega arith
+closes _ e = absurd (cc)
 
 separator_below : (a r : List Token) → separator_at a ≡ Some r → Below 1 a
 separator_below [] r e = omega arith
-separator_below (x ∷ a) r e = elim (if_is (is_semicolon (sign_in (x ∷ a))) (Some (skip_semicolons (x ∷ a))) None e) [
-  | inl h ↦ no_sign (sign_in (x ∷ a)) h.0
-  | inr h ↦ absurd (none_some h.1)
+separator_below (token.Sign s ∷ a) r e = elim (if_is (is_close bracket.Curly (Some s)) (Some (token.Sign s ∷ a)) (cond (is_semicolon (Some s)) (Some (skip_semicolons (token.Sign s ∷ a))) None) e) [
+  | inl h ↦ closes s h.0
+  | inr h ↦ elim (if_is (is_semicolon (Some s)) (Some (skip_semicolons (token.Sign s ∷ a))) None h.1) [
+    | inl k ↦ separates s k.0
+    | inr k ↦ absurd (none_some k.1)
+  ]
 ]
+separator_below (_ ∷ a) r e = absurd (none_some e)
 
-module _ (m : ℕ) where
-  expr_is : (a r : List Token) (t : Tree) → length a ≤ m → Expr a t r → Below 1 r → expr_at (disjunction_at m) a ≡ Some (t, r)
-  expr_is = complete_expr m (disjunction_at m) (complete_disjunction m)
+-- what the grammar gives is read, where within reads what is no longer than m
+module _ (m : ℕ) (within : Within)
+    (inside : (a r : List Token) (t : Tree) → length a ≤ m → Disjunction a t r → Below 1 r → within.expression a ≡ Some (t, r))
+    (chained : (a r : List Token) (t : Tree) → length a ≤ m → Conditional a t r → Below 7 r → within.conditional a ≡ Some (t, r)) where
+  turns_items : (a r : List Token) (ts : Trees) → length a ≤ m → Items a ts r → Below 1 r → Turns (commas_next snoc within.expression) (items_at within a) ts r
+  turns_items _ _ _ h (items_one {a = a} {r = r} {t = t} x) b = turns_begin (commas_next snoc within.expression) (λ u. and_then u none) (within.expression a) (inside a r t h x b)
+  turns_items _ _ _ h (items_and {b = c} {r = r} {t = t} {ts = ts} s x) b =
+      turns_more (commas_next snoc within.expression) (within.expression c >>= λ y. Some (snoc ts y.0, y.1)) (turns_items _ _ _ h s (omega arith)) refl
+      (ap (λ o. o >>= λ y. Some (snoc ts y.0, y.1)) (inside c r t (omega (arith, h, less_items s)) x b)) (omega (arith, less_disjunction x))
 
-  turns_sequence : (read : Read Trees) (a r s : List Token) (ts : Trees) → length a ≤ m → Turns (block_next (disjunction_at m)) read none a → Sequence a ts r → separator_at r ≡ Some s → Turns (block_next (disjunction_at m)) read ts s
+  complete_args : (close : Bracket) (s : signs.Sign) (a r : List Token) (ts : Trees) → is_close close (Some s) ≡ true → is_comma (Some s) ≡ false → sign_strength s < 1 → length a ≤ m → Args a ts (token.Sign s ∷ r) → args_at within close a ≡ Some (ts, r)
+  complete_args close s _ r _ e n w h args_none = ap (λ o. cond o (Some (none, r)) (items_at within (token.Sign s ∷ r) >>= past (is_close close))) e
+  complete_args close s _ r _ e n w h (args_some {a = a} {ts = ts} x) =
+      ap (λ o. cond o (Some (none, rest_of a)) (items_at within a >>= past (is_close close))) (no_close close a (start_items x))
+      ∙ ap (λ o. o >>= past (is_close close)) (commas_end snoc within.expression (turns_items a (token.Sign s ∷ r) ts h x w) n)
+      ∙ ap (λ o. cond o (Some (ts, r)) None) e
+
+  -- the value behind what it is given to
+  abbrev value_at : Option Place × List Token → Read Tree
+  value_at g = or_else g.0 (within.expression g.1) (λ t. within.expression g.1 >>= λ x. Some (given t x.0, x.1))
+
+  complete_expr : (a r : List Token) (t : Tree) → length a ≤ m → Expr a t r → Below 1 r → expr_at within a ≡ Some (t, r)
+  complete_expr _ _ _ h (expr_define {a = a} {b = c} {r = r} {p = p} {t = t} q x) b =
+      ap (λ o. o >>= value_at) (define_is a c p q)
+      ∙ ap (λ o. o >>= λ x. Some (define p x.0, x.1)) (inside c r t (omega (arith, h, less_pat q)) x b)
+  complete_expr _ _ _ h (expr_define_list {a = a} {b = c} {r = r} {ps = ps} {t = t} q x) b =
+      ap (λ o. o >>= value_at) (define_list_is a c ps q)
+      ∙ ap (λ o. o >>= λ x. Some (define_list ps x.0, x.1)) (inside c r t (omega (arith, h, less_pat_list q)) x b)
+  complete_expr _ _ _ h (expr_variable {a = a} {r = r} {x = y} {t = t} x) b = ap (λ o. o >>= λ x. Some (variable y x.0, x.1)) (inside a r t (omega (arith, h)) x b)
+  complete_expr _ _ _ h (expr_assign {a = a} {r = r} {x = y} {t = t} x) b = ap (λ o. o >>= λ x. Some (assign y x.0, x.1)) (inside a r t (omega (arith, h)) x b)
+  complete_expr _ _ _ h (expr_disjunction {a = a} {r = r} {t = t} x) b =
+      ap (λ o. o >>= value_at) (no_target a (no_def a (start_disjunction x)) (no_var a (start_disjunction x)) (no_assignment x b)) ∙ inside a r t h x b
+
+  turns_sequence : (read : Read Trees) (a r s : List Token) (ts : Trees) → length a ≤ m → Turns (block_next within) read none a → Sequence a ts r → separator_at r ≡ Some s → Turns (block_next within) read ts s
   turns_sequence read _ _ s _ h c (sequence_one {a = a} {r = r} {t = t} x) e =
-      block_more (disjunction_at m) t r s c (not_empty a r (less_expr x)) (expr_is a r t h x (separator_below r s e)) (less_expr x) e
+      block_more within t r s c (expr_goes x) (complete_expr a r t h x (separator_below r s e)) (less_expr x) e
   turns_sequence read _ _ s _ h c (sequence_and {a = a} {b = b} {c = d} {r = r} {t = t} {ts = ts} q p x) e =
-      block_more (disjunction_at m) t r s
+      block_more within t r s
       (turns_sequence read a (token.Sign sign.Semicolon ∷ b) d ts h c q (ap (λ r. Some r) (skip_is b d p (expr_begins x))))
-      (not_empty d r (less_expr x)) (expr_is d r t (omega (arith, h, less_sequence q, le_semicolons p)) x (separator_below r s e)) (less_expr x) e
+      (expr_goes x) (complete_expr d r t (omega (arith, h, less_sequence q, le_semicolons p)) x (separator_below r s e)) (less_expr x) e
 
-  complete_block : (a : List Token) (ts : Trees) → length a ≤ m → Block a ts [] → block_at (disjunction_at m) a ≡ Some (ts, [])
-  complete_block a _ h (block_empty s) = block_end (disjunction_at m) (block_begin (disjunction_at m) a [] (sym (skip_is a [] s refl))) refl
-  complete_block a ts h (block_items {b = b} {c = c} s q p) =
-      block_end (disjunction_at m)
-      (turns_sequence (block_at (disjunction_at m) a) b c [] ts (omega (arith, h, le_semicolons s)) (block_begin (disjunction_at m) a b (sym (skip_is a b s (sequence_begins q)))) q (separator_is c p)) refl
+  complete_block : (a r : List Token) (ts : Trees) → length a ≤ m → Block a ts r → is_block_end r ≡ true → block_at within a ≡ Some (ts, r)
+  complete_block a r _ h (block_empty s) e = block_end within (block_begin within a r (sym (skip_is a r s (end_stops r e)))) e
+  complete_block a r ts h (block_items {b = b} {c = c} s q p) e =
+      block_end within
+      (turns_sequence (block_at within a) b c r ts (omega (arith, h, le_semicolons s)) (block_begin within a b (sym (skip_is a b s (sequence_begins q)))) q (separator_is c r p e)) e
+
+  complete_block_past : (a r : List Token) (ts : Trees) → length a ≤ m → Block a ts (token.Sign sign.CloseCurly ∷ r) → block_past_at within a ≡ Some (ts, r)
+  complete_block_past a r ts h x = ap (λ o. o >>= past (is_close bracket.Curly)) (complete_block a (token.Sign sign.CloseCurly ∷ r) ts h x refl)
+
+  complete_braced : (a r : List Token) (ts : Trees) → length a ≤ suc m → Braced a ts r → braced_at within a ≡ Some (ts, r)
+  complete_braced _ r ts h (braced {a = a} x) = complete_block_past a r ts (omega (arith, h)) x
+
+  complete_condition : (a r : List Token) (t : Tree) → length a ≤ suc m → Condition a t r → condition_at within a ≡ Some (t, r)
+  complete_condition _ r t h (condition {a = a} x) = ap (λ o. o >>= past (is_close bracket.Round)) (inside a (token.Sign sign.CloseRound ∷ r) t (omega (arith, h)) x (omega arith))
+
+  -- the second block of a choice, behind the first
+  abbrev chosen_at : Tree → Trees → Read Trees → Read Tree
+  chosen_at t ts o = o >>= λ d. Some (if_tree t ts d.0, d.1)
+
+  complete_if : (a r : List Token) (t : Tree) → length a ≤ suc m → Conditional a t r → Below 7 r → if_at within a ≡ Some (t, r)
+  complete_if _ _ _ h (conditional_alone {a = a} {b = b} {r = r} {t = t} {ts = ts} x y) k =
+      ap (λ o. o >>= λ c. braced_at within c.1 >>= λ b. else_at within b.1 >>= λ d. Some (if_tree c.0 b.0 d.0, d.1)) (complete_condition a b t h x)
+      ∙ ap (λ o. o >>= λ b. else_at within b.1 >>= λ d. Some (if_tree t b.0 d.0, d.1)) (complete_braced b r ts (omega (arith, h, less_condition x)) y)
+      ∙ ap (λ o. chosen_at t ts (cond o (branch_at within (rest_of r)) (Some (none, r)))) (no_else r k)
+  complete_if _ _ _ h (conditional_else {a = a} {b = b} {c = c} {r = r} {t = t} {ts = ts} {us = us} x y z) k =
+      ap (λ o. o >>= λ c. braced_at within c.1 >>= λ b. else_at within b.1 >>= λ d. Some (if_tree c.0 b.0 d.0, d.1)) (complete_condition a b t h x)
+      ∙ ap (λ o. o >>= λ b. else_at within b.1 >>= λ d. Some (if_tree t b.0 d.0, d.1)) (complete_braced b (token.Word word.Else ∷ c) ts (omega (arith, h, less_condition x)) y)
+      ∙ ap (λ o. chosen_at t ts (cond o (within.conditional (rest_of c) >>= λ u. Some (alone u.0, u.1)) (braced_at within c))) (braced_begins z is_if_word)
+      ∙ ap (chosen_at t ts) (complete_braced c r us (omega (arith, h, less_condition x, less_braced y)) z)
+  complete_if _ _ _ h (conditional_else_if {a = a} {b = b} {c = c} {r = r} {t = t} {u = u} {ts = ts} x y z) k =
+      ap (λ o. o >>= λ c. braced_at within c.1 >>= λ b. else_at within b.1 >>= λ d. Some (if_tree c.0 b.0 d.0, d.1)) (complete_condition a b t h x)
+      ∙ ap (λ o. o >>= λ b. else_at within b.1 >>= λ d. Some (if_tree t b.0 d.0, d.1)) (complete_braced b (token.Word word.Else ∷ token.Word word.If ∷ c) ts (omega (arith, h, less_condition x)) y)
+      ∙ ap (λ o. chosen_at t ts (o >>= λ u. Some (alone u.0, u.1))) (chained c r u (omega (arith, h, less_condition x, less_braced y)) z k)
+
+  brace_below : {a r : List Token} {ts : Trees} → Braced a ts r → Below 1 a
+  brace_below (braced x) = omega arith
+
+  complete_primary : (a r : List Token) (t : Tree) → length a ≤ suc m → Primary a t r → Below 7 r → primary_at within a ≡ Some (t, r)
+  complete_primary _ _ _ h primary_int k = refl
+  complete_primary _ _ _ h primary_text k = refl
+  complete_primary _ _ _ h primary_true k = refl
+  complete_primary _ _ _ h primary_false k = refl
+  complete_primary _ _ _ h primary_null k = refl
+  complete_primary _ _ _ h primary_name k = refl
+  complete_primary _ _ _ h (primary_list {a = a} {r = r} {ts = ts} x) k =
+      ap (λ o. o >>= λ y. Some (list_tree y.0, y.1)) (complete_args bracket.Square sign.CloseSquare a r ts refl refl (omega arith) (omega (arith, h)) x)
+  complete_primary _ _ _ h (primary_group {a = a} {r = r} {t = t} x) k =
+      ap (λ o. o >>= past (is_close bracket.Round)) (complete_expr a (token.Sign sign.CloseRound ∷ r) t (omega (arith, h)) x (omega arith))
+  complete_primary _ _ _ h (primary_hide {a = a} {r = r} {ts = ts} x) k =
+      ap (λ o. o >>= λ b. Some (hide b.0, b.1)) (complete_block_past a r ts (omega (arith, h)) x)
+  complete_primary _ _ _ h (primary_if {a = a} {r = r} {t = t} x) k = complete_if a r t (omega (arith, h)) x k
+  complete_primary _ _ _ h (primary_while {a = a} {b = b} {r = r} {t = t} {ts = ts} x y) k =
+      ap (λ o. o >>= λ c. braced_at within c.1 >>= λ b. Some (while_tree c.0 b.0, b.1)) (complete_condition a b t (omega (arith, h)) x)
+      ∙ ap (λ o. o >>= λ b. Some (while_tree t b.0, b.1)) (complete_braced b r ts (omega (arith, h, less_condition x)) y)
+  complete_primary _ _ _ h (primary_for {a = a} {b = b} {c = c} {r = r} {p = p} {t = t} {ts = ts} q x y) k =
+      ap (λ o. (o >>= past_word is_in_word) >>= λ p. within.expression p.1 >>= λ e. braced_at within e.1 >>= λ b. Some (for_tree p.0 e.0 b.0, b.1)) (complete_pat a (token.Word word.In ∷ b) p q)
+      ∙ ap (λ o. o >>= λ e. braced_at within e.1 >>= λ b. Some (for_tree p e.0 b.0, b.1)) (inside b c t (omega (arith, h, less_pat q)) x (brace_below y))
+      ∙ ap (λ o. o >>= λ b. Some (for_tree p t b.0, b.1)) (complete_braced c r ts (omega (arith, h, less_pat q, less_disjunction x)) y)
+  complete_primary _ _ _ h (primary_try {a = a} {b = b} {c = c} {r = r} {p = p} {ts = ts} {us = us} x q y) k =
+      ap (λ o. (o >>= past_word is_catch_word) >>= λ b. pattern_at b.1 >>= λ p. braced_at within p.1 >>= λ h. Some (try_tree b.0 p.0 h.0, h.1)) (complete_braced a (token.Word word.Catch ∷ b) ts (omega (arith, h)) x)
+      ∙ ap (λ o. o >>= λ p. braced_at within p.1 >>= λ h. Some (try_tree ts p.0 h.0, h.1)) (complete_pat b c p q)
+      ∙ ap (λ o. o >>= λ h. Some (try_tree ts p h.0, h.1)) (complete_braced c r us (omega (arith, h, less_braced x, less_pat q)) y)
+  complete_primary _ _ _ h (primary_throw {a = a} {r = r} {t = t} x) k =
+      ap (λ o. o >>= λ e. Some (throw_tree e.0, e.1)) (complete_condition a r t (omega (arith, h)) x)
+
+  turns_postfix : (a r : List Token) (t : Tree) → length a ≤ suc m → Postfix a t r → Below 7 r → Turns (postfix_next within) (postfix_at within a) t r
+  turns_postfix _ _ _ h (postfix_primary {a = a} {r = r} {t = t} p) k = turns_begin (postfix_next within) (λ u. u) (primary_at within a) (complete_primary a r t h p k)
+  turns_postfix _ _ _ h (postfix_method {b = b} {r = r} {t = t} {verb = verb} {ts = ts} s p) k =
+      turns_more (postfix_next within) (linked_at within link.Method t (token.Name verb ∷ token.Sign sign.OpenRound ∷ b)) (turns_postfix _ _ _ h s (omega arith)) refl
+      (ap (λ o. o >>= λ y. Some (call t verb y.0, y.1)) (complete_args bracket.Round sign.CloseRound b r ts refl refl (omega arith) (omega (arith, h, less_postfix s)) p)) (omega (arith, less_args p))
+  turns_postfix _ _ _ h (postfix_run {b = b} {r = r} {t = t} {ts = ts} s p) k =
+      turns_more (postfix_next within) (linked_at within link.Run t b) (turns_postfix _ _ _ h s (omega arith)) refl
+      (ap (λ o. o >>= λ y. Some (call t (codes "run") y.0, y.1)) (complete_args bracket.Round sign.CloseRound b r ts refl refl (omega arith) (omega (arith, h, less_postfix s)) p)) (omega (arith, less_args p))
+  turns_postfix _ _ _ h (postfix_get {b = b} {r = r} {t = t} {ts = ts} s p) k =
+      turns_more (postfix_next within) (linked_at within link.Index t b) (turns_postfix _ _ _ h s (omega arith)) refl
+      (ap (λ o. o >>= λ y. Some (call t (codes "get") y.0, y.1)) (complete_args bracket.Square sign.CloseSquare b r ts refl refl (omega arith) (omega (arith, h, less_postfix s)) p)) (omega (arith, less_args p))
+
+  complete_postfix : (a r : List Token) (t : Tree) → length a ≤ suc m → Postfix a t r → Below 6 r → postfix_at within a ≡ Some (t, r)
+  complete_postfix a r t h p b = postfix_end within (turns_postfix a r t h p (omega (arith, b))) (front_none link_of 6 link_none r b)
+
+  complete_unary : (a r : List Token) (t : Tree) → length a ≤ suc m → Unary a t r → Below 6 r → unary_at within a ≡ Some (t, r)
+  complete_unary _ _ _ h (unary_postfix {a = a} {r = r} {t = t} p) b =
+      ap (λ o. or_else o (postfix_at within a) (λ o. postfix_at within (rest_of a) >>= λ x. Some (call x.0 (prefix_verb o) none, x.1))) (no_prefix a (start_postfix p)) ∙ complete_postfix a r t h p b
+  complete_unary _ _ _ h (unary_prefix {a = a} {r = r} {t = t} {s = s} {o = o} e p) b =
+      ap (λ o. or_else o (postfix_at within (token.Sign s ∷ a)) (λ o. postfix_at within a >>= λ x. Some (call x.0 (prefix_verb o) none, x.1))) e
+      ∙ ap (λ y. y >>= λ x. Some (call x.0 (prefix_verb o) none, x.1)) (complete_postfix a r t (omega (arith, h)) p b)
+
+  turns_product : (a r : List Token) (t : Tree) → length a ≤ suc m → Product a t r → Below 6 r → Turns (operand_next product_operator (unary_at within)) (product_at within a) t r
+  turns_product _ _ _ h (product_unary {a = a} {r = r} {t = t} p) b = turns_begin (operand_next product_operator (unary_at within)) (λ u. u) (unary_at within a) (complete_unary a r t h p b)
+  turns_product _ _ _ h (product_more {b = c} {r = r} {u = u} {s = s} q e p) b =
+      operand_more product_operator (unary_at within) u c r (turns_product _ _ _ h q (product_strength s e)) e refl (complete_unary c r u (omega (arith, h, less_product q)) p b) (less_unary p)
+
+  complete_product : (a r : List Token) (t : Tree) → length a ≤ suc m → Product a t r → Below 5 r → product_at within a ≡ Some (t, r)
+  complete_product a r t h p b = operand_end product_operator (unary_at within) (turns_product a r t h p (omega (arith, b))) (front_none product_operator 5 product_none r b)
+
+  turns_sum : (a r : List Token) (t : Tree) → length a ≤ suc m → Sum a t r → Below 5 r → Turns (operand_next sum_operator (product_at within)) (sum_at within a) t r
+  turns_sum _ _ _ h (sum_product {a = a} {r = r} {t = t} p) b = turns_begin (operand_next sum_operator (product_at within)) (λ u. u) (product_at within a) (complete_product a r t h p b)
+  turns_sum _ _ _ h (sum_more {b = c} {r = r} {u = u} {s = s} q e p) b =
+      operand_more sum_operator (product_at within) u c r (turns_sum _ _ _ h q (sum_strength s e)) e refl (complete_product c r u (omega (arith, h, less_sum q)) p b) (less_product p)
+
+  complete_sum : (a r : List Token) (t : Tree) → length a ≤ suc m → Sum a t r → Below 4 r → sum_at within a ≡ Some (t, r)
+  complete_sum a r t h p b = operand_end sum_operator (product_at within) (turns_sum a r t h p (omega (arith, b))) (front_none sum_operator 4 sum_none r b)
+
+  complete_comparison : (a r : List Token) (t : Tree) → length a ≤ suc m → Comparison a t r → Below 3 r → comparison_at within a ≡ Some (t, r)
+  complete_comparison _ _ _ h (comparison_sum {a = a} {r = r} {t = t} s) b =
+      ap (λ o. o >>= λ x. or_else (front comparison_operator x.1) (Some x) (λ o. sum_at within (rest_of x.1) >>= λ y. Some (joined o x.0 y.0, y.1))) (complete_sum a r t h s (omega (arith, b)))
+      ∙ ap (λ o. or_else o (Some (t, r)) (λ o. sum_at within (rest_of r) >>= λ y. Some (joined o t y.0, y.1))) (front_none comparison_operator 3 comparison_none r b)
+  complete_comparison _ _ _ h (comparison_two {a = a} {b = c} {r = r} {t = t} {u = u} {s = s} {o = o} q e p) b =
+      ap (λ o. o >>= λ x. or_else (front comparison_operator x.1) (Some x) (λ o. sum_at within (rest_of x.1) >>= λ y. Some (joined o x.0 y.0, y.1))) (complete_sum a (token.Sign s ∷ c) t h q (comparison_strength s e))
+      ∙ ap (λ o. or_else o (Some (t, token.Sign s ∷ c)) (λ o. sum_at within c >>= λ y. Some (joined o t y.0, y.1))) e
+      ∙ ap (λ y. y >>= λ y. Some (joined o t y.0, y.1)) (complete_sum c r u (omega (arith, h, less_sum q)) p (omega (arith, b)))
+
+  turns_conjunction : (a r : List Token) (t : Tree) → length a ≤ suc m → Conjunction a t r → Below 3 r → Turns (operand_next and_operator (comparison_at within)) (conjunction_at within a) t r
+  turns_conjunction _ _ _ h (conjunction_comparison {a = a} {r = r} {t = t} p) b = turns_begin (operand_next and_operator (comparison_at within)) (λ u. u) (comparison_at within a) (complete_comparison a r t h p b)
+  turns_conjunction _ _ _ h (conjunction_more {b = c} {r = r} {u = u} {s = s} q e p) b =
+      operand_more and_operator (comparison_at within) u c r (turns_conjunction _ _ _ h q (and_strength s e)) e refl (complete_comparison c r u (omega (arith, h, less_conjunction q)) p b) (less_comparison p)
+
+  complete_conjunction : (a r : List Token) (t : Tree) → length a ≤ suc m → Conjunction a t r → Below 2 r → conjunction_at within a ≡ Some (t, r)
+  complete_conjunction a r t h p b = operand_end and_operator (comparison_at within) (turns_conjunction a r t h p (omega (arith, b))) (front_none and_operator 2 and_none r b)
+
+  turns_disjunction : (a r : List Token) (t : Tree) → length a ≤ suc m → Disjunction a t r → Below 2 r → Turns (operand_next or_operator (conjunction_at within)) (disjunction_at within a) t r
+  turns_disjunction _ _ _ h (disjunction_conjunction {a = a} {r = r} {t = t} p) b = turns_begin (operand_next or_operator (conjunction_at within)) (λ u. u) (conjunction_at within a) (complete_conjunction a r t h p b)
+  turns_disjunction _ _ _ h (disjunction_more {b = c} {r = r} {u = u} {s = s} q e p) b =
+      operand_more or_operator (conjunction_at within) u c r (turns_disjunction _ _ _ h q (or_strength s e)) e refl (complete_conjunction c r u (omega (arith, h, less_disjunction q)) p b) (less_conjunction p)
+
+  complete_disjunction : (a r : List Token) (t : Tree) → length a ≤ suc m → Disjunction a t r → Below 1 r → disjunction_at within a ≡ Some (t, r)
+  complete_disjunction a r t h p b = operand_end or_operator (conjunction_at within) (turns_disjunction a r t h p (omega (arith, b))) (front_none or_operator 1 or_none r b)
+
+-- so what is no longer than n is read
+mutual
+  complete_expression : (n : ℕ) (a r : List Token) (t : Tree) → length a ≤ n → Disjunction a t r → Below 1 r → (within_at n).expression a ≡ Some (t, r)
+  complete_expression zero a r t h x b = absurd (omega (arith, h, less_disjunction x))
+  complete_expression (suc n) a r t h x b = complete_disjunction n (within_at n) (complete_expression n) (complete_conditional n) a r t h x b
+
+  complete_conditional : (n : ℕ) (a r : List Token) (t : Tree) → length a ≤ n → Conditional a t r → Below 7 r → (within_at n).conditional a ≡ Some (t, r)
+  complete_conditional zero a r t h x b = absurd (omega (arith, h, less_conditional x))
+  complete_conditional (suc n) a r t h x b = complete_if n (within_at n) (complete_expression n) (complete_conditional n) a r t h x b
 
 -- a program of the grammar is read
 pub complete : (a : List Token) (ts : Trees) → Program a ts → program_at a ≡ Some (ts, [])
-complete a ts p = complete_block (length a) a ts (omega arith) p
+complete a ts p =
+    let n = length a in
+    ap (λ o. o >>= ended) (complete_block n (within_at n) (complete_expression n) (complete_conditional n) a [] ts (omega arith) p refl)
 
 pub one_program : (a : List Token) (ts us : Trees) → Program a ts → Program a us → ts ≡ us
 one_program a ts us p q = ap (λ z. z.0) (some_same (sym (complete a ts p) ∙ complete a us q))

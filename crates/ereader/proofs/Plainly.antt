@@ -85,6 +85,14 @@ open_square_at = here refl (short_spelled refl (λ y a e. refl) refl)
 pub close_square_at : {a : List ℕ} {ts : List Token} → InLine a ts → InLine (93 ∷ a) (token.Sign sign.CloseSquare ∷ ts)
 close_square_at = here refl (short_spelled refl (λ y a e. refl) refl)
 
+-- `{`
+pub open_curly_at : {a : List ℕ} {ts : List Token} → InLine a ts → InLine (123 ∷ a) (token.Sign sign.OpenCurly ∷ ts)
+open_curly_at = here refl (short_spelled refl (λ y a e. refl) refl)
+
+-- `}`
+pub close_curly_at : {a : List ℕ} {ts : List Token} → InLine a ts → InLine (125 ∷ a) (token.Sign sign.CloseCurly ∷ ts)
+close_curly_at = here refl (short_spelled refl (λ y a e. refl) refl)
+
 -- `,`
 pub comma_at : {a : List ℕ} {ts : List Token} → InLine a ts → InLine (44 ∷ a) (token.Sign sign.Comma ∷ ts)
 comma_at = here refl (short_spelled refl (λ y a e. refl) refl)

@@ -1,5 +1,5 @@
 -- The canonical spelling is cut into the tokens of the canonical spelling.
-use Rattle.std.proofs.Common.{◌≡◌, ℕ, Bool, true, false, List, [], ◌∷◌, ◌++◌, sym, refl, subst, append_assoc, append-nil, codes}
+use Rattle.std.proofs.Common.{◌≡◌, ℕ, Bool, true, false, not, List, [], ◌∷◌, ◌++◌, map, sym, refl, subst, append_assoc, append-nil, codes}
 use Rattle.etoken.specs.declared.token.Token.{Token}
 use Rattle.etoken.specs.declared.token.Token.TheVariants as token
 use Rattle.etoken.specs.declared.token.Reserved.TheVariants as word
@@ -7,12 +7,12 @@ use Rattle.etoken.specs.declared.token.Sign.TheVariants as sign
 use Rattle.etoken.specs.Cutting.{blanks_none}
 use Rattle.kernele.specs.declared.tree.Pattern.{Pattern}
 use Rattle.kernele.specs.declared.tree.Pattern.TheVariants as pattern
-use Rattle.kernele.specs.Tree.{Tree, null_tree, bool_tree, int_tree, text_tree, noun, define, variable, assign, call, list_tree, same_tree, Trees, none, and_then}
+use Rattle.kernele.specs.Tree.{Tree, null_tree, bool_tree, int_tree, text_tree, noun, define, variable, assign, call, list_tree, same_tree, define_list, hide, if_tree, while_tree, for_tree, try_tree, throw_tree, Trees, none, and_then}
 use Rattle.kernele.specs.Spelling as text
-use Rattle.kernele.specs.Spelling.{spelled, spelled_parts, spelled_items, spelling, needs_brackets, as_part, as_receiver, bound_name}
-use Rattle.ereader.specs.Written.{Before, led_by, between, bracketed, bound, written, written_parts, written_items, program_tokens}
-use Rattle.ereader.specs.Spelled.{CutInto, SpelledBy, BindsName, IsSpellable, AreSpellable}
-use Rattle.ereader.proofs.Plainly.{InLine, in_line_end, cut_in_line, spaced, open_round_at, close_round_at, open_square_at, close_square_at, comma_at, semicolon_at, dot_at, becomes_at, equal_at, Ends, reserved_at, underscore_at, name_at, int_at, text_at}
+use Rattle.kernele.specs.Spelling.{spelled, spelled_parts, spelled_items, spelling, needs_brackets, as_part, as_receiver, is_bare_receiver, bound_name}
+use Rattle.ereader.specs.Written.{Before, led_by, between, bracketed, bound, bound_in, in_braces, written, written_parts, written_items, program_tokens}
+use Rattle.ereader.specs.Spelled.{CutInto, SpelledBy, BindsName, BindNames, IsSpellable, AreSpellable}
+use Rattle.ereader.proofs.Plainly.{InLine, in_line_end, cut_in_line, spaced, open_round_at, close_round_at, open_square_at, close_square_at, open_curly_at, close_curly_at, comma_at, semicolon_at, dot_at, becomes_at, equal_at, Ends, reserved_at, underscore_at, name_at, int_at, text_at}
 use Rattle.ereader.proofs.Spelled as tokens
 
 -- the bytes are cut into these tokens, before whatever does not lengthen the last of them
@@ -20,7 +20,7 @@ abbrev Stands : List ℕ → Before → Type 0
 Stands bs w = (r : List ℕ) (us : List Token) → Ends r → InLine r us → InLine (bs ++ r) (w us)
 
 -- a receiver is put in brackets where it is wanted
-as_receiver-is : (t : Tree) (s : List ℕ) → as_receiver t s ≡ text.bracketed (needs_brackets t) s
+as_receiver-is : (t : Tree) (s : List ℕ) → as_receiver t s ≡ text.bracketed (not (is_bare_receiver t)) s
 as_receiver-is null_tree s = refl
 as_receiver-is (bool_tree b) s = refl
 as_receiver-is (int_tree z) s = refl
@@ -32,6 +32,13 @@ as_receiver-is (assign x e) s = refl
 as_receiver-is (call t verb ts) s = refl
 as_receiver-is (list_tree ts) s = refl
 as_receiver-is (same_tree t u) s = refl
+as_receiver-is (define_list ps e) s = refl
+as_receiver-is (hide body) s = refl
+as_receiver-is (if_tree c first second) s = refl
+as_receiver-is (while_tree c body) s = refl
+as_receiver-is (for_tree p e body) s = refl
+as_receiver-is (try_tree body p handler) s = refl
+as_receiver-is (throw_tree e) s = refl
 
 -- what stands, in brackets where they are wanted
 in_brackets : (wanted : Bool) (bs : List ℕ) (w : Before) → Stands bs w → Stands (text.bracketed wanted bs) (bracketed wanted w)
@@ -44,8 +51,8 @@ part : (t : Tree) → Stands (spelled t) (written t) → Stands (as_part t (spel
 part t h = in_brackets (needs_brackets t) (spelled t) (written t) h
 
 -- a receiver
-receiver : (t : Tree) → Stands (spelled t) (written t) → Stands (as_receiver t (spelled t)) (bracketed (needs_brackets t) (written t))
-receiver t h = subst (λ l. Stands l (bracketed (needs_brackets t) (written t))) (sym (as_receiver-is t (spelled t))) (in_brackets (needs_brackets t) (spelled t) (written t) h)
+receiver : (t : Tree) → Stands (spelled t) (written t) → Stands (as_receiver t (spelled t)) (bracketed (not (is_bare_receiver t)) (written t))
+receiver t h = subst (λ l. Stands l (bracketed (not (is_bare_receiver t)) (written t))) (sym (as_receiver-is t (spelled t))) (in_brackets (not (is_bare_receiver t)) (spelled t) (written t) h)
 
 -- two, one behind the other
 in_turn : (cs bs : List ℕ) (v w : Before) → Stands cs v → Stands bs w → ((r : List ℕ) → Ends r → Ends (bs ++ r)) → Stands (cs ++ bs) (λ us. v (w us))
@@ -86,6 +93,72 @@ list-bytes items r = simp append_assoc
 same-bytes : (t u r : List ℕ) → (codes "(" ++ t ++ codes " == " ++ u ++ codes ")") ++ r ≡ 40 ∷ (t ++ (32 ∷ 61 ∷ 61 ∷ 32 ∷ (u ++ (41 ∷ r))))
 same-bytes t u r = simp append_assoc
 
+-- of a definition of a list
+define_list-bytes : (ps e r : List ℕ) → (codes "def [" ++ ps ++ codes "] := " ++ e) ++ r ≡ codes "def" ++ (32 ∷ 91 ∷ (ps ++ (93 ∷ 32 ∷ 58 ∷ 61 ∷ 32 ∷ (e ++ r))))
+define_list-bytes ps e r = simp append_assoc
+
+-- of a choice
+if-bytes : (c p q r : List ℕ) → (codes "if (" ++ c ++ codes ") " ++ p ++ codes " else " ++ q) ++ r ≡ codes "if" ++ (32 ∷ 40 ∷ (c ++ (41 ∷ 32 ∷ (p ++ (32 ∷ (codes "else" ++ (32 ∷ (q ++ r))))))))
+if-bytes c p q r = simp append_assoc
+
+-- of a loop on a condition
+while-bytes : (c p r : List ℕ) → (codes "while (" ++ c ++ codes ") " ++ p) ++ r ≡ codes "while" ++ (32 ∷ 40 ∷ (c ++ (41 ∷ 32 ∷ (p ++ r))))
+while-bytes c p r = simp append_assoc
+
+-- of a loop on a list
+for-bytes : (x e p r : List ℕ) → (codes "for " ++ x ++ codes " in " ++ e ++ codes " " ++ p) ++ r ≡ codes "for" ++ (32 ∷ (x ++ (32 ∷ (codes "in" ++ (32 ∷ (e ++ (32 ∷ (p ++ r))))))))
+for-bytes x e p r = simp append_assoc
+
+-- of a body and its handler
+try-bytes : (p x q r : List ℕ) → (codes "try " ++ p ++ codes " catch " ++ x ++ codes " " ++ q) ++ r ≡ codes "try" ++ (32 ∷ (p ++ (32 ∷ (codes "catch" ++ (32 ∷ (x ++ (32 ∷ (q ++ r))))))))
+try-bytes p x q r = simp append_assoc
+
+-- of a throw
+throw-bytes : (e r : List ℕ) → (codes "throw(" ++ e ++ codes ")") ++ r ≡ codes "throw" ++ (40 ∷ (e ++ (41 ∷ r)))
+throw-bytes e r = simp append_assoc
+
+-- of a block in its braces
+braces-bytes : (s r : List ℕ) → (codes "{ " ++ s ++ codes " }") ++ r ≡ 123 ∷ 32 ∷ (s ++ (32 ∷ 125 ∷ r))
+braces-bytes s r = simp append_assoc
+
+-- further patterns, each behind a comma
+abbrev led_patterns : List Pattern → List ℕ
+led_patterns ps = text.led_by (codes ", ") (map bound_name ps)
+
+led_patterns-ends : (ps : List Pattern) (r : List ℕ) → Ends r → Ends (led_patterns ps ++ r)
+led_patterns-ends [] r ends = ends
+led_patterns-ends (p ∷ ps) r ends = refl
+
+more_patterns : (ps : List Pattern) → BindNames ps → Stands (led_patterns ps) (led_by (token.Sign sign.Comma) (map bound_in ps))
+more_patterns [] h = λ r us ends rest. rest
+more_patterns (p ∷ ps) h = λ r us ends rest.
+    comma_at (spaced (in_turn (bound_name p) (led_patterns ps) (bound_in p) (led_by (token.Sign sign.Comma) (map bound_in ps)) (λ r us ends rest. bound_at p h.0 ends rest) (more_patterns ps h.1) (led_patterns-ends ps) r us ends rest))
+
+-- the patterns of a list
+patterns_stand : (ps : List Pattern) → BindNames ps → Stands (text.joined (codes ", ") (map bound_name ps)) (between (token.Sign sign.Comma) (map bound_in ps))
+patterns_stand [] h = λ r us ends rest. rest
+patterns_stand (p ∷ ps) h = in_turn (bound_name p) (led_patterns ps) (bound_in p) (led_by (token.Sign sign.Comma) (map bound_in ps)) (λ r us ends rest. bound_at p h.0 ends rest) (more_patterns ps h.1) (led_patterns-ends ps)
+
+-- items, each behind a semicolon
+abbrev led_items : Trees → List ℕ
+led_items ts = text.led_by (codes "; ") (spelled_items ts)
+
+-- a semicolon lengthens no word
+led_items-ends : (ts : Trees) (r : List ℕ) → Ends r → Ends (led_items ts ++ r)
+led_items-ends none r ends = ends
+led_items-ends (and_then t ts) r ends = refl
+
+-- the items stand: each behind a semicolon, with semicolons between them
+abbrev StandItems : Trees → Type 0
+StandItems ts = Stands (led_items ts) (led_by (token.Sign sign.Semicolon) (written_items ts)) × Stands (spelling ts) (between (token.Sign sign.Semicolon) (written_items ts))
+
+-- a block in its braces
+block_stands : (ts : Trees) → StandItems ts → Stands (text.in_braces (spelled_items ts)) (in_braces (written_items ts))
+block_stands none h = λ r us ends rest. open_curly_at (spaced (close_curly_at rest))
+block_stands (and_then t ts) h = λ r us ends rest.
+    subst (λ l. InLine l (in_braces (written_items (and_then t ts)) us)) (sym (braces-bytes (spelling (and_then t ts)) r))
+    (open_curly_at (spaced (h.1 (32 ∷ 125 ∷ r) _ refl (spaced (close_curly_at rest)))))
+
 -- parts, each behind a comma
 abbrev led : Trees → List ℕ
 led ts = text.led_by (codes ", ") (spelled_parts ts)
@@ -125,6 +198,28 @@ mutual
   stands (same_tree t u) h = λ r us ends rest.
       subst (λ l. InLine l (written (same_tree t u) us)) (sym (same-bytes (as_part t (spelled t)) (as_part u (spelled u)) r))
       (open_round_at (part t (stands t h.0) _ _ refl (spaced (equal_at (spaced (part u (stands u h.1) (41 ∷ r) _ refl (close_round_at rest)))))))
+  stands (define_list ps e) h = λ r us ends rest.
+      subst (λ l. InLine l (written (define_list ps e) us)) (sym (define_list-bytes (text.joined (codes ", ") (map bound_name ps)) (as_part e (spelled e)) r))
+      (reserved_at (codes "def") word.Def refl refl refl refl (spaced (open_square_at (patterns_stand ps h.0 _ _ refl (close_square_at (spaced (becomes_at (spaced (part e (stands e h.1) r us ends rest)))))))))
+  stands (hide body) h = block_stands body (stand_items body h)
+  stands (if_tree c first second) h = λ r us ends rest.
+      subst (λ l. InLine l (written (if_tree c first second) us)) (sym (if-bytes (as_part c (spelled c)) (text.in_braces (spelled_items first)) (text.in_braces (spelled_items second)) r))
+      (reserved_at (codes "if") word.If refl refl refl refl (spaced (open_round_at (part c (stands c h.0) _ _ refl (close_round_at (spaced
+      (block_stands first (stand_items first h.1) _ _ refl (spaced (reserved_at (codes "else") word.Else refl refl refl refl (spaced (block_stands second (stand_items second h.2) r us ends rest)))))))))))
+  stands (while_tree c body) h = λ r us ends rest.
+      subst (λ l. InLine l (written (while_tree c body) us)) (sym (while-bytes (as_part c (spelled c)) (text.in_braces (spelled_items body)) r))
+      (reserved_at (codes "while") word.While refl refl refl refl (spaced (open_round_at (part c (stands c h.0) _ _ refl (close_round_at (spaced (block_stands body (stand_items body h.1) r us ends rest)))))))
+  stands (for_tree p e body) h = λ r us ends rest.
+      subst (λ l. InLine l (written (for_tree p e body) us)) (sym (for-bytes (bound_name p) (as_part e (spelled e)) (text.in_braces (spelled_items body)) r))
+      (reserved_at (codes "for") word.For refl refl refl refl (spaced (bound_at p h.0 refl (spaced (reserved_at (codes "in") word.In refl refl refl refl (spaced
+      (part e (stands e h.1) _ _ refl (spaced (block_stands body (stand_items body h.2) r us ends rest)))))))))
+  stands (try_tree body p handler) h = λ r us ends rest.
+      subst (λ l. InLine l (written (try_tree body p handler) us)) (sym (try-bytes (text.in_braces (spelled_items body)) (bound_name p) (text.in_braces (spelled_items handler)) r))
+      (reserved_at (codes "try") word.Try refl refl refl refl (spaced (block_stands body (stand_items body h.0) _ _ refl (spaced (reserved_at (codes "catch") word.Catch refl refl refl refl (spaced
+      (bound_at p h.1 refl (spaced (block_stands handler (stand_items handler h.2) r us ends rest)))))))))
+  stands (throw_tree e) h = λ r us ends rest.
+      subst (λ l. InLine l (written (throw_tree e) us)) (sym (throw-bytes (as_part e (spelled e)) r))
+      (reserved_at (codes "throw") word.Throw refl refl refl refl (open_round_at (part e (stands e h) _ _ refl (close_round_at rest))))
 
   -- so do all the parts
   stand_all : (ts : Trees) → AreSpellable ts → StandAll ts
@@ -133,28 +228,16 @@ mutual
       let whole = in_turn (as_part t (spelled t)) (led ts) (bracketed (needs_brackets t) (written t)) (led_by (token.Sign sign.Comma) (written_parts ts)) (part t (stands t h.0)) (stand_all ts h.1).0 (led-ends ts) in
       (λ r us ends rest. comma_at (spaced (whole r us ends rest)), whole)
 
--- items, each behind a semicolon
-abbrev led_items : Trees → List ℕ
-led_items ts = text.led_by (codes "; ") (spelled_items ts)
-
--- a semicolon lengthens no word
-led_items-ends : (ts : Trees) (r : List ℕ) → Ends r → Ends (led_items ts ++ r)
-led_items-ends none r ends = ends
-led_items-ends (and_then t ts) r ends = refl
-
--- further items of a block
-more_items : (ts : Trees) → AreSpellable ts → Stands (led_items ts) (led_by (token.Sign sign.Semicolon) (written_items ts))
-more_items none h = λ r us ends rest. rest
-more_items (and_then t ts) h = λ r us ends rest. semicolon_at (spaced (in_turn (spelled t) (led_items ts) (written t) (led_by (token.Sign sign.Semicolon) (written_items ts)) (stands t h.0) (more_items ts h.1) (led_items-ends ts) r us ends rest))
-
--- the items of a block
-items : (ts : Trees) → AreSpellable ts → Stands (spelling ts) (between (token.Sign sign.Semicolon) (written_items ts))
-items none h = λ r us ends rest. rest
-items (and_then t ts) h = in_turn (spelled t) (led_items ts) (written t) (led_by (token.Sign sign.Semicolon) (written_items ts)) (stands t h.0) (more_items ts h.1) (led_items-ends ts)
+  -- and all the items
+  stand_items : (ts : Trees) → AreSpellable ts → StandItems ts
+  stand_items none h = (λ r us ends rest. rest, λ r us ends rest. rest)
+  stand_items (and_then t ts) h =
+      let whole = in_turn (spelled t) (led_items ts) (written t) (led_by (token.Sign sign.Semicolon) (written_items ts)) (stands t h.0) (stand_items ts h.1).0 (led_items-ends ts) in
+      (λ r us ends rest. semicolon_at (spaced (whole r us ends rest)), whole)
 
 -- the canonical spelling is cut into the tokens of the canonical spelling
 pub cuts_itself : (ts : Trees) → AreSpellable ts → CutInto (spelling ts) (program_tokens ts)
-cuts_itself ts h = cut_in_line (subst (λ l. InLine l (program_tokens ts)) (append-nil (spelling ts)) (items ts h [] [] refl (in_line_end (blanks_none refl))))
+cuts_itself ts h = cut_in_line (subst (λ l. InLine l (program_tokens ts)) (append-nil (spelling ts)) ((stand_items ts h).1 [] [] refl (in_line_end (blanks_none refl))))
 
 -- the canonical spelling of a program spells that program
 pub spells_itself : (ts : Trees) → AreSpellable ts → SpelledBy (spelling ts) ts

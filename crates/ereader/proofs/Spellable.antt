@@ -22,9 +22,9 @@ use Rattle.ereader.specs.declared.operator.Operator.{Operator}
 use Rattle.ereader.specs.declared.operator.Operator.TheVariants as operator
 use Rattle.ereader.specs.declared.operator.Prefix.{Prefix}
 use Rattle.ereader.specs.declared.operator.Prefix.TheVariants as prefix
-use Rattle.ereader.specs.Grammar.{joined, prefix_verb, snoc, Expr, expr_define, expr_variable, expr_assign, expr_disjunction, Pat, pat_name, pat_ignore, Disjunction, disjunction_comparison, Comparison, comparison_sum, comparison_two, Sum, sum_product, sum_more, Product, product_unary, product_more, Unary, unary_postfix, unary_prefix, Postfix, postfix_primary, postfix_method, postfix_run, postfix_get, Primary, primary_int, primary_text, primary_true, primary_false, primary_null, primary_name, primary_list, primary_group, Args, args_none, args_some, Items, items_one, items_and, Semicolons, semicolons_none, semicolons_more, Sequence, sequence_one, sequence_and, Block, block_empty, block_items}
+use Rattle.ereader.specs.Grammar.{joined, prefix_verb, snoc, Pat, pat_name, pat_ignore, Pats, pats_one, pats_and, PatList, pat_list_none, pat_list_some, Semicolons, semicolons_none, semicolons_more, Expr, expr_define, expr_define_list, expr_variable, expr_assign, expr_disjunction, Disjunction, disjunction_conjunction, disjunction_more, Conjunction, conjunction_comparison, conjunction_more, Comparison, comparison_sum, comparison_two, Sum, sum_product, sum_more, Product, product_unary, product_more, Unary, unary_postfix, unary_prefix, Postfix, postfix_primary, postfix_method, postfix_run, postfix_get, Primary, primary_int, primary_text, primary_true, primary_false, primary_null, primary_name, primary_list, primary_group, primary_hide, primary_if, primary_while, primary_for, primary_try, primary_throw, Conditional, conditional_alone, conditional_else, conditional_else_if, Condition, condition, Braced, braced, Args, args_none, args_some, Items, items_one, items_and, Sequence, sequence_one, sequence_and, Block, block_empty, block_items}
 use Rattle.ereader.specs.View.{plain}
-use Rattle.ereader.specs.Spelled.{CutInto, cut_into, SpelledBy, IsName, HasLiteral, BindsName, IsSpellable, AreSpellable}
+use Rattle.ereader.specs.Spelled.{CutInto, cut_into, SpelledBy, IsName, HasLiteral, BindsName, BindNames, IsSpellable, AreSpellable}
 use Rattle.ereader.proofs.Retold.{spells_itself}
 
 -- a token that some text spells
@@ -98,6 +98,8 @@ joined_spellable operator.MoreThan t u h k = (h, refl, (k, tt))
 joined_spellable operator.AtLeast t u h k = (h, refl, (k, tt))
 joined_spellable operator.Same t u h k = (h, k)
 joined_spellable operator.Differ t u h k = ((h, k), refl, tt)
+joined_spellable operator.And t u h k = (h, (k, tt), (tt, tt))
+joined_spellable operator.Or t u h k = (h, (tt, tt), (k, tt))
 
 -- so are those of operators before a tree
 prefix_spellable : (o : Prefix) (t : Tree) → IsSpellable t → IsSpellable (call t (prefix_verb o) none)
@@ -113,18 +115,54 @@ pat_spellable pat_ignore h = h
 abbrev Keeps : List Token → Type 0 → List Token → Type 0
 Keeps a P r = AreWritable a → P × AreWritable r
 
+-- one pattern more at the end
+push_binds : (ps : List Pattern) (p : Pattern) → BindNames ps → BindsName p → BindNames (ps ++ (p ∷ []))
+push_binds [] p h k = (k, tt)
+push_binds (q ∷ ps) p h k = (h.0, push_binds ps p h.1 k)
+
+pats_spellable : {a r : List Token} {ps : List Pattern} → Pats a ps r → Keeps a (BindNames ps) r
+pats_spellable (pats_one p) = λ h. let q = pat_spellable p h in ((q.0, tt), q.1)
+pats_spellable (pats_and {p = p} {ps = ps} s x) = λ h.
+    let q = pats_spellable s h in
+    let k = pat_spellable x q.1.1 in
+    (push_binds ps p q.0 k.0, k.1)
+
+pat_list_spellable : {a r : List Token} {ps : List Pattern} → PatList a ps r → Keeps a (BindNames ps) r
+pat_list_spellable pat_list_none = λ h. (tt, h)
+pat_list_spellable (pat_list_some x) = pats_spellable x
+
+-- behind semicolons
+semicolons : {a r : List Token} → Semicolons a r → AreWritable a → AreWritable r
+semicolons semicolons_none = λ h. h
+semicolons (semicolons_more x) = λ h. semicolons x h.1
+
 mutual
   expr : {a r : List Token} {t : Tree} → Expr a t r → Keeps a (IsSpellable t) r
   expr (expr_define p x) = λ h.
       let q = pat_spellable p h.1 in
       let y = disjunction x q.1.1 in
       ((q.0, y.0), y.1)
+  expr (expr_define_list p x) = λ h.
+      let q = pat_list_spellable p h.1.1 in
+      let y = disjunction x q.1.1.1 in
+      ((q.0, y.0), y.1)
   expr (expr_variable x) = λ h. let y = disjunction x h.1.1.1 in ((h.1.0, y.0), y.1)
   expr (expr_assign x) = λ h. let y = disjunction x h.1.1 in ((h.0, y.0), y.1)
   expr (expr_disjunction x) = disjunction x
 
   disjunction : {a r : List Token} {t : Tree} → Disjunction a t r → Keeps a (IsSpellable t) r
-  disjunction (disjunction_comparison x) = comparison x
+  disjunction (disjunction_conjunction x) = conjunction x
+  disjunction (disjunction_more {t = t} {u = u} {o = o} x e y) = λ h.
+      let p = disjunction x h in
+      let q = conjunction y p.1.1 in
+      (joined_spellable o t u p.0 q.0, q.1)
+
+  conjunction : {a r : List Token} {t : Tree} → Conjunction a t r → Keeps a (IsSpellable t) r
+  conjunction (conjunction_comparison x) = comparison x
+  conjunction (conjunction_more {t = t} {u = u} {o = o} x e y) = λ h.
+      let p = conjunction x h in
+      let q = comparison y p.1.1 in
+      (joined_spellable o t u p.0 q.0, q.1)
 
   comparison : {a r : List Token} {t : Tree} → Comparison a t r → Keeps a (IsSpellable t) r
   comparison (comparison_sum x) = sum x
@@ -175,6 +213,45 @@ mutual
   primary primary_name = λ h. h
   primary (primary_list x) = λ h. let p = args x h.1 in (p.0, p.1.1)
   primary (primary_group x) = λ h. let p = expr x h.1 in (p.0, p.1.1)
+  primary (primary_hide x) = λ h. let p = block x h.1 in (p.0, p.1.1)
+  primary (primary_if x) = λ h. conditional x h.1
+  primary (primary_while x y) = λ h.
+      let p = in_round x h.1 in
+      let q = in_curly y p.1 in
+      ((p.0, q.0), q.1)
+  primary (primary_for o x y) = λ h.
+      let p = pat_spellable o h.1 in
+      let q = disjunction x p.1.1 in
+      let b = in_curly y q.1 in
+      ((p.0, q.0, b.0), b.1)
+  primary (primary_try x o y) = λ h.
+      let p = in_curly x h.1 in
+      let q = pat_spellable o p.1.1 in
+      let b = in_curly y q.1 in
+      ((p.0, q.0, b.0), b.1)
+  primary (primary_throw x) = λ h. in_round x h.1
+
+  conditional : {a r : List Token} {t : Tree} → Conditional a t r → Keeps a (IsSpellable t) r
+  conditional (conditional_alone x y) = λ h.
+      let p = in_round x h in
+      let q = in_curly y p.1 in
+      ((p.0, q.0, tt), q.1)
+  conditional (conditional_else x y z) = λ h.
+      let p = in_round x h in
+      let q = in_curly y p.1 in
+      let b = in_curly z q.1.1 in
+      ((p.0, q.0, b.0), b.1)
+  conditional (conditional_else_if x y z) = λ h.
+      let p = in_round x h in
+      let q = in_curly y p.1 in
+      let b = conditional z q.1.1.1 in
+      ((p.0, q.0, (b.0, tt)), b.1)
+
+  in_round : {a r : List Token} {t : Tree} → Condition a t r → Keeps a (IsSpellable t) r
+  in_round (condition x) = λ h. let p = disjunction x h.1 in (p.0, p.1.1)
+
+  in_curly : {a r : List Token} {ts : Trees} → Braced a ts r → Keeps a (AreSpellable ts) r
+  in_curly (braced x) = λ h. let p = block x h.1 in (p.0, p.1.1)
 
   args : {a r : List Token} {ts : Trees} → Args a ts r → Keeps a (AreSpellable ts) r
   args args_none = λ h. (tt, h)
@@ -187,27 +264,20 @@ mutual
       let q = disjunction y p.1.1 in
       (snoc_spellable ts t p.0 q.0, q.1)
 
--- behind semicolons
-semicolons : {a r : List Token} → Semicolons a r → AreWritable a → AreWritable r
-semicolons semicolons_none = λ h. h
-semicolons (semicolons_more x) = λ h. semicolons x h.1
+  sequence : {a r : List Token} {ts : Trees} → Sequence a ts r → Keeps a (AreSpellable ts) r
+  sequence (sequence_one x) = λ h. let p = expr x h in ((p.0, tt), p.1)
+  sequence (sequence_and {t = t} {ts = ts} x s y) = λ h.
+      let p = sequence x h in
+      let q = expr y (semicolons s p.1.1) in
+      (snoc_spellable ts t p.0 q.0, q.1)
 
--- the items of a block
-sequence : {a r : List Token} {ts : Trees} → Sequence a ts r → Keeps a (AreSpellable ts) r
-sequence (sequence_one x) = λ h. let p = expr x h in ((p.0, tt), p.1)
-sequence (sequence_and {t = t} {ts = ts} x s y) = λ h.
-    let p = sequence x h in
-    let q = expr y (semicolons s p.1.1) in
-    (snoc_spellable ts t p.0 q.0, q.1)
-
--- a program
-block : {a r : List Token} {ts : Trees} → Block a ts r → AreWritable a → AreSpellable ts
-block (block_empty s) h = tt
-block (block_items s x e) h = (sequence x (semicolons s h)).0
+  block : {a r : List Token} {ts : Trees} → Block a ts r → Keeps a (AreSpellable ts) r
+  block (block_empty s) = λ h. (tt, semicolons s h)
+  block (block_items s x e) = λ h. let p = sequence x (semicolons s h) in (p.0, semicolons e p.1)
 
 -- a program that a text spells can be spelled
 pub spellable : (text : List ℕ) (ts : Trees) → SpelledBy text ts → AreSpellable ts
-spellable text ts (tokens, cut, program) = block program (cut_writable cut)
+spellable text ts (tokens, cut, program) = (block program (cut_writable cut)).0
 
 -- the canonical spelling of a program that a text spells spells that program
 pub reads_back : (text : List ℕ) (ts : Trees) → SpelledBy text ts → SpelledBy (spelling ts) ts

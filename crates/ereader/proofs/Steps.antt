@@ -7,10 +7,13 @@ use Rattle.etoken.specs.declared.token.Sign.TheVariants as sign
 use Rattle.kernele.specs.declared.tree.Expr.{Expr}
 use Rattle.kernele.specs.Tree.{Tree, Trees, none, and_then}
 use Rattle.kernele.specs.View.{tree_of, trees_of}
+use Rattle.ereader.specs.declared.fault.Stop.{Stop}
+use Rattle.ereader.specs.declared.fault.Stop.TheVariants as stop
 use Rattle.ereader.specs.declared.operator.Operator.{Operator}
 use Rattle.ereader.specs.declared.operator.Link.{Link}
 use Rattle.ereader.specs.Grammar.{joined, snoc}
-use Rattle.ereader.specs.Reading.{Read, ◌>>=◌, or_else, rest_of, is_empty, sign_in, front, is_comma, is_semicolon, link_of, linked_at, postfix_next, items_next, operand_next, skip_semicolons, skip_semicolons_sign, repeat, separator_at, separated, expr_at, block_next, block_at}
+use Rattle.ereader.specs.Reading.{Read, ◌>>=◌, or_else, rest_of, is_empty, sign_in, front, is_comma, is_semicolon, Within, link_of, linked_at, postfix_next, commas_next, operand_next, skip_semicolons, skip_semicolons_sign, repeat, is_block_end, separator_at, separated, expr_at, block_next, block_at}
+use Rattle.ereader.specs.View.{Fails}
 use Rattle.ereader.proofs.Turns.{Turns, turns_more, turns_fail, turns_end, if_is, some_same, none_some}
 
 pub rest_le : (a : List Token) → length (rest_of a) ≤ length a
@@ -47,10 +50,15 @@ module _ (of : signs.Sign → Option Operator) (part : List Token → Read Tree)
       turns_fail (operand_next of part) (part (rest_of a) >>= λ x. Some (joined o t x.0, x.1)) c (operand_goes t a e)
       (ap (λ y. y >>= λ x. Some (joined o t x.0, x.1)) (ap part (sym k) ∙ g)) (omega (arith, front_length of a e))
 
+  pub operand_fails : (e : Stop) {read : Read Tree} {t : Tree} {a : List Token} (b : List Token) {o : Operator}
+      → Turns (operand_next of part) read t a → front of a ≡ Some o → b ≡ rest_of a → Fails e (part b) → Fails e read
+  operand_fails stop.Unexpected b c e k g = operand_fail b c e k g
+  operand_fails stop.Memory b c e k g = tt
+
   pub operand_end : {read : Read Tree} {t : Tree} {a : List Token} → Turns (operand_next of part) read t a → front of a ≡ None → read ≡ Some (t, a)
   operand_end {t = t} {a = a} c e = turns_end (operand_next of part) c (ap (λ o. or_else o None (λ o. Some (part (rest_of a) >>= λ x. Some (joined o t x.0, x.1)))) e)
 
-module _ (within : List Token → Read Tree) where
+module _ (within : Within) where
   pub postfix_goes : (t : Tree) (a : List Token) {l : Link} → front link_of a ≡ Some l → postfix_next within t a ≡ Some (linked_at within l t (rest_of a))
   postfix_goes t a e = ap (λ o. or_else o None (λ l. Some (linked_at within l t (rest_of a)))) e
 
@@ -67,23 +75,24 @@ module _ (within : List Token → Read Tree) where
   pub postfix_end : {read : Read Tree} {t : Tree} {a : List Token} → Turns (postfix_next within) read t a → front link_of a ≡ None → read ≡ Some (t, a)
   postfix_end {t = t} {a = a} c e = turns_end (postfix_next within) c (ap (λ o. or_else o None (λ l. Some (linked_at within l t (rest_of a)))) e)
 
-  pub items_goes : (ts : Trees) (a : List Token) → is_comma (sign_in a) ≡ true → items_next within ts a ≡ Some (within (rest_of a) >>= λ x. Some (snoc ts x.0, x.1))
-  items_goes ts a e = ap (λ o. cond o (Some (within (rest_of a) >>= λ x. Some (snoc ts x.0, x.1))) None) e
+module _ {A B : Type 0} (push : B → A → B) (part : List Token → Read A) where
+  pub commas_goes : (xs : B) (a : List Token) → is_comma (sign_in a) ≡ true → commas_next push part xs a ≡ Some (part (rest_of a) >>= λ x. Some (push xs x.0, x.1))
+  commas_goes xs a e = ap (λ o. cond o (Some (part (rest_of a) >>= λ x. Some (push xs x.0, x.1))) None) e
 
-  pub items_more : {read : Read Trees} {ts : Trees} (u : Tree) {a : List Token} (b r : List Token)
-      → Turns (items_next within) read ts a → is_comma (sign_in a) ≡ true → b ≡ rest_of a → within b ≡ Some (u, r) → length r < length b → Turns (items_next within) read (snoc ts u) r
-  items_more {ts = ts} u {a = a} b r c e k g h =
-      turns_more (items_next within) (within (rest_of a) >>= λ x. Some (snoc ts x.0, x.1)) c (items_goes ts a e)
-      (ap (λ y. y >>= λ x. Some (snoc ts x.0, x.1)) (ap within (sym k) ∙ g)) (omega (arith, h, ap length k, test_length is_comma refl a e))
+  pub commas_more : {read : Read B} {xs : B} (u : A) {a : List Token} (b r : List Token)
+      → Turns (commas_next push part) read xs a → is_comma (sign_in a) ≡ true → b ≡ rest_of a → part b ≡ Some (u, r) → length r < length b → Turns (commas_next push part) read (push xs u) r
+  commas_more {xs = xs} u {a = a} b r c e k g h =
+      turns_more (commas_next push part) (part (rest_of a) >>= λ x. Some (push xs x.0, x.1)) c (commas_goes xs a e)
+      (ap (λ y. y >>= λ x. Some (push xs x.0, x.1)) (ap part (sym k) ∙ g)) (omega (arith, h, ap length k, test_length is_comma refl a e))
 
-  pub items_fail : {read : Read Trees} {ts : Trees} {a : List Token} (b : List Token)
-      → Turns (items_next within) read ts a → is_comma (sign_in a) ≡ true → b ≡ rest_of a → within b ≡ None → read ≡ None
-  items_fail {ts = ts} {a = a} b c e k g =
-      turns_fail (items_next within) (within (rest_of a) >>= λ x. Some (snoc ts x.0, x.1)) c (items_goes ts a e)
-      (ap (λ y. y >>= λ x. Some (snoc ts x.0, x.1)) (ap within (sym k) ∙ g)) (omega (arith, test_length is_comma refl a e))
+  pub commas_fail : {read : Read B} {xs : B} {a : List Token} (b : List Token)
+      → Turns (commas_next push part) read xs a → is_comma (sign_in a) ≡ true → b ≡ rest_of a → part b ≡ None → read ≡ None
+  commas_fail {xs = xs} {a = a} b c e k g =
+      turns_fail (commas_next push part) (part (rest_of a) >>= λ x. Some (push xs x.0, x.1)) c (commas_goes xs a e)
+      (ap (λ y. y >>= λ x. Some (push xs x.0, x.1)) (ap part (sym k) ∙ g)) (omega (arith, test_length is_comma refl a e))
 
-  pub items_end : {read : Read Trees} {ts : Trees} {a : List Token} → Turns (items_next within) read ts a → is_comma (sign_in a) ≡ false → read ≡ Some (ts, a)
-  items_end {ts = ts} {a = a} c e = turns_end (items_next within) c (ap (λ o. cond o (Some (within (rest_of a) >>= λ x. Some (snoc ts x.0, x.1))) None) e)
+  pub commas_end : {read : Read B} {xs : B} {a : List Token} → Turns (commas_next push part) read xs a → is_comma (sign_in a) ≡ false → read ≡ Some (xs, a)
+  commas_end {xs = xs} {a = a} c e = turns_end (commas_next push part) c (ap (λ o. cond o (Some (part (rest_of a) >>= λ x. Some (push xs x.0, x.1))) None) e)
 
 -- semicolons are gone past one at a time
 skip-sign : (s : signs.Sign) (a b : List Token) → is_semicolon (Some s) ≡ true → skip_semicolons (token.Sign s ∷ a) ≡ skip_semicolons a
@@ -115,7 +124,7 @@ skip-le (_ ∷ a) = omega arith
 
 -- what parts two items, or the end
 pub separator_le : (a r : List Token) → separator_at a ≡ Some r → length r ≤ length a
-separator_le a r e = elim (if_is (is_empty a) (Some a) (cond (is_semicolon (sign_in a)) (Some (skip_semicolons a)) None) e) [
+separator_le a r e = elim (if_is (is_block_end a) (Some a) (cond (is_semicolon (sign_in a)) (Some (skip_semicolons a)) None) e) [
   | inl h ↦ omega (arith, ap length (some_same h.1))
   | inr h ↦ elim (if_is (is_semicolon (sign_in a)) (Some (skip_semicolons a)) None h.1) [
     | inl k ↦ omega (arith, ap length (some_same k.1), skip-le a)
@@ -123,38 +132,43 @@ separator_le a r e = elim (if_is (is_empty a) (Some a) (cond (is_semicolon (sign
   ]
 ]
 
-empty_length : (a : List Token) → is_empty a ≡ false → 0 < length a
-empty_length [] e = absurd (cc)
-empty_length (x ∷ a) e = omega arith
+more_length : (a : List Token) → is_block_end a ≡ false → 0 < length a
+more_length [] e = absurd (cc)
+more_length (x ∷ a) e = omega arith
 
 pub empty_is : (a : List Token) → is_empty a ≡ true → a ≡ []
 empty_is [] e = refl
 empty_is (x ∷ a) e = absurd (cc)
 
-module _ (within : List Token → Read Tree) where
+module _ (within : Within) where
   pub block_begin : (a b : List Token) → b ≡ skip_semicolons a → Turns (block_next within) (block_at within a) none b
   block_begin a b e = record { fuel = length a; enough = omega (arith, ap length e, skip-le a); is = ap (λ c. repeat (block_next within) (length a) none c) (sym e) }
 
-  block_goes : (ts : Trees) (a : List Token) → is_empty a ≡ false → block_next within ts a ≡ Some (expr_at within a >>= λ x. separated (snoc ts x.0) x.1)
+  block_goes : (ts : Trees) (a : List Token) → is_block_end a ≡ false → block_next within ts a ≡ Some (expr_at within a >>= λ x. separated (snoc ts x.0) x.1)
   block_goes ts a e = ap (λ o. cond o None (Some (expr_at within a >>= λ x. separated (snoc ts x.0) x.1))) e
 
   pub block_more : {read : Read Trees} {ts : Trees} (u : Tree) {a : List Token} (b r : List Token)
-      → Turns (block_next within) read ts a → is_empty a ≡ false → expr_at within a ≡ Some (u, b) → length b < length a → separator_at b ≡ Some r → Turns (block_next within) read (snoc ts u) r
+      → Turns (block_next within) read ts a → is_block_end a ≡ false → expr_at within a ≡ Some (u, b) → length b < length a → separator_at b ≡ Some r → Turns (block_next within) read (snoc ts u) r
   block_more {ts = ts} u {a = a} b r c e g h s =
       turns_more (block_next within) (expr_at within a >>= λ x. separated (snoc ts x.0) x.1) c (block_goes ts a e)
       (ap (λ y. y >>= λ x. separated (snoc ts x.0) x.1) g ∙ ap (λ y. y >>= λ z. Some (snoc ts u, z)) s) (omega (arith, h, separator_le b r s))
 
-  pub block_fail : {read : Read Trees} {ts : Trees} {a : List Token} → Turns (block_next within) read ts a → is_empty a ≡ false → expr_at within a ≡ None → read ≡ None
+  pub block_fail : {read : Read Trees} {ts : Trees} {a : List Token} → Turns (block_next within) read ts a → is_block_end a ≡ false → expr_at within a ≡ None → read ≡ None
   block_fail {ts = ts} {a = a} c e g =
       turns_fail (block_next within) (expr_at within a >>= λ x. separated (snoc ts x.0) x.1) c (block_goes ts a e)
-      (ap (λ y. y >>= λ x. separated (snoc ts x.0) x.1) g) (empty_length a e)
+      (ap (λ y. y >>= λ x. separated (snoc ts x.0) x.1) g) (more_length a e)
 
   pub block_part_fail : {read : Read Trees} {ts : Trees} (u : Tree) {a : List Token} (b : List Token)
-      → Turns (block_next within) read ts a → is_empty a ≡ false → expr_at within a ≡ Some (u, b) → separator_at b ≡ None → read ≡ None
+      → Turns (block_next within) read ts a → is_block_end a ≡ false → expr_at within a ≡ Some (u, b) → separator_at b ≡ None → read ≡ None
   block_part_fail {ts = ts} u {a = a} b c e g s =
       turns_fail (block_next within) (expr_at within a >>= λ x. separated (snoc ts x.0) x.1) c (block_goes ts a e)
-      (ap (λ y. y >>= λ x. separated (snoc ts x.0) x.1) g ∙ ap (λ y. y >>= λ z. Some (snoc ts u, z)) s) (empty_length a e)
+      (ap (λ y. y >>= λ x. separated (snoc ts x.0) x.1) g ∙ ap (λ y. y >>= λ z. Some (snoc ts u, z)) s) (more_length a e)
 
-  pub block_end : {read : Read Trees} {ts : Trees} {a : List Token} → Turns (block_next within) read ts a → is_empty a ≡ true → read ≡ Some (ts, [])
+  pub block_part_fails : (e : Stop) {read : Read Trees} {ts : Trees} (u : Tree) {a : List Token} (b : List Token)
+      → Turns (block_next within) read ts a → is_block_end a ≡ false → expr_at within a ≡ Some (u, b) → Fails e (separator_at b) → Fails e read
+  block_part_fails stop.Unexpected u b c e g s = block_part_fail u b c e g s
+  block_part_fails stop.Memory u b c e g s = tt
+
+  pub block_end : {read : Read Trees} {ts : Trees} {a : List Token} → Turns (block_next within) read ts a → is_block_end a ≡ true → read ≡ Some (ts, a)
   block_end {ts = ts} {a = a} c e =
-      turns_end (block_next within) c (ap (λ o. cond o None (Some (expr_at within a >>= λ x. separated (snoc ts x.0) x.1))) e) ∙ ap (λ b. Some (ts, b)) (empty_is a e)
+      turns_end (block_next within) c (ap (λ o. cond o None (Some (expr_at within a >>= λ x. separated (snoc ts x.0) x.1))) e)

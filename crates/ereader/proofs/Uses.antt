@@ -13,24 +13,42 @@ use Rattle.ereader.specs.declared.operator.Operator.{Operator}
 use Rattle.ereader.specs.declared.operator.Prefix.{Prefix}
 use Rattle.ereader.specs.declared.operator.Bracket.{Bracket}
 use Rattle.ereader.specs.declared.operator.Bracket.TheVariants as bracket
-use Rattle.ereader.specs.Grammar.{product_operator, sum_operator, comparison_operator, prefix_operator, Expr, expr_define, expr_variable, expr_assign, expr_disjunction, Pat, pat_name, pat_ignore, Disjunction, disjunction_comparison, Comparison, comparison_sum, comparison_two, Sum, sum_product, sum_more, Product, product_unary, product_more, Unary, unary_postfix, unary_prefix, Postfix, postfix_primary, postfix_method, postfix_run, postfix_get, Primary, primary_int, primary_text, primary_true, primary_false, primary_null, primary_name, primary_list, primary_group, Args, args_none, args_some, Items, items_one, items_and, Semicolons, semicolons_none, semicolons_more, Sequence, sequence_one, sequence_and}
-use Rattle.ereader.specs.Reading.{or_else, is_empty, sign_in, front, is_at_word, is_def_word, is_var_word, is_assignment, is_semicolon, is_becomes, is_close, link_of}
+use Rattle.ereader.specs.Grammar.{product_operator, sum_operator, comparison_operator, and_operator, or_operator, prefix_operator, Pat, pat_name, pat_ignore, Pats, pats_one, pats_and, PatList, pat_list_none, pat_list_some, Semicolons, semicolons_none, semicolons_more, Expr, expr_define, expr_define_list, expr_variable, expr_assign, expr_disjunction, Disjunction, disjunction_conjunction, disjunction_more, Conjunction, conjunction_comparison, conjunction_more, Comparison, comparison_sum, comparison_two, Sum, sum_product, sum_more, Product, product_unary, product_more, Unary, unary_postfix, unary_prefix, Postfix, postfix_primary, postfix_method, postfix_run, postfix_get, Primary, primary_int, primary_text, primary_true, primary_false, primary_null, primary_name, primary_list, primary_group, primary_hide, primary_if, primary_while, primary_for, primary_try, primary_throw, Conditional, conditional_alone, conditional_else, conditional_else_if, Condition, condition, Braced, braced, Args, args_none, args_some, Items, items_one, items_and, Sequence, sequence_one, sequence_and, Block, block_empty, block_items}
+use Rattle.ereader.specs.Reading.{or_else, is_empty, sign_in, front, is_at_word, is_def_word, is_var_word, is_else_word, is_assignment, is_semicolon, is_becomes, is_open, is_close, is_block_end, link_of}
 use Rattle.ereader.proofs.Turns.{none_some}
+
+pub less_pat : {a r : List Token} {p : Pattern} → Pat a p r → length r < length a
+less_pat pat_name = omega arith
+less_pat pat_ignore = omega arith
+
+pub less_pats : {a r : List Token} {ps : List Pattern} → Pats a ps r → length r < length a
+less_pats (pats_one p) = less_pat p
+less_pats (pats_and s p) = omega (arith, less_pats s, less_pat p)
+
+pub less_pat_list : {a r : List Token} {ps : List Pattern} → PatList a ps r → length r ≤ length a
+less_pat_list pat_list_none = omega arith
+less_pat_list (pat_list_some p) = omega (arith, less_pats p)
+
+pub le_semicolons : {a r : List Token} → Semicolons a r → length r ≤ length a
+le_semicolons semicolons_none = omega arith
+le_semicolons (semicolons_more s) = omega (arith, le_semicolons s)
 
 -- tokens are used up
 mutual
   pub less_expr : {a r : List Token} {t : Tree} → Expr a t r → length r < length a
   less_expr (expr_define p x) = omega (arith, less_pat p, less_disjunction x)
+  less_expr (expr_define_list p x) = omega (arith, less_pat_list p, less_disjunction x)
   less_expr (expr_variable x) = omega (arith, less_disjunction x)
   less_expr (expr_assign x) = omega (arith, less_disjunction x)
   less_expr (expr_disjunction x) = less_disjunction x
 
-  pub less_pat : {a r : List Token} {p : Pattern} → Pat a p r → length r < length a
-  less_pat pat_name = omega arith
-  less_pat pat_ignore = omega arith
-
   pub less_disjunction : {a r : List Token} {t : Tree} → Disjunction a t r → length r < length a
-  less_disjunction (disjunction_comparison x) = less_comparison x
+  less_disjunction (disjunction_conjunction x) = less_conjunction x
+  less_disjunction (disjunction_more s e p) = omega (arith, less_disjunction s, less_conjunction p)
+
+  pub less_conjunction : {a r : List Token} {t : Tree} → Conjunction a t r → length r < length a
+  less_conjunction (conjunction_comparison x) = less_comparison x
+  less_conjunction (conjunction_more s e p) = omega (arith, less_conjunction s, less_comparison p)
 
   pub less_comparison : {a r : List Token} {t : Tree} → Comparison a t r → length r < length a
   less_comparison (comparison_sum s) = less_sum s
@@ -63,6 +81,23 @@ mutual
   less_primary primary_name = omega arith
   less_primary (primary_list x) = omega (arith, less_args x)
   less_primary (primary_group x) = omega (arith, less_expr x)
+  less_primary (primary_hide x) = omega (arith, less_block x)
+  less_primary (primary_if x) = omega (arith, less_conditional x)
+  less_primary (primary_while x y) = omega (arith, less_condition x, less_braced y)
+  less_primary (primary_for p x y) = omega (arith, less_pat p, less_disjunction x, less_braced y)
+  less_primary (primary_try x p y) = omega (arith, less_braced x, less_pat p, less_braced y)
+  less_primary (primary_throw x) = omega (arith, less_condition x)
+
+  pub less_conditional : {a r : List Token} {t : Tree} → Conditional a t r → length r < length a
+  less_conditional (conditional_alone x y) = omega (arith, less_condition x, less_braced y)
+  less_conditional (conditional_else x y z) = omega (arith, less_condition x, less_braced y, less_braced z)
+  less_conditional (conditional_else_if x y z) = omega (arith, less_condition x, less_braced y, less_conditional z)
+
+  pub less_condition : {a r : List Token} {t : Tree} → Condition a t r → length r < length a
+  less_condition (condition x) = omega (arith, less_disjunction x)
+
+  pub less_braced : {a r : List Token} {ts : Trees} → Braced a ts r → length r < length a
+  less_braced (braced x) = omega (arith, less_block x)
 
   pub less_args : {a r : List Token} {ts : Trees} → Args a ts r → length r ≤ length a
   less_args args_none = omega arith
@@ -72,51 +107,60 @@ mutual
   less_items (items_one x) = less_disjunction x
   less_items (items_and s x) = omega (arith, less_items s, less_disjunction x)
 
-pub le_semicolons : {a r : List Token} → Semicolons a r → length r ≤ length a
-le_semicolons semicolons_none = omega arith
-le_semicolons (semicolons_more s) = omega (arith, le_semicolons s)
+  pub less_sequence : {a r : List Token} {ts : Trees} → Sequence a ts r → length r < length a
+  less_sequence (sequence_one x) = less_expr x
+  less_sequence (sequence_and s p x) = omega (arith, less_sequence s, le_semicolons p, less_expr x)
 
-pub less_sequence : {a r : List Token} {ts : Trees} → Sequence a ts r → length r < length a
-less_sequence (sequence_one x) = less_expr x
-less_sequence (sequence_and s p x) = omega (arith, less_sequence s, le_semicolons p, less_expr x)
+  pub less_block : {a r : List Token} {ts : Trees} → Block a ts r → length r ≤ length a
+  less_block (block_empty s) = le_semicolons s
+  less_block (block_items s x e) = omega (arith, le_semicolons s, less_sequence x, le_semicolons e)
 
 -- how tightly a sign binds to what is before it
 abbrev pub sign_strength : signs.Sign → ℕ
-sign_strength sign.Dot = 4
-sign_strength sign.OpenRound = 4
-sign_strength sign.OpenSquare = 4
-sign_strength sign.Times = 3
-sign_strength sign.Divide = 3
-sign_strength sign.Plus = 2
-sign_strength sign.Minus = 2
-sign_strength sign.Equal = 1
-sign_strength sign.NotEqual = 1
-sign_strength sign.Less = 1
-sign_strength sign.AtMost = 1
-sign_strength sign.More = 1
-sign_strength sign.AtLeast = 1
+sign_strength sign.Dot = 6
+sign_strength sign.OpenRound = 6
+sign_strength sign.OpenSquare = 6
+sign_strength sign.Times = 5
+sign_strength sign.Divide = 5
+sign_strength sign.Plus = 4
+sign_strength sign.Minus = 4
+sign_strength sign.Equal = 3
+sign_strength sign.NotEqual = 3
+sign_strength sign.Less = 3
+sign_strength sign.AtMost = 3
+sign_strength sign.More = 3
+sign_strength sign.AtLeast = 3
+sign_strength sign.And = 2
+sign_strength sign.Or = 1
 sign_strength sign.Becomes = 1
 sign_strength _ = 0
 
-abbrev pub strength : Option signs.Sign → ℕ
-strength None = 0
-strength (Some s) = sign_strength s
+-- `else` binds most tightly
+abbrev pub word_strength : words.Reserved → ℕ
+word_strength word.Else = 7
+word_strength _ = 0
+
+abbrev pub strength : List Token → ℕ
+strength [] = 0
+strength (token.Sign s ∷ a) = sign_strength s
+strength (token.Word w ∷ a) = word_strength w
+strength (_ ∷ a) = 0
 
 -- nothing that binds so tightly is in front
 abbrev pub Below : ℕ → List Token → Type 0
-Below n a = strength (sign_in a) < n
+Below n a = strength a < n
 
-pub product_none : (s : signs.Sign) → sign_strength s < 3 → product_operator s ≡ None
+pub product_none : (s : signs.Sign) → sign_strength s < 5 → product_operator s ≡ None
 product_none sign.Times h = absurd (omega (arith, h))
 product_none sign.Divide h = absurd (omega (arith, h))
 product_none _ h = refl
 
-pub sum_none : (s : signs.Sign) → sign_strength s < 2 → sum_operator s ≡ None
+pub sum_none : (s : signs.Sign) → sign_strength s < 4 → sum_operator s ≡ None
 sum_none sign.Plus h = absurd (omega (arith, h))
 sum_none sign.Minus h = absurd (omega (arith, h))
 sum_none _ h = refl
 
-pub comparison_none : (s : signs.Sign) → sign_strength s < 1 → comparison_operator s ≡ None
+pub comparison_none : (s : signs.Sign) → sign_strength s < 3 → comparison_operator s ≡ None
 comparison_none sign.Equal h = absurd (omega (arith, h))
 comparison_none sign.NotEqual h = absurd (omega (arith, h))
 comparison_none sign.Less h = absurd (omega (arith, h))
@@ -125,31 +169,46 @@ comparison_none sign.More h = absurd (omega (arith, h))
 comparison_none sign.AtLeast h = absurd (omega (arith, h))
 comparison_none _ h = refl
 
-pub link_none : (s : signs.Sign) → sign_strength s < 4 → link_of s ≡ None
+pub and_none : (s : signs.Sign) → sign_strength s < 2 → and_operator s ≡ None
+and_none sign.And h = absurd (omega (arith, h))
+and_none _ h = refl
+
+pub or_none : (s : signs.Sign) → sign_strength s < 1 → or_operator s ≡ None
+or_none sign.Or h = absurd (omega (arith, h))
+or_none _ h = refl
+
+pub link_none : (s : signs.Sign) → sign_strength s < 6 → link_of s ≡ None
 link_none sign.Dot h = absurd (omega (arith, h))
 link_none sign.OpenRound h = absurd (omega (arith, h))
 link_none sign.OpenSquare h = absurd (omega (arith, h))
 link_none _ h = refl
 
-none_if : {A : Type 0} (of : signs.Sign → Option A) (n : ℕ) → ((s : signs.Sign) → sign_strength s < n → of s ≡ None) → (o : Option signs.Sign) → strength o < n → or_else o None of ≡ None
-none_if of n h None b = refl
-none_if of n h (Some s) b = h s b
-
 -- signs that bind more loosely are not what is looked for
 pub front_none : {A : Type 0} (of : signs.Sign → Option A) (n : ℕ) → ((s : signs.Sign) → sign_strength s < n → of s ≡ None) → (a : List Token) → Below n a → front of a ≡ None
-front_none of n h a b = none_if of n h (sign_in a) b
+front_none of n h [] b = refl
+front_none of n h (token.Sign s ∷ a) b = h s b
+front_none of n h (_ ∷ a) b = refl
 
-pub product_strength : (s : signs.Sign) {o : Operator} → product_operator s ≡ Some o → sign_strength s < 4
+no_else_word : (w : words.Reserved) → word_strength w < 7 → is_else_word w ≡ false
+no_else_word word.Else h = absurd (omega (arith, h))
+no_else_word _ h = refl
+
+pub no_else : (a : List Token) → Below 7 a → is_at_word is_else_word a ≡ false
+no_else [] b = refl
+no_else (token.Word w ∷ a) b = no_else_word w b
+no_else (_ ∷ a) b = refl
+
+pub product_strength : (s : signs.Sign) {o : Operator} → product_operator s ≡ Some o → sign_strength s < 6
 product_strength sign.Times e = omega arith
 product_strength sign.Divide e = omega arith
 product_strength _ e = absurd (cc)
 
-pub sum_strength : (s : signs.Sign) {o : Operator} → sum_operator s ≡ Some o → sign_strength s < 3
+pub sum_strength : (s : signs.Sign) {o : Operator} → sum_operator s ≡ Some o → sign_strength s < 5
 sum_strength sign.Plus e = omega arith
 sum_strength sign.Minus e = omega arith
 sum_strength _ e = absurd (cc)
 
-pub comparison_strength : (s : signs.Sign) {o : Operator} → comparison_operator s ≡ Some o → sign_strength s < 2
+pub comparison_strength : (s : signs.Sign) {o : Operator} → comparison_operator s ≡ Some o → sign_strength s < 4
 comparison_strength sign.Equal e = omega arith
 comparison_strength sign.NotEqual e = omega arith
 comparison_strength sign.Less e = omega arith
@@ -158,9 +217,18 @@ comparison_strength sign.More e = omega arith
 comparison_strength sign.AtLeast e = omega arith
 comparison_strength _ e = absurd (cc)
 
+pub and_strength : (s : signs.Sign) {o : Operator} → and_operator s ≡ Some o → sign_strength s < 3
+and_strength sign.And e = omega arith
+and_strength _ e = absurd (cc)
+
+pub or_strength : (s : signs.Sign) {o : Operator} → or_operator s ≡ Some o → sign_strength s < 2
+or_strength sign.Or e = omega arith
+or_strength _ e = absurd (cc)
+
 abbrev pub sign_start : signs.Sign → ℕ
 sign_start sign.OpenRound = 2
 sign_start sign.OpenSquare = 2
+sign_start sign.OpenCurly = 2
 sign_start sign.Not = 1
 sign_start sign.Minus = 1
 sign_start _ = 0
@@ -169,6 +237,11 @@ abbrev pub word_start : words.Reserved → ℕ
 word_start word.True = 2
 word_start word.False = 2
 word_start word.Null = 2
+word_start word.If = 2
+word_start word.While = 2
+word_start word.For = 2
+word_start word.Try = 2
+word_start word.Throw = 2
 word_start _ = 0
 
 -- 0: not with an expression's token; 1: with an operator before an operand; 2: with any other
@@ -195,10 +268,13 @@ no_close_sign bracket.Round sign.CloseRound h = absurd (omega (arith, h))
 no_close_sign bracket.Round _ h = refl
 no_close_sign bracket.Square sign.CloseSquare h = absurd (omega (arith, h))
 no_close_sign bracket.Square _ h = refl
+no_close_sign bracket.Curly sign.CloseCurly h = absurd (omega (arith, h))
+no_close_sign bracket.Curly _ h = refl
 
 no_close_none : (b : Bracket) → is_close b None ≡ false
 no_close_none bracket.Round = refl
 no_close_none bracket.Square = refl
+no_close_none bracket.Curly = refl
 
 pub no_close : (b : Bracket) (a : List Token) → 0 < start a → is_close b (sign_in a) ≡ false
 no_close b [] h = no_close_none b
@@ -247,6 +323,12 @@ start_primary primary_null = refl
 start_primary primary_name = refl
 start_primary (primary_list x) = refl
 start_primary (primary_group x) = refl
+start_primary (primary_hide x) = refl
+start_primary (primary_if x) = refl
+start_primary (primary_while x y) = refl
+start_primary (primary_for p x y) = refl
+start_primary (primary_try x p y) = refl
+start_primary (primary_throw x) = refl
 
 pub start_postfix : {a r : List Token} {t : Tree} → Postfix a t r → start a ≡ 2
 start_postfix (postfix_primary p) = start_primary p
@@ -270,8 +352,13 @@ start_comparison : {a r : List Token} {t : Tree} → Comparison a t r → 0 < st
 start_comparison (comparison_sum s) = start_sum s
 start_comparison (comparison_two s e p) = start_sum s
 
+start_conjunction : {a r : List Token} {t : Tree} → Conjunction a t r → 0 < start a
+start_conjunction (conjunction_comparison x) = start_comparison x
+start_conjunction (conjunction_more s e p) = start_conjunction s
+
 pub start_disjunction : {a r : List Token} {t : Tree} → Disjunction a t r → 0 < start a
-start_disjunction (disjunction_comparison x) = start_comparison x
+start_disjunction (disjunction_conjunction x) = start_conjunction x
+start_disjunction (disjunction_more s e p) = start_disjunction s
 
 pub start_items : {a r : List Token} {ts : Trees} → Items a ts r → 0 < start a
 start_items (items_one x) = start_disjunction x
@@ -295,6 +382,12 @@ stops_primary primary_null h = absurd (cc)
 stops_primary primary_name h = h
 stops_primary (primary_list x) h = absurd (cc)
 stops_primary (primary_group x) h = absurd (cc)
+stops_primary (primary_hide x) h = absurd (cc)
+stops_primary (primary_if x) h = absurd (cc)
+stops_primary (primary_while x y) h = absurd (cc)
+stops_primary (primary_for p x y) h = absurd (cc)
+stops_primary (primary_try x p y) h = absurd (cc)
+stops_primary (primary_throw x) h = absurd (cc)
 
 stops_postfix : {a r : List Token} {t : Tree} → Postfix a t r → is_assignment a ≡ true → is_becomes (sign_in r) ≡ true
 stops_postfix (postfix_primary p) h = stops_primary p h
@@ -318,20 +411,31 @@ stops_comparison : {a r : List Token} {t : Tree} → Comparison a t r → is_ass
 stops_comparison (comparison_sum s) h = stops_sum s h
 stops_comparison (comparison_two {s = s} q e p) h = absurd (true_false (stops_sum q h) (no_becomes comparison_operator s refl e))
 
-stops_disjunction : {a r : List Token} {t : Tree} → Disjunction a t r → is_assignment a ≡ true → is_becomes (sign_in r) ≡ true
-stops_disjunction (disjunction_comparison x) h = stops_comparison x h
+stops_conjunction : {a r : List Token} {t : Tree} → Conjunction a t r → is_assignment a ≡ true → is_becomes (sign_in r) ≡ true
+stops_conjunction (conjunction_comparison x) h = stops_comparison x h
+stops_conjunction (conjunction_more {s = s} q e p) h = absurd (true_false (stops_conjunction q h) (no_becomes and_operator s refl e))
 
-becomes_strength : (o : Option signs.Sign) → is_becomes o ≡ true → strength o ≡ 1
-becomes_strength (Some sign.Becomes) e = refl
-becomes_strength _ e = absurd (cc)
+stops_disjunction : {a r : List Token} {t : Tree} → Disjunction a t r → is_assignment a ≡ true → is_becomes (sign_in r) ≡ true
+stops_disjunction (disjunction_conjunction x) h = stops_conjunction x h
+stops_disjunction (disjunction_more {s = s} q e p) h = absurd (true_false (stops_disjunction q h) (no_becomes or_operator s refl e))
+
+becomes_sign : (s : signs.Sign) → is_becomes (Some s) ≡ true → sign_strength s ≡ 1
+becomes_sign sign.Becomes e = refl
+becomes_sign _ e = absurd (cc)
+
+becomes_strength : (a : List Token) → is_becomes (sign_in a) ≡ true → strength a ≡ 1
+becomes_strength [] e = absurd (cc)
+becomes_strength (token.Sign s ∷ a) e = becomes_sign s e
+becomes_strength (_ ∷ a) e = absurd (cc)
 
 -- an expression with no `:=` behind it is no assignment
 pub no_assignment : {a r : List Token} {t : Tree} → Disjunction a t r → Below 1 r → is_assignment a ≡ false
-no_assignment {a = a} {r = r} x b = false_from_ne_true (is_assignment a) (λ h. absurd (omega (arith, b, becomes_strength (sign_in r) (stops_disjunction x h))))
+no_assignment {a = a} {r = r} x b = false_from_ne_true (is_assignment a) (λ h. absurd (omega (arith, b, becomes_strength r (stops_disjunction x h))))
 
 -- an expression begins with no semicolon
 pub expr_begins : {a r : List Token} {t : Tree} → Expr a t r → is_semicolon (sign_in a) ≡ false
 expr_begins (expr_define p x) = refl
+expr_begins (expr_define_list p x) = refl
 expr_begins (expr_variable x) = refl
 expr_begins (expr_assign x) = refl
 expr_begins (expr_disjunction {a = a} x) = no_semicolon a (start_disjunction x)
@@ -340,6 +444,32 @@ pub sequence_begins : {a r : List Token} {ts : Trees} → Sequence a ts r → is
 sequence_begins (sequence_one x) = expr_begins x
 sequence_begins (sequence_and s p x) = sequence_begins s
 
-pub not_empty : (a r : List Token) → length r < length a → is_empty a ≡ false
-not_empty [] r h = absurd (omega (arith, h))
-not_empty (x ∷ a) r h = refl
+not_end : (a : List Token) → 0 < start a → is_block_end a ≡ false
+not_end [] h = absurd (omega (arith, h))
+not_end (x ∷ a) h = no_close bracket.Curly (x ∷ a) h
+
+-- nor does a block end before one
+pub expr_goes : {a r : List Token} {t : Tree} → Expr a t r → is_block_end a ≡ false
+expr_goes (expr_define p x) = refl
+expr_goes (expr_define_list p x) = refl
+expr_goes (expr_variable x) = refl
+expr_goes (expr_assign x) = refl
+expr_goes (expr_disjunction {a = a} x) = not_end a (start_disjunction x)
+
+-- a pattern is not one in brackets
+pub pat_begins : {a r : List Token} {p : Pattern} → Pat a p r → is_open bracket.Square (sign_in a) ≡ false
+pat_begins pat_name = refl
+pat_begins pat_ignore = refl
+
+no_bracket_close : {a r : List Token} {p : Pattern} → Pat a p r → is_close bracket.Square (sign_in a) ≡ false
+no_bracket_close pat_name = refl
+no_bracket_close pat_ignore = refl
+
+-- nor does a list of patterns end before one
+pub pats_begin : {a r : List Token} {ps : List Pattern} → Pats a ps r → is_close bracket.Square (sign_in a) ≡ false
+pats_begin (pats_one p) = no_bracket_close p
+pats_begin (pats_and s p) = pats_begin s
+
+-- a block in braces does not begin with `if`
+pub braced_begins : {a r : List Token} {ts : Trees} → Braced a ts r → (is : words.Reserved → Bool) → is_at_word is a ≡ false
+braced_begins (braced x) is = refl

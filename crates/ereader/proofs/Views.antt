@@ -5,12 +5,13 @@ use Rattle.std.specs.declared.sync.Arc.{Arc}
 use Rattle.std.specs.declared.vec.Vec.{Vec}
 use Rattle.std.specs.declared.alloc.Global.{Global}
 use Rattle.etoken.specs.declared.token.Placed.{Placed}
-use Rattle.kernele.specs.Tree.{call, list_tree}
+use Rattle.kernele.specs.Tree.{call, list_tree, hide, if_tree, while_tree, for_tree, try_tree}
 use Rattle.kernele.specs.View.{tree_of, trees_of}
 use Rattle.kernele.specs.declared.tree.Expr as code
+use Rattle.kernele.specs.declared.tree.Pattern.{Pattern}
 use Rattle.kernele.specs.declared.tree.Expr.{Expr}
-use Rattle.kernele.proofs.Views.{tree_of-Call, tree_of-List}
-use Rattle.ereader.specs.Reading.{is_empty, disjunction_at, block_at, program_at}
+use Rattle.kernele.proofs.Views.{tree_of-Call, tree_of-List, tree_of-Hide, tree_of-If, tree_of-While, tree_of-For, tree_of-Try}
+use Rattle.ereader.specs.Reading.{is_empty, within_at, all_at, program_at}
 use Rattle.ereader.specs.View.{plain}
 
 pub tree_of-made : (r : Arc Expr Global) (verb : List ℕ) (args : Arc (Vec Expr Global) Global) (receiver : Expr) (items : Vec Expr Global)
@@ -21,6 +22,34 @@ tree_of-made r verb args receiver items e f =
 pub tree_of-listed : (args : Arc (Vec Expr Global) Global) (items : Vec Expr Global) → args.value ≡ items → tree_of (code.List args) ≡ list_tree (trees_of items.items)
 tree_of-listed args items f = tree_of-List args ∙ ap (λ (xs : Vec Expr Global). list_tree (trees_of xs.items)) f
 
+-- the items of a block, by way of the vector that they were
+of_block : (block : Arc (Vec Expr Global) Global) (items : Vec Expr Global) → block.value ≡ items → trees_of block.value.items ≡ trees_of items.items
+of_block block items e = ap (λ (xs : Vec Expr Global). trees_of xs.items) e
+
+pub tree_of-hidden : (block : Arc (Vec Expr Global) Global) (body : Vec Expr Global) → block.value ≡ body → tree_of (code.Hide block) ≡ hide (trees_of body.items)
+tree_of-hidden block body e = tree_of-Hide block ∙ ap hide (of_block block body e)
+
+pub tree_of-chosen : (c : Arc Expr Global) (p q : Arc (Vec Expr Global) Global) (condition : Expr) (first second : Vec Expr Global)
+    → c.value ≡ condition → p.value ≡ first → q.value ≡ second → tree_of (code.If c p q) ≡ if_tree (tree_of condition) (trees_of first.items) (trees_of second.items)
+tree_of-chosen c p q condition first second e f g =
+    tree_of-If c p q ∙ ap (λ x. if_tree (tree_of x) (trees_of p.value.items) (trees_of q.value.items)) e
+    ∙ ap (λ ts. if_tree (tree_of condition) ts (trees_of q.value.items)) (of_block p first f) ∙ ap (if_tree (tree_of condition) (trees_of first.items)) (of_block q second g)
+
+pub tree_of-while : (c : Arc Expr Global) (p : Arc (Vec Expr Global) Global) (condition : Expr) (body : Vec Expr Global)
+    → c.value ≡ condition → p.value ≡ body → tree_of (code.While c p) ≡ while_tree (tree_of condition) (trees_of body.items)
+tree_of-while c p condition body e f =
+    tree_of-While c p ∙ ap (λ x. while_tree (tree_of x) (trees_of p.value.items)) e ∙ ap (while_tree (tree_of condition)) (of_block p body f)
+
+pub tree_of-for : (pattern : Pattern) (c : Arc Expr Global) (p : Arc (Vec Expr Global) Global) (list : Expr) (body : Vec Expr Global)
+    → c.value ≡ list → p.value ≡ body → tree_of (code.For pattern c p) ≡ for_tree pattern (tree_of list) (trees_of body.items)
+tree_of-for pattern c p list body e f =
+    tree_of-For pattern c p ∙ ap (λ x. for_tree pattern (tree_of x) (trees_of p.value.items)) e ∙ ap (for_tree pattern (tree_of list)) (of_block p body f)
+
+pub tree_of-try : (p : Arc (Vec Expr Global) Global) (pattern : Pattern) (q : Arc (Vec Expr Global) Global) (body handler : Vec Expr Global)
+    → p.value ≡ body → q.value ≡ handler → tree_of (code.Try p pattern q) ≡ try_tree (trees_of body.items) pattern (trees_of handler.items)
+tree_of-try p pattern q body handler e f =
+    tree_of-Try p pattern q ∙ ap (λ ts. try_tree ts pattern (trees_of q.value.items)) (of_block p body e) ∙ ap (try_tree (trees_of body.items) pattern) (of_block q handler f)
+
 pub is_empty-plain : (ps : List Placed) → (length ps == 0) ≡ is_empty (plain ps)
 is_empty-plain [] = refl
 is_empty-plain (p ∷ ps) = eqb-suc-zero (length ps)
@@ -30,5 +59,5 @@ length-plain [] = refl
 length-plain (p ∷ ps) = ap suc (length-plain ps)
 
 -- the reader's counter begins at the number of tokens
-pub program_at-plain : (ps : List Placed) → program_at (plain ps) ≡ block_at (disjunction_at (length ps)) (plain ps)
-program_at-plain ps = ap (λ n. block_at (disjunction_at n) (plain ps)) (length-plain ps)
+pub program_at-plain : (ps : List Placed) → program_at (plain ps) ≡ all_at (within_at (length ps)) (plain ps)
+program_at-plain ps = ap (λ n. all_at (within_at n) (plain ps)) (length-plain ps)

@@ -1,5 +1,5 @@
 -- The grammar: which trees tokens spell.
-use Rattle.std.specs.Prelude.{◌≡◌, ℤ, true, false, List, [], ◌∷◌, Option, Some, None, codes}
+use Rattle.std.specs.Prelude.{◌≡◌, ℤ, true, false, List, [], ◌∷◌, ◌++◌, Option, Some, None, codes}
 use Rattle.etoken.specs.declared.token.Token.{Token}
 use Rattle.etoken.specs.declared.token.Token.TheVariants as token
 use Rattle.etoken.specs.declared.token.Reserved.TheVariants as word
@@ -7,13 +7,11 @@ use Rattle.etoken.specs.declared.token.Sign as signs
 use Rattle.etoken.specs.declared.token.Sign.TheVariants as sign
 use Rattle.kernele.specs.declared.tree.Pattern.{Pattern}
 use Rattle.kernele.specs.declared.tree.Pattern.TheVariants as pattern
-use Rattle.kernele.specs.Tree.{Name, Tree, null_tree, bool_tree, int_tree, text_tree, noun, define, variable, assign, call, list_tree, same_tree, Trees, none, and_then}
+use Rattle.kernele.specs.Tree.{Name, Tree, null_tree, bool_tree, int_tree, text_tree, noun, define, variable, assign, call, list_tree, same_tree, define_list, hide, if_tree, while_tree, for_tree, try_tree, throw_tree, Trees, none, and_then}
 use Rattle.ereader.specs.declared.operator.Operator.{Operator}
 use Rattle.ereader.specs.declared.operator.Operator.TheVariants as operator
 use Rattle.ereader.specs.declared.operator.Prefix.{Prefix}
 use Rattle.ereader.specs.declared.operator.Prefix.TheVariants as prefix
-use Rattle.ereader.specs.declared.operator.Target.{Target}
-use Rattle.ereader.specs.declared.operator.Target.TheVariants as target
 
 -- the tokens that rules name
 abbrev pub dot : Token
@@ -40,6 +38,12 @@ open_square = token.Sign sign.OpenSquare
 abbrev pub close_square : Token
 close_square = token.Sign sign.CloseSquare
 
+abbrev pub open_curly : Token
+open_curly = token.Sign sign.OpenCurly
+
+abbrev pub close_curly : Token
+close_curly = token.Sign sign.CloseCurly
+
 abbrev pub underscore : Token
 underscore = token.Sign sign.Underscore
 
@@ -65,6 +69,16 @@ comparison_operator sign.More = Some operator.MoreThan
 comparison_operator sign.AtLeast = Some operator.AtLeast
 comparison_operator _ = None
 
+-- the operator of a conjunction
+abbrev pub and_operator : signs.Sign → Option Operator
+and_operator sign.And = Some operator.And
+and_operator _ = None
+
+-- the operator of a disjunction
+abbrev pub or_operator : signs.Sign → Option Operator
+or_operator sign.Or = Some operator.Or
+or_operator _ = None
+
 -- what stands before an operand
 abbrev pub prefix_operator : signs.Sign → Option Prefix
 prefix_operator sign.Not = Some prefix.Not
@@ -74,6 +88,10 @@ prefix_operator _ = None
 -- a call with one argument
 abbrev pub binary : Tree → Name → Tree → Tree
 binary t verb u = call t verb (and_then u none)
+
+-- a block of one item
+abbrev pub alone : Tree → Trees
+alone t = and_then t none
 
 -- what an operator between two trees stands for
 abbrev pub joined : Operator → Tree → Tree → Tree
@@ -87,22 +105,53 @@ joined operator.MoreThan t u = binary t (codes "moreThan") u
 joined operator.AtLeast t u = binary t (codes "atLeast") u
 joined operator.Same t u = same_tree t u
 joined operator.Differ t u = call (same_tree t u) (codes "not") none
+joined operator.And t u = if_tree t (alone u) (alone (bool_tree false))
+joined operator.Or t u = if_tree t (alone (bool_tree true)) (alone u)
 
 -- the verb of an operator before a tree
 abbrev pub prefix_verb : Prefix → Name
 prefix_verb prefix.Not = codes "not"
 prefix_verb prefix.Negate = codes "negate"
 
+-- what a value is given to: what a definition binds, the items of a list that a definition binds, a new variable, a name
+-- that is assigned
+pub data Place : Type 0 where
+  definition : (p : Pattern) → Place
+  definitions : (ps : List Pattern) → Place
+  new_variable : (x : Name) → Place
+  assignment : (x : Name) → Place
+
 -- the tree of a value and what it is given to
-abbrev pub given : Target → Tree → Tree
-given (target.Definition p) t = define p t
-given (target.Variable x) t = variable x t
-given (target.Assignment x) t = assign x t
+abbrev pub given : Place → Tree → Tree
+given (definition p) t = define p t
+given (definitions ps) t = define_list ps t
+given (new_variable x) t = variable x t
+given (assignment x) t = assign x t
 
 -- one more at the end
 abbrev pub snoc : Trees → Tree → Trees
 snoc none t = and_then t none
 snoc (and_then u us) t = and_then u (snoc us t)
+
+-- what a definition binds
+pub data Pat : List Token → Pattern → List Token → Type 0 where
+  pat_name : {r : List Token} {x : Name} → Pat (token.Name x ∷ r) (pattern.Name x) r
+  pat_ignore : {r : List Token} → Pat (underscore ∷ r) pattern.Ignore r
+
+-- one or more, with commas between them
+pub data Pats : List Token → List Pattern → List Token → Type 0 where
+  pats_one : {a r : List Token} {p : Pattern} → Pat a p r → Pats a (p ∷ []) r
+  pats_and : {a b r : List Token} {p : Pattern} {ps : List Pattern} → Pats a ps (comma ∷ b) → Pat b p r → Pats a (ps ++ (p ∷ [])) r
+
+-- between brackets
+pub data PatList : List Token → List Pattern → List Token → Type 0 where
+  pat_list_none : {r : List Token} → PatList r [] r
+  pat_list_some : {a r : List Token} {ps : List Pattern} → Pats a ps r → PatList a ps r
+
+-- any number of semicolons
+pub data Semicolons : List Token → List Token → Type 0 where
+  semicolons_none : {r : List Token} → Semicolons r r
+  semicolons_more : {a r : List Token} → Semicolons a r → Semicolons (semicolon ∷ a) r
 
 -- Sum a t r: the tokens a begin with a sum of tree t, and r is after it; the same with every other part
 mutual
@@ -110,20 +159,25 @@ mutual
   pub data Expr : List Token → Tree → List Token → Type 0 where
     expr_define : {a b r : List Token} {p : Pattern} {t : Tree}
         → Pat a p (becomes ∷ b) → Disjunction b t r → Expr (token.Word word.Def ∷ a) (define p t) r
+    expr_define_list : {a b r : List Token} {ps : List Pattern} {t : Tree}
+        → PatList a ps (close_square ∷ becomes ∷ b) → Disjunction b t r → Expr (token.Word word.Def ∷ open_square ∷ a) (define_list ps t) r
     expr_variable : {a r : List Token} {x : Name} {t : Tree}
         → Disjunction a t r → Expr (token.Word word.Var ∷ token.Name x ∷ becomes ∷ a) (variable x t) r
     expr_assign : {a r : List Token} {x : Name} {t : Tree}
         → Disjunction a t r → Expr (token.Name x ∷ becomes ∷ a) (assign x t) r
     expr_disjunction : {a r : List Token} {t : Tree} → Disjunction a t r → Expr a t r
 
-  -- what a definition binds
-  pub data Pat : List Token → Pattern → List Token → Type 0 where
-    pat_name : {r : List Token} {x : Name} → Pat (token.Name x ∷ r) (pattern.Name x) r
-    pat_ignore : {r : List Token} → Pat (underscore ∷ r) pattern.Ignore r
-
-  -- an expression that may stand in any place
+  -- an expression that may stand in any place; associates to the left
   pub data Disjunction : List Token → Tree → List Token → Type 0 where
-    disjunction_comparison : {a r : List Token} {t : Tree} → Comparison a t r → Disjunction a t r
+    disjunction_conjunction : {a r : List Token} {t : Tree} → Conjunction a t r → Disjunction a t r
+    disjunction_more : {a b r : List Token} {t u : Tree} {s : signs.Sign} {o : Operator}
+        → Disjunction a t (token.Sign s ∷ b) → or_operator s ≡ Some o → Conjunction b u r → Disjunction a (joined o t u) r
+
+  -- associates to the left
+  pub data Conjunction : List Token → Tree → List Token → Type 0 where
+    conjunction_comparison : {a r : List Token} {t : Tree} → Comparison a t r → Conjunction a t r
+    conjunction_more : {a b r : List Token} {t u : Tree} {s : signs.Sign} {o : Operator}
+        → Conjunction a t (token.Sign s ∷ b) → and_operator s ≡ Some o → Comparison b u r → Conjunction a (joined o t u) r
 
   -- does not associate
   pub data Comparison : List Token → Tree → List Token → Type 0 where
@@ -169,6 +223,36 @@ mutual
         → Args a ts (close_square ∷ r) → Primary (open_square ∷ a) (list_tree ts) r
     primary_group : {a r : List Token} {t : Tree}
         → Expr a t (close_round ∷ r) → Primary (open_round ∷ a) t r
+    primary_hide : {a r : List Token} {ts : Trees}
+        → Block a ts (close_curly ∷ r) → Primary (open_curly ∷ a) (hide ts) r
+    primary_if : {a r : List Token} {t : Tree}
+        → Conditional a t r → Primary (token.Word word.If ∷ a) t r
+    primary_while : {a b r : List Token} {t : Tree} {ts : Trees}
+        → Condition a t b → Braced b ts r → Primary (token.Word word.While ∷ a) (while_tree t ts) r
+    primary_for : {a b c r : List Token} {p : Pattern} {t : Tree} {ts : Trees}
+        → Pat a p (token.Word word.In ∷ b) → Disjunction b t c → Braced c ts r → Primary (token.Word word.For ∷ a) (for_tree p t ts) r
+    primary_try : {a b c r : List Token} {p : Pattern} {ts us : Trees}
+        → Braced a ts (token.Word word.Catch ∷ b) → Pat b p c → Braced c us r → Primary (token.Word word.Try ∷ a) (try_tree ts p us) r
+    primary_throw : {a r : List Token} {t : Tree}
+        → Condition a t r → Primary (token.Word word.Throw ∷ a) (throw_tree t) r
+
+  -- what stands behind `if`
+  pub data Conditional : List Token → Tree → List Token → Type 0 where
+    conditional_alone : {a b r : List Token} {t : Tree} {ts : Trees}
+        → Condition a t b → Braced b ts r → Conditional a (if_tree t ts none) r
+    conditional_else : {a b c r : List Token} {t : Tree} {ts us : Trees}
+        → Condition a t b → Braced b ts (token.Word word.Else ∷ c) → Braced c us r → Conditional a (if_tree t ts us) r
+    conditional_else_if : {a b c r : List Token} {t u : Tree} {ts : Trees}
+        → Condition a t b → Braced b ts (token.Word word.Else ∷ token.Word word.If ∷ c) → Conditional c u r
+        → Conditional a (if_tree t ts (alone u)) r
+
+  -- an expression in round brackets, which are part of what it stands in
+  pub data Condition : List Token → Tree → List Token → Type 0 where
+    condition : {a r : List Token} {t : Tree} → Disjunction a t (close_round ∷ r) → Condition (open_round ∷ a) t r
+
+  -- a block in its braces
+  pub data Braced : List Token → Trees → List Token → Type 0 where
+    braced : {a r : List Token} {ts : Trees} → Block a ts (close_curly ∷ r) → Braced (open_curly ∷ a) ts r
 
   -- between brackets
   pub data Args : List Token → Trees → List Token → Type 0 where
@@ -181,21 +265,16 @@ mutual
     items_and : {a b r : List Token} {t : Tree} {ts : Trees}
         → Items a ts (comma ∷ b) → Disjunction b t r → Items a (snoc ts t) r
 
--- any number of semicolons
-pub data Semicolons : List Token → List Token → Type 0 where
-  semicolons_none : {r : List Token} → Semicolons r r
-  semicolons_more : {a r : List Token} → Semicolons a r → Semicolons (semicolon ∷ a) r
+  -- one expression or more, with semicolons between them
+  pub data Sequence : List Token → Trees → List Token → Type 0 where
+    sequence_one : {a r : List Token} {t : Tree} → Expr a t r → Sequence a (and_then t none) r
+    sequence_and : {a b c r : List Token} {t : Tree} {ts : Trees}
+        → Sequence a ts (semicolon ∷ b) → Semicolons b c → Expr c t r → Sequence a (snoc ts t) r
 
--- one expression or more, with semicolons between them
-pub data Sequence : List Token → Trees → List Token → Type 0 where
-  sequence_one : {a r : List Token} {t : Tree} → Expr a t r → Sequence a (and_then t none) r
-  sequence_and : {a b c r : List Token} {t : Tree} {ts : Trees}
-      → Sequence a ts (semicolon ∷ b) → Semicolons b c → Expr c t r → Sequence a (snoc ts t) r
-
-pub data Block : List Token → Trees → List Token → Type 0 where
-  block_empty : {a r : List Token} → Semicolons a r → Block a none r
-  block_items : {a b c r : List Token} {ts : Trees}
-      → Semicolons a b → Sequence b ts c → Semicolons c r → Block a ts r
+  pub data Block : List Token → Trees → List Token → Type 0 where
+    block_empty : {a r : List Token} → Semicolons a r → Block a none r
+    block_items : {a b c r : List Token} {ts : Trees}
+        → Semicolons a b → Sequence b ts c → Semicolons c r → Block a ts r
 
 -- all the tokens
 abbrev pub Program : List Token → Trees → Type 0

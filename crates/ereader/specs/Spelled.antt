@@ -1,12 +1,12 @@
 -- Which program the language gives a text, whatever the text's size.
-use Rattle.std.specs.Prelude.{◌≡◌, ℕ, ℤ, pos, negsuc, ◌<◌, ◌^◌, Bool, true, List, [], length}
+use Rattle.std.specs.Prelude.{◌≡◌, ℕ, ℤ, pos, negsuc, ◌<◌, ◌^◌, Bool, true, List, [], ◌∷◌, length}
 use Rattle.etoken.specs.declared.token.Token.{Token}
 use Rattle.etoken.specs.Cutting.{Blanks, Piece, Cuts}
 use Rattle.etoken.specs.Breaks.{with_breaks}
 use Rattle.etoken.specs.Names.{is_name}
 use Rattle.kernele.specs.declared.tree.Pattern.{Pattern}
 use Rattle.kernele.specs.declared.tree.Pattern.TheVariants as pattern
-use Rattle.kernele.specs.Tree.{Name, Tree, null_tree, bool_tree, int_tree, text_tree, noun, define, variable, assign, call, list_tree, same_tree, Trees, none, and_then}
+use Rattle.kernele.specs.Tree.{Name, Tree, null_tree, bool_tree, int_tree, text_tree, noun, define, variable, assign, call, list_tree, same_tree, define_list, hide, if_tree, while_tree, for_tree, try_tree, throw_tree, Trees, none, and_then}
 use Rattle.ereader.specs.Grammar.{Program}
 use Rattle.ereader.specs.View.{plain}
 
@@ -32,7 +32,12 @@ abbrev pub BindsName : Pattern → Type 0
 BindsName (pattern.Name x) = IsName x
 BindsName pattern.Ignore = Unit {0}
 
--- each noun, verb and each name that a tree defines or assigns is a name of the language, and each integer has a literal
+-- each of them does
+abbrev pub BindNames : List Pattern → Type 0
+BindNames [] = Unit {0}
+BindNames (p ∷ ps) = BindsName p × BindNames ps
+
+-- each noun, verb and each name that a tree defines, binds or assigns is a name of the language, and each integer has a literal
 abbrev mutual
   pub IsSpellable : Tree → Type 0
   IsSpellable null_tree = Unit {0}
@@ -46,6 +51,13 @@ abbrev mutual
   IsSpellable (call r verb args) = IsSpellable r × IsName verb × AreSpellable args
   IsSpellable (list_tree items) = AreSpellable items
   IsSpellable (same_tree l r) = IsSpellable l × IsSpellable r
+  IsSpellable (define_list ps e) = BindNames ps × IsSpellable e
+  IsSpellable (hide body) = AreSpellable body
+  IsSpellable (if_tree c first second) = IsSpellable c × AreSpellable first × AreSpellable second
+  IsSpellable (while_tree c body) = IsSpellable c × AreSpellable body
+  IsSpellable (for_tree p e body) = BindsName p × IsSpellable e × AreSpellable body
+  IsSpellable (try_tree body p handler) = AreSpellable body × BindsName p × AreSpellable handler
+  IsSpellable (throw_tree e) = IsSpellable e
 
   pub AreSpellable : Trees → Type 0
   AreSpellable none = Unit {0}

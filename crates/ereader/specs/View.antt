@@ -5,6 +5,7 @@ use Rattle.std.specs.declared.alloc.Global.{Global}
 use Rattle.etoken.specs.declared.token.Token.{Token}
 use Rattle.etoken.specs.declared.token.Placed.{Placed}
 use Rattle.kernele.specs.declared.tree.Expr.{Expr}
+use Rattle.kernele.specs.declared.tree.Pattern.{Pattern}
 use Rattle.kernele.specs.declared.tree.Program.{Program}
 use Rattle.kernele.specs.Tree.{Tree, Trees}
 use Rattle.kernele.specs.View.{tree_of, trees_of, program_of}
@@ -12,7 +13,10 @@ use Rattle.ereader.specs.declared.fault.ReadFault.{ReadFault}
 use Rattle.ereader.specs.declared.fault.ReadFault.TheVariants as fault
 use Rattle.ereader.specs.declared.fault.Stop.{Stop}
 use Rattle.ereader.specs.declared.fault.Stop.TheVariants as stop
+use Rattle.ereader.specs.declared.operator.Target.{Target}
+use Rattle.ereader.specs.declared.operator.Target.TheVariants as target
 use Rattle.ereader.specs.declared.reader.Reader.{Reader}
+use Rattle.ereader.specs.Grammar.{Place, definition, definitions, new_variable, assignment}
 use Rattle.ereader.specs.Reading.{Read}
 
 -- the tokens, without their places
@@ -39,12 +43,30 @@ abbrev pub GivesMany : Result (Vec Expr Global) Stop → Reader → Reader → (
 GivesMany (Ok es) old new read = read (left_of old) ≡ Some (trees_of es.items, left_of new)
 GivesMany (Err e) old new read = Fails e (read (left_of old))
 
+-- the same, of several patterns
+abbrev pub GivesPatterns : Result (Vec Pattern Global) Stop → Reader → Reader → (List Token → Read (List Pattern)) → Type 0
+GivesPatterns (Ok ps) old new read = read (left_of old) ≡ Some (ps.items, left_of new)
+GivesPatterns (Err e) old new read = Fails e (read (left_of old))
+
+-- what a value is given to
+abbrev pub place_of : Target → Place
+place_of (target.Definition p) = definition p
+place_of (target.Definitions ps) = definitions ps.items
+place_of (target.Variable x) = new_variable x
+place_of (target.Assignment x) = assignment x
+
+-- the same, of what a value is given to, if it is given to anything
+abbrev pub GivesPlace : Result (Option Target) Stop → Reader → Reader → (List Token → Read (Option Place)) → Type 0
+GivesPlace (Ok None) old new read = read (left_of old) ≡ Some (None, left_of new)
+GivesPlace (Ok (Some g)) old new read = read (left_of old) ≡ Some (Some (place_of g), left_of new)
+GivesPlace (Err e) old new read = Fails e (read (left_of old))
+
 -- the same, of several expressions and no token behind them
 abbrev pub GivesAll : Result (Vec Expr Global) Stop → Option (Trees × List Token) → Type 0
 GivesAll (Ok es) read = read ≡ Some (trees_of es.items, [])
 GivesAll (Err e) read = Fails e read
 
--- the same, of a name or a pattern
+-- the same, of a name or one pattern
 abbrev pub GivesPlain : {A : Type 0} → Result A Stop → Reader → Reader → (List Token → Read A) → Type 0
 GivesPlain (Ok x) old new read = read (left_of old) ≡ Some (x, left_of new)
 GivesPlain (Err e) old new read = Fails e (read (left_of old))
@@ -62,10 +84,10 @@ Advances old new = length (left_of new) < length (left_of old)
 abbrev pub IsNoLonger : Reader → Reader → Type 0
 IsNoLonger old new = length (left_of new) ≤ length (left_of old)
 
--- a literal is read, or none is there
-abbrev pub GivesTree : Result Expr Stop → Option Tree → Type 0
-GivesTree (Ok e) read = read ≡ Some (tree_of e)
-GivesTree (Err e) read = Fails e read
+-- a literal stands for a tree, or none is there
+abbrev pub GivesTree : Option Expr → Option Tree → Type 0
+GivesTree (Some e) tree = tree ≡ Some (tree_of e)
+GivesTree None tree = tree ≡ None
 
 -- a place of a text of n bytes: where one of its tokens stands, or its end
 abbrev pub IsPlace : List Placed → ℕ → ℕ → Type 0

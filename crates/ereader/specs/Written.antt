@@ -1,5 +1,5 @@
 -- The tokens of the canonical spelling.
-use Rattle.std.specs.Prelude.{Bool, true, false, List, [], ◌∷◌}
+use Rattle.std.specs.Prelude.{Bool, true, false, not, List, [], ◌∷◌, map}
 use Rattle.etoken.specs.declared.token.Token.{Token}
 use Rattle.etoken.specs.declared.token.Token.TheVariants as token
 use Rattle.etoken.specs.declared.token.Reserved as words
@@ -7,9 +7,9 @@ use Rattle.etoken.specs.declared.token.Reserved.TheVariants as word
 use Rattle.etoken.specs.declared.token.Sign.TheVariants as sign
 use Rattle.kernele.specs.declared.tree.Pattern.{Pattern}
 use Rattle.kernele.specs.declared.tree.Pattern.TheVariants as pattern
-use Rattle.ereader.specs.Grammar.{dot, comma, semicolon, becomes, open_round, close_round, open_square, close_square, underscore}
-use Rattle.kernele.specs.Spelling.{needs_brackets}
-use Rattle.kernele.specs.Tree.{Tree, null_tree, bool_tree, int_tree, text_tree, noun, define, variable, assign, call, list_tree, same_tree, Trees, none, and_then}
+use Rattle.ereader.specs.Grammar.{dot, comma, semicolon, becomes, open_round, close_round, open_square, close_square, open_curly, close_curly, underscore}
+use Rattle.kernele.specs.Spelling.{needs_brackets, is_bare_receiver}
+use Rattle.kernele.specs.Tree.{Tree, null_tree, bool_tree, int_tree, text_tree, noun, define, variable, assign, call, list_tree, same_tree, define_list, hide, if_tree, while_tree, for_tree, try_tree, throw_tree, Trees, none, and_then}
 
 -- tokens put before others
 abbrev pub Before : Type 0
@@ -35,6 +35,14 @@ abbrev pub bound : Pattern → Token
 bound (pattern.Name x) = token.Name x
 bound pattern.Ignore = underscore
 
+-- what a definition of a list binds
+abbrev pub bound_in : Pattern → Before
+bound_in p r = bound p ∷ r
+
+-- a block in its braces
+abbrev pub in_braces : List Before → Before
+in_braces ws r = open_curly ∷ between semicolon ws (close_curly ∷ r)
+
 abbrev pub truth_word : Bool → words.Reserved
 truth_word true = word.True
 truth_word false = word.False
@@ -54,23 +62,38 @@ abbrev mutual
   written (assign x e) r =
       token.Name x ∷ becomes ∷ bracketed (needs_brackets e) (written e) r
   written (call t verb ts) r =
-      bracketed (needs_brackets t) (written t)
+      bracketed (not (is_bare_receiver t)) (written t)
       (dot ∷ token.Name verb ∷ open_round ∷ between comma (written_parts ts) (close_round ∷ r))
   written (list_tree ts) r =
       open_square ∷ between comma (written_parts ts) (close_square ∷ r)
   written (same_tree t u) r =
       open_round ∷ bracketed (needs_brackets t) (written t)
       (token.Sign sign.Equal ∷ bracketed (needs_brackets u) (written u) (close_round ∷ r))
+  written (define_list ps e) r =
+      token.Word word.Def ∷ open_square ∷ between comma (map bound_in ps)
+      (close_square ∷ becomes ∷ bracketed (needs_brackets e) (written e) r)
+  written (hide body) r = in_braces (written_items body) r
+  written (if_tree c first second) r =
+      token.Word word.If ∷ open_round ∷ bracketed (needs_brackets c) (written c)
+      (close_round ∷ in_braces (written_items first) (token.Word word.Else ∷ in_braces (written_items second) r))
+  written (while_tree c body) r =
+      token.Word word.While ∷ open_round ∷ bracketed (needs_brackets c) (written c) (close_round ∷ in_braces (written_items body) r)
+  written (for_tree p e body) r =
+      token.Word word.For ∷ bound p ∷ token.Word word.In ∷ bracketed (needs_brackets e) (written e) (in_braces (written_items body) r)
+  written (try_tree body p handler) r =
+      token.Word word.Try ∷ in_braces (written_items body) (token.Word word.Catch ∷ bound p ∷ in_braces (written_items handler) r)
+  written (throw_tree e) r =
+      token.Word word.Throw ∷ open_round ∷ bracketed (needs_brackets e) (written e) (close_round ∷ r)
 
   -- arguments, or the items of a list
   pub written_parts : Trees → List Before
   written_parts none = []
   written_parts (and_then t ts) = bracketed (needs_brackets t) (written t) ∷ written_parts ts
 
--- the items of a block
-abbrev pub written_items : Trees → List Before
-written_items none = []
-written_items (and_then t ts) = written t ∷ written_items ts
+  -- the items of a block
+  pub written_items : Trees → List Before
+  written_items none = []
+  written_items (and_then t ts) = written t ∷ written_items ts
 
 -- a program
 abbrev pub program_tokens : Trees → List Token

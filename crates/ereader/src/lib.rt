@@ -10,11 +10,14 @@ ghost use Rattle.ereader.specs.Reading.{program_at};
 ghost use Rattle.ereader.specs.Texts.{Answers};
 ghost use Rattle.ereader.specs.View.{plain, IsPlace, Stops, Accepts, IsRefusal};
 
+mod blocks;
 mod depth;
+mod expressions;
 pub mod fault;
 mod nodes;
 mod operator;
 mod peek;
+mod primaries;
 mod reader;
 #[cfg(test)]
 mod tests;
@@ -71,7 +74,7 @@ fn read_items(alloc: Global, tokens: &[Placed], length: usize) -> Result<Vec<Exp
         alloc,
         rest: tokens,
     };
-    match reader.block(tokens.len()) {
+    match reader.program(tokens.len()) {
         Ok(items) => Ok(items),
         Err(Stop::Memory) => Err(ReadFault::Memory),
         Err(Stop::Unexpected) => {

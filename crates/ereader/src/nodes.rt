@@ -1,17 +1,17 @@
 // The nodes of trees, and what operators stand for.
 ghost use Rattle.std.specs.Prelude.{◌≡◌, IfOk, IfErr};
-ghost use Rattle.kernele.specs.Tree.{call as call_tree, list_tree, none};
+ghost use Rattle.kernele.specs.Tree.{call as call_tree, list_tree, hide as hide_tree, if_tree, while_tree, for_tree, try_tree, throw_tree, none};
 ghost use Rattle.kernele.specs.View.{tree_of, trees_of};
 ghost use Rattle.ereader.specs.Grammar.{binary as binary_tree, given, joined, prefix_verb};
 ghost use Rattle.ereader.specs.Reading.{literal_of};
-ghost use Rattle.ereader.specs.View.{GivesTree};
+ghost use Rattle.ereader.specs.View.{GivesTree, place_of};
 ghost use Rattle.ereader.specs.declared.fault.Stop.TheVariants as stop;
 
 use crate::fault::Stop;
 use crate::operator::{Operator, Prefix, Target};
 use etoken::token::Reserved;
 use ids::text::Text;
-use kernele::tree::Expr;
+use kernele::tree::{Expr, Pattern};
 use std::alloc::Global;
 use std::sync::Arc;
 
@@ -33,15 +33,89 @@ pub fn list(alloc: Global, items: Vec<Expr>) -> Result<Expr, Stop>
 
 /// A value and what it is given to.
 pub fn give(alloc: Global, target: Target, value: Expr) -> Result<Expr, Stop>
-    ensures ok { IfOk result (λ e. tree_of e ≡ given target (tree_of value)) }
+    ensures ok { IfOk result (λ e. tree_of e ≡ given (place_of target) (tree_of value)) }
     ensures err { IfErr result (λ e. e ≡ stop.Memory) }
 {
     let value = Arc::new(alloc, value)?;
     Ok(match target {
         Target::Definition(pattern) => Expr::Def(pattern, value),
+        Target::Definitions(patterns) => Expr::DefList(Arc::new(alloc, patterns)?, value),
         Target::Variable(name) => Expr::Var(name, value),
         Target::Assignment(name) => Expr::Assign(name, value),
     })
+}
+
+/// A hidden block.
+pub fn hide(alloc: Global, body: Vec<Expr>) -> Result<Expr, Stop>
+    ensures ok { IfOk result (λ e. tree_of e ≡ hide_tree (trees_of body.items)) }
+    ensures err { IfErr result (λ e. e ≡ stop.Memory) }
+{
+    Ok(Expr::Hide(Arc::new(alloc, body)?))
+}
+
+/// A condition, and a block for each of its answers.
+pub fn choose(alloc: Global, condition: Expr, first: Vec<Expr>, second: Vec<Expr>) -> Result<Expr, Stop>
+    ensures ok { IfOk result (λ e. tree_of e ≡ if_tree (tree_of condition) (trees_of first.items) (trees_of second.items)) }
+    ensures err { IfErr result (λ e. e ≡ stop.Memory) }
+{
+    let condition = Arc::new(alloc, condition)?;
+    let first = Arc::new(alloc, first)?;
+    let second = Arc::new(alloc, second)?;
+    Ok(Expr::If(condition, first, second))
+}
+
+pub fn repeat_while(alloc: Global, condition: Expr, body: Vec<Expr>) -> Result<Expr, Stop>
+    ensures ok { IfOk result (λ e. tree_of e ≡ while_tree (tree_of condition) (trees_of body.items)) }
+    ensures err { IfErr result (λ e. e ≡ stop.Memory) }
+{
+    let condition = Arc::new(alloc, condition)?;
+    let body = Arc::new(alloc, body)?;
+    Ok(Expr::While(condition, body))
+}
+
+pub fn repeat_for(alloc: Global, pattern: Pattern, list: Expr, body: Vec<Expr>) -> Result<Expr, Stop>
+    ensures ok { IfOk result (λ e. tree_of e ≡ for_tree pattern (tree_of list) (trees_of body.items)) }
+    ensures err { IfErr result (λ e. e ≡ stop.Memory) }
+{
+    let list = Arc::new(alloc, list)?;
+    let body = Arc::new(alloc, body)?;
+    Ok(Expr::For(pattern, list, body))
+}
+
+pub fn try_catch(alloc: Global, body: Vec<Expr>, pattern: Pattern, handler: Vec<Expr>) -> Result<Expr, Stop>
+    ensures ok { IfOk result (λ e. tree_of e ≡ try_tree (trees_of body.items) pattern (trees_of handler.items)) }
+    ensures err { IfErr result (λ e. e ≡ stop.Memory) }
+{
+    let body = Arc::new(alloc, body)?;
+    let handler = Arc::new(alloc, handler)?;
+    Ok(Expr::Try(body, pattern, handler))
+}
+
+pub fn throw(alloc: Global, problem: Expr) -> Result<Expr, Stop>
+    ensures ok { IfOk result (λ e. tree_of e ≡ throw_tree (tree_of problem)) }
+    ensures err { IfErr result (λ e. e ≡ stop.Memory) }
+{
+    Ok(Expr::Throw(Arc::new(alloc, problem)?))
+}
+
+/// `left && right`
+fn both(alloc: Global, left: Expr, right: Expr) -> Result<Expr, Stop>
+    ensures ok { IfOk result (λ e. tree_of e ≡ joined Operator.And (tree_of left) (tree_of right)) }
+    ensures err { IfErr result (λ e. e ≡ stop.Memory) }
+{
+    let first = vec![in alloc; right]?;
+    let second = vec![in alloc; Expr::Bool(false)]?;
+    choose(alloc, left, first, second)
+}
+
+/// `left || right`
+fn either(alloc: Global, left: Expr, right: Expr) -> Result<Expr, Stop>
+    ensures ok { IfOk result (λ e. tree_of e ≡ joined Operator.Or (tree_of left) (tree_of right)) }
+    ensures err { IfErr result (λ e. e ≡ stop.Memory) }
+{
+    let first = vec![in alloc; Expr::Bool(true)]?;
+    let second = vec![in alloc; right]?;
+    choose(alloc, left, first, second)
 }
 
 fn same(alloc: Global, left: Expr, right: Expr) -> Result<Expr, Stop>
@@ -88,6 +162,8 @@ pub fn join(alloc: Global, left: Expr, operator: Operator, right: Expr) -> Resul
             let equal = same(alloc, left, right)?;
             unary(alloc, equal, "not")
         }
+        Operator::And => both(alloc, left, right),
+        Operator::Or => either(alloc, left, right),
     }
 }
 
@@ -102,14 +178,14 @@ pub fn prefixed(alloc: Global, operator: Prefix, operand: Expr) -> Result<Expr, 
     }
 }
 
-/// The literal that a word is.
-pub fn literal(word: Reserved) -> Result<Expr, Stop>
+/// The literal that a word is, if it is one.
+pub fn literal(word: Reserved) -> Option<Expr>
     ensures { GivesTree result (literal_of word) }
 {
     match word {
-        Reserved::True => Ok(Expr::Bool(true)),
-        Reserved::False => Ok(Expr::Bool(false)),
-        Reserved::Null => Ok(Expr::Null),
-        _ => Err(Stop::Unexpected),
+        Reserved::True => Some(Expr::Bool(true)),
+        Reserved::False => Some(Expr::Bool(false)),
+        Reserved::Null => Some(Expr::Null),
+        _ => None,
     }
 }

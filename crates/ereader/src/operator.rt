@@ -18,6 +18,8 @@ pub enum Operator {
     AtLeast,
     Same,
     Differ,
+    And,
+    Or,
 }
 
 /// A sign before an operand.
@@ -55,6 +57,7 @@ impl Link {
 pub enum Bracket {
     Round,
     Square,
+    Curly,
 }
 
 /// What a value is given to.
@@ -62,6 +65,8 @@ pub enum Bracket {
 pub enum Target {
     /// What a definition binds.
     Definition(Pattern),
+    /// What a definition binds to the items of a list.
+    Definitions(Vec<Pattern>),
     /// The name of a new variable.
     Variable(Text),
     /// The name that is assigned.

@@ -77,6 +77,24 @@ impl<'a> Reader<'a> {
         }
     }
 
+    pub fn and_operator(&self) -> Option<Operator>
+        ensures { result ≡ front grammar.and_operator (left_of self.now) }
+    {
+        match self.sign()? {
+            Sign::And => Some(Operator::And),
+            _ => None,
+        }
+    }
+
+    pub fn or_operator(&self) -> Option<Operator>
+        ensures { result ≡ front grammar.or_operator (left_of self.now) }
+    {
+        match self.sign()? {
+            Sign::Or => Some(Operator::Or),
+            _ => None,
+        }
+    }
+
     /// What makes a call of what was read, if that goes on.
     pub fn link(&self) -> Option<Link>
         ensures { result ≡ front reading.link_of (left_of self.now) }
@@ -103,6 +121,42 @@ impl<'a> Reader<'a> {
     {
         match self.rest.first() {
             Some(placed) => matches!(placed.token, Token::Word(Reserved::Var)),
+            None => false,
+        }
+    }
+
+    pub fn at_if(&self) -> bool
+        ensures { result ≡ reading.is_at_word reading.is_if_word (left_of self.now) }
+    {
+        match self.rest.first() {
+            Some(placed) => matches!(placed.token, Token::Word(Reserved::If)),
+            None => false,
+        }
+    }
+
+    pub fn at_else(&self) -> bool
+        ensures { result ≡ reading.is_at_word reading.is_else_word (left_of self.now) }
+    {
+        match self.rest.first() {
+            Some(placed) => matches!(placed.token, Token::Word(Reserved::Else)),
+            None => false,
+        }
+    }
+
+    pub fn at_in(&self) -> bool
+        ensures { result ≡ reading.is_at_word reading.is_in_word (left_of self.now) }
+    {
+        match self.rest.first() {
+            Some(placed) => matches!(placed.token, Token::Word(Reserved::In)),
+            None => false,
+        }
+    }
+
+    pub fn at_catch(&self) -> bool
+        ensures { result ≡ reading.is_at_word reading.is_catch_word (left_of self.now) }
+    {
+        match self.rest.first() {
+            Some(placed) => matches!(placed.token, Token::Word(Reserved::Catch)),
             None => false,
         }
     }
@@ -135,10 +189,14 @@ impl<'a> Reader<'a> {
         matches!(self.sign(), Some(Sign::Becomes))
     }
 
-    pub fn at_open(&self) -> bool
-        ensures { result ≡ reading.is_open (sign_in (left_of self.now)) }
+    pub fn at_open(&self, bracket: Bracket) -> bool
+        ensures { result ≡ reading.is_open bracket (sign_in (left_of self.now)) }
     {
-        matches!(self.sign(), Some(Sign::OpenRound))
+        match bracket {
+            Bracket::Round => matches!(self.sign(), Some(Sign::OpenRound)),
+            Bracket::Square => matches!(self.sign(), Some(Sign::OpenSquare)),
+            Bracket::Curly => matches!(self.sign(), Some(Sign::OpenCurly)),
+        }
     }
 
     pub fn at_close(&self, bracket: Bracket) -> bool
@@ -147,6 +205,14 @@ impl<'a> Reader<'a> {
         match bracket {
             Bracket::Round => matches!(self.sign(), Some(Sign::CloseRound)),
             Bracket::Square => matches!(self.sign(), Some(Sign::CloseSquare)),
+            Bracket::Curly => matches!(self.sign(), Some(Sign::CloseCurly)),
         }
+    }
+
+    /// Whether a block ends here: at the end, or before its closing brace.
+    pub fn at_block_end(&self) -> bool
+        ensures { result ≡ reading.is_block_end (left_of self.now) }
+    {
+        self.at_end() || self.at_close(Bracket::Curly)
     }
 }

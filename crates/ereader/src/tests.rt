@@ -17,6 +17,20 @@ fn show_all(items: &Vec<Expr>, out: &mut String) -> Result<(), AllocError> {
     Ok(())
 }
 
+fn show_pattern(pattern: &Pattern, out: &mut String) -> Result<(), AllocError> {
+    match pattern {
+        Pattern::Name(name) => write!(out, "{name}"),
+        Pattern::Ignore => out.push_str("_"),
+    }
+}
+
+#[cycle(show)]
+fn show_block(items: &Vec<Expr>, out: &mut String) -> Result<(), AllocError> {
+    out.push_str("{")?;
+    show_all(items, out)?;
+    out.push_str(" }")
+}
+
 /// Writes a tree with a bracket round each node that has parts.
 #[cycle(show)]
 fn show(tree: &Expr, out: &mut String) -> Result<(), AllocError> {
@@ -27,10 +41,9 @@ fn show(tree: &Expr, out: &mut String) -> Result<(), AllocError> {
         Expr::Text(text) => write!(out, "'{text}'"),
         Expr::Noun(name) => write!(out, "{name}"),
         Expr::Def(pattern, value) => {
-            match pattern {
-                Pattern::Name(name) => write!(out, "(def {name} ")?,
-                Pattern::Ignore => write!(out, "(def _ ")?,
-            }
+            out.push_str("(def ")?;
+            show_pattern(pattern, out)?;
+            out.push_str(" ")?;
             show(value, out)?;
             out.push_str(")")
         }
@@ -60,6 +73,56 @@ fn show(tree: &Expr, out: &mut String) -> Result<(), AllocError> {
             show(left, out)?;
             out.push_str(" ")?;
             show(right, out)?;
+            out.push_str(")")
+        }
+        Expr::DefList(patterns, value) => {
+            out.push_str("(def [")?;
+            for pattern in patterns.iter() {
+                out.push_str(" ")?;
+                show_pattern(pattern, out)?;
+            }
+            out.push_str(" ] ")?;
+            show(value, out)?;
+            out.push_str(")")
+        }
+        Expr::Hide(body) => show_block(body, out),
+        Expr::If(condition, first, second) => {
+            out.push_str("(if ")?;
+            show(condition, out)?;
+            out.push_str(" ")?;
+            show_block(first, out)?;
+            out.push_str(" ")?;
+            show_block(second, out)?;
+            out.push_str(")")
+        }
+        Expr::While(condition, body) => {
+            out.push_str("(while ")?;
+            show(condition, out)?;
+            out.push_str(" ")?;
+            show_block(body, out)?;
+            out.push_str(")")
+        }
+        Expr::For(pattern, list, body) => {
+            out.push_str("(for ")?;
+            show_pattern(pattern, out)?;
+            out.push_str(" ")?;
+            show(list, out)?;
+            out.push_str(" ")?;
+            show_block(body, out)?;
+            out.push_str(")")
+        }
+        Expr::Try(body, pattern, handler) => {
+            out.push_str("(try ")?;
+            show_block(body, out)?;
+            out.push_str(" ")?;
+            show_pattern(pattern, out)?;
+            out.push_str(" ")?;
+            show_block(handler, out)?;
+            out.push_str(")")
+        }
+        Expr::Throw(problem) => {
+            out.push_str("(throw ")?;
+            show(problem, out)?;
             out.push_str(")")
         }
     }
@@ -155,13 +218,137 @@ fn refuses_what_is_no_program(rt: HostRuntime) -> Result<(), Fail> {
         ("x . y ( ) := 1", "L5 Unexpected 10"),
         ("f ( x := 1 )", "L5 Unexpected 6"),
         ("1 + x := 1", "L5 Unexpected 6"),
-        ("if ( a )", "L5 Unexpected 0"),
-        ("{ 1 }", "L5 Unexpected 0"),
+        ("return 1", "L5 Unexpected 0"),
+        ("f ( escape )", "L5 Unexpected 4"),
+        ("when ( x ) -> { }", "L5 Unexpected 0"),
+        ("x <- y ( )", "L5 Unexpected 2"),
+        ("Ref . promise ( )", "L5 Unexpected 0"),
+        ("def x { }", "L5 Unexpected 6"),
         ("1 )", "L5 Unexpected 2"),
         ("1 + @", "L1 BadCharacter 4"),
         ("( ) \"", "L2 UnclosedText 4"),
         ("\"a\\b\"", "L3 BadEscape 2"),
         ("9223372036854775808", "L4 IntegerTooLarge 0"),
+    ] {
+        let read = outcome(rt.alloc(), text)?;
+        assert_eq!(rt; read.as_str(), fault, "at {text}");
+    }
+    Ok(())
+}
+
+#[test]
+fn reads_blocks(rt: HostRuntime) -> Result<(), Fail> {
+    for (text, tree) in [
+        ("{ }", " { }"),
+        ("{ ; ; }", " { }"),
+        ("{ 1 ; { 2 ; { } } } ; 3", " { 1 { 2 { } } } 3"),
+        ("{ def x := 1\nx }", " { (def x 1) x }"),
+        ("f ( { 1 } , { 2 } ) + { 3 }", " (add (run f { 1 } { 2 }) { 3 })"),
+        ("{ 1 } . size ( )", " (size { 1 })"),
+        ("def [ ] := [ ]", " (def [ ] [ ])"),
+        ("def [ a , _ , b ] := c + 1", " (def [ a _ b ] (add c 1))"),
+        ("( def [ a ] := b ) . size ( )", " (size (def [ a ] b))"),
+        ("if ( a ) { b }", " (if a { b } { })"),
+        ("if ( a ) { b } else { c ; d }", " (if a { b } { c d })"),
+        (
+            "if ( a ) { 1 } else if ( b ) { 2 } else { 3 }",
+            " (if a { 1 } { (if b { 2 } { 3 }) })",
+        ),
+        (
+            "if ( a ) { } else if ( b ) { } else if ( c ) { 3 }",
+            " (if a { } { (if b { } { (if c { 3 } { }) }) })",
+        ),
+        ("if ( a ) { 1 } + 2", " (add (if a { 1 } { }) 2)"),
+        (
+            "if ( ( def x := 1 ) ) { x }",
+            " (if (def x 1) { x } { })",
+        ),
+        ("while ( a < 1 ) { a := a + 1 ; b }", " (while (lessThan a 1) { (assign a (add a 1)) b })"),
+        ("for x in [ 1 , 2 ] { x }", " (for x [ 1 2 ] { x })"),
+        ("for _ in a || b { }", " (for _ (if a { true } { b }) { })"),
+        (
+            "for a in for b in c { 1 } { 2 }",
+            " (for a (for b c { 1 }) { 2 })",
+        ),
+        ("try { 1 ; 2 } catch p { 3 }", " (try { 1 2 } p { 3 })"),
+        ("try { } catch _ { }", " (try { } _ { })"),
+        ("throw ( \"no\" ) ; 1", " (throw 'no') 1"),
+        ("- throw ( 1 ) * 2", " (multiply (negate (throw 1)) 2)"),
+    ] {
+        let read = outcome(rt.alloc(), text)?;
+        assert_eq!(rt; read.as_str(), tree, "at {text}");
+    }
+    Ok(())
+}
+
+#[test]
+fn reads_and_and_or(rt: HostRuntime) -> Result<(), Fail> {
+    for (text, tree) in [
+        ("a && b", " (if a { b } { false })"),
+        ("a || b", " (if a { true } { b })"),
+        (
+            "a || b && c",
+            " (if a { true } { (if b { c } { false }) })",
+        ),
+        (
+            "a && b || c",
+            " (if (if a { b } { false }) { true } { c })",
+        ),
+        (
+            "a && b && c",
+            " (if (if a { b } { false }) { c } { false })",
+        ),
+        (
+            "a || b || c",
+            " (if (if a { true } { b }) { true } { c })",
+        ),
+        (
+            "a == 1 && ! b",
+            " (if (same a 1) { (not b) } { false })",
+        ),
+        ("def x := a && b", " (def x (if a { b } { false }))"),
+        ("[ a || b , c ]", " [ (if a { true } { b }) c ]"),
+    ] {
+        let read = outcome(rt.alloc(), text)?;
+        assert_eq!(rt; read.as_str(), tree, "at {text}");
+    }
+    Ok(())
+}
+
+#[test]
+fn refuses_what_is_no_block(rt: HostRuntime) -> Result<(), Fail> {
+    for (text, fault) in [
+        ("if ( x ) y", "L5 Unexpected 9"),
+        ("if x { }", "L5 Unexpected 3"),
+        ("if ( ) { }", "L5 Unexpected 5"),
+        ("if ( def x := 1 ) { }", "L5 Unexpected 5"),
+        ("if ( a )", "L5 Unexpected 8"),
+        ("if ( a ) { } else 1", "L5 Unexpected 18"),
+        ("if ( a ) { } ; else { }", "L5 Unexpected 15"),
+        ("else { }", "L5 Unexpected 0"),
+        ("try { } catch", "L5 Unexpected 13"),
+        ("try { } catch { }", "L5 Unexpected 14"),
+        ("try { }", "L5 Unexpected 7"),
+        ("throw 1", "L5 Unexpected 6"),
+        ("throw ( )", "L5 Unexpected 8"),
+        ("while () { }", "L5 Unexpected 7"),
+        ("while ( a ) b", "L5 Unexpected 12"),
+        ("for 1 in x { }", "L5 Unexpected 4"),
+        ("for x of y { }", "L5 Unexpected 6"),
+        ("for x in { }", "L5 Unexpected 12"),
+        ("for [ x ] in y { }", "L5 Unexpected 4"),
+        ("{ 1", "L5 Unexpected 3"),
+        ("{ 1 2 }", "L5 Unexpected 4"),
+        ("{ 1 )", "L5 Unexpected 4"),
+        ("1 }", "L5 Unexpected 2"),
+        ("} 1", "L5 Unexpected 0"),
+        ("def [ a , ] := b", "L5 Unexpected 10"),
+        ("def [ a b ] := c", "L5 Unexpected 8"),
+        ("def [ [ a ] ] := c", "L5 Unexpected 6"),
+        ("def [ a ] c", "L5 Unexpected 10"),
+        ("f ( def [ ] := a )", "L5 Unexpected 4"),
+        ("a &&", "L5 Unexpected 4"),
+        ("a || || b", "L5 Unexpected 5"),
     ] {
         let read = outcome(rt.alloc(), text)?;
         assert_eq!(rt; read.as_str(), fault, "at {text}");
@@ -207,6 +394,32 @@ fn reads_long_programs(rt: HostRuntime) -> Result<(), Fail> {
     let long = repeated(rt.alloc(), "1;", 8193)?;
     let read = outcome(rt.alloc(), long.as_str())?;
     assert_eq!(rt; read.as_str(), "L8 TooLong");
+    Ok(())
+}
+
+#[test]
+fn reads_deep_programs(rt: HostRuntime) -> Result<(), Fail> {
+    // No bracket is open where one `for` stands in the list of another.
+    let mut text = repeated(rt.alloc(), "for a in ", 5000)?;
+    text.push_str("x { } ")?;
+    let read = outcome(rt.alloc(), text.as_str())?;
+    assert_eq!(rt; read.as_str(), "L5 Unexpected 45006");
+    let mut text = repeated(rt.alloc(), "for a in ", 3000)?;
+    text.push_str("x ")?;
+    text.push_str(repeated(rt.alloc(), "{ } ", 3000)?.as_str())?;
+    let mut tree = repeated(rt.alloc(), " (for a", 3000)?;
+    tree.push_str(" x")?;
+    tree.push_str(repeated(rt.alloc(), " { })", 3000)?.as_str())?;
+    let read = outcome(rt.alloc(), text.as_str())?;
+    assert_eq!(rt; read.as_str(), tree.as_str());
+    // Nor where one `if` stands behind the `else` of another.
+    let mut text = repeated(rt.alloc(), "if ( a ) { } else ", 2000)?;
+    text.push_str("{ 1 }")?;
+    let mut tree = repeated(rt.alloc(), " (if a { } {", 1999)?;
+    tree.push_str(" (if a { } { 1 })")?;
+    tree.push_str(repeated(rt.alloc(), " })", 1999)?.as_str())?;
+    let read = outcome(rt.alloc(), text.as_str())?;
+    assert_eq!(rt; read.as_str(), tree.as_str());
     Ok(())
 }
 

@@ -1,56 +1,128 @@
-use Rattle.std.proofs.Common.{length, ◌*◌, ◌+◌, ◌<◌}
-use Rattle.ereader.specs.Grammar.{product_operator, sum_operator}
-use Rattle.ereader.specs.Reading.{disjunction_at, operand_next, sum_at, product_at, unary_at, postfix_at, postfix_next, items_at, items_next}
+use Rattle.std.proofs.Common.{length, ◌*◌, ◌+◌, ◌<◌, ◌≤◌}
+use Rattle.ereader.specs.Grammar.{product_operator, sum_operator, and_operator, or_operator, snoc}
+use Rattle.ereader.specs.Reading.{within_at, operand_next, disjunction_at, conjunction_at, comparison_at, sum_at, product_at, unary_at, postfix_at, postfix_next, items_at, commas_next, block_at, block_next}
 use Rattle.ereader.specs.View.{plain}
 use Rattle.kernele.specs.View.{tree_of, trees_of}
 use Rattle.ereader.proofs.Turns.{Turns}
 use Rattle.ereader.proofs.reader.Reader.+read.Given as goal
 
-abbrev pub decreases-disjunction : goal.decreases-disjunction
-decreases-disjunction l = 16 * l.left + 0
+abbrev pub decreases-expression : goal.decreases-expression
+decreases-expression l = 32 * l.left + 0
 
-abbrev pub decreases-expr : goal.decreases-expr
-decreases-expr l = 16 * l.left + 2
-
-abbrev pub decreases-group : goal.decreases-group
-decreases-group l = 16 * l.left + 3
+abbrev pub decreases-inner_conditional : goal.decreases-inner_conditional
+decreases-inner_conditional l = 32 * l.left + 0
 
 abbrev pub decreases-items : goal.decreases-items
-decreases-items l = 16 * l.left + 4
+decreases-items l = 32 * l.left + 1
+
+abbrev pub decreases-expr : goal.decreases-expr
+decreases-expr l = 32 * l.left + 1
+
+abbrev pub decreases-condition : goal.decreases-condition
+decreases-condition l = 32 * l.left + 1
 
 abbrev pub decreases-args : goal.decreases-args
-decreases-args l = 16 * l.left + 5
+decreases-args l = 32 * l.left + 2
+
+abbrev pub decreases-group : goal.decreases-group
+decreases-group l = 32 * l.left + 2
+
+abbrev pub decreases-block : goal.decreases-block
+decreases-block l = 32 * l.left + 2
+
+abbrev pub decreases-throw : goal.decreases-throw
+decreases-throw l = 32 * l.left + 2
 
 abbrev pub decreases-list : goal.decreases-list
-decreases-list l = 16 * l.left + 6
-
-abbrev pub decreases-bracketed : goal.decreases-bracketed
-decreases-bracketed l = 16 * l.left + 7
+decreases-list l = 32 * l.left + 3
 
 abbrev pub decreases-linked : goal.decreases-linked
-decreases-linked l = 16 * l.left + 8
+decreases-linked l = 32 * l.left + 3
+
+abbrev pub decreases-block_past : goal.decreases-block_past
+decreases-block_past l = 32 * l.left + 3
+
+abbrev pub decreases-hidden : goal.decreases-hidden
+decreases-hidden l = 32 * l.left + 4
+
+abbrev pub decreases-braced : goal.decreases-braced
+decreases-braced l = 32 * l.left + 4
+
+abbrev pub decreases-branch : goal.decreases-branch
+decreases-branch l = 32 * l.left + 5
+
+abbrev pub decreases-while_loop : goal.decreases-while_loop
+decreases-while_loop l = 32 * l.left + 5
+
+abbrev pub decreases-for_loop : goal.decreases-for_loop
+decreases-for_loop l = 32 * l.left + 5
+
+abbrev pub decreases-tried : goal.decreases-tried
+decreases-tried l = 32 * l.left + 5
+
+abbrev pub decreases-second : goal.decreases-second
+decreases-second l = 32 * l.left + 6
+
+abbrev pub decreases-try_catch : goal.decreases-try_catch
+decreases-try_catch l = 32 * l.left + 6
+
+abbrev pub decreases-conditional : goal.decreases-conditional
+decreases-conditional l = 32 * l.left + 7
+
+abbrev pub decreases-control : goal.decreases-control
+decreases-control l = 32 * l.left + 8
+
+abbrev pub decreases-word : goal.decreases-word
+decreases-word l = 32 * l.left + 9
+
+abbrev pub decreases-bracketed : goal.decreases-bracketed
+decreases-bracketed l = 32 * l.left + 9
 
 abbrev pub decreases-primary : goal.decreases-primary
-decreases-primary l = 16 * l.left + 9
+decreases-primary l = 32 * l.left + 10
 
 abbrev pub decreases-postfix : goal.decreases-postfix
-decreases-postfix l = 16 * l.left + 10
+decreases-postfix l = 32 * l.left + 11
 
 abbrev pub decreases-unary : goal.decreases-unary
-decreases-unary l = 16 * l.left + 11
+decreases-unary l = 32 * l.left + 12
 
 abbrev pub decreases-product : goal.decreases-product
-decreases-product l = 16 * l.left + 12
+decreases-product l = 32 * l.left + 13
 
 abbrev pub decreases-sum : goal.decreases-sum
-decreases-sum l = 16 * l.left + 13
+decreases-sum l = 32 * l.left + 14
 
 abbrev pub decreases-comparison : goal.decreases-comparison
-decreases-comparison l = 16 * l.left + 14
+decreases-comparison l = 32 * l.left + 15
+
+abbrev pub decreases-conjunction : goal.decreases-conjunction
+decreases-conjunction l = 32 * l.left + 16
+
+abbrev pub decreases-disjunction : goal.decreases-disjunction
+decreases-disjunction l = 32 * l.left + 17
+
+abbrev pub invariant-disjunction-more : goal.invariant-disjunction-more
+invariant-disjunction-more l = record {
+  comes : Turns (operand_next or_operator (conjunction_at (within_at l.left))) (disjunction_at (within_at l.left) (plain l.fn.self.rest.now)) (tree_of l.disjunction) (plain l.self.rest.now);
+  shorter : length (plain l.self.rest.now) < length (plain l.fn.self.rest.now);
+}
+
+abbrev pub decreases-disjunction-more : goal.decreases-disjunction-more
+decreases-disjunction-more l = length (plain l.self.rest.now)
+
+abbrev pub invariant-conjunction-more : goal.invariant-conjunction-more
+invariant-conjunction-more l = record {
+  comes : Turns (operand_next and_operator (comparison_at (within_at l.left))) (conjunction_at (within_at l.left) (plain l.fn.self.rest.now)) (tree_of l.conjunction) (plain l.self.rest.now);
+  shorter : length (plain l.self.rest.now) < length (plain l.fn.self.rest.now);
+}
+
+abbrev pub decreases-conjunction-more : goal.decreases-conjunction-more
+decreases-conjunction-more l = length (plain l.self.rest.now)
 
 abbrev pub invariant-sum-more : goal.invariant-sum-more
 invariant-sum-more l = record {
-  comes : Turns (operand_next sum_operator (product_at (disjunction_at l.left))) (sum_at (disjunction_at l.left) (plain l.fn.self.rest.now)) (tree_of l.sum) (plain l.self.rest.now);
+  comes : Turns (operand_next sum_operator (product_at (within_at l.left))) (sum_at (within_at l.left) (plain l.fn.self.rest.now)) (tree_of l.sum) (plain l.self.rest.now);
   shorter : length (plain l.self.rest.now) < length (plain l.fn.self.rest.now);
 }
 
@@ -59,7 +131,7 @@ decreases-sum-more l = length (plain l.self.rest.now)
 
 abbrev pub invariant-product-more : goal.invariant-product-more
 invariant-product-more l = record {
-  comes : Turns (operand_next product_operator (unary_at (disjunction_at l.left))) (product_at (disjunction_at l.left) (plain l.fn.self.rest.now)) (tree_of l.product) (plain l.self.rest.now);
+  comes : Turns (operand_next product_operator (unary_at (within_at l.left))) (product_at (within_at l.left) (plain l.fn.self.rest.now)) (tree_of l.product) (plain l.self.rest.now);
   shorter : length (plain l.self.rest.now) < length (plain l.fn.self.rest.now);
 }
 
@@ -68,7 +140,7 @@ decreases-product-more l = length (plain l.self.rest.now)
 
 abbrev pub invariant-postfix-more : goal.invariant-postfix-more
 invariant-postfix-more l = record {
-  comes : Turns (postfix_next (disjunction_at l.left)) (postfix_at (disjunction_at l.left) (plain l.fn.self.rest.now)) (tree_of l.postfix) (plain l.self.rest.now);
+  comes : Turns (postfix_next (within_at l.left)) (postfix_at (within_at l.left) (plain l.fn.self.rest.now)) (tree_of l.postfix) (plain l.self.rest.now);
   shorter : length (plain l.self.rest.now) < length (plain l.fn.self.rest.now);
 }
 
@@ -77,9 +149,18 @@ decreases-postfix-more l = length (plain l.self.rest.now)
 
 abbrev pub invariant-items-more : goal.invariant-items-more
 invariant-items-more l = record {
-  comes : Turns (items_next (disjunction_at l.left)) (items_at (disjunction_at l.left) (plain l.fn.self.rest.now)) (trees_of l.items.items) (plain l.self.rest.now);
+  comes : Turns (commas_next snoc (within_at l.left).expression) (items_at (within_at l.left) (plain l.fn.self.rest.now)) (trees_of l.items.items) (plain l.self.rest.now);
   shorter : length (plain l.self.rest.now) < length (plain l.fn.self.rest.now);
 }
 
 abbrev pub decreases-items-more : goal.decreases-items-more
 decreases-items-more l = length (plain l.self.rest.now)
+
+abbrev pub invariant-block-more : goal.invariant-block-more
+invariant-block-more l = record {
+  comes : Turns (block_next (within_at l.left)) (block_at (within_at l.left) (plain l.fn.self.rest.now)) (trees_of l.items.items) (plain l.self.rest.now);
+  shorter : length (plain l.self.rest.now) ≤ length (plain l.fn.self.rest.now);
+}
+
+abbrev pub decreases-block-more : goal.decreases-block-more
+decreases-block-more l = length (plain l.self.rest.now)

@@ -1,0 +1,271 @@
+// Blocks, and what begins with a word and has blocks.
+ghost use Rattle.std.specs.Prelude.{◌≡◌, ◌≤◌, length, OnOk};
+ghost use Rattle.ereader.specs.Reading as reading;
+ghost use Rattle.ereader.specs.Reading.{rest_of, within_at};
+ghost use Rattle.ereader.specs.View.{left_of, Advances, IsNoLonger, Gives, GivesMany, GivesAll, GivesPlain, GoesTo};
+
+use crate::fault::Stop;
+use crate::nodes;
+use crate::operator::Bracket;
+use crate::reader::Reader;
+use etoken::token::Reserved;
+use kernele::tree::{Expr, Pattern};
+
+impl<'a> Reader<'a> {
+    /// Goes past semicolons.
+    fn skip_semicolons(&mut self)
+        ensures { left_of self.new ≡ reading.skip_semicolons (left_of self.old) }
+    {
+        'more: while self.at_semicolon() {
+            self.skip();
+        }
+    }
+
+    /// The semicolons behind an item, or the block's end.
+    fn separator(&mut self) -> Result<(), Stop>
+        ensures gives { GoesTo result self.old self.new reading.separator_at }
+        ensures shorter { OnOk result (IsNoLonger self.old self.new) }
+    {
+        if !self.at_block_end() && !self.at_semicolon() {
+            return Err(Stop::Unexpected);
+        }
+        self.skip_semicolons();
+        Ok(())
+    }
+
+    /// All the tokens, where parts lie within one another at most `left` deep.
+    pub fn program(&mut self, left: usize) -> Result<Vec<Expr>, Stop>
+        ensures { GivesAll result (reading.all_at (within_at left) (left_of self.old)) }
+    {
+        let items = self.block(left)?;
+        if !self.at_end() {
+            return Err(Stop::Unexpected);
+        }
+        Ok(items)
+    }
+
+    /// The items of a block, up to its end.
+    #[cycle(read)]
+    fn block(&mut self, left: usize) -> Result<Vec<Expr>, Stop>
+        ensures gives { GivesMany result self.old self.new (reading.block_at (within_at left)) }
+        ensures shorter { OnOk result (IsNoLonger self.old self.new) }
+    {
+        let mut items = Vec::new(self.alloc);
+        self.skip_semicolons();
+        'more: while !self.at_block_end() {
+            let item = self.expr(left)?;
+            items.push(item)?;
+            self.separator()?;
+        }
+        Ok(items)
+    }
+
+    /// A block and the brace behind it.
+    #[cycle(read)]
+    fn block_past(&mut self, left: usize) -> Result<Vec<Expr>, Stop>
+        ensures gives { GivesMany result self.old self.new (reading.block_past_at (within_at left)) }
+        ensures shorter { OnOk result (IsNoLonger self.old self.new) }
+    {
+        let items = self.block(left)?;
+        if !self.at_close(Bracket::Curly) {
+            return Err(Stop::Unexpected);
+        }
+        self.skip();
+        Ok(items)
+    }
+
+    /// A hidden block, behind its opening brace.
+    #[cycle(read)]
+    pub fn hidden(&mut self, left: usize) -> Result<Expr, Stop>
+        ensures gives { Gives result self.old self.new (reading.hide_at (within_at left)) }
+        ensures shorter { OnOk result (IsNoLonger self.old self.new) }
+    {
+        let body = self.block_past(left)?;
+        nodes::hide(self.alloc, body)
+    }
+
+    /// A block in its braces.
+    #[cycle(read)]
+    fn braced(&mut self, left: usize) -> Result<Vec<Expr>, Stop>
+        ensures gives { GivesMany result self.old self.new (reading.braced_at (within_at left)) }
+        ensures shorter { OnOk result (Advances self.old self.new) }
+    {
+        if !self.at_open(Bracket::Curly) {
+            return Err(Stop::Unexpected);
+        }
+        self.skip();
+        self.block_past(left)
+    }
+
+    /// An expression in round brackets.
+    #[cycle(read)]
+    fn condition(&mut self, left: usize) -> Result<Expr, Stop>
+        ensures gives { Gives result self.old self.new (reading.condition_at (within_at left)) }
+        ensures shorter { OnOk result (Advances self.old self.new) }
+    {
+        if !self.at_open(Bracket::Round) {
+            return Err(Stop::Unexpected);
+        }
+        self.skip();
+        let condition = self.expression(left)?;
+        if !self.at_close(Bracket::Round) {
+            return Err(Stop::Unexpected);
+        }
+        self.skip();
+        Ok(condition)
+    }
+
+    /// What begins with the word in front and is no literal, if an expression may.
+    #[cycle(read)]
+    pub fn control(&mut self, left: usize, word: Reserved) -> Result<Expr, Stop>
+        ensures gives { Gives result self.old self.new (λ a. reading.control_at (within_at left) word (rest_of a)) }
+        ensures shorter { OnOk result (length (left_of self.new) ≤ length (rest_of (left_of self.old))) }
+    {
+        match word {
+            Reserved::If => {
+                self.skip();
+                self.conditional(left)
+            }
+            Reserved::While => {
+                self.skip();
+                self.while_loop(left)
+            }
+            Reserved::For => {
+                self.skip();
+                self.for_loop(left)
+            }
+            Reserved::Try => {
+                self.skip();
+                self.try_catch(left)
+            }
+            Reserved::Throw => {
+                self.skip();
+                self.throw(left)
+            }
+            _ => Err(Stop::Unexpected),
+        }
+    }
+
+    /// What stands behind `if`.
+    #[cycle(read)]
+    fn conditional(&mut self, left: usize) -> Result<Expr, Stop>
+        ensures gives { Gives result self.old self.new (reading.if_at (within_at left)) }
+        ensures shorter { OnOk result (IsNoLonger self.old self.new) }
+    {
+        let condition = self.condition(left)?;
+        let first = self.braced(left)?;
+        let second = self.second(left)?;
+        nodes::choose(self.alloc, condition, first, second)
+    }
+
+    /// The second block, if there is one.
+    #[cycle(read)]
+    fn second(&mut self, left: usize) -> Result<Vec<Expr>, Stop>
+        ensures gives { GivesMany result self.old self.new (reading.else_at (within_at left)) }
+        ensures shorter { OnOk result (IsNoLonger self.old self.new) }
+    {
+        if !self.at_else() {
+            return Ok(Vec::new(self.alloc));
+        }
+        self.skip();
+        self.branch(left)
+    }
+
+    /// What stands behind `else`.
+    #[cycle(read)]
+    fn branch(&mut self, left: usize) -> Result<Vec<Expr>, Stop>
+        ensures gives { GivesMany result self.old self.new (reading.branch_at (within_at left)) }
+        ensures shorter { OnOk result (IsNoLonger self.old self.new) }
+    {
+        if !self.at_if() {
+            return self.braced(left);
+        }
+        self.skip();
+        let inner = self.inner_conditional(left)?;
+        Ok(vec![in self.alloc; inner]?)
+    }
+
+    /// What stands behind an `if` that stands behind `else`.
+    #[cycle(read)]
+    fn inner_conditional(&mut self, left: usize) -> Result<Expr, Stop>
+        ensures gives { Gives result self.old self.new (within_at left).conditional }
+        ensures shorter { OnOk result (IsNoLonger self.old self.new) }
+    {
+        if left == 0 {
+            return Err(Stop::Unexpected);
+        }
+        self.conditional(left - 1)
+    }
+
+    /// What stands behind `while`.
+    #[cycle(read)]
+    fn while_loop(&mut self, left: usize) -> Result<Expr, Stop>
+        ensures gives { Gives result self.old self.new (reading.while_at (within_at left)) }
+        ensures shorter { OnOk result (IsNoLonger self.old self.new) }
+    {
+        let condition = self.condition(left)?;
+        let body = self.braced(left)?;
+        nodes::repeat_while(self.alloc, condition, body)
+    }
+
+    /// A pattern and the `in` behind it.
+    fn each(&mut self) -> Result<Pattern, Stop>
+        ensures gives { GivesPlain result self.old self.new reading.each_at }
+        ensures shorter { OnOk result (IsNoLonger self.old self.new) }
+    {
+        let pattern = self.pattern()?;
+        if !self.at_in() {
+            return Err(Stop::Unexpected);
+        }
+        self.skip();
+        Ok(pattern)
+    }
+
+    /// What stands behind `for`.
+    #[cycle(read)]
+    fn for_loop(&mut self, left: usize) -> Result<Expr, Stop>
+        ensures gives { Gives result self.old self.new (reading.for_at (within_at left)) }
+        ensures shorter { OnOk result (IsNoLonger self.old self.new) }
+    {
+        let pattern = self.each()?;
+        let list = self.expression(left)?;
+        let body = self.braced(left)?;
+        nodes::repeat_for(self.alloc, pattern, list, body)
+    }
+
+    /// A block and the `catch` behind it.
+    #[cycle(read)]
+    fn tried(&mut self, left: usize) -> Result<Vec<Expr>, Stop>
+        ensures gives { GivesMany result self.old self.new (reading.tried_at (within_at left)) }
+        ensures shorter { OnOk result (IsNoLonger self.old self.new) }
+    {
+        let body = self.braced(left)?;
+        if !self.at_catch() {
+            return Err(Stop::Unexpected);
+        }
+        self.skip();
+        Ok(body)
+    }
+
+    /// What stands behind `try`.
+    #[cycle(read)]
+    fn try_catch(&mut self, left: usize) -> Result<Expr, Stop>
+        ensures gives { Gives result self.old self.new (reading.try_at (within_at left)) }
+        ensures shorter { OnOk result (IsNoLonger self.old self.new) }
+    {
+        let body = self.tried(left)?;
+        let pattern = self.pattern()?;
+        let handler = self.braced(left)?;
+        nodes::try_catch(self.alloc, body, pattern, handler)
+    }
+
+    /// What stands behind `throw`.
+    #[cycle(read)]
+    fn throw(&mut self, left: usize) -> Result<Expr, Stop>
+        ensures gives { Gives result self.old self.new (reading.throw_at (within_at left)) }
+        ensures shorter { OnOk result (IsNoLonger self.old self.new) }
+    {
+        let problem = self.condition(left)?;
+        nodes::throw(self.alloc, problem)
+    }
+}

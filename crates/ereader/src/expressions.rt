@@ -1,0 +1,160 @@
+// Expressions by how tightly their operators bind: one method for each row of the grammar.
+ghost use Rattle.std.specs.Prelude.{◌≡◌, OnOk};
+ghost use Rattle.kernele.specs.View.{tree_of};
+ghost use Rattle.ereader.specs.Reading as reading;
+ghost use Rattle.ereader.specs.Reading.{within_at};
+ghost use Rattle.ereader.specs.View.{Advances, IsNoLonger, Gives, GivesPlain};
+
+use crate::fault::Stop;
+use crate::nodes;
+use crate::operator::{Bracket, Link};
+use crate::reader::Reader;
+use ids::text::Text;
+use kernele::tree::Expr;
+
+impl<'a> Reader<'a> {
+    /// The verb of a call, up to its arguments.
+    fn verb(&mut self, link: Link) -> Result<Text, Stop>
+        ensures gives { GivesPlain result self.old self.new (reading.verb_at link) }
+        ensures shorter { OnOk result (IsNoLonger self.old self.new) }
+    {
+        match link {
+            Link::Method => self.method(),
+            Link::Run => Ok(Text::new(self.alloc, "run")?),
+            Link::Index => Ok(Text::new(self.alloc, "get")?),
+        }
+    }
+
+    /// A verb and its opening bracket.
+    fn method(&mut self) -> Result<Text, Stop>
+        ensures gives { GivesPlain result self.old self.new (reading.verb_at Link.Method) }
+        ensures shorter { OnOk result (IsNoLonger self.old self.new) }
+    {
+        let verb = self.name()?;
+        if !self.at_open(Bracket::Round) {
+            return Err(Stop::Unexpected);
+        }
+        self.skip();
+        Ok(verb)
+    }
+
+    /// An expression that gives its value to no name, where parts lie within one another less than `left` deep. Each
+    /// such part is behind at least one token of the one around it, so the number of tokens is always enough.
+    #[cycle(read)]
+    pub fn expression(&mut self, left: usize) -> Result<Expr, Stop>
+        ensures gives { Gives result self.old self.new (within_at left).expression }
+        ensures shorter { OnOk result (Advances self.old self.new) }
+    {
+        if left == 0 {
+            return Err(Stop::Unexpected);
+        }
+        self.disjunction(left - 1)
+    }
+
+    #[cycle(read)]
+    fn disjunction(&mut self, left: usize) -> Result<Expr, Stop>
+        ensures gives { Gives result self.old self.new (reading.disjunction_at (within_at left)) }
+        ensures shorter { OnOk result (Advances self.old self.new) }
+    {
+        let mut disjunction = self.conjunction(left)?;
+        'more: while let Some(operator) = self.or_operator() {
+            self.skip();
+            let right = self.conjunction(left)?;
+            disjunction = nodes::join(self.alloc, disjunction, operator, right)?;
+        }
+        Ok(disjunction)
+    }
+
+    #[cycle(read)]
+    fn conjunction(&mut self, left: usize) -> Result<Expr, Stop>
+        ensures gives { Gives result self.old self.new (reading.conjunction_at (within_at left)) }
+        ensures shorter { OnOk result (Advances self.old self.new) }
+    {
+        let mut conjunction = self.comparison(left)?;
+        'more: while let Some(operator) = self.and_operator() {
+            self.skip();
+            let right = self.comparison(left)?;
+            conjunction = nodes::join(self.alloc, conjunction, operator, right)?;
+        }
+        Ok(conjunction)
+    }
+
+    #[cycle(read)]
+    fn comparison(&mut self, left: usize) -> Result<Expr, Stop>
+        ensures gives { Gives result self.old self.new (reading.comparison_at (within_at left)) }
+        ensures shorter { OnOk result (Advances self.old self.new) }
+    {
+        let left_side = self.sum(left)?;
+        let Some(operator) = self.comparison_operator() else {
+            return Ok(left_side);
+        };
+        self.skip();
+        let right_side = self.sum(left)?;
+        nodes::join(self.alloc, left_side, operator, right_side)
+    }
+
+    #[cycle(read)]
+    fn sum(&mut self, left: usize) -> Result<Expr, Stop>
+        ensures gives { Gives result self.old self.new (reading.sum_at (within_at left)) }
+        ensures shorter { OnOk result (Advances self.old self.new) }
+    {
+        let mut sum = self.product(left)?;
+        'more: while let Some(operator) = self.sum_operator() {
+            self.skip();
+            let right = self.product(left)?;
+            sum = nodes::join(self.alloc, sum, operator, right)?;
+        }
+        Ok(sum)
+    }
+
+    #[cycle(read)]
+    fn product(&mut self, left: usize) -> Result<Expr, Stop>
+        ensures gives { Gives result self.old self.new (reading.product_at (within_at left)) }
+        ensures shorter { OnOk result (Advances self.old self.new) }
+    {
+        let mut product = self.unary(left)?;
+        'more: while let Some(operator) = self.product_operator() {
+            self.skip();
+            let right = self.unary(left)?;
+            product = nodes::join(self.alloc, product, operator, right)?;
+        }
+        Ok(product)
+    }
+
+    #[cycle(read)]
+    fn unary(&mut self, left: usize) -> Result<Expr, Stop>
+        ensures gives { Gives result self.old self.new (reading.unary_at (within_at left)) }
+        ensures shorter { OnOk result (Advances self.old self.new) }
+    {
+        let Some(operator) = self.prefix_operator() else {
+            return self.postfix(left);
+        };
+        self.skip();
+        let operand = self.postfix(left)?;
+        nodes::prefixed(self.alloc, operator, operand)
+    }
+
+    #[cycle(read)]
+    fn postfix(&mut self, left: usize) -> Result<Expr, Stop>
+        ensures gives { Gives result self.old self.new (reading.postfix_at (within_at left)) }
+        ensures shorter { OnOk result (Advances self.old self.new) }
+    {
+        let mut postfix = self.primary(left)?;
+        'more: while let Some(link) = self.link() {
+            self.skip();
+            postfix = self.linked(left, link, postfix)?;
+        }
+        Ok(postfix)
+    }
+
+    /// A call of `receiver`, behind what makes it one.
+    #[cycle(read)]
+    fn linked(&mut self, left: usize, link: Link, receiver: Expr) -> Result<Expr, Stop>
+        ensures gives { Gives result self.old self.new (reading.linked_at (within_at left) link (tree_of receiver)) }
+        ensures shorter { OnOk result (IsNoLonger self.old self.new) }
+    {
+        let verb = self.verb(link)?;
+        let args = self.args(left, link.bracket())?;
+        nodes::call(self.alloc, receiver, verb, args)
+    }
+}

@@ -1,0 +1,148 @@
+// Expressions without operators, and what stands in brackets.
+ghost use Rattle.std.specs.Prelude.{◌≡◌, ◌≤◌, length, OnOk};
+ghost use Rattle.ereader.specs.Reading as reading;
+ghost use Rattle.ereader.specs.Reading.{rest_of, within_at};
+ghost use Rattle.ereader.specs.View.{left_of, Advances, IsNoLonger, Gives, GivesMany};
+
+use crate::fault::Stop;
+use crate::nodes;
+use crate::operator::Bracket;
+use crate::reader::Reader;
+use etoken::token::{Reserved, Sign, Token};
+use kernele::tree::Expr;
+
+impl<'a> Reader<'a> {
+    /// Arguments, and the closing bracket.
+    #[cycle(read)]
+    pub fn args(&mut self, left: usize, bracket: Bracket) -> Result<Vec<Expr>, Stop>
+        ensures gives { GivesMany result self.old self.new (reading.args_at (within_at left) bracket) }
+        ensures shorter { OnOk result (IsNoLonger self.old self.new) }
+    {
+        if self.at_close(bracket) {
+            self.skip();
+            return Ok(Vec::new(self.alloc));
+        }
+        let items = self.items(left)?;
+        if !self.at_close(bracket) {
+            return Err(Stop::Unexpected);
+        }
+        self.skip();
+        Ok(items)
+    }
+
+    /// One expression or more, with commas between them.
+    #[cycle(read)]
+    fn items(&mut self, left: usize) -> Result<Vec<Expr>, Stop>
+        ensures gives { GivesMany result self.old self.new (reading.items_at (within_at left)) }
+        ensures shorter { OnOk result (Advances self.old self.new) }
+    {
+        let first = self.expression(left)?;
+        let mut items = vec![in self.alloc; first]?;
+        'more: while self.at_comma() {
+            self.skip();
+            let item = self.expression(left)?;
+            items.push(item)?;
+        }
+        Ok(items)
+    }
+
+    #[cycle(read)]
+    pub fn primary(&mut self, left: usize) -> Result<Expr, Stop>
+        ensures gives { Gives result self.old self.new (reading.primary_at (within_at left)) }
+        ensures shorter { OnOk result (Advances self.old self.new) }
+    {
+        let Some((first, rest)) = self.rest.split_first() else {
+            return Err(Stop::Unexpected);
+        };
+        match &first.token {
+            Token::Int(number) => {
+                self.rest = rest;
+                Ok(Expr::Int(*number))
+            }
+            Token::Text(text) => {
+                let text = text.share()?;
+                self.rest = rest;
+                Ok(Expr::Text(text))
+            }
+            Token::Name(name) => {
+                let name = name.share()?;
+                self.rest = rest;
+                Ok(Expr::Noun(name))
+            }
+            Token::Word(word) => self.word(left, *word),
+            Token::Sign(sign) => self.bracketed(left, *sign),
+        }
+    }
+
+    /// What begins with the word in front, if an expression may.
+    #[cycle(read)]
+    fn word(&mut self, left: usize, word: Reserved) -> Result<Expr, Stop>
+        ensures gives { Gives result self.old self.new (λ a. reading.word_at (within_at left) word (rest_of a)) }
+        ensures shorter { OnOk result (length (left_of self.new) ≤ length (rest_of (left_of self.old))) }
+    {
+        let Some(literal) = nodes::literal(word) else {
+            return self.control(left, word);
+        };
+        self.skip();
+        Ok(literal)
+    }
+
+    /// What begins with the sign in front, if an expression may.
+    #[cycle(read)]
+    fn bracketed(&mut self, left: usize, sign: Sign) -> Result<Expr, Stop>
+        ensures gives { Gives result self.old self.new (λ a. reading.bracket_at (within_at left) sign (rest_of a)) }
+        ensures shorter { OnOk result (length (left_of self.new) ≤ length (rest_of (left_of self.old))) }
+    {
+        match sign {
+            Sign::OpenRound => {
+                self.skip();
+                self.group(left)
+            }
+            Sign::OpenSquare => {
+                self.skip();
+                self.list(left)
+            }
+            Sign::OpenCurly => {
+                self.skip();
+                self.hidden(left)
+            }
+            _ => Err(Stop::Unexpected),
+        }
+    }
+
+    /// A list, behind its opening bracket.
+    #[cycle(read)]
+    fn list(&mut self, left: usize) -> Result<Expr, Stop>
+        ensures gives { Gives result self.old self.new (reading.list_at (within_at left)) }
+        ensures shorter { OnOk result (IsNoLonger self.old self.new) }
+    {
+        let items = self.args(left, Bracket::Square)?;
+        nodes::list(self.alloc, items)
+    }
+
+    /// An expression in brackets, behind the opening one.
+    #[cycle(read)]
+    fn group(&mut self, left: usize) -> Result<Expr, Stop>
+        ensures gives { Gives result self.old self.new (reading.group_at (within_at left)) }
+        ensures shorter { OnOk result (IsNoLonger self.old self.new) }
+    {
+        let inner = self.expr(left)?;
+        if !self.at_close(Bracket::Round) {
+            return Err(Stop::Unexpected);
+        }
+        self.skip();
+        Ok(inner)
+    }
+
+    #[cycle(read)]
+    pub fn expr(&mut self, left: usize) -> Result<Expr, Stop>
+        ensures gives { Gives result self.old self.new (reading.expr_at (within_at left)) }
+        ensures shorter { OnOk result (Advances self.old self.new) }
+    {
+        let Some(target) = self.target()? else {
+            return self.expression(left);
+        };
+        let value = self.expression(left)?;
+        nodes::give(self.alloc, target, value)
+    }
+}
