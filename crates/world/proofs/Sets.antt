@@ -1,4 +1,5 @@
 -- Worlds are a set: any two proofs that two worlds are the same are the same.
+use Rattle.std.proofs.Common.{List}
 use Rattle.std.proofs.Props.{props}
 use Rattle.kernele.specs.declared.tree.Pattern.{Pattern}
 use Rattle.kernele.specs.Tree.{Name, Trees, Trees-set}
@@ -14,8 +15,11 @@ names = Prim.hlevel props
 patterns : IsSet Pattern
 patterns = Prim.hlevel props
 
+pattern_lists : IsSet (List Pattern)
+pattern_lists = Prim.hlevel (props, patterns)
+
 trees : IsSet Trees
-trees = Trees-set (Prim.hlevel props) (Prim.hlevel props) names patterns
+trees = Trees-set (Prim.hlevel props) (Prim.hlevel props) names patterns pattern_lists
 
 vals : IsSet Val
 vals = Val-set (Prim.hlevel props) (Prim.hlevel props) names
