@@ -4,10 +4,10 @@ ghost use Rattle.world.specs.EventView.{act_of};
 ghost use Rattle.book.specs.EntryView.{is_live, line_of, lines_of};
 ghost use Rattle.evats.specs.Listing.{act_text, mark_text, names_text, entry_line, journal_text, cone_text};
 
-use world::event::Action;
 use book::journal::{Entry, Mark};
 use ids::names::EventName;
 use std::alloc::AllocError;
+use world::event::Action;
 
 /// Writes the names of events, a space before each.
 fn write_names(names: &[EventName], out: &mut String) -> Result<(), AllocError>

@@ -13,6 +13,8 @@ mod script;
 mod show;
 #[cfg(test)]
 mod tests;
+#[cfg(test)]
+mod tests_of_control;
 mod words;
 
 pub use ended::{Ended, status};

@@ -15,13 +15,13 @@ use crate::listing::{write_cone, write_journal};
 use crate::show::write_world;
 use book::fault::BookFault;
 use book::journal::Entry;
-use world::world::World;
 use ereader::fault::ReadFault;
 use ids::names::{EventName, MsgId};
 use ids::quote::write_quoted;
 use std::alloc::{AllocError, Global};
 use turn::delivery::Ended;
 use values::showing::write_value;
+use world::world::World;
 
 /// The replies so far, and whether one is a refusal.
 #[derive(Drop)]

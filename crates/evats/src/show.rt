@@ -15,7 +15,6 @@ ghost use Rattle.world.specs.View.{world_of, place_of, message_of, home_of};
 ghost use Rattle.evats.specs.Show.{content_text, noun_line, noun_lines, slot_line, slot_lines, vat_line, place_text, message_line, message_lines, board_line, board_lines, Lists, Shows};
 ghost use Rattle.evats.specs.ShowView.{nouns_in, slots_in, homes_in, messages_in, board_in, HomeWritten, HomesWritten};
 
-use world::world::{Home, Message, Place, World};
 use ids::names::{MsgId, PromId, SlotId, VatNo};
 use ids::text::Text;
 use std::alloc::AllocError;
@@ -23,6 +22,7 @@ use std::collections::BTreeMap;
 use turn::heap::Binding;
 use values::showing::write_value;
 use values::value::Value;
+use world::world::{Home, Message, Place, World};
 
 fn write_binding(binding: &Binding, out: &mut String) -> Result<(), AllocError>
     ensures { OnOk result (string_bytes out.new ≡ string_bytes out.old ++ content_text (bound (bind_of binding.now))) }
