@@ -92,6 +92,7 @@ pub data Listing : Type 0 where
   listed : (vs : Vals) → Listing
   unlisted : (o : End) → Listing
 
+-- a value with the items that are wanted of it, or without
 abbrev pub listing_by : Name → Val → Option Vals → Listing
 listing_by words v (Some vs) = listed vs
 listing_by words v None = unlisted (mismatch words v)
@@ -116,7 +117,7 @@ abbrev pub parts_bound : List Pattern → Listing → At → At
 parts_bound ps (listed vs) a = matched_all ps vs a
 parts_bound ps (unlisted o) a = a
 
--- and gives the value of its right side as it is
+-- and it gives the value of its right side as it is
 abbrev pub parts_end : End → Listing → End
 parts_end o (listed vs) = o
 parts_end o (unlisted p) = p
@@ -186,14 +187,17 @@ pub data Choice : Type 0 where
   goes : (q : Bool) → Choice
   ends : (o : End) → Choice
 
+-- the truth value that a value is
 abbrev pub bool_in : Val → Option Bool
 bool_in (bool q) = Some q
 bool_in _ = None
 
+-- a truth value chooses, any other value throws
 abbrev pub choice_by : Val → Option Bool → Choice
 choice_by v (Some q) = goes q
 choice_by v None = ends (mismatch (codes "not a truth value") v)
 
+-- what a condition that ended so leads to
 abbrev pub choice_of : End → Choice
 choice_of (value v) = choice_by v (bool_in v)
 choice_of (halt h) = ends (halt h)
@@ -203,11 +207,12 @@ abbrev pub chosen : Bool → Trees → Trees → Trees
 chosen true first second = first
 chosen false first second = second
 
+-- a value with the text that it is, or without
 abbrev pub thrown_by : Val → Option Name → End
 thrown_by v (Some problem) = halt (thrown problem)
 thrown_by v None = mismatch (codes "not a text") v
 
--- a text is thrown as a problem
+-- what a Throw ends with: a text is thrown as a problem
 abbrev pub thrown_end : End → End
 thrown_end (value v) = thrown_by v (text_in v)
 thrown_end (halt h) = halt h
@@ -218,11 +223,11 @@ caught (value v) = None
 caught (halt (thrown problem)) = Some problem
 caught (halt (abandoned why)) = None
 
--- a block stands in a scope of its own
+-- a block stands in a scope of its own ..
 abbrev pub entering : At → At
 entering a = record a { own_scope = false }
 
--- whose names end with it
+-- .. and its names end with it
 abbrev pub leaving : At → At → At
 leaving a b = record b { nouns = a.nouns; own_scope = a.own_scope }
 

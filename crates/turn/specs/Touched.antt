@@ -44,6 +44,7 @@ abbrev pub bound_touched : Bool → Name → List Touch
 bound_touched true x = put (top x) ∷ []
 bound_touched false x = []
 
+-- a pattern writes what it binds
 abbrev pub matched_touched : Bool → Pattern → List Touch
 matched_touched own (pattern.Name x) = bound_touched own x
 matched_touched own pattern.Ignore = []
@@ -52,11 +53,12 @@ abbrev pub defined_touched : Pattern → End → At → List Touch
 defined_touched p (value v) a = matched_touched a.own_scope p
 defined_touched p (halt h) a = []
 
--- and so does each of the patterns that take the items of a list
+-- patterns write what they bind, from the left
 abbrev pub all_touched : Bool → List Pattern → Vals → List Touch
 all_touched own (p ∷ ps) (and_val v vs) = matched_touched own p ++ all_touched own ps vs
 all_touched own _ _ = []
 
+-- a list of patterns writes where it takes its items
 abbrev pub parts_touched : List Pattern → Listing → At → List Touch
 parts_touched ps (listed vs) a = all_touched a.own_scope ps vs
 parts_touched ps (unlisted o) a = []

@@ -112,7 +112,7 @@ pub(crate) fn has_top(state: &VatState, name: &Text, value: &Value) -> bool {
 }
 
 /// A slot of the event that `run` runs.
-pub(crate) fn slot_of_run(index: u32) -> SlotId {
+fn slot_of_run(index: u32) -> SlotId {
     SlotId {
         event: EventName(2),
         index,
@@ -120,7 +120,7 @@ pub(crate) fn slot_of_run(index: u32) -> SlotId {
     }
 }
 
-pub(crate) fn holds(state: &VatState, slot: SlotId, value: &Value) -> bool {
+fn holds(state: &VatState, slot: SlotId, value: &Value) -> bool {
     match state.read_slot(slot) {
         Some(held) => same(held, value),
         None => false,

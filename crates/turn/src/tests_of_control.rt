@@ -4,8 +4,7 @@ use crate::delivery::{Delivery, Ended, Outcome};
 use crate::end::Abandon;
 use crate::heap::{Binding, VatState};
 use crate::tests::{
-    asked, assign, broken, define, has_top, holds, is_abandoned, noun, program, run, slot_of_run,
-    var, word,
+    asked, assign, broken, define, has_top, is_abandoned, noun, program, run, var, word,
 };
 use kernele::tree::{Expr, Pattern};
 use std::alloc::{AllocError, Global};
@@ -14,12 +13,18 @@ use std::test::Fail;
 use values::sameness::same;
 use values::value::Value;
 
-fn text(alloc: Global, text: &str) -> Result<Expr, AllocError> {
-    Ok(Expr::Text(word(alloc, text)?))
+// ---- expressions
+
+fn one(alloc: Global, e: Expr) -> Result<Vec<Expr>, AllocError> {
+    Ok(vec![in alloc; e]?)
+}
+
+fn two(alloc: Global, first: Expr, second: Expr) -> Result<Vec<Expr>, AllocError> {
+    Ok(vec![in alloc; first, second]?)
 }
 
 fn call(alloc: Global, receiver: Expr, verb: &str, argument: Expr) -> Result<Expr, AllocError> {
-    let args = vec![in alloc; argument]?;
+    let args = one(alloc, argument)?;
     Ok(Expr::Call(
         Arc::new(alloc, receiver)?,
         word(alloc, verb)?,
@@ -29,6 +34,11 @@ fn call(alloc: Global, receiver: Expr, verb: &str, argument: Expr) -> Result<Exp
 
 fn list(alloc: Global, items: Vec<Expr>) -> Result<Expr, AllocError> {
     Ok(Expr::List(Arc::new(alloc, items)?))
+}
+
+/// `[1, 2]`.
+fn one_and_two(alloc: Global) -> Result<Expr, AllocError> {
+    list(alloc, two(alloc, Expr::Int(1), Expr::Int(2))?)
 }
 
 fn hidden(alloc: Global, items: Vec<Expr>) -> Result<Expr, AllocError> {
@@ -46,6 +56,16 @@ fn if_else(
         Arc::new(alloc, first)?,
         Arc::new(alloc, second)?,
     ))
+}
+
+/// `if (CONDITION) { 1 } else { 2 }`.
+fn one_or_two(alloc: Global, condition: Expr) -> Result<Expr, AllocError> {
+    if_else(
+        alloc,
+        condition,
+        one(alloc, Expr::Int(1))?,
+        one(alloc, Expr::Int(2))?,
+    )
 }
 
 fn while_true(alloc: Global, condition: Expr, body: Vec<Expr>) -> Result<Expr, AllocError> {
@@ -74,13 +94,22 @@ fn throw(alloc: Global, problem: Expr) -> Result<Expr, AllocError> {
     Ok(Expr::Throw(Arc::new(alloc, problem)?))
 }
 
-fn define_list(alloc: Global, patterns: Vec<Pattern>, right: Expr) -> Result<Expr, AllocError> {
-    Ok(Expr::DefList(Arc::new(alloc, patterns)?, Arc::new(alloc, right)?))
+/// `throw("TEXT")`.
+fn throw_text(alloc: Global, text: &str) -> Result<Expr, AllocError> {
+    throw(alloc, Expr::Text(word(alloc, text)?))
 }
 
 fn named(alloc: Global, name: &str) -> Result<Pattern, AllocError> {
     Ok(Pattern::Name(word(alloc, name)?))
 }
+
+/// `def [a, b] := RIGHT`.
+fn define_pair(alloc: Global, right: Expr) -> Result<Expr, AllocError> {
+    let patterns = vec![in alloc; named(alloc, "a")?, named(alloc, "b")?]?;
+    Ok(Expr::DefList(Arc::new(alloc, patterns)?, Arc::new(alloc, right)?))
+}
+
+// ---- what is expected
 
 /// A vat whose only top noun stands for this value.
 fn with_top(alloc: Global, name: &str, value: Value) -> Result<VatState, AllocError> {
@@ -89,387 +118,363 @@ fn with_top(alloc: Global, name: &str, value: Value) -> Result<VatState, AllocEr
     Ok(state)
 }
 
-/// A program that is asked of a new vat.
-fn ask(alloc: Global, items: Vec<Expr>, budget: u32) -> Result<Outcome, AllocError> {
-    run(
-        VatState::new(alloc),
-        Delivery::Asked(program(alloc, items)?),
-        budget,
-    )
+fn opened(alloc: Global, script: Vec<Expr>, budget: u32) -> Result<Outcome, AllocError> {
+    let opening = Delivery::Opening(program(alloc, script)?);
+    run(VatState::new(alloc), opening, budget)
 }
 
-fn ask_one(alloc: Global, item: Expr, budget: u32) -> Result<Outcome, AllocError> {
-    asked(alloc, VatState::new(alloc), item, budget)
+fn answered(alloc: Global, items: Vec<Expr>, budget: u32) -> Result<Outcome, AllocError> {
+    let asked = Delivery::Asked(program(alloc, items)?);
+    run(VatState::new(alloc), asked, budget)
 }
 
-fn gives(outcome: &Outcome, value: &Value) -> bool {
+fn has_value(outcome: &Outcome, value: &Value) -> bool {
     match &outcome.ended {
         Ended::Value(given) => same(given, value) && same(&outcome.result, value),
         Ended::Problem(_) | Ended::Abandoned(_) => false,
     }
 }
 
-fn throws(outcome: &Outcome, problem: &str) -> bool {
+fn has_problem(outcome: &Outcome, problem: &str) -> bool {
     match &outcome.ended {
         Ended::Problem(thrown) => thrown.as_str() == problem,
         Ended::Value(_) | Ended::Abandoned(_) => false,
     }
 }
 
+/// A new vat answers the program with this value, in just so many steps.
+fn gives(alloc: Global, items: Vec<Expr>, value: &Value, steps: u32) -> Result<bool, AllocError> {
+    let outcome = answered(alloc, items, steps)?;
+    Ok(has_value(&outcome, value) && outcome.steps == 0)
+}
+
+/// A new vat answers the program with this problem, in just so many steps.
+fn throws(alloc: Global, items: Vec<Expr>, problem: &str, steps: u32) -> Result<bool, AllocError> {
+    let outcome = answered(alloc, items, steps)?;
+    Ok(has_problem(&outcome, problem) && outcome.steps == 0)
+}
+
+/// Where the noun `b` is broken by the problem `lost`, the expression throws that.
+fn throws_lost(alloc: Global, e: Expr) -> Result<bool, AllocError> {
+    let state = with_top(alloc, "b", broken(alloc, "lost")?)?;
+    let outcome = asked(alloc, state, e, 9)?;
+    Ok(has_problem(&outcome, "lost"))
+}
+
+fn pair_of(alloc: Global, first: i64, second: i64) -> Result<Value, AllocError> {
+    let items = vec![in alloc; Value::Int(first), Value::Int(second)]?;
+    Ok(Value::List(Arc::new(alloc, items)?))
+}
+
+// ---- conditions
+
 #[test]
-fn one_way_of_two(rt: HostRuntime) -> Result<(), Fail> {
+fn the_first_way(rt: HostRuntime) -> Result<(), Fail> {
     let alloc = rt.alloc();
-    let one = vec![in alloc; Expr::Int(1)]?;
-    let two = vec![in alloc; Expr::Int(2)]?;
-    let first = ask_one(alloc, if_else(alloc, Expr::Bool(true), one, two)?, 3)?;
-    assert!(rt; gives(&first, &Value::Int(1)));
-    assert_eq!(rt; first.steps, 0);
-    let one = vec![in alloc; Expr::Int(1)]?;
-    let two = vec![in alloc; Expr::Int(2)]?;
-    let second = ask_one(alloc, if_else(alloc, Expr::Bool(false), one, two)?, 3)?;
-    assert!(rt; gives(&second, &Value::Int(2)));
-    assert_eq!(rt; second.steps, 0);
-    let one = vec![in alloc; Expr::Int(1)]?;
-    let none = ask_one(
-        alloc,
-        if_else(alloc, Expr::Bool(false), one, Vec::new(alloc))?,
-        5,
-    )?;
-    assert!(rt; gives(&none, &Value::Null));
-    assert_eq!(rt; none.steps, 3);
+    let items = one(alloc, one_or_two(alloc, Expr::Bool(true))?)?;
+    assert!(rt; gives(alloc, items, &Value::Int(1), 3)?);
     Ok(())
 }
 
 #[test]
-fn a_condition_is_a_truth_value(rt: HostRuntime) -> Result<(), Fail> {
+fn the_second_way(rt: HostRuntime) -> Result<(), Fail> {
     let alloc = rt.alloc();
-    let empty = if_else(alloc, Expr::Null, Vec::new(alloc), Vec::new(alloc))?;
-    let outcome = ask_one(alloc, empty, 5)?;
-    assert!(rt; throws(&outcome, "not a truth value"));
-    assert_eq!(rt; outcome.steps, 3);
-    let state = with_top(alloc, "b", broken(alloc, "lost")?)?;
-    let lost = if_else(alloc, noun(alloc, "b")?, Vec::new(alloc), Vec::new(alloc))?;
-    assert!(rt; throws(&asked(alloc, state, lost, 5)?, "lost"));
-    let looped = while_true(alloc, Expr::Int(1), Vec::new(alloc))?;
-    assert!(rt; throws(&ask_one(alloc, looped, 5)?, "not a truth value"));
-    let halted = if_else(alloc, noun(alloc, "x")?, Vec::new(alloc), Vec::new(alloc))?;
-    assert!(rt; throws(&ask_one(alloc, halted, 5)?, "undefined noun x"));
+    let items = one(alloc, one_or_two(alloc, Expr::Bool(false))?)?;
+    assert!(rt; gives(alloc, items, &Value::Int(2), 3)?);
     Ok(())
+}
+
+#[test]
+fn null_is_no_truth_value(rt: HostRuntime) -> Result<(), Fail> {
+    let alloc = rt.alloc();
+    let items = one(alloc, one_or_two(alloc, Expr::Null)?)?;
+    assert!(rt; throws(alloc, items, "not a truth value", 2)?);
+    Ok(())
+}
+
+// ---- while
+
+/// `NAME := NAME + 1`.
+fn one_more(alloc: Global, name: &str) -> Result<Expr, AllocError> {
+    let sum = call(alloc, noun(alloc, name)?, "add", Expr::Int(1))?;
+    assign(alloc, name, sum)
+}
+
+/// `while (i < 3) { i := i + 1 }`.
+fn counting(alloc: Global) -> Result<Expr, AllocError> {
+    let below = call(alloc, noun(alloc, "i")?, "lessThan", Expr::Int(3))?;
+    while_true(alloc, below, one(alloc, one_more(alloc, "i")?)?)
 }
 
 /// `var i := 0; while (i < 3) { i := i + 1 }; i`.
 #[test]
 fn counting_to_three(rt: HostRuntime) -> Result<(), Fail> {
     let alloc = rt.alloc();
-    let below = call(alloc, noun(alloc, "i")?, "lessThan", Expr::Int(3))?;
-    let next = call(alloc, noun(alloc, "i")?, "add", Expr::Int(1))?;
-    let body = vec![in alloc; assign(alloc, "i", next)?]?;
-    let items = vec![in alloc;
-        var(alloc, "i", Expr::Int(0))?,
-        while_true(alloc, below, body)?,
-        noun(alloc, "i")?,
-    ]?;
-    let outcome = ask(alloc, items, 100)?;
-    assert!(rt; gives(&outcome, &Value::Int(3)));
-    assert_eq!(rt; outcome.steps, 100 - 28);
+    let mut items = two(alloc, var(alloc, "i", Expr::Int(0))?, counting(alloc)?)?;
+    items.push(noun(alloc, "i")?)?;
+    assert!(rt; gives(alloc, items, &Value::Int(3), 28)?);
     Ok(())
 }
 
 #[test]
 fn a_while_gives_null(rt: HostRuntime) -> Result<(), Fail> {
     let alloc = rt.alloc();
-    let body = vec![in alloc; Expr::Int(1)]?;
-    let never = ask_one(alloc, while_true(alloc, Expr::Bool(false), body)?, 2)?;
-    assert!(rt; gives(&never, &Value::Null));
-    assert_eq!(rt; never.steps, 0);
-    let body = vec![in alloc; noun(alloc, "x")?]?;
-    let halted = ask_one(alloc, while_true(alloc, Expr::Bool(true), body)?, 9)?;
-    assert!(rt; throws(&halted, "undefined noun x"));
-    assert_eq!(rt; halted.steps, 6);
-    let endless = ask_one(
-        alloc,
-        while_true(alloc, Expr::Bool(true), Vec::new(alloc))?,
-        9,
-    )?;
-    assert!(rt; is_abandoned(&endless.ended, Abandon::Budget));
+    let e = while_true(alloc, Expr::Bool(false), one(alloc, Expr::Int(1))?)?;
+    assert!(rt; gives(alloc, one(alloc, e)?, &Value::Null, 2)?);
     Ok(())
 }
 
-/// `def x := 0; var n := 0; { while ([n + x, (def x := 9)].get(0) < 2) { n := n + 1 } }; n`: each time the condition
-/// means the outer `x`.
+/// `[n + x, (def x := 9)].get(0) < 2`.
+fn defining_condition(alloc: Global) -> Result<Expr, AllocError> {
+    let sum = call(alloc, noun(alloc, "n")?, "add", noun(alloc, "x")?)?;
+    let both = list(alloc, two(alloc, sum, define(alloc, "x", Expr::Int(9))?)?)?;
+    let got = call(alloc, both, "get", Expr::Int(0))?;
+    call(alloc, got, "lessThan", Expr::Int(2))
+}
+
+/// `{ while ([n + x, (def x := 9)].get(0) < 2) { n := n + 1 } }`.
+fn defining_while(alloc: Global) -> Result<Expr, AllocError> {
+    let body = one(alloc, one_more(alloc, "n")?)?;
+    let looped = while_true(alloc, defining_condition(alloc)?, body)?;
+    hidden(alloc, one(alloc, looped)?)
+}
+
+/// `def x := 0; var n := 0; { while .. }; n`: each time the condition means the outer `x`.
 #[test]
 fn a_condition_begins_anew(rt: HostRuntime) -> Result<(), Fail> {
     let alloc = rt.alloc();
-    let sum = call(alloc, noun(alloc, "n")?, "add", noun(alloc, "x")?)?;
-    let pair = vec![in alloc; sum, define(alloc, "x", Expr::Int(9))?]?;
-    let got = call(alloc, list(alloc, pair)?, "get", Expr::Int(0))?;
-    let below = call(alloc, got, "lessThan", Expr::Int(2))?;
-    let next = call(alloc, noun(alloc, "n")?, "add", Expr::Int(1))?;
-    let body = vec![in alloc; assign(alloc, "n", next)?]?;
-    let block = vec![in alloc; while_true(alloc, below, body)?]?;
-    let items = vec![in alloc;
+    let mut items = two(
+        alloc,
         define(alloc, "x", Expr::Int(0))?,
         var(alloc, "n", Expr::Int(0))?,
-        hidden(alloc, block)?,
-        noun(alloc, "n")?,
-    ]?;
-    let outcome = ask(alloc, items, 100)?;
-    assert!(rt; gives(&outcome, &Value::Int(2)));
-    assert_eq!(rt; outcome.steps, 100 - 45);
-    Ok(())
-}
-
-/// `def a := 1; { def a := 2; var c := 4; a }`, as a script.
-#[test]
-fn names_end_with_their_block(rt: HostRuntime) -> Result<(), Fail> {
-    let alloc = rt.alloc();
-    let block = vec![in alloc;
-        define(alloc, "a", Expr::Int(2))?,
-        var(alloc, "c", Expr::Int(4))?,
-        noun(alloc, "a")?,
-    ]?;
-    let script = vec![in alloc; define(alloc, "a", Expr::Int(1))?, hidden(alloc, block)?]?;
-    let opened = run(
-        VatState::new(alloc),
-        Delivery::Opening(program(alloc, script)?),
-        8,
     )?;
-    assert!(rt; gives(&opened, &Value::Int(2)));
-    assert_eq!(rt; opened.steps, 0);
-    assert!(rt; has_top(&opened.state, &word(alloc, "a")?, &Value::Int(1)));
-    assert!(rt; opened.state.top(&word(alloc, "c")?).is_none());
-    assert!(rt; holds(&opened.state, slot_of_run(0), &Value::Int(4)));
+    items.push(defining_while(alloc)?)?;
+    items.push(noun(alloc, "n")?)?;
+    assert!(rt; gives(alloc, items, &Value::Int(2), 45)?);
     Ok(())
 }
 
-/// `def a := 1; [{ def a := 2; a }, a]`, and `{ def b := 3 }; b`, which only the check refuses.
+// ---- scopes
+
+/// `{ def a := 2; a }`.
+fn hiding(alloc: Global) -> Result<Expr, AllocError> {
+    let items = two(alloc, define(alloc, "a", Expr::Int(2))?, noun(alloc, "a")?)?;
+    hidden(alloc, items)
+}
+
+/// `def a := 1; [{ def a := 2; a }, a]`.
 #[test]
 fn an_inner_name_hides_an_outer_one(rt: HostRuntime) -> Result<(), Fail> {
     let alloc = rt.alloc();
-    let block = vec![in alloc; define(alloc, "a", Expr::Int(2))?, noun(alloc, "a")?]?;
-    let pair = vec![in alloc; hidden(alloc, block)?, noun(alloc, "a")?]?;
-    let items = vec![in alloc; define(alloc, "a", Expr::Int(1))?, list(alloc, pair)?]?;
-    let outcome = ask(alloc, items, 8)?;
-    let two_one = vec![in alloc; Value::Int(2), Value::Int(1)]?;
-    assert!(rt; gives(&outcome, &Value::List(Arc::new(alloc, two_one)?)));
-    assert_eq!(rt; outcome.steps, 0);
-    let block = vec![in alloc; define(alloc, "b", Expr::Int(3))?]?;
-    let items = vec![in alloc; hidden(alloc, block)?, noun(alloc, "b")?]?;
-    assert!(rt; throws(&ask(alloc, items, 8)?, "undefined noun b"));
+    let both = list(alloc, two(alloc, hiding(alloc)?, noun(alloc, "a")?)?)?;
+    let items = two(alloc, define(alloc, "a", Expr::Int(1))?, both)?;
+    assert!(rt; gives(alloc, items, &pair_of(alloc, 2, 1)?, 8)?);
     Ok(())
 }
 
-/// `var s := 0; for x in [1, 2, 3] { s := s * 10 + x }; s`.
+/// `{ def a := 2; a }; a`, which only the check refuses.
+#[test]
+fn a_name_ends_with_its_block(rt: HostRuntime) -> Result<(), Fail> {
+    let alloc = rt.alloc();
+    let items = two(alloc, hiding(alloc)?, noun(alloc, "a")?)?;
+    assert!(rt; throws(alloc, items, "undefined noun a", 5)?);
+    Ok(())
+}
+
+/// `def a := 1; { def a := 2; a }`, as a script.
+#[test]
+fn a_block_of_a_script(rt: HostRuntime) -> Result<(), Fail> {
+    let alloc = rt.alloc();
+    let script = two(alloc, define(alloc, "a", Expr::Int(1))?, hiding(alloc)?)?;
+    let outcome = opened(alloc, script, 6)?;
+    assert!(rt; has_value(&outcome, &Value::Int(2)));
+    assert_eq!(rt; outcome.steps, 0);
+    assert!(rt; has_top(&outcome.state, &word(alloc, "a")?, &Value::Int(1)));
+    Ok(())
+}
+
+// ---- for
+
+/// `for x in [1, 2] { s := s * 10 + x }`.
+fn appending(alloc: Global) -> Result<Expr, AllocError> {
+    let shifted = call(alloc, noun(alloc, "s")?, "multiply", Expr::Int(10))?;
+    let sum = call(alloc, shifted, "add", noun(alloc, "x")?)?;
+    let body = one(alloc, assign(alloc, "s", sum)?)?;
+    for_each(alloc, named(alloc, "x")?, one_and_two(alloc)?, body)
+}
+
+/// `var s := 0; for x in [1, 2] { s := s * 10 + x }; s`.
 #[test]
 fn a_list_in_order(rt: HostRuntime) -> Result<(), Fail> {
     let alloc = rt.alloc();
-    let shifted = call(alloc, noun(alloc, "s")?, "multiply", Expr::Int(10))?;
-    let sum = call(alloc, shifted, "add", noun(alloc, "x")?)?;
-    let body = vec![in alloc; assign(alloc, "s", sum)?]?;
-    let three = vec![in alloc; Expr::Int(1), Expr::Int(2), Expr::Int(3)]?;
-    let items = vec![in alloc;
-        var(alloc, "s", Expr::Int(0))?,
-        for_each(alloc, named(alloc, "x")?, list(alloc, three)?, body)?,
-        noun(alloc, "s")?,
-    ]?;
-    let outcome = ask(alloc, items, 26)?;
-    assert!(rt; gives(&outcome, &Value::Int(123)));
-    assert_eq!(rt; outcome.steps, 0);
+    let mut items = two(alloc, var(alloc, "s", Expr::Int(0))?, appending(alloc)?)?;
+    items.push(noun(alloc, "s")?)?;
+    assert!(rt; gives(alloc, items, &Value::Int(12), 19)?);
     Ok(())
 }
 
 #[test]
-fn what_a_for_goes_over(rt: HostRuntime) -> Result<(), Fail> {
+fn an_empty_list_gives_null(rt: HostRuntime) -> Result<(), Fail> {
     let alloc = rt.alloc();
-    let body = vec![in alloc; Expr::Int(1)]?;
     let none = list(alloc, Vec::new(alloc))?;
-    let empty = ask_one(alloc, for_each(alloc, Pattern::Ignore, none, body)?, 5)?;
-    assert!(rt; gives(&empty, &Value::Null));
-    assert_eq!(rt; empty.steps, 3);
-    let body = vec![in alloc; Expr::Int(1)]?;
-    let int = ask_one(
-        alloc,
-        for_each(alloc, Pattern::Ignore, Expr::Int(7), body)?,
-        5,
-    )?;
-    assert!(rt; throws(&int, "not a list"));
-    assert_eq!(rt; int.steps, 3);
-    let state = with_top(alloc, "b", broken(alloc, "lost")?)?;
-    let lost = for_each(alloc, Pattern::Ignore, noun(alloc, "b")?, Vec::new(alloc))?;
-    assert!(rt; throws(&asked(alloc, state, lost, 5)?, "lost"));
+    let e = for_each(alloc, Pattern::Ignore, none, one(alloc, Expr::Int(1))?)?;
+    assert!(rt; gives(alloc, one(alloc, e)?, &Value::Null, 2)?);
     Ok(())
 }
 
-/// `for x in [1, 2] { throw("stop") }` stops at the first, and `x` ends with the block.
+#[test]
+fn an_integer_is_no_list(rt: HostRuntime) -> Result<(), Fail> {
+    let alloc = rt.alloc();
+    let e = for_each(alloc, Pattern::Ignore, Expr::Int(7), Vec::new(alloc))?;
+    assert!(rt; throws(alloc, one(alloc, e)?, "not a list", 2)?);
+    Ok(())
+}
+
+/// `for _ in [1, 2] { throw("stop") }`.
 #[test]
 fn a_for_is_halted(rt: HostRuntime) -> Result<(), Fail> {
     let alloc = rt.alloc();
-    let two = vec![in alloc; Expr::Int(1), Expr::Int(2)]?;
-    let body = vec![in alloc; throw(alloc, text(alloc, "stop")?)?]?;
-    let stopped = for_each(alloc, named(alloc, "x")?, list(alloc, two)?, body)?;
-    let outcome = ask_one(alloc, stopped, 10)?;
-    assert!(rt; throws(&outcome, "stop"));
-    assert_eq!(rt; outcome.steps, 4);
-    let one = vec![in alloc; Expr::Int(1)]?;
-    let body = vec![in alloc; noun(alloc, "x")?]?;
-    let items = vec![in alloc;
-        for_each(alloc, named(alloc, "x")?, list(alloc, one)?, body)?,
-        noun(alloc, "x")?,
-    ]?;
-    assert!(rt; throws(&ask(alloc, items, 10)?, "undefined noun x"));
+    let body = one(alloc, throw_text(alloc, "stop")?)?;
+    let e = for_each(alloc, Pattern::Ignore, one_and_two(alloc)?, body)?;
+    assert!(rt; throws(alloc, one(alloc, e)?, "stop", 6)?);
     Ok(())
 }
 
-/// `try { throw("a") } catch p { p }`, and a value, which is not caught.
+// ---- try and throw
+
+/// `try { throw("a") } catch p { p }`.
 #[test]
 fn a_problem_is_caught(rt: HostRuntime) -> Result<(), Fail> {
     let alloc = rt.alloc();
-    let body = vec![in alloc; throw(alloc, text(alloc, "a")?)?]?;
-    let handler = vec![in alloc; noun(alloc, "p")?]?;
-    let caught = ask_one(
-        alloc,
-        try_catch(alloc, body, named(alloc, "p")?, handler)?,
-        4,
-    )?;
-    assert!(rt; gives(&caught, &Value::Text(word(alloc, "a")?)));
-    assert_eq!(rt; caught.steps, 0);
-    let body = vec![in alloc; Expr::Int(1)]?;
-    let handler = vec![in alloc; Expr::Int(2)]?;
-    let value = ask_one(alloc, try_catch(alloc, body, Pattern::Ignore, handler)?, 4)?;
-    assert!(rt; gives(&value, &Value::Int(1)));
-    assert_eq!(rt; value.steps, 2);
+    let body = one(alloc, throw_text(alloc, "a")?)?;
+    let handler = one(alloc, noun(alloc, "p")?)?;
+    let e = try_catch(alloc, body, named(alloc, "p")?, handler)?;
+    assert!(rt; gives(alloc, one(alloc, e)?, &Value::Text(word(alloc, "a")?), 4)?);
     Ok(())
 }
 
+/// `try { BODY } catch _ { 2 }`.
+fn or_two(alloc: Global, body: Vec<Expr>) -> Result<Expr, AllocError> {
+    try_catch(alloc, body, Pattern::Ignore, one(alloc, Expr::Int(2))?)
+}
+
 #[test]
-fn what_is_thrown(rt: HostRuntime) -> Result<(), Fail> {
+fn a_value_is_not_caught(rt: HostRuntime) -> Result<(), Fail> {
     let alloc = rt.alloc();
-    let int = ask_one(alloc, throw(alloc, Expr::Int(1))?, 3)?;
-    assert!(rt; throws(&int, "not a text"));
-    assert_eq!(rt; int.steps, 1);
-    let state = with_top(alloc, "b", broken(alloc, "lost")?)?;
-    assert!(rt;
-        throws(
-            &asked(alloc, state, throw(alloc, noun(alloc, "b")?)?, 3)?,
-            "lost"
-        )
-    );
-    let body = vec![in alloc; noun(alloc, "x")?]?;
-    let handler = vec![in alloc; throw(alloc, text(alloc, "again")?)?]?;
-    let again = ask_one(
-        alloc,
-        try_catch(alloc, body, named(alloc, "p")?, handler)?,
-        9,
-    )?;
-    assert!(rt; throws(&again, "again"));
-    assert_eq!(rt; again.steps, 5);
+    let e = or_two(alloc, one(alloc, Expr::Int(1))?)?;
+    assert!(rt; gives(alloc, one(alloc, e)?, &Value::Int(1), 2)?);
     Ok(())
 }
 
 #[test]
 fn an_abandoned_turn_is_not_caught(rt: HostRuntime) -> Result<(), Fail> {
     let alloc = rt.alloc();
-    let body = vec![in alloc; throw(alloc, text(alloc, "a")?)?]?;
-    let handler = vec![in alloc; Expr::Int(1)]?;
-    let outcome = ask_one(alloc, try_catch(alloc, body, Pattern::Ignore, handler)?, 2)?;
+    let e = or_two(alloc, one(alloc, throw_text(alloc, "a")?)?)?;
+    let outcome = answered(alloc, one(alloc, e)?, 2)?;
     assert!(rt; is_abandoned(&outcome.ended, Abandon::Budget));
-    assert!(rt; same(&outcome.result, &broken(alloc, "turn budget spent")?));
     Ok(())
 }
 
-/// A handler sees what the body wrote, and none of its names.
+/// `try { BODY; throw("a") } catch _ { NAME }`.
+fn seen(alloc: Global, body: Expr, name: &str) -> Result<Expr, AllocError> {
+    let body = two(alloc, body, throw_text(alloc, "a")?)?;
+    try_catch(
+        alloc,
+        body,
+        Pattern::Ignore,
+        one(alloc, noun(alloc, name)?)?,
+    )
+}
+
+/// A handler sees what the body wrote ..
 #[test]
-fn what_a_handler_sees(rt: HostRuntime) -> Result<(), Fail> {
+fn a_handler_sees_a_variable(rt: HostRuntime) -> Result<(), Fail> {
     let alloc = rt.alloc();
-    let body = vec![in alloc;
-        assign(alloc, "n", Expr::Int(5))?,
-        throw(alloc, text(alloc, "a")?)?,
-    ]?;
-    let handler = vec![in alloc; noun(alloc, "n")?]?;
-    let items = vec![in alloc;
-        var(alloc, "n", Expr::Int(0))?,
-        try_catch(alloc, body, Pattern::Ignore, handler)?,
-    ]?;
-    assert!(rt; gives(&ask(alloc, items, 20)?, &Value::Int(5)));
-    let body = vec![in alloc;
-        define(alloc, "x", Expr::Int(1))?,
-        throw(alloc, text(alloc, "a")?)?,
-    ]?;
-    let handler = vec![in alloc; noun(alloc, "x")?]?;
-    let seen = ask_one(alloc, try_catch(alloc, body, Pattern::Ignore, handler)?, 20)?;
-    assert!(rt; throws(&seen, "undefined noun x"));
+    let tried = seen(alloc, assign(alloc, "n", Expr::Int(5))?, "n")?;
+    let items = two(alloc, var(alloc, "n", Expr::Int(0))?, tried)?;
+    assert!(rt; gives(alloc, items, &Value::Int(5), 8)?);
     Ok(())
 }
 
-/// `def [a, _, b] := [1, 2, 3]; [a, b]`.
+/// .. and none of its names.
+#[test]
+fn a_handler_sees_no_name(rt: HostRuntime) -> Result<(), Fail> {
+    let alloc = rt.alloc();
+    let e = seen(alloc, define(alloc, "x", Expr::Int(1))?, "x")?;
+    assert!(rt; throws(alloc, one(alloc, e)?, "undefined noun x", 6)?);
+    Ok(())
+}
+
+/// `try { x } catch _ { throw("again") }`.
+#[test]
+fn a_handler_throws(rt: HostRuntime) -> Result<(), Fail> {
+    let alloc = rt.alloc();
+    let handler = one(alloc, throw_text(alloc, "again")?)?;
+    let body = one(alloc, noun(alloc, "x")?)?;
+    let e = try_catch(alloc, body, Pattern::Ignore, handler)?;
+    assert!(rt; throws(alloc, one(alloc, e)?, "again", 4)?);
+    Ok(())
+}
+
+#[test]
+fn an_integer_is_no_problem(rt: HostRuntime) -> Result<(), Fail> {
+    let alloc = rt.alloc();
+    let e = throw(alloc, Expr::Int(1))?;
+    assert!(rt; throws(alloc, one(alloc, e)?, "not a text", 2)?);
+    Ok(())
+}
+
+// ---- lists of patterns
+
+/// `def [a, b] := [1, 2]; [b, a]`.
 #[test]
 fn a_list_is_taken_apart(rt: HostRuntime) -> Result<(), Fail> {
     let alloc = rt.alloc();
-    let three = vec![in alloc; Expr::Int(1), Expr::Int(2), Expr::Int(3)]?;
-    let patterns = vec![in alloc; named(alloc, "a")?, Pattern::Ignore, named(alloc, "b")?]?;
-    let pair = vec![in alloc; noun(alloc, "a")?, noun(alloc, "b")?]?;
-    let items = vec![in alloc;
-        define_list(alloc, patterns, list(alloc, three)?)?,
-        list(alloc, pair)?,
-    ]?;
-    let outcome = ask(alloc, items, 8)?;
-    let one_three = vec![in alloc; Value::Int(1), Value::Int(3)]?;
-    assert!(rt; gives(&outcome, &Value::List(Arc::new(alloc, one_three)?)));
-    assert_eq!(rt; outcome.steps, 0);
-    let empty = define_list(alloc, Vec::new(alloc), list(alloc, Vec::new(alloc))?)?;
-    let none = ask_one(alloc, empty, 2)?;
-    assert!(rt; gives(&none, &Value::List(Arc::new(alloc, Vec::new(alloc))?)));
+    let both = list(alloc, two(alloc, noun(alloc, "b")?, noun(alloc, "a")?)?)?;
+    let items = two(alloc, define_pair(alloc, one_and_two(alloc)?)?, both)?;
+    assert!(rt; gives(alloc, items, &pair_of(alloc, 2, 1)?, 7)?);
     Ok(())
 }
 
-#[test]
-fn a_wrong_list_binds_nothing(rt: HostRuntime) -> Result<(), Fail> {
-    let alloc = rt.alloc();
-    let two = vec![in alloc; Expr::Int(1), Expr::Int(2)]?;
-    let patterns = vec![in alloc; named(alloc, "a")?]?;
-    let script = vec![in alloc; define_list(alloc, patterns, list(alloc, two)?)?]?;
-    let outcome = run(
-        VatState::new(alloc),
-        Delivery::Opening(program(alloc, script)?),
-        9,
-    )?;
-    assert!(rt; throws(&outcome, "wrong list"));
-    assert_eq!(rt; outcome.steps, 5);
-    assert!(rt; outcome.state.top(&word(alloc, "a")?).is_none());
-    let patterns = vec![in alloc; named(alloc, "a")?]?;
-    let int = ask_one(alloc, define_list(alloc, patterns, Expr::Int(1))?, 9)?;
-    assert!(rt; throws(&int, "wrong list"));
-    let state = with_top(alloc, "b", broken(alloc, "lost")?)?;
-    let lost = define_list(alloc, Vec::new(alloc), noun(alloc, "b")?)?;
-    assert!(rt; throws(&asked(alloc, state, lost, 9)?, "lost"));
-    Ok(())
-}
-
-/// A script's list of patterns defines top nouns.
+/// `def [a, b] := [1, 2]`, as a script.
 #[test]
 fn patterns_of_a_script(rt: HostRuntime) -> Result<(), Fail> {
     let alloc = rt.alloc();
-    let two = vec![in alloc; Expr::Int(1), Expr::Int(2)]?;
-    let patterns = vec![in alloc; named(alloc, "a")?, named(alloc, "b")?]?;
-    let script = vec![in alloc; define_list(alloc, patterns, list(alloc, two)?)?]?;
-    let opened = run(
-        VatState::new(alloc),
-        Delivery::Opening(program(alloc, script)?),
-        4,
-    )?;
-    let one_two = vec![in alloc; Value::Int(1), Value::Int(2)]?;
-    assert!(rt; gives(&opened, &Value::List(Arc::new(alloc, one_two)?)));
-    assert!(rt; has_top(&opened.state, &word(alloc, "a")?, &Value::Int(1)));
-    assert!(rt; has_top(&opened.state, &word(alloc, "b")?, &Value::Int(2)));
+    let script = one(alloc, define_pair(alloc, one_and_two(alloc)?)?)?;
+    let outcome = opened(alloc, script, 4)?;
+    assert!(rt; has_value(&outcome, &pair_of(alloc, 1, 2)?));
+    assert!(rt; has_top(&outcome.state, &word(alloc, "a")?, &Value::Int(1)));
+    assert!(rt; has_top(&outcome.state, &word(alloc, "b")?, &Value::Int(2)));
     Ok(())
 }
+
+/// `def [a, b] := [1]`, as a script, binds neither.
+#[test]
+fn a_wrong_list_binds_nothing(rt: HostRuntime) -> Result<(), Fail> {
+    let alloc = rt.alloc();
+    let right = list(alloc, one(alloc, Expr::Int(1))?)?;
+    let outcome = opened(alloc, one(alloc, define_pair(alloc, right)?)?, 3)?;
+    assert!(rt; has_problem(&outcome, "wrong list"));
+    assert_eq!(rt; outcome.steps, 0);
+    assert!(rt; outcome.state.top(&word(alloc, "a")?).is_none());
+    Ok(())
+}
+
+#[test]
+fn a_right_side_is_broken(rt: HostRuntime) -> Result<(), Fail> {
+    let alloc = rt.alloc();
+    let e = define_pair(alloc, noun(alloc, "b")?)?;
+    assert!(rt; throws_lost(alloc, e)?);
+    Ok(())
+}
+
+// ---- the deepest level
 
 /// `{ { .. 7 } }`, this many blocks deep.
 fn hidden_deep(alloc: Global, depth: u32) -> Result<Expr, AllocError> {
     let mut e = Expr::Int(7);
     for _ in 0..depth {
-        let items = vec![in alloc; e]?;
-        e = hidden(alloc, items)?;
+        e = hidden(alloc, one(alloc, e)?)?;
     }
     Ok(e)
 }
@@ -477,29 +482,37 @@ fn hidden_deep(alloc: Global, depth: u32) -> Result<Expr, AllocError> {
 #[test]
 fn the_deepest_block(rt: HostRuntime) -> Result<(), Fail> {
     let alloc = rt.alloc();
-    let deepest = ask_one(alloc, hidden_deep(alloc, 999)?, 1000)?;
-    assert!(rt; gives(&deepest, &Value::Int(7)));
-    assert_eq!(rt; deepest.steps, 0);
-    let deeper = ask_one(alloc, hidden_deep(alloc, 1000)?, 1002)?;
-    assert!(rt; is_abandoned(&deeper.ended, Abandon::Depth));
-    assert!(rt; same(&deeper.result, &broken(alloc, "calls too deep")?));
-    assert_eq!(rt; deeper.steps, 1);
+    let e = hidden_deep(alloc, 999)?;
+    assert!(rt; gives(alloc, one(alloc, e)?, &Value::Int(7), 1000)?);
     Ok(())
 }
 
-/// `for _ in l { for _ in l { .. } }` to the deepest level.
+#[test]
+fn a_block_too_deep(rt: HostRuntime) -> Result<(), Fail> {
+    let alloc = rt.alloc();
+    let e = hidden_deep(alloc, 1000)?;
+    let outcome = answered(alloc, one(alloc, e)?, 1002)?;
+    assert!(rt; is_abandoned(&outcome.ended, Abandon::Depth));
+    assert_eq!(rt; outcome.steps, 1);
+    Ok(())
+}
+
+/// `for _ in l { for _ in l { .. 7 } }`, this many deep.
+fn for_deep(alloc: Global, depth: u32) -> Result<Expr, AllocError> {
+    let mut e = Expr::Int(7);
+    for _ in 0..depth {
+        e = for_each(alloc, Pattern::Ignore, noun(alloc, "l")?, one(alloc, e)?)?;
+    }
+    Ok(e)
+}
+
 #[test]
 fn the_deepest_for(rt: HostRuntime) -> Result<(), Fail> {
     let alloc = rt.alloc();
-    let mut e = Expr::Int(7);
-    for _ in 0..999 {
-        let items = vec![in alloc; e]?;
-        e = for_each(alloc, Pattern::Ignore, noun(alloc, "l")?, items)?;
-    }
     let one = vec![in alloc; Value::Null]?;
     let state = with_top(alloc, "l", Value::List(Arc::new(alloc, one)?))?;
-    let outcome = asked(alloc, state, e, 1999)?;
-    assert!(rt; gives(&outcome, &Value::Null));
+    let outcome = asked(alloc, state, for_deep(alloc, 999)?, 1999)?;
+    assert!(rt; has_value(&outcome, &Value::Null));
     assert_eq!(rt; outcome.steps, 0);
     Ok(())
 }
