@@ -1,5 +1,5 @@
 -- Maps of names, in code and in the definitions.
-use Rattle.std.proofs.Common.{◌≡◌, ℕ, ◌+◌, ◌<◌, ◌≤◌, List, [], ◌∷◌, Bool, true, false, cond, Option, Some, is_some, Ok, Err, ap, sym, refl, ◌∙◌, length, drop, get_or, add-one}
+use Rattle.std.proofs.Common.{◌≡◌, ℕ, ◌+◌, ◌<◌, ◌≤◌, List, [], ◌∷◌, Bool, true, false, cond, Option, Some, is_some, Ok, Err, ap, sym, refl, ◌∙◌, length, drop, get_or, add-one, Bor}
 use Rattle.std.proofs.Math.Seq.{drop-cons}
 use Rattle.std.proofs.lemmas.List.{drop_all}
 use Rattle.std.proofs.lemmas.Map.Text.{is_eq-slice_cmp}
@@ -10,11 +10,13 @@ use Rattle.std.specs.Str.{bytes_eq}
 use Rattle.std.specs.BTreeMap.{BTreeMap, Updates, IsEmpty, is_at}
 use Rattle.std.specs.Map.{lookup}
 use Rattle.kernele.specs.Tree.{Name}
-use Rattle.kernele.specs.Scope.{Scopes, no_names, names_in, with_name, with_names, added, Checked, duplicate_name}
-use Rattle.kernele.specs.Check.{names_of, scopes_of, scopes_in}
+use Rattle.kernele.specs.Scope.{Names, Scopes, no_names, names_in, with_name, with_names, added, Checked, duplicate_name}
+use Rattle.kernele.specs.Check.{names_of, scopes_of, scopes_with}
 use Rattle.kernele.specs.declared.naming.Kind.{Kind}
 use Rattle.kernele.specs.declared.naming.TopName.{TopName}
-use Rattle.kernele.specs.declared.checking.Scopes as code
+use Rattle.kernele.specs.declared.checking.Outer.{Outer}
+use Rattle.kernele.specs.declared.checking.Around.{Around}
+use Rattle.kernele.specs.declared.checking.Around as around
 
 -- a map that got a name
 got : (old new : BTreeMap Name Kind) (t : TopName) → Updates (slice_cmp nat_cmp) old new t.name (Some t.kind) → names_of new ≡ with_name t (names_of old)
@@ -27,18 +29,18 @@ chosen : (b : Bool) (k : Kind) (o p : Option Kind) → option_or (cond b (Some k
 chosen true k o p = refl
 chosen false k o p = refl
 
--- scopes whose program defined one more name
-pub defined : (s t : code.Scopes) (x : TopName) → t.outer ≡ s.outer → Updates (slice_cmp nat_cmp) s.defined t.defined x.name (Some x.kind) → scopes_in t ≡ record (scopes_in s) { own = with_name x (scopes_in s).own }
-defined s t x same put =
-    let own : (y : Name) → (scopes_in t).own y ≡ with_name x (scopes_in s).own y = λ y. ap (λ names. option_or (names y) (names_of t.outer.now.own y)) (got s.defined t.defined x put) ∙ ap (λ o. option_or (with_name x (names_of s.defined) y) (names_of o.now.own y)) same ∙ chosen (bytes_eq x.name y) x.kind (names_of s.defined y) (names_of s.outer.now.own y) in
-    λ i. record { own = λ y. own y i; around = names_of (same i).now.around }
+-- one more name that the innermost scope defined, over what lies around it
+with_one : (a : Around) (x : TopName) (defined : Names) → scopes_with a (with_name x defined) ≡ record (scopes_with a defined) { own = with_name x (scopes_with a defined).own }
+with_one (around.Program outer) x defined = λ i. record { own = λ y. chosen (bytes_eq x.name y) x.kind (defined y) (names_of outer.now.own y) i; around = names_of outer.now.around }
+with_one (around.Block' names p rest) x defined = refl
 
 -- a name that its scope does not have is added
-pub puts : (s t : code.Scopes) (x : TopName) → is_some ((scopes_in s).own x.name) ≡ false → t.outer ≡ s.outer → Updates (slice_cmp nat_cmp) s.defined t.defined x.name (Some x.kind) → added x (scopes_in s) ≡ Ok (scopes_in t)
-puts s t x absent same put =
-    let chosen : Bool → Checked = λ b. cond b (Err (duplicate_name x.name)) (Ok (record (scopes_in s) { own = with_name x (scopes_in s).own })) in
+pub puts : (a : Around) (old new : BTreeMap Name Kind) (x : TopName) → is_some ((scopes_with a (names_of old)).own x.name) ≡ false → Updates (slice_cmp nat_cmp) old new x.name (Some x.kind) → added x (scopes_with a (names_of old)) ≡ Ok (scopes_with a (names_of new))
+puts a old new x absent put =
+    let s : Scopes = scopes_with a (names_of old) in
+    let chosen : Bool → Checked = λ b. cond b (Err (duplicate_name x.name)) (Ok (record s { own = with_name x s.own })) in
     let more : Scopes → Checked = λ r. Ok r in
-    ap chosen absent ∙ ap more (sym (defined s t x same put))
+    ap chosen absent ∙ ap more (sym (ap (scopes_with a) (got old new x put) ∙ with_one a x (names_of old)))
 
 -- a map with no keys
 pub no_keys : (names : BTreeMap Name Kind) → IsEmpty names → names_of names ≡ no_names
@@ -59,6 +61,6 @@ gathers all one law old new t xs i x h e same put =
 pub gathered : {A : Type 0} (all : List A → List TopName) → all [] ≡ [] → (names : BTreeMap Name Kind) (xs : List A) (i : ℕ) → length xs ≤ i → with_names (all (drop i xs)) (names_of names) ≡ names_in (all xs) → names_of names ≡ names_in (all xs)
 gathered all law names xs i h invariant = sym (ap (λ us. with_names us (names_of names)) (ap all (drop_all i xs h) ∙ law)) ∙ invariant
 
--- where nothing is defined yet
-pub fresh : (s : code.Scopes) → IsEmpty s.defined → scopes_in s ≡ scopes_of s.outer.now
-fresh s empty = λ i. record { own = λ y. option_or (no_keys s.defined empty i y) (names_of s.outer.now.own y); around = names_of s.outer.now.around }
+-- where a program begins, it has defined nothing yet
+pub fresh : (outer : Bor Outer) (defined : BTreeMap Name Kind) → IsEmpty defined → scopes_with (around.Program outer) (names_of defined) ≡ scopes_of outer.now
+fresh outer defined empty = λ i. record { own = λ y. option_or (no_keys defined empty i y) (names_of outer.now.own y); around = names_of outer.now.around }

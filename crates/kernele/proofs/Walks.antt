@@ -1,9 +1,10 @@
 -- Steps of a walk over trees.
-use Rattle.std.proofs.Common.{◌≡◌, ℕ, ◌+◌, ◌<◌, ◌≤◌, List, [], ◌++◌, ap, sym, ◌∙◌, length, drop, get_or, add-one, suc, append_assoc, append-nil}
+use Rattle.std.proofs.Common.{◌≡◌, ℕ, ◌+◌, ◌<◌, ◌≤◌, List, [], ◌∷◌, ◌++◌, ap, sym, ◌∙◌, length, drop, get_or, add-one, suc, append_assoc, append-nil, Bool, false, ◌==◌, codes, refl}
 use Rattle.std.proofs.Math.Seq.{drop-cons}
 use Rattle.std.proofs.lemmas.List.{drop_all}
 use Rattle.kernele.specs.Tree.{Name, Tree, call, list_tree, hide, if_tree, while_tree, for_tree, try_tree, Trees, none, and_then}
 use Rattle.kernele.specs.View.{tree_of, trees_of}
+use Rattle.kernele.specs.Spelling.{joined, in_braces, spelled_items}
 use Rattle.kernele.proofs.Views.{tree_of-Call, tree_of-List, tree_of-Hide, tree_of-If, tree_of-While, tree_of-For, tree_of-Try}
 use Rattle.kernele.specs.declared.tree.Expr as code
 use Rattle.kernele.specs.declared.tree.Expr.{Expr}
@@ -70,14 +71,30 @@ trees_from xs i x h e = rw add-one (ap trees_of (drop-cons xs i x h) ∙ ap (λ 
 pub no_trees_from : (xs : List Expr) (i : ℕ) → length xs ≤ i → trees_of (drop i xs) ≡ none
 no_trees_from xs i h = ap trees_of (drop_all i xs h)
 
--- a walk that appends what one tree gives has less to append
-pub append_more : {A : Type 0} (all : Trees → List A) (one : Tree → List A) → ((t : Tree) (ts : Trees) → all (and_then t ts) ≡ one t ++ all ts) → (was : List A) {now : List A} (xs : List Expr) (i : ℕ) (x : Expr) → i < length xs → x ≡ get_or xs i x → now ≡ was ++ one (tree_of x) → now ++ all (trees_of (drop (i + 1) xs)) ≡ was ++ all (trees_of (drop i xs))
-append_more all one law was xs i x h e appended =
-    ap (λ s. s ++ all (trees_of (drop (i + 1) xs))) appended
-    ∙ append_assoc was (one (tree_of x)) (all (trees_of (drop (i + 1) xs)))
-    ∙ ap (λ s. was ++ s) (sym (ap all (trees_from xs i x h e) ∙ law (tree_of x) (trees_of (drop (i + 1) xs))))
+-- a list from an index on: the item there, and those behind it
+pub items_from : {B : Type 0} (xs : List B) (i : ℕ) (x : B) → i < length xs → x ≡ get_or xs i x → drop i xs ≡ x ∷ drop (i + 1) xs
+items_from xs i x h e = rw add-one (drop-cons xs i x h ∙ ap (λ y. y ∷ drop (suc i) xs) (sym e))
+
+-- a walk that appends what one item gives has less to append
+pub items_more : {A B : Type 0} (all : List B → List A) (one : B → List A) → ((x : B) (xs : List B) → all (x ∷ xs) ≡ one x ++ all xs) → (was : List A) {now : List A} (xs : List B) (i : ℕ) (x : B) → i < length xs → x ≡ get_or xs i x → now ≡ was ++ one x → now ++ all (drop (i + 1) xs) ≡ was ++ all (drop i xs)
+items_more all one law was xs i x h e appended =
+    ap (λ s. s ++ all (drop (i + 1) xs)) appended
+    ∙ append_assoc was (one x) (all (drop (i + 1) xs))
+    ∙ ap (λ s. was ++ s) (sym (ap all (items_from xs i x h e) ∙ law x (drop (i + 1) xs)))
 
 -- at its end it has appended what all give
+pub items_end : {A B : Type 0} (all : List B → List A) → all [] ≡ [] → {now whole : List A} (xs : List B) (i : ℕ) → length xs ≤ i → now ++ all (drop i xs) ≡ whole → now ≡ whole
+items_end all law {now = now} xs i h invariant =
+    sym (ap (λ s. now ++ s) (ap all (drop_all i xs h) ∙ law) ∙ append-nil now) ∙ invariant
+
+-- the same of trees
+pub append_more : {A : Type 0} (all : Trees → List A) (one : Tree → List A) → ((t : Tree) (ts : Trees) → all (and_then t ts) ≡ one t ++ all ts) → (was : List A) {now : List A} (xs : List Expr) (i : ℕ) (x : Expr) → i < length xs → x ≡ get_or xs i x → now ≡ was ++ one (tree_of x) → now ++ all (trees_of (drop (i + 1) xs)) ≡ was ++ all (trees_of (drop i xs))
+append_more all one law was xs i x h e appended = items_more (λ es. all (trees_of es)) (λ e. one (tree_of e)) (λ e es. law (tree_of e) (trees_of es)) was xs i x h e appended
+
 pub append_end : {A : Type 0} (all : Trees → List A) → all none ≡ [] → {now whole : List A} (xs : List Expr) (i : ℕ) → length xs ≤ i → now ++ all (trees_of (drop i xs)) ≡ whole → now ≡ whole
-append_end all law {now = now} xs i h invariant =
-    sym (ap (λ s. now ++ s) (ap all (no_trees_from xs i h) ∙ law) ∙ append-nil now) ∙ invariant
+append_end all law xs i h invariant = items_end (λ es. all (trees_of es)) law xs i h invariant
+
+-- the braces of a block that has items
+pub braces : (es : List Expr) (empty : Bool) → empty ≡ (length es == 0) → empty ≡ false → in_braces (spelled_items (trees_of es)) ≡ codes "{ " ++ joined (codes "; ") (spelled_items (trees_of es)) ++ codes " }"
+braces [] empty same e = absurd (cc)
+braces (x ∷ xs) empty same e = refl

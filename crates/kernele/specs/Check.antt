@@ -11,7 +11,7 @@ use Rattle.kernele.specs.declared.checking.CheckFault.{CheckFault}
 use Rattle.kernele.specs.declared.checking.CheckFault.TheVariants as fault
 use Rattle.kernele.specs.declared.checking.Outer.{Outer}
 use Rattle.kernele.specs.declared.checking.Around.{Around}
-use Rattle.kernele.specs.declared.checking.Around.TheVariants as around
+use Rattle.kernele.specs.declared.checking.Around as around
 use Rattle.kernele.specs.declared.checking.Scopes as code
 
 -- a fault in words
@@ -47,8 +47,8 @@ Gives result s checked = MatchResult result (λ done. checked ≡ Ok s) (λ faul
 -- where the innermost scope has defined these names so far, and this lies around them: in its own scope a program's definitions
 -- come before the names that it found there; what lies around a block is all that is in scope where the block stands
 abbrev pub scopes_with : Around → Names → Scopes
-scopes_with (around.Program outer) defined = record { own = λ x. option_or (defined x) (names_of outer.own x); around = names_of outer.around }
-scopes_with (around.Block names rest) defined = record { own = defined; around = kind_in (scopes_with rest (names_of names)) }
+scopes_with (around.Program outer) defined = record { own = λ x. option_or (defined x) (names_of outer.now.own x); around = names_of outer.now.around }
+scopes_with (around.Block' names p rest) defined = record { own = defined; around = kind_in (scopes_with rest (names_of names.now)) }
 
 -- the scopes where an expression stands
 abbrev pub scopes_in : code.Scopes → Scopes

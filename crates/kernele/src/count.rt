@@ -68,8 +68,7 @@ fn is_within_depth(e: &Expr, limit: u32) -> bool
         Expr::Hide(body) => are_within_depth(body, limit - 1),
         Expr::If(condition, first, second) => {
             is_within_depth(condition, limit - 1)
-                && are_within_depth(first, limit - 1)
-                && are_within_depth(second, limit - 1)
+                && (are_within_depth(first, limit - 1) && are_within_depth(second, limit - 1))
         }
         Expr::While(condition, body) => {
             is_within_depth(condition, limit - 1) && are_within_depth(body, limit - 1)

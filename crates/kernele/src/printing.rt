@@ -1,6 +1,6 @@
 // The canonical spelling of a program.
 ghost use Rattle.std.specs.Prelude.{◌≡◌, ◌++◌, IfOk, OnOk, string_bytes, codes, map, true};
-ghost use Rattle.kernele.specs.Tree.{bool_tree, define, define_list, variable, assign, list_tree, if_tree, while_tree, for_tree, try_tree, throw_tree};
+ghost use Rattle.kernele.specs.Tree.{bool_tree, define, define_list, variable, assign, list_tree, throw_tree};
 ghost use Rattle.kernele.specs.View.{tree_of, trees_of, program_of};
 ghost use Rattle.kernele.specs.Spelling.{spelling, spelled, spelled_parts, spelled_items, joined, bracketed, in_braces, bound_name, needs_brackets as brackets_test, is_bare_receiver as bare_receiver_test, as_part, as_receiver, message};
 
@@ -63,10 +63,26 @@ fn write_expr(e: &Expr, out: &mut String) -> Result<(), AllocError>
         }
         Expr::DefList(patterns, value) => write_def_list(patterns, value, out),
         Expr::Hide(body) => write_block(body, out),
-        Expr::If(condition, first, second) => write_if(condition, first, second, out),
-        Expr::While(condition, body) => write_while(condition, body, out),
-        Expr::For(pattern, list, body) => write_for(pattern, list, body, out),
-        Expr::Try(body, pattern, handler) => write_try(body, pattern, handler, out),
+        Expr::If(condition, first, second) => {
+            write_condition("if (", condition, out)?;
+            write_block(first, out)?;
+            out.push_str(" else ")?;
+            write_block(second, out)
+        }
+        Expr::While(condition, body) => {
+            write_condition("while (", condition, out)?;
+            write_block(body, out)
+        }
+        Expr::For(pattern, list, body) => {
+            write_source(pattern, list, out)?;
+            write_block(body, out)
+        }
+        Expr::Try(body, pattern, handler) => {
+            out.push_str("try ")?;
+            write_block(body, out)?;
+            write_catch(pattern, out)?;
+            write_block(handler, out)
+        }
         Expr::Throw(problem) => write_throw(problem, out),
     }
 }
@@ -108,65 +124,35 @@ fn write_assign(name: &Text, value: &Expr, out: &mut String) -> Result<(), Alloc
     write_part(value, out)
 }
 
+/// Writes the beginning of an `if` or a `while`, up to its first block.
 #[cycle(print)]
-fn write_if(
-    condition: &Expr,
-    first: &[Expr],
-    second: &[Expr],
-    out: &mut String,
-) -> Result<(), AllocError>
-    ensures { OnOk result (string_bytes out.new ≡ string_bytes out.old ++ spelled (if_tree (tree_of condition.now) (trees_of first.now) (trees_of second.now))) }
+fn write_condition(opening: &str, condition: &Expr, out: &mut String) -> Result<(), AllocError>
+    ensures { OnOk result (string_bytes out.new ≡ string_bytes out.old ++ opening.now ++ as_part (tree_of condition.now) (spelled (tree_of condition.now)) ++ codes ") ") }
 {
-    out.push_str("if (")?;
+    out.push_str(opening)?;
     write_part(condition, out)?;
-    out.push_str(") ")?;
-    write_block(first, out)?;
-    out.push_str(" else ")?;
-    write_block(second, out)
+    out.push_str(") ")
 }
 
+/// Writes the beginning of a `for`, up to its block.
 #[cycle(print)]
-fn write_while(condition: &Expr, body: &[Expr], out: &mut String) -> Result<(), AllocError>
-    ensures { OnOk result (string_bytes out.new ≡ string_bytes out.old ++ spelled (while_tree (tree_of condition.now) (trees_of body.now))) }
-{
-    out.push_str("while (")?;
-    write_part(condition, out)?;
-    out.push_str(") ")?;
-    write_block(body, out)
-}
-
-#[cycle(print)]
-fn write_for(
-    pattern: &Pattern,
-    list: &Expr,
-    body: &[Expr],
-    out: &mut String,
-) -> Result<(), AllocError>
-    ensures { OnOk result (string_bytes out.new ≡ string_bytes out.old ++ spelled (for_tree pattern.now (tree_of list.now) (trees_of body.now))) }
+fn write_source(pattern: &Pattern, list: &Expr, out: &mut String) -> Result<(), AllocError>
+    ensures { OnOk result (string_bytes out.new ≡ string_bytes out.old ++ codes "for " ++ bound_name pattern.now ++ codes " in " ++ as_part (tree_of list.now) (spelled (tree_of list.now)) ++ codes " ") }
 {
     out.push_str("for ")?;
     write_pattern(pattern, out)?;
     out.push_str(" in ")?;
     write_part(list, out)?;
-    out.push_str(" ")?;
-    write_block(body, out)
+    out.push_str(" ")
 }
 
-#[cycle(print)]
-fn write_try(
-    body: &[Expr],
-    pattern: &Pattern,
-    handler: &[Expr],
-    out: &mut String,
-) -> Result<(), AllocError>
-    ensures { OnOk result (string_bytes out.new ≡ string_bytes out.old ++ spelled (try_tree (trees_of body.now) pattern.now (trees_of handler.now))) }
+/// Writes what stands between the two blocks of a `try`.
+fn write_catch(pattern: &Pattern, out: &mut String) -> Result<(), AllocError>
+    ensures { OnOk result (string_bytes out.new ≡ string_bytes out.old ++ codes " catch " ++ bound_name pattern.now ++ codes " ") }
 {
-    out.push_str("try ")?;
-    write_block(body, out)?;
     out.push_str(" catch ")?;
     write_pattern(pattern, out)?;
-    out.push_str(" ")?;
-    write_block(handler, out)
+    out.push_str(" ")
 }
 
 #[cycle(print)]

@@ -14,5 +14,5 @@ returns-clause-refused c =
     let is = checked_within (trees_of c.as_slice-trees.result.now) (scopes_of c.args.outer.now)
     (some_holds c.nodes_left_by_all.result _ _ (c.is_none.ensures ∙ ap not c.if-is_none.false) c.nodes_left_by_all.ensures)
     (c.if-not-are_within_depth.ensures.0 is_true)
-    ∙ ap (checked_all (trees_of c.as_slice-trees.result.now)) (sym (fresh (record { outer = c.args.outer; defined = c.new.result }) c.new.ensures.empty)) in
+    ∙ ap (checked_all (trees_of c.as_slice-trees.result.now)) (sym (fresh c.args.outer c.new.result c.new.ensures.empty)) in
     rw (← slice) (MatchResult-weaker c.check_all.result c.check_all.ensures (λ done h. tt) (λ f h. refuses_same f _ _ is h))

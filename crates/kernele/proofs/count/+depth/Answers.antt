@@ -1,8 +1,9 @@
-use Rattle.std.proofs.Common.{arith, ap}
+use Rattle.std.proofs.Common.{arith, ap, refl, subst}
+use Rattle.std.specs.Prelude.{IsTrue}
 use Rattle.kernele.specs.View.{tree_of}
 use Rattle.kernele.specs.Scope.{depth, depth_in}
 use Rattle.kernele.proofs.Counts.{some_depth, is_true, not_true}
-use Rattle.kernele.proofs.Walks.{tree_is_call, tree_is_list, trees_from, no_trees_from}
+use Rattle.kernele.proofs.Walks.{tree_is_call, tree_is_list, tree_is_hide, tree_is_if, tree_is_while, tree_is_for, tree_is_try, trees_from, no_trees_from}
 use Rattle.kernele.proofs.count.+depth.Goals as goal
 
 pub are_within_depth-returns-then-not-is_within_depth : goal.are_within_depth-returns-then-not-is_within_depth
@@ -35,3 +36,38 @@ pub is_within_depth-returns-in-List : goal.is_within_depth-returns-in-List
 is_within_depth-returns-in-List t c =
     let is = ap depth (tree_is_list c.in-List.items c.in-List.is c.deref-in-List.ensures c.deref-in-List-2.ensures.value) in
     (λ h. omega (arith, is, c.are_within_depth-in-List.ensures.0 h), λ h. c.are_within_depth-in-List.ensures.1 (omega (arith, h, is)))
+
+pub is_within_depth-returns-in-Hide : goal.is_within_depth-returns-in-Hide
+is_within_depth-returns-in-Hide t c =
+    let is = ap depth (tree_is_hide c.in-Hide.body c.in-Hide.is c.deref-in-Hide.ensures c.deref-in-Hide-2.ensures.value) in
+    (λ h. omega (arith, is, c.are_within_depth-in-Hide.ensures.0 h), λ h. c.are_within_depth-in-Hide.ensures.1 (omega (arith, h, is)))
+
+pub is_within_depth-returns-then-is_within_depth-4 : goal.is_within_depth-returns-then-is_within_depth-4
+is_within_depth-returns-then-is_within_depth-4 t c =
+    let is = ap depth (tree_is_while c.in-While.condition c.in-While.body c.in-While.is c.deref-in-While.ensures c.deref-then-is_within_depth-4.ensures c.deref-then-is_within_depth-4-2.ensures.value) in
+    (λ h. omega (arith, is, c.are_within_depth-then-is_within_depth-4.ensures.0 h, c.if-is_within_depth-4.ensures.0 is_true), λ h. c.are_within_depth-then-is_within_depth-4.ensures.1 (omega (arith, h, is)))
+
+pub is_within_depth-returns-then-is_within_depth-5 : goal.is_within_depth-returns-then-is_within_depth-5
+is_within_depth-returns-then-is_within_depth-5 t c =
+    let is = ap depth (tree_is_for c.in-For.field-0 c.in-For.list c.in-For.body c.in-For.is refl c.deref-in-For.ensures c.deref-then-is_within_depth-5.ensures c.deref-then-is_within_depth-5-2.ensures.value) in
+    (λ h. omega (arith, is, c.are_within_depth-then-is_within_depth-5.ensures.0 h, c.if-is_within_depth-5.ensures.0 is_true), λ h. c.are_within_depth-then-is_within_depth-5.ensures.1 (omega (arith, h, is)))
+
+pub is_within_depth-returns-then-are_within_depth-2 : goal.is_within_depth-returns-then-are_within_depth-2
+is_within_depth-returns-then-are_within_depth-2 t c =
+    let is = ap depth (tree_is_try c.in-Try.body c.in-Try.field-1 c.in-Try.handler c.in-Try.is c.deref-in-Try.ensures c.deref-in-Try-2.ensures.value refl c.deref-then-are_within_depth-2-2.ensures c.deref-then-are_within_depth-2-3.ensures.value) in
+    (λ h. omega (arith, is, c.are_within_depth-then-are_within_depth-2.ensures.0 h, c.if-are_within_depth-2.ensures.0 is_true), λ h. c.are_within_depth-then-are_within_depth-2.ensures.1 (omega (arith, h, is)))
+
+pub is_within_depth-returns-else-are_within_depth-2 : goal.is_within_depth-returns-else-are_within_depth-2
+is_within_depth-returns-else-are_within_depth-2 t c =
+    let is = ap depth (tree_is_try c.in-Try.body c.in-Try.field-1 c.in-Try.handler c.in-Try.is c.deref-in-Try.ensures c.deref-in-Try-2.ensures.value refl refl refl) in
+    (λ h. absurd (not_true (subst IsTrue c.if-are_within_depth-2.false h)), λ h. c.are_within_depth-in-Try.ensures.1 (omega (arith, h, is)))
+
+pub is_within_depth-returns-then-are_within_depth : goal.is_within_depth-returns-then-are_within_depth
+is_within_depth-returns-then-are_within_depth t c =
+    let is = ap depth (tree_is_if c.in-If.condition c.in-If.first c.in-If.second c.in-If.is c.deref-in-If.ensures c.deref-then-is_within_depth-3.ensures c.deref-then-is_within_depth-3-2.ensures.value c.deref-then-are_within_depth.ensures c.deref-then-are_within_depth-2.ensures.value) in
+    (λ h. omega (arith, is, c.are_within_depth-then-are_within_depth.ensures.0 h, c.if-is_within_depth-3.ensures.0 is_true, c.if-are_within_depth.ensures.0 is_true), λ h. c.are_within_depth-then-are_within_depth.ensures.1 (omega (arith, h, is)))
+
+pub is_within_depth-returns-else-are_within_depth : goal.is_within_depth-returns-else-are_within_depth
+is_within_depth-returns-else-are_within_depth t c =
+    let is = ap depth (tree_is_if c.in-If.condition c.in-If.first c.in-If.second c.in-If.is c.deref-in-If.ensures c.deref-then-is_within_depth-3.ensures c.deref-then-is_within_depth-3-2.ensures.value refl refl) in
+    (λ h. absurd (not_true (subst IsTrue c.if-are_within_depth.false h)), λ h. c.are_within_depth-then-is_within_depth-3.ensures.1 (omega (arith, h, is)))

@@ -2,7 +2,7 @@ use Rattle.std.proofs.Common.{refl, ap, sym, ◌∙◌, ◌++◌, append_assoc, 
 use Rattle.std.proofs.lemmas.Result.{IfOk-equal}
 use Rattle.kernele.specs.Spelling.{led_by, joined, spelled, spelled_parts, spelled_items, as_part}
 use Rattle.kernele.specs.View.{tree_of, trees_of}
-use Rattle.kernele.proofs.Walks.{tree_is_call, tree_is_list, append_more, append_end}
+use Rattle.kernele.proofs.Walks.{tree_is_call, tree_is_list, tree_is_hide, tree_is_if, tree_is_while, tree_is_for, tree_is_try, braces, append_more, append_end}
 use Rattle.kernele.proofs.printing.+print.Goals as goal
 
 pub write_expr-returns-in_ok-push_str-in-Call : goal.write_expr-returns-in_ok-push_str-in-Call
@@ -38,3 +38,32 @@ write_items-returns-after-loop-item t c =
     written ∙ ap (λ s. s ++ led_by (codes "; ") (spelled_items (trees_of c.in-Some.rest.now))) c.in_ok-write_expr.ensures
     ∙ append_assoc (string_bytes c.args.out.now) (spelled (tree_of c.in-Some.first.now)) (led_by (codes "; ") (spelled_items (trees_of c.in-Some.rest.now)))
     ∙ ap (λ xs. string_bytes c.args.out.now ++ joined (codes "; ") (spelled_items (trees_of xs))) (sym c.in-Some.ensures.cases.0)
+
+pub write_expr-returns-in-Hide : goal.write_expr-returns-in-Hide
+write_expr-returns-in-Hide t c =
+    let is = tree_is_hide c.in-Hide.body c.in-Hide.is c.deref-in-Hide.ensures c.deref-in-Hide-2.ensures.value in
+    rw is c.write_block.ensures
+
+pub write_expr-returns-in_ok-push_str-in-If : goal.write_expr-returns-in_ok-push_str-in-If
+write_expr-returns-in_ok-push_str-in-If t c =
+    let is = tree_is_if c.in-If.condition c.in-If.first c.in-If.second c.in-If.is c.deref-in-If.ensures c.deref-in-If-2.ensures c.deref-in-If-3.ensures.value c.deref-in-If-4.ensures c.deref-in-If-5.ensures.value in
+    rw is (search (rules, IfOk-equal, append_assoc))
+
+pub write_expr-returns-in_ok-write_condition-in-While : goal.write_expr-returns-in_ok-write_condition-in-While
+write_expr-returns-in_ok-write_condition-in-While t c =
+    let is = tree_is_while c.in-While.condition c.in-While.body c.in-While.is c.deref-in-While.ensures c.deref-in-While-2.ensures c.deref-in-While-3.ensures.value in
+    rw is (search (rules, IfOk-equal, append_assoc))
+
+pub write_expr-returns-in_ok-write_source-in-For : goal.write_expr-returns-in_ok-write_source-in-For
+write_expr-returns-in_ok-write_source-in-For t c =
+    let is = tree_is_for c.in-For.pattern c.in-For.list c.in-For.body c.in-For.is refl c.deref-in-For.ensures c.deref-in-For-2.ensures c.deref-in-For-3.ensures.value in
+    rw is (search (rules, IfOk-equal, append_assoc))
+
+pub write_expr-returns-in_ok-write_catch-in-Try : goal.write_expr-returns-in_ok-write_catch-in-Try
+write_expr-returns-in_ok-write_catch-in-Try t c =
+    let is = tree_is_try c.in-Try.body c.in-Try.pattern c.in-Try.handler c.in-Try.is c.deref-in-Try.ensures c.deref-in-Try-2.ensures.value refl c.deref-in-Try-3.ensures c.deref-in-Try-4.ensures.value in
+    rw is (search (rules, IfOk-equal, append_assoc))
+
+pub write_block-returns : goal.write_block-returns
+write_block-returns t c =
+    rw (braces c.args.items.now c.is_empty.result c.is_empty.ensures c.if-is_empty.false) (search (rules, IfOk-equal, append_assoc))
