@@ -243,7 +243,10 @@ fn reads_blocks(rt: HostRuntime) -> Result<(), Fail> {
         ("{ ; ; }", " { }"),
         ("{ 1 ; { 2 ; { } } } ; 3", " { 1 { 2 { } } } 3"),
         ("{ def x := 1\nx }", " { (def x 1) x }"),
-        ("f ( { 1 } , { 2 } ) + { 3 }", " (add (run f { 1 } { 2 }) { 3 })"),
+        (
+            "f ( { 1 } , { 2 } ) + { 3 }",
+            " (add (run f { 1 } { 2 }) { 3 })",
+        ),
         ("{ 1 } . size ( )", " (size { 1 })"),
         ("def [ ] := [ ]", " (def [ ] [ ])"),
         ("def [ a , _ , b ] := c + 1", " (def [ a _ b ] (add c 1))"),
@@ -259,11 +262,11 @@ fn reads_blocks(rt: HostRuntime) -> Result<(), Fail> {
             " (if a { } { (if b { } { (if c { 3 } { }) }) })",
         ),
         ("if ( a ) { 1 } + 2", " (add (if a { 1 } { }) 2)"),
+        ("if ( ( def x := 1 ) ) { x }", " (if (def x 1) { x } { })"),
         (
-            "if ( ( def x := 1 ) ) { x }",
-            " (if (def x 1) { x } { })",
+            "while ( a < 1 ) { a := a + 1 ; b }",
+            " (while (lessThan a 1) { (assign a (add a 1)) b })",
         ),
-        ("while ( a < 1 ) { a := a + 1 ; b }", " (while (lessThan a 1) { (assign a (add a 1)) b })"),
         ("for x in [ 1 , 2 ] { x }", " (for x [ 1 2 ] { x })"),
         ("for _ in a || b { }", " (for _ (if a { true } { b }) { })"),
         (
@@ -286,26 +289,14 @@ fn reads_and_and_or(rt: HostRuntime) -> Result<(), Fail> {
     for (text, tree) in [
         ("a && b", " (if a { b } { false })"),
         ("a || b", " (if a { true } { b })"),
-        (
-            "a || b && c",
-            " (if a { true } { (if b { c } { false }) })",
-        ),
-        (
-            "a && b || c",
-            " (if (if a { b } { false }) { true } { c })",
-        ),
+        ("a || b && c", " (if a { true } { (if b { c } { false }) })"),
+        ("a && b || c", " (if (if a { b } { false }) { true } { c })"),
         (
             "a && b && c",
             " (if (if a { b } { false }) { c } { false })",
         ),
-        (
-            "a || b || c",
-            " (if (if a { true } { b }) { true } { c })",
-        ),
-        (
-            "a == 1 && ! b",
-            " (if (same a 1) { (not b) } { false })",
-        ),
+        ("a || b || c", " (if (if a { true } { b }) { true } { c })"),
+        ("a == 1 && ! b", " (if (same a 1) { (not b) } { false })"),
         ("def x := a && b", " (def x (if a { b } { false }))"),
         ("[ a || b , c ]", " [ (if a { true } { b }) c ]"),
     ] {
