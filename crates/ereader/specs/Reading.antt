@@ -401,6 +401,19 @@ conjunction_at within = operands_at and_operator (comparison_at within)
 abbrev pub disjunction_at : Within → List Token → Read Tree
 disjunction_at within = operands_at or_operator (conjunction_at within)
 
+-- The same behind the first operand that has no operator between two operands: what binds more tightly goes first.
+abbrev pub sums_from : Within → Tree → List Token → Read Tree
+sums_from within t a = operands_from product_operator (unary_at within) t a >>= λ x. operands_from sum_operator (product_at within) x.0 x.1
+
+abbrev pub comparisons_from : Within → Tree → List Token → Read Tree
+comparisons_from within t a = sums_from within t a >>= λ x. comparison_from within x.0 x.1
+
+abbrev pub conjunctions_from : Within → Tree → List Token → Read Tree
+conjunctions_from within t a = comparisons_from within t a >>= λ x. operands_from and_operator (comparison_at within) x.0 x.1
+
+abbrev pub disjunctions_from : Within → Tree → List Token → Read Tree
+disjunctions_from within t a = conjunctions_from within t a >>= λ x. operands_from or_operator (conjunction_at within) x.0 x.1
+
 -- where fewer than n tokens have to be gone past
 abbrev pub within_at : ℕ → Within
 within_at zero = record { expression = λ a. None; conditional = λ a. None }

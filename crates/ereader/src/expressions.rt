@@ -1,6 +1,7 @@
-// Expressions by how tightly their operators bind: one method for each row of the grammar, and one, `.._from`, for what
-// goes on behind a first operand. The two are apart so that few and small frames lie on the stack below a first operand,
-// as in `for a in for b in ..`, which nests without brackets.
+// Expressions by how tightly their operators bind: a method for each row of the grammar, and two for what goes on behind
+// an operand: `.._from` where the operand is a whole one of the row below, `..s_from` where it may be the first part of
+// one. They are apart so that few and small frames lie on the stack below an operand, as in `for a in for b in ..`, which
+// nests without brackets.
 ghost use Rattle.std.specs.Prelude.{◌≡◌, OnOk};
 ghost use Rattle.kernele.specs.View.{tree_of};
 ghost use Rattle.ereader.specs.Grammar as grammar;
@@ -59,8 +60,21 @@ impl<'a> Reader<'a> {
         ensures gives { Gives result self.old self.new (reading.disjunction_at (within_at left)) }
         ensures shorter { OnOk result (Advances self.old self.new) }
     {
-        let first = self.conjunction(left)?;
-        self.disjunction_from(left, first)
+        let first = self.unary(left)?;
+        self.disjunctions_from(left, first)
+    }
+
+    #[cycle(read)]
+    #[inline(never)]
+    fn disjunctions_from(&mut self, left: usize, first: Expr) -> Result<Expr, Stop>
+        ensures gives { Gives result self.old self.new (reading.disjunctions_from (within_at left) (tree_of first)) }
+        ensures shorter { OnOk result (IsNoLonger self.old self.new) }
+    {
+        let product = self.product_from(left, first)?;
+        let sum = self.sum_from(left, product)?;
+        let comparison = self.comparison_from(left, sum)?;
+        let conjunction = self.conjunction_from(left, comparison)?;
+        self.disjunction_from(left, conjunction)
     }
 
     #[cycle(read)]
@@ -83,8 +97,20 @@ impl<'a> Reader<'a> {
         ensures gives { Gives result self.old self.new (reading.conjunction_at (within_at left)) }
         ensures shorter { OnOk result (Advances self.old self.new) }
     {
-        let first = self.comparison(left)?;
-        self.conjunction_from(left, first)
+        let first = self.unary(left)?;
+        self.conjunctions_from(left, first)
+    }
+
+    #[cycle(read)]
+    #[inline(never)]
+    fn conjunctions_from(&mut self, left: usize, first: Expr) -> Result<Expr, Stop>
+        ensures gives { Gives result self.old self.new (reading.conjunctions_from (within_at left) (tree_of first)) }
+        ensures shorter { OnOk result (IsNoLonger self.old self.new) }
+    {
+        let product = self.product_from(left, first)?;
+        let sum = self.sum_from(left, product)?;
+        let comparison = self.comparison_from(left, sum)?;
+        self.conjunction_from(left, comparison)
     }
 
     #[cycle(read)]
@@ -107,8 +133,19 @@ impl<'a> Reader<'a> {
         ensures gives { Gives result self.old self.new (reading.comparison_at (within_at left)) }
         ensures shorter { OnOk result (Advances self.old self.new) }
     {
-        let first = self.sum(left)?;
-        self.comparison_from(left, first)
+        let first = self.unary(left)?;
+        self.comparisons_from(left, first)
+    }
+
+    #[cycle(read)]
+    #[inline(never)]
+    fn comparisons_from(&mut self, left: usize, first: Expr) -> Result<Expr, Stop>
+        ensures gives { Gives result self.old self.new (reading.comparisons_from (within_at left) (tree_of first)) }
+        ensures shorter { OnOk result (IsNoLonger self.old self.new) }
+    {
+        let product = self.product_from(left, first)?;
+        let sum = self.sum_from(left, product)?;
+        self.comparison_from(left, sum)
     }
 
     #[cycle(read)]
@@ -130,8 +167,18 @@ impl<'a> Reader<'a> {
         ensures gives { Gives result self.old self.new (reading.sum_at (within_at left)) }
         ensures shorter { OnOk result (Advances self.old self.new) }
     {
-        let first = self.product(left)?;
-        self.sum_from(left, first)
+        let first = self.unary(left)?;
+        self.sums_from(left, first)
+    }
+
+    #[cycle(read)]
+    #[inline(never)]
+    fn sums_from(&mut self, left: usize, first: Expr) -> Result<Expr, Stop>
+        ensures gives { Gives result self.old self.new (reading.sums_from (within_at left) (tree_of first)) }
+        ensures shorter { OnOk result (IsNoLonger self.old self.new) }
+    {
+        let product = self.product_from(left, first)?;
+        self.sum_from(left, product)
     }
 
     #[cycle(read)]

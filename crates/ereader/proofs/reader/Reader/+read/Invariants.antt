@@ -99,26 +99,38 @@ decreases-product l = 32 * l.left + 14
 abbrev pub decreases-sum_from : goal.decreases-sum_from
 decreases-sum_from l = 32 * l.left + 15
 
+abbrev pub decreases-sums_from : goal.decreases-sums_from
+decreases-sums_from l = 32 * l.left + 16
+
 abbrev pub decreases-sum : goal.decreases-sum
-decreases-sum l = 32 * l.left + 16
+decreases-sum l = 32 * l.left + 17
 
 abbrev pub decreases-comparison_from : goal.decreases-comparison_from
-decreases-comparison_from l = 32 * l.left + 17
+decreases-comparison_from l = 32 * l.left + 18
+
+abbrev pub decreases-comparisons_from : goal.decreases-comparisons_from
+decreases-comparisons_from l = 32 * l.left + 19
 
 abbrev pub decreases-comparison : goal.decreases-comparison
-decreases-comparison l = 32 * l.left + 18
+decreases-comparison l = 32 * l.left + 20
 
 abbrev pub decreases-conjunction_from : goal.decreases-conjunction_from
-decreases-conjunction_from l = 32 * l.left + 19
+decreases-conjunction_from l = 32 * l.left + 21
+
+abbrev pub decreases-conjunctions_from : goal.decreases-conjunctions_from
+decreases-conjunctions_from l = 32 * l.left + 22
 
 abbrev pub decreases-conjunction : goal.decreases-conjunction
-decreases-conjunction l = 32 * l.left + 20
+decreases-conjunction l = 32 * l.left + 23
 
 abbrev pub decreases-disjunction_from : goal.decreases-disjunction_from
-decreases-disjunction_from l = 32 * l.left + 21
+decreases-disjunction_from l = 32 * l.left + 24
+
+abbrev pub decreases-disjunctions_from : goal.decreases-disjunctions_from
+decreases-disjunctions_from l = 32 * l.left + 25
 
 abbrev pub decreases-disjunction : goal.decreases-disjunction
-decreases-disjunction l = 32 * l.left + 22
+decreases-disjunction l = 32 * l.left + 26
 
 abbrev pub invariant-disjunction_from-more : goal.invariant-disjunction_from-more
 invariant-disjunction_from-more l = record {
