@@ -395,6 +395,18 @@ fn reads_deep_programs(rt: HostRuntime) -> Result<(), Fail> {
     text.push_str("x { } ")?;
     let read = outcome(rt.alloc(), text.as_str())?;
     assert_eq!(rt; read.as_str(), "L5 Unexpected 45006");
+    // As deep as the tokens that a text may have allow.
+    for (part, times, fault) in [
+        ("for a in ", 5461, "L5 Unexpected 49149"),
+        ("- for a in ", 4095, "L5 Unexpected 45045"),
+        ("a * for b in ", 3276, "L5 Unexpected 42588"),
+        ("a == for b in ", 3276, "L5 Unexpected 45864"),
+        ("a || for b in ", 3276, "L5 Unexpected 45864"),
+    ] {
+        let text = repeated(rt.alloc(), part, times)?;
+        let read = outcome(rt.alloc(), text.as_str())?;
+        assert_eq!(rt; read.as_str(), fault, "at {part}");
+    }
     let mut text = repeated(rt.alloc(), "for a in ", 3000)?;
     text.push_str("x ")?;
     text.push_str(repeated(rt.alloc(), "{ } ", 3000)?.as_str())?;
