@@ -38,6 +38,10 @@ module _ {A : Type 0} (next : A → List Token → Option (Read A)) where
     pub enough : length a ≤ fuel
     pub is : read ≡ repeat next fuel t a
 
+-- nothing has come before
+pub turns_here : {A : Type 0} (next : A → List Token → Option (Read A)) (t : A) (a : List Token) → Turns next (repeat next (length a) t a) t a
+turns_here next t a = record { fuel = length a; enough = omega arith; is = refl }
+
 pub turns_begin : {A B : Type 0} (next : A → List Token → Option (Read A)) (join : B → A) (first : Read B) {t : B} {a : List Token} → first ≡ Some (t, a)
     → Turns next (first >>= λ x. repeat next (length x.1) (join x.0) x.1) (join t) a
 turns_begin next join first {a = a} e = record { fuel = length a; enough = omega arith; is = ap (λ y. y >>= λ x. repeat next (length x.1) (join x.0) x.1) e }

@@ -128,9 +128,13 @@ past_word is x = cond (is_at_word is x.1) (Some (x.0, rest_of x.1)) None
 abbrev pub operand_next : (signs.Sign → Option Operator) → (List Token → Read Tree) → Tree → List Token → Option (Read Tree)
 operand_next of part t a = or_else (front of a) None (λ o. Some (part (rest_of a) >>= λ x. Some (joined o t x.0, x.1)))
 
--- operands with operators between them, joined from the left
+-- operators and operands behind the first, joined from the left
+abbrev pub operands_from : (signs.Sign → Option Operator) → (List Token → Read Tree) → Tree → List Token → Read Tree
+operands_from of part t a = repeat (operand_next of part) (length a) t a
+
+-- operands with operators between them
 abbrev pub operands_at : (signs.Sign → Option Operator) → (List Token → Read Tree) → List Token → Read Tree
-operands_at of part a = part a >>= λ x. repeat (operand_next of part) (length x.1) x.0 x.1
+operands_at of part a = part a >>= λ x. operands_from of part x.0 x.1
 
 -- a comma and what is behind it, put at the end
 abbrev pub commas_next : {A B : Type 0} → (B → A → B) → (List Token → Read A) → B → List Token → Option (Read B)
@@ -369,8 +373,11 @@ linked_at within l t a = verb_at l a >>= λ v. args_at within (closer l) v.1 >>=
 abbrev pub postfix_next : Within → Tree → List Token → Option (Read Tree)
 postfix_next within t a = or_else (front link_of a) None (λ l. Some (linked_at within l t (rest_of a)))
 
+abbrev pub postfix_from : Within → Tree → List Token → Read Tree
+postfix_from within t a = repeat (postfix_next within) (length a) t a
+
 abbrev pub postfix_at : Within → List Token → Read Tree
-postfix_at within a = primary_at within a >>= λ x. repeat (postfix_next within) (length x.1) x.0 x.1
+postfix_at within a = primary_at within a >>= λ x. postfix_from within x.0 x.1
 
 abbrev pub unary_at : Within → List Token → Read Tree
 unary_at within a = or_else (front prefix_operator a) (postfix_at within a) (λ o. postfix_at within (rest_of a) >>= λ x. Some (call x.0 (prefix_verb o) none, x.1))
@@ -381,14 +388,31 @@ product_at within = operands_at product_operator (unary_at within)
 abbrev pub sum_at : Within → List Token → Read Tree
 sum_at within = operands_at sum_operator (product_at within)
 
+-- an operator and the other sum, if they are behind t
+abbrev pub comparison_from : Within → Tree → List Token → Read Tree
+comparison_from within t a = or_else (front comparison_operator a) (Some (t, a)) (λ o. sum_at within (rest_of a) >>= λ y. Some (joined o t y.0, y.1))
+
 abbrev pub comparison_at : Within → List Token → Read Tree
-comparison_at within a = sum_at within a >>= λ x. or_else (front comparison_operator x.1) (Some x) (λ o. sum_at within (rest_of x.1) >>= λ y. Some (joined o x.0 y.0, y.1))
+comparison_at within a = sum_at within a >>= λ x. comparison_from within x.0 x.1
 
 abbrev pub conjunction_at : Within → List Token → Read Tree
 conjunction_at within = operands_at and_operator (comparison_at within)
 
 abbrev pub disjunction_at : Within → List Token → Read Tree
 disjunction_at within = operands_at or_operator (conjunction_at within)
+
+-- The same behind the first operand that has no operator between two operands: what binds more tightly goes first.
+abbrev pub sums_from : Within → Tree → List Token → Read Tree
+sums_from within t a = operands_from product_operator (unary_at within) t a >>= λ x. operands_from sum_operator (product_at within) x.0 x.1
+
+abbrev pub comparisons_from : Within → Tree → List Token → Read Tree
+comparisons_from within t a = sums_from within t a >>= λ x. comparison_from within x.0 x.1
+
+abbrev pub conjunctions_from : Within → Tree → List Token → Read Tree
+conjunctions_from within t a = comparisons_from within t a >>= λ x. operands_from and_operator (comparison_at within) x.0 x.1
+
+abbrev pub disjunctions_from : Within → Tree → List Token → Read Tree
+disjunctions_from within t a = conjunctions_from within t a >>= λ x. operands_from or_operator (conjunction_at within) x.0 x.1
 
 -- where fewer than n tokens have to be gone past
 abbrev pub within_at : ℕ → Within

@@ -1,6 +1,10 @@
-// Expressions by how tightly their operators bind: one method for each row of the grammar.
+// Expressions by how tightly their operators bind: a method for each row of the grammar, and two for what goes on behind
+// an operand: `.._from` where the operand is a whole one of the row below, `..s_from` where it may be the first part of
+// one. They are apart so that few and small frames lie on the stack below an operand, as in `for a in for b in ..`, which
+// nests without brackets.
 ghost use Rattle.std.specs.Prelude.{◌≡◌, OnOk};
 ghost use Rattle.kernele.specs.View.{tree_of};
+ghost use Rattle.ereader.specs.Grammar as grammar;
 ghost use Rattle.ereader.specs.Reading as reading;
 ghost use Rattle.ereader.specs.Reading.{within_at};
 ghost use Rattle.ereader.specs.View.{Advances, IsNoLonger, Gives, GivesPlain};
@@ -56,7 +60,30 @@ impl<'a> Reader<'a> {
         ensures gives { Gives result self.old self.new (reading.disjunction_at (within_at left)) }
         ensures shorter { OnOk result (Advances self.old self.new) }
     {
-        let mut disjunction = self.conjunction(left)?;
+        let first = self.unary(left)?;
+        self.disjunctions_from(left, first)
+    }
+
+    #[cycle(read)]
+    #[inline(never)]
+    fn disjunctions_from(&mut self, left: usize, first: Expr) -> Result<Expr, Stop>
+        ensures gives { Gives result self.old self.new (reading.disjunctions_from (within_at left) (tree_of first)) }
+        ensures shorter { OnOk result (IsNoLonger self.old self.new) }
+    {
+        let product = self.product_from(left, first)?;
+        let sum = self.sum_from(left, product)?;
+        let comparison = self.comparison_from(left, sum)?;
+        let conjunction = self.conjunction_from(left, comparison)?;
+        self.disjunction_from(left, conjunction)
+    }
+
+    #[cycle(read)]
+    #[inline(never)]
+    fn disjunction_from(&mut self, left: usize, first: Expr) -> Result<Expr, Stop>
+        ensures gives { Gives result self.old self.new (reading.operands_from grammar.or_operator (reading.conjunction_at (within_at left)) (tree_of first)) }
+        ensures shorter { OnOk result (IsNoLonger self.old self.new) }
+    {
+        let mut disjunction = first;
         'more: while let Some(operator) = self.or_operator() {
             self.skip();
             let right = self.conjunction(left)?;
@@ -70,7 +97,29 @@ impl<'a> Reader<'a> {
         ensures gives { Gives result self.old self.new (reading.conjunction_at (within_at left)) }
         ensures shorter { OnOk result (Advances self.old self.new) }
     {
-        let mut conjunction = self.comparison(left)?;
+        let first = self.unary(left)?;
+        self.conjunctions_from(left, first)
+    }
+
+    #[cycle(read)]
+    #[inline(never)]
+    fn conjunctions_from(&mut self, left: usize, first: Expr) -> Result<Expr, Stop>
+        ensures gives { Gives result self.old self.new (reading.conjunctions_from (within_at left) (tree_of first)) }
+        ensures shorter { OnOk result (IsNoLonger self.old self.new) }
+    {
+        let product = self.product_from(left, first)?;
+        let sum = self.sum_from(left, product)?;
+        let comparison = self.comparison_from(left, sum)?;
+        self.conjunction_from(left, comparison)
+    }
+
+    #[cycle(read)]
+    #[inline(never)]
+    fn conjunction_from(&mut self, left: usize, first: Expr) -> Result<Expr, Stop>
+        ensures gives { Gives result self.old self.new (reading.operands_from grammar.and_operator (reading.comparison_at (within_at left)) (tree_of first)) }
+        ensures shorter { OnOk result (IsNoLonger self.old self.new) }
+    {
+        let mut conjunction = first;
         'more: while let Some(operator) = self.and_operator() {
             self.skip();
             let right = self.comparison(left)?;
@@ -84,13 +133,33 @@ impl<'a> Reader<'a> {
         ensures gives { Gives result self.old self.new (reading.comparison_at (within_at left)) }
         ensures shorter { OnOk result (Advances self.old self.new) }
     {
-        let left_side = self.sum(left)?;
+        let first = self.unary(left)?;
+        self.comparisons_from(left, first)
+    }
+
+    #[cycle(read)]
+    #[inline(never)]
+    fn comparisons_from(&mut self, left: usize, first: Expr) -> Result<Expr, Stop>
+        ensures gives { Gives result self.old self.new (reading.comparisons_from (within_at left) (tree_of first)) }
+        ensures shorter { OnOk result (IsNoLonger self.old self.new) }
+    {
+        let product = self.product_from(left, first)?;
+        let sum = self.sum_from(left, product)?;
+        self.comparison_from(left, sum)
+    }
+
+    #[cycle(read)]
+    #[inline(never)]
+    fn comparison_from(&mut self, left: usize, first: Expr) -> Result<Expr, Stop>
+        ensures gives { Gives result self.old self.new (reading.comparison_from (within_at left) (tree_of first)) }
+        ensures shorter { OnOk result (IsNoLonger self.old self.new) }
+    {
         let Some(operator) = self.comparison_operator() else {
-            return Ok(left_side);
+            return Ok(first);
         };
         self.skip();
-        let right_side = self.sum(left)?;
-        nodes::join(self.alloc, left_side, operator, right_side)
+        let second = self.sum(left)?;
+        nodes::join(self.alloc, first, operator, second)
     }
 
     #[cycle(read)]
@@ -98,7 +167,27 @@ impl<'a> Reader<'a> {
         ensures gives { Gives result self.old self.new (reading.sum_at (within_at left)) }
         ensures shorter { OnOk result (Advances self.old self.new) }
     {
-        let mut sum = self.product(left)?;
+        let first = self.unary(left)?;
+        self.sums_from(left, first)
+    }
+
+    #[cycle(read)]
+    #[inline(never)]
+    fn sums_from(&mut self, left: usize, first: Expr) -> Result<Expr, Stop>
+        ensures gives { Gives result self.old self.new (reading.sums_from (within_at left) (tree_of first)) }
+        ensures shorter { OnOk result (IsNoLonger self.old self.new) }
+    {
+        let product = self.product_from(left, first)?;
+        self.sum_from(left, product)
+    }
+
+    #[cycle(read)]
+    #[inline(never)]
+    fn sum_from(&mut self, left: usize, first: Expr) -> Result<Expr, Stop>
+        ensures gives { Gives result self.old self.new (reading.operands_from grammar.sum_operator (reading.product_at (within_at left)) (tree_of first)) }
+        ensures shorter { OnOk result (IsNoLonger self.old self.new) }
+    {
+        let mut sum = first;
         'more: while let Some(operator) = self.sum_operator() {
             self.skip();
             let right = self.product(left)?;
@@ -112,7 +201,17 @@ impl<'a> Reader<'a> {
         ensures gives { Gives result self.old self.new (reading.product_at (within_at left)) }
         ensures shorter { OnOk result (Advances self.old self.new) }
     {
-        let mut product = self.unary(left)?;
+        let first = self.unary(left)?;
+        self.product_from(left, first)
+    }
+
+    #[cycle(read)]
+    #[inline(never)]
+    fn product_from(&mut self, left: usize, first: Expr) -> Result<Expr, Stop>
+        ensures gives { Gives result self.old self.new (reading.operands_from grammar.product_operator (reading.unary_at (within_at left)) (tree_of first)) }
+        ensures shorter { OnOk result (IsNoLonger self.old self.new) }
+    {
+        let mut product = first;
         'more: while let Some(operator) = self.product_operator() {
             self.skip();
             let right = self.unary(left)?;
@@ -139,7 +238,17 @@ impl<'a> Reader<'a> {
         ensures gives { Gives result self.old self.new (reading.postfix_at (within_at left)) }
         ensures shorter { OnOk result (Advances self.old self.new) }
     {
-        let mut postfix = self.primary(left)?;
+        let first = self.primary(left)?;
+        self.postfix_from(left, first)
+    }
+
+    #[cycle(read)]
+    #[inline(never)]
+    fn postfix_from(&mut self, left: usize, first: Expr) -> Result<Expr, Stop>
+        ensures gives { Gives result self.old self.new (reading.postfix_from (within_at left) (tree_of first)) }
+        ensures shorter { OnOk result (IsNoLonger self.old self.new) }
+    {
+        let mut postfix = first;
         'more: while let Some(link) = self.link() {
             self.skip();
             postfix = self.linked(left, link, postfix)?;

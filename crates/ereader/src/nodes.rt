@@ -54,7 +54,12 @@ pub fn hide(alloc: Global, body: Vec<Expr>) -> Result<Expr, Stop>
 }
 
 /// A condition, and a block for each of its answers.
-pub fn choose(alloc: Global, condition: Expr, first: Vec<Expr>, second: Vec<Expr>) -> Result<Expr, Stop>
+pub fn choose(
+    alloc: Global,
+    condition: Expr,
+    first: Vec<Expr>,
+    second: Vec<Expr>,
+) -> Result<Expr, Stop>
     ensures ok { IfOk result (λ e. tree_of e ≡ if_tree (tree_of condition) (trees_of first.items) (trees_of second.items)) }
     ensures err { IfErr result (λ e. e ≡ stop.Memory) }
 {
@@ -73,7 +78,12 @@ pub fn repeat_while(alloc: Global, condition: Expr, body: Vec<Expr>) -> Result<E
     Ok(Expr::While(condition, body))
 }
 
-pub fn repeat_for(alloc: Global, pattern: Pattern, list: Expr, body: Vec<Expr>) -> Result<Expr, Stop>
+pub fn repeat_for(
+    alloc: Global,
+    pattern: Pattern,
+    list: Expr,
+    body: Vec<Expr>,
+) -> Result<Expr, Stop>
     ensures ok { IfOk result (λ e. tree_of e ≡ for_tree pattern (tree_of list) (trees_of body.items)) }
     ensures err { IfErr result (λ e. e ≡ stop.Memory) }
 {
@@ -82,7 +92,12 @@ pub fn repeat_for(alloc: Global, pattern: Pattern, list: Expr, body: Vec<Expr>) 
     Ok(Expr::For(pattern, list, body))
 }
 
-pub fn try_catch(alloc: Global, body: Vec<Expr>, pattern: Pattern, handler: Vec<Expr>) -> Result<Expr, Stop>
+pub fn try_catch(
+    alloc: Global,
+    body: Vec<Expr>,
+    pattern: Pattern,
+    handler: Vec<Expr>,
+) -> Result<Expr, Stop>
     ensures ok { IfOk result (λ e. tree_of e ≡ try_tree (trees_of body.items) pattern (trees_of handler.items)) }
     ensures err { IfErr result (λ e. e ≡ stop.Memory) }
 {

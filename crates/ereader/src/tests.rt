@@ -243,7 +243,10 @@ fn reads_blocks(rt: HostRuntime) -> Result<(), Fail> {
         ("{ ; ; }", " { }"),
         ("{ 1 ; { 2 ; { } } } ; 3", " { 1 { 2 { } } } 3"),
         ("{ def x := 1\nx }", " { (def x 1) x }"),
-        ("f ( { 1 } , { 2 } ) + { 3 }", " (add (run f { 1 } { 2 }) { 3 })"),
+        (
+            "f ( { 1 } , { 2 } ) + { 3 }",
+            " (add (run f { 1 } { 2 }) { 3 })",
+        ),
         ("{ 1 } . size ( )", " (size { 1 })"),
         ("def [ ] := [ ]", " (def [ ] [ ])"),
         ("def [ a , _ , b ] := c + 1", " (def [ a _ b ] (add c 1))"),
@@ -259,11 +262,11 @@ fn reads_blocks(rt: HostRuntime) -> Result<(), Fail> {
             " (if a { } { (if b { } { (if c { 3 } { }) }) })",
         ),
         ("if ( a ) { 1 } + 2", " (add (if a { 1 } { }) 2)"),
+        ("if ( ( def x := 1 ) ) { x }", " (if (def x 1) { x } { })"),
         (
-            "if ( ( def x := 1 ) ) { x }",
-            " (if (def x 1) { x } { })",
+            "while ( a < 1 ) { a := a + 1 ; b }",
+            " (while (lessThan a 1) { (assign a (add a 1)) b })",
         ),
-        ("while ( a < 1 ) { a := a + 1 ; b }", " (while (lessThan a 1) { (assign a (add a 1)) b })"),
         ("for x in [ 1 , 2 ] { x }", " (for x [ 1 2 ] { x })"),
         ("for _ in a || b { }", " (for _ (if a { true } { b }) { })"),
         (
@@ -286,26 +289,14 @@ fn reads_and_and_or(rt: HostRuntime) -> Result<(), Fail> {
     for (text, tree) in [
         ("a && b", " (if a { b } { false })"),
         ("a || b", " (if a { true } { b })"),
-        (
-            "a || b && c",
-            " (if a { true } { (if b { c } { false }) })",
-        ),
-        (
-            "a && b || c",
-            " (if (if a { b } { false }) { true } { c })",
-        ),
+        ("a || b && c", " (if a { true } { (if b { c } { false }) })"),
+        ("a && b || c", " (if (if a { b } { false }) { true } { c })"),
         (
             "a && b && c",
             " (if (if a { b } { false }) { c } { false })",
         ),
-        (
-            "a || b || c",
-            " (if (if a { true } { b }) { true } { c })",
-        ),
-        (
-            "a == 1 && ! b",
-            " (if (same a 1) { (not b) } { false })",
-        ),
+        ("a || b || c", " (if (if a { true } { b }) { true } { c })"),
+        ("a == 1 && ! b", " (if (same a 1) { (not b) } { false })"),
         ("def x := a && b", " (def x (if a { b } { false }))"),
         ("[ a || b , c ]", " [ (if a { true } { b }) c ]"),
     ] {
@@ -404,6 +395,18 @@ fn reads_deep_programs(rt: HostRuntime) -> Result<(), Fail> {
     text.push_str("x { } ")?;
     let read = outcome(rt.alloc(), text.as_str())?;
     assert_eq!(rt; read.as_str(), "L5 Unexpected 45006");
+    // As deep as the tokens that a text may have allow.
+    for (part, times, fault) in [
+        ("for a in ", 5461, "L5 Unexpected 49149"),
+        ("- for a in ", 4095, "L5 Unexpected 45045"),
+        ("a * for b in ", 3276, "L5 Unexpected 42588"),
+        ("a == for b in ", 3276, "L5 Unexpected 45864"),
+        ("a || for b in ", 3276, "L5 Unexpected 45864"),
+    ] {
+        let text = repeated(rt.alloc(), part, times)?;
+        let read = outcome(rt.alloc(), text.as_str())?;
+        assert_eq!(rt; read.as_str(), fault, "at {part}");
+    }
     let mut text = repeated(rt.alloc(), "for a in ", 3000)?;
     text.push_str("x ")?;
     text.push_str(repeated(rt.alloc(), "{ } ", 3000)?.as_str())?;

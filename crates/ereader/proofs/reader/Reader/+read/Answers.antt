@@ -1,79 +1,111 @@
 use Rattle.std.proofs.Common.{rules, arith, length, sym, ap, ◌∙◌}
 use Rattle.std.proofs.lemmas.Result.{err_from_is_err_and}
+use Rattle.ereader.proofs.Turns.{turns_here}
 use Rattle.ereader.proofs.Steps.{rest_le, skip-le, trees_push, operand_more, operand_fails, operand_end, postfix_more, postfix_end, commas_more, commas_end, block_begin, block_more, block_part_fails, block_end}
 use Rattle.ereader.specs.Grammar.{sum_operator, product_operator, and_operator, or_operator, snoc}
-use Rattle.ereader.specs.Reading.{conjunction_at, comparison_at, product_at, unary_at, within_at}
+use Rattle.ereader.specs.Reading.{conjunction_at, comparison_at, product_at, unary_at, operand_next, postfix_next, within_at}
 use Rattle.ereader.specs.View.{plain}
+use Rattle.kernele.specs.View.{tree_of}
 use Rattle.ereader.proofs.reader.Reader.+read.Goals as goal
 
-pub disjunction-more-preserved : goal.disjunction-more-preserved
-disjunction-more-preserved t c = record {
-  comes = rw c.in_ok-disjunction-2.ensures.ok
+pub disjunction_from-more-init : goal.disjunction_from-more-init
+disjunction_from-more-init t c = record {
+  comes = turns_here (operand_next or_operator (conjunction_at (within_at c.args.left))) (tree_of c.args.first) (plain c.args.self.now.rest.now);
+  shorter = omega arith;
+}
+
+pub disjunction_from-more-preserved : goal.disjunction_from-more-preserved
+disjunction_from-more-preserved t c = record {
+  comes = rw c.in_ok-disjunction.ensures.ok
       (operand_more or_operator (conjunction_at (within_at c.args.left)) _ (plain c.skip.new.self.rest.now) _ c.more.invariant.comes (sym c.or_operator.ensures ∙ c.in-Some.is) c.skip.ensures c.in_ok-right.ensures.gives c.in_ok-right.ensures.shorter);
   shorter = omega (arith, c.more.invariant.shorter, c.in_ok-right.ensures.shorter, ap length c.skip.ensures, rest_le (plain c.more.self.rest.now));
 }
 
-pub disjunction-returns-in_err-right-clause-gives : goal.disjunction-returns-in_err-right-clause-gives
-disjunction-returns-in_err-right-clause-gives t c =
-    let k = err_from_is_err_and c.from_residual-in_err-right.result c.from_residual-in_err-right.ensures.1 in
+pub disjunction_from-returns-in_err-right-clause-gives : goal.disjunction_from-returns-in_err-right-clause-gives
+disjunction_from-returns-in_err-right-clause-gives t c =
+    let k = err_from_is_err_and c.from_residual.result c.from_residual.ensures.1 in
     rw (k.1, k.2) (operand_fails or_operator (conjunction_at (within_at c.args.left)) c.in_err-right.field-0.0 (plain c.skip.new.self.rest.now) c.more.invariant.comes (sym c.or_operator.ensures ∙ c.in-Some.is) c.skip.ensures c.in_err-right.ensures.gives)
 
-pub disjunction-returns-clause-gives : goal.disjunction-returns-clause-gives
-disjunction-returns-clause-gives t c = operand_end or_operator (conjunction_at (within_at c.args.left)) c.more.invariant.comes (search rules)
+pub disjunction_from-returns-clause-gives : goal.disjunction_from-returns-clause-gives
+disjunction_from-returns-clause-gives t c = operand_end or_operator (conjunction_at (within_at c.args.left)) c.more.invariant.comes (search rules)
 
-pub conjunction-more-preserved : goal.conjunction-more-preserved
-conjunction-more-preserved t c = record {
-  comes = rw c.in_ok-conjunction-2.ensures.ok
+pub conjunction_from-more-init : goal.conjunction_from-more-init
+conjunction_from-more-init t c = record {
+  comes = turns_here (operand_next and_operator (comparison_at (within_at c.args.left))) (tree_of c.args.first) (plain c.args.self.now.rest.now);
+  shorter = omega arith;
+}
+
+pub conjunction_from-more-preserved : goal.conjunction_from-more-preserved
+conjunction_from-more-preserved t c = record {
+  comes = rw c.in_ok-conjunction.ensures.ok
       (operand_more and_operator (comparison_at (within_at c.args.left)) _ (plain c.skip.new.self.rest.now) _ c.more.invariant.comes (sym c.and_operator.ensures ∙ c.in-Some.is) c.skip.ensures c.in_ok-right.ensures.gives c.in_ok-right.ensures.shorter);
   shorter = omega (arith, c.more.invariant.shorter, c.in_ok-right.ensures.shorter, ap length c.skip.ensures, rest_le (plain c.more.self.rest.now));
 }
 
-pub conjunction-returns-in_err-right-clause-gives : goal.conjunction-returns-in_err-right-clause-gives
-conjunction-returns-in_err-right-clause-gives t c =
-    let k = err_from_is_err_and c.from_residual-in_err-right.result c.from_residual-in_err-right.ensures.1 in
+pub conjunction_from-returns-in_err-right-clause-gives : goal.conjunction_from-returns-in_err-right-clause-gives
+conjunction_from-returns-in_err-right-clause-gives t c =
+    let k = err_from_is_err_and c.from_residual.result c.from_residual.ensures.1 in
     rw (k.1, k.2) (operand_fails and_operator (comparison_at (within_at c.args.left)) c.in_err-right.field-0.0 (plain c.skip.new.self.rest.now) c.more.invariant.comes (sym c.and_operator.ensures ∙ c.in-Some.is) c.skip.ensures c.in_err-right.ensures.gives)
 
-pub conjunction-returns-clause-gives : goal.conjunction-returns-clause-gives
-conjunction-returns-clause-gives t c = operand_end and_operator (comparison_at (within_at c.args.left)) c.more.invariant.comes (search rules)
+pub conjunction_from-returns-clause-gives : goal.conjunction_from-returns-clause-gives
+conjunction_from-returns-clause-gives t c = operand_end and_operator (comparison_at (within_at c.args.left)) c.more.invariant.comes (search rules)
 
-pub sum-more-preserved : goal.sum-more-preserved
-sum-more-preserved t c = record {
-  comes = rw c.in_ok-sum-2.ensures.ok
+pub sum_from-more-init : goal.sum_from-more-init
+sum_from-more-init t c = record {
+  comes = turns_here (operand_next sum_operator (product_at (within_at c.args.left))) (tree_of c.args.first) (plain c.args.self.now.rest.now);
+  shorter = omega arith;
+}
+
+pub sum_from-more-preserved : goal.sum_from-more-preserved
+sum_from-more-preserved t c = record {
+  comes = rw c.in_ok-sum.ensures.ok
       (operand_more sum_operator (product_at (within_at c.args.left)) _ (plain c.skip.new.self.rest.now) _ c.more.invariant.comes (sym c.sum_operator.ensures ∙ c.in-Some.is) c.skip.ensures c.in_ok-right.ensures.gives c.in_ok-right.ensures.shorter);
   shorter = omega (arith, c.more.invariant.shorter, c.in_ok-right.ensures.shorter, ap length c.skip.ensures, rest_le (plain c.more.self.rest.now));
 }
 
-pub sum-returns-in_err-right-clause-gives : goal.sum-returns-in_err-right-clause-gives
-sum-returns-in_err-right-clause-gives t c =
-    let k = err_from_is_err_and c.from_residual-in_err-right.result c.from_residual-in_err-right.ensures.1 in
+pub sum_from-returns-in_err-right-clause-gives : goal.sum_from-returns-in_err-right-clause-gives
+sum_from-returns-in_err-right-clause-gives t c =
+    let k = err_from_is_err_and c.from_residual.result c.from_residual.ensures.1 in
     rw (k.1, k.2) (operand_fails sum_operator (product_at (within_at c.args.left)) c.in_err-right.field-0.0 (plain c.skip.new.self.rest.now) c.more.invariant.comes (sym c.sum_operator.ensures ∙ c.in-Some.is) c.skip.ensures c.in_err-right.ensures.gives)
 
-pub sum-returns-clause-gives : goal.sum-returns-clause-gives
-sum-returns-clause-gives t c = operand_end sum_operator (product_at (within_at c.args.left)) c.more.invariant.comes (search rules)
+pub sum_from-returns-clause-gives : goal.sum_from-returns-clause-gives
+sum_from-returns-clause-gives t c = operand_end sum_operator (product_at (within_at c.args.left)) c.more.invariant.comes (search rules)
 
-pub product-more-preserved : goal.product-more-preserved
-product-more-preserved t c = record {
-  comes = rw c.in_ok-product-2.ensures.ok
+pub product_from-more-init : goal.product_from-more-init
+product_from-more-init t c = record {
+  comes = turns_here (operand_next product_operator (unary_at (within_at c.args.left))) (tree_of c.args.first) (plain c.args.self.now.rest.now);
+  shorter = omega arith;
+}
+
+pub product_from-more-preserved : goal.product_from-more-preserved
+product_from-more-preserved t c = record {
+  comes = rw c.in_ok-product.ensures.ok
       (operand_more product_operator (unary_at (within_at c.args.left)) _ (plain c.skip.new.self.rest.now) _ c.more.invariant.comes (sym c.product_operator.ensures ∙ c.in-Some.is) c.skip.ensures c.in_ok-right.ensures.gives c.in_ok-right.ensures.shorter);
   shorter = omega (arith, c.more.invariant.shorter, c.in_ok-right.ensures.shorter, ap length c.skip.ensures, rest_le (plain c.more.self.rest.now));
 }
 
-pub product-returns-in_err-right-clause-gives : goal.product-returns-in_err-right-clause-gives
-product-returns-in_err-right-clause-gives t c =
-    let k = err_from_is_err_and c.from_residual-in_err-right.result c.from_residual-in_err-right.ensures.1 in
+pub product_from-returns-in_err-right-clause-gives : goal.product_from-returns-in_err-right-clause-gives
+product_from-returns-in_err-right-clause-gives t c =
+    let k = err_from_is_err_and c.from_residual.result c.from_residual.ensures.1 in
     rw (k.1, k.2) (operand_fails product_operator (unary_at (within_at c.args.left)) c.in_err-right.field-0.0 (plain c.skip.new.self.rest.now) c.more.invariant.comes (sym c.product_operator.ensures ∙ c.in-Some.is) c.skip.ensures c.in_err-right.ensures.gives)
 
-pub product-returns-clause-gives : goal.product-returns-clause-gives
-product-returns-clause-gives t c = operand_end product_operator (unary_at (within_at c.args.left)) c.more.invariant.comes (search rules)
+pub product_from-returns-clause-gives : goal.product_from-returns-clause-gives
+product_from-returns-clause-gives t c = operand_end product_operator (unary_at (within_at c.args.left)) c.more.invariant.comes (search rules)
 
-pub postfix-more-preserved : goal.postfix-more-preserved
-postfix-more-preserved t c = record {
-  comes = postfix_more (within_at c.args.left) _ (plain c.skip.new.self.rest.now) _ c.more.invariant.comes (sym c.link.ensures ∙ c.in-Some.is) c.skip.ensures c.in_ok-postfix-2.ensures.gives c.in_ok-postfix-2.ensures.shorter;
-  shorter = omega (arith, c.more.invariant.shorter, c.in_ok-postfix-2.ensures.shorter, ap length c.skip.ensures, rest_le (plain c.more.self.rest.now));
+pub postfix_from-more-init : goal.postfix_from-more-init
+postfix_from-more-init t c = record {
+  comes = turns_here (postfix_next (within_at c.args.left)) (tree_of c.args.first) (plain c.args.self.now.rest.now);
+  shorter = omega arith;
 }
 
-pub postfix-returns-clause-gives : goal.postfix-returns-clause-gives
-postfix-returns-clause-gives t c = postfix_end (within_at c.args.left) c.more.invariant.comes (search rules)
+pub postfix_from-more-preserved : goal.postfix_from-more-preserved
+postfix_from-more-preserved t c = record {
+  comes = postfix_more (within_at c.args.left) _ (plain c.skip.new.self.rest.now) _ c.more.invariant.comes (sym c.link.ensures ∙ c.in-Some.is) c.skip.ensures c.in_ok-postfix.ensures.gives c.in_ok-postfix.ensures.shorter;
+  shorter = omega (arith, c.more.invariant.shorter, c.in_ok-postfix.ensures.shorter, ap length c.skip.ensures, rest_le (plain c.more.self.rest.now));
+}
+
+pub postfix_from-returns-clause-gives : goal.postfix_from-returns-clause-gives
+postfix_from-returns-clause-gives t c = postfix_end (within_at c.args.left) c.more.invariant.comes (search rules)
 
 pub items-more-preserved : goal.items-more-preserved
 items-more-preserved t c = record {

@@ -1,6 +1,6 @@
 use Rattle.std.proofs.Common.{length, ◌*◌, ◌+◌, ◌<◌, ◌≤◌}
 use Rattle.ereader.specs.Grammar.{product_operator, sum_operator, and_operator, or_operator, snoc}
-use Rattle.ereader.specs.Reading.{within_at, operand_next, disjunction_at, conjunction_at, comparison_at, sum_at, product_at, unary_at, postfix_at, postfix_next, items_at, commas_next, block_at, block_next}
+use Rattle.ereader.specs.Reading.{within_at, operand_next, operands_from, conjunction_at, comparison_at, product_at, unary_at, postfix_from, postfix_next, items_at, commas_next, block_at, block_next}
 use Rattle.ereader.specs.View.{plain}
 use Rattle.kernele.specs.View.{tree_of, trees_of}
 use Rattle.ereader.proofs.Turns.{Turns}
@@ -81,71 +81,101 @@ decreases-bracketed l = 32 * l.left + 9
 abbrev pub decreases-primary : goal.decreases-primary
 decreases-primary l = 32 * l.left + 10
 
+abbrev pub decreases-postfix_from : goal.decreases-postfix_from
+decreases-postfix_from l = 32 * l.left + 10
+
 abbrev pub decreases-postfix : goal.decreases-postfix
 decreases-postfix l = 32 * l.left + 11
 
 abbrev pub decreases-unary : goal.decreases-unary
 decreases-unary l = 32 * l.left + 12
 
+abbrev pub decreases-product_from : goal.decreases-product_from
+decreases-product_from l = 32 * l.left + 13
+
 abbrev pub decreases-product : goal.decreases-product
-decreases-product l = 32 * l.left + 13
+decreases-product l = 32 * l.left + 14
+
+abbrev pub decreases-sum_from : goal.decreases-sum_from
+decreases-sum_from l = 32 * l.left + 15
+
+abbrev pub decreases-sums_from : goal.decreases-sums_from
+decreases-sums_from l = 32 * l.left + 16
 
 abbrev pub decreases-sum : goal.decreases-sum
-decreases-sum l = 32 * l.left + 14
+decreases-sum l = 32 * l.left + 17
+
+abbrev pub decreases-comparison_from : goal.decreases-comparison_from
+decreases-comparison_from l = 32 * l.left + 18
+
+abbrev pub decreases-comparisons_from : goal.decreases-comparisons_from
+decreases-comparisons_from l = 32 * l.left + 19
 
 abbrev pub decreases-comparison : goal.decreases-comparison
-decreases-comparison l = 32 * l.left + 15
+decreases-comparison l = 32 * l.left + 20
+
+abbrev pub decreases-conjunction_from : goal.decreases-conjunction_from
+decreases-conjunction_from l = 32 * l.left + 21
+
+abbrev pub decreases-conjunctions_from : goal.decreases-conjunctions_from
+decreases-conjunctions_from l = 32 * l.left + 22
 
 abbrev pub decreases-conjunction : goal.decreases-conjunction
-decreases-conjunction l = 32 * l.left + 16
+decreases-conjunction l = 32 * l.left + 23
+
+abbrev pub decreases-disjunction_from : goal.decreases-disjunction_from
+decreases-disjunction_from l = 32 * l.left + 24
+
+abbrev pub decreases-disjunctions_from : goal.decreases-disjunctions_from
+decreases-disjunctions_from l = 32 * l.left + 25
 
 abbrev pub decreases-disjunction : goal.decreases-disjunction
-decreases-disjunction l = 32 * l.left + 17
+decreases-disjunction l = 32 * l.left + 26
 
-abbrev pub invariant-disjunction-more : goal.invariant-disjunction-more
-invariant-disjunction-more l = record {
-  comes : Turns (operand_next or_operator (conjunction_at (within_at l.left))) (disjunction_at (within_at l.left) (plain l.fn.self.rest.now)) (tree_of l.disjunction) (plain l.self.rest.now);
-  shorter : length (plain l.self.rest.now) < length (plain l.fn.self.rest.now);
+abbrev pub invariant-disjunction_from-more : goal.invariant-disjunction_from-more
+invariant-disjunction_from-more l = record {
+  comes : Turns (operand_next or_operator (conjunction_at (within_at l.left))) (operands_from or_operator (conjunction_at (within_at l.left)) (tree_of l.fn.first) (plain l.fn.self.rest.now)) (tree_of l.disjunction) (plain l.self.rest.now);
+  shorter : length (plain l.self.rest.now) ≤ length (plain l.fn.self.rest.now);
 }
 
-abbrev pub decreases-disjunction-more : goal.decreases-disjunction-more
-decreases-disjunction-more l = length (plain l.self.rest.now)
+abbrev pub decreases-disjunction_from-more : goal.decreases-disjunction_from-more
+decreases-disjunction_from-more l = length (plain l.self.rest.now)
 
-abbrev pub invariant-conjunction-more : goal.invariant-conjunction-more
-invariant-conjunction-more l = record {
-  comes : Turns (operand_next and_operator (comparison_at (within_at l.left))) (conjunction_at (within_at l.left) (plain l.fn.self.rest.now)) (tree_of l.conjunction) (plain l.self.rest.now);
-  shorter : length (plain l.self.rest.now) < length (plain l.fn.self.rest.now);
+abbrev pub invariant-conjunction_from-more : goal.invariant-conjunction_from-more
+invariant-conjunction_from-more l = record {
+  comes : Turns (operand_next and_operator (comparison_at (within_at l.left))) (operands_from and_operator (comparison_at (within_at l.left)) (tree_of l.fn.first) (plain l.fn.self.rest.now)) (tree_of l.conjunction) (plain l.self.rest.now);
+  shorter : length (plain l.self.rest.now) ≤ length (plain l.fn.self.rest.now);
 }
 
-abbrev pub decreases-conjunction-more : goal.decreases-conjunction-more
-decreases-conjunction-more l = length (plain l.self.rest.now)
+abbrev pub decreases-conjunction_from-more : goal.decreases-conjunction_from-more
+decreases-conjunction_from-more l = length (plain l.self.rest.now)
 
-abbrev pub invariant-sum-more : goal.invariant-sum-more
-invariant-sum-more l = record {
-  comes : Turns (operand_next sum_operator (product_at (within_at l.left))) (sum_at (within_at l.left) (plain l.fn.self.rest.now)) (tree_of l.sum) (plain l.self.rest.now);
-  shorter : length (plain l.self.rest.now) < length (plain l.fn.self.rest.now);
+abbrev pub invariant-sum_from-more : goal.invariant-sum_from-more
+invariant-sum_from-more l = record {
+  comes : Turns (operand_next sum_operator (product_at (within_at l.left))) (operands_from sum_operator (product_at (within_at l.left)) (tree_of l.fn.first) (plain l.fn.self.rest.now)) (tree_of l.sum) (plain l.self.rest.now);
+  shorter : length (plain l.self.rest.now) ≤ length (plain l.fn.self.rest.now);
 }
 
-abbrev pub decreases-sum-more : goal.decreases-sum-more
-decreases-sum-more l = length (plain l.self.rest.now)
+abbrev pub decreases-sum_from-more : goal.decreases-sum_from-more
+decreases-sum_from-more l = length (plain l.self.rest.now)
 
-abbrev pub invariant-product-more : goal.invariant-product-more
-invariant-product-more l = record {
-  comes : Turns (operand_next product_operator (unary_at (within_at l.left))) (product_at (within_at l.left) (plain l.fn.self.rest.now)) (tree_of l.product) (plain l.self.rest.now);
-  shorter : length (plain l.self.rest.now) < length (plain l.fn.self.rest.now);
+abbrev pub invariant-product_from-more : goal.invariant-product_from-more
+invariant-product_from-more l = record {
+  comes : Turns (operand_next product_operator (unary_at (within_at l.left))) (operands_from product_operator (unary_at (within_at l.left)) (tree_of l.fn.first) (plain l.fn.self.rest.now)) (tree_of l.product) (plain l.self.rest.now);
+  shorter : length (plain l.self.rest.now) ≤ length (plain l.fn.self.rest.now);
 }
 
-abbrev pub decreases-product-more : goal.decreases-product-more
-decreases-product-more l = length (plain l.self.rest.now)
+abbrev pub decreases-product_from-more : goal.decreases-product_from-more
+decreases-product_from-more l = length (plain l.self.rest.now)
 
-abbrev pub invariant-postfix-more : goal.invariant-postfix-more
-invariant-postfix-more l = record {
-  comes : Turns (postfix_next (within_at l.left)) (postfix_at (within_at l.left) (plain l.fn.self.rest.now)) (tree_of l.postfix) (plain l.self.rest.now);
-  shorter : length (plain l.self.rest.now) < length (plain l.fn.self.rest.now);
+abbrev pub invariant-postfix_from-more : goal.invariant-postfix_from-more
+invariant-postfix_from-more l = record {
+  comes : Turns (postfix_next (within_at l.left)) (postfix_from (within_at l.left) (tree_of l.fn.first) (plain l.fn.self.rest.now)) (tree_of l.postfix) (plain l.self.rest.now);
+  shorter : length (plain l.self.rest.now) ≤ length (plain l.fn.self.rest.now);
 }
 
-abbrev pub decreases-postfix-more : goal.decreases-postfix-more
-decreases-postfix-more l = length (plain l.self.rest.now)
+abbrev pub decreases-postfix_from-more : goal.decreases-postfix_from-more
+decreases-postfix_from-more l = length (plain l.self.rest.now)
 
 abbrev pub invariant-items-more : goal.invariant-items-more
 invariant-items-more l = record {
