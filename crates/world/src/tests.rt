@@ -135,13 +135,11 @@ fn a_birth_is_entered(rt: HostRuntime) -> Result<(), Fail> {
     let alloc = rt.alloc();
     let mut world = World::new(alloc);
     let script = seven(alloc)?;
-    enter_birth(
-        alloc,
-        &mut world,
-        BIRTH,
-        &word(alloc, "a")?,
-        share_program(&script)?,
-    )?;
+    let name = word(alloc, "a")?;
+    let None = world.vat(&name) else {
+        return Err(Fail::from("a new world has a vat"));
+    };
+    enter_birth(alloc, &mut world, BIRTH, &name, share_program(&script)?)?;
     assert_eq!(rt; world.homes().len(), 1);
     assert_eq!(rt; world.messages().len(), 1);
     Ok(())
