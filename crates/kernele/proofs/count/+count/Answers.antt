@@ -45,7 +45,7 @@ pub nodes_left-returns-in_err-nodes_left_by_all-in-If : goal.nodes_left-returns-
 nodes_left-returns-in_err-nodes_left_by_all-in-If t c =
     let is = ap nodes (tree_is_if c.in-If.condition c.in-If.first c.in-If.second c.in-If.is c.deref-in-If.ensures c.deref-in-If-4.ensures c.deref-in-If-5.ensures.value c.deref-in-If-2.ensures c.deref-in-If-3.ensures.value) in
     rw c.from_residual-in_err-nodes_left_by_all-in-If.ensures
-      (λ h. c.in_err-nodes_left_by_all-in-If.ensures (omega (arith, h, is, c.in_ok-left.ensures.0, c.in_ok-left.ensures.1, c.in_ok-left-in-If.ensures.0, c.in_ok-left-in-If.ensures.1)))
+    (λ h. c.in_err-nodes_left_by_all-in-If.ensures (omega (arith, h, is, c.in_ok-left.ensures.0, c.in_ok-left.ensures.1, c.in_ok-left-in-If.ensures.0, c.in_ok-left-in-If.ensures.1)))
 
 pub nodes_left-returns-in_ok-nodes_left_by_all-in-If : goal.nodes_left-returns-in_ok-nodes_left_by_all-in-If
 nodes_left-returns-in_ok-nodes_left_by_all-in-If t c =
@@ -71,7 +71,7 @@ pub nodes_left-returns-in_err-nodes_left_by_all-in-Try : goal.nodes_left-returns
 nodes_left-returns-in_err-nodes_left_by_all-in-Try t c =
     let is = ap nodes (tree_is_try c.in-Try.body c.in-Try.field-1 c.in-Try.handler c.in-Try.is c.deref-in-Try-3.ensures c.deref-in-Try-4.ensures.value refl c.deref-in-Try.ensures c.deref-in-Try-2.ensures.value) in
     rw c.from_residual-in_err-nodes_left_by_all-in-Try.ensures
-      (λ h. c.in_err-nodes_left_by_all-in-Try.ensures (omega (arith, h, is, c.in_ok-left.ensures.0, c.in_ok-left.ensures.1)))
+    (λ h. c.in_err-nodes_left_by_all-in-Try.ensures (omega (arith, h, is, c.in_ok-left.ensures.0, c.in_ok-left.ensures.1)))
 
 pub nodes_left-returns-in_ok-nodes_left_by_all-in-Try : goal.nodes_left-returns-in_ok-nodes_left_by_all-in-Try
 nodes_left-returns-in_ok-nodes_left_by_all-in-Try t c =

@@ -1,4 +1,4 @@
-use Rattle.std.proofs.Common.{refl, ap, sym, ◌∙◌, is_some}
+use Rattle.std.proofs.Common.{ap, sym, ◌∙◌, is_some}
 use Rattle.kernele.proofs.Names.{puts}
 use Rattle.kernele.proofs.checking.Scopes.add.Goals as goal
 
