@@ -254,6 +254,8 @@ module _ (m : ℕ) (within : Within)
 
 -- so what is no longer than n is read
 mutual
+  unfolding within_at
+
   complete_expression : (n : ℕ) (a r : List Token) (t : Tree) → length a ≤ n → Disjunction a t r → Below 1 r → (within_at n).expression a ≡ Some (t, r)
   complete_expression zero a r t h x b = absurd (omega (arith, h, less_disjunction x))
   complete_expression (suc n) a r t h x b = complete_disjunction n (within_at n) (complete_expression n) (complete_conditional n) a r t h x b

@@ -507,6 +507,8 @@ module _ (within : Within)
   sound_disjunction = operands_sound or_operator (conjunction_at within) Disjunction Conjunction sound_conjunction (λ a r t p. disjunction_conjunction p) (λ a b r t u s o w e p. disjunction_more w e p)
 
 mutual
+  unfolding within_at
+
   sound_expression : (n : ℕ) (a : List Token) (x : Tree × List Token) → (within_at n).expression a ≡ Some x → Disjunction a x.0 x.1
   sound_expression zero a x e = absurd (none_some e)
   sound_expression (suc n) a x e = sound_disjunction (within_at n) (sound_expression n) (sound_conditional n) a x e

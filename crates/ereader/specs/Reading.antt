@@ -415,7 +415,7 @@ abbrev pub disjunctions_from : Within → Tree → List Token → Read Tree
 disjunctions_from within t a = conjunctions_from within t a >>= λ x. operands_from or_operator (conjunction_at within) x.0 x.1
 
 -- where fewer than n tokens have to be gone past
-abbrev pub within_at : ℕ → Within
+unfoldable pub within_at : ℕ → Within
 within_at zero = record { expression = λ a. None; conditional = λ a. None }
 within_at (suc n) = record { expression = disjunction_at (within_at n); conditional = if_at (within_at n) }
 
