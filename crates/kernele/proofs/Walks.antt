@@ -125,6 +125,13 @@ append_more all one law was xs i x h e appended = items_more (λ es. all (trees_
 pub append_end : {A : Type 0} (all : Trees → List A) → all none ≡ [] → {now whole : List A} (xs : List Expr) (i : ℕ) → length xs ≤ i → now ++ all (trees_of (drop i xs)) ≡ whole → now ≡ whole
 append_end all law xs i h invariant = items_end (λ es. all (trees_of es)) law xs i h invariant
 
+-- the same of methods
+pub methods_more : {A : Type 0} (all : Methods → List A) (one : Method → List A) → ((m : Method) (ms : Methods) → all (before m ms) ≡ one m ++ all ms) → (was : List A) {now : List A} (xs : List Method) (i : ℕ) (x : Method) → i < length xs → x ≡ get_or xs i x → now ≡ was ++ one x → now ++ all (methods_of (drop (i + 1) xs)) ≡ was ++ all (methods_of (drop i xs))
+methods_more all one law was xs i x h e appended = items_more (λ ms. all (methods_of ms)) one (λ m ms. law m (methods_of ms)) was xs i x h e appended
+
+pub methods_end : {A : Type 0} (all : Methods → List A) → all no_methods ≡ [] → {now whole : List A} (xs : List Method) (i : ℕ) → length xs ≤ i → now ++ all (methods_of (drop i xs)) ≡ whole → now ≡ whole
+methods_end all law xs i h invariant = items_end (λ ms. all (methods_of ms)) law xs i h invariant
+
 -- the braces of a block that has items
 pub braces : (es : List Expr) (empty : Bool) → empty ≡ (length es == 0) → empty ≡ false → in_braces (spelled_items (trees_of es)) ≡ codes "{ " ++ joined (codes "; ") (spelled_items (trees_of es)) ++ codes " }"
 braces [] empty same e = absurd (cc)
