@@ -27,11 +27,7 @@ pub fn captured_names(
 
 /// Adds the names that are free in an expression, where those inside are defined inside the object, and what it defines to those.
 #[cycle(free)]
-fn find_in(
-    e: &Expr,
-    inside: &mut Vec<TopName>,
-    found: &mut Vec<Text>,
-) -> Result<(), AllocError>
+fn find_in(e: &Expr, inside: &mut Vec<TopName>, found: &mut Vec<Text>) -> Result<(), AllocError>
     ensures inside { OnOk result (inside.new.items ≡ inside.old.items ++ own_names (tree_of e.now)) }
     ensures found { OnOk result (found.new.items ≡ with_all_new found.old.items (free (tree_of e.now) inside.old.items)) }
 {
@@ -206,11 +202,7 @@ fn find_in_method(
 }
 
 /// Adds a name where nothing inside the object has defined it and it was not found before.
-fn add_occurring(
-    name: &Text,
-    inside: &[TopName],
-    found: &mut Vec<Text>,
-) -> Result<(), AllocError>
+fn add_occurring(name: &Text, inside: &[TopName], found: &mut Vec<Text>) -> Result<(), AllocError>
     ensures { OnOk result (found.new.items ≡ with_all_new found.old.items (occurring name.now inside.now)) }
 {
     if defines(inside, name) || is_among(found, name) {

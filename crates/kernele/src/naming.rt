@@ -77,7 +77,10 @@ pub(crate) fn add_names(e: &Expr, names: &mut Vec<TopName>) -> Result<(), AllocE
     }
 }
 
-pub(crate) fn add_all_bound(patterns: &[Pattern], names: &mut Vec<TopName>) -> Result<(), AllocError>
+pub(crate) fn add_all_bound(
+    patterns: &[Pattern],
+    names: &mut Vec<TopName>,
+) -> Result<(), AllocError>
     ensures { OnOk result (names.new.items ≡ names.old.items ++ names_of_all patterns.now) }
 {
     for pattern in patterns {

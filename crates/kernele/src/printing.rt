@@ -167,11 +167,7 @@ fn write_throw(problem: &Expr, out: &mut String) -> Result<(), AllocError>
 }
 
 #[cycle(print)]
-fn write_object(
-    pattern: &Pattern,
-    methods: &[Method],
-    out: &mut String,
-) -> Result<(), AllocError>
+fn write_object(pattern: &Pattern, methods: &[Method], out: &mut String) -> Result<(), AllocError>
     ensures { OnOk result (string_bytes out.new ≡ string_bytes out.old ++ spelled (object_tree pattern.now (methods_of methods.now))) }
 {
     out.push_str("def ")?;
