@@ -11,9 +11,9 @@ ghost use Rattle.turn.specs.Rules.{noun_end as noun_end_of};
 ghost use Rattle.turn.specs.View.{at, bind_of, end_of, nouns_of, state_of};
 
 use crate::end::{Abandon, End, Halt};
-use crate::heap::Binding;
+use crate::heap::{Binding, Noun};
 use crate::wanted::mismatch;
-use crate::working::{Noun, Working};
+use crate::working::Working;
 use ids::names::SlotId;
 use ids::text::Text;
 use kernele::tree::Pattern;
