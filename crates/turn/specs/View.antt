@@ -25,6 +25,12 @@ use Rattle.turn.specs.declared.wanted.Choosing.{Choosing}
 use Rattle.turn.specs.declared.wanted.Choosing.TheVariants as code-choosing
 use Rattle.turn.specs.declared.wanted.Listing as code-list
 use Rattle.turn.specs.declared.wanted.Listing.TheVariants as code-listing
+use Rattle.turn.specs.declared.objects.Capture as code-capture
+use Rattle.turn.specs.declared.objects.Capture.TheVariants as code-captures
+use Rattle.turn.specs.declared.objects.Target as code-target
+use Rattle.turn.specs.declared.objects.Target.TheVariants as code-targets
+use Rattle.turn.specs.declared.calls.Callee as code-callee
+use Rattle.turn.specs.declared.calls.Callee.TheVariants as code-callees
 use Rattle.turn.specs.declared.heap.VatState.{VatState}
 use Rattle.turn.specs.declared.heap.Binding.{Binding}
 use Rattle.turn.specs.declared.heap.Binding.TheVariants as binding
@@ -126,3 +132,18 @@ choice_view (code-choosing.Ends e) = ends (end_of e)
 abbrev pub listing_view : code-list.Listing → Listing
 listing_view (code-listing.Listed items) = listed (vals_of items.value.items)
 listing_view (code-listing.Ends e) = unlisted (end_of e)
+
+-- what an object captures
+abbrev pub capture_view : code-capture.Capture → Capture
+capture_view (code-captures.Captured nouns) = captured (nouns_of nouns.items)
+capture_view (code-captures.Missing x) = missing x
+
+-- what a call is made on, and what it leads to
+abbrev pub callee_view : code-callee.Callee → Callee
+callee_view (code-callees.Object i) = on_object i
+callee_view (code-callees.Ejector j) = on_ejector j
+callee_view code-callees.Datum = on_datum
+
+abbrev pub target_view : code-target.Target → Target
+target_view (code-targets.Gives e) = gives (end_of e)
+target_view (code-targets.Enters nouns body) = enters (nouns_of nouns.items) (trees_of body.value.items)
