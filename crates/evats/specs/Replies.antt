@@ -9,7 +9,7 @@ use Rattle.ids.specs.declared.names.VatNo.{VatNo}
 use Rattle.kernele.specs.Tree.{Trees}
 use Rattle.kernele.specs.Scope as scope
 use Rattle.values.specs.Shown as values
-use Rattle.turn.specs.Outcomes.{End, value, halt, thrown, abandoned, reason}
+use Rattle.turn.specs.Outcomes.{End, value, halt, thrown, ejected, abandoned, reason}
 use Rattle.ereader.specs.Texts.{ReadAs}
 use Rattle.ereader.specs.Shown as reading
 use Rattle.ereader.specs.declared.fault.ReadFault.{ReadFault}
@@ -56,10 +56,11 @@ refusal_text (unchecked fault) = check_text fault
 abbrev pub queued_text : EventName → List ℕ
 queued_text e = codes "ok " ++ (event_text e ++ (codes " " ++ (message_text (first_message e) ++ 10 ∷ [])))
 
--- how a turn ended
+-- how a turn ended; none ends with a value on its way to an Escape, whose ejector would be spent
 abbrev pub end_text : End → List ℕ
 end_text (value v) = codes "value " ++ values.shown v
 end_text (halt (thrown problem)) = codes "problem " ++ quoted problem
+end_text (halt (ejected j v)) = codes "problem " ++ quoted (codes "ejector is spent")
 end_text (halt (abandoned why)) = codes "abandoned " ++ quoted (reason why)
 
 -- ok EVENT value V, or problem T, or abandoned T

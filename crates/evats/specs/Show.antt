@@ -5,17 +5,20 @@ use Rattle.std.specs.Cmp.Lexicographic.{slice_cmp}
 use Rattle.std.specs.declared.cmp.Ordering.{Ordering}
 use Rattle.std.specs.List.Sorted.{IsStrictlySortedBy}
 use Rattle.std.specs.Map.{lookup}
-use Rattle.ids.specs.Names.{event_text, message_text, promise_text, slot_text}
-use Rattle.ids.specs.Cells.{vat_cmp, message_cmp, promise_cmp, slot_cmp}
+use Rattle.ids.specs.Names.{event_text, message_text, promise_text, slot_text, object_text}
+use Rattle.ids.specs.Cells.{vat_cmp, message_cmp, promise_cmp, slot_cmp, object_cmp}
 use Rattle.ids.specs.declared.names.VatNo.{VatNo}
 use Rattle.ids.specs.declared.names.MsgId.{MsgId}
 use Rattle.ids.specs.declared.names.PromId.{PromId}
 use Rattle.ids.specs.declared.names.SlotId.{SlotId}
+use Rattle.ids.specs.declared.names.ObjId.{ObjId}
 use Rattle.ids.specs.declared.names.CellKey.TheVariants as key
 use Rattle.kernele.specs.Tree.{Name}
+use Rattle.kernele.specs.declared.tree.Pattern.{Pattern}
+use Rattle.kernele.specs.declared.tree.Pattern.TheVariants as pattern
 use Rattle.values.specs.Shown.{shown}
 use Rattle.turn.specs.State as state
-use Rattle.turn.specs.State.{State, top, slot_cell, bound, fixed, slot, held}
+use Rattle.turn.specs.State.{State, top, slot_cell, object_cell, bound, fixed, slot, held, made}
 use Rattle.world.specs.World.{Place, at_vat, done, Content, home, message, published, World}
 
 -- xs has the contents of a finite map with their keys, in the order of the keys
@@ -26,11 +29,17 @@ pub record Lists {K V : Type 0} (cmp : K → K → Ordering) (at : K → Option 
 abbrev pub line_feed : List ℕ
 line_feed = 10 ∷ []
 
--- VALUE, or slot SLOT
+-- NAME, or _
+abbrev pub pattern_text : Pattern → List ℕ
+pattern_text (pattern.Name x) = x
+pattern_text pattern.Ignore = codes "_"
+
+-- VALUE, or slot SLOT, or what an object was bound to
 abbrev pub content_text : state.Content → List ℕ
 content_text (bound (fixed v)) = shown v
 content_text (bound (slot s)) = codes "slot " ++ slot_text s
 content_text (held v) = shown v
+content_text (made o) = pattern_text o.own
 
 --  noun NAME = VALUE, or noun NAME = slot SLOT
 abbrev pub noun_line : Name × state.Content → List ℕ
@@ -48,6 +57,14 @@ abbrev pub slot_lines : List (SlotId × state.Content) → List ℕ
 slot_lines [] = []
 slot_lines (e ∷ es) = slot_line e ++ slot_lines es
 
+--  object OBJ NAME, or object OBJ _
+abbrev pub object_line : ObjId × state.Content → List ℕ
+object_line e = codes " object " ++ (object_text e.0 ++ (codes " " ++ (content_text e.1 ++ line_feed)))
+
+abbrev pub object_lines : List (ObjId × state.Content) → List ℕ
+object_lines [] = []
+object_lines (e ∷ es) = object_line e ++ object_lines es
+
 -- the top nouns of a vat, in order of bytes
 abbrev pub Nouns : State → List (Name × state.Content) → Type 0
 Nouns s es = Lists (slice_cmp nat_cmp) (λ x. s (top x)) es
@@ -56,15 +73,20 @@ Nouns s es = Lists (slice_cmp nat_cmp) (λ x. s (top x)) es
 abbrev pub Slots : State → List (SlotId × state.Content) → Type 0
 Slots s es = Lists slot_cmp (λ i. s (slot_cell i)) es
 
+-- the objects of a vat, in order of their names
+abbrev pub Objects : State → List (ObjId × state.Content) → Type 0
+Objects s es = Lists object_cmp (λ i. s (object_cell i)) es
+
 -- vat NAME EVENT
 abbrev pub vat_line : VatNo → Name → List ℕ
 vat_line v x = codes "vat " ++ (x ++ (codes " " ++ (event_text v.0 ++ line_feed)))
 
--- the lines of vats: each its own, then those of its nouns and of its slots
+-- the lines of vats: each its own, then those of its nouns, of its slots and of its objects
 pub data HomeLines : List (VatNo × Content) → List ℕ → Type 0 where
   home_lines_none : HomeLines [] []
-  home_lines_more : {v : VatNo} {x : Name} {s : State} {nouns : List (Name × state.Content)} {slots : List (SlotId × state.Content)} {hs : List (VatNo × Content)} {lines : List ℕ}
-      → Nouns s nouns → Slots s slots → HomeLines hs lines → HomeLines ((v, home x s) ∷ hs) (vat_line v x ++ (noun_lines nouns ++ (slot_lines slots ++ lines)))
+  home_lines_more : {v : VatNo} {x : Name} {s : State} {nouns : List (Name × state.Content)} {slots : List (SlotId × state.Content)} {objects : List (ObjId × state.Content)} {hs : List (VatNo × Content)} {lines : List ℕ}
+      → Nouns s nouns → Slots s slots → Objects s objects → HomeLines hs lines
+      → HomeLines ((v, home x s) ∷ hs) (vat_line v x ++ (noun_lines nouns ++ (slot_lines slots ++ (object_lines objects ++ lines))))
 
 abbrev pub at_text : Option Content → List ℕ
 at_text (Some (home x s)) = codes " at " ++ x

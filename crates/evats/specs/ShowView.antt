@@ -4,15 +4,17 @@ use Rattle.std.specs.BTreeMap.{BTreeMap}
 use Rattle.kernele.specs.Tree.{Name}
 use Rattle.values.specs.View.{val_of}
 use Rattle.values.specs.declared.value.Value.{Value}
-use Rattle.turn.specs.View.{bind_of, state_of}
+use Rattle.turn.specs.View.{bind_of, object_of, state_of}
 use Rattle.turn.specs.declared.heap.Binding.{Binding}
-use Rattle.evats.specs.Show.{Nouns, Slots, noun_lines, slot_lines, vat_line, HomeLines}
+use Rattle.turn.specs.declared.heap.Made.{Made}
+use Rattle.evats.specs.Show.{Nouns, Slots, Objects, noun_lines, slot_lines, object_lines, vat_line, HomeLines}
 use Rattle.turn.specs.State as state
-use Rattle.turn.specs.State.{bound, held}
+use Rattle.turn.specs.State.{bound, held, made}
 use Rattle.ids.specs.declared.names.VatNo.{VatNo}
 use Rattle.ids.specs.declared.names.MsgId.{MsgId}
 use Rattle.ids.specs.declared.names.PromId.{PromId}
 use Rattle.ids.specs.declared.names.SlotId.{SlotId}
+use Rattle.ids.specs.declared.names.ObjId.{ObjId}
 use Rattle.world.specs.World.{Content, message, published}
 use Rattle.world.specs.View.{home_of, message_of}
 use Rattle.world.specs.declared.world.Home.{Home}
@@ -27,6 +29,9 @@ noun_entries es = entries_as (λ b. bound (bind_of b)) es
 
 abbrev pub slot_entries : List (SlotId × Value) → List (SlotId × state.Content)
 slot_entries es = entries_as (λ v. held (val_of v)) es
+
+abbrev pub object_entries : List (ObjId × Made) → List (ObjId × state.Content)
+object_entries es = entries_as (λ m. made (object_of m)) es
 
 abbrev pub home_entries : List (VatNo × Home) → List (VatNo × Content)
 home_entries es = entries_as home_of es
@@ -43,6 +48,9 @@ nouns_in m = noun_entries m.entries
 abbrev pub slots_in : BTreeMap SlotId Value → List (SlotId × state.Content)
 slots_in m = slot_entries m.entries
 
+abbrev pub objects_in : BTreeMap ObjId Made → List (ObjId × state.Content)
+objects_in m = object_entries m.entries
+
 abbrev pub homes_in : BTreeMap VatNo Home → List (VatNo × Content)
 homes_in m = home_entries m.entries
 
@@ -52,13 +60,15 @@ messages_in m = message_entries m.entries
 abbrev pub board_in : BTreeMap PromId Value → List (PromId × Content)
 board_in m = board_entries m.entries
 
--- behind the text before stands now the line of this vat, and those of its nouns and slots
+-- behind the text before stands now the line of this vat, and those of its nouns, slots and objects
 pub record HomeWritten (v : VatNo) (h : Home) (before now : List ℕ) : Type 0 where
   pub nouns : List (Name × state.Content)
   pub slots : List (SlotId × state.Content)
+  pub objects : List (ObjId × state.Content)
   pub nouns_listed : Nouns (state_of h.state) nouns
   pub slots_listed : Slots (state_of h.state) slots
-  pub whole : now ≡ before ++ (vat_line v h.name ++ (noun_lines nouns ++ slot_lines slots))
+  pub objects_listed : Objects (state_of h.state) objects
+  pub whole : now ≡ before ++ (vat_line v h.name ++ (noun_lines nouns ++ (slot_lines slots ++ object_lines objects)))
 
 -- behind the text before stand now the lines of these vats
 abbrev pub HomesWritten : List (VatNo × Content) → List ℕ → List ℕ → Type 0

@@ -15,6 +15,8 @@ mod show;
 mod tests;
 #[cfg(test)]
 mod tests_of_control;
+#[cfg(test)]
+mod tests_of_objects;
 mod words;
 
 pub use ended::{Ended, status};

@@ -1,10 +1,10 @@
 // The world as a text.
 ghost use Rattle.std.specs.Prelude.{◌≡◌, ◌++◌, OnOk, string_bytes, List, ℕ, codes, [], ◌∷◌};
 ghost use Rattle.values.specs.Shown.{shown};
-ghost use Rattle.ids.specs.Cells.{vat_cmp, message_cmp, promise_cmp, slot_cmp};
+ghost use Rattle.ids.specs.Cells.{vat_cmp, message_cmp, promise_cmp, slot_cmp, object_cmp};
 ghost use Rattle.ids.specs.declared.names.CellKey.TheVariants as key;
-ghost use Rattle.turn.specs.View.{bind_of, tops_of, slots_of};
-ghost use Rattle.turn.specs.State.{bound, held};
+ghost use Rattle.turn.specs.View.{bind_of, object_of, tops_of, slots_of, objects_of};
+ghost use Rattle.turn.specs.State.{bound, held, made};
 ghost use Rattle.std.specs.Ordering.{nat_cmp};
 ghost use Rattle.std.specs.Cmp.Lexicographic.{slice_cmp};
 ghost use Rattle.values.specs.View.{val_of};
@@ -12,14 +12,15 @@ ghost use Rattle.std.specs.Option.{option_map};
 ghost use Rattle.std.specs.BTreeMap.{get};
 ghost use Rattle.world.specs.World.{message as message_content, published};
 ghost use Rattle.world.specs.View.{world_of, place_of, message_of, home_of};
-ghost use Rattle.evats.specs.Show.{content_text, noun_line, noun_lines, slot_line, slot_lines, vat_line, place_text, message_line, message_lines, board_line, board_lines, Lists, Shows};
-ghost use Rattle.evats.specs.ShowView.{nouns_in, slots_in, homes_in, messages_in, board_in, HomeWritten, HomesWritten};
+ghost use Rattle.evats.specs.Show.{pattern_text, content_text, noun_line, noun_lines, slot_line, slot_lines, object_line, object_lines, vat_line, place_text, message_line, message_lines, board_line, board_lines, Lists, Shows};
+ghost use Rattle.evats.specs.ShowView.{nouns_in, slots_in, objects_in, homes_in, messages_in, board_in, HomeWritten, HomesWritten};
 
-use ids::names::{MsgId, PromId, SlotId, VatNo};
+use ids::names::{MsgId, ObjId, PromId, SlotId, VatNo};
 use ids::text::Text;
+use kernele::tree::Pattern;
 use std::alloc::AllocError;
 use std::collections::BTreeMap;
-use turn::heap::Binding;
+use turn::heap::{Binding, Made};
 use values::showing::write_value;
 use values::value::Value;
 use world::world::{Home, Message, Place, World};
@@ -71,6 +72,34 @@ fn write_slots(slots: &BTreeMap<SlotId, Value>, out: &mut String) -> Result<(), 
     Ok(())
 }
 
+fn write_pattern(pattern: &Pattern, out: &mut String) -> Result<(), AllocError>
+    ensures { OnOk result (string_bytes out.new ≡ string_bytes out.old ++ pattern_text pattern.now) }
+{
+    match pattern {
+        Pattern::Name(name) => out.push_str(name.as_str()),
+        Pattern::Ignore => out.push_str("_"),
+    }
+}
+
+fn write_object(name: ObjId, object: &Made, out: &mut String) -> Result<(), AllocError>
+    ensures { OnOk result (string_bytes out.new ≡ string_bytes out.old ++ object_line (name, made (object_of object.now))) }
+{
+    write!(out, " object {name} ")?;
+    write_pattern(&object.own, out)?;
+    out.push_str("\n")
+}
+
+/// Writes objects in order of their names.
+fn write_objects(objects: &BTreeMap<ObjId, Made>, out: &mut String) -> Result<(), AllocError>
+    ensures written { OnOk result (string_bytes out.new ≡ string_bytes out.old ++ object_lines (objects_in objects.now)) }
+    ensures listed { OnOk result (Lists object_cmp (objects_of objects.now) (objects_in objects.now)) }
+{
+    for (name, object) in objects.iter() {
+        write_object(*name, object, out)?;
+    }
+    Ok(())
+}
+
 fn write_vat(number: VatNo, name: &Text, out: &mut String) -> Result<(), AllocError>
     ensures { OnOk result (string_bytes out.new ≡ string_bytes out.old ++ vat_line number name.now) }
 {
@@ -78,17 +107,18 @@ fn write_vat(number: VatNo, name: &Text, out: &mut String) -> Result<(), AllocEr
     write!(out, "vat {name} {event}\n")
 }
 
-/// Writes a vat, its top nouns and its slots.
+/// Writes a vat, its top nouns, its slots and its objects.
 fn write_home(number: VatNo, home: &Home, out: &mut String) -> Result<(), AllocError>
     ensures { OnOk result (HomeWritten number home.now (string_bytes out.old) (string_bytes out.new)) }
 {
     write_vat(number, &home.name, out)?;
     write_nouns(home.state.nouns(), out)?;
     write_slots(home.state.slots(), out)?;
+    write_objects(home.state.objects(), out)?;
     Ok(())
 }
 
-/// Writes the vats in order of birth, each with its top nouns and slots.
+/// Writes the vats in order of birth, each with its top nouns, slots and objects.
 fn write_homes(homes: &BTreeMap<VatNo, Home>, out: &mut String) -> Result<(), AllocError>
     ensures written { OnOk result (HomesWritten (homes_in homes.now) (string_bytes out.old) (string_bytes out.new)) }
     ensures listed { OnOk result (Lists vat_cmp (λ v. option_map home_of (get vat_cmp homes.now v)) (homes_in homes.now)) }

@@ -14,7 +14,13 @@ pub fn limits(budget: u32) -> Limits {
 }
 
 /// Runs commands and compares the replies, and whether one is a refusal.
-fn expect(rt: &(impl Abort + AllocGlobal), budget: u32, input: &[u8], wanted: &str, refused: bool) {
+pub fn expect(
+    rt: &(impl Abort + AllocGlobal),
+    budget: u32,
+    input: &[u8],
+    wanted: &str,
+    refused: bool,
+) {
     match replies(rt.alloc(), input, limits(budget)) {
         Ok((written, summary)) => {
             assert_eq!(rt; str::from_utf8(&written), Ok(wanted));

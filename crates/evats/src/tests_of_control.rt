@@ -119,9 +119,6 @@ fn refused_blocks(rt: HostRuntime) -> Result<(), Fail> {
         ("for 1 in [] { }", "no L5 Unexpected 4"),
         ("throw 1", "no L5 Unexpected 6"),
         ("{ 1", "no L5 Unexpected 3"),
-        ("def f { }", "no L5 Unexpected 6"),
-        ("escape k { }", "no L5 Unexpected 0"),
-        ("return", "no L5 Unexpected 0"),
     ];
     for (text, wanted) in rows {
         expect_asked(&rt, text, wanted, true)?;

@@ -6,9 +6,11 @@ use Rattle.std.specs.Cmp.Lexicographic.{slice_cmp}
 use Rattle.std.specs.declared.cmp.Ordering.{Ordering}
 use Rattle.std.specs.declared.cmp.Ordering.TheVariants.{Less, Equal, Greater}
 use Rattle.std.proofs.lemmas.Map.Lookups.{CmpEqualImpliesEq, exact_pairs, exact_unsigned, exact_bytes}
+use Rattle.ids.specs.declared.names.ObjId.{ObjId}
+use Rattle.ids.specs.declared.names.EjId.{EjId}
 use Rattle.ids.specs.declared.names.CellKey.{CellKey}
 use Rattle.ids.specs.declared.names.CellKey.TheVariants as key
-use Rattle.ids.specs.Cells.{vat_cmp, message_cmp, promise_cmp, same_key}
+use Rattle.ids.specs.Cells.{vat_cmp, message_cmp, promise_cmp, object_cmp, ejector_cmp, same_key}
 
 equal : (o : Ordering) → is_eq o ≡ true → o ≡ Equal
 equal Less h = cc
@@ -30,6 +32,18 @@ unfolding pair_cmp
 exact_promises p q h =
     ap (λ (x : ℕ × (ℕ × ℕ)). record { event = record { 0 = x.0 }; index = x.1.0; home = record { 0 = record { 0 = x.1.1 } } })
     (exact_pairs nat_cmp pair_cmp exact_unsigned (exact_pairs nat_cmp nat_cmp exact_unsigned exact_unsigned) (p.event.0, (p.index, p.home.0.0)) (q.event.0, (q.index, q.home.0.0)) h)
+
+pub exact_objects : CmpEqualImpliesEq object_cmp
+unfolding pair_cmp
+exact_objects o p h =
+    ap (λ (x : ℕ × (ℕ × ℕ)). record { event = record { 0 = x.0 }; index = x.1.0; vat = record { 0 = record { 0 = x.1.1 } } })
+    (exact_pairs nat_cmp pair_cmp exact_unsigned (exact_pairs nat_cmp nat_cmp exact_unsigned exact_unsigned) (o.event.0, (o.index, o.vat.0.0)) (p.event.0, (p.index, p.vat.0.0)) h)
+
+pub exact_ejectors : CmpEqualImpliesEq ejector_cmp
+unfolding pair_cmp
+exact_ejectors j k h =
+    ap (λ (x : ℕ × (ℕ × ℕ)). record { event = record { 0 = x.0 }; index = x.1.0; vat = record { 0 = record { 0 = x.1.1 } } })
+    (exact_pairs nat_cmp pair_cmp exact_unsigned (exact_pairs nat_cmp nat_cmp exact_unsigned exact_unsigned) (j.event.0, (j.index, j.vat.0.0)) (k.event.0, (k.index, k.vat.0.0)) h)
 
 -- keys that are the same are equal
 pub same_key_exact : (k d : CellKey) → same_key k d ≡ true → k ≡ d
@@ -63,3 +77,19 @@ same_key_self (key.Name x) = ap is_eq (bytes_self x)
 same_key_self (key.State v) = ap is_eq (equal_self v.0.0)
 same_key_self (key.Msg m) = ap is_eq (ap (λ o. ordering_then o (nat_cmp m.index m.index)) (equal_self m.event.0) ∙ equal_self m.index)
 same_key_self (key.Board p) = ap is_eq (ap (λ o. ordering_then o (ordering_then (nat_cmp p.index p.index) (vat_cmp p.home p.home))) (equal_self p.event.0) ∙ ap (λ o. ordering_then o (vat_cmp p.home p.home)) (equal_self p.index) ∙ equal_self p.home.0.0)
+
+-- an object has the name of itself
+pub object_self : (o : ObjId) → is_eq (object_cmp o o) ≡ true
+object_self o = ap is_eq (ap (λ c. ordering_then c (ordering_then (nat_cmp o.index o.index) (vat_cmp o.vat o.vat))) (equal_self o.event.0) ∙ ap (λ c. ordering_then c (vat_cmp o.vat o.vat)) (equal_self o.index) ∙ equal_self o.vat.0.0)
+
+-- objects of one name are one
+pub object_equal : (o p : ObjId) → is_eq (object_cmp o p) ≡ true → o ≡ p
+object_equal o p h = exact_objects o p (equal (object_cmp o p) h)
+
+-- an ejector has the name of itself
+pub ejector_self : (j : EjId) → is_eq (ejector_cmp j j) ≡ true
+ejector_self j = ap is_eq (ap (λ c. ordering_then c (ordering_then (nat_cmp j.index j.index) (vat_cmp j.vat j.vat))) (equal_self j.event.0) ∙ ap (λ c. ordering_then c (vat_cmp j.vat j.vat)) (equal_self j.index) ∙ equal_self j.vat.0.0)
+
+-- ejectors of one name are one
+pub ejector_equal : (j k : EjId) → is_eq (ejector_cmp j k) ≡ true → j ≡ k
+ejector_equal j k h = exact_ejectors j k (equal (ejector_cmp j k) h)

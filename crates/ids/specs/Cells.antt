@@ -7,6 +7,8 @@ use Rattle.ids.specs.declared.names.VatNo.{VatNo}
 use Rattle.ids.specs.declared.names.MsgId.{MsgId}
 use Rattle.ids.specs.declared.names.PromId.{PromId}
 use Rattle.ids.specs.declared.names.SlotId.{SlotId}
+use Rattle.ids.specs.declared.names.ObjId.{ObjId}
+use Rattle.ids.specs.declared.names.EjId.{EjId}
 use Rattle.ids.specs.declared.names.CellKey.{CellKey}
 use Rattle.ids.specs.declared.names.CellKey.TheVariants as key
 
@@ -25,6 +27,14 @@ promise_cmp p q = ordering_then (nat_cmp p.event.0 q.event.0) (ordering_then (na
 -- by event, then by number, then by vat
 abbrev pub slot_cmp : SlotId → SlotId → Ordering
 slot_cmp s t = ordering_then (nat_cmp s.event.0 t.event.0) (ordering_then (nat_cmp s.index t.index) (vat_cmp s.vat t.vat))
+
+-- by event, then by number, then by vat
+abbrev pub object_cmp : ObjId → ObjId → Ordering
+object_cmp o p = ordering_then (nat_cmp o.event.0 p.event.0) (ordering_then (nat_cmp o.index p.index) (vat_cmp o.vat p.vat))
+
+-- by event, then by number, then by vat
+abbrev pub ejector_cmp : EjId → EjId → Ordering
+ejector_cmp j k = ordering_then (nat_cmp j.event.0 k.event.0) (ordering_then (nat_cmp j.index k.index) (vat_cmp j.vat k.vat))
 
 abbrev pub same_key : CellKey → CellKey → Bool
 same_key (key.Name x) (key.Name y) = is_eq (slice_cmp nat_cmp x y)

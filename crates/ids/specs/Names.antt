@@ -5,6 +5,8 @@ use Rattle.ids.specs.declared.names.EventName.{EventName}
 use Rattle.ids.specs.declared.names.MsgId.{MsgId}
 use Rattle.ids.specs.declared.names.PromId.{PromId}
 use Rattle.ids.specs.declared.names.SlotId.{SlotId}
+use Rattle.ids.specs.declared.names.ObjId.{ObjId}
+use Rattle.ids.specs.declared.names.EjId.{EjId}
 
 -- e4
 abbrev pub event_text : EventName → List ℕ
@@ -21,3 +23,11 @@ promise_text p = event_text p.event ++ codes ".p" ++ decimal p.index
 -- e2.s0
 abbrev pub slot_text : SlotId → List ℕ
 slot_text s = event_text s.event ++ codes ".s" ++ decimal s.index
+
+-- e2.o0
+abbrev pub object_text : ObjId → List ℕ
+object_text o = event_text o.event ++ codes ".o" ++ decimal o.index
+
+-- e2.j0
+abbrev pub ejector_text : EjId → List ℕ
+ejector_text j = event_text j.event ++ codes ".j" ++ decimal j.index

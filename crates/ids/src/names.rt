@@ -1,6 +1,6 @@
 // Names of events and of what they make.
 ghost use Rattle.std.specs.Prelude.{Some};
-ghost use Rattle.ids.specs.Names.{event_text, message_text, promise_text, slot_text};
+ghost use Rattle.ids.specs.Names.{event_text, message_text, promise_text, slot_text, object_text, ejector_text};
 
 use crate::text::Text;
 use std::fmt;
@@ -31,6 +31,22 @@ pub struct PromId {
 /// A variable's slot: the event that made it, its number among that event's slots, from 0, and its vat.
 #[derive(Clone, Copy, Debug, PartialEq, Eq, PartialOrd, Ord, Hash)]
 pub struct SlotId {
+    pub event: EventName,
+    pub index: u32,
+    pub vat: VatNo,
+}
+
+/// An object: the event that made it, its number among that event's objects, from 0, and its vat.
+#[derive(Clone, Copy, Debug, PartialEq, Eq, PartialOrd, Ord, Hash)]
+pub struct ObjId {
+    pub event: EventName,
+    pub index: u32,
+    pub vat: VatNo,
+}
+
+/// An ejector: the event that made it, its number among that event's ejectors, from 0, and its vat.
+#[derive(Clone, Copy, Debug, PartialEq, Eq, PartialOrd, Ord, Hash)]
+pub struct EjId {
     pub event: EventName,
     pub index: u32,
     pub vat: VatNo,
@@ -77,5 +93,21 @@ impl fmt::Display for SlotId {
 
     fn fmt<W: fmt::Write>(&self, f: &mut fmt::Formatter<W>) -> fmt::Result {
         write!(f, "{}.s{}", self.event, self.index)
+    }
+}
+
+impl fmt::Display for ObjId {
+    ghost output = { λ o. Some (object_text o) };
+
+    fn fmt<W: fmt::Write>(&self, f: &mut fmt::Formatter<W>) -> fmt::Result {
+        write!(f, "{}.o{}", self.event, self.index)
+    }
+}
+
+impl fmt::Display for EjId {
+    ghost output = { λ j. Some (ejector_text j) };
+
+    fn fmt<W: fmt::Write>(&self, f: &mut fmt::Formatter<W>) -> fmt::Result {
+        write!(f, "{}.j{}", self.event, self.index)
     }
 }

@@ -1,6 +1,6 @@
 // What names and texts are written as.
 
-use crate::names::{EventName, MsgId, PromId, SlotId, VatNo};
+use crate::names::{EjId, EventName, MsgId, ObjId, PromId, SlotId, VatNo};
 use crate::quote::write_quoted;
 use crate::text::Text;
 use std::test::Fail;
@@ -29,6 +29,23 @@ fn names(rt: HostRuntime) -> Result<(), Fail> {
     };
     let text = format!(in rt.alloc(); "{event} {message} {promise} {slot}")?;
     assert_eq!(rt; text.as_str(), "e8 e8.m1 e8.p0 e8.s12");
+    Ok(())
+}
+
+#[test]
+fn names_of_objects(rt: HostRuntime) -> Result<(), Fail> {
+    let object = ObjId {
+        event: EventName(2),
+        index: 0,
+        vat: VatNo(EventName(1)),
+    };
+    let ejector = EjId {
+        event: EventName(2),
+        index: 10,
+        vat: VatNo(EventName(1)),
+    };
+    let text = format!(in rt.alloc(); "{object} {ejector}")?;
+    assert_eq!(rt; text.as_str(), "e2.o0 e2.j10");
     Ok(())
 }
 

@@ -15,7 +15,7 @@ use Rattle.turn.specs.declared.delivery.Ended.{Ended}
 use Rattle.turn.specs.declared.delivery.Ended.TheVariants as ended
 use Rattle.turn.specs.declared.end.Abandon.{Abandon}
 use Rattle.values.specs.declared.value.Value.{Value}
-use Rattle.turn.specs.declared.working.Noun.{Noun}
+use Rattle.turn.specs.declared.heap.Noun.{Noun}
 use Rattle.turn.specs.declared.delivery.Delivery as code
 use Rattle.turn.specs.declared.delivery.Delivery.TheVariants as delivery
 use Rattle.turn.specs.declared.delivery.Outcome as code-outcome

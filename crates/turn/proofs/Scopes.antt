@@ -11,7 +11,7 @@ use Rattle.turn.specs.State.{Bind, slot, Nouns, lookup, top, slot_cell, bound, h
 use Rattle.turn.specs.Outcomes.{value}
 use Rattle.turn.specs.Rules.{binding, bound_in, next_slot, slot_made, with_slot, made, declared, assigned}
 use Rattle.turn.specs.View.{bind_of, nouns_of, nouns_after}
-use Rattle.turn.specs.declared.working.Noun.{Noun}
+use Rattle.turn.specs.declared.heap.Noun.{Noun}
 
 nouns_after-append : (ns : Nouns) (xs ys : List Noun) → nouns_after ns (xs ++ ys) ≡ nouns_after (nouns_after ns xs) ys
 nouns_after-append ns [] ys = refl

@@ -15,7 +15,7 @@ use Rattle.turn.specs.Rules.{parts_of, parts_bound, parts_end, run_define_list, 
 use Rattle.turn.specs.View.{at, end_of, gather_of, nouns_of}
 use Rattle.turn.proofs.Scopes.{truncated}
 use Rattle.turn.proofs.Grown.{Grown, items_grow, taken_grow}
-use Rattle.turn.specs.declared.working.Noun.{Noun}
+use Rattle.turn.specs.declared.heap.Noun.{Noun}
 use Rattle.turn.specs.declared.working.Working.{Working}
 use Rattle.kernele.specs.declared.tree.Pattern.{Pattern}
 use Rattle.turn.specs.declared.end.End as code

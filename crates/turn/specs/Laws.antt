@@ -1,12 +1,14 @@
 -- The laws of evaluation and of turns.
-use Rattle.std.specs.Prelude.{◌≡◌, ℕ, ◌≤◌, ◌++◌}
+use Rattle.std.specs.Prelude.{◌≡◌, ℕ, ◌≤◌, ◌++◌, Bool, true}
 use Rattle.ids.specs.declared.names.EventName.{EventName}
 use Rattle.ids.specs.declared.names.VatNo.{VatNo}
-use Rattle.kernele.specs.Tree.{Tree}
+use Rattle.ids.specs.declared.names.EjId.{EjId}
+use Rattle.kernele.specs.Tree.{Tree, Trees}
+use Rattle.values.specs.Data.{Val, null}
 use Rattle.turn.specs.State.{Nouns, Cell, State, At}
-use Rattle.turn.specs.Outcomes.{End}
-use Rattle.turn.specs.Rules.{Ends}
-use Rattle.turn.specs.Turn.{Delivery, Outcome, Delivers}
+use Rattle.turn.specs.Outcomes.{End, ejected, halt}
+use Rattle.turn.specs.Rules.{Ends, Items, is_open}
+use Rattle.turn.specs.Turn.{Delivery, Outcome, Delivers, start}
 use Rattle.turn.specs.Touched.{ends_touched, delivery_touched, Agree, NotPut, in_state}
 
 -- a tree has at most one outcome: one end, one state, the same names and steps left
@@ -47,3 +49,11 @@ WithinBudget = (d : Delivery) (e : EventName) (v : VatNo) (s : State) (n : ℕ) 
 -- a tree takes no name from the scopes and puts none behind another: it only adds newer ones
 abbrev pub NamesAreOnlyAdded : Type 0
 NamesAreOnlyAdded = (k : ℕ) (t : Tree) (a b : At) (o : End) → Ends k t a o b → (more : Nouns) × (b.nouns ≡ more ++ a.nouns)
+
+-- a value on its way to an Escape leaves a tree only where that Escape is being evaluated around the tree
+abbrev pub EjectionsAreOpen : Type 0
+EjectionsAreOpen = (k : ℕ) (t : Tree) (a b : At) (j : EjId) (v : Val) → Ends k t a (halt (ejected j v)) b → is_open j a.opened ≡ true
+
+-- so no such value leaves the program of a turn
+abbrev pub NoEjectionLeavesATurn : Type 0
+NoEjectionLeavesATurn = (k : ℕ) (ts : Trees) (own : Bool) (e : EventName) (w : VatNo) (s : State) (n : ℕ) (b : At) (j : EjId) (v : Val) → Items k null ts (start own e w s n) (halt (ejected j v)) b → ⊥

@@ -1,5 +1,6 @@
 -- How an evaluation ends.
 use Rattle.std.specs.Prelude.{codes}
+use Rattle.ids.specs.declared.names.EjId.{EjId}
 use Rattle.kernele.specs.Tree.{Name}
 use Rattle.values.specs.Data.{Val, Vals, Reply, gives, throws}
 
@@ -15,9 +16,10 @@ reason budget_spent = codes "turn budget spent"
 reason too_deep = codes "calls too deep"
 reason too_large = codes "turn too large"
 
--- why there is no value
+-- why there is no value: a problem was thrown, an ejector was given a value, or the turn is abandoned
 pub data Halt : Type 0 where
   thrown : (problem : Name) → Halt
+  ejected : (j : EjId) → (v : Val) → Halt
   abandoned : (why : Cause) → Halt
 
 -- how a tree ends

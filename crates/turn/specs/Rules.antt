@@ -1,14 +1,20 @@
 -- The rules of evaluation.
-use Rattle.std.specs.Prelude.{◌≡◌, ℕ, ◌+◌, ◌-◌, ◌<◌, ◌≤◌, ltb, ℤ, Bool, true, false, Option, Some, None, List, [], ◌∷◌, ◌++◌, cond, codes}
+use Rattle.std.specs.Prelude.{◌≡◌, ℕ, ◌+◌, ◌-◌, ◌<◌, ◌≤◌, ltb, ℤ, Bool, true, false, Option, Some, None, List, [], ◌∷◌, ◌++◌, ◌&&◌, cond, codes}
+use Rattle.std.specs.Str.{bytes_eq}
+use Rattle.std.specs.Ordering.{is_eq}
+use Rattle.ids.specs.Cells.{ejector_cmp}
 use Rattle.ids.specs.declared.names.SlotId.{SlotId}
-use Rattle.kernele.specs.Tree.{Name, Tree, null_tree, bool_tree, int_tree, text_tree, noun, define, variable, assign, call, list_tree, same_tree, define_list, hide, if_tree, while_tree, for_tree, try_tree, throw_tree, Trees, none, and_then}
+use Rattle.ids.specs.declared.names.ObjId.{ObjId}
+use Rattle.ids.specs.declared.names.EjId.{EjId}
+use Rattle.kernele.specs.Tree.{Name, Tree, null_tree, bool_tree, int_tree, text_tree, noun, define, variable, assign, call, list_tree, same_tree, define_list, hide, if_tree, while_tree, for_tree, try_tree, throw_tree, object_tree, escape_tree, Trees, none, and_then, Methods, no_methods, and_method}
+use Rattle.kernele.specs.Free.{captures}
 use Rattle.kernele.specs.declared.tree.Pattern.{Pattern}
 use Rattle.kernele.specs.declared.tree.Pattern.TheVariants as pattern
-use Rattle.values.specs.Data.{Val, null, bool, int, text, broken, Vals, no_vals, and_val}
-use Rattle.values.specs.Replies.{data_reply, list_reply, text_reply, text_in, items_in}
+use Rattle.values.specs.Data.{Val, null, bool, int, text, broken, object, ejector, Vals, no_vals, and_val}
+use Rattle.values.specs.Replies.{no_method, data_reply, list_reply, text_reply, text_in, items_in}
 use Rattle.values.specs.Same.{same_as}
-use Rattle.turn.specs.State.{Bind, fixed, slot, lookup, top, slot_cell, Content, bound, held, State, read, write, At}
-use Rattle.turn.specs.Outcomes.{budget_spent, too_deep, too_large, Halt, thrown, abandoned, End, value, halt, Gather, values, halted, reply_end}
+use Rattle.turn.specs.State.{Bind, fixed, slot, Nouns, lookup, Object, top, slot_cell, object_cell, Content, bound, held, made, State, read, write, At}
+use Rattle.turn.specs.Outcomes.{budget_spent, too_deep, too_large, Halt, thrown, ejected, abandoned, End, value, halt, Gather, values, halted, reply_end}
 
 -- a step was taken
 abbrev pub begun : At → At
@@ -22,6 +28,7 @@ undefined_noun x = halt (thrown (codes "undefined noun " ++ x))
 abbrev pub top_bind : Option Content → Option Bind
 top_bind (Some (bound b)) = Some b
 top_bind (Some (held v)) = None
+top_bind (Some (made o)) = None
 top_bind None = None
 
 -- what a name stands for: its own meaning in the scopes, else the vat's top noun of that name
@@ -45,6 +52,7 @@ sought_slot x a = slot_in (sought x a)
 abbrev pub held_end : Name → Option Content → End
 held_end x (Some (held v)) = value v
 held_end x (Some (bound b)) = undefined_noun x
+held_end x (Some (made o)) = undefined_noun x
 held_end x None = undefined_noun x
 
 -- a noun's value, by what it stands for: a slot gives what it holds
@@ -139,21 +147,21 @@ abbrev pub has_room : At → Bool
 has_room a = ltb a.slots 4096
 
 -- a variable makes its slot where there is room for one, and without room the turn is abandoned
-abbrev pub made : Bool → Name → Val → At → At
-made true x v a = with_slot x v a
-made false x v a = a
+abbrev pub variable_made : Bool → Name → Val → At → At
+variable_made true x v a = with_slot x v a
+variable_made false x v a = a
 
-abbrev pub made_end : Bool → Val → End
-made_end true v = value v
-made_end false v = halt (abandoned too_large)
+abbrev pub variable_end : Bool → Val → End
+variable_end true v = value v
+variable_end false v = halt (abandoned too_large)
 
 -- a variable is made once its right side has given a value
 abbrev pub declared : Name → End → At → At
-declared x (value v) a = made (has_room a) x v a
+declared x (value v) a = variable_made (has_room a) x v a
 declared x (halt h) a = a
 
 abbrev pub declared_end : End → At → End
-declared_end (value v) a = made_end (has_room a) v
+declared_end (value v) a = variable_end (has_room a) v
 declared_end (halt h) a = halt h
 
 -- an assignment writes into the slot that its noun stands for, once its right side has given a value
@@ -168,10 +176,161 @@ assigned_end x (value v) (Some i) = value v
 assigned_end x (value v) None = undefined_noun x
 assigned_end x (halt h) i = halt h
 
--- a call on data, once its arguments are there
-abbrev pub call_end : Val → Name → Gather → End
-call_end v verb (values vs) = reply_end (data_reply v verb vs)
-call_end v verb (halted h) = halt h
+-- the names that an object captures, the newest first, or the first of them that stands for nothing
+pub data Capture : Type 0 where
+  captured : (ns : Nouns) → Capture
+  missing : (x : Name) → Capture
+
+-- one more name is captured as it is: a slot is captured, and not what it holds
+abbrev pub and_captured : Capture → Name → Option Bind → Capture
+and_captured (captured ns) x (Some b) = captured ((x, b) ∷ ns)
+and_captured (captured ns) x None = missing x
+and_captured (missing y) x m = missing y
+
+-- names are captured from the left, up to the first that stands for nothing
+abbrev pub all_captured : Capture → List Name → At → Capture
+all_captured c [] a = c
+all_captured c (x ∷ xs) a = all_captured (and_captured c x (sought x a)) xs a
+
+-- what an object captures: the names that are free in its methods
+abbrev pub capture_of : Pattern → Methods → At → Capture
+capture_of p methods a = all_captured (captured []) (captures p methods) a
+
+-- the object that a turn makes next: they are numbered from 0 in order of making
+abbrev pub next_object : At → ObjId
+next_object a = record { event = a.event; index = a.objects; vat = a.vat }
+
+-- a turn makes at most 4,096 objects
+abbrev pub has_object_room : At → Bool
+has_object_room a = ltb a.objects 4096
+
+-- an object is made
+abbrev pub object_made : Object → At → At
+object_made o a = record a { state = write a.state (object_cell (next_object a)) (made o); objects = a.objects + 1 }
+
+-- and its pattern takes it, where there is room for one more; without room the turn is abandoned
+abbrev pub placed : Bool → Pattern → Object → At → At
+placed true p o a = matched p (object (next_object a)) (object_made o a)
+placed false p o a = a
+
+abbrev pub placed_end : Bool → At → End
+placed_end true a = value (object (next_object a))
+placed_end false a = halt (abandoned too_large)
+
+-- an object is made once its names are captured
+abbrev pub with_object : Pattern → Methods → Capture → At → At
+with_object p methods (captured ns) a = placed (has_object_room a) p (record { own = p; captured = ns; methods = methods }) a
+with_object p methods (missing x) a = a
+
+-- and without one of them it is not made
+abbrev pub object_end : Capture → At → End
+object_end (captured ns) a = placed_end (has_object_room a) a
+object_end (missing x) a = undefined_noun x
+
+-- names and what a pattern takes, in front of them
+abbrev pub named : Pattern → Val → Nouns → Nouns
+named (pattern.Name x) v ns = (x, fixed v) ∷ ns
+named pattern.Ignore v ns = ns
+
+-- the same of patterns that take values from the left
+abbrev pub named_all : List Pattern → Vals → Nouns → Nouns
+named_all (p ∷ ps) (and_val v vs) ns = named_all ps vs (named p v ns)
+named_all _ _ ns = ns
+
+-- what a call leads to: an end, or the block of a method with the names that it begins with
+pub data Target : Type 0 where
+  gives : (o : End) → Target
+  enters : (ns : Nouns) → (body : Trees) → Target
+
+-- a method is found by its verb and by how many parameters it has: these, and its block
+abbrev pub method_in : Methods → Name → Vals → Option (List Pattern × Trees)
+method_in no_methods verb vs = None
+method_in (and_method m ps body ms) verb vs = cond (bytes_eq m verb && as_many ps vs) (Some (ps, body)) (method_in ms verb vs)
+
+-- a verb that an object or an ejector does not have throws as a verb that a datum does not have
+abbrev pub no_such_method : Name → Vals → End
+no_such_method verb vs = reply_end (no_method verb vs)
+
+-- a method that is found is entered with the object's names, the object's own name before them, and the parameters before that
+abbrev pub method_target : ObjId → Object → Name → Vals → Option (List Pattern × Trees) → Target
+method_target i o verb vs (Some m) = enters (named_all m.0 vs (named o.own (object i) o.captured)) m.1
+method_target i o verb vs None = gives (no_such_method verb vs)
+
+-- a call on an object, by what its cell holds
+abbrev pub object_target : ObjId → Option Content → Name → Vals → Target
+object_target i (Some (made o)) verb vs = method_target i o verb vs (method_in o.methods verb vs)
+object_target i (Some (bound b)) verb vs = gives (no_such_method verb vs)
+object_target i (Some (held v)) verb vs = gives (no_such_method verb vs)
+object_target i None verb vs = gives (no_such_method verb vs)
+
+abbrev pub same_ejector : EjId → EjId → Bool
+same_ejector i j = is_eq (ejector_cmp i j)
+
+-- whether an ejector's Escape is being evaluated
+abbrev pub is_open : EjId → List EjId → Bool
+is_open j [] = false
+is_open j (i ∷ is) = cond (same_ejector i j) true (is_open j is)
+
+-- an ejector ends its Escape while that is being evaluated, and is spent at any other time
+abbrev pub ejects : Bool → EjId → Val → End
+ejects true j v = halt (ejected j v)
+ejects false j v = halt (thrown (codes "ejector is spent"))
+
+-- what an ejector is given: one value, or null
+abbrev pub given : Vals → Option Val
+given no_vals = Some null
+given (and_val v no_vals) = Some v
+given (and_val v (and_val w vs)) = None
+
+-- a call on an ejector that has this verb with these arguments, or has not
+abbrev pub ejection : EjId → List EjId → Name → Vals → Option Val → End
+ejection j is verb vs (Some v) = ejects (is_open j is) j v
+ejection j is verb vs None = no_such_method verb vs
+
+-- an ejector has the verb `run` with one argument or none
+abbrev pub ejector_end : EjId → List EjId → Name → Vals → End
+ejector_end j is verb vs = cond (bytes_eq verb (codes "run")) (ejection j is verb vs (given vs)) (no_such_method verb vs)
+
+-- what a call is made on
+pub data Callee : Type 0 where
+  on_object : (i : ObjId) → Callee
+  on_ejector : (j : EjId) → Callee
+  on_datum : Callee
+
+abbrev pub callee_of : Val → Callee
+callee_of (object i) = on_object i
+callee_of (ejector j) = on_ejector j
+callee_of _ = on_datum
+
+-- what a call leads to, by what it is made on
+abbrev pub callee_target : Callee → Val → Name → Vals → At → Target
+callee_target (on_object i) v verb vs a = object_target i (read a.state (object_cell i)) verb vs
+callee_target (on_ejector j) v verb vs a = gives (ejector_end j a.opened verb vs)
+callee_target on_datum v verb vs a = gives (reply_end (data_reply v verb vs))
+
+-- what a call leads to, once its arguments are there
+abbrev pub target_of : Val → Name → Gather → At → Target
+target_of v verb (values vs) a = callee_target (callee_of v) v verb vs a
+target_of v verb (halted h) a = gives (halt h)
+
+-- the ejector that a turn makes next: they are numbered from 0 in order of making, and never counted against a limit
+abbrev pub next_ejector : At → EjId
+next_ejector a = record { event = a.event; index = a.ejectors; vat = a.vat }
+
+-- an Escape begins with a new ejector ..
+abbrev pub escaping : At → At
+escaping a = record a { ejectors = a.ejectors + 1; opened = next_ejector a ∷ a.opened }
+
+-- .. which is spent behind it
+abbrev pub escaped : At → At → At
+escaped a b = record b { opened = a.opened }
+
+-- a value that its own ejector was given is an Escape's value; any other end stays
+abbrev pub escape_end : EjId → End → End
+escape_end j (value v) = value v
+escape_end j (halt (thrown problem)) = halt (thrown problem)
+escape_end j (halt (ejected i v)) = cond (same_ejector j i) (value v) (halt (ejected i v))
+escape_end j (halt (abandoned why)) = halt (abandoned why)
 
 abbrev pub list_end : Gather → End
 list_end (values vs) = reply_end (list_reply vs)
@@ -217,10 +376,11 @@ abbrev pub thrown_end : End → End
 thrown_end (value v) = thrown_by v (text_in v)
 thrown_end (halt h) = halt h
 
--- what a Try catches: a problem that was thrown, and no abandoned turn
+-- what a Try catches: a problem that was thrown, no value on its way to an Escape, and no abandoned turn
 abbrev pub caught : End → Option Name
 caught (value v) = None
 caught (halt (thrown problem)) = Some problem
+caught (halt (ejected j v)) = None
 caught (halt (abandoned why)) = None
 
 -- a block stands in a scope of its own ..
@@ -230,6 +390,10 @@ entering a = record a { own_scope = false }
 -- .. and its names end with it
 abbrev pub leaving : At → At → At
 leaving a b = record b { nouns = a.nouns; own_scope = a.own_scope }
+
+-- a method's block stands in a scope of its own with the method's names, in place of those of the caller
+abbrev pub inside : Nouns → At → At
+inside ns a = record a { nouns = ns; own_scope = false }
 
 -- names that a condition defines are not in scope when it is evaluated the next time
 abbrev pub again : At → At → At
@@ -259,7 +423,8 @@ mutual
     run_variable : {k : ℕ} {x : Name} {e : Tree} {a b : At} {o : End} → Ends (k + 1) e a o b → Runs k (variable x e) a (declared_end o b) (declared x o b)
     run_assign : {k : ℕ} {x : Name} {e : Tree} {a b : At} {o : End} → Ends (k + 1) e a o b → Runs k (assign x e) a (assigned_end x o (sought_slot x b)) (assigned o (sought_slot x b) b)
     run_call_receiver : {k : ℕ} {r : Tree} {verb : Name} {args : Trees} {a b : At} {h : Halt} → Ends (k + 1) r a (halt h) b → Runs k (call r verb args) a (halt h) b
-    run_call : {k : ℕ} {r : Tree} {verb : Name} {args : Trees} {a b c : At} {v : Val} {g : Gather} → Ends (k + 1) r a (value v) b → Args (k + 1) args b g c → Runs k (call r verb args) a (call_end v verb g) c
+    run_call_gives : {k : ℕ} {r : Tree} {verb : Name} {args : Trees} {a b c : At} {v : Val} {g : Gather} {o : End} → Ends (k + 1) r a (value v) b → Args (k + 1) args b g c → target_of v verb g c ≡ gives o → Runs k (call r verb args) a o c
+    run_call_enters : {k : ℕ} {r : Tree} {verb : Name} {args : Trees} {a b c d : At} {v : Val} {g : Gather} {ns : Nouns} {body : Trees} {o : End} → Ends (k + 1) r a (value v) b → Args (k + 1) args b g c → target_of v verb g c ≡ enters ns body → Items (k + 1) null body (inside ns c) o d → Runs k (call r verb args) a o (leaving c d)
     run_list : {k : ℕ} {ts : Trees} {a b : At} {g : Gather} → Args (k + 1) ts a g b → Runs k (list_tree ts) a (list_end g) b
     run_same_left : {k : ℕ} {l r : Tree} {a b : At} {h : Halt} → Ends (k + 1) l a (halt h) b → Runs k (same_tree l r) a (halt h) b
     run_same : {k : ℕ} {l r : Tree} {a b c : At} {v : Val} {o : End} → Ends (k + 1) l a (value v) b → Ends (k + 1) r b o c → Runs k (same_tree l r) a (same_end v o) c
@@ -276,6 +441,8 @@ mutual
     run_for_ends : {k : ℕ} {p : Pattern} {e : Tree} {body : Trees} {a b : At} {o q : End} → Ends (k + 1) e a o b → listing_of o ≡ unlisted q → Runs k (for_tree p e body) a q b
     run_try : {k : ℕ} {body : Trees} {p : Pattern} {handler : Trees} {a b : At} {o : End} → Block (k + 1) body a o b → caught o ≡ None → Runs k (try_tree body p handler) a o b
     run_try_caught : {k : ℕ} {body : Trees} {p : Pattern} {handler : Trees} {a b d : At} {o q : End} {problem : Name} → Block (k + 1) body a o b → caught o ≡ Some problem → Taking (k + 1) p (text problem) handler b q d → Runs k (try_tree body p handler) a q d
+    run_object : {k : ℕ} {p : Pattern} {methods : Methods} {a : At} → Runs k (object_tree p methods) a (object_end (capture_of p methods a) a) (with_object p methods (capture_of p methods a) a)
+    run_escape : {k : ℕ} {x : Name} {body : Trees} {a b : At} {o : End} → Taking (k + 1) (pattern.Name x) (ejector (next_ejector a)) body (escaping a) o b → Runs k (escape_tree x body) a (escape_end (next_ejector a) o) (escaped a b)
 
   -- trees from left to right, as arguments or as the items of a list
   pub data Args : ℕ → Trees → At → Gather → At → Type 0 where

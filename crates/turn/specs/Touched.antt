@@ -3,13 +3,14 @@ use Rattle.std.specs.Prelude.{◌≡◌, ℕ, Bool, true, false, Option, Some, N
 use Rattle.ids.specs.declared.names.EventName.{EventName}
 use Rattle.ids.specs.declared.names.VatNo.{VatNo}
 use Rattle.ids.specs.declared.names.SlotId.{SlotId}
-use Rattle.kernele.specs.Tree.{Name, Tree, Trees}
+use Rattle.kernele.specs.Tree.{Name, Tree, Trees, Methods}
+use Rattle.kernele.specs.Free.{captures}
 use Rattle.kernele.specs.declared.tree.Pattern.{Pattern}
 use Rattle.kernele.specs.declared.tree.Pattern.TheVariants as pattern
 use Rattle.values.specs.Data.{Val, Vals, and_val}
-use Rattle.turn.specs.State.{Bind, lookup, Cell, top, slot_cell, State, same_cell, At}
-use Rattle.turn.specs.Outcomes.{End, value, halt, Gather}
-use Rattle.turn.specs.Rules.{Listing, listed, unlisted, parts_of, sought_slot, next_slot, has_room, Ends, at_budget, at_depth, at_node, Runs, run_null, run_bool, run_int, run_text, run_noun, run_define, run_variable, run_assign, run_call_receiver, run_call, run_list, run_same_left, run_same, run_define_list, run_hide, run_throw, run_if_goes, run_if_ends, run_while_again, run_while_halts, run_while_done, run_while_ends, run_for, run_for_ends, run_try, run_try_caught, Args, args_none, args_next, args_halt, Items, items_none, items_next, items_halt, Block, in_block, Taking, in_taking, Each, each_none, each_next, each_halt}
+use Rattle.turn.specs.State.{Bind, lookup, Cell, top, slot_cell, object_cell, State, same_cell, At}
+use Rattle.turn.specs.Outcomes.{End, value, halt, Gather, values, halted}
+use Rattle.turn.specs.Rules.{Listing, listed, unlisted, parts_of, sought, sought_slot, next_slot, has_room, Capture, captured, missing, and_captured, capture_of, next_object, has_object_room, Callee, on_object, on_ejector, on_datum, callee_of, Ends, at_budget, at_depth, at_node, Runs, run_null, run_bool, run_int, run_text, run_noun, run_define, run_variable, run_assign, run_call_receiver, run_call_gives, run_call_enters, run_list, run_same_left, run_same, run_define_list, run_hide, run_throw, run_if_goes, run_if_ends, run_while_again, run_while_halts, run_while_done, run_while_ends, run_for, run_for_ends, run_try, run_try_caught, run_object, run_escape, Args, args_none, args_next, args_halt, Items, items_none, items_next, items_halt, Block, in_block, Taking, in_taking, Each, each_none, each_next, each_halt}
 use Rattle.turn.specs.Turn.{Delivery, Outcome, Delivers, opens, asks}
 
 -- a cell was read, or written
@@ -64,13 +65,41 @@ parts_touched ps (listed vs) a = all_touched a.own_scope ps vs
 parts_touched ps (unlisted o) a = []
 
 -- a variable writes its new slot, and then its name is bound
-abbrev pub made_touched : Bool → Name → At → List Touch
-made_touched true x a = put (slot_cell (next_slot a)) ∷ bound_touched a.own_scope x
-made_touched false x a = []
+abbrev pub variable_touched : Bool → Name → At → List Touch
+variable_touched true x a = put (slot_cell (next_slot a)) ∷ bound_touched a.own_scope x
+variable_touched false x a = []
 
 abbrev pub declared_touched : Name → End → At → List Touch
-declared_touched x (value v) a = made_touched (has_room a) x a
+declared_touched x (value v) a = variable_touched (has_room a) x a
 declared_touched x (halt h) a = []
+
+-- a capture reads a top noun, and never a slot, up to the first that stands for nothing
+abbrev pub capture_touched : Capture → List Name → At → List Touch
+capture_touched c [] a = []
+capture_touched (captured ns) (x ∷ xs) a = sought_touched x (lookup a.nouns x) ++ capture_touched (and_captured (captured ns) x (sought x a)) xs a
+capture_touched (missing y) (x ∷ xs) a = []
+
+-- a new object writes its cell, and then its pattern is bound
+abbrev pub placed_touched : Bool → Pattern → At → List Touch
+placed_touched true p a = put (object_cell (next_object a)) ∷ matched_touched a.own_scope p
+placed_touched false p a = []
+
+abbrev pub with_object_touched : Pattern → Capture → At → List Touch
+with_object_touched p (captured ns) a = placed_touched (has_object_room a) p a
+with_object_touched p (missing x) a = []
+
+abbrev pub object_touched : Pattern → Methods → At → List Touch
+object_touched p methods a = capture_touched (captured []) (captures p methods) a ++ with_object_touched p (capture_of p methods a) a
+
+-- a call on an object reads the object, whether it has the method or not
+abbrev pub callee_touched : Callee → List Touch
+callee_touched (on_object i) = got (object_cell i) ∷ []
+callee_touched (on_ejector j) = []
+callee_touched on_datum = []
+
+abbrev pub called_touched : Val → Gather → List Touch
+called_touched v (values vs) = callee_touched (callee_of v)
+called_touched v (halted h) = []
 
 abbrev mutual
   pub ends_touched : {k : ℕ} {t : Tree} {a b : At} {o : End} → Ends k t a o b → List Touch
@@ -88,7 +117,8 @@ abbrev mutual
   runs_touched (run_variable {x = x} {b = b} {o = o} r) = ends_touched r ++ declared_touched x o b
   runs_touched (run_assign {x = x} {b = b} {o = o} r) = ends_touched r ++ assigned_touched x o b
   runs_touched (run_call_receiver r) = ends_touched r
-  runs_touched (run_call r u) = ends_touched r ++ args_touched u
+  runs_touched (run_call_gives {v = v} {g = g} r u e) = (ends_touched r ++ args_touched u) ++ called_touched v g
+  runs_touched (run_call_enters {v = v} {g = g} r u e q) = ((ends_touched r ++ args_touched u) ++ called_touched v g) ++ items_touched q
   runs_touched (run_list r) = args_touched r
   runs_touched (run_same_left r) = ends_touched r
   runs_touched (run_same r u) = ends_touched r ++ ends_touched u
@@ -105,6 +135,8 @@ abbrev mutual
   runs_touched (run_for_ends r e) = ends_touched r
   runs_touched (run_try q e) = block_touched q
   runs_touched (run_try_caught q e w) = block_touched q ++ taking_touched w
+  runs_touched (run_object {p = p} {methods = methods} {a = a}) = object_touched p methods a
+  runs_touched (run_escape q) = taking_touched q
 
   pub args_touched : {k : ℕ} {ts : Trees} {a b : At} {g : Gather} → Args k ts a g b → List Touch
   args_touched args_none = []

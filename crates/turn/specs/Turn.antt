@@ -1,12 +1,12 @@
 -- A turn: one delivery to a vat.
-use Rattle.std.specs.Prelude.{ℕ, Bool, true, false, []}
+use Rattle.std.specs.Prelude.{ℕ, Bool, true, false, [], codes}
 use Rattle.ids.specs.declared.names.EventName.{EventName}
 use Rattle.ids.specs.declared.names.VatNo.{VatNo}
 use Rattle.kernele.specs.Tree.{Trees}
 use Rattle.values.specs.Data.{Val, null, broken}
 use Rattle.values.specs.Replies.{limited}
 use Rattle.turn.specs.State.{State, At}
-use Rattle.turn.specs.Outcomes.{thrown, abandoned, reason, End, value, halt, reply_end}
+use Rattle.turn.specs.Outcomes.{thrown, ejected, abandoned, reason, End, value, halt, reply_end}
 use Rattle.turn.specs.Rules.{Items}
 
 -- what is delivered: the vat's script, or a program that is asked of it
@@ -22,25 +22,30 @@ pub record Outcome : Type 0 where
   pub end : End
   pub left : ℕ
 
--- where a turn of a vat begins: no names but the top nouns, the whole budget, and no slots made
+-- where a turn of a vat begins: no names but the top nouns, the whole budget, nothing made, and no Escape begun
 abbrev pub start : Bool → EventName → VatNo → State → ℕ → At
-start own e v s budget = record { nouns = []; own_scope = own; state = s; left = budget; event = e; vat = v; slots = 0 }
+start own e v s budget = record { nouns = []; own_scope = own; state = s; left = budget; event = e; vat = v; slots = 0; objects = 0; ejectors = 0; opened = [] }
 
--- a value past the limits of a value ends the turn with a problem
+-- a value past the limits of a value ends the turn with a problem, and so would a value on its way to an Escape,
+-- which does not leave its Escape and so no turn
 abbrev pub settled : End → End
 settled (value v) = reply_end (limited v)
-settled (halt h) = halt h
+settled (halt (thrown problem)) = halt (thrown problem)
+settled (halt (ejected j v)) = halt (thrown (codes "ejector is spent"))
+settled (halt (abandoned why)) = halt (abandoned why)
 
 -- the result: the value, or broken with the problem or with the reason why the turn was abandoned
 abbrev pub published : End → Val
 published (value v) = v
 published (halt (thrown problem)) = broken problem
+published (halt (ejected j v)) = broken (codes "ejector is spent")
 published (halt (abandoned why)) = broken (reason why)
 
--- a value and a throw keep what was written, an abandoned turn leaves the state as it was
+-- all but an abandoned turn keeps what was written; that leaves the state as it was
 abbrev pub kept : End → State → State → State
 kept (value v) old new = new
 kept (halt (thrown problem)) old new = new
+kept (halt (ejected j v)) old new = new
 kept (halt (abandoned why)) old new = old
 
 -- the outcome of a turn that ended as o at b, begun in the state s

@@ -151,7 +151,7 @@ fn eval_block(w: &mut Working, items: &[Expr], level: u32) -> Result<End, AllocE
 
 /// Evaluates a block in whose own scope a pattern takes a value first.
 #[cycle(evaluate)]
-fn eval_taking(
+pub(crate) fn eval_taking(
     w: &mut Working,
     pattern: &Pattern,
     value: &Value,

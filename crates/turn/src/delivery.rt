@@ -108,6 +108,9 @@ fn run_program(
         event,
         vat,
         slots: 0,
+        objects: 0,
+        ejectors: 0,
+        opened: Vec::new(alloc),
     };
     let end = eval_items(&mut w, program.0.0.as_slice(), 1)?;
     finish(state, w, end)
@@ -144,6 +147,8 @@ fn settle(alloc: Global, end: End) -> Result<Ended, AllocError>
         }
         End::Halt(halt) => match halt {
             Halt::Thrown(problem) => Ok(Ended::Problem(problem)),
+            // No ejection leaves its Escape.
+            Halt::Ejected(_, _) => Ok(Ended::Problem(Text::new(alloc, "ejector is spent")?)),
             Halt::Abandoned(why) => Ok(Ended::Abandoned(why)),
         },
     }

@@ -3,6 +3,7 @@ ghost use Rattle.std.specs.Prelude.{◌≡◌};
 ghost use Rattle.turn.specs.Outcomes.{reason};
 ghost use Rattle.turn.specs.View.{cause_of};
 
+use ids::names::EjId;
 use ids::text::Text;
 use values::value::Value;
 
@@ -14,10 +15,12 @@ pub enum Abandon {
     Size,
 }
 
-/// Why an expression has no value: a problem that was thrown, or an abandoned turn.
+/// Why an expression has no value: a problem that was thrown, an ejection, or an abandoned turn.
 #[derive(Drop)]
 pub enum Halt {
     Thrown(Text),
+    /// A value on its way to the Escape of its ejector.
+    Ejected(EjId, Value),
     Abandoned(Abandon),
 }
 

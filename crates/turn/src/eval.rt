@@ -1,15 +1,17 @@
 // Evaluation: one small function for each construct; those that have blocks are in `control`.
 ghost use Rattle.std.specs.Prelude.{◌≡◌, ◌≤◌, IfOk};
-ghost use Rattle.kernele.specs.Tree.{define, define_list, variable, assign as assign_tree, call, list_tree, same_tree, throw_tree};
+ghost use Rattle.kernele.specs.Tree.{define, define_list, variable, assign as assign_tree, list_tree, same_tree, throw_tree};
 ghost use Rattle.kernele.specs.View.{tree_of, trees_of};
 ghost use Rattle.values.specs.Data.{null};
 ghost use Rattle.turn.specs.Rules.{Ends, Runs, Args, Items};
 ghost use Rattle.turn.specs.View.{at, end_of, gather_of};
 
+use crate::calling::{eval_call, eval_escape};
 use crate::control::{eval_for, eval_hide, eval_if, eval_try, eval_while};
 use crate::end::{Abandon, End, Gathered, Halt};
 use crate::nouns::{assign, bind_parts, declare, match_pattern, noun_end};
-use crate::results::{call_end, int_end, list_end, text_end};
+use crate::objects::define_object;
+use crate::results::{int_end, list_end, text_end};
 use crate::wanted::thrown;
 use crate::working::Working;
 use ids::text::Text;
@@ -63,6 +65,8 @@ pub fn eval(w: &mut Working, e: &Expr, level: u32) -> Result<End, AllocError>
         Expr::For(pattern, list, body) => eval_for(w, pattern, list, body, level),
         Expr::Try(body, pattern, handler) => eval_try(w, body, pattern, handler, level),
         Expr::Throw(problem) => eval_throw(w, problem, level),
+        Expr::Object(pattern, methods) => define_object(w, pattern, methods),
+        Expr::Escape(name, body) => eval_escape(w, name, body, level),
     }
 }
 
@@ -123,23 +127,6 @@ fn eval_assign(
 }
 
 #[cycle(evaluate)]
-fn eval_call(
-    w: &mut Working,
-    receiver: &Arc<Expr>,
-    verb: &Text,
-    args: &Arc<Vec<Expr>>,
-    level: u32,
-) -> Result<End, AllocError>
-    requires { level ≤ 1000 }
-    ensures { IfOk result (λ o. Runs level (call (tree_of receiver.now.value) verb.now (trees_of args.now.value.items))
-        (at w.old) (end_of o) (at w.new)) }
-{
-    let v = value!(eval(w, receiver, level + 1)?);
-    let gathered = eval_args(w, args, level + 1)?;
-    call_end(w.alloc, &v, verb, gathered)
-}
-
-#[cycle(evaluate)]
 fn eval_list(w: &mut Working, items: &Arc<Vec<Expr>>, level: u32) -> Result<End, AllocError>
     requires { level ≤ 1000 }
     ensures { IfOk result (λ o. Runs level (list_tree (trees_of items.now.value.items))
@@ -177,7 +164,7 @@ fn eval_throw(w: &mut Working, problem: &Arc<Expr>, level: u32) -> Result<End, A
 
 /// Evaluates arguments or items of a list from left to right.
 #[cycle(evaluate)]
-fn eval_args(w: &mut Working, args: &[Expr], level: u32) -> Result<Gathered, AllocError>
+pub(crate) fn eval_args(w: &mut Working, args: &[Expr], level: u32) -> Result<Gathered, AllocError>
     requires { level ≤ 1001 }
     ensures { IfOk result (λ g. Args level (trees_of args.now) (at w.old) (gather_of g) (at w.new)) }
 {

@@ -3,14 +3,16 @@ ghost use Rattle.std.specs.Prelude.{◌≡◌, OnOk, OnErr, IfOk};
 ghost use Rattle.std.specs.BTreeMap.{Updates};
 ghost use Rattle.std.specs.Option.{option_map};
 ghost use Rattle.kernele.specs.Tree.{Name};
-ghost use Rattle.turn.specs.State.{top, slot_cell, bound, held, nothing, read, write};
-ghost use Rattle.turn.specs.View.{bind_of, tops_of, slots_of, state_of};
+ghost use Rattle.turn.specs.State.{top, slot_cell, object_cell, bound, held, made, nothing, read, write};
+ghost use Rattle.turn.specs.View.{bind_of, object_of, tops_of, slots_of, objects_of, state_of};
 ghost use Rattle.values.specs.View.{val_of};
 
-use ids::names::{EventName, SlotId, VatNo};
+use ids::names::{EventName, ObjId, SlotId, VatNo};
 use ids::text::Text;
+use kernele::tree::{Method, Pattern};
 use std::alloc::{AllocError, Global};
 use std::collections::BTreeMap;
+use std::sync::Arc;
 use values::value::Value;
 
 /// What a name stands for: a value that never changes, or a variable's slot.
@@ -32,12 +34,53 @@ impl Binding {
     }
 }
 
-/// A vat's state: what its top nouns stand for, and what its variables' slots hold.
+/// A name of a scope, and what it stands for.
+#[derive(Drop)]
+pub struct Noun {
+    pub name: Text,
+    pub binding: Binding,
+}
+
+/// What an object is. Sharing it costs nothing that grows with it.
+#[derive(Drop)]
+pub struct Made {
+    /// What its definition names it in its methods.
+    pub own: Pattern,
+    /// The names that it captured, the newest last.
+    pub captured: Arc<Vec<Noun>>,
+    pub methods: Arc<Vec<Method>>,
+}
+
+impl Made {
+    /// The same object, whose names and methods are shared. Fails only for want of memory.
+    pub fn share(&self) -> Result<Made, AllocError>
+        ensures { IfOk result (λ m. object_of m ≡ object_of self.now) }
+    {
+        Ok(Made {
+            own: share_pattern(&self.own)?,
+            captured: Arc::try_clone(&self.captured)?,
+            methods: Arc::try_clone(&self.methods)?,
+        })
+    }
+}
+
+/// The same pattern, whose name is shared. Fails only for want of memory.
+pub(crate) fn share_pattern(pattern: &Pattern) -> Result<Pattern, AllocError>
+    ensures { IfOk result (λ p. p ≡ pattern.now) }
+{
+    match pattern {
+        Pattern::Name(name) => Ok(Pattern::Name(name.share()?)),
+        Pattern::Ignore => Ok(Pattern::Ignore),
+    }
+}
+
+/// A vat's state: what its top nouns stand for, what its variables' slots hold, and what its objects are.
 #[derive(Drop)]
 pub struct VatState {
     alloc: Global,
     nouns: BTreeMap<Text, Binding>,
     slots: BTreeMap<SlotId, Value>,
+    objects: BTreeMap<ObjId, Made>,
 }
 
 impl VatState {
@@ -49,6 +92,7 @@ impl VatState {
             alloc,
             nouns: BTreeMap::new(alloc),
             slots: BTreeMap::new(alloc),
+            objects: BTreeMap::new(alloc),
         }
     }
 
@@ -104,7 +148,31 @@ impl VatState {
         Ok(())
     }
 
-    /// An equal state of its own, whose values are shared. Fails only for want of memory.
+    /// What an object is.
+    pub fn object(&self, object: ObjId) -> Option<&Made>
+        ensures { option_map (λ m. made (object_of m.now)) result
+            ≡ read (state_of self.now) (object_cell object) }
+    {
+        self.objects.get(&object)
+    }
+
+    /// Makes an object, by its event, its number among that event's objects, and its vat.
+    pub fn new_object(
+        &mut self,
+        event: EventName,
+        index: u32,
+        vat: VatNo,
+        object: Made,
+    ) -> Result<ObjId, AllocError>
+        ensures { IfOk result (λ i. (i ≡ record { event = event; index = index; vat = vat })
+            × (state_of self.new ≡ write (state_of self.old) (object_cell i) (made (object_of object)))) }
+    {
+        let id = ObjId { event, index, vat };
+        self.objects.insert(id, object)?;
+        Ok(id)
+    }
+
+    /// An equal state of its own, whose values and objects are shared. Fails only for want of memory.
     pub fn try_copy(&self) -> Result<VatState, AllocError>
         ensures { IfOk result (λ s. state_of s ≡ state_of self.now) }
     {
@@ -112,6 +180,7 @@ impl VatState {
             alloc: self.alloc,
             nouns: copied_nouns(self.alloc, &self.nouns)?,
             slots: copied_slots(self.alloc, &self.slots)?,
+            objects: copied_objects(self.alloc, &self.objects)?,
         })
     }
 
@@ -127,6 +196,13 @@ impl VatState {
         ensures { (i : SlotId) → slots_of result.now i ≡ read (state_of self.now) (slot_cell i) }
     {
         &self.slots
+    }
+
+    /// The objects with what they are, in order of their names.
+    pub fn objects(&self) -> &BTreeMap<ObjId, Made>
+        ensures { (i : ObjId) → objects_of result.now i ≡ read (state_of self.now) (object_cell i) }
+    {
+        &self.objects
     }
 
     /// What new values of this vat are allocated with.
@@ -171,6 +247,21 @@ fn copied_slots(
     // From the last one on, as above.
     while let Some((slot, value)) = entries.next_back() {
         put(&mut copy, *slot, value.share()?)?;
+    }
+    Ok(copy)
+}
+
+fn copied_objects(
+    alloc: Global,
+    objects: &BTreeMap<ObjId, Made>,
+) -> Result<BTreeMap<ObjId, Made>, AllocError>
+    ensures { IfOk result (λ m. objects_of m ≡ objects_of objects.now) }
+{
+    let mut copy = BTreeMap::new(alloc);
+    let mut entries = objects.iter();
+    // From the last one on, as above.
+    while let Some((id, object)) = entries.next_back() {
+        put(&mut copy, *id, object.share()?)?;
     }
     Ok(copy)
 }

@@ -5,12 +5,16 @@
 #![tactic(auto)]
 
 pub mod blocks;
+pub mod calling;
+pub mod calls;
 pub mod control;
 pub mod delivery;
 pub mod end;
+pub mod escapes;
 pub mod eval;
 pub mod heap;
 pub mod nouns;
+pub mod objects;
 pub mod results;
 #[cfg(test)]
 mod tests;

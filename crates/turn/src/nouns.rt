@@ -11,9 +11,9 @@ ghost use Rattle.turn.specs.Rules.{noun_end as noun_end_of};
 ghost use Rattle.turn.specs.View.{at, bind_of, end_of, nouns_of, state_of};
 
 use crate::end::{Abandon, End, Halt};
-use crate::heap::Binding;
+use crate::heap::{Binding, Noun};
 use crate::wanted::mismatch;
-use crate::working::{Noun, Working};
+use crate::working::Working;
 use ids::names::SlotId;
 use ids::text::Text;
 use kernele::tree::Pattern;
@@ -45,7 +45,8 @@ fn slot_end(w: &Working, slot: SlotId, name: &Text) -> Result<End, AllocError>
     }
 }
 
-fn undefined(alloc: Global, name: &Text) -> Result<End, AllocError>
+/// What a name throws that stands for nothing.
+pub fn undefined(alloc: Global, name: &Text) -> Result<End, AllocError>
     ensures { IfOk result (λ o. end_of o ≡ undefined_noun name.now) }
 {
     let mut problem = String::from_str(alloc, "undefined noun ")?;
@@ -54,7 +55,7 @@ fn undefined(alloc: Global, name: &Text) -> Result<End, AllocError>
 }
 
 /// What a name stands for: its newest meaning in the scopes, else the vat's top noun.
-fn seek<'a>(w: &'a Working, name: &Text) -> Option<&'a Binding>
+pub fn seek<'a>(w: &'a Working, name: &Text) -> Option<&'a Binding>
     ensures { option_map (λ b. bind_of b.now) result ≡ sought name.now (at w.now) }
 {
     match find(&w.nouns, name) {

@@ -1,10 +1,10 @@
 // What literals, lists and calls of data give, as ends.
 ghost use Rattle.std.specs.Prelude.{◌≡◌, IfOk};
 ghost use Rattle.values.specs.Data.{int};
-ghost use Rattle.values.specs.Replies.{text_reply};
-ghost use Rattle.values.specs.View.{val_of, reply_of};
+ghost use Rattle.values.specs.Replies.{text_reply, data_reply};
+ghost use Rattle.values.specs.View.{val_of, vals_of, reply_of};
 ghost use Rattle.turn.specs.Outcomes.{value as value_end, reply_end};
-ghost use Rattle.turn.specs.Rules.{list_end as list_end_of, call_end as call_end_of};
+ghost use Rattle.turn.specs.Rules.{list_end as list_end_of, no_such_method as no_such_method_end};
 ghost use Rattle.turn.specs.View.{end_of, gather_of};
 
 use crate::end::{End, Gathered, Halt};
@@ -39,21 +39,24 @@ pub fn list_end(alloc: Global, gathered: Gathered) -> Result<End, AllocError>
     }
 }
 
-/// What a call on data gives, once its arguments are there.
-pub fn call_end(
+/// What a call on data gives.
+pub fn data_end(
     alloc: Global,
     receiver: &Value,
     verb: &Text,
-    gathered: Gathered,
+    args: &[Value],
 ) -> Result<End, AllocError>
-    ensures { IfOk result (λ o. end_of o ≡ call_end_of (val_of receiver.now) verb.now (gather_of gathered)) }
+    ensures { IfOk result (λ o. end_of o ≡ reply_end (data_reply (val_of receiver.now) verb.now (vals_of args.now))) }
 {
-    match gathered {
-        Gathered::Values(args) => {
-            Ok(answer_end(data_call(alloc, receiver, verb.as_str(), args.as_slice())?))
-        }
-        Gathered::Halt(halt) => Ok(End::Halt(halt)),
-    }
+    Ok(answer_end(data_call(alloc, receiver, verb.as_str(), args)?))
+}
+
+/// What a call gives on what has no such verb with so many arguments.
+pub fn no_such_method(alloc: Global, verb: &Text, args: &[Value]) -> Result<End, AllocError>
+    ensures { IfOk result (λ o. end_of o ≡ no_such_method_end verb.now (vals_of args.now)) }
+{
+    // Null has no verb at all.
+    data_end(alloc, &Value::Null, verb, args)
 }
 
 /// An answer of data as an end.

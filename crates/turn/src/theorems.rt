@@ -1,6 +1,7 @@
 // What holds of evaluation and of turns: each function's contract is a law.
 ghost use Rattle.turn.specs.Laws.{AtMostOneOutcome, AtMostOneDelivery, Frame, DeliveryFrame};
 ghost use Rattle.turn.specs.Laws.{OthersStay, OthersStayInTurns, StepsOnlyFall, WithinBudget, NamesAreOnlyAdded};
+ghost use Rattle.turn.specs.Laws.{EjectionsAreOpen, NoEjectionLeavesATurn};
 
 /// A tree has at most one outcome.
 pub fn at_most_one_outcome()
@@ -45,4 +46,14 @@ pub fn within_budget()
 /// A tree adds newer names to the scopes, and takes none away.
 pub fn names_are_only_added()
     ensures { NamesAreOnlyAdded }
+{}
+
+/// A value on its way to an Escape leaves a tree only inside that Escape.
+pub fn ejections_are_open()
+    ensures { EjectionsAreOpen }
+{}
+
+/// No such value leaves the program of a turn.
+pub fn no_ejection_leaves_a_turn()
+    ensures { NoEjectionLeavesATurn }
 {}

@@ -34,9 +34,13 @@ pub fn mismatch(alloc: Global, words: &str, value: &Value) -> Result<End, AllocE
 {
     let problem = match value {
         Value::Broken(problem) => problem.share()?,
-        Value::Null | Value::Bool(_) | Value::Int(_) | Value::Text(_) | Value::List(_) => {
-            Text::new(alloc, words)?
-        }
+        Value::Null
+        | Value::Bool(_)
+        | Value::Int(_)
+        | Value::Text(_)
+        | Value::List(_)
+        | Value::Object(_)
+        | Value::Ejector(_) => Text::new(alloc, words)?,
     };
     Ok(End::Halt(Halt::Thrown(problem)))
 }
@@ -47,7 +51,13 @@ fn as_bool(value: &Value) -> Option<bool>
 {
     match value {
         Value::Bool(truth) => Some(*truth),
-        Value::Null | Value::Int(_) | Value::Text(_) | Value::List(_) | Value::Broken(_) => None,
+        Value::Null
+        | Value::Int(_)
+        | Value::Text(_)
+        | Value::List(_)
+        | Value::Object(_)
+        | Value::Ejector(_)
+        | Value::Broken(_) => None,
     }
 }
 
@@ -70,9 +80,13 @@ fn shared_items(value: &Value) -> Result<Option<Arc<Vec<Value>>>, AllocError>
 {
     match value {
         Value::List(items) => Ok(Some(Arc::try_clone(items)?)),
-        Value::Null | Value::Bool(_) | Value::Int(_) | Value::Text(_) | Value::Broken(_) => Ok(
-            None,
-        ),
+        Value::Null
+        | Value::Bool(_)
+        | Value::Int(_)
+        | Value::Text(_)
+        | Value::Object(_)
+        | Value::Ejector(_)
+        | Value::Broken(_) => Ok(None),
     }
 }
 
@@ -106,6 +120,7 @@ pub fn caught(tried: End) -> Result<Text, End>
     match tried {
         End::Halt(halt) => match halt {
             Halt::Thrown(problem) => Ok(problem),
+            Halt::Ejected(ejector, value) => Err(End::Halt(Halt::Ejected(ejector, value))),
             Halt::Abandoned(why) => Err(End::Halt(Halt::Abandoned(why))),
         },
         End::Value(value) => Err(End::Value(value)),

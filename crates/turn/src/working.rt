@@ -1,16 +1,9 @@
 // What a turn works on.
+ghost use Rattle.std.specs.Prelude.{◌≤◌};
 
-use crate::heap::{Binding, VatState};
-use ids::names::{EventName, VatNo};
-use ids::text::Text;
+use crate::heap::{Noun, VatState};
+use ids::names::{EjId, EventName, VatNo};
 use std::alloc::Global;
-
-/// A name of a scope, and what it stands for.
-#[derive(Drop)]
-pub struct Noun {
-    pub name: Text,
-    pub binding: Binding,
-}
 
 /// A turn under way, on a copy of its vat's state that it changes in place.
 #[derive(Drop)]
@@ -27,4 +20,11 @@ pub struct Working {
     pub vat: VatNo,
     /// How many slots the turn has made.
     pub slots: u32,
+    /// How many objects the turn has made.
+    pub objects: u32,
+    /// How many ejectors the turn has made: no more than the steps that it has taken, so that they can be counted.
+    pub ejectors: u32,
+    /// The ejectors whose Escape is being evaluated, the newest last.
+    pub opened: Vec<EjId>,
+    pub ghost counted: { ejectors + steps ≤ 4294967295 },
 }

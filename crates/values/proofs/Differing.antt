@@ -3,7 +3,9 @@ use Rattle.std.proofs.Common.{◌≡◌, ℕ, ℤ, Bool, true, false, ◌&&◌, 
 use Rattle.std.specs.declared.sync.Arc.{Arc}
 use Rattle.std.specs.declared.vec.Vec.{Vec}
 use Rattle.std.specs.declared.alloc.Global.{Global}
-use Rattle.values.specs.Data.{Vals, null, bool, int, text, list, broken}
+use Rattle.ids.specs.declared.names.ObjId.{ObjId}
+use Rattle.ids.specs.declared.names.EjId.{EjId}
+use Rattle.values.specs.Data.{Vals, null, bool, int, text, list, object, ejector, broken}
 use Rattle.values.specs.Same.{same_as, same_items}
 use Rattle.values.specs.View.{val_of, vals_of}
 use Rattle.values.specs.declared.value.Value as code
@@ -17,6 +19,8 @@ other_null (code.Bool y) h = refl
 other_null (code.Int y) h = refl
 other_null (code.Text y) h = refl
 other_null (code.List' p shape items) h = refl
+other_null (code.Object y) h = refl
+other_null (code.Ejector y) h = refl
 other_null (code.Broken y) h = refl
 
 pub other_bool : (x : Bool) (b : Value) → ((y : Bool) → b ≡ code.Bool y → ⊥) → false ≡ same_as (bool x) (val_of b)
@@ -25,6 +29,8 @@ other_bool x (code.Bool y) h = absurd (h y refl)
 other_bool x (code.Int y) h = refl
 other_bool x (code.Text y) h = refl
 other_bool x (code.List' p shape items) h = refl
+other_bool x (code.Object y) h = refl
+other_bool x (code.Ejector y) h = refl
 other_bool x (code.Broken y) h = refl
 
 pub other_int : (x : ℤ) (b : Value) → ((y : ℤ) → b ≡ code.Int y → ⊥) → false ≡ same_as (int x) (val_of b)
@@ -33,6 +39,8 @@ other_int x (code.Bool y) h = refl
 other_int x (code.Int y) h = absurd (h y refl)
 other_int x (code.Text y) h = refl
 other_int x (code.List' p shape items) h = refl
+other_int x (code.Object y) h = refl
+other_int x (code.Ejector y) h = refl
 other_int x (code.Broken y) h = refl
 
 pub other_text : (x : List ℕ) (b : Value) → ((y : List ℕ) → b ≡ code.Text y → ⊥) → false ≡ same_as (text x) (val_of b)
@@ -41,6 +49,8 @@ other_text x (code.Bool y) h = refl
 other_text x (code.Int y) h = refl
 other_text x (code.Text y) h = absurd (h y refl)
 other_text x (code.List' p shape items) h = refl
+other_text x (code.Object y) h = refl
+other_text x (code.Ejector y) h = refl
 other_text x (code.Broken y) h = refl
 
 pub other_list : (vs : Vals) (b : Value) → ((y : Arc (Vec Value Global) Global) → b ≡ view.List y → ⊥) → false ≡ same_as (list vs) (val_of b)
@@ -49,7 +59,29 @@ other_list vs (code.Bool y) h = refl
 other_list vs (code.Int y) h = refl
 other_list vs (code.Text y) h = refl
 other_list vs (code.List' p shape items) h = absurd (h _ (list_again p shape items))
+other_list vs (code.Object y) h = refl
+other_list vs (code.Ejector y) h = refl
 other_list vs (code.Broken y) h = refl
+
+pub other_object : (x : ObjId) (b : Value) → ((y : ObjId) → b ≡ code.Object y → ⊥) → false ≡ same_as (object x) (val_of b)
+other_object x code.Null h = refl
+other_object x (code.Bool y) h = refl
+other_object x (code.Int y) h = refl
+other_object x (code.Text y) h = refl
+other_object x (code.List' p shape items) h = refl
+other_object x (code.Object y) h = absurd (h y refl)
+other_object x (code.Ejector y) h = refl
+other_object x (code.Broken y) h = refl
+
+pub other_ejector : (x : EjId) (b : Value) → ((y : EjId) → b ≡ code.Ejector y → ⊥) → false ≡ same_as (ejector x) (val_of b)
+other_ejector x code.Null h = refl
+other_ejector x (code.Bool y) h = refl
+other_ejector x (code.Int y) h = refl
+other_ejector x (code.Text y) h = refl
+other_ejector x (code.List' p shape items) h = refl
+other_ejector x (code.Object y) h = refl
+other_ejector x (code.Ejector y) h = absurd (h y refl)
+other_ejector x (code.Broken y) h = refl
 
 pub other_broken : (x : List ℕ) (b : Value) → ((y : List ℕ) → b ≡ code.Broken y → ⊥) → false ≡ same_as (broken x) (val_of b)
 other_broken x code.Null h = refl
@@ -57,6 +89,8 @@ other_broken x (code.Bool y) h = refl
 other_broken x (code.Int y) h = refl
 other_broken x (code.Text y) h = refl
 other_broken x (code.List' p shape items) h = refl
+other_broken x (code.Object y) h = refl
+other_broken x (code.Ejector y) h = refl
 other_broken x (code.Broken y) h = absurd (h y refl)
 
 and_false : (p q : Bool) → false ≡ q → false ≡ p && q

@@ -3,7 +3,8 @@ use Rattle.std.proofs.Common.{◌≡◌, ℕ, ℤ, pos, negsuc, Bool, true, fals
 use Rattle.std.specs.Str.{bytes_eq}
 use Rattle.std.proofs.lemmas.Slice.Eq.{bytes_eq-Decides}
 use Rattle.std.proofs.lemmas.Bool.{false≢true, eqb-true, eq-eqb}
-use Rattle.values.specs.Data.{Val, null, bool, int, text, list, broken, Vals, no_vals, and_val}
+use Rattle.ids.proofs.Keys.{object_self, object_equal, ejector_self, ejector_equal}
+use Rattle.values.specs.Data.{Val, null, bool, int, text, list, object, ejector, broken, Vals, no_vals, and_val}
 use Rattle.values.specs.Same.{same_as, same_items, same_bool, same_int}
 use Rattle.values.specs.Laws.{SameBothWays, SameAsAThird}
 
@@ -28,6 +29,8 @@ mutual
   itself (int z) = int_itself z
   itself (text s) = bytes_itself s
   itself (list vs) = items_itself vs
+  itself (object o) = object_self o
+  itself (ejector j) = ejector_self j
   itself (broken s) = bytes_itself s
 
   items_itself : (vs : Vals) → same_items vs vs ≡ true
@@ -63,6 +66,8 @@ mutual
   equal (int y) (int z) e = ap int (int_equal y z e)
   equal (text s) (text t) e = ap text ((bytes_eq-Decides s t).0 e)
   equal (list vs) (list ws) e = ap list (items_equal vs ws e)
+  equal (object o) (object p) e = ap object (object_equal o p e)
+  equal (ejector j) (ejector k) e = ap ejector (ejector_equal j k e)
   equal (broken s) (broken t) e = ap broken ((bytes_eq-Decides s t).0 e)
   equal _ _ e = absurd (false≢true e)
 

@@ -1,5 +1,5 @@
 -- The program's arguments, and rows that they pass by.
-use Rattle.std.proofs.Common.{◌≡◌, ℕ, ◌+◌, ◌<◌, ◌≤◌, List, [], ◌∷◌, ◌++◌, length, get_or, drop, suc, add-one, drop-cons, refl, sym, ap, ◌∙◌, arith, codes, Result, Ok, Err, IfOk, Option, Some, None, IfSome, MatchOption, zero, option_map, Bor, OkIff, ℤ, pos, negsuc, nat_abs, Bool, true, false, cond}
+use Rattle.std.proofs.Common.{◌≡◌, ℕ, ◌+◌, ◌<◌, ◌≤◌, List, [], ◌∷◌, ◌++◌, length, get_or, drop, suc, add-one, drop-cons, refl, sym, ap, ◌∙◌, arith, codes, Result, Ok, Err, IfOk, Option, Some, None, IfSome, MatchOption, zero, option_map, Bor, OkIff, ℤ, pos, negsuc, nat_abs, Bool, true, false, cond, ◌⊎◌, inl, inr}
 use Rattle.std.specs.Int.{FitsUnsignedBits}
 use Rattle.std.specs.Result.{result_ok}
 use Rattle.values.specs.Limits.{within_limits}
@@ -8,9 +8,12 @@ use Rattle.std.specs.declared.alloc.AllocError.{AllocError}
 use Rattle.values.specs.declared.value.Answer.{Answer}
 use Rattle.std.specs.Fmt.{decimal}
 use Rattle.values.specs.Data.{Val, Vals, no_vals, and_val, Reply, gives, throws}
-use Rattle.values.specs.Replies.{Table, count_of, no_method, joined, item_at, limited}
+use Rattle.values.specs.Replies.{Table, count_of, no_method, data_reply, joined, item_at, limited}
 use Rattle.values.specs.View.{val_of, vals_of, reply_of}
 use Rattle.values.specs.declared.value.Value.{Value}
+use Rattle.values.specs.declared.value.Value as code
+use Rattle.ids.specs.declared.names.ObjId.{ObjId}
+use Rattle.ids.specs.declared.names.EjId.{EjId}
 
 pub count_of-vals_of : (vs : List Value) → count_of (vals_of vs) ≡ length vs
 count_of-vals_of [] = refl
@@ -89,3 +92,9 @@ kept v b e f = ap (λ t. cond t (gives v) (throws (codes "value too large"))) (s
 
 pub refused : (v : Val) (b : Bool) → b ≡ within_limits v → b ≡ false → throws (codes "value too large") ≡ limited v
 refused v b e f = ap (λ t. cond t (gives v) (throws (codes "value too large"))) (sym f ∙ e)
+
+-- null, objects and ejectors have no verbs of data
+pub no_verbs : (v : Value) → (v ≡ code.Null) ⊎ (((o : ObjId) × (v ≡ code.Object o)) ⊎ ((j : EjId) × (v ≡ code.Ejector j))) → data_reply (val_of v) ≡ no_method
+no_verbs v (inl e) = ap (λ x. data_reply (val_of x)) e
+no_verbs v (inr (inl f)) = ap (λ x. data_reply (val_of x)) f.1
+no_verbs v (inr (inr f)) = ap (λ x. data_reply (val_of x)) f.1

@@ -1,5 +1,7 @@
 -- Values as plain data: no pointers, no capacities.
 use Rattle.std.specs.Prelude.{ℕ, ℤ, Bool, List}
+use Rattle.ids.specs.declared.names.ObjId.{ObjId}
+use Rattle.ids.specs.declared.names.EjId.{EjId}
 
 mutual
   pub data Val : Type 0 where
@@ -8,6 +10,8 @@ mutual
     int : (z : ℤ) → Val
     text : (s : List ℕ) → Val
     list : (vs : Vals) → Val
+    object : (o : ObjId) → Val
+    ejector : (j : EjId) → Val
     broken : (problem : List ℕ) → Val
     deriving IsSet as Val-set
 

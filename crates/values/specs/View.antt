@@ -1,6 +1,6 @@
 -- What the program's values stand for.
 use Rattle.std.specs.Prelude.{List, [], ◌∷◌}
-use Rattle.values.specs.Data.{Val, null, bool, int, text, list, broken, Vals, no_vals, and_val, Reply, gives, throws}
+use Rattle.values.specs.Data.{Val, null, bool, int, text, list, object, ejector, broken, Vals, no_vals, and_val, Reply, gives, throws}
 use Rattle.values.specs.declared.value.Value as code
 use Rattle.values.specs.declared.value.Value.{Value}
 use Rattle.values.specs.declared.value.Answer.{Answer}
@@ -13,6 +13,8 @@ abbrev mutual
   val_of (code.Int z) = int z
   val_of (code.Text s) = text s
   val_of (code.List' p shape items) = list (vals_of_row items)
+  val_of (code.Object o) = object o
+  val_of (code.Ejector j) = ejector j
   val_of (code.Broken s) = broken s
 
   pub vals_of_row : {n : _} → code.Row_of-Value n → Vals

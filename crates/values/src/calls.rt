@@ -12,6 +12,7 @@ use std::alloc::{AllocError, Global};
 
 /// What a verb of data leads to. A broken receiver throws its problem; else the verb and the number
 /// of arguments are looked up first, then the arguments' kinds are tested, and then the result.
+/// Null, objects and ejectors have no verbs of data.
 pub fn data_call(
     alloc: Global,
     receiver: &Value,
@@ -21,7 +22,11 @@ pub fn data_call(
     ensures { IfOk result (λ a. reply_of a ≡ data_reply (val_of receiver.now) verb.now (vals_of arguments.now)) }
 {
     match receiver {
-        Value::Null => no_method(alloc, verb, arguments.len()),
+        Value::Null | Value::Object(_) | Value::Ejector(_) => no_method(
+            alloc,
+            verb,
+            arguments.len(),
+        ),
         Value::Bool(holds) => bool_call(alloc, *holds, verb, arguments),
         Value::Int(integer) => int_call(alloc, *integer, verb, arguments),
         Value::Text(text) => text_call(alloc, text, verb, arguments),

@@ -66,8 +66,12 @@ pub(crate) fn wrong_argument(alloc: Global, argument: &Value) -> Result<Answer, 
 {
     match argument {
         Value::Broken(problem) => Ok(Answer::Throws(problem.share()?)),
-        Value::Null | Value::Bool(_) | Value::Int(_) | Value::Text(_) | Value::List(_) => {
-            thrown(alloc, "bad argument")
-        }
+        Value::Null
+        | Value::Bool(_)
+        | Value::Int(_)
+        | Value::Text(_)
+        | Value::List(_)
+        | Value::Object(_)
+        | Value::Ejector(_) => { thrown(alloc, "bad argument") }
     }
 }

@@ -5,7 +5,8 @@ ghost use Rattle.values.specs.View.{val_of, vals_of};
 
 use crate::value::Value;
 
-/// Whether two values are the same: data by content, lists item by item, broken values by problem.
+/// Whether two values are the same: data by content, lists item by item, objects and ejectors by
+/// name, broken values by problem.
 #[cycle(sameness)]
 pub fn same(a: &Value, b: &Value) -> bool
     ensures { result ≡ same_as (val_of a.now) (val_of b.now) }
@@ -16,6 +17,8 @@ pub fn same(a: &Value, b: &Value) -> bool
         (Value::Int(x), Value::Int(y)) => x == y,
         (Value::Text(x), Value::Text(y)) => x == y,
         (Value::List(xs), Value::List(ys)) => same_items(xs.as_slice(), ys.as_slice()),
+        (Value::Object(x), Value::Object(y)) => x == y,
+        (Value::Ejector(x), Value::Ejector(y)) => x == y,
         (Value::Broken(x), Value::Broken(y)) => x == y,
         _ => false,
     }

@@ -30,6 +30,8 @@ pub fn write_value(value: &Value, out: &mut String) -> Result<(), AllocError>
         Value::Int(integer) => write!(out, "{integer}"),
         Value::Text(text) => write_quoted(text.as_str(), out),
         Value::List(items) => write_list(items.as_slice(), out),
+        Value::Object(object) => write!(out, "<{object}>"),
+        Value::Ejector(ejector) => write!(out, "<{ejector}>"),
         Value::Broken(problem) => write_broken(problem.as_str(), out),
     }
 }

@@ -6,6 +6,7 @@ use crate::sameness::same;
 use crate::showing::show;
 use crate::texts::text_value;
 use crate::value::{Answer, Value};
+use ids::names::{EjId, EventName, ObjId, VatNo};
 use ids::text::Text;
 use std::alloc::{AllocError, Global};
 use std::sync::Arc;
@@ -51,6 +52,24 @@ fn long(alloc: Global, bytes: usize) -> Result<Value, AllocError> {
         letters.push('a')?;
     }
     Ok(Value::Text(Text::from_string(letters)?))
+}
+
+/// The object of this number, made in the second event, in the vat of the first.
+fn object(index: u32) -> Value {
+    Value::Object(ObjId {
+        event: EventName(2),
+        index,
+        vat: VatNo(EventName(1)),
+    })
+}
+
+/// The ejector of this number, made in the second event, in the vat of the first.
+fn ejector(index: u32) -> Value {
+    Value::Ejector(EjId {
+        event: EventName(2),
+        index,
+        vat: VatNo(EventName(1)),
+    })
 }
 
 /// An answer as text: a value, or `!` and a problem.
@@ -332,6 +351,37 @@ fn shows(rt: HostRuntime) -> Result<(), Fail> {
     assert_eq!(rt;
         show(alloc, &broken(alloc, "x")?)?.as_str(),
         "<broken \"x\">"
+    );
+    Ok(())
+}
+
+#[test]
+fn objects(rt: HostRuntime) -> Result<(), Fail> {
+    let alloc = rt.alloc();
+    let made = object(0);
+    let escape = ejector(0);
+    assert_eq!(rt; show(alloc, &made)?.as_str(), "<e2.o0>");
+    assert_eq!(rt; show(alloc, &escape)?.as_str(), "<e2.j0>");
+    assert_eq!(rt;
+        show(alloc, &around(alloc, object(12))?)?.as_str(),
+        "[<e2.o12>]"
+    );
+    assert!(rt; same(&made, &made.share()?));
+    assert!(rt; same(&escape, &escape.share()?));
+    assert!(rt; !same(&made, &object(1)));
+    assert!(rt; !same(&escape, &ejector(1)));
+    assert!(rt; !same(&made, &escape));
+    assert!(rt; !same(&made, &text(alloc, "<e2.o0>")?));
+    assert!(rt; is_within_limits(&made));
+    assert!(rt; is_within_limits(&escape));
+    assert_eq!(rt; alone(alloc, &made, "size")?.as_str(), "!no method size/0");
+    assert_eq!(rt;
+        with(alloc, &escape, "run", Value::Null)?.as_str(),
+        "!no method run/1"
+    );
+    assert_eq!(rt;
+        with(alloc, &Value::Int(1), "add", made)?.as_str(),
+        "!bad argument"
     );
     Ok(())
 }

@@ -4,6 +4,7 @@ ghost use Rattle.std.specs.Option.{option_map};
 ghost use Rattle.values.specs.Replies.{int_in, text_in, items_in};
 ghost use Rattle.values.specs.View.{val_of, vals_of};
 
+use ids::names::{EjId, ObjId};
 use ids::text::Text;
 use std::alloc::AllocError;
 use std::sync::Arc;
@@ -17,6 +18,8 @@ pub enum Value {
     Int(i64),
     Text(Text),
     List(Arc<Vec<Value>>),
+    Object(ObjId),
+    Ejector(EjId),
     /// A broken reference, with its problem.
     Broken(Text),
 }
@@ -40,6 +43,8 @@ impl Value {
             Value::Int(n) => Ok(Value::Int(*n)),
             Value::Text(s) => Ok(Value::Text(s.share()?)),
             Value::List(items) => Ok(Value::List(Arc::try_clone(items)?)),
+            Value::Object(object) => Ok(Value::Object(*object)),
+            Value::Ejector(ejector) => Ok(Value::Ejector(*ejector)),
             Value::Broken(problem) => Ok(Value::Broken(problem.share()?)),
         }
     }
@@ -50,9 +55,13 @@ impl Value {
     {
         match self {
             Value::Int(integer) => Some(*integer),
-            Value::Null | Value::Bool(_) | Value::Text(_) | Value::List(_) | Value::Broken(_) => {
-                None
-            }
+            Value::Null
+            | Value::Bool(_)
+            | Value::Text(_)
+            | Value::List(_)
+            | Value::Object(_)
+            | Value::Ejector(_)
+            | Value::Broken(_) => { None }
         }
     }
 
@@ -62,9 +71,13 @@ impl Value {
     {
         match self {
             Value::Text(text) => Some(text),
-            Value::Null | Value::Bool(_) | Value::Int(_) | Value::List(_) | Value::Broken(_) => {
-                None
-            }
+            Value::Null
+            | Value::Bool(_)
+            | Value::Int(_)
+            | Value::List(_)
+            | Value::Object(_)
+            | Value::Ejector(_)
+            | Value::Broken(_) => { None }
         }
     }
 
@@ -74,9 +87,13 @@ impl Value {
     {
         match self {
             Value::List(items) => Some(items.as_slice()),
-            Value::Null | Value::Bool(_) | Value::Int(_) | Value::Text(_) | Value::Broken(_) => {
-                None
-            }
+            Value::Null
+            | Value::Bool(_)
+            | Value::Int(_)
+            | Value::Text(_)
+            | Value::Object(_)
+            | Value::Ejector(_)
+            | Value::Broken(_) => { None }
         }
     }
 }

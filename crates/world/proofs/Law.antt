@@ -10,7 +10,7 @@ use Rattle.ids.specs.declared.names.CellKey.TheVariants as key
 use Rattle.ids.proofs.Keys.{same_key_exact, same_key_self}
 use Rattle.kernele.specs.Tree.{Name}
 use Rattle.turn.specs.State.{State}
-use Rattle.turn.specs.Outcomes.{End, value, halt, thrown, abandoned}
+use Rattle.turn.specs.Outcomes.{End, value, halt, thrown, ejected, abandoned}
 use Rattle.turn.specs.Turn.{Outcome, Delivers}
 use Rattle.turn.proofs.Determined.{delivery_same}
 use Rattle.world.specs.World.{Vat, Place, at_vat, done, Message, Content, home, World, vat_in, message_in, done_in}
@@ -26,9 +26,11 @@ at_message : (P : CellKey → Type 0) (after : Option MsgId) (v : VatNo) (x : Na
     → AllByRecursion P (awaited after ++ map (λ p. p.0) (new_state v x s o ++ done_and_published e m g r)) → P (key.Msg m)
 at_message P None v x s (value u) e m g r a = a.1.0
 at_message P None v x s (halt (thrown problem)) e m g r a = a.1.0
+at_message P None v x s (halt (ejected j u)) e m g r a = a.1.0
 at_message P None v x s (halt (abandoned why)) e m g r a = a.0
 at_message P (Some n) v x s (value u) e m g r a = a.1.1.0
 at_message P (Some n) v x s (halt (thrown problem)) e m g r a = a.1.1.0
+at_message P (Some n) v x s (halt (ejected j u)) e m g r a = a.1.1.0
 at_message P (Some n) v x s (halt (abandoned why)) e m g r a = a.1.0
 
 law : (e : Event) (f : Foot) (w v : World) → Does e w f → Agree events f w v → Does e v f

@@ -7,7 +7,7 @@ use Rattle.ids.specs.declared.names.VatNo.{VatNo}
 use Rattle.ids.specs.declared.names.MsgId.{MsgId}
 use Rattle.ids.specs.declared.names.CellKey.TheVariants as key
 use Rattle.turn.specs.State.{State}
-use Rattle.turn.specs.Outcomes.{End, value, halt, thrown, abandoned}
+use Rattle.turn.specs.Outcomes.{End, value, halt, thrown, ejected, abandoned}
 use Rattle.turn.specs.Turn.{Outcome, Delivers}
 use Rattle.history.specs.Subject.{written}
 use Rattle.ids.specs.declared.names.PromId.{PromId}
@@ -24,6 +24,7 @@ pub turn_keys : (v : VatNo) (x : Name) (s : State) (e : EventName) (m : MsgId) (
     → map (λ p. p.0) (new_state v x s o ++ done_and_published e m g r) ≡ turn_cells v m g.result o
 turn_keys v x s e m g r (value u) = refl
 turn_keys v x s e m g r (halt (thrown problem)) = refl
+turn_keys v x s e m g r (halt (ejected j u)) = refl
 turn_keys v x s e m g r (halt (abandoned why)) = refl
 
 -- what a birth, an asked program and a turn need

@@ -3,7 +3,7 @@ use Rattle.std.specs.Prelude.{◌≡◌, ℕ, cond, List, [], ◌∷◌, ◌++�
 use Rattle.kernele.specs.Tree.{Name, Trees}
 use Rattle.kernele.specs.Scope.{own_names_in}
 use Rattle.turn.specs.State.{State, nothing}
-use Rattle.turn.specs.Outcomes.{End, value, halt, thrown, abandoned}
+use Rattle.turn.specs.Outcomes.{End, value, halt, thrown, ejected, abandoned}
 use Rattle.turn.specs.Turn.{opening, asked, Outcome, Delivers}
 use Rattle.history.specs.Subject.{Footprint, Subject}
 use Rattle.ids.specs.Cells.{same_key}
@@ -71,6 +71,7 @@ awaited (Some m) = key.Msg m ∷ []
 abbrev pub is_abandoned : End → Bool
 is_abandoned (value u) = false
 is_abandoned (halt (thrown problem)) = false
+is_abandoned (halt (ejected j v)) = false
 is_abandoned (halt (abandoned why)) = true
 
 -- the vat's new state, unless the turn was abandoned

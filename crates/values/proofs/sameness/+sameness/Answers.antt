@@ -4,7 +4,7 @@ use Rattle.values.specs.Data.{list}
 use Rattle.values.specs.Same.{same_as}
 use Rattle.values.specs.View.{val_of, vals_of}
 use Rattle.values.proofs.Views.{list_is}
-use Rattle.values.proofs.Differing.{other_null, other_bool, other_int, other_text, other_list, other_broken, lengths_differ, differs_here, same_rest, same_end, lengths_rest}
+use Rattle.values.proofs.Differing.{other_null, other_bool, other_int, other_text, other_list, other_object, other_ejector, other_broken, lengths_differ, differs_here, same_rest, same_end, lengths_rest}
 use Rattle.values.proofs.sameness.+sameness.Goals as goal
 
 pub same-returns-in_default : goal.same-returns-in_default
@@ -23,7 +23,13 @@ pub same-returns-in_default-5 : goal.same-returns-in_default-5
 same-returns-in_default-5 t c = other_list _ c.args.b.now c.in_default.not-List-1 ∙ ap (λ a. same_as (val_of a) (val_of c.args.b.now)) (sym c.in_default.is-0)
 
 pub same-returns-in_default-6 : goal.same-returns-in_default-6
-same-returns-in_default-6 t c = other_broken c.in_default.field-0-0 c.args.b.now c.in_default.not-Broken-1 ∙ ap (λ a. same_as (val_of a) (val_of c.args.b.now)) (sym c.in_default.is-0)
+same-returns-in_default-6 t c = other_object c.in_default.field-0-0 c.args.b.now c.in_default.not-Object-1 ∙ ap (λ a. same_as (val_of a) (val_of c.args.b.now)) (sym c.in_default.is-0)
+
+pub same-returns-in_default-7 : goal.same-returns-in_default-7
+same-returns-in_default-7 t c = other_ejector c.in_default.field-0-0 c.args.b.now c.in_default.not-Ejector-1 ∙ ap (λ a. same_as (val_of a) (val_of c.args.b.now)) (sym c.in_default.is-0)
+
+pub same-returns-in_default-8 : goal.same-returns-in_default-8
+same-returns-in_default-8 t c = other_broken c.in_default.field-0-0 c.args.b.now c.in_default.not-Broken-1 ∙ ap (λ a. same_as (val_of a) (val_of c.args.b.now)) (sym c.in_default.is-0)
 
 pub same-returns-in-List-List : goal.same-returns-in-List-List
 same-returns-in-List-List t c =
