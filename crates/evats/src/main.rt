@@ -17,6 +17,10 @@ mod tests;
 mod tests_of_control;
 #[cfg(test)]
 mod tests_of_objects;
+#[cfg(test)]
+mod tests_of_scopes;
+#[cfg(test)]
+mod tests_of_steps;
 mod words;
 
 pub use ended::{Ended, status};
