@@ -9,7 +9,7 @@ use Rattle.kernele.specs.declared.tree.Pattern.{Pattern}
 use Rattle.kernele.specs.declared.tree.Pattern.TheVariants as pattern
 use Rattle.ereader.specs.Grammar.{dot, comma, semicolon, becomes, open_round, close_round, open_square, close_square, open_curly, close_curly, underscore}
 use Rattle.kernele.specs.Spelling.{needs_brackets, is_bare_receiver}
-use Rattle.kernele.specs.Tree.{Tree, null_tree, bool_tree, int_tree, text_tree, noun, define, variable, assign, call, list_tree, same_tree, define_list, hide, if_tree, while_tree, for_tree, try_tree, throw_tree, object_tree, escape_tree, Trees, none, and_then, Methods, no_methods, and_method}
+use Rattle.kernele.specs.Tree.{Name, Tree, null_tree, bool_tree, int_tree, text_tree, noun, define, variable, assign, call, list_tree, same_tree, define_list, hide, if_tree, while_tree, for_tree, try_tree, throw_tree, object_tree, escape_tree, Trees, none, and_then, Methods, no_methods, and_method}
 
 -- tokens put before others
 abbrev pub Before : Type 0
@@ -42,6 +42,10 @@ bound_in p r = bound p ∷ r
 -- a block in its braces
 abbrev pub in_braces : List Before → Before
 in_braces ws r = open_curly ∷ between semicolon ws (close_curly ∷ r)
+
+-- a method: its verb, its parameters, and its block
+abbrev pub taking : Name → List Pattern → List Before → Before
+taking verb ps ws r = token.Word word.Method ∷ token.Name verb ∷ open_round ∷ between comma (map bound_in ps) (close_round ∷ in_braces ws r)
 
 abbrev pub truth_word : Bool → words.Reserved
 truth_word true = word.True
@@ -91,9 +95,7 @@ abbrev mutual
   -- the methods of an object
   pub written_methods : Methods → Before
   written_methods no_methods r = r
-  written_methods (and_method verb ps body ms) r =
-      token.Word word.Method ∷ token.Name verb ∷ open_round ∷ between comma (map bound_in ps)
-      (close_round ∷ in_braces (written_items body) (written_methods ms r))
+  written_methods (and_method verb ps body ms) r = taking verb ps (written_items body) (written_methods ms r)
 
   -- arguments, or the items of a list
   pub written_parts : Trees → List Before
