@@ -260,7 +260,6 @@ mutual
   stands (throw_tree e) h = λ r us ends rest.
       subst (λ l. InLine l (written (throw_tree e) us)) (sym (throw-bytes (as_part e (spelled e)) r))
       (reserved_at (codes "throw") word.Throw refl refl refl refl (open_round_at (part e (stands e h) _ _ refl (close_round_at rest))))
-
   stands (object_tree p ms) h = λ r us ends rest.
       subst (λ l. InLine l (written (object_tree p ms) us)) (sym (object-bytes (bound_name p) (text.methods_in_braces (spelled_methods ms)) r))
       (reserved_at (codes "def") word.Def refl refl refl refl (spaced (bound_at p h.0 refl (spaced (members_stand ms (stand_methods ms h.1) r us ends rest)))))

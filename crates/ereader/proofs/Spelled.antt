@@ -153,7 +153,6 @@ mutual
   reads (for_tree p e body) = λ r. both (postfix_primary (primary_for (bound_is p _) (disjunction (reads e _).1) (braces body (reads_items body) r)))
   reads (try_tree body p handler) = λ r. both (postfix_primary (primary_try (braces body (reads_items body) _) (bound_is p _) (braces handler (reads_items handler) r)))
   reads (throw_tree e) = λ r. both (postfix_primary (primary_throw (condition (disjunction (reads e _).1))))
-
   reads (object_tree p ms) = λ r. both (postfix_primary (primary_object (bound_is p _) (members ms (reads_methods ms) (token.Sign sign.CloseCurly ∷ r))))
   reads (escape_tree x body) = λ r. both (postfix_primary (primary_escape (braces body (reads_items body) r)))
 

@@ -203,11 +203,6 @@ module _ (within : Within) where
       turns_fail (methods_next within) (method_at within a >>= λ x. Some (put_method ms x.0, x.1)) c (methods_goes ms a e)
       (ap (λ y. y >>= λ x. Some (put_method ms x.0, x.1)) g) (omega (arith, word_length is_method_word a e))
 
-  pub methods_fails : (e : Stop) {read : Read Methods} {ms : Methods} {a : List Token}
-      → Turns (methods_next within) read ms a → is_at_word is_method_word a ≡ true → Fails e (method_at within a) → Fails e read
-  methods_fails stop.Unexpected c e g = methods_fail c e g
-  methods_fails stop.Memory c e g = tt
-
   pub methods_end : {read : Read Methods} {ms : Methods} {a : List Token} → Turns (methods_next within) read ms a → is_at_word is_method_word a ≡ false → read ≡ Some (ms, a)
   methods_end {ms = ms} {a = a} c e =
       turns_end (methods_next within) c (ap (λ o. cond o (Some (method_at within a >>= λ x. Some (put_method ms x.0, x.1))) None) e)

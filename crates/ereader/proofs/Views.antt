@@ -1,11 +1,11 @@
 -- What the reader's nodes stand for.
-use Rattle.std.proofs.Common.{◌≡◌, List, ℕ, [], ◌∷◌, refl, ap, ◌∙◌, ◌==◌, length, suc, codes}
+use Rattle.std.proofs.Common.{◌≡◌, List, ℕ, [], ◌∷◌, refl, ap, ◌∙◌, ◌==◌, length, suc}
 use Rattle.std.proofs.Math.Dec.{eqb-suc-zero}
 use Rattle.std.specs.declared.sync.Arc.{Arc}
 use Rattle.std.specs.declared.vec.Vec.{Vec}
 use Rattle.std.specs.declared.alloc.Global.{Global}
 use Rattle.etoken.specs.declared.token.Placed.{Placed}
-use Rattle.kernele.specs.Tree.{Name, Tree, Trees, call, list_tree, hide, if_tree, while_tree, for_tree, try_tree, object_tree, escape_tree, no_methods, and_method}
+use Rattle.kernele.specs.Tree.{Name, call, list_tree, hide, if_tree, while_tree, for_tree, try_tree, object_tree, escape_tree}
 use Rattle.kernele.specs.View.{tree_of, trees_of, methods_of}
 use Rattle.kernele.specs.declared.tree.Expr as code
 use Rattle.kernele.specs.declared.tree.Pattern.{Pattern}
@@ -13,8 +13,8 @@ use Rattle.kernele.specs.declared.tree.Expr.{Expr}
 use Rattle.kernele.proofs.Views.{tree_of-Call, tree_of-List, tree_of-Hide, tree_of-If, tree_of-While, tree_of-For, tree_of-Try, tree_of-Object, tree_of-Escape}
 use Rattle.kernele.specs.declared.tree.Method.{Method}
 use Rattle.ereader.specs.Reading.{is_empty, within_at, all_at, program_at}
-use Rattle.ereader.specs.Grammar.{method_tree, put_method, returning, function_tree}
-use Rattle.ereader.specs.View.{plain, method_of}
+use Rattle.ereader.specs.Grammar.{method_tree}
+use Rattle.ereader.specs.View.{plain}
 
 pub tree_of-made : (r : Arc Expr Global) (verb : List ℕ) (args : Arc (Vec Expr Global) Global) (receiver : Expr) (items : Vec Expr Global)
     → r.value ≡ receiver → args.value ≡ items → tree_of (code.Call r verb args) ≡ call (tree_of receiver) verb (trees_of items.items)
@@ -61,12 +61,6 @@ tree_of-object p block methods e = tree_of-Object p block ∙ ap (λ (xs : Vec M
 pub method_of-made : (verb : Name) (ps : Arc (Vec Pattern Global) Global) (block : Arc (Vec Expr Global) Global) (parameters : Vec Pattern Global) (body : Vec Expr Global)
     → ps.value ≡ parameters → block.value ≡ body → method_tree verb ps.value.items (trees_of block.value.items) ≡ method_tree verb parameters.items (trees_of body.items)
 method_of-made verb ps block parameters body e f = ap (λ (xs : Vec Pattern Global). method_tree verb xs.items (trees_of block.value.items)) e ∙ ap (method_tree verb parameters.items) (of_block block body f)
-
--- an object whose one method may return
-pub function_is : (p : Pattern) (ms : List Method) (m : Method) (ps : List Pattern) (ts us : Trees) {t : Tree}
-    → t ≡ object_tree p (methods_of ms) → ms ≡ m ∷ [] → method_of m ≡ method_tree (codes "run") ps us → us ≡ returning ts → t ≡ function_tree p ps ts
-function_is p ms m ps ts us e f g h =
-    e ∙ ap (λ ms. object_tree p (methods_of ms)) f ∙ ap (λ m. object_tree p (put_method no_methods m)) g ∙ ap (λ us. object_tree p (and_method (codes "run") ps us no_methods)) h
 
 pub is_empty-plain : (ps : List Placed) → (length ps == 0) ≡ is_empty (plain ps)
 is_empty-plain [] = refl

@@ -88,7 +88,6 @@ abbrev mutual
       token.Word word.Try ∷ in_braces (written_items body) (token.Word word.Catch ∷ bound p ∷ in_braces (written_items handler) r)
   written (throw_tree e) r =
       token.Word word.Throw ∷ open_round ∷ bracketed (needs_brackets e) (written e) (close_round ∷ r)
-
   written (object_tree p ms) r = token.Word word.Def ∷ bound p ∷ open_curly ∷ written_methods ms (close_curly ∷ r)
   written (escape_tree x body) r = token.Word word.Escape ∷ token.Name x ∷ in_braces (written_items body) r
 

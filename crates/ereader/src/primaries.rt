@@ -161,6 +161,7 @@ impl<'a> Reader<'a> {
 
     /// What stands behind `return`.
     #[cycle(read)]
+    #[inline(never)]
     fn returned(&mut self, left: usize) -> Result<Expr, Stop>
         ensures gives { Gives result self.old self.new (reading.return_at (within_at left)) }
         ensures shorter { OnOk result (IsNoLonger self.old self.new) }

@@ -341,12 +341,21 @@ fn reads_objects(rt: HostRuntime) -> Result<(), Fail> {
             "def f ( ) { } ( 1 ) + 2",
             " (add (run (object f (run [ ] { (escape __return { null }) })) 1) 2)",
         ),
-        ("- def x { } . size ( ) * 2", " (multiply (negate (size (object x))) 2)"),
+        (
+            "- def x { } . size ( ) * 2",
+            " (multiply (negate (size (object x))) 2)",
+        ),
         ("def x := def y { }", " (def x (object y))"),
-        ("f ( def x { } , [ def y { } ] )", " (run f (object x) [ (object y) ])"),
+        (
+            "f ( def x { } , [ def y { } ] )",
+            " (run f (object x) [ (object y) ])",
+        ),
         ("for x in def y { } { }", " (for x (object y) { })"),
         ("escape x { x ( 1 ) ; 2 }", " (escape x { (run x 1) 2 })"),
-        ("escape x { } . size ( ) + 1", " (add (size (escape x { })) 1)"),
+        (
+            "escape x { } . size ( ) + 1",
+            " (add (size (escape x { })) 1)",
+        ),
     ] {
         let read = outcome(rt.alloc(), text)?;
         assert_eq!(rt; read.as_str(), tree, "at {text}");
@@ -364,10 +373,19 @@ fn reads_returns(rt: HostRuntime) -> Result<(), Fail> {
         ("( return ) + 1", " (add (run __return null) 1)"),
         ("return 1 + 2", " (run __return (add 1 2))"),
         ("return a || b", " (run __return (if a { true } { b }))"),
-        ("return - 1 ; return ! a", " (run __return (negate 1)) (run __return (not a))"),
-        ("return ( 1 ) ; return [ ]", " (run __return 1) (run __return [ ])"),
+        (
+            "return - 1 ; return ! a",
+            " (run __return (negate 1)) (run __return (not a))",
+        ),
+        (
+            "return ( 1 ) ; return [ ]",
+            " (run __return 1) (run __return [ ])",
+        ),
         ("return { 1 }", " (run __return { 1 })"),
-        ("return \"a\" ; return null", " (run __return 'a') (run __return null)"),
+        (
+            "return \"a\" ; return null",
+            " (run __return 'a') (run __return null)",
+        ),
         ("return if ( a ) { }", " (run __return (if a { } { }))"),
         ("return def x { }", " (run __return (object x))"),
         ("return escape x { }", " (run __return (escape x { }))"),
