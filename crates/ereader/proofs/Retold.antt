@@ -7,11 +7,11 @@ use Rattle.etoken.specs.declared.token.Sign.TheVariants as sign
 use Rattle.etoken.specs.Cutting.{blanks_none}
 use Rattle.kernele.specs.declared.tree.Pattern.{Pattern}
 use Rattle.kernele.specs.declared.tree.Pattern.TheVariants as pattern
-use Rattle.kernele.specs.Tree.{Tree, null_tree, bool_tree, int_tree, text_tree, noun, define, variable, assign, call, list_tree, same_tree, define_list, hide, if_tree, while_tree, for_tree, try_tree, throw_tree, Trees, none, and_then}
+use Rattle.kernele.specs.Tree.{Name, Tree, null_tree, bool_tree, int_tree, text_tree, noun, define, variable, assign, call, list_tree, same_tree, define_list, hide, if_tree, while_tree, for_tree, try_tree, throw_tree, object_tree, escape_tree, Trees, none, and_then, Methods, no_methods, and_method}
 use Rattle.kernele.specs.Spelling as text
-use Rattle.kernele.specs.Spelling.{spelled, spelled_parts, spelled_items, spelling, needs_brackets, as_part, as_receiver, is_bare_receiver, bound_name}
-use Rattle.ereader.specs.Written.{Before, led_by, between, bracketed, bound, bound_in, in_braces, written, written_parts, written_items, program_tokens}
-use Rattle.ereader.specs.Spelled.{CutInto, SpelledBy, BindsName, BindNames, IsSpellable, AreSpellable}
+use Rattle.kernele.specs.Spelling.{spelled, spelled_parts, spelled_items, spelled_methods, spelling, needs_brackets, as_part, as_receiver, is_bare_receiver, bound_name}
+use Rattle.ereader.specs.Written.{Before, led_by, between, bracketed, bound, bound_in, in_braces, taking, written, written_parts, written_items, written_methods, program_tokens}
+use Rattle.ereader.specs.Spelled.{CutInto, SpelledBy, BindsName, BindNames, IsName, IsSpellable, AreSpellable, AreSpellableMethods}
 use Rattle.ereader.proofs.Plainly.{InLine, in_line_end, cut_in_line, spaced, open_round_at, close_round_at, open_square_at, close_square_at, open_curly_at, close_curly_at, comma_at, semicolon_at, dot_at, becomes_at, equal_at, Ends, reserved_at, underscore_at, name_at, int_at, text_at}
 use Rattle.ereader.proofs.Spelled as tokens
 
@@ -39,6 +39,8 @@ as_receiver-is (while_tree c body) s = refl
 as_receiver-is (for_tree p e body) s = refl
 as_receiver-is (try_tree body p handler) s = refl
 as_receiver-is (throw_tree e) s = refl
+as_receiver-is (object_tree p ms) s = refl
+as_receiver-is (escape_tree x body) s = refl
 
 -- what stands, in brackets where they are wanted
 in_brackets : (wanted : Bool) (bs : List ℕ) (w : Before) → Stands bs w → Stands (text.bracketed wanted bs) (bracketed wanted w)
@@ -117,6 +119,18 @@ try-bytes p x q r = simp append_assoc
 throw-bytes : (e r : List ℕ) → (codes "throw(" ++ e ++ codes ")") ++ r ≡ codes "throw" ++ (40 ∷ (e ++ (41 ∷ r)))
 throw-bytes e r = simp append_assoc
 
+-- of an object
+object-bytes : (x ms r : List ℕ) → (codes "def " ++ x ++ codes " " ++ ms) ++ r ≡ codes "def" ++ (32 ∷ (x ++ (32 ∷ (ms ++ r))))
+object-bytes x ms r = simp append_assoc
+
+-- of an escape
+escape-bytes : (x p r : List ℕ) → (codes "escape " ++ x ++ codes " " ++ p) ++ r ≡ codes "escape" ++ (32 ∷ (x ++ (32 ∷ (p ++ r))))
+escape-bytes x p r = simp append_assoc
+
+-- of a method
+method-bytes : (verb ps p r : List ℕ) → (codes "method " ++ (verb ++ codes "(" ++ ps ++ codes ")") ++ codes " " ++ p) ++ r ≡ codes "method" ++ (32 ∷ (verb ++ (40 ∷ (ps ++ (41 ∷ 32 ∷ (p ++ r))))))
+method-bytes verb ps p r = simp append_assoc
+
 -- of a block in its braces
 braces-bytes : (s r : List ℕ) → (codes "{ " ++ s ++ codes " }") ++ r ≡ 123 ∷ 32 ∷ (s ++ (32 ∷ 125 ∷ r))
 braces-bytes s r = simp append_assoc
@@ -157,6 +171,32 @@ block_stands : (ts : Trees) → StandItems ts → Stands (text.in_braces (spelle
 block_stands none h = λ r us ends rest. open_curly_at (spaced (close_curly_at rest))
 block_stands (and_then t ts) h = λ r us ends rest.
     subst (λ l. InLine l (in_braces (written_items (and_then t ts)) us)) (sym (braces-bytes (spelling (and_then t ts)) r))
+    (open_curly_at (spaced (h.1 (32 ∷ 125 ∷ r) _ refl (spaced (close_curly_at rest)))))
+
+-- methods, each behind a space
+abbrev led_methods : Methods → List ℕ
+led_methods ms = text.led_by (codes " ") (spelled_methods ms)
+
+-- a space lengthens no word
+led_methods-ends : (ms : Methods) (r : List ℕ) → Ends r → Ends (led_methods ms ++ r)
+led_methods-ends no_methods r ends = ends
+led_methods-ends (and_method verb ps body ms) r ends = refl
+
+-- the methods stand: each behind a space, and with spaces between them
+abbrev StandMethods : Methods → Type 0
+StandMethods ms = Stands (led_methods ms) (written_methods ms) × Stands (text.joined (codes " ") (spelled_methods ms)) (written_methods ms)
+
+-- a method
+method_stands : (verb : Name) (ps : List Pattern) (body : Trees) → IsName verb → BindNames ps → StandItems body → Stands (text.method_text verb ps (spelled_items body)) (taking verb ps (written_items body))
+method_stands verb ps body h k items = λ r us ends rest.
+    subst (λ l. InLine l (taking verb ps (written_items body) us)) (sym (method-bytes verb (text.joined (codes ", ") (map bound_name ps)) (text.in_braces (spelled_items body)) r))
+    (reserved_at (codes "method") word.Method refl refl refl refl (spaced (name_at verb h refl (open_round_at (patterns_stand ps k _ _ refl (close_round_at (spaced (block_stands body items r us ends rest))))))))
+
+-- the methods of an object in its braces
+members_stand : (ms : Methods) → StandMethods ms → Stands (text.methods_in_braces (spelled_methods ms)) (λ us. token.Sign sign.OpenCurly ∷ written_methods ms (token.Sign sign.CloseCurly ∷ us))
+members_stand no_methods h = λ r us ends rest. open_curly_at (spaced (close_curly_at rest))
+members_stand (and_method verb ps body ms) h = λ r us ends rest.
+    subst (λ l. InLine l (token.Sign sign.OpenCurly ∷ written_methods (and_method verb ps body ms) (token.Sign sign.CloseCurly ∷ us))) (sym (braces-bytes (text.joined (codes " ") (spelled_methods (and_method verb ps body ms))) r))
     (open_curly_at (spaced (h.1 (32 ∷ 125 ∷ r) _ refl (spaced (close_curly_at rest)))))
 
 -- parts, each behind a comma
@@ -220,6 +260,19 @@ mutual
   stands (throw_tree e) h = λ r us ends rest.
       subst (λ l. InLine l (written (throw_tree e) us)) (sym (throw-bytes (as_part e (spelled e)) r))
       (reserved_at (codes "throw") word.Throw refl refl refl refl (open_round_at (part e (stands e h) _ _ refl (close_round_at rest))))
+  stands (object_tree p ms) h = λ r us ends rest.
+      subst (λ l. InLine l (written (object_tree p ms) us)) (sym (object-bytes (bound_name p) (text.methods_in_braces (spelled_methods ms)) r))
+      (reserved_at (codes "def") word.Def refl refl refl refl (spaced (bound_at p h.0 refl (spaced (members_stand ms (stand_methods ms h.1) r us ends rest)))))
+  stands (escape_tree x body) h = λ r us ends rest.
+      subst (λ l. InLine l (written (escape_tree x body) us)) (sym (escape-bytes x (text.in_braces (spelled_items body)) r))
+      (reserved_at (codes "escape") word.Escape refl refl refl refl (spaced (name_at x h.0 refl (spaced (block_stands body (stand_items body h.1) r us ends rest)))))
+
+  -- so do all the methods
+  stand_methods : (ms : Methods) → AreSpellableMethods ms → StandMethods ms
+  stand_methods no_methods h = (λ r us ends rest. rest, λ r us ends rest. rest)
+  stand_methods (and_method verb ps body ms) h =
+      let whole = in_turn (text.method_text verb ps (spelled_items body)) (led_methods ms) (taking verb ps (written_items body)) (written_methods ms) (method_stands verb ps body h.0 h.1 (stand_items body h.2)) (stand_methods ms h.3).0 (led_methods-ends ms) in
+      (λ r us ends rest. spaced (whole r us ends rest), whole)
 
   -- so do all the parts
   stand_all : (ts : Trees) → AreSpellable ts → StandAll ts

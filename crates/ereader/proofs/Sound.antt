@@ -7,14 +7,14 @@ use Rattle.etoken.specs.declared.token.Reserved.TheVariants as word
 use Rattle.etoken.specs.declared.token.Sign as signs
 use Rattle.etoken.specs.declared.token.Sign.TheVariants as sign
 use Rattle.kernele.specs.declared.tree.Pattern.{Pattern}
-use Rattle.kernele.specs.Tree.{Name, Tree, define, define_list, variable, assign, call, list_tree, hide, if_tree, while_tree, for_tree, try_tree, throw_tree, Trees, none, and_then}
+use Rattle.kernele.specs.Tree.{Name, Tree, null_tree, define, define_list, variable, assign, call, list_tree, hide, if_tree, while_tree, for_tree, try_tree, throw_tree, object_tree, escape_tree, Trees, none, and_then, Methods, no_methods}
 use Rattle.ereader.specs.declared.operator.Operator.{Operator}
 use Rattle.ereader.specs.declared.operator.Link.{Link}
 use Rattle.ereader.specs.declared.operator.Link.TheVariants as link
 use Rattle.ereader.specs.declared.operator.Bracket.{Bracket}
 use Rattle.ereader.specs.declared.operator.Bracket.TheVariants as bracket
-use Rattle.ereader.specs.Grammar.{product_operator, sum_operator, comparison_operator, and_operator, or_operator, prefix_operator, joined, prefix_verb, Place, definition, definitions, new_variable, assignment, given, snoc, alone, Pat, pat_name, pat_ignore, Pats, pats_one, pats_and, PatList, pat_list_none, pat_list_some, Semicolons, semicolons_none, semicolons_more, Expr, expr_define, expr_define_list, expr_variable, expr_assign, expr_disjunction, Disjunction, disjunction_conjunction, disjunction_more, Conjunction, conjunction_comparison, conjunction_more, Comparison, comparison_sum, comparison_two, Sum, sum_product, sum_more, Product, product_unary, product_more, Unary, unary_postfix, unary_prefix, Postfix, postfix_primary, postfix_method, postfix_run, postfix_get, Primary, primary_int, primary_text, primary_true, primary_false, primary_null, primary_name, primary_list, primary_group, primary_hide, primary_if, primary_while, primary_for, primary_try, primary_throw, Conditional, conditional_alone, conditional_else, conditional_else_if, Condition, condition, Braced, braced, Args, args_none, args_some, Items, items_one, items_and, Sequence, sequence_one, sequence_and, Block, block_empty, block_items, Program}
-use Rattle.ereader.specs.Reading.{Read, ◌>>=◌, or_else, rest_of, is_empty, sign_in, front, is_at_word, is_def_word, is_var_word, is_if_word, is_else_word, is_in_word, is_catch_word, is_assignment, is_comma, is_semicolon, is_becomes, is_open, is_close, repeat, past, past_word, operand_next, operands_at, commas_next, commas_at, closed_at, push_pattern, Within, items_at, args_at, list_at, pattern_at, pattern_at_sign, patterns_at, pattern_list_at, bound_at, bound_list_at, assigned_at, define_one_at, define_list_at, define_at, variable_at, assign_at, target_at, expr_at, group_at, literal_of, control_at, word_at, bracket_at, primary_at, link_of, closer, verb_at, linked_at, postfix_next, postfix_at, unary_at, product_at, sum_at, comparison_at, conjunction_at, disjunction_at, if_at, while_at, for_at, try_at, throw_at, within_at, skip_semicolons, is_block_end, separator_at, separated, block_next, block_at, block_past_at, braced_at, hide_at, condition_at, branch_at, else_at, each_at, tried_at, ended, program_at}
+use Rattle.ereader.specs.Grammar.{product_operator, sum_operator, comparison_operator, and_operator, or_operator, prefix_operator, joined, prefix_verb, Place, definition, definitions, new_variable, assignment, given, snoc, alone, MethodTree, method_tree, put_method, return_tree, returning, function_tree, Pat, pat_name, pat_ignore, Pats, pats_one, pats_and, PatList, pat_list_none, pat_list_some, Semicolons, semicolons_none, semicolons_more, Expr, expr_define, expr_define_list, expr_variable, expr_assign, expr_return, expr_return_null, expr_disjunction, Disjunction, disjunction_conjunction, disjunction_more, Conjunction, conjunction_comparison, conjunction_more, Comparison, comparison_sum, comparison_two, Sum, sum_product, sum_more, Product, product_unary, product_more, Unary, unary_postfix, unary_prefix, Postfix, postfix_primary, postfix_method, postfix_run, postfix_get, Primary, primary_int, primary_text, primary_true, primary_false, primary_null, primary_name, primary_list, primary_group, primary_hide, primary_if, primary_while, primary_for, primary_try, primary_throw, primary_escape, primary_object, primary_function, Method, method_to, method_plain, MethodList, methods_none, methods_and, Conditional, conditional_alone, conditional_else, conditional_else_if, Condition, condition, Braced, braced, Args, args_none, args_some, Items, items_one, items_and, Sequence, sequence_one, sequence_and, Block, block_empty, block_items, Program}
+use Rattle.ereader.specs.Reading.{Read, ◌>>=◌, or_else, rest_of, is_empty, sign_in, front, is_at_word, is_def_word, is_var_word, is_if_word, is_else_word, is_in_word, is_catch_word, is_assignment, is_comma, is_semicolon, is_becomes, is_open, is_close, repeat, past, past_word, operand_next, operands_at, commas_next, commas_at, closed_at, push_pattern, Within, items_at, args_at, list_at, pattern_at, pattern_at_sign, patterns_at, pattern_list_at, bound_at, bound_list_at, assigned_at, define_one_at, define_list_at, define_at, variable_at, assign_at, target_at, is_return_word, is_to_word, is_method_word, is_definition, is_bound, begins, block_of, method_verb_at, taking_at, method_at, methods_next, methods_at, methods_past_at, members_at, function_at, escape_at, body_at, object_at, name_at, return_at, given_at, expr_at, group_at, literal_of, control_at, word_at, bracket_at, primary_at, link_of, closer, verb_at, linked_at, postfix_next, postfix_at, unary_at, product_at, sum_at, comparison_at, conjunction_at, disjunction_at, if_at, while_at, for_at, try_at, throw_at, within_at, skip_semicolons, is_block_end, separator_at, separated, block_next, block_at, block_past_at, braced_at, hide_at, condition_at, branch_at, else_at, each_at, tried_at, ended, program_at}
 use Rattle.ereader.proofs.Turns.{bind_some, or_else_is, if_is, some_same, none_some, repeat_sound}
 
 -- a sign in front
@@ -99,6 +99,19 @@ catch_word : (w : words.Reserved) → is_catch_word w ≡ true → w ≡ word.Ca
 catch_word word.Catch e = refl
 catch_word _ e = absurd (cc)
 
+return_word : (w : words.Reserved) → is_return_word w ≡ true → w ≡ word.Return
+return_word word.Return e = refl
+return_word _ e = absurd (cc)
+
+to_word : (w : words.Reserved) → is_to_word w ≡ true → w ≡ word.To
+to_word word.To e = refl
+to_word _ e = absurd (cc)
+
+method_word : (w : words.Reserved) → is_method_word w ≡ true → is_to_word w ≡ false → w ≡ word.Method
+method_word word.To e f = absurd (cc)
+method_word word.Method e f = refl
+method_word _ e f = absurd (cc)
+
 -- a word in front
 word_front : (is : words.Reserved → Bool) (v : words.Reserved) → ((w : words.Reserved) → is w ≡ true → w ≡ v) → (a : List Token) → is_at_word is a ≡ true → a ≡ token.Word v ∷ rest_of a
 word_front is v h [] e = absurd (cc)
@@ -109,6 +122,32 @@ past_word_is : {A : Type 0} (is : words.Reserved → Bool) (v : words.Reserved) 
 past_word_is is v h y x e =
     let n = needed (is_at_word is y.1) (y.0, rest_of y.1) e in
     (word_front is v h y.1 n.0 ∙ ap (λ z. token.Word v ∷ z.1) n.1, ap (λ z. z.0) n.1)
+
+-- the word of a method that may not return, in front
+method_front : (a : List Token) → is_at_word is_method_word a ≡ true → is_at_word is_to_word a ≡ false → a ≡ token.Word word.Method ∷ rest_of a
+method_front [] e f = absurd (cc)
+method_front (token.Word w ∷ a) e f = ap (λ z. token.Word z ∷ a) (method_word w e f)
+method_front (_ ∷ a) e f = absurd (cc)
+
+-- a definition in front
+definition_front : (a : List Token) → is_definition a ≡ true → a ≡ token.Word word.Def ∷ rest_of a
+definition_front a e = elim (if_is (is_at_word is_def_word a) (is_bound (rest_of a)) false e) [
+  | inl h ↦ word_front is_def_word word.Def def_word a h.0
+  | inr h ↦ absurd (cc)
+]
+
+-- a name in front
+name_front : (a : List Token) (x : Name × List Token) → name_at a ≡ Some x → a ≡ token.Name x.0 ∷ x.1
+name_front [] x e = absurd (none_some e)
+name_front (token.Name n ∷ a) x e = ap (λ y. token.Name y.0 ∷ y.1) (some_same e)
+name_front (_ ∷ a) x e = absurd (none_some e)
+
+-- a name and an opening bracket in front
+verb_front : (a : List Token) (x : Name × List Token) → method_verb_at a ≡ Some x → a ≡ token.Name x.0 ∷ token.Sign sign.OpenRound ∷ x.1
+verb_front a x e =
+    let g = bind_some (name_at a) (past (is_open bracket.Round)) e in
+    let p = past_is (is_open bracket.Round) sign.OpenRound (open_is bracket.Round) g.0 x g.2 in
+    name_front a g.0 g.1 ∙ ap (λ z. token.Name g.0.0 ∷ z) p.0 ∙ ap (λ z. token.Name z ∷ token.Sign sign.OpenRound ∷ x.1) p.1
 
 -- a name and `:=` in front
 assigned_is : (a : List Token) (x : Name × List Token) → assigned_at a ≡ Some x → a ≡ token.Name x.0 ∷ token.Sign sign.Becomes ∷ x.1
@@ -185,8 +224,8 @@ sound_pattern (_ ∷ a) x e = absurd (none_some e)
 sound_patterns : (a : List Token) (x : List Pattern × List Token) → patterns_at a ≡ Some x → Pats a x.0 x.1
 sound_patterns = commas_sound (λ p. p ∷ []) push_pattern pattern_at Pats Pat sound_pattern (λ a r p h. pats_one h) (λ a b r ps p h k. pats_and h k)
 
-sound_pattern_list : (a : List Token) (x : List Pattern × List Token) → pattern_list_at a ≡ Some x → PatList a x.0 (token.Sign sign.CloseSquare ∷ x.1)
-sound_pattern_list = closed_sound [] patterns_at PatList Pats sound_patterns (λ r. pat_list_none) (λ a r ps h. pat_list_some h) bracket.Square
+sound_pattern_list : (c : Bracket) (a : List Token) (x : List Pattern × List Token) → pattern_list_at c a ≡ Some x → PatList a x.0 (token.Sign (close_sign c) ∷ x.1)
+sound_pattern_list = closed_sound [] patterns_at PatList Pats sound_patterns (λ r. pat_list_none) (λ a r ps h. pat_list_some h)
 
 sound_bound : (a : List Token) (x : Pattern × List Token) → bound_at a ≡ Some x → Pat a x.0 (token.Sign sign.Becomes ∷ x.1)
 sound_bound a x e =
@@ -196,9 +235,9 @@ sound_bound a x e =
 
 sound_bound_list : (a : List Token) (x : List Pattern × List Token) → bound_list_at a ≡ Some x → PatList a x.0 (token.Sign sign.CloseSquare ∷ token.Sign sign.Becomes ∷ x.1)
 sound_bound_list a x e =
-    let k = bind_some (pattern_list_at a) (past is_becomes) e in
+    let k = bind_some (pattern_list_at bracket.Square a) (past is_becomes) e in
     let n = past_is is_becomes sign.Becomes becomes_is k.0 x k.2 in
-    subst (λ q. PatList a q (token.Sign sign.CloseSquare ∷ token.Sign sign.Becomes ∷ x.1)) n.1 (subst (λ r. PatList a k.0.0 (token.Sign sign.CloseSquare ∷ r)) n.0 (sound_pattern_list a k.0 k.1))
+    subst (λ q. PatList a q (token.Sign sign.CloseSquare ∷ token.Sign sign.Becomes ∷ x.1)) n.1 (subst (λ r. PatList a k.0.0 (token.Sign sign.CloseSquare ∷ r)) n.0 (sound_pattern_list bracket.Square a k.0 k.1))
 
 sound_each : (a : List Token) (x : Pattern × List Token) → each_at a ≡ Some x → Pat a x.0 (token.Word word.In ∷ x.1)
 sound_each a x e =
@@ -286,11 +325,19 @@ module _ (within : Within)
         subst (λ y. Expr (token.Word word.Def ∷ a) y.0 y.1) (some_same f.2) (expr_define (sound_bound a k.0 k.1) (inside k.0.1 f.0 f.1))
   ]
 
-  sound_expr : (a : List Token) (x : Tree × List Token) → expr_at within a ≡ Some x → Expr a x.0 x.1
-  sound_expr a x e =
+  sound_return : (a : List Token) (x : Tree × List Token) → return_at within a ≡ Some x → Expr (token.Word word.Return ∷ a) x.0 x.1
+  sound_return a x e = elim (if_is (begins a) (within.expression a >>= λ y. Some (return_tree y.0, y.1)) (Some (return_tree null_tree, a)) e) [
+    | inl h ↦
+        let g = bind_some (within.expression a) (λ y. Some (return_tree y.0, y.1)) h.1 in
+        subst (λ y. Expr (token.Word word.Return ∷ a) y.0 y.1) (some_same g.2) (expr_return (inside a g.0 g.1))
+    | inr h ↦ subst (λ y. Expr (token.Word word.Return ∷ a) y.0 y.1) (some_same h.1) expr_return_null
+  ]
+
+  sound_given : (a : List Token) (x : Tree × List Token) → given_at within a ≡ Some x → Expr a x.0 x.1
+  sound_given a x e =
       let g = bind_some (target_at a) value_at e in
-      elim (if_is (is_at_word is_def_word a) (define_at (rest_of a)) (cond (is_at_word is_var_word a) (variable_at (rest_of a)) (cond (is_assignment a) (assign_at a) (Some (None, a)))) g.1) [
-        | inl h ↦ subst (λ z. Expr z x.0 x.1) (sym (word_front is_def_word word.Def def_word a h.0)) (sound_define (rest_of a) g.0 x h.1 g.2)
+      elim (if_is (is_definition a) (define_at (rest_of a)) (cond (is_at_word is_var_word a) (variable_at (rest_of a)) (cond (is_assignment a) (assign_at a) (Some (None, a)))) g.1) [
+        | inl h ↦ subst (λ z. Expr z x.0 x.1) (sym (definition_front a h.0)) (sound_define (rest_of a) g.0 x h.1 g.2)
         | inr o ↦ elim (if_is (is_at_word is_var_word a) (variable_at (rest_of a)) (cond (is_assignment a) (assign_at a) (Some (None, a))) o.1) [
           | inl h ↦
               let k = bind_some (assigned_at (rest_of a)) (λ n. Some (Some (new_variable n.0), n.1)) h.1 in
@@ -305,6 +352,12 @@ module _ (within : Within)
           ]
         ]
       ]
+
+  sound_expr : (a : List Token) (x : Tree × List Token) → expr_at within a ≡ Some x → Expr a x.0 x.1
+  sound_expr a x e = elim (if_is (is_at_word is_return_word a) (return_at within (rest_of a)) (given_at within a) e) [
+    | inl h ↦ subst (λ z. Expr z x.0 x.1) (sym (word_front is_return_word word.Return return_word a h.0)) (sound_return (rest_of a) x h.1)
+    | inr h ↦ sound_given a x h.1
+  ]
 
   block_step : (a : List Token) (ts : Trees) (b : List Token) (turn : Read Trees) (x : Trees × List Token) → block_next within ts b ≡ Some turn → turn ≡ Some x → Begun a ts b → Begun a x.0 x.1
   block_step a ts b turn x e k w = elim (if_is (is_block_end b) None (Some (expr_at within b >>= λ y. separated (snoc ts y.0) y.1)) e) [
@@ -398,12 +451,83 @@ module _ (within : Within)
       let g = bind_some (condition_at within a) (λ e. Some (throw_tree e.0, e.1)) e in
       subst (λ y. Primary (token.Word word.Throw ∷ a) y.0 y.1) (some_same g.2) (primary_throw (sound_condition a g.0 g.1))
 
+  sound_escape : (a : List Token) (x : Tree × List Token) → escape_at within a ≡ Some x → Primary (token.Word word.Escape ∷ a) x.0 x.1
+  sound_escape a x e =
+      let g = bind_some (name_at a) (λ n. braced_at within n.1 >>= λ b. Some (escape_tree n.0 b.0, b.1)) e in
+      let f = bind_some (braced_at within g.0.1) (λ b. Some (escape_tree g.0.0 b.0, b.1)) g.2 in
+      subst (λ z. Primary (token.Word word.Escape ∷ z) x.0 x.1) (sym (name_front a g.0 g.1))
+      (subst (λ y. Primary (token.Word word.Escape ∷ token.Name g.0.0 ∷ g.0.1) y.0 y.1) (some_same f.2) (primary_escape (sound_braced g.0.1 f.0 f.1)))
+
+  sound_function : (a b : List Token) (p : Pattern) (x : Tree × List Token) → Pat a p (token.Sign sign.OpenRound ∷ b) → function_at within p b ≡ Some x → Primary (token.Word word.Def ∷ a) x.0 x.1
+  sound_function a b p x q e =
+      let g = bind_some (pattern_list_at bracket.Round b) (λ ps. braced_at within ps.1 >>= λ c. Some (function_tree p ps.0 c.0, c.1)) e in
+      let f = bind_some (braced_at within g.0.1) (λ c. Some (function_tree p g.0.0 c.0, c.1)) g.2 in
+      subst (λ y. Primary (token.Word word.Def ∷ a) y.0 y.1) (some_same f.2) (primary_function q (sound_pattern_list bracket.Round b g.0 g.1) (sound_braced g.0.1 f.0 f.1))
+
+  -- behind `to`
+  sound_to : (a : List Token) (x : MethodTree × List Token) → taking_at within true a ≡ Some x → Method (token.Word word.To ∷ a) x.0 x.1
+  sound_to a x e =
+      let g = bind_some (method_verb_at a) (λ v. pattern_list_at bracket.Round v.1 >>= λ ps. braced_at within ps.1 >>= λ b. Some (method_tree v.0 ps.0 (returning b.0), b.1)) e in
+      let f = bind_some (pattern_list_at bracket.Round g.0.1) (λ ps. braced_at within ps.1 >>= λ b. Some (method_tree g.0.0 ps.0 (returning b.0), b.1)) g.2 in
+      let k = bind_some (braced_at within f.0.1) (λ b. Some (method_tree g.0.0 f.0.0 (returning b.0), b.1)) f.2 in
+      subst (λ z. Method (token.Word word.To ∷ z) x.0 x.1) (sym (verb_front a g.0 g.1))
+      (subst (λ y. Method (token.Word word.To ∷ token.Name g.0.0 ∷ token.Sign sign.OpenRound ∷ g.0.1) y.0 y.1) (some_same k.2) (method_to (sound_pattern_list bracket.Round g.0.1 f.0 f.1) (sound_braced f.0.1 k.0 k.1)))
+
+  -- behind `method`
+  sound_plain : (a : List Token) (x : MethodTree × List Token) → taking_at within false a ≡ Some x → Method (token.Word word.Method ∷ a) x.0 x.1
+  sound_plain a x e =
+      let g = bind_some (method_verb_at a) (λ v. pattern_list_at bracket.Round v.1 >>= λ ps. braced_at within ps.1 >>= λ b. Some (method_tree v.0 ps.0 b.0, b.1)) e in
+      let f = bind_some (pattern_list_at bracket.Round g.0.1) (λ ps. braced_at within ps.1 >>= λ b. Some (method_tree g.0.0 ps.0 b.0, b.1)) g.2 in
+      let k = bind_some (braced_at within f.0.1) (λ b. Some (method_tree g.0.0 f.0.0 b.0, b.1)) f.2 in
+      subst (λ z. Method (token.Word word.Method ∷ z) x.0 x.1) (sym (verb_front a g.0 g.1))
+      (subst (λ y. Method (token.Word word.Method ∷ token.Name g.0.0 ∷ token.Sign sign.OpenRound ∷ g.0.1) y.0 y.1) (some_same k.2) (method_plain (sound_pattern_list bracket.Round g.0.1 f.0 f.1) (sound_braced f.0.1 k.0 k.1)))
+
+  sound_method_word : (a : List Token) (returns : Bool) (x : MethodTree × List Token) → is_at_word is_method_word a ≡ true → is_at_word is_to_word a ≡ returns → taking_at within returns (rest_of a) ≡ Some x → Method a x.0 x.1
+  sound_method_word a true x h k e = subst (λ z. Method z x.0 x.1) (sym (word_front is_to_word word.To to_word a k)) (sound_to (rest_of a) x e)
+  sound_method_word a false x h k e = subst (λ z. Method z x.0 x.1) (sym (method_front a h k)) (sound_plain (rest_of a) x e)
+
+  methods_step : (a : List Token) (ms : Methods) (b : List Token) (turn : Read Methods) (x : Methods × List Token) → methods_next within ms b ≡ Some turn → turn ≡ Some x → MethodList a ms b → MethodList a x.0 x.1
+  methods_step a ms b turn x e k s = elim (if_is (is_at_word is_method_word b) (Some (method_at within b >>= λ m. Some (put_method ms m.0, m.1))) None e) [
+    | inl h ↦
+        let g = bind_some (method_at within b) (λ m. Some (put_method ms m.0, m.1)) (some_same h.1 ∙ k) in
+        subst (λ y. MethodList a y.0 y.1) (some_same g.2) (methods_and s (sound_method_word b (is_at_word is_to_word b) g.0 h.0 refl g.1))
+    | inr h ↦ absurd (none_some h.1)
+  ]
+
+  sound_methods : (a : List Token) (x : Methods × List Token) → methods_past_at within a ≡ Some x → MethodList a x.0 (token.Sign sign.CloseCurly ∷ x.1)
+  sound_methods a x e =
+      let g = bind_some (methods_at within a) (past (is_close bracket.Curly)) e in
+      let p = past_is (is_close bracket.Curly) sign.CloseCurly (close_is bracket.Curly) g.0 x g.2 in
+      subst (λ ms. MethodList a ms (token.Sign sign.CloseCurly ∷ x.1)) p.1 (subst (λ r. MethodList a g.0.0 r) p.0
+      (repeat_sound (methods_next within) (MethodList a) (methods_step a) (length a) no_methods a g.0 methods_none g.1))
+
+  sound_members : (a b : List Token) (p : Pattern) (x : Tree × List Token) → Pat a p (token.Sign sign.OpenCurly ∷ b) → members_at within p b ≡ Some x → Primary (token.Word word.Def ∷ a) x.0 x.1
+  sound_members a b p x q e =
+      let g = bind_some (methods_past_at within b) (λ ms. Some (object_tree p ms.0, ms.1)) e in
+      subst (λ y. Primary (token.Word word.Def ∷ a) y.0 y.1) (some_same g.2) (primary_object q (sound_methods b g.0 g.1))
+
+  sound_body : (a b : List Token) (p : Pattern) (x : Tree × List Token) → Pat a p b → body_at within p b ≡ Some x → Primary (token.Word word.Def ∷ a) x.0 x.1
+  sound_body a b p x q e = elim (if_is (is_open bracket.Curly (sign_in b)) (members_at within p (rest_of b)) (cond (is_open bracket.Round (sign_in b)) (function_at within p (rest_of b)) None) e) [
+    | inl h ↦ sound_members a (rest_of b) p x (subst (λ r. Pat a p r) (sign_front b (open_is bracket.Curly (sign_in b) h.0)) q) h.1
+    | inr h ↦ elim (if_is (is_open bracket.Round (sign_in b)) (function_at within p (rest_of b)) None h.1) [
+      | inl k ↦ sound_function a (rest_of b) p x (subst (λ r. Pat a p r) (sign_front b (open_is bracket.Round (sign_in b) k.0)) q) k.1
+      | inr k ↦ absurd (none_some k.1)
+    ]
+  ]
+
+  sound_object : (a : List Token) (x : Tree × List Token) → object_at within a ≡ Some x → Primary (token.Word word.Def ∷ a) x.0 x.1
+  sound_object a x e =
+      let g = bind_some (pattern_at a) (λ p. body_at within p.0 p.1) e in
+      sound_body a g.0.1 g.0.0 x (sound_pattern a g.0 g.1) g.2
+
   sound_control : (w : words.Reserved) (a : List Token) (x : Tree × List Token) → control_at within w a ≡ Some x → Primary (token.Word w ∷ a) x.0 x.1
   sound_control word.If a x e = primary_if (sound_if a x e)
   sound_control word.While a x e = sound_while a x e
   sound_control word.For a x e = sound_for a x e
   sound_control word.Try a x e = sound_try a x e
   sound_control word.Throw a x e = sound_throw a x e
+  sound_control word.Escape a x e = sound_escape a x e
+  sound_control word.Def a x e = sound_object a x e
   sound_control _ a x e = absurd (none_some e)
 
   sound_word : (w : words.Reserved) (a : List Token) (x : Tree × List Token) → word_at within w a ≡ Some x → Primary (token.Word w ∷ a) x.0 x.1

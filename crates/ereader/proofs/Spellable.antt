@@ -16,15 +16,15 @@ use Rattle.etoken.specs.Spelling.{IsWord, Spells, spells_int, spells_text, spell
 use Rattle.etoken.specs.Cutting.{Piece, piece_at, Cuts, cuts_none, cuts_more}
 use Rattle.etoken.specs.Breaks.{parts, semicolon_at, with_breaks_in, behind, may_end}
 use Rattle.kernele.specs.declared.tree.Pattern.{Pattern}
-use Rattle.kernele.specs.Tree.{Tree, call, Trees, none, and_then}
+use Rattle.kernele.specs.Tree.{Tree, null_tree, call, Trees, none, and_then, Methods, no_methods, and_method}
 use Rattle.kernele.specs.Spelling.{spelling}
 use Rattle.ereader.specs.declared.operator.Operator.{Operator}
 use Rattle.ereader.specs.declared.operator.Operator.TheVariants as operator
 use Rattle.ereader.specs.declared.operator.Prefix.{Prefix}
 use Rattle.ereader.specs.declared.operator.Prefix.TheVariants as prefix
-use Rattle.ereader.specs.Grammar.{joined, prefix_verb, snoc, Pat, pat_name, pat_ignore, Pats, pats_one, pats_and, PatList, pat_list_none, pat_list_some, Semicolons, semicolons_none, semicolons_more, Expr, expr_define, expr_define_list, expr_variable, expr_assign, expr_disjunction, Disjunction, disjunction_conjunction, disjunction_more, Conjunction, conjunction_comparison, conjunction_more, Comparison, comparison_sum, comparison_two, Sum, sum_product, sum_more, Product, product_unary, product_more, Unary, unary_postfix, unary_prefix, Postfix, postfix_primary, postfix_method, postfix_run, postfix_get, Primary, primary_int, primary_text, primary_true, primary_false, primary_null, primary_name, primary_list, primary_group, primary_hide, primary_if, primary_while, primary_for, primary_try, primary_throw, Conditional, conditional_alone, conditional_else, conditional_else_if, Condition, condition, Braced, braced, Args, args_none, args_some, Items, items_one, items_and, Sequence, sequence_one, sequence_and, Block, block_empty, block_items}
+use Rattle.ereader.specs.Grammar.{joined, prefix_verb, snoc, MethodTree, method_tree, put_method, returning, Pat, pat_name, pat_ignore, Pats, pats_one, pats_and, PatList, pat_list_none, pat_list_some, Semicolons, semicolons_none, semicolons_more, Expr, expr_define, expr_define_list, expr_variable, expr_assign, expr_return, expr_return_null, expr_disjunction, Disjunction, disjunction_conjunction, disjunction_more, Conjunction, conjunction_comparison, conjunction_more, Comparison, comparison_sum, comparison_two, Sum, sum_product, sum_more, Product, product_unary, product_more, Unary, unary_postfix, unary_prefix, Postfix, postfix_primary, postfix_method, postfix_run, postfix_get, Primary, primary_int, primary_text, primary_true, primary_false, primary_null, primary_name, primary_list, primary_group, primary_hide, primary_if, primary_while, primary_for, primary_try, primary_throw, primary_escape, primary_object, primary_function, Method, method_to, method_plain, MethodList, methods_none, methods_and, Conditional, conditional_alone, conditional_else, conditional_else_if, Condition, condition, Braced, braced, Args, args_none, args_some, Items, items_one, items_and, Sequence, sequence_one, sequence_and, Block, block_empty, block_items}
 use Rattle.ereader.specs.View.{plain}
-use Rattle.ereader.specs.Spelled.{CutInto, cut_into, SpelledBy, IsName, HasLiteral, BindsName, BindNames, IsSpellable, AreSpellable}
+use Rattle.ereader.specs.Spelled.{CutInto, cut_into, SpelledBy, IsName, HasLiteral, BindsName, BindNames, IsSpellable, AreSpellable, AreSpellableMethods}
 use Rattle.ereader.proofs.Retold.{spells_itself}
 
 -- a token that some text spells
@@ -136,6 +136,18 @@ semicolons : {a r : List Token} → Semicolons a r → AreWritable a → AreWrit
 semicolons semicolons_none = λ h. h
 semicolons (semicolons_more x) = λ h. semicolons x h.1
 
+-- a method can be spelled
+abbrev IsSpellableMethod : MethodTree → Type 0
+IsSpellableMethod (method_tree verb ps body) = IsName verb × BindNames ps × AreSpellable body
+
+put_spellable : (ms : Methods) (m : MethodTree) → AreSpellableMethods ms → IsSpellableMethod m → AreSpellableMethods (put_method ms m)
+put_spellable no_methods (method_tree verb ps body) h k = (k.0, k.1, k.2, tt)
+put_spellable (and_method v qs b ms) m h k = (h.0, h.1, h.2, put_spellable ms m h.3 k)
+
+-- so can the block of a method that may return
+returning_spellable : (ts : Trees) → AreSpellable ts → AreSpellable (returning ts)
+returning_spellable ts h = ((refl, snoc_spellable ts null_tree h tt), tt)
+
 mutual
   expr : {a r : List Token} {t : Tree} → Expr a t r → Keeps a (IsSpellable t) r
   expr (expr_define p x) = λ h.
@@ -148,6 +160,8 @@ mutual
       ((q.0, y.0), y.1)
   expr (expr_variable x) = λ h. let y = disjunction x h.1.1.1 in ((h.1.0, y.0), y.1)
   expr (expr_assign x) = λ h. let y = disjunction x h.1.1 in ((h.0, y.0), y.1)
+  expr (expr_return x) = λ h. let y = disjunction x h.1 in ((refl, refl, (y.0, tt)), y.1)
+  expr expr_return_null = λ h. ((refl, refl, (tt, tt)), h.1)
   expr (expr_disjunction x) = disjunction x
 
   disjunction : {a r : List Token} {t : Tree} → Disjunction a t r → Keeps a (IsSpellable t) r
@@ -230,6 +244,33 @@ mutual
       let b = in_curly y q.1 in
       ((p.0, q.0, b.0), b.1)
   primary (primary_throw x) = λ h. in_round x h.1
+  primary (primary_escape x) = λ h. let p = in_curly x h.1.1 in ((h.1.0, p.0), p.1)
+  primary (primary_object o x) = λ h.
+      let p = pat_spellable o h.1 in
+      let q = methods x p.1.1 in
+      ((p.0, q.0), q.1.1)
+  primary (primary_function {ts = ts} o x y) = λ h.
+      let p = pat_spellable o h.1 in
+      let q = pat_list_spellable x p.1.1 in
+      let b = in_curly y q.1.1 in
+      ((p.0, (refl, q.0, returning_spellable ts b.0, tt)), b.1)
+
+  method : {a r : List Token} {m : MethodTree} → Method a m r → Keeps a (IsSpellableMethod m) r
+  method (method_to {ts = ts} x y) = λ h.
+      let q = pat_list_spellable x h.1.1.1 in
+      let b = in_curly y q.1.1 in
+      ((h.1.0, q.0, returning_spellable ts b.0), b.1)
+  method (method_plain x y) = λ h.
+      let q = pat_list_spellable x h.1.1.1 in
+      let b = in_curly y q.1.1 in
+      ((h.1.0, q.0, b.0), b.1)
+
+  methods : {a r : List Token} {ms : Methods} → MethodList a ms r → Keeps a (AreSpellableMethods ms) r
+  methods methods_none = λ h. (tt, h)
+  methods (methods_and {ms = ms} {m = m} x y) = λ h.
+      let p = methods x h in
+      let q = method y p.1 in
+      (put_spellable ms m p.0 q.0, q.1)
 
   conditional : {a r : List Token} {t : Tree} → Conditional a t r → Keeps a (IsSpellable t) r
   conditional (conditional_alone x y) = λ h.

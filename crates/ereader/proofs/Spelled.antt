@@ -5,10 +5,10 @@ use Rattle.etoken.specs.declared.token.Token.TheVariants as token
 use Rattle.etoken.specs.declared.token.Sign.TheVariants as sign
 use Rattle.kernele.specs.declared.tree.Pattern.{Pattern}
 use Rattle.kernele.specs.declared.tree.Pattern.TheVariants as pattern
-use Rattle.kernele.specs.Tree.{Name, Tree, null_tree, bool_tree, int_tree, text_tree, noun, define, variable, assign, call, list_tree, same_tree, define_list, hide, if_tree, while_tree, for_tree, try_tree, throw_tree, Trees, none, and_then}
+use Rattle.kernele.specs.Tree.{Name, Tree, null_tree, bool_tree, int_tree, text_tree, noun, define, variable, assign, call, list_tree, same_tree, define_list, hide, if_tree, while_tree, for_tree, try_tree, throw_tree, object_tree, escape_tree, Trees, none, and_then, Methods, no_methods, and_method}
 use Rattle.kernele.specs.Spelling.{needs_brackets, is_bare_receiver}
-use Rattle.ereader.specs.Grammar.{snoc, Pat, pat_name, pat_ignore, Pats, pats_one, pats_and, PatList, pat_list_none, pat_list_some, semicolons_none, Expr, expr_define, expr_define_list, expr_variable, expr_assign, expr_disjunction, Disjunction, disjunction_conjunction, conjunction_comparison, Sum, comparison_sum, comparison_two, sum_product, product_unary, unary_postfix, Postfix, postfix_primary, postfix_method, Primary, primary_int, primary_text, primary_true, primary_false, primary_null, primary_name, primary_list, primary_group, primary_hide, primary_if, primary_while, primary_for, primary_try, primary_throw, conditional_else, condition, Braced, braced, Args, args_none, args_some, Items, items_one, items_and, Sequence, sequence_one, sequence_and, Block, block_empty, block_items, Program}
-use Rattle.ereader.specs.Written.{led_by, between, bracketed, bound, bound_in, in_braces, truth_word, written, written_parts, written_items, program_tokens}
+use Rattle.ereader.specs.Grammar.{snoc, MethodTree, method_tree, put_method, Pat, pat_name, pat_ignore, Pats, pats_one, pats_and, PatList, pat_list_none, pat_list_some, semicolons_none, Expr, expr_define, expr_define_list, expr_variable, expr_assign, expr_disjunction, Disjunction, disjunction_conjunction, conjunction_comparison, Sum, comparison_sum, comparison_two, sum_product, product_unary, unary_postfix, Postfix, postfix_primary, postfix_method, Primary, primary_int, primary_text, primary_true, primary_false, primary_null, primary_name, primary_list, primary_group, primary_hide, primary_if, primary_while, primary_for, primary_try, primary_throw, primary_escape, primary_object, method_plain, MethodList, methods_none, methods_and, conditional_else, condition, Braced, braced, Args, args_none, args_some, Items, items_one, items_and, Sequence, sequence_one, sequence_and, Block, block_empty, block_items, Program}
+use Rattle.ereader.specs.Written.{led_by, between, bracketed, bound, bound_in, in_braces, truth_word, written, written_parts, written_items, written_methods, program_tokens}
 
 -- trees put at the end, one after another
 abbrev extend : Trees → Trees → Trees
@@ -26,6 +26,19 @@ extend-none (and_then t ts) = extend-first t none ts ∙ ap (and_then t) (extend
 -- all but the first, put behind the first
 extend-one : (t : Tree) (ts : Trees) → extend (and_then t none) ts ≡ and_then t ts
 extend-one t ts = extend-first t none ts ∙ ap (and_then t) (extend-none ts)
+
+-- methods put at the end, one after another
+abbrev extend_methods : Methods → Methods → Methods
+extend_methods ms no_methods = ms
+extend_methods ms (and_method verb ps body rest) = extend_methods (put_method ms (method_tree verb ps body)) rest
+
+extend_methods-first : (verb : Name) (ps : List Pattern) (body : Trees) (ms rest : Methods) → extend_methods (and_method verb ps body ms) rest ≡ and_method verb ps body (extend_methods ms rest)
+extend_methods-first verb ps body ms no_methods = refl
+extend_methods-first verb ps body ms (and_method v qs b rest) = extend_methods-first verb ps body (put_method ms (method_tree v qs b)) rest
+
+extend_methods-none : (ms : Methods) → extend_methods no_methods ms ≡ ms
+extend_methods-none no_methods = refl
+extend_methods-none (and_method verb ps body ms) = extend_methods-first verb ps body no_methods ms ∙ ap (and_method verb ps body) (extend_methods-none ms)
 
 sum : {a r : List Token} {t : Tree} → Postfix a t r → Sum a t r
 sum p = sum_product (product_unary (unary_postfix p))
@@ -59,6 +72,10 @@ abbrev ReadsItems : Trees → Type 0
 ReadsItems ts =
     ((a r : List Token) (us : Trees) → Sequence a us (led_by (token.Sign sign.Semicolon) (written_items ts) r) → Sequence a (extend us ts) r)
     × ((r : List Token) → Block (between (token.Sign sign.Semicolon) (written_items ts) r) ts r)
+
+-- what is written of the methods ms goes on with methods
+abbrev ReadsMethods : Methods → Type 0
+ReadsMethods ms = (a r : List Token) (ns : Methods) → MethodList a ns (written_methods ms r) → MethodList a (extend_methods ns ms) r
 
 both : {a r : List Token} {t : Tree} → Postfix a t r → Expr a t r × Postfix a t r
 both p = (expr_disjunction (disjunction p), p)
@@ -105,10 +122,16 @@ receives (while_tree c body) h r = grouped (h (token.Sign sign.CloseRound ∷ r)
 receives (for_tree p e body) h r = grouped (h (token.Sign sign.CloseRound ∷ r)).0
 receives (try_tree body p handler) h r = grouped (h (token.Sign sign.CloseRound ∷ r)).0
 receives (throw_tree e) h r = grouped (h (token.Sign sign.CloseRound ∷ r)).0
+receives (object_tree p ms) h r = grouped (h (token.Sign sign.CloseRound ∷ r)).0
+receives (escape_tree x body) h r = grouped (h (token.Sign sign.CloseRound ∷ r)).0
 
 -- a block in its braces
 braces : (ts : Trees) → ReadsItems ts → (r : List Token) → Braced (in_braces (written_items ts) r) ts r
 braces ts h r = braced (h.1 (token.Sign sign.CloseCurly ∷ r))
+
+-- all the methods of an object
+members : (ms : Methods) → ReadsMethods ms → (r : List Token) → MethodList (written_methods ms r) ms r
+members ms h r = subst (λ ns. MethodList (written_methods ms r) ns r) (extend_methods-none ms) (h (written_methods ms r) r no_methods methods_none)
 
 mutual
   reads : (t : Tree) → Reads t
@@ -130,6 +153,13 @@ mutual
   reads (for_tree p e body) = λ r. both (postfix_primary (primary_for (bound_is p _) (disjunction (reads e _).1) (braces body (reads_items body) r)))
   reads (try_tree body p handler) = λ r. both (postfix_primary (primary_try (braces body (reads_items body) _) (bound_is p _) (braces handler (reads_items handler) r)))
   reads (throw_tree e) = λ r. both (postfix_primary (primary_throw (condition (disjunction (reads e _).1))))
+  reads (object_tree p ms) = λ r. both (postfix_primary (primary_object (bound_is p _) (members ms (reads_methods ms) (token.Sign sign.CloseCurly ∷ r))))
+  reads (escape_tree x body) = λ r. both (postfix_primary (primary_escape (braces body (reads_items body) r)))
+
+  reads_methods : (ms : Methods) → ReadsMethods ms
+  reads_methods no_methods = λ a r ns s. s
+  reads_methods (and_method verb ps body ms) = λ a r ns s.
+      reads_methods ms a r (put_method ns (method_tree verb ps body)) (methods_and s (method_plain (pat_list_is ps _) (braces body (reads_items body) (written_methods ms r))))
 
   reads_all : (ts : Trees) → ReadsAll ts
   reads_all none = (λ a r us s. s, λ r. args_none)

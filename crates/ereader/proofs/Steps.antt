@@ -2,19 +2,21 @@
 use Rattle.std.proofs.Common.{◌≡◌, ℕ, suc, ◌<◌, ◌≤◌, List, [], ◌∷◌, ◌++◌, length, Bool, true, false, cond, Option, Some, None, refl, sym, ap, ◌∙◌, arith, inl, inr}
 use Rattle.etoken.specs.declared.token.Token.{Token}
 use Rattle.etoken.specs.declared.token.Token.TheVariants as token
+use Rattle.etoken.specs.declared.token.Reserved as words
 use Rattle.etoken.specs.declared.token.Sign as signs
 use Rattle.etoken.specs.declared.token.Sign.TheVariants as sign
 use Rattle.kernele.specs.declared.tree.Expr.{Expr}
-use Rattle.kernele.specs.Tree.{Tree, Trees, none, and_then}
-use Rattle.kernele.specs.View.{tree_of, trees_of}
+use Rattle.kernele.specs.Tree.{Tree, Trees, none, and_then, Methods, no_methods, and_method}
+use Rattle.kernele.specs.declared.tree.Method.{Method}
+use Rattle.kernele.specs.View.{tree_of, trees_of, methods_of}
 use Rattle.ereader.specs.declared.fault.Stop.{Stop}
 use Rattle.ereader.specs.declared.fault.Stop.TheVariants as stop
 use Rattle.ereader.specs.declared.operator.Operator.{Operator}
 use Rattle.ereader.specs.declared.operator.Link.{Link}
-use Rattle.ereader.specs.Grammar.{joined, snoc}
-use Rattle.ereader.specs.Reading.{Read, ◌>>=◌, or_else, rest_of, is_empty, sign_in, front, is_comma, is_semicolon, Within, link_of, linked_at, postfix_next, commas_next, operand_next, skip_semicolons, skip_semicolons_sign, repeat, is_block_end, separator_at, separated, expr_at, block_next, block_at}
-use Rattle.ereader.specs.View.{Fails}
-use Rattle.ereader.proofs.Turns.{Turns, turns_more, turns_fail, turns_end, if_is, some_same, none_some}
+use Rattle.ereader.specs.Grammar.{joined, snoc, MethodTree, put_method}
+use Rattle.ereader.specs.Reading.{Read, ◌>>=◌, or_else, rest_of, is_empty, sign_in, front, is_comma, is_semicolon, Within, link_of, linked_at, postfix_next, commas_next, operand_next, skip_semicolons, skip_semicolons_sign, repeat, is_block_end, separator_at, separated, expr_at, block_next, block_at, is_at_word, is_method_word, method_at, methods_next, methods_at}
+use Rattle.ereader.specs.View.{Fails, method_of}
+use Rattle.ereader.proofs.Turns.{Turns, turns_here, turns_more, turns_fail, turns_end, if_is, some_same, none_some}
 
 pub rest_le : (a : List Token) → length (rest_of a) ≤ length a
 rest_le [] = omega arith
@@ -24,6 +26,11 @@ rest_le (x ∷ a) = omega arith
 pub trees_push : (es : List Expr) (e : Expr) → trees_of (es ++ e ∷ []) ≡ snoc (trees_of es) (tree_of e)
 trees_push [] e = refl
 trees_push (d ∷ es) e = ap (and_then (tree_of d)) (trees_push es e)
+
+-- methods that grow at their end
+pub methods_push : (ms : List Method) (m : Method) → methods_of (ms ++ m ∷ []) ≡ put_method (methods_of ms) (method_of m)
+methods_push [] m = refl
+methods_push (n ∷ ms) m = ap (and_method n.verb n.parameters.value.items (trees_of n.body.value.items)) (methods_push ms m)
 
 -- where a sign is in front, a token is
 pub front_length : {A : Type 0} (of : signs.Sign → Option A) (a : List Token) {o : A} → front of a ≡ Some o → length a ≡ suc (length (rest_of a))
@@ -172,3 +179,30 @@ module _ (within : Within) where
   pub block_end : {read : Read Trees} {ts : Trees} {a : List Token} → Turns (block_next within) read ts a → is_block_end a ≡ true → read ≡ Some (ts, a)
   block_end {ts = ts} {a = a} c e =
       turns_end (block_next within) c (ap (λ o. cond o None (Some (expr_at within a >>= λ x. separated (snoc ts x.0) x.1))) e)
+
+word_length : (is : words.Reserved → Bool) (a : List Token) → is_at_word is a ≡ true → length a ≡ suc (length (rest_of a))
+word_length is [] e = absurd (cc)
+word_length is (x ∷ a) e = refl
+
+module _ (within : Within) where
+  pub methods_begin : (a : List Token) → Turns (methods_next within) (methods_at within a) no_methods a
+  methods_begin a = turns_here (methods_next within) no_methods a
+
+  methods_goes : (ms : Methods) (a : List Token) → is_at_word is_method_word a ≡ true → methods_next within ms a ≡ Some (method_at within a >>= λ x. Some (put_method ms x.0, x.1))
+  methods_goes ms a e = ap (λ o. cond o (Some (method_at within a >>= λ x. Some (put_method ms x.0, x.1))) None) e
+
+  pub methods_more : {read : Read Methods} {ms : Methods} (m : MethodTree) {a : List Token} (r : List Token)
+      → Turns (methods_next within) read ms a → is_at_word is_method_word a ≡ true → method_at within a ≡ Some (m, r) → length r < length a → Turns (methods_next within) read (put_method ms m) r
+  methods_more {ms = ms} m {a = a} r c e g h =
+      turns_more (methods_next within) (method_at within a >>= λ x. Some (put_method ms x.0, x.1)) c (methods_goes ms a e)
+      (ap (λ y. y >>= λ x. Some (put_method ms x.0, x.1)) g) h
+
+  pub methods_fail : {read : Read Methods} {ms : Methods} {a : List Token}
+      → Turns (methods_next within) read ms a → is_at_word is_method_word a ≡ true → method_at within a ≡ None → read ≡ None
+  methods_fail {ms = ms} {a = a} c e g =
+      turns_fail (methods_next within) (method_at within a >>= λ x. Some (put_method ms x.0, x.1)) c (methods_goes ms a e)
+      (ap (λ y. y >>= λ x. Some (put_method ms x.0, x.1)) g) (omega (arith, word_length is_method_word a e))
+
+  pub methods_end : {read : Read Methods} {ms : Methods} {a : List Token} → Turns (methods_next within) read ms a → is_at_word is_method_word a ≡ false → read ≡ Some (ms, a)
+  methods_end {ms = ms} {a = a} c e =
+      turns_end (methods_next within) c (ap (λ o. cond o (Some (method_at within a >>= λ x. Some (put_method ms x.0, x.1))) None) e)

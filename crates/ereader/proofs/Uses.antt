@@ -1,5 +1,5 @@
 -- How much of the tokens a part uses up, and how it begins.
-use Rattle.std.proofs.Common.{◌≡◌, ℕ, ◌<◌, ◌≤◌, List, [], ◌∷◌, length, Bool, true, false, Option, Some, None, refl, sym, ◌∙◌, arith}
+use Rattle.std.proofs.Common.{◌≡◌, ℕ, ◌<◌, ◌≤◌, List, [], ◌∷◌, length, Bool, true, false, cond, Option, Some, None, refl, sym, ap, ◌∙◌, arith}
 use Rattle.std.proofs.lemmas.Bool.{false_from_ne_true}
 use Rattle.etoken.specs.declared.token.Token.{Token}
 use Rattle.etoken.specs.declared.token.Token.TheVariants as token
@@ -8,13 +8,13 @@ use Rattle.etoken.specs.declared.token.Reserved.TheVariants as word
 use Rattle.etoken.specs.declared.token.Sign as signs
 use Rattle.etoken.specs.declared.token.Sign.TheVariants as sign
 use Rattle.kernele.specs.declared.tree.Pattern.{Pattern}
-use Rattle.kernele.specs.Tree.{Tree, Trees}
+use Rattle.kernele.specs.Tree.{Tree, Trees, Methods}
 use Rattle.ereader.specs.declared.operator.Operator.{Operator}
 use Rattle.ereader.specs.declared.operator.Prefix.{Prefix}
 use Rattle.ereader.specs.declared.operator.Bracket.{Bracket}
 use Rattle.ereader.specs.declared.operator.Bracket.TheVariants as bracket
-use Rattle.ereader.specs.Grammar.{product_operator, sum_operator, comparison_operator, and_operator, or_operator, prefix_operator, Pat, pat_name, pat_ignore, Pats, pats_one, pats_and, PatList, pat_list_none, pat_list_some, Semicolons, semicolons_none, semicolons_more, Expr, expr_define, expr_define_list, expr_variable, expr_assign, expr_disjunction, Disjunction, disjunction_conjunction, disjunction_more, Conjunction, conjunction_comparison, conjunction_more, Comparison, comparison_sum, comparison_two, Sum, sum_product, sum_more, Product, product_unary, product_more, Unary, unary_postfix, unary_prefix, Postfix, postfix_primary, postfix_method, postfix_run, postfix_get, Primary, primary_int, primary_text, primary_true, primary_false, primary_null, primary_name, primary_list, primary_group, primary_hide, primary_if, primary_while, primary_for, primary_try, primary_throw, Conditional, conditional_alone, conditional_else, conditional_else_if, Condition, condition, Braced, braced, Args, args_none, args_some, Items, items_one, items_and, Sequence, sequence_one, sequence_and, Block, block_empty, block_items}
-use Rattle.ereader.specs.Reading.{sign_in, front, is_at_word, is_def_word, is_var_word, is_else_word, is_assignment, is_semicolon, is_becomes, is_open, is_close, is_block_end, link_of}
+use Rattle.ereader.specs.Grammar.{MethodTree, product_operator, sum_operator, comparison_operator, and_operator, or_operator, prefix_operator, Pat, pat_name, pat_ignore, Pats, pats_one, pats_and, PatList, pat_list_none, pat_list_some, Semicolons, semicolons_none, semicolons_more, Expr, expr_define, expr_define_list, expr_variable, expr_assign, expr_return, expr_return_null, expr_disjunction, Disjunction, disjunction_conjunction, disjunction_more, Conjunction, conjunction_comparison, conjunction_more, Comparison, comparison_sum, comparison_two, Sum, sum_product, sum_more, Product, product_unary, product_more, Unary, unary_postfix, unary_prefix, Postfix, postfix_primary, postfix_method, postfix_run, postfix_get, Primary, primary_int, primary_text, primary_true, primary_false, primary_null, primary_name, primary_list, primary_group, primary_hide, primary_if, primary_while, primary_for, primary_try, primary_throw, primary_escape, primary_object, primary_function, Method, method_to, method_plain, MethodList, methods_none, methods_and, Conditional, conditional_alone, conditional_else, conditional_else_if, Condition, condition, Braced, braced, Args, args_none, args_some, Items, items_one, items_and, Sequence, sequence_one, sequence_and, Block, block_empty, block_items}
+use Rattle.ereader.specs.Reading.{sign_in, front, is_at_word, is_var_word, is_else_word, is_return_word, is_method_word, begins, begins_word, begins_sign, is_bound, is_definition, is_assignment, is_semicolon, is_becomes, is_open, is_close, is_block_end, link_of}
 use Rattle.ereader.proofs.Turns.{none_some}
 
 pub less_pat : {a r : List Token} {p : Pattern} → Pat a p r → length r < length a
@@ -40,6 +40,8 @@ mutual
   less_expr (expr_define_list p x) = omega (arith, less_pat_list p, less_disjunction x)
   less_expr (expr_variable x) = omega (arith, less_disjunction x)
   less_expr (expr_assign x) = omega (arith, less_disjunction x)
+  less_expr (expr_return x) = omega (arith, less_disjunction x)
+  less_expr expr_return_null = omega arith
   less_expr (expr_disjunction x) = less_disjunction x
 
   pub less_disjunction : {a r : List Token} {t : Tree} → Disjunction a t r → length r < length a
@@ -87,6 +89,17 @@ mutual
   less_primary (primary_for p x y) = omega (arith, less_pat p, less_disjunction x, less_braced y)
   less_primary (primary_try x p y) = omega (arith, less_braced x, less_pat p, less_braced y)
   less_primary (primary_throw x) = omega (arith, less_condition x)
+  less_primary (primary_escape x) = omega (arith, less_braced x)
+  less_primary (primary_object p x) = omega (arith, less_pat p, less_methods x)
+  less_primary (primary_function p q x) = omega (arith, less_pat p, less_pat_list q, less_braced x)
+
+  pub less_method : {a r : List Token} {m : MethodTree} → Method a m r → length r < length a
+  less_method (method_to p x) = omega (arith, less_pat_list p, less_braced x)
+  less_method (method_plain p x) = omega (arith, less_pat_list p, less_braced x)
+
+  pub less_methods : {a r : List Token} {ms : Methods} → MethodList a ms r → length r ≤ length a
+  less_methods methods_none = omega arith
+  less_methods (methods_and s x) = omega (arith, less_methods s, less_method x)
 
   pub less_conditional : {a r : List Token} {t : Tree} → Conditional a t r → length r < length a
   less_conditional (conditional_alone x y) = omega (arith, less_condition x, less_braced y)
@@ -233,16 +246,19 @@ sign_start sign.Not = 1
 sign_start sign.Minus = 1
 sign_start _ = 0
 
-abbrev pub word_start : words.Reserved → ℕ
-word_start word.True = 2
-word_start word.False = 2
-word_start word.Null = 2
-word_start word.If = 2
-word_start word.While = 2
-word_start word.For = 2
-word_start word.Try = 2
-word_start word.Throw = 2
-word_start _ = 0
+-- the definition of an object begins an expression, and no other definition does
+abbrev pub word_start : words.Reserved → List Token → ℕ
+word_start word.Def a = cond (is_bound a) 0 2
+word_start word.True _ = 2
+word_start word.False _ = 2
+word_start word.Null _ = 2
+word_start word.If _ = 2
+word_start word.While _ = 2
+word_start word.For _ = 2
+word_start word.Try _ = 2
+word_start word.Throw _ = 2
+word_start word.Escape _ = 2
+word_start _ _ = 0
 
 -- 0: not with an expression's token; 1: with an operator before an operand; 2: with any other
 abbrev pub start : List Token → ℕ
@@ -250,7 +266,7 @@ start [] = 0
 start (token.Int z ∷ a) = 2
 start (token.Text s ∷ a) = 2
 start (token.Name x ∷ a) = 2
-start (token.Word w ∷ a) = word_start w
+start (token.Word w ∷ a) = word_start w a
 start (token.Sign s ∷ a) = sign_start s
 
 no_prefix_sign : (s : signs.Sign) → sign_start s ≡ 2 → prefix_operator s ≡ None
@@ -281,24 +297,67 @@ no_close b [] h = no_close_none b
 no_close b (token.Sign s ∷ a) h = no_close_sign b s h
 no_close b (_ ∷ a) h = no_close_none b
 
-no_def_word : (w : words.Reserved) → 0 < word_start w → is_def_word w ≡ false
-no_def_word word.Def h = absurd (omega (arith, h))
-no_def_word _ h = refl
+-- a word that is not in front, since it begins no expression
+no_word_front : (is : words.Reserved → Bool) → ((w : words.Reserved) (a : List Token) → 0 < word_start w a → is w ≡ false) → (a : List Token) → 0 < start a → is_at_word is a ≡ false
+no_word_front is never [] h = refl
+no_word_front is never (token.Word w ∷ a) h = never w a h
+no_word_front is never (_ ∷ a) h = refl
 
-no_var_word : (w : words.Reserved) → 0 < word_start w → is_var_word w ≡ false
-no_var_word word.Var h = absurd (omega (arith, h))
-no_var_word _ h = refl
+no_var_word : (w : words.Reserved) (a : List Token) → 0 < word_start w a → is_var_word w ≡ false
+no_var_word word.Var a h = absurd (omega (arith, h))
+no_var_word _ a h = refl
 
-no_word : (is : words.Reserved → Bool) → ((w : words.Reserved) → 0 < word_start w → is w ≡ false) → (a : List Token) → 0 < start a → is_at_word is a ≡ false
-no_word is never [] h = refl
-no_word is never (token.Word w ∷ a) h = never w h
-no_word is never (_ ∷ a) h = refl
-
-pub no_def : (a : List Token) → 0 < start a → is_at_word is_def_word a ≡ false
-no_def = no_word is_def_word no_def_word
+no_return_word : (w : words.Reserved) (a : List Token) → 0 < word_start w a → is_return_word w ≡ false
+no_return_word word.Return a h = absurd (omega (arith, h))
+no_return_word _ a h = refl
 
 pub no_var : (a : List Token) → 0 < start a → is_at_word is_var_word a ≡ false
-no_var = no_word is_var_word no_var_word
+no_var = no_word_front is_var_word no_var_word
+
+pub no_return : (a : List Token) → 0 < start a → is_at_word is_return_word a ≡ false
+no_return = no_word_front is_return_word no_return_word
+
+-- what is bound to no value
+not_bound : (b : Bool) → 0 < cond b 0 2 → b ≡ false
+not_bound true h = absurd (omega (arith, h))
+not_bound false h = refl
+
+no_def_word : (w : words.Reserved) (a : List Token) → 0 < word_start w a → is_definition (token.Word w ∷ a) ≡ false
+no_def_word word.Def a h = not_bound (is_bound a) h
+no_def_word _ a h = refl
+
+pub no_def : (a : List Token) → 0 < start a → is_definition a ≡ false
+no_def [] h = refl
+no_def (token.Word w ∷ a) h = no_def_word w a h
+no_def (_ ∷ a) h = refl
+
+begins_at_word : (w : words.Reserved) (a : List Token) → 0 < word_start w a → begins_word w ≡ true
+begins_at_word word.True a h = refl
+begins_at_word word.False a h = refl
+begins_at_word word.Null a h = refl
+begins_at_word word.If a h = refl
+begins_at_word word.While a h = refl
+begins_at_word word.For a h = refl
+begins_at_word word.Escape a h = refl
+begins_at_word word.Try a h = refl
+begins_at_word word.Throw a h = refl
+begins_at_word word.Def a h = refl
+begins_at_word _ a h = absurd (omega (arith, h))
+
+begins_at_sign : (s : signs.Sign) → 0 < sign_start s → begins_sign s ≡ true
+begins_at_sign sign.OpenRound h = refl
+begins_at_sign sign.OpenSquare h = refl
+begins_at_sign sign.OpenCurly h = refl
+begins_at_sign sign.Not h = refl
+begins_at_sign sign.Minus h = refl
+begins_at_sign _ h = absurd (omega (arith, h))
+
+-- an expression begins where one can
+pub begins_start : (a : List Token) → 0 < start a → begins a ≡ true
+begins_start [] h = absurd (omega (arith, h))
+begins_start (token.Word w ∷ a) h = begins_at_word w a h
+begins_start (token.Sign s ∷ a) h = begins_at_sign s h
+begins_start (_ ∷ a) h = refl
 
 no_semicolon_sign : (s : signs.Sign) → 0 < sign_start s → is_semicolon (Some s) ≡ false
 no_semicolon_sign sign.Semicolon h = absurd (omega (arith, h))
@@ -313,6 +372,11 @@ start_prefix : (s : signs.Sign) {o : Prefix} → prefix_operator s ≡ Some o �
 start_prefix sign.Not e = omega arith
 start_prefix sign.Minus e = omega arith
 start_prefix _ e = absurd (cc)
+
+-- the definition of an object is in front
+start_object : {a b : List Token} {p : Pattern} {s : signs.Sign} → Pat a p (token.Sign s ∷ b) → is_becomes (Some s) ≡ false → start (token.Word word.Def ∷ a) ≡ 2
+start_object pat_name e = ap (λ o. cond o 0 2) e
+start_object pat_ignore e = ap (λ o. cond o 0 2) e
 
 start_primary : {a r : List Token} {t : Tree} → Primary a t r → start a ≡ 2
 start_primary primary_int = refl
@@ -329,6 +393,9 @@ start_primary (primary_while x y) = refl
 start_primary (primary_for p x y) = refl
 start_primary (primary_try x p y) = refl
 start_primary (primary_throw x) = refl
+start_primary (primary_escape x) = refl
+start_primary (primary_object p x) = start_object p refl
+start_primary (primary_function p q x) = start_object p refl
 
 pub start_postfix : {a r : List Token} {t : Tree} → Postfix a t r → start a ≡ 2
 start_postfix (postfix_primary p) = start_primary p
@@ -388,6 +455,9 @@ stops_primary (primary_while x y) h = absurd (cc)
 stops_primary (primary_for p x y) h = absurd (cc)
 stops_primary (primary_try x p y) h = absurd (cc)
 stops_primary (primary_throw x) h = absurd (cc)
+stops_primary (primary_escape x) h = absurd (cc)
+stops_primary (primary_object p x) h = absurd (cc)
+stops_primary (primary_function p q x) h = absurd (cc)
 
 stops_postfix : {a r : List Token} {t : Tree} → Postfix a t r → is_assignment a ≡ true → is_becomes (sign_in r) ≡ true
 stops_postfix (postfix_primary p) h = stops_primary p h
@@ -438,6 +508,8 @@ expr_begins (expr_define p x) = refl
 expr_begins (expr_define_list p x) = refl
 expr_begins (expr_variable x) = refl
 expr_begins (expr_assign x) = refl
+expr_begins (expr_return x) = refl
+expr_begins expr_return_null = refl
 expr_begins (expr_disjunction {a = a} x) = no_semicolon a (start_disjunction x)
 
 pub sequence_begins : {a r : List Token} {ts : Trees} → Sequence a ts r → is_semicolon (sign_in a) ≡ false
@@ -454,6 +526,8 @@ expr_goes (expr_define p x) = refl
 expr_goes (expr_define_list p x) = refl
 expr_goes (expr_variable x) = refl
 expr_goes (expr_assign x) = refl
+expr_goes (expr_return x) = refl
+expr_goes expr_return_null = refl
 expr_goes (expr_disjunction {a = a} x) = not_end a (start_disjunction x)
 
 -- a pattern is not one in brackets
@@ -461,15 +535,25 @@ pub pat_begins : {a r : List Token} {p : Pattern} → Pat a p r → is_open brac
 pat_begins pat_name = refl
 pat_begins pat_ignore = refl
 
-no_bracket_close : {a r : List Token} {p : Pattern} → Pat a p r → is_close bracket.Square (sign_in a) ≡ false
-no_bracket_close pat_name = refl
-no_bracket_close pat_ignore = refl
+closes_nothing : (b : Bracket) → is_close b (Some sign.Underscore) ≡ false
+closes_nothing bracket.Round = refl
+closes_nothing bracket.Square = refl
+closes_nothing bracket.Curly = refl
+
+no_bracket_close : (b : Bracket) {a r : List Token} {p : Pattern} → Pat a p r → is_close b (sign_in a) ≡ false
+no_bracket_close b pat_name = no_close_none b
+no_bracket_close b pat_ignore = closes_nothing b
 
 -- nor does a list of patterns end before one
-pub pats_begin : {a r : List Token} {ps : List Pattern} → Pats a ps r → is_close bracket.Square (sign_in a) ≡ false
-pats_begin (pats_one p) = no_bracket_close p
-pats_begin (pats_and s p) = pats_begin s
+pub pats_begin : (b : Bracket) {a r : List Token} {ps : List Pattern} → Pats a ps r → is_close b (sign_in a) ≡ false
+pats_begin b (pats_one p) = no_bracket_close b p
+pats_begin b (pats_and s p) = pats_begin b s
 
 -- a block in braces does not begin with `if`
 pub braced_begins : {a r : List Token} {ts : Trees} → Braced a ts r → (is : words.Reserved → Bool) → is_at_word is a ≡ false
 braced_begins (braced x) is = refl
+
+-- a method begins with `to` or `method`
+pub method_begins : {a r : List Token} {m : MethodTree} → Method a m r → is_at_word is_method_word a ≡ true
+method_begins (method_to p x) = refl
+method_begins (method_plain p x) = refl

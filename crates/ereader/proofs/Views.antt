@@ -5,13 +5,15 @@ use Rattle.std.specs.declared.sync.Arc.{Arc}
 use Rattle.std.specs.declared.vec.Vec.{Vec}
 use Rattle.std.specs.declared.alloc.Global.{Global}
 use Rattle.etoken.specs.declared.token.Placed.{Placed}
-use Rattle.kernele.specs.Tree.{call, list_tree, hide, if_tree, while_tree, for_tree, try_tree}
-use Rattle.kernele.specs.View.{tree_of, trees_of}
+use Rattle.kernele.specs.Tree.{Name, call, list_tree, hide, if_tree, while_tree, for_tree, try_tree, object_tree, escape_tree}
+use Rattle.kernele.specs.View.{tree_of, trees_of, methods_of}
 use Rattle.kernele.specs.declared.tree.Expr as code
 use Rattle.kernele.specs.declared.tree.Pattern.{Pattern}
 use Rattle.kernele.specs.declared.tree.Expr.{Expr}
-use Rattle.kernele.proofs.Views.{tree_of-Call, tree_of-List, tree_of-Hide, tree_of-If, tree_of-While, tree_of-For, tree_of-Try}
+use Rattle.kernele.proofs.Views.{tree_of-Call, tree_of-List, tree_of-Hide, tree_of-If, tree_of-While, tree_of-For, tree_of-Try, tree_of-Object, tree_of-Escape}
+use Rattle.kernele.specs.declared.tree.Method.{Method}
 use Rattle.ereader.specs.Reading.{is_empty, within_at, all_at, program_at}
+use Rattle.ereader.specs.Grammar.{method_tree}
 use Rattle.ereader.specs.View.{plain}
 
 pub tree_of-made : (r : Arc Expr Global) (verb : List ℕ) (args : Arc (Vec Expr Global) Global) (receiver : Expr) (items : Vec Expr Global)
@@ -49,6 +51,16 @@ pub tree_of-try : (p : Arc (Vec Expr Global) Global) (pattern : Pattern) (q : Ar
     → p.value ≡ body → q.value ≡ handler → tree_of (code.Try p pattern q) ≡ try_tree (trees_of body.items) pattern (trees_of handler.items)
 tree_of-try p pattern q body handler e f =
     tree_of-Try p pattern q ∙ ap (λ ts. try_tree ts pattern (trees_of q.value.items)) (of_block p body e) ∙ ap (try_tree (trees_of body.items) pattern) (of_block q handler f)
+
+pub tree_of-escaped : (x : Name) (block : Arc (Vec Expr Global) Global) (body : Vec Expr Global) → block.value ≡ body → tree_of (code.Escape x block) ≡ escape_tree x (trees_of body.items)
+tree_of-escaped x block body e = tree_of-Escape x block ∙ ap (escape_tree x) (of_block block body e)
+
+pub tree_of-object : (p : Pattern) (block : Arc (Vec Method Global) Global) (methods : Vec Method Global) → block.value ≡ methods → tree_of (code.Object p block) ≡ object_tree p (methods_of methods.items)
+tree_of-object p block methods e = tree_of-Object p block ∙ ap (λ (xs : Vec Method Global). object_tree p (methods_of xs.items)) e
+
+pub method_of-made : (verb : Name) (ps : Arc (Vec Pattern Global) Global) (block : Arc (Vec Expr Global) Global) (parameters : Vec Pattern Global) (body : Vec Expr Global)
+    → ps.value ≡ parameters → block.value ≡ body → method_tree verb ps.value.items (trees_of block.value.items) ≡ method_tree verb parameters.items (trees_of body.items)
+method_of-made verb ps block parameters body e f = ap (λ (xs : Vec Pattern Global). method_tree verb xs.items (trees_of block.value.items)) e ∙ ap (method_tree verb parameters.items) (of_block block body f)
 
 pub is_empty-plain : (ps : List Placed) → (length ps == 0) ≡ is_empty (plain ps)
 is_empty-plain [] = refl

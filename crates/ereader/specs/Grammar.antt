@@ -7,7 +7,7 @@ use Rattle.etoken.specs.declared.token.Sign as signs
 use Rattle.etoken.specs.declared.token.Sign.TheVariants as sign
 use Rattle.kernele.specs.declared.tree.Pattern.{Pattern}
 use Rattle.kernele.specs.declared.tree.Pattern.TheVariants as pattern
-use Rattle.kernele.specs.Tree.{Name, Tree, null_tree, bool_tree, int_tree, text_tree, noun, define, variable, assign, call, list_tree, same_tree, define_list, hide, if_tree, while_tree, for_tree, try_tree, throw_tree, Trees, none, and_then}
+use Rattle.kernele.specs.Tree.{Name, Tree, null_tree, bool_tree, int_tree, text_tree, noun, define, variable, assign, call, list_tree, same_tree, define_list, hide, if_tree, while_tree, for_tree, try_tree, throw_tree, object_tree, escape_tree, Trees, none, and_then, Methods, no_methods, and_method}
 use Rattle.ereader.specs.declared.operator.Operator.{Operator}
 use Rattle.ereader.specs.declared.operator.Operator.TheVariants as operator
 use Rattle.ereader.specs.declared.operator.Prefix.{Prefix}
@@ -133,6 +133,31 @@ abbrev pub snoc : Trees → Tree → Trees
 snoc none t = and_then t none
 snoc (and_then u us) t = and_then u (snoc us t)
 
+-- a method: its verb, what its parameters bind, and its block
+pub data MethodTree : Type 0 where
+  method_tree : (verb : Name) → (ps : List Pattern) → (body : Trees) → MethodTree
+
+-- one method more at the end
+abbrev pub put_method : Methods → MethodTree → Methods
+put_method no_methods (method_tree verb ps body) = and_method verb ps body no_methods
+put_method (and_method v qs b ms) m = and_method v qs b (put_method ms m)
+
+-- the name of the ejector that ends a method that may return
+abbrev pub return_name : Name
+return_name = codes "__return"
+
+-- what `return` stands for: a call of that ejector
+abbrev pub return_tree : Tree → Tree
+return_tree t = binary (noun return_name) (codes "run") t
+
+-- the block of a method that may return: null, where it does not
+abbrev pub returning : Trees → Trees
+returning ts = alone (escape_tree return_name (snoc ts null_tree))
+
+-- an object with one method, which may return
+abbrev pub function_tree : Pattern → List Pattern → Trees → Tree
+function_tree p ps ts = object_tree p (and_method (codes "run") ps (returning ts) no_methods)
+
 -- what a definition binds
 pub data Pat : List Token → Pattern → List Token → Type 0 where
   pat_name : {r : List Token} {x : Name} → Pat (token.Name x ∷ r) (pattern.Name x) r
@@ -165,6 +190,8 @@ mutual
         → Disjunction a t r → Expr (token.Word word.Var ∷ token.Name x ∷ becomes ∷ a) (variable x t) r
     expr_assign : {a r : List Token} {x : Name} {t : Tree}
         → Disjunction a t r → Expr (token.Name x ∷ becomes ∷ a) (assign x t) r
+    expr_return : {a r : List Token} {t : Tree} → Disjunction a t r → Expr (token.Word word.Return ∷ a) (return_tree t) r
+    expr_return_null : {r : List Token} → Expr (token.Word word.Return ∷ r) (return_tree null_tree) r
     expr_disjunction : {a r : List Token} {t : Tree} → Disjunction a t r → Expr a t r
 
   -- an expression that may stand in any place; associates to the left
@@ -235,6 +262,26 @@ mutual
         → Braced a ts (token.Word word.Catch ∷ b) → Pat b p c → Braced c us r → Primary (token.Word word.Try ∷ a) (try_tree ts p us) r
     primary_throw : {a r : List Token} {t : Tree}
         → Condition a t r → Primary (token.Word word.Throw ∷ a) (throw_tree t) r
+    primary_escape : {a r : List Token} {x : Name} {ts : Trees}
+        → Braced a ts r → Primary (token.Word word.Escape ∷ token.Name x ∷ a) (escape_tree x ts) r
+    primary_object : {a b r : List Token} {p : Pattern} {ms : Methods}
+        → Pat a p (open_curly ∷ b) → MethodList b ms (close_curly ∷ r) → Primary (token.Word word.Def ∷ a) (object_tree p ms) r
+    primary_function : {a b c r : List Token} {p : Pattern} {ps : List Pattern} {ts : Trees}
+        → Pat a p (open_round ∷ b) → PatList b ps (close_round ∷ c) → Braced c ts r → Primary (token.Word word.Def ∷ a) (function_tree p ps ts) r
+
+  -- a method
+  pub data Method : List Token → MethodTree → List Token → Type 0 where
+    method_to : {a b r : List Token} {verb : Name} {ps : List Pattern} {ts : Trees}
+        → PatList a ps (close_round ∷ b) → Braced b ts r
+        → Method (token.Word word.To ∷ token.Name verb ∷ open_round ∷ a) (method_tree verb ps (returning ts)) r
+    method_plain : {a b r : List Token} {verb : Name} {ps : List Pattern} {ts : Trees}
+        → PatList a ps (close_round ∷ b) → Braced b ts r
+        → Method (token.Word word.Method ∷ token.Name verb ∷ open_round ∷ a) (method_tree verb ps ts) r
+
+  -- any number of methods, one behind the other
+  pub data MethodList : List Token → Methods → List Token → Type 0 where
+    methods_none : {r : List Token} → MethodList r no_methods r
+    methods_and : {a b r : List Token} {ms : Methods} {m : MethodTree} → MethodList a ms b → Method b m r → MethodList a (put_method ms m) r
 
   -- what stands behind `if`
   pub data Conditional : List Token → Tree → List Token → Type 0 where

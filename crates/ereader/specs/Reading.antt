@@ -8,13 +8,13 @@ use Rattle.etoken.specs.declared.token.Sign as signs
 use Rattle.etoken.specs.declared.token.Sign.TheVariants as sign
 use Rattle.kernele.specs.declared.tree.Pattern.{Pattern}
 use Rattle.kernele.specs.declared.tree.Pattern.TheVariants as pattern
-use Rattle.kernele.specs.Tree.{Name, Tree, null_tree, bool_tree, int_tree, text_tree, noun, call, list_tree, hide, if_tree, while_tree, for_tree, try_tree, throw_tree, Trees, none, and_then}
+use Rattle.kernele.specs.Tree.{Name, Tree, null_tree, bool_tree, int_tree, text_tree, noun, call, list_tree, hide, if_tree, while_tree, for_tree, try_tree, throw_tree, object_tree, escape_tree, Trees, none, and_then, Methods, no_methods}
 use Rattle.ereader.specs.declared.operator.Operator.{Operator}
 use Rattle.ereader.specs.declared.operator.Link.{Link}
 use Rattle.ereader.specs.declared.operator.Link.TheVariants as link
 use Rattle.ereader.specs.declared.operator.Bracket.{Bracket}
 use Rattle.ereader.specs.declared.operator.Bracket.TheVariants as bracket
-use Rattle.ereader.specs.Grammar.{product_operator, sum_operator, comparison_operator, and_operator, or_operator, prefix_operator, joined, prefix_verb, Place, definition, definitions, new_variable, assignment, given, snoc, alone}
+use Rattle.ereader.specs.Grammar.{product_operator, sum_operator, comparison_operator, and_operator, or_operator, prefix_operator, joined, prefix_verb, Place, definition, definitions, new_variable, assignment, given, snoc, alone, MethodTree, method_tree, put_method, return_tree, returning, function_tree}
 
 -- what is read, and the tokens after it
 abbrev pub Read : Type 0 → Type 0
@@ -75,6 +75,53 @@ abbrev pub is_catch_word : words.Reserved → Bool
 is_catch_word word.Catch = true
 is_catch_word _ = false
 
+abbrev pub is_return_word : words.Reserved → Bool
+is_return_word word.Return = true
+is_return_word _ = false
+
+abbrev pub is_to_word : words.Reserved → Bool
+is_to_word word.To = true
+is_to_word _ = false
+
+-- a word that a method begins with
+abbrev pub is_method_word : words.Reserved → Bool
+is_method_word word.To = true
+is_method_word word.Method = true
+is_method_word _ = false
+
+-- a word that an operand begins with
+abbrev pub begins_word : words.Reserved → Bool
+begins_word word.True = true
+begins_word word.False = true
+begins_word word.Null = true
+begins_word word.If = true
+begins_word word.While = true
+begins_word word.For = true
+begins_word word.Escape = true
+begins_word word.Try = true
+begins_word word.Throw = true
+begins_word word.Def = true
+begins_word _ = false
+
+-- a sign that an operand begins with, or that stands before one
+abbrev pub begins_sign : signs.Sign → Bool
+begins_sign sign.OpenRound = true
+begins_sign sign.OpenSquare = true
+begins_sign sign.OpenCurly = true
+begins_sign sign.Not = true
+begins_sign sign.Minus = true
+begins_sign _ = false
+
+abbrev pub begins_token : Token → Bool
+begins_token (token.Word w) = begins_word w
+begins_token (token.Sign s) = begins_sign s
+begins_token _ = true
+
+-- an expression that may stand in any place can begin here
+abbrev pub begins : List Token → Bool
+begins [] = false
+begins (t ∷ a) = begins_token t
+
 -- a word that passes a test is in front
 abbrev pub is_at_word : (words.Reserved → Bool) → List Token → Bool
 is_at_word is [] = false
@@ -104,6 +151,15 @@ is_open bracket.Round (Some sign.OpenRound) = true
 is_open bracket.Square (Some sign.OpenSquare) = true
 is_open bracket.Curly (Some sign.OpenCurly) = true
 is_open _ _ = false
+
+-- a list of patterns, or one and the sign for a value, is in front
+abbrev pub is_bound : List Token → Bool
+is_bound [] = false
+is_bound (x ∷ a) = cond (is_open bracket.Square (sign_of x)) true (is_becomes (sign_in a))
+
+-- a definition of what a value is given to is in front, and not one of an object
+abbrev pub is_definition : List Token → Bool
+is_definition a = cond (is_at_word is_def_word a) (is_bound (rest_of a)) false
 
 abbrev pub is_close : Bracket → Option signs.Sign → Bool
 is_close bracket.Round (Some sign.CloseRound) = true
@@ -167,8 +223,8 @@ abbrev pub patterns_at : List Token → Read (List Pattern)
 patterns_at = commas_at (λ p. p ∷ []) push_pattern pattern_at
 
 -- a list of patterns, behind its opening bracket
-abbrev pub pattern_list_at : List Token → Read (List Pattern)
-pattern_list_at = closed_at [] patterns_at bracket.Square
+abbrev pub pattern_list_at : Bracket → List Token → Read (List Pattern)
+pattern_list_at = closed_at [] patterns_at
 
 -- a pattern and the sign behind it
 abbrev pub bound_at : List Token → Read Pattern
@@ -176,7 +232,7 @@ bound_at a = pattern_at a >>= past is_becomes
 
 -- a list of patterns, behind its opening bracket, and the sign behind it
 abbrev pub bound_list_at : List Token → Read (List Pattern)
-bound_list_at a = pattern_list_at a >>= past is_becomes
+bound_list_at a = pattern_list_at bracket.Square a >>= past is_becomes
 
 abbrev pub name_at : List Token → Read Name
 name_at [] = None
@@ -210,7 +266,7 @@ assign_at a = assigned_at a >>= λ x. Some (Some (assignment x.0), x.1)
 -- what the value behind it is given to, if there is a sign for it
 abbrev pub target_at : List Token → Read (Option Place)
 target_at a =
-    cond (is_at_word is_def_word a) (define_at (rest_of a))
+    cond (is_definition a) (define_at (rest_of a))
     (cond (is_at_word is_var_word a) (variable_at (rest_of a)) (cond (is_assignment a) (assign_at a) (Some (None, a))))
 
 -- What reads a part behind at least one token of the whole: an expression that gives its value to no name, and what stands
@@ -230,8 +286,16 @@ args_at within = closed_at none (items_at within)
 abbrev pub list_at : Within → List Token → Read Tree
 list_at within a = args_at within bracket.Square a >>= λ x. Some (list_tree x.0, x.1)
 
+-- what stands behind `return`
+abbrev pub return_at : Within → List Token → Read Tree
+return_at within a = cond (begins a) (within.expression a >>= λ x. Some (return_tree x.0, x.1)) (Some (return_tree null_tree, a))
+
+-- a value, and what it is given to, if it is given to anything
+abbrev pub given_at : Within → List Token → Read Tree
+given_at within a = target_at a >>= λ g. or_else g.0 (within.expression g.1) (λ t. within.expression g.1 >>= λ x. Some (given t x.0, x.1))
+
 abbrev pub expr_at : Within → List Token → Read Tree
-expr_at within a = target_at a >>= λ g. or_else g.0 (within.expression g.1) (λ t. within.expression g.1 >>= λ x. Some (given t x.0, x.1))
+expr_at within a = cond (is_at_word is_return_word a) (return_at within (rest_of a)) (given_at within a)
 
 -- an expression in brackets, behind the opening one
 abbrev pub group_at : Within → List Token → Read Tree
@@ -315,6 +379,56 @@ try_at within a = tried_at within a >>= λ b. pattern_at b.1 >>= λ p. braced_at
 abbrev pub throw_at : Within → List Token → Read Tree
 throw_at within a = condition_at within a >>= λ e. Some (throw_tree e.0, e.1)
 
+-- what stands behind `escape`
+abbrev pub escape_at : Within → List Token → Read Tree
+escape_at within a = name_at a >>= λ x. braced_at within x.1 >>= λ b. Some (escape_tree x.0 b.0, b.1)
+
+-- parameters and a block, behind the bracket that opens the parameters
+abbrev pub function_at : Within → Pattern → List Token → Read Tree
+function_at within p a = pattern_list_at bracket.Round a >>= λ ps. braced_at within ps.1 >>= λ b. Some (function_tree p ps.0 b.0, b.1)
+
+-- a verb and the bracket behind it
+abbrev pub method_verb_at : List Token → Read Name
+method_verb_at a = name_at a >>= past (is_open bracket.Round)
+
+-- the block of a method, of those that may return or of the others
+abbrev pub block_of : Bool → Trees → Trees
+block_of returns ts = cond returns (returning ts) ts
+
+-- a method, behind its first word
+abbrev pub taking_at : Within → Bool → List Token → Read MethodTree
+taking_at within returns a = method_verb_at a >>= λ v. pattern_list_at bracket.Round v.1 >>= λ ps. braced_at within ps.1 >>= λ b. Some (method_tree v.0 ps.0 (block_of returns b.0), b.1)
+
+-- a method, where its first word is in front
+abbrev pub method_at : Within → List Token → Read MethodTree
+method_at within a = taking_at within (is_at_word is_to_word a) (rest_of a)
+
+-- one method more, put at the end
+abbrev pub methods_next : Within → Methods → List Token → Option (Read Methods)
+methods_next within ms a = cond (is_at_word is_method_word a) (Some (method_at within a >>= λ m. Some (put_method ms m.0, m.1))) None
+
+-- methods, one behind the other
+abbrev pub methods_at : Within → List Token → Read Methods
+methods_at within a = repeat (methods_next within) (length a) no_methods a
+
+-- methods and the brace behind them
+abbrev pub methods_past_at : Within → List Token → Read Methods
+methods_past_at within a = methods_at within a >>= past (is_close bracket.Curly)
+
+-- an object that p is bound to, behind its opening brace
+abbrev pub members_at : Within → Pattern → List Token → Read Tree
+members_at within p a = methods_past_at within a >>= λ ms. Some (object_tree p ms.0, ms.1)
+
+-- what stands behind what an object is bound to
+abbrev pub body_at : Within → Pattern → List Token → Read Tree
+body_at within p a =
+    cond (is_open bracket.Curly (sign_in a)) (members_at within p (rest_of a))
+    (cond (is_open bracket.Round (sign_in a)) (function_at within p (rest_of a)) None)
+
+-- what stands behind the `def` of an object
+abbrev pub object_at : Within → List Token → Read Tree
+object_at within a = pattern_at a >>= λ p. body_at within p.0 p.1
+
 -- the literal that a word is
 abbrev pub literal_of : words.Reserved → Option Tree
 literal_of word.True = Some (bool_tree true)
@@ -329,6 +443,8 @@ control_at within word.While a = while_at within a
 control_at within word.For a = for_at within a
 control_at within word.Try a = try_at within a
 control_at within word.Throw a = throw_at within a
+control_at within word.Escape a = escape_at within a
+control_at within word.Def a = object_at within a
 control_at within _ a = None
 
 abbrev pub word_at : Within → words.Reserved → List Token → Read Tree
@@ -362,7 +478,7 @@ closer link.Index = bracket.Square
 
 -- the verb, up to the arguments
 abbrev pub verb_at : Link → List Token → Read Name
-verb_at link.Method a = name_at a >>= past (is_open bracket.Round)
+verb_at link.Method a = method_verb_at a
 verb_at link.Run a = Some (codes "run", a)
 verb_at link.Index a = Some (codes "get", a)
 

@@ -6,7 +6,7 @@ use Rattle.etoken.specs.Breaks.{with_breaks}
 use Rattle.etoken.specs.Names.{is_name}
 use Rattle.kernele.specs.declared.tree.Pattern.{Pattern}
 use Rattle.kernele.specs.declared.tree.Pattern.TheVariants as pattern
-use Rattle.kernele.specs.Tree.{Name, Tree, null_tree, bool_tree, int_tree, text_tree, noun, define, variable, assign, call, list_tree, same_tree, define_list, hide, if_tree, while_tree, for_tree, try_tree, throw_tree, Trees, none, and_then}
+use Rattle.kernele.specs.Tree.{Name, Tree, null_tree, bool_tree, int_tree, text_tree, noun, define, variable, assign, call, list_tree, same_tree, define_list, hide, if_tree, while_tree, for_tree, try_tree, throw_tree, object_tree, escape_tree, Trees, none, and_then, Methods, no_methods, and_method}
 use Rattle.ereader.specs.Grammar.{Program}
 use Rattle.ereader.specs.View.{plain}
 
@@ -58,6 +58,12 @@ abbrev mutual
   IsSpellable (for_tree p e body) = BindsName p × IsSpellable e × AreSpellable body
   IsSpellable (try_tree body p handler) = AreSpellable body × BindsName p × AreSpellable handler
   IsSpellable (throw_tree e) = IsSpellable e
+  IsSpellable (object_tree p ms) = BindsName p × AreSpellableMethods ms
+  IsSpellable (escape_tree x body) = IsName x × AreSpellable body
+
+  pub AreSpellableMethods : Methods → Type 0
+  AreSpellableMethods no_methods = Unit {0}
+  AreSpellableMethods (and_method verb ps body ms) = IsName verb × BindNames ps × AreSpellable body × AreSpellableMethods ms
 
   pub AreSpellable : Trees → Type 0
   AreSpellable none = Unit {0}

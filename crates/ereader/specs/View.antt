@@ -6,9 +6,10 @@ use Rattle.etoken.specs.declared.token.Token.{Token}
 use Rattle.etoken.specs.declared.token.Placed.{Placed}
 use Rattle.kernele.specs.declared.tree.Expr.{Expr}
 use Rattle.kernele.specs.declared.tree.Pattern.{Pattern}
+use Rattle.kernele.specs.declared.tree.Method.{Method}
 use Rattle.kernele.specs.declared.tree.Program.{Program}
-use Rattle.kernele.specs.Tree.{Tree, Trees}
-use Rattle.kernele.specs.View.{tree_of, trees_of, program_of}
+use Rattle.kernele.specs.Tree.{Tree, Trees, Methods}
+use Rattle.kernele.specs.View.{tree_of, trees_of, methods_of, program_of}
 use Rattle.ereader.specs.declared.fault.ReadFault.{ReadFault}
 use Rattle.ereader.specs.declared.fault.ReadFault.TheVariants as fault
 use Rattle.ereader.specs.declared.fault.Stop.{Stop}
@@ -16,7 +17,7 @@ use Rattle.ereader.specs.declared.fault.Stop.TheVariants as stop
 use Rattle.ereader.specs.declared.operator.Target.{Target}
 use Rattle.ereader.specs.declared.operator.Target.TheVariants as target
 use Rattle.ereader.specs.declared.reader.Reader.{Reader}
-use Rattle.ereader.specs.Grammar.{Place, definition, definitions, new_variable, assignment}
+use Rattle.ereader.specs.Grammar.{Place, definition, definitions, new_variable, assignment, MethodTree, method_tree}
 use Rattle.ereader.specs.Reading.{Read}
 
 -- the tokens, without their places
@@ -47,6 +48,20 @@ GivesMany (Err e) old new read = Fails e (read (left_of old))
 abbrev pub GivesPatterns : Result (Vec Pattern Global) Stop → Reader → Reader → (List Token → Read (List Pattern)) → Type 0
 GivesPatterns (Ok ps) old new read = read (left_of old) ≡ Some (ps.items, left_of new)
 GivesPatterns (Err e) old new read = Fails e (read (left_of old))
+
+-- the method that a method stands for
+abbrev pub method_of : Method → MethodTree
+method_of m = method_tree m.verb m.parameters.value.items (trees_of m.body.value.items)
+
+-- the same, of a method
+abbrev pub GivesMethod : Result Method Stop → Reader → Reader → (List Token → Read MethodTree) → Type 0
+GivesMethod (Ok m) old new read = read (left_of old) ≡ Some (method_of m, left_of new)
+GivesMethod (Err e) old new read = Fails e (read (left_of old))
+
+-- the same, of several methods
+abbrev pub GivesMethods : Result (Vec Method Global) Stop → Reader → Reader → (List Token → Read Methods) → Type 0
+GivesMethods (Ok ms) old new read = read (left_of old) ≡ Some (methods_of ms.items, left_of new)
+GivesMethods (Err e) old new read = Fails e (read (left_of old))
 
 -- what a value is given to
 abbrev pub place_of : Target → Place

@@ -9,7 +9,7 @@ use Rattle.kernele.specs.declared.tree.Pattern.{Pattern}
 use Rattle.kernele.specs.declared.tree.Pattern.TheVariants as pattern
 use Rattle.ereader.specs.Grammar.{dot, comma, semicolon, becomes, open_round, close_round, open_square, close_square, open_curly, close_curly, underscore}
 use Rattle.kernele.specs.Spelling.{needs_brackets, is_bare_receiver}
-use Rattle.kernele.specs.Tree.{Tree, null_tree, bool_tree, int_tree, text_tree, noun, define, variable, assign, call, list_tree, same_tree, define_list, hide, if_tree, while_tree, for_tree, try_tree, throw_tree, Trees, none, and_then}
+use Rattle.kernele.specs.Tree.{Name, Tree, null_tree, bool_tree, int_tree, text_tree, noun, define, variable, assign, call, list_tree, same_tree, define_list, hide, if_tree, while_tree, for_tree, try_tree, throw_tree, object_tree, escape_tree, Trees, none, and_then, Methods, no_methods, and_method}
 
 -- tokens put before others
 abbrev pub Before : Type 0
@@ -42,6 +42,10 @@ bound_in p r = bound p ∷ r
 -- a block in its braces
 abbrev pub in_braces : List Before → Before
 in_braces ws r = open_curly ∷ between semicolon ws (close_curly ∷ r)
+
+-- a method: its verb, its parameters, and its block
+abbrev pub taking : Name → List Pattern → List Before → Before
+taking verb ps ws r = token.Word word.Method ∷ token.Name verb ∷ open_round ∷ between comma (map bound_in ps) (close_round ∷ in_braces ws r)
 
 abbrev pub truth_word : Bool → words.Reserved
 truth_word true = word.True
@@ -84,6 +88,13 @@ abbrev mutual
       token.Word word.Try ∷ in_braces (written_items body) (token.Word word.Catch ∷ bound p ∷ in_braces (written_items handler) r)
   written (throw_tree e) r =
       token.Word word.Throw ∷ open_round ∷ bracketed (needs_brackets e) (written e) (close_round ∷ r)
+  written (object_tree p ms) r = token.Word word.Def ∷ bound p ∷ open_curly ∷ written_methods ms (close_curly ∷ r)
+  written (escape_tree x body) r = token.Word word.Escape ∷ token.Name x ∷ in_braces (written_items body) r
+
+  -- the methods of an object
+  pub written_methods : Methods → Before
+  written_methods no_methods r = r
+  written_methods (and_method verb ps body ms) r = taking verb ps (written_items body) (written_methods ms r)
 
   -- arguments, or the items of a list
   pub written_parts : Trees → List Before

@@ -86,7 +86,7 @@ impl<'a> Reader<'a> {
 
     /// A block in its braces.
     #[cycle(read)]
-    fn braced(&mut self, left: usize) -> Result<Vec<Expr>, Stop>
+    pub fn braced(&mut self, left: usize) -> Result<Vec<Expr>, Stop>
         ensures gives { GivesMany result self.old self.new (reading.braced_at (within_at left)) }
         ensures shorter { OnOk result (Advances self.old self.new) }
     {
@@ -141,6 +141,14 @@ impl<'a> Reader<'a> {
             Reserved::Throw => {
                 self.skip();
                 self.throw(left)
+            }
+            Reserved::Escape => {
+                self.skip();
+                self.escape(left)
+            }
+            Reserved::Def => {
+                self.skip();
+                self.object(left)
             }
             _ => Err(Stop::Unexpected),
         }

@@ -23,15 +23,15 @@ impl<'a> Reader<'a> {
         ensures shorter { OnOk result (IsNoLonger self.old self.new) }
     {
         match link {
-            Link::Method => self.method(),
+            Link::Method => self.method_verb(),
             Link::Run => Ok(Text::new(self.alloc, "run")?),
             Link::Index => Ok(Text::new(self.alloc, "get")?),
         }
     }
 
-    /// A verb and its opening bracket.
-    fn method(&mut self) -> Result<Text, Stop>
-        ensures gives { GivesPlain result self.old self.new (reading.verb_at Link.Method) }
+    /// A verb and the bracket behind it.
+    pub fn method_verb(&mut self) -> Result<Text, Stop>
+        ensures gives { GivesPlain result self.old self.new reading.method_verb_at }
         ensures shorter { OnOk result (IsNoLonger self.old self.new) }
     {
         let verb = self.name()?;

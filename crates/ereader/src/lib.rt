@@ -15,6 +15,7 @@ mod depth;
 mod expressions;
 pub mod fault;
 mod nodes;
+mod objects;
 mod operator;
 mod peek;
 mod primaries;

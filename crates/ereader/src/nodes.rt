@@ -1,17 +1,17 @@
 // The nodes of trees, and what operators stand for.
 ghost use Rattle.std.specs.Prelude.{◌≡◌, IfOk, IfErr};
-ghost use Rattle.kernele.specs.Tree.{call as call_tree, list_tree, hide as hide_tree, if_tree, while_tree, for_tree, try_tree, throw_tree, none};
-ghost use Rattle.kernele.specs.View.{tree_of, trees_of};
-ghost use Rattle.ereader.specs.Grammar.{binary as binary_tree, given, joined, prefix_verb};
-ghost use Rattle.ereader.specs.Reading.{literal_of};
-ghost use Rattle.ereader.specs.View.{GivesTree, place_of};
+ghost use Rattle.kernele.specs.Tree.{call as call_tree, list_tree, hide as hide_tree, if_tree, while_tree, for_tree, try_tree, throw_tree, object_tree, escape_tree, none};
+ghost use Rattle.kernele.specs.View.{tree_of, trees_of, methods_of};
+ghost use Rattle.ereader.specs.Grammar.{binary as binary_tree, given, joined, prefix_verb, method_tree, return_tree, return_name as name_of_return, returning as returning_trees, function_tree};
+ghost use Rattle.ereader.specs.Reading.{literal_of, block_of as block_trees};
+ghost use Rattle.ereader.specs.View.{GivesTree, place_of, method_of};
 ghost use Rattle.ereader.specs.declared.fault.Stop.TheVariants as stop;
 
 use crate::fault::Stop;
 use crate::operator::{Operator, Prefix, Target};
 use etoken::token::Reserved;
 use ids::text::Text;
-use kernele::tree::{Expr, Pattern};
+use kernele::tree::{Expr, Method, Pattern};
 use std::alloc::Global;
 use std::sync::Arc;
 
@@ -203,4 +203,96 @@ pub fn literal(word: Reserved) -> Option<Expr>
         Reserved::Null => Some(Expr::Null),
         _ => None,
     }
+}
+
+/// A block that an ejector ends.
+pub fn escape(alloc: Global, name: Text, body: Vec<Expr>) -> Result<Expr, Stop>
+    ensures ok { IfOk result (λ e. tree_of e ≡ escape_tree name (trees_of body.items)) }
+    ensures err { IfErr result (λ e. e ≡ stop.Memory) }
+{
+    Ok(Expr::Escape(name, Arc::new(alloc, body)?))
+}
+
+/// The name of the ejector that ends a method that may return.
+fn return_name(alloc: Global) -> Result<Text, Stop>
+    ensures ok { IfOk result (λ x. x ≡ name_of_return) }
+    ensures err { IfErr result (λ e. e ≡ stop.Memory) }
+{
+    Ok(Text::new(alloc, "__return")?)
+}
+
+/// What `return` stands for.
+pub fn returned(alloc: Global, value: Expr) -> Result<Expr, Stop>
+    ensures ok { IfOk result (λ e. tree_of e ≡ return_tree (tree_of value)) }
+    ensures err { IfErr result (λ e. e ≡ stop.Memory) }
+{
+    let ejector = Expr::Noun(return_name(alloc)?);
+    binary(alloc, ejector, "run", value)
+}
+
+/// The block of a method that may return: null, where it does not.
+fn returning(alloc: Global, body: Vec<Expr>) -> Result<Vec<Expr>, Stop>
+    ensures ok { IfOk result (λ es. trees_of es.items ≡ returning_trees (trees_of body.items)) }
+    ensures err { IfErr result (λ e. e ≡ stop.Memory) }
+{
+    let mut items = body;
+    items.push(Expr::Null)?;
+    let name = return_name(alloc)?;
+    let whole = escape(alloc, name, items)?;
+    Ok(vec![in alloc; whole]?)
+}
+
+/// The block of a method, which may return if `returns`.
+pub fn block_of(alloc: Global, returns: bool, body: Vec<Expr>) -> Result<Vec<Expr>, Stop>
+    ensures ok { IfOk result (λ es. trees_of es.items ≡ block_trees returns (trees_of body.items)) }
+    ensures err { IfErr result (λ e. e ≡ stop.Memory) }
+{
+    if returns {
+        returning(alloc, body)
+    } else {
+        Ok(body)
+    }
+}
+
+pub fn method(
+    alloc: Global,
+    verb: Text,
+    parameters: Vec<Pattern>,
+    body: Vec<Expr>,
+) -> Result<Method, Stop>
+    ensures ok { IfOk result (λ m. method_of m ≡ method_tree verb parameters.items (trees_of body.items)) }
+    ensures err { IfErr result (λ e. e ≡ stop.Memory) }
+{
+    let parameters = Arc::new(alloc, parameters)?;
+    let body = Arc::new(alloc, body)?;
+    Ok(Method {
+        verb,
+        parameters,
+        body,
+    })
+}
+
+/// An object and what it is bound to.
+pub fn object(alloc: Global, pattern: Pattern, methods: Vec<Method>) -> Result<Expr, Stop>
+    ensures ok { IfOk result (λ e. tree_of e ≡ object_tree pattern (methods_of methods.items)) }
+    ensures err { IfErr result (λ e. e ≡ stop.Memory) }
+{
+    Ok(Expr::Object(pattern, Arc::new(alloc, methods)?))
+}
+
+/// An object with one method, which may return, and what it is bound to.
+pub fn function(
+    alloc: Global,
+    pattern: Pattern,
+    parameters: Vec<Pattern>,
+    body: Vec<Expr>,
+) -> Result<Expr, Stop>
+    ensures ok { IfOk result (λ e. tree_of e ≡ function_tree pattern parameters.items (trees_of body.items)) }
+    ensures err { IfErr result (λ e. e ≡ stop.Memory) }
+{
+    let verb = Text::new(alloc, "run")?;
+    let body = returning(alloc, body)?;
+    let run = method(alloc, verb, parameters, body)?;
+    let methods = vec![in alloc; run]?;
+    object(alloc, pattern, methods)
 }

@@ -19,6 +19,56 @@ fn front_sign(tokens: &[Placed]) -> Option<Sign>
     }
 }
 
+/// Whether a list of patterns is in front, or one pattern and `:=`.
+fn is_bound(tokens: &[Placed]) -> bool
+    ensures { result ≡ reading.is_bound (plain tokens.now) }
+{
+    let Some((first, rest)) = tokens.split_first() else {
+        return false;
+    };
+    matches!(first.token, Token::Sign(Sign::OpenSquare))
+        || matches!(front_sign(rest), Some(Sign::Becomes))
+}
+
+/// Whether an operand begins with a word.
+fn word_begins(word: Reserved) -> bool
+    ensures { result ≡ reading.begins_word word }
+{
+    matches!(
+        word,
+        Reserved::True
+            | Reserved::False
+            | Reserved::Null
+            | Reserved::If
+            | Reserved::While
+            | Reserved::For
+            | Reserved::Escape
+            | Reserved::Try
+            | Reserved::Throw
+            | Reserved::Def
+    )
+}
+
+/// Whether an operand begins with a sign, or may have it before it.
+fn sign_begins(sign: Sign) -> bool
+    ensures { result ≡ reading.begins_sign sign }
+{
+    matches!(
+        sign,
+        Sign::OpenRound | Sign::OpenSquare | Sign::OpenCurly | Sign::Not | Sign::Minus
+    )
+}
+
+fn token_begins(token: &Token) -> bool
+    ensures { result ≡ reading.begins_token token.now }
+{
+    match token {
+        Token::Int(_) | Token::Text(_) | Token::Name(_) => true,
+        Token::Word(word) => word_begins(*word),
+        Token::Sign(sign) => sign_begins(*sign),
+    }
+}
+
 impl<'a> Reader<'a> {
     /// The sign in front.
     fn sign(&self) -> Option<Sign>
@@ -107,13 +157,14 @@ impl<'a> Reader<'a> {
         }
     }
 
+    /// Whether a definition of what a value is given to is in front, and not one of an object.
     pub fn at_definition(&self) -> bool
-        ensures { result ≡ reading.is_at_word reading.is_def_word (left_of self.now) }
+        ensures { result ≡ reading.is_definition (left_of self.now) }
     {
-        match self.rest.first() {
-            Some(placed) => matches!(placed.token, Token::Word(Reserved::Def)),
-            None => false,
-        }
+        let Some((first, rest)) = self.rest.split_first() else {
+            return false;
+        };
+        matches!(first.token, Token::Word(Reserved::Def)) && is_bound(rest)
     }
 
     pub fn at_variable(&self) -> bool
@@ -157,6 +208,44 @@ impl<'a> Reader<'a> {
     {
         match self.rest.first() {
             Some(placed) => matches!(placed.token, Token::Word(Reserved::Catch)),
+            None => false,
+        }
+    }
+
+    pub fn at_return(&self) -> bool
+        ensures { result ≡ reading.is_at_word reading.is_return_word (left_of self.now) }
+    {
+        match self.rest.first() {
+            Some(placed) => matches!(placed.token, Token::Word(Reserved::Return)),
+            None => false,
+        }
+    }
+
+    pub fn at_to(&self) -> bool
+        ensures { result ≡ reading.is_at_word reading.is_to_word (left_of self.now) }
+    {
+        match self.rest.first() {
+            Some(placed) => matches!(placed.token, Token::Word(Reserved::To)),
+            None => false,
+        }
+    }
+
+    /// Whether a method begins here.
+    pub fn at_method(&self) -> bool
+        ensures { result ≡ reading.is_at_word reading.is_method_word (left_of self.now) }
+    {
+        match self.rest.first() {
+            Some(placed) => matches!(placed.token, Token::Word(Reserved::To | Reserved::Method)),
+            None => false,
+        }
+    }
+
+    /// Whether an expression that may stand in any place can begin here.
+    pub fn at_operand(&self) -> bool
+        ensures { result ≡ reading.begins (left_of self.now) }
+    {
+        match self.rest.first() {
+            Some(placed) => token_begins(&placed.token),
             None => false,
         }
     }

@@ -139,10 +139,37 @@ impl<'a> Reader<'a> {
         ensures gives { Gives result self.old self.new (reading.expr_at (within_at left)) }
         ensures shorter { OnOk result (Advances self.old self.new) }
     {
+        if !self.at_return() {
+            return self.given(left);
+        }
+        self.skip();
+        self.returned(left)
+    }
+
+    /// A value, and what it is given to, if it is given to anything.
+    #[cycle(read)]
+    fn given(&mut self, left: usize) -> Result<Expr, Stop>
+        ensures gives { Gives result self.old self.new (reading.given_at (within_at left)) }
+        ensures shorter { OnOk result (Advances self.old self.new) }
+    {
         let Some(target) = self.target()? else {
             return self.expression(left);
         };
         let value = self.expression(left)?;
         nodes::give(self.alloc, target, value)
+    }
+
+    /// What stands behind `return`.
+    #[cycle(read)]
+    #[inline(never)]
+    fn returned(&mut self, left: usize) -> Result<Expr, Stop>
+        ensures gives { Gives result self.old self.new (reading.return_at (within_at left)) }
+        ensures shorter { OnOk result (IsNoLonger self.old self.new) }
+    {
+        if !self.at_operand() {
+            return nodes::returned(self.alloc, Expr::Null);
+        }
+        let value = self.expression(left)?;
+        nodes::returned(self.alloc, value)
     }
 }

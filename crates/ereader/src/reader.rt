@@ -85,16 +85,16 @@ impl<'a> Reader<'a> {
     }
 
     /// A list of patterns, behind its opening bracket.
-    fn pattern_list(&mut self) -> Result<Vec<Pattern>, Stop>
-        ensures gives { GivesPatterns result self.old self.new reading.pattern_list_at }
+    pub fn pattern_list(&mut self, bracket: Bracket) -> Result<Vec<Pattern>, Stop>
+        ensures gives { GivesPatterns result self.old self.new (reading.pattern_list_at bracket) }
         ensures shorter { OnOk result (Advances self.old self.new) }
     {
-        if self.at_close(Bracket::Square) {
+        if self.at_close(bracket) {
             self.skip();
             return Ok(Vec::new(self.alloc));
         }
         let patterns = self.patterns()?;
-        if !self.at_close(Bracket::Square) {
+        if !self.at_close(bracket) {
             return Err(Stop::Unexpected);
         }
         self.skip();
@@ -119,7 +119,7 @@ impl<'a> Reader<'a> {
         ensures gives { GivesPatterns result self.old self.new reading.bound_list_at }
         ensures shorter { OnOk result (Advances self.old self.new) }
     {
-        let patterns = self.pattern_list()?;
+        let patterns = self.pattern_list(Bracket::Square)?;
         if !self.at_becomes() {
             return Err(Stop::Unexpected);
         }

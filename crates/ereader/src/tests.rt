@@ -3,7 +3,8 @@
 use crate::fault::ReadFault;
 use crate::{read, read_tokens};
 use etoken::tokens::tokens;
-use kernele::tree::{Expr, Pattern, Program};
+use ids::text::Text;
+use kernele::tree::{Expr, Method, Pattern, Program};
 use std::alloc::{AllocError, Global};
 use std::fmt::Write;
 use std::test::Fail;
@@ -29,6 +30,39 @@ fn show_block(items: &Vec<Expr>, out: &mut String) -> Result<(), AllocError> {
     out.push_str("{")?;
     show_all(items, out)?;
     out.push_str(" }")
+}
+
+#[cycle(show)]
+fn show_method(method: &Method, out: &mut String) -> Result<(), AllocError> {
+    write!(out, " ({} [", method.verb)?;
+    for pattern in method.parameters.iter() {
+        out.push_str(" ")?;
+        show_pattern(pattern, out)?;
+    }
+    out.push_str(" ] ")?;
+    show_block(&method.body, out)?;
+    out.push_str(")")
+}
+
+#[cycle(show)]
+fn show_object(
+    pattern: &Pattern,
+    methods: &Vec<Method>,
+    out: &mut String,
+) -> Result<(), AllocError> {
+    out.push_str("(object ")?;
+    show_pattern(pattern, out)?;
+    for method in methods {
+        show_method(method, out)?;
+    }
+    out.push_str(")")
+}
+
+#[cycle(show)]
+fn show_escape(name: &Text, body: &Vec<Expr>, out: &mut String) -> Result<(), AllocError> {
+    write!(out, "(escape {name} ")?;
+    show_block(body, out)?;
+    out.push_str(")")
 }
 
 /// Writes a tree with a bracket round each node that has parts.
@@ -125,6 +159,8 @@ fn show(tree: &Expr, out: &mut String) -> Result<(), AllocError> {
             show(problem, out)?;
             out.push_str(")")
         }
+        Expr::Object(pattern, methods) => show_object(pattern, methods, out),
+        Expr::Escape(name, body) => show_escape(name, body, out),
     }
 }
 
@@ -196,7 +232,7 @@ fn refuses_what_is_no_program(rt: HostRuntime) -> Result<(), Fail> {
         ("1 +", "L5 Unexpected 3"),
         ("1 < 2 < 3", "L5 Unexpected 6"),
         ("1 2", "L5 Unexpected 2"),
-        ("f ( def x := 1 )", "L5 Unexpected 4"),
+        ("f ( def x := 1 )", "L5 Unexpected 10"),
         ("f ( 1 , )", "L5 Unexpected 8"),
         ("[ 1 )", "L5 Unexpected 4"),
         ("( ; )", "L5 Unexpected 2"),
@@ -205,7 +241,7 @@ fn refuses_what_is_no_program(rt: HostRuntime) -> Result<(), Fail> {
         ("a . b", "L5 Unexpected 5"),
         ("def 1 := 2", "L5 Unexpected 4"),
         ("def x 2", "L5 Unexpected 6"),
-        ("def x := def y := 1", "L5 Unexpected 9"),
+        ("def x := def y := 1", "L5 Unexpected 15"),
         ("var 1 := 2", "L5 Unexpected 4"),
         ("var _ := 2", "L5 Unexpected 4"),
         ("var x 2", "L5 Unexpected 6"),
@@ -218,12 +254,9 @@ fn refuses_what_is_no_program(rt: HostRuntime) -> Result<(), Fail> {
         ("x . y ( ) := 1", "L5 Unexpected 10"),
         ("f ( x := 1 )", "L5 Unexpected 6"),
         ("1 + x := 1", "L5 Unexpected 6"),
-        ("return 1", "L5 Unexpected 0"),
-        ("f ( escape )", "L5 Unexpected 4"),
         ("when ( x ) -> { }", "L5 Unexpected 0"),
         ("x <- y ( )", "L5 Unexpected 2"),
         ("Ref . promise ( )", "L5 Unexpected 0"),
-        ("def x { }", "L5 Unexpected 6"),
         ("1 )", "L5 Unexpected 2"),
         ("1 + @", "L1 BadCharacter 4"),
         ("( ) \"", "L2 UnclosedText 4"),
@@ -285,6 +318,137 @@ fn reads_blocks(rt: HostRuntime) -> Result<(), Fail> {
 }
 
 #[test]
+fn reads_objects(rt: HostRuntime) -> Result<(), Fail> {
+    for (text, tree) in [
+        ("def x { }", " (object x)"),
+        (
+            "def x { method m ( a , _ ) { 1 ; a } method m ( ) { } }",
+            " (object x (m [ a _ ] { 1 a }) (m [ ] { }))",
+        ),
+        (
+            "def _ { to m ( ) { 1 } method n ( ) { 2 } }",
+            " (object _ (m [ ] { (escape __return { 1 null }) }) (n [ ] { 2 }))",
+        ),
+        (
+            "def x {\n to m ( ) {\n 1\n }\n\n method n ( ) { }\n}\nx",
+            " (object x (m [ ] { (escape __return { 1 null }) }) (n [ ] { })) x",
+        ),
+        (
+            "def f ( x , y ) { x }",
+            " (object f (run [ x y ] { (escape __return { x null }) }))",
+        ),
+        (
+            "def f ( ) { } ( 1 ) + 2",
+            " (add (run (object f (run [ ] { (escape __return { null }) })) 1) 2)",
+        ),
+        (
+            "- def x { } . size ( ) * 2",
+            " (multiply (negate (size (object x))) 2)",
+        ),
+        ("def x := def y { }", " (def x (object y))"),
+        (
+            "f ( def x { } , [ def y { } ] )",
+            " (run f (object x) [ (object y) ])",
+        ),
+        ("for x in def y { } { }", " (for x (object y) { })"),
+        ("escape x { x ( 1 ) ; 2 }", " (escape x { (run x 1) 2 })"),
+        (
+            "escape x { } . size ( ) + 1",
+            " (add (size (escape x { })) 1)",
+        ),
+    ] {
+        let read = outcome(rt.alloc(), text)?;
+        assert_eq!(rt; read.as_str(), tree, "at {text}");
+    }
+    Ok(())
+}
+
+#[test]
+fn reads_returns(rt: HostRuntime) -> Result<(), Fail> {
+    for (text, tree) in [
+        ("return", " (run __return null)"),
+        ("return ; 1", " (run __return null) 1"),
+        ("return\n1", " (run __return null) 1"),
+        ("{ return }", " { (run __return null) }"),
+        ("( return ) + 1", " (add (run __return null) 1)"),
+        ("return 1 + 2", " (run __return (add 1 2))"),
+        ("return a || b", " (run __return (if a { true } { b }))"),
+        (
+            "return - 1 ; return ! a",
+            " (run __return (negate 1)) (run __return (not a))",
+        ),
+        (
+            "return ( 1 ) ; return [ ]",
+            " (run __return 1) (run __return [ ])",
+        ),
+        ("return { 1 }", " (run __return { 1 })"),
+        (
+            "return \"a\" ; return null",
+            " (run __return 'a') (run __return null)",
+        ),
+        ("return if ( a ) { }", " (run __return (if a { } { }))"),
+        ("return def x { }", " (run __return (object x))"),
+        ("return escape x { }", " (run __return (escape x { }))"),
+        ("return throw ( a )", " (run __return (throw a))"),
+    ] {
+        let read = outcome(rt.alloc(), text)?;
+        assert_eq!(rt; read.as_str(), tree, "at {text}");
+    }
+    Ok(())
+}
+
+#[test]
+fn refuses_what_is_no_return(rt: HostRuntime) -> Result<(), Fail> {
+    for (text, fault) in [
+        ("return )", "L5 Unexpected 7"),
+        ("return return", "L5 Unexpected 7"),
+        ("return var x := 1", "L5 Unexpected 7"),
+        ("return x := 1", "L5 Unexpected 9"),
+        ("return def x := 1", "L5 Unexpected 13"),
+        ("return when ( x ) -> { }", "L5 Unexpected 7"),
+        ("return Ref . promise ( )", "L5 Unexpected 7"),
+        ("f ( return )", "L5 Unexpected 4"),
+        ("x := return", "L5 Unexpected 5"),
+        ("1 + return", "L5 Unexpected 4"),
+    ] {
+        let read = outcome(rt.alloc(), text)?;
+        assert_eq!(rt; read.as_str(), fault, "at {text}");
+    }
+    Ok(())
+}
+
+#[test]
+fn refuses_what_is_no_object(rt: HostRuntime) -> Result<(), Fail> {
+    for (text, fault) in [
+        ("def", "L5 Unexpected 3"),
+        ("def x", "L5 Unexpected 5"),
+        ("def [ a ] { }", "L5 Unexpected 10"),
+        ("def x { 1 }", "L5 Unexpected 8"),
+        ("def x { ; }", "L5 Unexpected 8"),
+        ("def x { to 1 ( ) { } }", "L5 Unexpected 11"),
+        ("def x { to m { } }", "L5 Unexpected 13"),
+        ("def x { to m ( 1 ) { } }", "L5 Unexpected 15"),
+        ("def x { to m ( a , ) { } }", "L5 Unexpected 19"),
+        ("def x { to m ( a ] { } }", "L5 Unexpected 17"),
+        ("def x { to m ( ) }", "L5 Unexpected 17"),
+        ("def x { to m ( ) { } ; to n ( ) { } }", "L5 Unexpected 21"),
+        ("def x { to m ( ) { }", "L5 Unexpected 20"),
+        ("def x ( 1 ) { }", "L5 Unexpected 8"),
+        ("def x ( a b ) { }", "L5 Unexpected 10"),
+        ("def x ( ) 1", "L5 Unexpected 10"),
+        ("to m ( ) { }", "L5 Unexpected 0"),
+        ("method m ( ) { }", "L5 Unexpected 0"),
+        ("f ( escape )", "L5 Unexpected 11"),
+        ("escape _ { }", "L5 Unexpected 7"),
+        ("escape x 1", "L5 Unexpected 9"),
+    ] {
+        let read = outcome(rt.alloc(), text)?;
+        assert_eq!(rt; read.as_str(), fault, "at {text}");
+    }
+    Ok(())
+}
+
+#[test]
 fn reads_and_and_or(rt: HostRuntime) -> Result<(), Fail> {
     for (text, tree) in [
         ("a && b", " (if a { b } { false })"),
@@ -312,7 +476,7 @@ fn refuses_what_is_no_block(rt: HostRuntime) -> Result<(), Fail> {
         ("if ( x ) y", "L5 Unexpected 9"),
         ("if x { }", "L5 Unexpected 3"),
         ("if ( ) { }", "L5 Unexpected 5"),
-        ("if ( def x := 1 ) { }", "L5 Unexpected 5"),
+        ("if ( def x := 1 ) { }", "L5 Unexpected 11"),
         ("if ( a )", "L5 Unexpected 8"),
         ("if ( a ) { } else 1", "L5 Unexpected 18"),
         ("if ( a ) { } ; else { }", "L5 Unexpected 15"),
@@ -337,7 +501,7 @@ fn refuses_what_is_no_block(rt: HostRuntime) -> Result<(), Fail> {
         ("def [ a b ] := c", "L5 Unexpected 8"),
         ("def [ [ a ] ] := c", "L5 Unexpected 6"),
         ("def [ a ] c", "L5 Unexpected 10"),
-        ("f ( def [ ] := a )", "L5 Unexpected 4"),
+        ("f ( def [ ] := a )", "L5 Unexpected 8"),
         ("a &&", "L5 Unexpected 4"),
         ("a || || b", "L5 Unexpected 5"),
     ] {

@@ -1,7 +1,7 @@
 use Rattle.std.proofs.Common.{rules, arith, length, sym, ap, ◌∙◌}
 use Rattle.std.proofs.lemmas.Result.{err_from_is_err_and}
 use Rattle.ereader.proofs.Turns.{turns_here}
-use Rattle.ereader.proofs.Steps.{rest_le, skip-le, trees_push, operand_more, operand_fails, operand_end, postfix_more, postfix_end, commas_more, commas_end, block_begin, block_more, block_part_fails, block_end}
+use Rattle.ereader.proofs.Steps.{rest_le, skip-le, trees_push, operand_more, operand_fails, operand_end, postfix_more, postfix_end, commas_more, commas_end, block_begin, block_more, block_part_fails, block_end, methods_push, methods_begin, methods_more, methods_end}
 use Rattle.ereader.specs.Grammar.{sum_operator, product_operator, and_operator, or_operator, snoc}
 use Rattle.ereader.specs.Reading.{conjunction_at, comparison_at, product_at, unary_at, operand_next, postfix_next, within_at}
 use Rattle.ereader.specs.View.{plain}
@@ -140,3 +140,19 @@ pub block-returns-in_err-separator-clause-gives : goal.block-returns-in_err-sepa
 block-returns-in_err-separator-clause-gives t c =
     let k = err_from_is_err_and c.from_residual-in_err-separator.result c.from_residual-in_err-separator.ensures.1 in
     rw (k.1, k.2) (block_part_fails (within_at c.args.left) c.in_err-separator.field-0.0 _ _ c.more.invariant.comes (sym c.at_block_end.ensures ∙ c.more-test.true) c.in_ok-item.ensures.gives c.in_err-separator.ensures.gives)
+
+pub methods-more-init : goal.methods-more-init
+methods-more-init t c = record {
+  comes = rw c.new-methods.ensures.items (methods_begin (within_at c.args.left) (plain c.args.self.now.rest.now));
+  shorter = omega arith;
+}
+
+pub methods-more-preserved : goal.methods-more-preserved
+methods-more-preserved t c = record {
+  comes = rw (c.in_ok-push.ensures.items, methods_push)
+      (methods_more (within_at c.args.left) _ _ c.more.invariant.comes (sym c.at_method.ensures ∙ c.more-test.true) c.in_ok-method.ensures.gives c.in_ok-method.ensures.shorter);
+  shorter = omega (arith, c.more.invariant.shorter, c.in_ok-method.ensures.shorter);
+}
+
+pub methods-returns-clause-gives : goal.methods-returns-clause-gives
+methods-returns-clause-gives t c = methods_end (within_at c.args.left) c.more.invariant.comes (sym c.at_method.ensures ∙ c.more-test.false)

@@ -1,8 +1,8 @@
 use Rattle.std.proofs.Common.{length, ◌*◌, ◌+◌, ◌<◌, ◌≤◌}
 use Rattle.ereader.specs.Grammar.{product_operator, sum_operator, and_operator, or_operator, snoc}
-use Rattle.ereader.specs.Reading.{within_at, operand_next, operands_from, conjunction_at, comparison_at, product_at, unary_at, postfix_from, postfix_next, items_at, commas_next, block_at, block_next}
+use Rattle.ereader.specs.Reading.{within_at, operand_next, operands_from, conjunction_at, comparison_at, product_at, unary_at, postfix_from, postfix_next, items_at, commas_next, block_at, block_next, methods_at, methods_next}
 use Rattle.ereader.specs.View.{plain}
-use Rattle.kernele.specs.View.{tree_of, trees_of}
+use Rattle.kernele.specs.View.{tree_of, trees_of, methods_of}
 use Rattle.ereader.proofs.Turns.{Turns}
 use Rattle.ereader.proofs.reader.Reader.+read.Given as goal
 
@@ -15,23 +15,29 @@ decreases-inner_conditional l = 32 * l.left + 0
 abbrev pub decreases-items : goal.decreases-items
 decreases-items l = 32 * l.left + 1
 
-abbrev pub decreases-expr : goal.decreases-expr
-decreases-expr l = 32 * l.left + 1
+abbrev pub decreases-given : goal.decreases-given
+decreases-given l = 32 * l.left + 1
+
+abbrev pub decreases-returned : goal.decreases-returned
+decreases-returned l = 32 * l.left + 1
 
 abbrev pub decreases-condition : goal.decreases-condition
 decreases-condition l = 32 * l.left + 1
 
+abbrev pub decreases-expr : goal.decreases-expr
+decreases-expr l = 32 * l.left + 2
+
 abbrev pub decreases-args : goal.decreases-args
 decreases-args l = 32 * l.left + 2
 
-abbrev pub decreases-group : goal.decreases-group
-decreases-group l = 32 * l.left + 2
-
-abbrev pub decreases-block : goal.decreases-block
-decreases-block l = 32 * l.left + 2
-
 abbrev pub decreases-throw : goal.decreases-throw
 decreases-throw l = 32 * l.left + 2
+
+abbrev pub decreases-group : goal.decreases-group
+decreases-group l = 32 * l.left + 3
+
+abbrev pub decreases-block : goal.decreases-block
+decreases-block l = 32 * l.left + 3
 
 abbrev pub decreases-list : goal.decreases-list
 decreases-list l = 32 * l.left + 3
@@ -40,97 +46,124 @@ abbrev pub decreases-linked : goal.decreases-linked
 decreases-linked l = 32 * l.left + 3
 
 abbrev pub decreases-block_past : goal.decreases-block_past
-decreases-block_past l = 32 * l.left + 3
+decreases-block_past l = 32 * l.left + 4
 
 abbrev pub decreases-hidden : goal.decreases-hidden
-decreases-hidden l = 32 * l.left + 4
+decreases-hidden l = 32 * l.left + 5
 
 abbrev pub decreases-braced : goal.decreases-braced
-decreases-braced l = 32 * l.left + 4
+decreases-braced l = 32 * l.left + 5
 
 abbrev pub decreases-branch : goal.decreases-branch
-decreases-branch l = 32 * l.left + 5
+decreases-branch l = 32 * l.left + 6
 
 abbrev pub decreases-while_loop : goal.decreases-while_loop
-decreases-while_loop l = 32 * l.left + 5
+decreases-while_loop l = 32 * l.left + 6
 
 abbrev pub decreases-for_loop : goal.decreases-for_loop
-decreases-for_loop l = 32 * l.left + 5
+decreases-for_loop l = 32 * l.left + 6
 
 abbrev pub decreases-tried : goal.decreases-tried
-decreases-tried l = 32 * l.left + 5
+decreases-tried l = 32 * l.left + 6
+
+abbrev pub decreases-escape : goal.decreases-escape
+decreases-escape l = 32 * l.left + 6
+
+abbrev pub decreases-function : goal.decreases-function
+decreases-function l = 32 * l.left + 6
+
+abbrev pub decreases-taking : goal.decreases-taking
+decreases-taking l = 32 * l.left + 6
 
 abbrev pub decreases-second : goal.decreases-second
-decreases-second l = 32 * l.left + 6
+decreases-second l = 32 * l.left + 7
 
 abbrev pub decreases-try_catch : goal.decreases-try_catch
-decreases-try_catch l = 32 * l.left + 6
+decreases-try_catch l = 32 * l.left + 7
+
+abbrev pub decreases-method : goal.decreases-method
+decreases-method l = 32 * l.left + 7
 
 abbrev pub decreases-conditional : goal.decreases-conditional
-decreases-conditional l = 32 * l.left + 7
+decreases-conditional l = 32 * l.left + 8
+
+abbrev pub decreases-methods : goal.decreases-methods
+decreases-methods l = 32 * l.left + 8
+
+abbrev pub decreases-methods_past : goal.decreases-methods_past
+decreases-methods_past l = 32 * l.left + 9
+
+abbrev pub decreases-members : goal.decreases-members
+decreases-members l = 32 * l.left + 10
+
+abbrev pub decreases-object_body : goal.decreases-object_body
+decreases-object_body l = 32 * l.left + 11
+
+abbrev pub decreases-object : goal.decreases-object
+decreases-object l = 32 * l.left + 12
 
 abbrev pub decreases-control : goal.decreases-control
-decreases-control l = 32 * l.left + 8
+decreases-control l = 32 * l.left + 13
 
 abbrev pub decreases-word : goal.decreases-word
-decreases-word l = 32 * l.left + 9
+decreases-word l = 32 * l.left + 14
 
 abbrev pub decreases-bracketed : goal.decreases-bracketed
-decreases-bracketed l = 32 * l.left + 9
+decreases-bracketed l = 32 * l.left + 14
 
 abbrev pub decreases-primary : goal.decreases-primary
-decreases-primary l = 32 * l.left + 10
+decreases-primary l = 32 * l.left + 15
 
 abbrev pub decreases-postfix_from : goal.decreases-postfix_from
-decreases-postfix_from l = 32 * l.left + 10
+decreases-postfix_from l = 32 * l.left + 15
 
 abbrev pub decreases-postfix : goal.decreases-postfix
-decreases-postfix l = 32 * l.left + 11
+decreases-postfix l = 32 * l.left + 16
 
 abbrev pub decreases-unary : goal.decreases-unary
-decreases-unary l = 32 * l.left + 12
+decreases-unary l = 32 * l.left + 17
 
 abbrev pub decreases-product_from : goal.decreases-product_from
-decreases-product_from l = 32 * l.left + 13
+decreases-product_from l = 32 * l.left + 18
 
 abbrev pub decreases-product : goal.decreases-product
-decreases-product l = 32 * l.left + 14
+decreases-product l = 32 * l.left + 19
 
 abbrev pub decreases-sum_from : goal.decreases-sum_from
-decreases-sum_from l = 32 * l.left + 15
+decreases-sum_from l = 32 * l.left + 20
 
 abbrev pub decreases-sums_from : goal.decreases-sums_from
-decreases-sums_from l = 32 * l.left + 16
+decreases-sums_from l = 32 * l.left + 21
 
 abbrev pub decreases-sum : goal.decreases-sum
-decreases-sum l = 32 * l.left + 17
+decreases-sum l = 32 * l.left + 22
 
 abbrev pub decreases-comparison_from : goal.decreases-comparison_from
-decreases-comparison_from l = 32 * l.left + 18
+decreases-comparison_from l = 32 * l.left + 23
 
 abbrev pub decreases-comparisons_from : goal.decreases-comparisons_from
-decreases-comparisons_from l = 32 * l.left + 19
+decreases-comparisons_from l = 32 * l.left + 24
 
 abbrev pub decreases-comparison : goal.decreases-comparison
-decreases-comparison l = 32 * l.left + 20
+decreases-comparison l = 32 * l.left + 25
 
 abbrev pub decreases-conjunction_from : goal.decreases-conjunction_from
-decreases-conjunction_from l = 32 * l.left + 21
+decreases-conjunction_from l = 32 * l.left + 26
 
 abbrev pub decreases-conjunctions_from : goal.decreases-conjunctions_from
-decreases-conjunctions_from l = 32 * l.left + 22
+decreases-conjunctions_from l = 32 * l.left + 27
 
 abbrev pub decreases-conjunction : goal.decreases-conjunction
-decreases-conjunction l = 32 * l.left + 23
+decreases-conjunction l = 32 * l.left + 28
 
 abbrev pub decreases-disjunction_from : goal.decreases-disjunction_from
-decreases-disjunction_from l = 32 * l.left + 24
+decreases-disjunction_from l = 32 * l.left + 29
 
 abbrev pub decreases-disjunctions_from : goal.decreases-disjunctions_from
-decreases-disjunctions_from l = 32 * l.left + 25
+decreases-disjunctions_from l = 32 * l.left + 30
 
 abbrev pub decreases-disjunction : goal.decreases-disjunction
-decreases-disjunction l = 32 * l.left + 26
+decreases-disjunction l = 32 * l.left + 31
 
 abbrev pub invariant-disjunction_from-more : goal.invariant-disjunction_from-more
 invariant-disjunction_from-more l = record {
@@ -194,3 +227,12 @@ invariant-block-more l = record {
 
 abbrev pub decreases-block-more : goal.decreases-block-more
 decreases-block-more l = length (plain l.self.rest.now)
+
+abbrev pub invariant-methods-more : goal.invariant-methods-more
+invariant-methods-more l = record {
+  comes : Turns (methods_next (within_at l.left)) (methods_at (within_at l.left) (plain l.fn.self.rest.now)) (methods_of l.methods.items) (plain l.self.rest.now);
+  shorter : length (plain l.self.rest.now) ≤ length (plain l.fn.self.rest.now);
+}
+
+abbrev pub decreases-methods-more : goal.decreases-methods-more
+decreases-methods-more l = length (plain l.self.rest.now)
