@@ -430,11 +430,11 @@ fn reads_long_programs(rt: HostRuntime) -> Result<(), Fail> {
 #[test]
 fn refuses_deep_programs(rt: HostRuntime) -> Result<(), Fail> {
     for (part, times, fault) in [
-        ("for a in ", 1500, "L5 Unexpected 13506"),
-        ("- for a in ", 1000, "L5 Unexpected 11006"),
-        ("a * for b in ", 1000, "L5 Unexpected 13006"),
-        ("a == for b in ", 1000, "L5 Unexpected 14006"),
-        ("a || for b in ", 1000, "L5 Unexpected 14006"),
+        ("for a in ", 300, "L5 Unexpected 2706"),
+        ("- for a in ", 300, "L5 Unexpected 3306"),
+        ("a * for b in ", 300, "L5 Unexpected 3906"),
+        ("a == for b in ", 300, "L5 Unexpected 4206"),
+        ("a || for b in ", 300, "L5 Unexpected 4206"),
     ] {
         let read = outcome_of_nested(rt.alloc(), part, times, "x { } ", "")?;
         assert_eq!(rt; read.as_str(), fault, "at {part}");
