@@ -25,7 +25,7 @@ bound_moved : (own : Bool) (x : Name) (b : Bind) (a : At) (t : State) → bound_
 bound_moved true x b a t = refl
 bound_moved false x b a t = refl
 
-matched_moved : (p : Pattern) (v : Val) (a : At) (t : State) → matched p v (in_state t a) ≡ in_state (matched p v (in_state t a)).state (matched p v a)
+pub matched_moved : (p : Pattern) (v : Val) (a : At) (t : State) → matched p v (in_state t a) ≡ in_state (matched p v (in_state t a)).state (matched p v a)
 matched_moved (pattern.Name x) v a t = bound_moved a.own_scope x (fixed v) a t
 matched_moved pattern.Ignore v a t = refl
 
@@ -33,7 +33,7 @@ bound_kept : (own : Bool) (x : Name) (b : Bind) (a : At) (t : State) (c : Cell) 
 bound_kept true x b a t c h = ap (λ y. cond (same_cell (top x) c) (Some (bound b)) y) h
 bound_kept false x b a t c h = h
 
-matched_kept : (p : Pattern) (v : Val) (a : At) (t : State) (c : Cell) → t c ≡ a.state c → (matched p v (in_state t a)).state c ≡ (matched p v a).state c
+pub matched_kept : (p : Pattern) (v : Val) (a : At) (t : State) (c : Cell) → t c ≡ a.state c → (matched p v (in_state t a)).state c ≡ (matched p v a).state c
 matched_kept (pattern.Name x) v a t c h = bound_kept a.own_scope x (fixed v) a t c h
 matched_kept pattern.Ignore v a t c h = h
 
