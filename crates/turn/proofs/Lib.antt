@@ -2,6 +2,8 @@ pub mod Cells
 pub mod Deliveries
 pub mod Determined
 pub mod Ejections
+pub mod Ejectors
+pub mod Entered
 pub mod Framed
 pub mod Grown
 pub mod Opened

@@ -46,7 +46,7 @@ assigned_there v w i l a s h e p = ap (λ u. record a { state = u }) (e ∙ ap (
 pub assigned_nowhere : (v : Val) (l : Option SlotId) (a : At) → l ≡ None → a ≡ assigned (value v) l a
 assigned_nowhere v l a h = sym (ap (λ m. assigned (value v) m a) h)
 
-room : (n : ℕ) → n < 4096 → ltb n 4096 ≡ true
+pub room : (n : ℕ) → n < 4096 → ltb n 4096 ≡ true
 room n h = grind (arith, nat_tests)
 
 -- a variable for whose slot there is room
@@ -65,7 +65,7 @@ length-nouns_of [] = refl
 length-nouns_of (x ∷ xs) = ap length (nouns_after-split ((x.name, bind_of x.binding) ∷ []) xs) ∙ omega (arith, length-append (nouns_of xs) ((x.name, bind_of x.binding) ∷ []), length-nouns_of xs)
 
 -- lists that end alike, from equal lengths on
-same_end : (ps qs ss ts : Nouns) → ps ++ ss ≡ qs ++ ts → length ps ≡ length qs → ss ≡ ts
+pub same_end : {A : Type 0} (ps qs ss ts : List A) → ps ++ ss ≡ qs ++ ts → length ps ≡ length qs → ss ≡ ts
 same_end [] [] ss ts e h = e
 same_end [] (q ∷ qs) ss ts e h = absurd (omega arith)
 same_end (p ∷ ps) [] ss ts e h = absurd (omega arith)

@@ -57,7 +57,7 @@ fn value_target(
     ensures { IfOk result (λ t. target_view t
         ≡ callee_target (callee_of (val_of receiver.now)) (val_of receiver.now) verb.now (vals_of args.now) (at w.now)) }
 {
-    match callee(receiver) {
+    match called_on(receiver) {
         Callee::Object(id) => object_target(w, id, verb, args),
         Callee::Ejector(id) => Ok(Target::Gives(ejector_end(w, id, verb, args)?)),
         Callee::Datum => Ok(Target::Gives(data_end(w.alloc, receiver, verb, args)?)),
@@ -65,7 +65,7 @@ fn value_target(
 }
 
 /// What a value is to a call.
-fn callee(value: &Value) -> Callee
+fn called_on(value: &Value) -> Callee
     ensures { callee_view result ≡ callee_of (val_of value.now) }
 {
     match value {

@@ -53,7 +53,7 @@ pub fn define_object(
             (capture_of pattern.now (methods_of methods.now.value.items) (at w.old)) (at w.old)) }
 {
     let names = captured_names(w.alloc, pattern, methods.as_slice())?;
-    let capture = capture(w, names.as_slice())?;
+    let capture = capture_all(w, names.as_slice())?;
     match capture {
         Capture::Captured(nouns) => place(w, pattern, nouns, methods),
         Capture::Missing(name) => undefined(w.alloc, &name),
@@ -61,7 +61,7 @@ pub fn define_object(
 }
 
 /// Captures names from the left, up to the first that stands for nothing. A variable is captured as its slot.
-fn capture(w: &Working, names: &[Text]) -> Result<Capture, AllocError>
+fn capture_all(w: &Working, names: &[Text]) -> Result<Capture, AllocError>
     ensures { IfOk result (λ c. capture_view c ≡ all_captured (captured []) names.now (at w.now)) }
 {
     let mut nouns = Vec::new(w.alloc);
