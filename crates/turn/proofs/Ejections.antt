@@ -232,7 +232,7 @@ mutual
   runs_inside (run_for_ends {a = a} {o = o} r e) = listing_carried e (gone_inside o a.opened (ends_inside r))
   runs_inside (run_try q e) = block_inside q
   runs_inside (run_try_caught q e w) = carried (block_opened q) (taking_inside w)
-  runs_inside (run_object {p = p} {methods = methods} {a = a}) = object_inside (capture_of p methods a) a a.opened
+  runs_inside (run_object {p = p} {ms = ms} {a = a}) = object_inside (capture_of p ms a) a a.opened
   runs_inside (run_escape {a = a} {o = o} q) = escape_inside (next_ejector a) o a.opened (taking_inside q)
 
   pub args_inside : {k : ℕ} {ts : Trees} {a b : At} {g : Gather} → Args k ts a g b → GatherInside g a.opened

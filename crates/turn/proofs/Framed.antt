@@ -172,30 +172,30 @@ capture_touches (captured ns) (x ∷ xs) a u h =
 capture_touches (missing y) (x ∷ xs) a u h = refl
 
 -- an object that is made, where it is known whether there is room for it
-placed_case : (room : Bool) (k : ℕ) (p : Pattern) (methods : Methods) (o : Object) (a : At) (u : State) (ls : List Touch) (run : Runs k (object_tree p methods) (in_state u a) (placed_end room (in_state u a)) (placed room p o (in_state u a)))
-    → runs_touched run ≡ ls ++ placed_touched room p a → RunsFrame k (object_tree p methods) a (placed_end room a) (placed room p o a) u (ls ++ placed_touched room p a)
-placed_case true k p methods o a u ls run m =
+placed_case : (room : Bool) (k : ℕ) (p : Pattern) (ms : Methods) (o : Object) (a : At) (u : State) (ls : List Touch) (run : Runs k (object_tree p ms) (in_state u a) (placed_end room (in_state u a)) (placed room p o (in_state u a)))
+    → runs_touched run ≡ ls ++ placed_touched room p a → RunsFrame k (object_tree p ms) a (placed_end room a) (placed room p o a) u (ls ++ placed_touched room p a)
+placed_case true k p ms o a u ls run m =
     let t : State = write u (object_cell (next_object a)) (made o) in
     let v : Val = object (next_object a) in
     let b : At = object_made o a in
     let after : State = (matched p v (in_state t b)).state in
-    subst (λ z. (run : Runs k (object_tree p methods) (in_state u a) (placed_end true a) z) → runs_touched run ≡ ls ++ placed_touched true p a → RunsFrame k (object_tree p methods) a (placed_end true a) (matched p v b) u (ls ++ placed_touched true p a))
+    subst (λ z. (run : Runs k (object_tree p ms) (in_state u a) (placed_end true a) z) → runs_touched run ≡ ls ++ placed_touched true p a → RunsFrame k (object_tree p ms) a (placed_end true a) (matched p v b) u (ls ++ placed_touched true p a))
     (sym (matched_moved p v b t))
     (λ run m. record { after = after; run = run; same = m; kept = λ c q. matched_kept p v b t c (write_kept u a.state (object_cell (next_object a)) (made o) c q) }) run m
-placed_case false k p methods o a u ls run m = record { after = u; run = run; same = m; kept = λ c q. q }
+placed_case false k p ms o a u ls run m = record { after = u; run = run; same = m; kept = λ c q. q }
 
 -- the same, where it is known what is captured
-captured_case : (c : Capture) (k : ℕ) (p : Pattern) (methods : Methods) (a : At) (u : State) (ls : List Touch) (run : Runs k (object_tree p methods) (in_state u a) (object_end c (in_state u a)) (with_object p methods c (in_state u a)))
-    → runs_touched run ≡ ls ++ with_object_touched p c a → RunsFrame k (object_tree p methods) a (object_end c a) (with_object p methods c a) u (ls ++ with_object_touched p c a)
-captured_case (captured ns) k p methods a u ls run m = placed_case (has_object_room a) k p methods (record { own = p; captured = ns; methods = methods }) a u ls run m
-captured_case (missing x) k p methods a u ls run m = record { after = u; run = run; same = m; kept = λ c q. q }
+captured_case : (c : Capture) (k : ℕ) (p : Pattern) (ms : Methods) (a : At) (u : State) (ls : List Touch) (run : Runs k (object_tree p ms) (in_state u a) (object_end c (in_state u a)) (with_object p ms c (in_state u a)))
+    → runs_touched run ≡ ls ++ with_object_touched p c a → RunsFrame k (object_tree p ms) a (object_end c a) (with_object p ms c a) u (ls ++ with_object_touched p c a)
+captured_case (captured ns) k p ms a u ls run m = placed_case (has_object_room a) k p ms (record { own = p; captured = ns; methods = ms }) a u ls run m
+captured_case (missing x) k p ms a u ls run m = record { after = u; run = run; same = m; kept = λ c q. q }
 
-object_case : (k : ℕ) (p : Pattern) (methods : Methods) (a : At) (u : State) → Agree (object_touched p methods a) u a.state → RunsFrame k (object_tree p methods) a (object_end (capture_of p methods a) a) (with_object p methods (capture_of p methods a) a) u (object_touched p methods a)
-object_case k p methods a u h =
-    let ls : List Touch = capture_touched (captured []) (captures p methods) a in
-    let g : Agree ls u a.state = agree_left ls (with_object_touched p (capture_of p methods a) a) u a.state h in
-    subst (λ c. RunsFrame k (object_tree p methods) a (object_end c a) (with_object p methods c a) u (ls ++ with_object_touched p c a)) (capture_framed (captured []) (captures p methods) a u g)
-    (captured_case (capture_of p methods (in_state u a)) k p methods a u ls run_object (ap (λ l. l ++ with_object_touched p (capture_of p methods (in_state u a)) a) (capture_touches (captured []) (captures p methods) a u g)))
+object_case : (k : ℕ) (p : Pattern) (ms : Methods) (a : At) (u : State) → Agree (object_touched p ms a) u a.state → RunsFrame k (object_tree p ms) a (object_end (capture_of p ms a) a) (with_object p ms (capture_of p ms a) a) u (object_touched p ms a)
+object_case k p ms a u h =
+    let ls : List Touch = capture_touched (captured []) (captures p ms) a in
+    let g : Agree ls u a.state = agree_left ls (with_object_touched p (capture_of p ms a) a) u a.state h in
+    subst (λ c. RunsFrame k (object_tree p ms) a (object_end c a) (with_object p ms c a) u (ls ++ with_object_touched p c a)) (capture_framed (captured []) (captures p ms) a u g)
+    (captured_case (capture_of p ms (in_state u a)) k p ms a u ls run_object (ap (λ l. l ++ with_object_touched p (capture_of p ms (in_state u a)) a) (capture_touches (captured []) (captures p ms) a u g)))
 
 -- a call leads to the same
 callee_framed : (m : Callee) (v : Val) (verb : Name) (vs : Vals) (a : At) (u : State) → Agree (callee_touched m) u a.state → callee_target m v verb vs (in_state u a) ≡ callee_target m v verb vs a
@@ -277,7 +277,7 @@ mutual
       let f = block_framed q u (agree_left (block_touched q) (taking_touched w) u a.state m) in
       let g = taking_framed w f.after (agree_kept (taking_touched w) u a.state f.after b.state f.kept (agree_right (block_touched q) (taking_touched w) u a.state m)) in
       record { after = g.after; run = run_try_caught f.run e g.run; same = λ i. f.same i ++ g.same i; kept = λ c h. g.kept c (f.kept c h) }
-  runs_framed (run_object {k = k} {p = p} {methods = methods} {a = a}) u m = object_case k p methods a u m
+  runs_framed (run_object {k = k} {p = p} {ms = ms} {a = a}) u m = object_case k p ms a u m
   runs_framed (run_escape q) u m = let f = taking_framed q u m in record { after = f.after; run = run_escape f.run; same = f.same; kept = f.kept }
 
   pub args_framed : {k : ℕ} {ts : Trees} {a b : At} {g : Gather} (r : Args k ts a g b) (u : State) → Agree (args_touched r) u a.state → ArgsFrame k ts a g b u (args_touched r)

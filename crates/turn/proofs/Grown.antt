@@ -57,9 +57,9 @@ placed_grow : (room : Bool) (p : Pattern) (o : Object) (a : At) → Grown a (pla
 placed_grow true p o a = matched_grow p (object (next_object a)) (object_made o a)
 placed_grow false p o a = same a a refl
 
-object_grow : (p : Pattern) (methods : Methods) (c : Capture) (a : At) → Grown a (with_object p methods c a)
-object_grow p methods (captured ns) a = placed_grow (has_object_room a) p (record { own = p; captured = ns; methods = methods }) a
-object_grow p methods (missing x) a = same a a refl
+object_grow : (p : Pattern) (ms : Methods) (c : Capture) (a : At) → Grown a (with_object p ms c a)
+object_grow p ms (captured ns) a = placed_grow (has_object_room a) p (record { own = p; captured = ns; methods = ms }) a
+object_grow p ms (missing x) a = same a a refl
 
 -- a block's names end with it
 pub block_names : {k : ℕ} {ts : Trees} {a b : At} {o : End} → Block k ts a o b → b.nouns ≡ a.nouns
@@ -107,7 +107,7 @@ mutual
   runs_grow (run_for_ends r e) = ends_grow r
   runs_grow {a = a} {b = b} (run_try q e) = same a b (block_names q)
   runs_grow (run_try_caught {a = a} {d = d} q e w) = same a d (taking_names w ∙ block_names q)
-  runs_grow (run_object {p = p} {methods = methods} {a = a}) = object_grow p methods (capture_of p methods a) a
+  runs_grow (run_object {p = p} {ms = ms} {a = a}) = object_grow p ms (capture_of p ms a) a
   runs_grow (run_escape {a = a} {b = b} q) = same a (escaped a b) (taking_names q)
 
   pub args_grow : {k : ℕ} {ts : Trees} {a b : At} {g : Gather} → Args k ts a g b → Grown a b

@@ -57,9 +57,9 @@ placed_opened : (room : Bool) (p : Pattern) (o : Object) (a : At) → (placed ro
 placed_opened true p o a = matched_opened p (object (next_object a)) (object_made o a)
 placed_opened false p o a = refl
 
-object_opened : (p : Pattern) (methods : Methods) (c : Capture) (a : At) → (with_object p methods c a).opened ≡ a.opened
-object_opened p methods (captured ns) a = placed_opened (has_object_room a) p (record { own = p; captured = ns; methods = methods }) a
-object_opened p methods (missing x) a = refl
+object_opened : (p : Pattern) (ms : Methods) (c : Capture) (a : At) → (with_object p ms c a).opened ≡ a.opened
+object_opened p ms (captured ns) a = placed_opened (has_object_room a) p (record { own = p; captured = ns; methods = ms }) a
+object_opened p ms (missing x) a = refl
 
 -- behind a tree the same Escapes are being evaluated
 mutual
@@ -96,7 +96,7 @@ mutual
   runs_opened (run_for_ends r e) = ends_opened r
   runs_opened (run_try q e) = block_opened q
   runs_opened (run_try_caught q e w) = taking_opened w ∙ block_opened q
-  runs_opened (run_object {p = p} {methods = methods} {a = a}) = object_opened p methods (capture_of p methods a) a
+  runs_opened (run_object {p = p} {ms = ms} {a = a}) = object_opened p ms (capture_of p ms a) a
   runs_opened (run_escape q) = refl
 
   pub args_opened : {k : ℕ} {ts : Trees} {a b : At} {g : Gather} → Args k ts a g b → b.opened ≡ a.opened

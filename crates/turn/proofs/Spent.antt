@@ -50,9 +50,9 @@ placed_left : (room : Bool) (p : Pattern) (o : Object) (a : At) → (placed room
 placed_left true p o a = matched_left p (object (next_object a)) (object_made o a)
 placed_left false p o a = refl
 
-object_left : (p : Pattern) (methods : Methods) (c : Capture) (a : At) → (with_object p methods c a).left ≡ a.left
-object_left p methods (captured ns) a = placed_left (has_object_room a) p (record { own = p; captured = ns; methods = methods }) a
-object_left p methods (missing x) a = refl
+object_left : (p : Pattern) (ms : Methods) (c : Capture) (a : At) → (with_object p ms c a).left ≡ a.left
+object_left p ms (captured ns) a = placed_left (has_object_room a) p (record { own = p; captured = ns; methods = ms }) a
+object_left p ms (missing x) a = refl
 
 mutual
   pub ends_left : {k : ℕ} {t : Tree} {a b : At} {o : End} → Ends k t a o b → b.left ≤ a.left
@@ -88,7 +88,7 @@ mutual
   runs_left (run_for_ends r e) = ends_left r
   runs_left (run_try q e) = block_left q
   runs_left (run_try_caught q e w) = omega (arith, block_left q, taking_left w)
-  runs_left (run_object {p = p} {methods = methods} {a = a}) = omega (arith, object_left p methods (capture_of p methods a) a)
+  runs_left (run_object {p = p} {ms = ms} {a = a}) = omega (arith, object_left p ms (capture_of p ms a) a)
   runs_left (run_escape q) = taking_left q
 
   pub args_left : {k : ℕ} {ts : Trees} {a b : At} {g : Gather} → Args k ts a g b → b.left ≤ a.left

@@ -76,9 +76,9 @@ placed_un : (room : Bool) (p : Pattern) (o : Object) (a : At) (c : Cell) → Not
 placed_un true p o a c h = matched_un p (object (next_object a)) (object_made o a) c h.1 ∙ write_other a.state (object_cell (next_object a)) (made o) c h.0
 placed_un false p o a c h = refl
 
-object_un : (p : Pattern) (methods : Methods) (m : Capture) (a : At) (c : Cell) → NotPut c (with_object_touched p m a) → (with_object p methods m a).state c ≡ a.state c
-object_un p methods (captured ns) a c h = placed_un (has_object_room a) p (record { own = p; captured = ns; methods = methods }) a c h
-object_un p methods (missing x) a c h = refl
+object_un : (p : Pattern) (ms : Methods) (m : Capture) (a : At) (c : Cell) → NotPut c (with_object_touched p m a) → (with_object p ms m a).state c ≡ a.state c
+object_un p ms (captured ns) a c h = placed_un (has_object_room a) p (record { own = p; captured = ns; methods = ms }) a c h
+object_un p ms (missing x) a c h = refl
 
 mutual
   pub ends_un : {k : ℕ} {t : Tree} {a b : At} {o : End} (r : Ends k t a o b) (c : Cell) → NotPut c (ends_touched r) → b.state c ≡ a.state c
@@ -122,7 +122,7 @@ mutual
   runs_un (run_for_ends r e) c n = ends_un r c n
   runs_un (run_try q e) c n = block_un q c n
   runs_un (run_try_caught q e w) c n = taking_un w c (right (block_touched q) (taking_touched w) c n) ∙ block_un q c (left (block_touched q) (taking_touched w) c n)
-  runs_un (run_object {p = p} {methods = methods} {a = a}) c n = object_un p methods (capture_of p methods a) a c (right (capture_touched (captured []) (captures p methods) a) (with_object_touched p (capture_of p methods a) a) c n)
+  runs_un (run_object {p = p} {ms = ms} {a = a}) c n = object_un p ms (capture_of p ms a) a c (right (capture_touched (captured []) (captures p ms) a) (with_object_touched p (capture_of p ms a) a) c n)
   runs_un (run_escape q) c n = taking_un q c n
 
   pub args_un : {k : ℕ} {ts : Trees} {a b : At} {g : Gather} (r : Args k ts a g b) (c : Cell) → NotPut c (args_touched r) → b.state c ≡ a.state c

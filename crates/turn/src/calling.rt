@@ -1,5 +1,5 @@
 // Calls and Escapes in the evaluation: a method's block runs in the turn, and so does an Escape's.
-ghost use Rattle.std.specs.Prelude.{◌≡◌, ◌≤◌, ◌<◌, ◌+◌, ◌×◌, IfOk};
+ghost use Rattle.std.specs.Prelude.{◌≡◌, ◌≤◌, ◌<◌, ◌+◌, IfOk};
 ghost use Rattle.kernele.specs.Tree.{call, escape_tree};
 ghost use Rattle.kernele.specs.View.{tree_of, trees_of};
 ghost use Rattle.values.specs.Data.{null};

@@ -1,5 +1,5 @@
 // Objects: what they capture, how they are made, and how a call finds a method.
-ghost use Rattle.std.specs.Prelude.{◌≡◌, ◌<◌, ◌×◌, IfOk, IfSome, OnOk, length};
+ghost use Rattle.std.specs.Prelude.{◌≡◌, ◌<◌, [], ◌∷◌, IfOk, IfSome, OnOk, length};
 ghost use Rattle.std.specs.Option.{option_map};
 ghost use Rattle.kernele.specs.View.{trees_of, methods_of};
 ghost use Rattle.values.specs.Data.{object as object_value};
@@ -8,7 +8,7 @@ ghost use Rattle.turn.specs.State.{object_cell, read};
 ghost use Rattle.turn.specs.Rules.{captured, all_captured, capture_of, next_object, has_object_room, object_made, placed, placed_end};
 ghost use Rattle.turn.specs.Rules.{with_object, object_end, named, named_all, method_in};
 ghost use Rattle.turn.specs.Rules.{method_target as method_target_of, object_target as object_target_of};
-ghost use Rattle.turn.specs.View.{at, capture_view, end_of, nouns_of, object_of, state_of, target_view};
+ghost use Rattle.turn.specs.View.{at, bind_of, capture_view, end_of, nouns_of, object_of, state_of, target_view};
 
 use crate::end::{Abandon, End, Halt};
 use crate::heap::{Binding, Made, Noun, share_pattern};
