@@ -125,8 +125,8 @@ unfolding body_in
 bodies_same e = ap body_in e
 
 -- what calls lead to that are the same
-targets_meet : {v w : Val} {verb : Name} {g h : Gather} {b c : At} {x y : Target} → v ≡ w → Same g h b c → target_of v verb g b ≡ x → target_of w verb h c ≡ y → x ≡ y
-targets_meet {verb = verb} p z e f = sym e ∙ (λ i. target_of (p i) verb (z.end i) (z.place i)) ∙ f
+targets_meet : (verb : Name) {v w : Val} {g h : Gather} {b c : At} {x y : Target} → v ≡ w → Same g h b c → target_of v verb g b ≡ x → target_of w verb h c ≡ y → x ≡ y
+targets_meet verb p z e f = sym e ∙ (λ i. target_of (p i) verb (z.end i) (z.place i)) ∙ f
 
 -- what one function gives of two ends that are the same
 meet : {A : Type 0} {o p : End} {b c : At} {x y : A} (f : End → A) → Same o p b c → f o ≡ x → f p ≡ y → x ≡ y
@@ -184,17 +184,17 @@ mutual
   runs_same (run_call_receiver r) (run_call_gives s u f) = absurd (value_halt (sym (ends_same r s).end))
   runs_same (run_call_receiver r) (run_call_enters s u f w) = absurd (value_halt (sym (ends_same r s).end))
   runs_same (run_call_gives r q e) (run_call_receiver s) = absurd (value_halt (ends_same r s).end)
-  runs_same (run_call_gives r q e) (run_call_gives s u f) =
+  runs_same (run_call_gives {verb = verb} r q e) (run_call_gives s u f) =
       let t = ends_same r s in
       let z = args_same q (args_at t.place u) in
-      record { end = gives_same (targets_meet (value_same t.end) z e f); place = z.place }
-  runs_same (run_call_gives r q e) (run_call_enters s u f w) = let t = ends_same r s in absurd (gives_enters (targets_meet (value_same t.end) (args_same q (args_at t.place u)) e f))
+      record { end = gives_same (targets_meet verb (value_same t.end) z e f); place = z.place }
+  runs_same (run_call_gives {verb = verb} r q e) (run_call_enters s u f w) = let t = ends_same r s in absurd (gives_enters (targets_meet verb (value_same t.end) (args_same q (args_at t.place u)) e f))
   runs_same (run_call_enters r q e v) (run_call_receiver s) = absurd (value_halt (ends_same r s).end)
-  runs_same (run_call_enters r q e v) (run_call_gives s u f) = let t = ends_same r s in absurd (gives_enters (sym (targets_meet (value_same t.end) (args_same q (args_at t.place u)) e f)))
-  runs_same (run_call_enters r q e v) (run_call_enters s u f w) =
+  runs_same (run_call_enters {verb = verb} r q e v) (run_call_gives s u f) = let t = ends_same r s in absurd (gives_enters (sym (targets_meet verb (value_same t.end) (args_same q (args_at t.place u)) e f)))
+  runs_same (run_call_enters {verb = verb} r q e v) (run_call_enters s u f w) =
       let t = ends_same r s in
       let z = args_same q (args_at t.place u) in
-      let y = items_same v (method_at (targets_meet (value_same t.end) z e f) z.place w) in
+      let y = items_same v (method_at (targets_meet verb (value_same t.end) z e f) z.place w) in
       record { end = y.end; place = λ i. leaving (z.place i) (y.place i) }
   runs_same (run_list r) (run_list s) = along (λ g b. list_end g) (λ g b. b) (args_same r s)
   runs_same (run_same_left r) (run_same_left s) = ends_same r s

@@ -182,20 +182,20 @@ escape_inside j (halt (abandoned why)) js h = tt
 -- ---- the rules
 
 -- what holds of the Escapes after another part
-carried : {o : End} {is js : List EjId} → is ≡ js → Inside o is → Inside o js
-carried {o = o} e h = subst (λ ks. Inside o ks) e h
+carried : (o : End) {is js : List EjId} → is ≡ js → Inside o is → Inside o js
+carried o e h = subst (λ ks. Inside o ks) e h
 
-gather_carried : {g : Gather} {is js : List EjId} → is ≡ js → GatherInside g is → GatherInside g js
-gather_carried {g = g} e h = subst (λ ks. GatherInside g ks) e h
+gather_carried : (g : Gather) {is js : List EjId} → is ≡ js → GatherInside g is → GatherInside g js
+gather_carried g e h = subst (λ ks. GatherInside g ks) e h
 
-target_carried : {t : Target} {o : End} {js : List EjId} → t ≡ gives o → TargetInside t js → Inside o js
-target_carried {js = js} e h = subst (λ u. TargetInside u js) e h
+target_carried : (js : List EjId) {t : Target} {o : End} → t ≡ gives o → TargetInside t js → Inside o js
+target_carried js e h = subst (λ u. TargetInside u js) e h
 
-choice_carried : {c : Choice} {o : End} {js : List EjId} → c ≡ ends o → ChoiceInside c js → Inside o js
-choice_carried {js = js} e h = subst (λ d. ChoiceInside d js) e h
+choice_carried : (js : List EjId) {c : Choice} {o : End} → c ≡ ends o → ChoiceInside c js → Inside o js
+choice_carried js e h = subst (λ d. ChoiceInside d js) e h
 
-listing_carried : {l : Listing} {o : End} {js : List EjId} → l ≡ unlisted o → ListingInside l js → Inside o js
-listing_carried {js = js} e h = subst (λ m. ListingInside m js) e h
+listing_carried : (js : List EjId) {l : Listing} {o : End} → l ≡ unlisted o → ListingInside l js → Inside o js
+listing_carried js e h = subst (λ m. ListingInside m js) e h
 
 mutual
   pub ends_inside : {k : ℕ} {t : Tree} {a b : At} {o : End} → Ends k t a o b → Inside o a.opened
@@ -213,47 +213,47 @@ mutual
   runs_inside (run_variable {a = a} {b = b} {o = o} r) = declared_inside o b a.opened (ends_inside r)
   runs_inside (run_assign {x = x} {a = a} {b = b} {o = o} r) = assigned_inside x o (sought_slot x b) a.opened (ends_inside r)
   runs_inside (run_call_receiver r) = ends_inside r
-  runs_inside (run_call_gives {verb = verb} {c = c} {v = v} {g = g} r u e) =
-      carried (args_opened u ∙ ends_opened r) (target_carried e (target_inside v verb g c (gather_carried (sym (args_opened u)) (args_inside u))))
-  runs_inside (run_call_enters r u e q) = carried (args_opened u ∙ ends_opened r) (items_inside q)
+  runs_inside (run_call_gives {verb = verb} {c = c} {v = v} {g = g} {o = o} r u e) =
+      carried o (args_opened u ∙ ends_opened r) (target_carried c.opened e (target_inside v verb g c (gather_carried g (sym (args_opened u)) (args_inside u))))
+  runs_inside (run_call_enters {o = o} r u e q) = carried o (args_opened u ∙ ends_opened r) (items_inside q)
   runs_inside (run_list {a = a} {g = g} r) = list_inside g a.opened (args_inside r)
   runs_inside (run_same_left r) = ends_inside r
-  runs_inside (run_same {a = a} {v = v} {o = o} r u) = same_inside v o a.opened (carried (ends_opened r) (ends_inside u))
+  runs_inside (run_same {a = a} {v = v} {o = o} r u) = same_inside v o a.opened (carried o (ends_opened r) (ends_inside u))
   runs_inside (run_define_list {ps = ps} {a = a} {o = o} r) = parts_inside o (parts_of ps o) a.opened (ends_inside r) (wanted_inside ps o a.opened (ends_inside r))
   runs_inside (run_hide q) = block_inside q
   runs_inside (run_throw {a = a} {o = o} r) = thrown_inside o a.opened (ends_inside r)
-  runs_inside (run_if_goes r e q) = carried (ends_opened r) (block_inside q)
-  runs_inside (run_if_ends {a = a} {o = o} r e) = choice_carried e (tested_inside o a.opened (ends_inside r))
-  runs_inside (run_while_again r e q w) = carried (block_opened q ∙ ends_opened r) (runs_inside w)
-  runs_inside (run_while_halts r e q) = carried (ends_opened r) (block_inside q)
+  runs_inside (run_if_goes {p = p} r e q) = carried p (ends_opened r) (block_inside q)
+  runs_inside (run_if_ends {a = a} {o = o} r e) = choice_carried a.opened e (tested_inside o a.opened (ends_inside r))
+  runs_inside (run_while_again {p = p} r e q w) = carried p (block_opened q ∙ ends_opened r) (runs_inside w)
+  runs_inside (run_while_halts {h = h} r e q) = carried (halt h) (ends_opened r) (block_inside q)
   runs_inside (run_while_done r e) = tt
-  runs_inside (run_while_ends {a = a} {o = o} r e) = choice_carried e (tested_inside o a.opened (ends_inside r))
-  runs_inside (run_for r e q) = carried (ends_opened r) (each_inside q)
-  runs_inside (run_for_ends {a = a} {o = o} r e) = listing_carried e (gone_inside o a.opened (ends_inside r))
+  runs_inside (run_while_ends {a = a} {o = o} r e) = choice_carried a.opened e (tested_inside o a.opened (ends_inside r))
+  runs_inside (run_for {q = p} r e q) = carried p (ends_opened r) (each_inside q)
+  runs_inside (run_for_ends {a = a} {o = o} r e) = listing_carried a.opened e (gone_inside o a.opened (ends_inside r))
   runs_inside (run_try q e) = block_inside q
-  runs_inside (run_try_caught q e w) = carried (block_opened q) (taking_inside w)
+  runs_inside (run_try_caught {q = p} q e w) = carried p (block_opened q) (taking_inside w)
   runs_inside (run_object {p = p} {ms = ms} {a = a}) = object_inside (capture_of p ms a) a a.opened
   runs_inside (run_escape {a = a} {o = o} q) = escape_inside (next_ejector a) o a.opened (taking_inside q)
 
   pub args_inside : {k : ℕ} {ts : Trees} {a b : At} {g : Gather} → Args k ts a g b → GatherInside g a.opened
   args_inside args_none = tt
-  args_inside (args_next {a = a} {v = v} {g = g} r u) = first_inside v g a.opened (gather_carried (ends_opened r) (args_inside u))
+  args_inside (args_next {a = a} {v = v} {g = g} r u) = first_inside v g a.opened (gather_carried g (ends_opened r) (args_inside u))
   args_inside (args_halt r) = ends_inside r
 
   pub items_inside : {k : ℕ} {v : Val} {ts : Trees} {a b : At} {o : End} → Items k v ts a o b → Inside o a.opened
   items_inside items_none = tt
-  items_inside (items_next r u) = carried (ends_opened r) (items_inside u)
+  items_inside (items_next {o = o} r u) = carried o (ends_opened r) (items_inside u)
   items_inside (items_halt r) = ends_inside r
 
   pub block_inside : {k : ℕ} {ts : Trees} {a b : At} {o : End} → Block k ts a o b → Inside o a.opened
   block_inside (in_block r) = items_inside r
 
   pub taking_inside : {k : ℕ} {p : Pattern} {v : Val} {ts : Trees} {a b : At} {o : End} → Taking k p v ts a o b → Inside o a.opened
-  taking_inside (in_taking {p = p} {v = v} {a = a} r) = carried (matched_opened p v (entering a)) (items_inside r)
+  taking_inside (in_taking {p = p} {v = v} {a = a} {o = o} r) = carried o (matched_opened p v (entering a)) (items_inside r)
 
   pub each_inside : {k : ℕ} {p : Pattern} {ts : Trees} {vs : Vals} {a b : At} {o : End} → Each k p ts vs a o b → Inside o a.opened
   each_inside each_none = tt
-  each_inside (each_next r u) = carried (taking_opened r) (each_inside u)
+  each_inside (each_next {o = o} r u) = carried o (taking_opened r) (each_inside u)
   each_inside (each_halt r) = taking_inside r
 
 false_true : false ≡ true → ⊥

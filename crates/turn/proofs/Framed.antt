@@ -173,7 +173,7 @@ capture_touches (missing y) (x ∷ xs) a u h = refl
 
 -- an object that is made, where it is known whether there is room for it
 placed_case : (room : Bool) (k : ℕ) (p : Pattern) (ms : Methods) (o : Object) (a : At) (u : State) (ls : List Touch) (run : Runs k (object_tree p ms) (in_state u a) (placed_end room (in_state u a)) (placed room p o (in_state u a)))
-    → runs_touched run ≡ ls ++ placed_touched room p a → RunsFrame k (object_tree p ms) a (placed_end room a) (placed room p o a) u (ls ++ placed_touched room p a)
+    → runs_touched run ≡ ls ++ placed_touched room p (in_state u a) → RunsFrame k (object_tree p ms) a (placed_end room a) (placed room p o a) u (ls ++ placed_touched room p a)
 placed_case true k p ms o a u ls run m =
     let t : State = write u (object_cell (next_object a)) (made o) in
     let v : Val = object (next_object a) in
@@ -186,7 +186,7 @@ placed_case false k p ms o a u ls run m = record { after = u; run = run; same = 
 
 -- the same, where it is known what is captured
 captured_case : (c : Capture) (k : ℕ) (p : Pattern) (ms : Methods) (a : At) (u : State) (ls : List Touch) (run : Runs k (object_tree p ms) (in_state u a) (object_end c (in_state u a)) (with_object p ms c (in_state u a)))
-    → runs_touched run ≡ ls ++ with_object_touched p c a → RunsFrame k (object_tree p ms) a (object_end c a) (with_object p ms c a) u (ls ++ with_object_touched p c a)
+    → runs_touched run ≡ ls ++ with_object_touched p c (in_state u a) → RunsFrame k (object_tree p ms) a (object_end c a) (with_object p ms c a) u (ls ++ with_object_touched p c a)
 captured_case (captured ns) k p ms a u ls run m = placed_case (has_object_room a) k p ms (record { own = p; captured = ns; methods = ms }) a u ls run m
 captured_case (missing x) k p ms a u ls run m = record { after = u; run = run; same = m; kept = λ c q. q }
 
@@ -195,7 +195,7 @@ object_case k p ms a u h =
     let ls : List Touch = capture_touched (captured []) (captures p ms) a in
     let g : Agree ls u a.state = agree_left ls (with_object_touched p (capture_of p ms a) a) u a.state h in
     subst (λ c. RunsFrame k (object_tree p ms) a (object_end c a) (with_object p ms c a) u (ls ++ with_object_touched p c a)) (capture_framed (captured []) (captures p ms) a u g)
-    (captured_case (capture_of p ms (in_state u a)) k p ms a u ls run_object (ap (λ l. l ++ with_object_touched p (capture_of p ms (in_state u a)) a) (capture_touches (captured []) (captures p ms) a u g)))
+    (captured_case (capture_of p ms (in_state u a)) k p ms a u ls run_object (ap (λ l. l ++ with_object_touched p (capture_of p ms (in_state u a)) (in_state u a)) (capture_touches (captured []) (captures p ms) a u g)))
 
 -- a call leads to the same
 callee_framed : (m : Callee) (v : Val) (verb : Name) (vs : Vals) (a : At) (u : State) → Agree (callee_touched m) u a.state → callee_target m v verb vs (in_state u a) ≡ callee_target m v verb vs a

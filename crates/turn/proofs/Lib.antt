@@ -6,6 +6,7 @@ pub mod Ejectors
 pub mod Entered
 pub mod Framed
 pub mod Grown
+pub mod Objects
 pub mod Opened
 pub mod Patterns
 pub mod Scopes

@@ -1,0 +1,49 @@
+-- On what objects capture, and on the names that a method begins with.
+use Rattle.std.proofs.Common.{◌≡◌, ℕ, ◌+◌, ◌<◌, ◌≤◌, List, [], ◌∷◌, ◌++◌, length, drop, get_or, Option, Some, None, Bool, true, false, cond, refl, sym, ap, ◌∙◌, suc, add-one, arith}
+use Rattle.std.proofs.Math.Seq.{drop-cons}
+use Rattle.std.proofs.lemmas.List.{drop_all}
+use Rattle.std.specs.Str.{bytes_eq}
+use Rattle.kernele.specs.Tree.{Name, Trees, Methods, and_method}
+use Rattle.kernele.specs.View.{trees_of, methods_of}
+use Rattle.kernele.specs.declared.tree.Method.{Method}
+use Rattle.kernele.specs.declared.tree.Pattern.{Pattern}
+use Rattle.values.specs.Data.{Val, Vals}
+use Rattle.values.specs.View.{val_of, vals_of}
+use Rattle.values.specs.declared.value.Value.{Value}
+use Rattle.turn.specs.State.{Bind, Nouns, At}
+use Rattle.turn.specs.Rules.{sought, Capture, captured, missing, and_captured, all_captured, named, named_all, method_in, as_many}
+
+-- behind a name that stands for nothing, nothing is captured
+pub missing_stays : (y : Name) (xs : List Name) (a : At) → all_captured (missing y) xs a ≡ missing y
+missing_stays y [] a = refl
+missing_stays y (x ∷ xs) a = missing_stays y xs a
+
+-- one more name is captured
+pub captured_more : (ns : Nouns) (xs : List Name) (i : ℕ) (x : Name) (b : Bind) (a : At) → i < length xs → x ≡ get_or xs i x → sought x a ≡ Some b
+    → all_captured (captured ns) (drop i xs) a ≡ all_captured (captured ((x, b) ∷ ns)) (drop (i + 1) xs) a
+captured_more ns xs i x b a h e f =
+    rw add-one (ap (λ ys. all_captured (captured ns) ys a) (drop-cons xs i x h ∙ ap (λ y. y ∷ drop (suc i) xs) (sym e))
+    ∙ ap (λ m. all_captured (and_captured (captured ns) x m) (drop (suc i) xs) a) f)
+
+-- a name stands for nothing
+pub captured_not : (ns : Nouns) (xs : List Name) (i : ℕ) (x : Name) (a : At) → i < length xs → x ≡ get_or xs i x → sought x a ≡ None
+    → all_captured (captured ns) (drop i xs) a ≡ missing x
+captured_not ns xs i x a h e f =
+    ap (λ ys. all_captured (captured ns) ys a) (drop-cons xs i x h ∙ ap (λ y. y ∷ drop (suc i) xs) (sym e))
+    ∙ ap (λ m. all_captured (and_captured (captured ns) x m) (drop (suc i) xs) a) f
+    ∙ missing_stays x (drop (suc i) xs) a
+
+-- no name is left
+pub captured_end : (c : Capture) (xs : List Name) (i : ℕ) (a : At) → length xs ≤ i → all_captured c (drop i xs) a ≡ c
+captured_end c xs i a h = ap (λ ys. all_captured c ys a) (drop_all i xs h)
+
+-- one more pattern takes its value
+pub named_more : (ps : List Pattern) (vs : List Value) (i : ℕ) (p : Pattern) (v : Value) (ns : Nouns) → i < length ps → i < length vs → p ≡ get_or ps i p → v ≡ get_or vs i v
+    → named_all (drop i ps) (vals_of (drop i vs)) ns ≡ named_all (drop (i + 1) ps) (vals_of (drop (i + 1) vs)) (named p (val_of v) ns)
+named_more ps vs i p v ns h g e f =
+    rw add-one ((λ j. named_all (drop-cons ps i p h j) (vals_of (drop-cons vs i v g j)) ns)
+    ∙ (λ j. named_all (drop (suc i) ps) (vals_of (drop (suc i) vs)) (named (sym e j) (val_of (sym f j)) ns)))
+
+-- no pattern is left
+pub named_end : (ps : List Pattern) (vs : Vals) (i : ℕ) (ns : Nouns) → length ps ≤ i → named_all (drop i ps) vs ns ≡ ns
+named_end ps vs i ns h = ap (λ qs. named_all qs vs ns) (drop_all i ps h)
