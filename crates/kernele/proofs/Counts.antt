@@ -1,7 +1,7 @@
 -- Counting nodes and depth.
 use Rattle.std.proofs.Common.{◌≡◌, ℕ, ◌+◌, ◌-◌, ◌≤◌, Option, Some, None, Bool, true, false, cond, arith, rules}
 use Rattle.std.specs.Prelude.{SomeIff, IsTrue, nat_lt, is_some}
-use Rattle.kernele.specs.Tree.{Tree, null_tree, bool_tree, int_tree, text_tree, noun, define, variable, assign, call, list_tree, same_tree, define_list, hide, if_tree, while_tree, for_tree, try_tree, throw_tree, Trees}
+use Rattle.kernele.specs.Tree.{Tree, null_tree, bool_tree, int_tree, text_tree, noun, define, variable, assign, call, list_tree, same_tree, define_list, hide, if_tree, while_tree, for_tree, try_tree, throw_tree, object_tree, escape_tree, Trees}
 use Rattle.kernele.specs.Scope.{nodes, nodes_in, depth, depth_in, Scopes, Checked, checked_all, checked_program}
 
 -- a tree is a node
@@ -24,6 +24,8 @@ some_node (while_tree c body) = omega arith
 some_node (for_tree p e body) = omega arith
 some_node (try_tree body p handler) = omega arith
 some_node (throw_tree e) = omega arith
+some_node (object_tree p methods) = omega arith
+some_node (escape_tree x body) = omega arith
 
 -- a tree has a depth
 pub some_depth : (t : Tree) → 1 ≤ depth t
@@ -45,6 +47,8 @@ some_depth (while_tree c body) = omega arith
 some_depth (for_tree p e body) = omega arith
 some_depth (try_tree body p handler) = omega arith
 some_depth (throw_tree e) = omega arith
+some_depth (object_tree p methods) = omega arith
+some_depth (escape_tree x body) = omega arith
 
 -- what is left of a number after some nodes is what is left after more of a greater number
 pub left_after : (o : Option ℕ) (more part whole left limit : ℕ) → whole ≡ part + more → limit ≡ left + more → SomeIff o (part ≤ left) (left - part) → SomeIff o (whole ≤ limit) (limit - whole)

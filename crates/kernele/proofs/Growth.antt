@@ -1,7 +1,7 @@
 -- What a check adds to the scopes.
-use Rattle.std.proofs.Common.{◌≡◌, List, [], ◌∷◌, ◌++◌, Bool, true, false, Option, Some, None, Ok, Err, ap, sym, refl, ◌∙◌, cond}
-use Rattle.kernele.specs.Tree.{Name, Tree, null_tree, bool_tree, int_tree, text_tree, noun, define, variable, assign, call, list_tree, same_tree, define_list, hide, if_tree, while_tree, for_tree, try_tree, throw_tree, Trees, none, and_then}
-use Rattle.kernele.specs.Scope.{Names, Scopes, Refusal, Checked, in_turn, added, bound, all_bound, entered, left_for, in_block, checked_with, assigned, assigned_to, kind_in, checked, checked_all, with_names, with_name, defined_name, variable_name, name_of, names_of_all, own_names, own_names_in}
+use Rattle.std.proofs.Common.{◌≡◌, List, [], ◌∷◌, ◌++◌, Bool, true, false, Option, Some, None, Ok, Err, ap, sym, refl, ◌∙◌, cond, length}
+use Rattle.kernele.specs.Tree.{Name, Tree, null_tree, bool_tree, int_tree, text_tree, noun, define, variable, assign, call, list_tree, same_tree, define_list, hide, if_tree, while_tree, for_tree, try_tree, throw_tree, object_tree, escape_tree, Trees, none, and_then, Methods, no_methods, and_method}
+use Rattle.kernele.specs.Scope.{Names, Scopes, Refusal, Checked, in_turn, added, bound, all_bound, entered, left_for, in_block, checked_with, checked_taking, checked_methods, Signature, new_method, has_signature, assigned, assigned_to, kind_in, checked, checked_all, with_names, with_name, defined_name, variable_name, name_of, names_of_all, own_names, own_names_in}
 use Rattle.kernele.specs.declared.tree.Pattern.{Pattern}
 use Rattle.kernele.specs.declared.tree.Pattern.TheVariants as pattern
 use Rattle.kernele.specs.declared.naming.Kind.{Kind}
@@ -74,6 +74,19 @@ assigned_grows_case (Some kind.Variable) x s r e = same_scopes e
 assigned_grows : (x : Name) (s r : Scopes) → assigned x s ≡ Ok r → r ≡ s
 assigned_grows x s r e = assigned_grows_case (kind_in s x) x s r e
 
+-- a method that is new adds nothing
+new_grows : (m : Signature) (s r : Scopes) (twice : Bool) (f : Refusal) → ◌≡◌ {A = Checked} (cond twice (Err f) (Ok s)) (Ok r) → r ≡ s
+new_grows m s r true f e = absurd (cc)
+new_grows m s r false f e = same_scopes e
+
+-- methods add nothing
+methods_grow : (earlier : List Signature) (ms : Methods) (s r : Scopes) → checked_methods earlier ms s ≡ Ok r → r ≡ s
+methods_grow earlier no_methods s r e = same_scopes e
+methods_grow earlier (and_method verb ps body ms) s r e =
+    in_first (in_turn (new_method earlier (verb, length ps) s) (in_block (checked_taking ps (checked_all body)))) (checked_methods (earlier ++ (verb, length ps) ∷ []) ms) [] s r
+    (λ p. in_first (new_method earlier (verb, length ps) s) (in_block (checked_taking ps (checked_all body))) [] s p (λ q. new_grows (verb, length ps) s q _ _) (λ q. block_grows (checked_taking ps (checked_all body) (entered q)) q p))
+    (λ q. methods_grow (earlier ++ (verb, length ps) ∷ []) ms q r) e
+
 mutual
   -- a tree that is not refused adds the names that it defines
   pub grows : (t : Tree) (s r : Scopes) → checked t s ≡ Ok r → r ≡ grown (own_names t) s
@@ -100,6 +113,8 @@ mutual
       in_first (in_block (checked_all body) s) (in_block (checked_with p (checked_all handler))) [] s r
       (λ q. block_grows (checked_all body (entered s)) s q) (λ q. block_grows (checked_with p (checked_all handler) (entered q)) q r) e
   grows (throw_tree t) s r e = grows t s r e
+  grows (object_tree p methods) s r e = in_first (bound p s) (checked_methods [] methods) (name_of p) s r (λ q. bound_grows p s q) (λ q. methods_grow [] methods q r) e
+  grows (escape_tree x body) s r e = block_grows (checked_with (pattern.Name x) (checked_all body) (entered s)) s r e
 
   -- so do trees in order
   pub all_grow : (ts : Trees) (s r : Scopes) → checked_all ts s ≡ Ok r → r ≡ grown (own_names_in ts) s

@@ -4,3 +4,4 @@ pub mod Names
 pub mod Refusals
 pub mod Growth
 pub mod Counts
+pub mod Finding

@@ -2,12 +2,13 @@
 use Rattle.std.proofs.Common.{◌≡◌, ℕ, ◌+◌, ◌<◌, ◌≤◌, List, [], ◌∷◌, ◌++◌, ap, sym, ◌∙◌, length, drop, get_or, add-one, suc, append_assoc, append-nil, Bool, false, ◌==◌, codes, refl}
 use Rattle.std.proofs.Math.Seq.{drop-cons}
 use Rattle.std.proofs.lemmas.List.{drop_all}
-use Rattle.kernele.specs.Tree.{Name, Tree, call, list_tree, hide, if_tree, while_tree, for_tree, try_tree, Trees, none, and_then}
-use Rattle.kernele.specs.View.{tree_of, trees_of}
+use Rattle.kernele.specs.Tree.{Name, Tree, call, list_tree, hide, if_tree, while_tree, for_tree, try_tree, object_tree, escape_tree, Trees, none, and_then, Methods, no_methods, and_method}
+use Rattle.kernele.specs.View.{tree_of, trees_of, methods_of}
 use Rattle.kernele.specs.Spelling.{joined, in_braces, spelled_items}
-use Rattle.kernele.proofs.Views.{tree_of-Call, tree_of-List, tree_of-Hide, tree_of-If, tree_of-While, tree_of-For, tree_of-Try}
+use Rattle.kernele.proofs.Views.{tree_of-Call, tree_of-List, tree_of-Hide, tree_of-If, tree_of-While, tree_of-For, tree_of-Try, tree_of-Object, tree_of-Escape}
 use Rattle.kernele.specs.declared.tree.Expr as code
 use Rattle.kernele.specs.declared.tree.Expr.{Expr}
+use Rattle.kernele.specs.declared.tree.Method.{Method}
 use Rattle.kernele.specs.declared.tree.Pattern.{Pattern}
 use Rattle.std.specs.declared.sync.Arc.{Arc}
 use Rattle.std.specs.declared.vec.Vec.{Vec}
@@ -63,6 +64,36 @@ tree_is_try {p = p} {xs = xs} body pattern handler is held slice bound held' sli
     ∙ ap (λ q. try_tree (trees_of xs) q (trees_of handler.value.items)) (sym bound)
     ∙ ap (λ ys. try_tree (trees_of xs) p (trees_of ys)) (sym (slice' ∙ ap (λ u. u.items) held'))
 
+-- the tree of an object, from the slice of its methods
+pub tree_is_object : {e : Expr} {p : Pattern} {v : Vec Method Global} {ms : List Method} (pattern : Pattern) (methods : Arc (Vec Method Global) Global) → e ≡ code.Object pattern methods → p ≡ pattern → v ≡ methods.value → ms ≡ v.items → tree_of e ≡ object_tree p (methods_of ms)
+tree_is_object {p = p} pattern methods is bound held slice =
+    ap tree_of is ∙ tree_of-Object pattern methods
+    ∙ ap (λ q. object_tree q (methods_of methods.value.items)) (sym bound)
+    ∙ ap (λ ns. object_tree p (methods_of ns)) (sym (slice ∙ ap (λ w. w.items) held))
+
+-- the tree of an escape, from the slice of its items
+pub tree_is_escape : {e : Expr} {x : Name} {v : Vec Expr Global} {xs : List Expr} (name : Name) (body : Arc (Vec Expr Global) Global) → e ≡ code.Escape name body → x ≡ name → v ≡ body.value → xs ≡ v.items → tree_of e ≡ escape_tree x (trees_of xs)
+tree_is_escape {x = x} name body is named held slice =
+    ap tree_of is ∙ tree_of-Escape name body
+    ∙ ap (λ y. escape_tree y (trees_of body.value.items)) (sym named)
+    ∙ ap (λ ys. escape_tree x (trees_of ys)) (sym (slice ∙ ap (λ w. w.items) held))
+
+-- the block of a method, from the slice of its items
+pub body_is : {v : Vec Expr Global} {xs : List Expr} (body : Arc (Vec Expr Global) Global) → v ≡ body.value → xs ≡ v.items → trees_of xs ≡ trees_of body.value.items
+body_is body held slice = ap trees_of (slice ∙ ap (λ w. w.items) held)
+
+-- what a method stands for, before others
+abbrev pub before : Method → Methods → Methods
+before m ms = and_method m.verb m.parameters.value.items (trees_of m.body.value.items) ms
+
+-- the methods from an index on: the one there, and those behind it
+pub methods_from : (ms : List Method) (i : ℕ) (m : Method) → i < length ms → m ≡ get_or ms i m → methods_of (drop i ms) ≡ before m (methods_of (drop (i + 1) ms))
+methods_from ms i m h e = rw add-one (ap methods_of (drop-cons ms i m h) ∙ ap (λ y. before y (methods_of (drop (suc i) ms))) (sym e))
+
+-- no methods are left
+pub no_methods_from : (ms : List Method) (i : ℕ) → length ms ≤ i → methods_of (drop i ms) ≡ no_methods
+no_methods_from ms i h = ap methods_of (drop_all i ms h)
+
 -- the trees from an index on: the one there, and those behind it
 pub trees_from : (xs : List Expr) (i : ℕ) (x : Expr) → i < length xs → x ≡ get_or xs i x → trees_of (drop i xs) ≡ and_then (tree_of x) (trees_of (drop (i + 1) xs))
 trees_from xs i x h e = rw add-one (ap trees_of (drop-cons xs i x h) ∙ ap (λ y. and_then (tree_of y) (trees_of (drop (suc i) xs))) (sym e))
@@ -93,6 +124,13 @@ append_more all one law was xs i x h e appended = items_more (λ es. all (trees_
 
 pub append_end : {A : Type 0} (all : Trees → List A) → all none ≡ [] → {now whole : List A} (xs : List Expr) (i : ℕ) → length xs ≤ i → now ++ all (trees_of (drop i xs)) ≡ whole → now ≡ whole
 append_end all law xs i h invariant = items_end (λ es. all (trees_of es)) law xs i h invariant
+
+-- the same of methods
+pub methods_more : {A : Type 0} (all : Methods → List A) (one : Method → List A) → ((m : Method) (ms : Methods) → all (before m ms) ≡ one m ++ all ms) → (was : List A) {now : List A} (xs : List Method) (i : ℕ) (x : Method) → i < length xs → x ≡ get_or xs i x → now ≡ was ++ one x → now ++ all (methods_of (drop (i + 1) xs)) ≡ was ++ all (methods_of (drop i xs))
+methods_more all one law was xs i x h e appended = items_more (λ ms. all (methods_of ms)) one (λ m ms. law m (methods_of ms)) was xs i x h e appended
+
+pub methods_end : {A : Type 0} (all : Methods → List A) → all no_methods ≡ [] → {now whole : List A} (xs : List Method) (i : ℕ) → length xs ≤ i → now ++ all (methods_of (drop i xs)) ≡ whole → now ≡ whole
+methods_end all law xs i h invariant = items_end (λ ms. all (methods_of ms)) law xs i h invariant
 
 -- the braces of a block that has items
 pub braces : (es : List Expr) (empty : Bool) → empty ≡ (length es == 0) → empty ≡ false → in_braces (spelled_items (trees_of es)) ≡ codes "{ " ++ joined (codes "; ") (spelled_items (trees_of es)) ++ codes " }"

@@ -1,11 +1,12 @@
 -- What the check's values stand for.
-use Rattle.std.specs.Prelude.{◌≡◌, ℕ, List, ◌++◌, Result, Ok, Err, codes, MatchResult}
+use Rattle.std.specs.Prelude.{◌≡◌, ℕ, List, ◌++◌, length, Bool, true, Result, Ok, Err, codes, MatchResult}
 use Rattle.std.specs.Ordering.{nat_cmp}
 use Rattle.std.specs.Cmp.Lexicographic.{slice_cmp}
 use Rattle.std.specs.Option.{option_or}
 use Rattle.std.specs.BTreeMap.{BTreeMap, get}
 use Rattle.kernele.specs.Tree.{Name}
-use Rattle.kernele.specs.Scope.{Names, Scopes, kind_in, unbound, assign_to_def, duplicate_name, too_deep, too_long, Checked}
+use Rattle.kernele.specs.Scope.{Names, Scopes, Signature, kind_in, unbound, assign_to_def, duplicate_name, too_deep, too_long, Checked}
+use Rattle.kernele.specs.declared.tree.Method.{Method}
 use Rattle.kernele.specs.declared.naming.Kind.{Kind}
 use Rattle.kernele.specs.declared.checking.CheckFault.{CheckFault}
 use Rattle.kernele.specs.declared.checking.CheckFault.TheVariants as fault
@@ -39,6 +40,15 @@ Refuses (fault.DuplicateName x) checked = checked ≡ Err (duplicate_name x)
 Refuses fault.TooDeep checked = checked ≡ Err too_deep
 Refuses fault.TooLong checked = checked ≡ Err too_long
 Refuses fault.Memory checked = Unit {0}
+
+-- a fault of what is defined twice, where it is
+abbrev pub MayRefuse : CheckFault → Bool → Name → Type 0
+MayRefuse fault.Memory twice x = Unit {0}
+MayRefuse f twice x = (twice ≡ true) × (f ≡ fault.DuplicateName x)
+
+-- how a method is found
+abbrev pub signature_of : Method → Signature
+signature_of m = (m.verb, length m.parameters.value.items)
 
 -- the scopes that are left are those of the definition, or the fault is its refusal
 abbrev pub Gives : Result (Unit {0}) CheckFault → Scopes → Checked → Type 0

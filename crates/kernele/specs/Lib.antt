@@ -2,4 +2,5 @@ pub mod Tree
 pub mod View
 pub mod Spelling
 pub mod Scope
+pub mod Free
 pub mod Check

@@ -1,15 +1,15 @@
 -- Which programs may be evaluated: their size, their depth, and the scope of their names.
-use Rattle.std.specs.Prelude.{◌≡◌, ℕ, ◌+◌, max, List, [], ◌∷◌, ◌++◌, map, Option, Some, None, is_some, nat_lt, Result, Ok, Err, if◌then◌else◌}
+use Rattle.std.specs.Prelude.{◌≡◌, ℕ, ◌+◌, max, List, [], ◌∷◌, ◌++◌, map, Option, Some, None, is_some, nat_lt, nat_eq, length, Bool, true, false, Result, Ok, Err, if◌then◌else◌}
 use Rattle.std.specs.Option.{option_or}
 use Rattle.std.specs.Str.{bytes_eq}
-use Rattle.kernele.specs.Tree.{Name, Tree, null_tree, bool_tree, int_tree, text_tree, noun, define, variable, assign, call, list_tree, same_tree, define_list, hide, if_tree, while_tree, for_tree, try_tree, throw_tree, Trees, none, and_then}
+use Rattle.kernele.specs.Tree.{Name, Tree, null_tree, bool_tree, int_tree, text_tree, noun, define, variable, assign, call, list_tree, same_tree, define_list, hide, if_tree, while_tree, for_tree, try_tree, throw_tree, object_tree, escape_tree, Trees, none, and_then, Methods, no_methods, and_method}
 use Rattle.kernele.specs.declared.tree.Pattern.{Pattern}
 use Rattle.kernele.specs.declared.tree.Pattern.TheVariants as pattern
 use Rattle.kernele.specs.declared.naming.Kind.{Kind}
 use Rattle.kernele.specs.declared.naming.Kind.TheVariants as kind
 use Rattle.kernele.specs.declared.naming.TopName.{TopName}
 
--- how many nodes a tree has; a block is none, and its items belong to the node that has the block
+-- how many nodes a tree has; a block is none and a method is none: the items belong to the node that has the block or the method
 abbrev mutual
   pub nodes : Tree → ℕ
   nodes null_tree = 1
@@ -30,10 +30,16 @@ abbrev mutual
   nodes (for_tree p e body) = 1 + nodes e + nodes_in body
   nodes (try_tree body p handler) = 1 + nodes_in body + nodes_in handler
   nodes (throw_tree e) = 1 + nodes e
+  nodes (object_tree p methods) = 1 + nodes_of methods
+  nodes (escape_tree x body) = 1 + nodes_in body
 
   pub nodes_in : Trees → ℕ
   nodes_in none = 0
   nodes_in (and_then t ts) = nodes t + nodes_in ts
+
+  pub nodes_of : Methods → ℕ
+  nodes_of no_methods = 0
+  nodes_of (and_method verb ps body ms) = nodes_in body + nodes_of ms
 
 -- how many nodes stand below one another; a leaf has depth 1
 abbrev mutual
@@ -56,10 +62,16 @@ abbrev mutual
   depth (for_tree p e body) = 1 + max (depth e) (depth_in body)
   depth (try_tree body p handler) = 1 + max (depth_in body) (depth_in handler)
   depth (throw_tree e) = 1 + depth e
+  depth (object_tree p methods) = 1 + depth_of methods
+  depth (escape_tree x body) = 1 + depth_in body
 
   pub depth_in : Trees → ℕ
   depth_in none = 0
   depth_in (and_then t ts) = max (depth t) (depth_in ts)
+
+  pub depth_of : Methods → ℕ
+  depth_of no_methods = 0
+  depth_of (and_method verb ps body ms) = max (depth_in body) (depth_of ms)
 
 -- the names of a scope: which kind a name is, if the scope has it
 abbrev pub Names : Type 0
@@ -172,8 +184,28 @@ in_block inside s = left_for s (inside (entered s))
 abbrev pub checked_with : Pattern → (Scopes → Checked) → Scopes → Checked
 checked_with p next s = in_turn (bound p s) next
 
+-- what stands behind parameters, in their scope
+abbrev pub checked_taking : List Pattern → (Scopes → Checked) → Scopes → Checked
+checked_taking ps next s = in_turn (all_bound ps s) next
+
+-- how a method is found: by its verb, and how many parameters it has
+abbrev pub Signature : Type 0
+Signature = Name × ℕ
+
+abbrev pub same_signature : Signature → Signature → Bool
+same_signature a b = if bytes_eq a.0 b.0 then nat_eq a.1 b.1 else false
+
+abbrev pub has_signature : List Signature → Signature → Bool
+has_signature [] b = false
+has_signature (a ∷ earlier) b = if same_signature a b then true else has_signature earlier b
+
+-- an object has no two methods that are found alike
+abbrev pub new_method : List Signature → Signature → Scopes → Checked
+new_method earlier m s = if has_signature earlier m then Err (duplicate_name m.0) else Ok s
+
 -- the names of an expression, in the order in which it is evaluated: a receiver before its arguments, those from the left,
--- a condition before its blocks, a list before the body, a body before its handler; each block is a scope of its own
+-- a condition before its blocks, a list before the body, a body before its handler, an object's own name before its methods;
+-- each block is a scope of its own, which begins with the names of its patterns
 abbrev mutual
   pub checked : Tree → Scopes → Checked
   checked null_tree s = Ok s
@@ -194,10 +226,18 @@ abbrev mutual
   checked (for_tree p e body) s = in_turn (checked e s) (in_block (checked_with p (checked_all body)))
   checked (try_tree body p handler) s = in_turn (in_block (checked_all body) s) (in_block (checked_with p (checked_all handler)))
   checked (throw_tree e) s = checked e s
+  checked (object_tree p methods) s = in_turn (bound p s) (checked_methods [] methods)
+  checked (escape_tree x body) s = in_block (checked_with (pattern.Name x) (checked_all body)) s
 
   pub checked_all : Trees → Scopes → Checked
   checked_all none s = Ok s
   checked_all (and_then t ts) s = in_turn (checked t s) (checked_all ts)
+
+  -- methods, behind those with these signatures
+  pub checked_methods : List Signature → Methods → Scopes → Checked
+  checked_methods earlier no_methods s = Ok s
+  checked_methods earlier (and_method verb ps body ms) s =
+      in_turn (in_turn (new_method earlier (verb, length ps) s) (in_block (checked_taking ps (checked_all body)))) (checked_methods (earlier ++ (verb, length ps) ∷ []) ms)
 
 -- a program: first its size, at most 16,384 nodes, then its depth, at most 200, then its names
 abbrev pub checked_program : Trees → Scopes → Checked
@@ -236,6 +276,8 @@ abbrev mutual
   own_names (for_tree p e body) = own_names e
   own_names (try_tree body p handler) = []
   own_names (throw_tree e) = own_names e
+  own_names (object_tree p methods) = name_of p
+  own_names (escape_tree x body) = []
 
   pub own_names_in : Trees → List TopName
   own_names_in none = []

@@ -2,7 +2,7 @@
 use Rattle.std.specs.Prelude.{ℕ, List, [], ◌∷◌, ◌++◌, map, Bool, true, false, codes, if◌then◌else◌}
 use Rattle.std.specs.Fmt.{signed_decimal}
 use Rattle.ids.specs.Quoted.{quoted}
-use Rattle.kernele.specs.Tree.{Name, Tree, null_tree, bool_tree, int_tree, text_tree, noun, define, variable, assign, call, list_tree, same_tree, define_list, hide, if_tree, while_tree, for_tree, try_tree, throw_tree, Trees, none, and_then}
+use Rattle.kernele.specs.Tree.{Name, Tree, null_tree, bool_tree, int_tree, text_tree, noun, define, variable, assign, call, list_tree, same_tree, define_list, hide, if_tree, while_tree, for_tree, try_tree, throw_tree, object_tree, escape_tree, Trees, none, and_then, Methods, no_methods, and_method}
 use Rattle.kernele.specs.declared.tree.Pattern.{Pattern}
 use Rattle.kernele.specs.declared.tree.Pattern.TheVariants as pattern
 
@@ -45,6 +45,8 @@ needs_brackets (while_tree c body) = false
 needs_brackets (for_tree p e body) = false
 needs_brackets (try_tree body p handler) = false
 needs_brackets (throw_tree e) = false
+needs_brackets (object_tree p methods) = false
+needs_brackets (escape_tree x body) = false
 
 -- nouns, literals, lists, calls and comparisons are receivers without brackets
 abbrev pub is_bare_receiver : Tree → Bool
@@ -66,6 +68,8 @@ is_bare_receiver (while_tree c body) = false
 is_bare_receiver (for_tree p e body) = false
 is_bare_receiver (try_tree body p handler) = false
 is_bare_receiver (throw_tree e) = false
+is_bare_receiver (object_tree p methods) = false
+is_bare_receiver (escape_tree x body) = false
 
 -- a part of another tree, from its spelling
 abbrev pub as_part : Tree → List ℕ → List ℕ
@@ -83,6 +87,15 @@ message verb args = verb ++ codes "(" ++ joined (codes ", ") args ++ codes ")"
 abbrev pub in_braces : List (List ℕ) → List ℕ
 in_braces [] = codes "{ }"
 in_braces (s ∷ rest) = codes "{ " ++ joined (codes "; ") (s ∷ rest) ++ codes " }"
+
+-- the methods of an object, in its braces
+abbrev pub methods_in_braces : List (List ℕ) → List ℕ
+methods_in_braces [] = codes "{ }"
+methods_in_braces (s ∷ rest) = codes "{ " ++ joined (codes " ") (s ∷ rest) ++ codes " }"
+
+-- a method: its verb, its parameters, and its block
+abbrev pub method_text : Name → List Pattern → List (List ℕ) → List ℕ
+method_text verb ps body = codes "method " ++ message verb (map bound_name ps) ++ codes " " ++ in_braces body
 
 abbrev mutual
   -- a tree, as it stands as an item of a block
@@ -105,6 +118,8 @@ abbrev mutual
   spelled (for_tree p e body) = codes "for " ++ bound_name p ++ codes " in " ++ as_part e (spelled e) ++ codes " " ++ in_braces (spelled_items body)
   spelled (try_tree body p handler) = codes "try " ++ in_braces (spelled_items body) ++ codes " catch " ++ bound_name p ++ codes " " ++ in_braces (spelled_items handler)
   spelled (throw_tree e) = codes "throw(" ++ as_part e (spelled e) ++ codes ")"
+  spelled (object_tree p methods) = codes "def " ++ bound_name p ++ codes " " ++ methods_in_braces (spelled_methods methods)
+  spelled (escape_tree x body) = codes "escape " ++ x ++ codes " " ++ in_braces (spelled_items body)
 
   -- arguments, or the items of a list
   pub spelled_parts : Trees → List (List ℕ)
@@ -115,6 +130,11 @@ abbrev mutual
   pub spelled_items : Trees → List (List ℕ)
   spelled_items none = []
   spelled_items (and_then t ts) = spelled t ∷ spelled_items ts
+
+  -- the methods of an object
+  pub spelled_methods : Methods → List (List ℕ)
+  spelled_methods no_methods = []
+  spelled_methods (and_method verb ps body ms) = method_text verb ps (spelled_items body) ∷ spelled_methods ms
 
 -- a program: the items of its block, without braces
 abbrev pub spelling : Trees → List ℕ

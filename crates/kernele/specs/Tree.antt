@@ -26,6 +26,8 @@ mutual
     for_tree : (p : Pattern) → (e : Tree) → (body : Trees) → Tree
     try_tree : (body : Trees) → (p : Pattern) → (handler : Trees) → Tree
     throw_tree : (e : Tree) → Tree
+    object_tree : (p : Pattern) → (methods : Methods) → Tree
+    escape_tree : (x : Name) → (body : Trees) → Tree
     deriving IsSet as Tree-set
 
   -- a block, arguments, or the items of a list
@@ -33,3 +35,9 @@ mutual
     none : Trees
     and_then : (t : Tree) → (ts : Trees) → Trees
     deriving IsSet as Trees-set
+
+  -- the methods of an object
+  pub data Methods : Type 0 where
+    no_methods : Methods
+    and_method : (verb : Name) → (ps : List Pattern) → (body : Trees) → (ms : Methods) → Methods
+    deriving IsSet as Methods-set

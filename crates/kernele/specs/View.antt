@@ -1,8 +1,10 @@
 -- What the program's trees stand for.
 use Rattle.std.specs.Prelude.{List, [], ◌∷◌}
-use Rattle.kernele.specs.Tree.{Tree, null_tree, bool_tree, int_tree, text_tree, noun, define, variable, assign, call, list_tree, same_tree, define_list, hide, if_tree, while_tree, for_tree, try_tree, throw_tree, Trees, none, and_then}
+use Rattle.kernele.specs.Tree.{Tree, null_tree, bool_tree, int_tree, text_tree, noun, define, variable, assign, call, list_tree, same_tree, define_list, hide, if_tree, while_tree, for_tree, try_tree, throw_tree, object_tree, escape_tree, Trees, none, and_then, Methods, no_methods, and_method}
 use Rattle.kernele.specs.declared.tree.Expr as code
 use Rattle.kernele.specs.declared.tree.Expr.{Expr}
+use Rattle.kernele.specs.declared.tree.Method.{Method}
+use Rattle.kernele.specs.declared.tree.Method as methods
 use Rattle.kernele.specs.declared.tree.Block.{Block}
 use Rattle.kernele.specs.declared.tree.Program.{Program}
 
@@ -26,15 +28,26 @@ abbrev mutual
   tree_of (code.For' pattern p e q shape body) = for_tree pattern (tree_of e) (trees_of_row body)
   tree_of (code.Try' p shape body pattern q shape2 handler) = try_tree (trees_of_row body) pattern (trees_of_row handler)
   tree_of (code.Throw' p e) = throw_tree (tree_of e)
+  tree_of (code.Object' pattern p shape methods) = object_tree pattern (methods_of_row methods)
+  tree_of (code.Escape' x p shape body) = escape_tree x (trees_of_row body)
 
   pub trees_of_row : {n : _} → code.Row_of-Expr n → Trees
   trees_of_row code.end_of-Expr = none
   trees_of_row (code.more_of-Expr e rest) = and_then (tree_of e) (trees_of_row rest)
 
+  pub methods_of_row : {n : _} → code.Row_of-Method n → Methods
+  methods_of_row code.end_of-Method = no_methods
+  methods_of_row (code.more_of-Method verb ps p shape body rest) = and_method verb ps.value.items (trees_of_row body) (methods_of_row rest)
+
 -- a block, arguments, or the items of a list
 abbrev pub trees_of : List Expr → Trees
 trees_of [] = none
 trees_of (e ∷ es) = and_then (tree_of e) (trees_of es)
+
+-- the methods of an object
+abbrev pub methods_of : List Method → Methods
+methods_of [] = no_methods
+methods_of (m ∷ ms) = and_method m.verb m.parameters.value.items (trees_of m.body.value.items) (methods_of ms)
 
 abbrev pub block_of : Block → Trees
 block_of b = trees_of b.0.value.items

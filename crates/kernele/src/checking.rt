@@ -1,13 +1,14 @@
 // The check of a program before it is evaluated.
-ghost use Rattle.std.specs.Prelude.{◌≡◌, Some, Ok, IsOk, IfOk, IfErr, OnOk, MatchResult};
-ghost use Rattle.kernele.specs.View.{tree_of, trees_of, program_of};
-ghost use Rattle.kernele.specs.Scope.{checked, checked_all, checked_program, found, assigned, added, bound, all_bound, entered, in_block, checked_with, script_scopes, asked_scopes, kind_in, with_name};
-ghost use Rattle.kernele.specs.Check.{Gives, Refuses, fault_text, names_of, scopes_of, scopes_in, scopes_with};
+ghost use Rattle.std.specs.Prelude.{◌≡◌, [], map, false, Some, Ok, IsOk, IfOk, IfErr, OnOk, MatchResult};
+ghost use Rattle.kernele.specs.Tree.{escape_tree};
+ghost use Rattle.kernele.specs.View.{tree_of, trees_of, methods_of, program_of};
+ghost use Rattle.kernele.specs.Scope.{checked, checked_all, checked_program, found, assigned, added, bound, all_bound, entered, in_block, checked_with, checked_taking, checked_methods, same_signature, has_signature, script_scopes, asked_scopes, kind_in, with_name};
+ghost use Rattle.kernele.specs.Check.{Gives, Refuses, fault_text, MayRefuse, names_of, scopes_of, scopes_in, scopes_with, signature_of};
 ghost use Rattle.kernele.specs.declared.checking.CheckFault.TheVariants.{Memory};
 
 use crate::count::{are_within_depth, nodes_left_by_all};
 use crate::naming::{Kind, TopName};
-use crate::tree::{Expr, Pattern, Program};
+use crate::tree::{Expr, Method, Pattern, Program};
 use ids::text::Text;
 use std::alloc::{AllocError, AllocFailed, Global};
 use std::collections::BTreeMap;
@@ -271,7 +272,47 @@ fn check_expr(e: &Expr, scopes: &mut Scopes) -> Result<(), CheckFault>
             check_bound_block(pattern, handler, scopes)
         }
         Expr::Throw(problem) => check_expr(problem, scopes),
+        Expr::Object(pattern, methods) => {
+            check_pattern(pattern, scopes)?;
+            check_methods(methods, scopes)
+        }
+        Expr::Escape(name, body) => check_escape(name, body, scopes),
     }
+}
+
+/// Checks the methods of an object, each in a scope of its own.
+#[cycle(check)]
+fn check_methods(methods: &[Method], scopes: &Scopes<'_>) -> Result<(), CheckFault>
+    ensures { Gives result (scopes_in scopes.now) (checked_methods [] (methods_of methods.now) (scopes_in scopes.now)) }
+{
+    let mut index = 0;
+    while index < methods.len() {
+        let method = &methods[index];
+        check_is_new(&methods[..index], method)?;
+        check_method(method, scopes)?;
+        index += 1;
+    }
+    Ok(())
+}
+
+/// Checks the block of a method in a scope of its own, which begins with the names of the parameters.
+#[cycle(check)]
+fn check_method(method: &Method, scopes: &Scopes<'_>) -> Result<(), CheckFault>
+    ensures { Gives result (scopes_in scopes.now) (in_block (checked_taking method.now.parameters.value.items (checked_all (trees_of method.now.body.value.items))) (scopes_in scopes.now)) }
+{
+    let mut inner = scopes.enter();
+    check_patterns(&method.parameters, &mut inner)?;
+    check_all(&method.body, &mut inner)
+}
+
+/// Checks a block in a scope of its own, which begins with the name of an ejector.
+#[cycle(check)]
+fn check_escape(name: &Text, body: &[Expr], scopes: &Scopes<'_>) -> Result<(), CheckFault>
+    ensures { Gives result (scopes_in scopes.now) (checked (escape_tree name.now (trees_of body.now)) (scopes_in scopes.now)) }
+{
+    let mut inner = scopes.enter();
+    inner.add(name, Kind::Definition)?;
+    check_all(body, &mut inner)
 }
 
 /// Checks a block in a scope of its own.
@@ -314,6 +355,26 @@ fn check_assigned(name: &Text, scopes: &mut Scopes) -> Result<(), CheckFault>
         Some(Kind::Definition) => Err(CheckFault::AssignToDef(name.share()?)),
         None => Err(CheckFault::Unbound(name.share()?)),
     }
+}
+
+/// Checks that no earlier method of the object is found by the verb and the number of arguments of this one.
+fn check_is_new(earlier: &[Method], method: &Method) -> Result<(), CheckFault>
+    ensures ok { OnOk result (has_signature (map signature_of earlier.now) (signature_of method.now) ≡ false) }
+    ensures refused { IfErr result (λ fault. MayRefuse fault (has_signature (map signature_of earlier.now) (signature_of method.now)) method.now.verb) }
+{
+    for other in earlier {
+        if is_found_as(other, method) {
+            return Err(CheckFault::DuplicateName(method.verb.share()?));
+        }
+    }
+    Ok(())
+}
+
+/// Whether two methods are found by the same verb and number of arguments.
+fn is_found_as(one: &Method, other: &Method) -> bool
+    ensures { result ≡ same_signature (signature_of one.now) (signature_of other.now) }
+{
+    one.verb == other.verb && one.parameters.len() == other.parameters.len()
 }
 
 fn check_patterns(patterns: &[Pattern], scopes: &mut Scopes) -> Result<(), CheckFault>

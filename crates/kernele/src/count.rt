@@ -1,9 +1,9 @@
 // The size and the depth of a program, each compared with a limit.
 ghost use Rattle.std.specs.Prelude.{◌≡◌, ◌≤◌, ◌-◌, ◌↔◌, IsTrue, SomeIff};
-ghost use Rattle.kernele.specs.View.{tree_of, trees_of};
-ghost use Rattle.kernele.specs.Scope.{nodes, nodes_in, depth, depth_in};
+ghost use Rattle.kernele.specs.View.{tree_of, trees_of, methods_of};
+ghost use Rattle.kernele.specs.Scope.{nodes, nodes_in, nodes_of, depth, depth_in, depth_of};
 
-use crate::tree::Expr;
+use crate::tree::{Expr, Method};
 
 /// What a tree leaves of a number of nodes, if it has no more.
 #[cycle(count)]
@@ -29,7 +29,21 @@ fn nodes_left(e: &Expr, limit: u32) -> Option<u32>
         Expr::While(condition, body) => nodes_left_by_all(body, nodes_left(condition, left)?),
         Expr::For(_, list, body) => nodes_left_by_all(body, nodes_left(list, left)?),
         Expr::Try(body, _, handler) => nodes_left_by_all(handler, nodes_left_by_all(body, left)?),
+        Expr::Object(_, methods) => nodes_left_by_methods(methods, left),
+        Expr::Escape(_, body) => nodes_left_by_all(body, left),
     }
+}
+
+/// What methods leave of a number of nodes, if they have no more in all.
+#[cycle(count)]
+fn nodes_left_by_methods(methods: &[Method], limit: u32) -> Option<u32>
+    ensures { SomeIff result (nodes_of (methods_of methods.now) ≤ limit) (limit - nodes_of (methods_of methods.now)) }
+{
+    let mut left = limit;
+    for method in methods {
+        left = nodes_left_by_all(&method.body, left)?;
+    }
+    Some(left)
 }
 
 /// What trees leave of a number of nodes, if they have no more in all.
@@ -79,7 +93,22 @@ fn is_within_depth(e: &Expr, limit: u32) -> bool
         Expr::Try(body, _, handler) => {
             are_within_depth(body, limit - 1) && are_within_depth(handler, limit - 1)
         }
+        Expr::Object(_, methods) => are_methods_within_depth(methods, limit - 1),
+        Expr::Escape(_, body) => are_within_depth(body, limit - 1),
     }
+}
+
+/// Whether no tree of these methods is deeper.
+#[cycle(depth)]
+fn are_methods_within_depth(methods: &[Method], limit: u32) -> bool
+    ensures { IsTrue result ↔ (depth_of (methods_of methods.now) ≤ limit) }
+{
+    for method in methods {
+        if !are_within_depth(&method.body, limit) {
+            return false;
+        }
+    }
+    true
 }
 
 /// Whether no tree is deeper.

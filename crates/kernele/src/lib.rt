@@ -3,6 +3,7 @@
 
 mod checking;
 mod count;
+mod free;
 mod naming;
 mod printing;
 #[cfg(test)]
@@ -10,5 +11,6 @@ mod tests;
 pub mod tree;
 
 pub use checking::{CheckFault, Outer, check};
+pub use free::captured_names;
 pub use naming::{Kind, TopName, adds_own_names, top_names};
 pub use printing::print;

@@ -43,7 +43,7 @@ fn add_all_names(trees: &[Expr], names: &mut Vec<TopName>) -> Result<(), AllocEr
 }
 
 #[cycle(names)]
-fn add_names(e: &Expr, names: &mut Vec<TopName>) -> Result<(), AllocError>
+pub(crate) fn add_names(e: &Expr, names: &mut Vec<TopName>) -> Result<(), AllocError>
     ensures { OnOk result (names.new.items ≡ names.old.items ++ own_names (tree_of e.now)) }
 {
     match e {
@@ -61,7 +61,8 @@ fn add_names(e: &Expr, names: &mut Vec<TopName>) -> Result<(), AllocError>
             add_all_bound(patterns, names)
         }
         Expr::Assign(_, value) | Expr::Throw(value) => add_names(value, names),
-        Expr::Hide(_) | Expr::Try(_, _, _) => Ok(()),
+        Expr::Hide(_) | Expr::Try(_, _, _) | Expr::Escape(_, _) => Ok(()),
+        Expr::Object(pattern, _) => add_bound(pattern, names),
         Expr::If(condition, _, _) | Expr::While(condition, _) => add_names(condition, names),
         Expr::For(_, list, _) => add_names(list, names),
         Expr::Call(receiver, _, args) => {
@@ -76,7 +77,7 @@ fn add_names(e: &Expr, names: &mut Vec<TopName>) -> Result<(), AllocError>
     }
 }
 
-fn add_all_bound(patterns: &[Pattern], names: &mut Vec<TopName>) -> Result<(), AllocError>
+pub(crate) fn add_all_bound(patterns: &[Pattern], names: &mut Vec<TopName>) -> Result<(), AllocError>
     ensures { OnOk result (names.new.items ≡ names.old.items ++ names_of_all patterns.now) }
 {
     for pattern in patterns {
@@ -85,7 +86,7 @@ fn add_all_bound(patterns: &[Pattern], names: &mut Vec<TopName>) -> Result<(), A
     Ok(())
 }
 
-fn add_bound(pattern: &Pattern, names: &mut Vec<TopName>) -> Result<(), AllocError>
+pub(crate) fn add_bound(pattern: &Pattern, names: &mut Vec<TopName>) -> Result<(), AllocError>
     ensures { OnOk result (names.new.items ≡ names.old.items ++ name_of pattern.now) }
 {
     match pattern {
@@ -94,7 +95,7 @@ fn add_bound(pattern: &Pattern, names: &mut Vec<TopName>) -> Result<(), AllocErr
     }
 }
 
-fn add_name(name: &Text, kind: Kind, names: &mut Vec<TopName>) -> Result<(), AllocError>
+pub(crate) fn add_name(name: &Text, kind: Kind, names: &mut Vec<TopName>) -> Result<(), AllocError>
     ensures { OnOk result (names.new.items ≡ names.old.items ++ record { name = name.now; kind = kind } ∷ []) }
 {
     let name = name.share()?;

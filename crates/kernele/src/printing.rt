@@ -1,10 +1,10 @@
 // The canonical spelling of a program.
 ghost use Rattle.std.specs.Prelude.{◌≡◌, ◌++◌, IfOk, OnOk, string_bytes, codes, map, true};
-ghost use Rattle.kernele.specs.Tree.{bool_tree, define, define_list, variable, assign, list_tree, throw_tree};
-ghost use Rattle.kernele.specs.View.{tree_of, trees_of, program_of};
-ghost use Rattle.kernele.specs.Spelling.{spelling, spelled, spelled_parts, spelled_items, joined, bracketed, in_braces, bound_name, needs_brackets as brackets_test, is_bare_receiver as bare_receiver_test, as_part, as_receiver, message};
+ghost use Rattle.kernele.specs.Tree.{bool_tree, define, define_list, variable, assign, list_tree, throw_tree, object_tree, escape_tree};
+ghost use Rattle.kernele.specs.View.{tree_of, trees_of, methods_of, program_of};
+ghost use Rattle.kernele.specs.Spelling.{spelling, spelled, spelled_parts, spelled_items, spelled_methods, joined, bracketed, in_braces, methods_in_braces, method_text, bound_name, needs_brackets as brackets_test, is_bare_receiver as bare_receiver_test, as_part, as_receiver, message};
 
-use crate::tree::{Expr, Pattern, Program};
+use crate::tree::{Expr, Method, Pattern, Program};
 use ids::quote::write_quoted;
 use ids::text::Text;
 use std::alloc::{AllocError, Global};
@@ -84,6 +84,8 @@ fn write_expr(e: &Expr, out: &mut String) -> Result<(), AllocError>
             write_block(handler, out)
         }
         Expr::Throw(problem) => write_throw(problem, out),
+        Expr::Object(pattern, methods) => write_object(pattern, methods, out),
+        Expr::Escape(name, body) => write_escape(name, body, out),
     }
 }
 
@@ -162,6 +164,70 @@ fn write_throw(problem: &Expr, out: &mut String) -> Result<(), AllocError>
     out.push_str("throw(")?;
     write_part(problem, out)?;
     out.push_str(")")
+}
+
+#[cycle(print)]
+fn write_object(
+    pattern: &Pattern,
+    methods: &[Method],
+    out: &mut String,
+) -> Result<(), AllocError>
+    ensures { OnOk result (string_bytes out.new ≡ string_bytes out.old ++ spelled (object_tree pattern.now (methods_of methods.now))) }
+{
+    out.push_str("def ")?;
+    write_pattern(pattern, out)?;
+    out.push_str(" ")?;
+    write_methods(methods, out)
+}
+
+/// Writes methods in their braces.
+#[cycle(print)]
+fn write_methods(methods: &[Method], out: &mut String) -> Result<(), AllocError>
+    ensures { OnOk result (string_bytes out.new ≡ string_bytes out.old ++ methods_in_braces (spelled_methods (methods_of methods.now))) }
+{
+    let Some((first, rest)) = methods.split_first() else {
+        return out.push_str("{ }");
+    };
+    out.push_str("{ ")?;
+    write_method(first, out)?;
+    for method in rest {
+        out.push_str(" ")?;
+        write_method(method, out)?;
+    }
+    out.push_str(" }")
+}
+
+#[cycle(print)]
+fn write_method(method: &Method, out: &mut String) -> Result<(), AllocError>
+    ensures { OnOk result (string_bytes out.new ≡ string_bytes out.old ++ method_text method.now.verb method.now.parameters.value.items (spelled_items (trees_of method.now.body.value.items))) }
+{
+    write_method_head(&method.verb, &method.parameters, out)?;
+    write_block(&method.body, out)
+}
+
+/// Writes a method up to its block.
+fn write_method_head(
+    verb: &Text,
+    parameters: &[Pattern],
+    out: &mut String,
+) -> Result<(), AllocError>
+    ensures { OnOk result (string_bytes out.new ≡ string_bytes out.old ++ codes "method " ++ message verb.now (map bound_name parameters.now) ++ codes " ") }
+{
+    out.push_str("method ")?;
+    out.push_str(verb.as_str())?;
+    out.push_str("(")?;
+    write_patterns(parameters, out)?;
+    out.push_str(") ")
+}
+
+#[cycle(print)]
+fn write_escape(name: &Text, body: &[Expr], out: &mut String) -> Result<(), AllocError>
+    ensures { OnOk result (string_bytes out.new ≡ string_bytes out.old ++ spelled (escape_tree name.now (trees_of body.now))) }
+{
+    out.push_str("escape ")?;
+    out.push_str(name.as_str())?;
+    out.push_str(" ")?;
+    write_block(body, out)
 }
 
 /// Writes a block in its braces.
@@ -291,7 +357,9 @@ fn needs_brackets(e: &Expr) -> bool
         | Expr::While(_, _)
         | Expr::For(_, _, _)
         | Expr::Try(_, _, _)
-        | Expr::Throw(_) => false,
+        | Expr::Throw(_)
+        | Expr::Object(_, _)
+        | Expr::Escape(_, _) => false,
     }
 }
 
@@ -308,7 +376,9 @@ fn is_bare_receiver(e: &Expr) -> bool
         | Expr::While(_, _)
         | Expr::For(_, _, _)
         | Expr::Try(_, _, _)
-        | Expr::Throw(_) => false,
+        | Expr::Throw(_)
+        | Expr::Object(_, _)
+        | Expr::Escape(_, _) => false,
         Expr::Null
         | Expr::Bool(_)
         | Expr::Int(_)

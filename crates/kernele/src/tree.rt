@@ -37,6 +37,19 @@ pub enum Expr {
     /// A body, what its problem is bound to, and the handler.
     Try(Arc<Vec<Expr>>, Pattern, Arc<Vec<Expr>>),
     Throw(Arc<Expr>),
+    /// What the object is bound to, and its methods.
+    Object(Pattern, Arc<Vec<Method>>),
+    /// The name of the ejector, and the block that it ends.
+    Escape(Text, Arc<Vec<Expr>>),
+}
+
+/// What an object does when it is called by this verb with as many arguments as there are parameters.
+#[cycle(tree)]
+#[derive(Drop)]
+pub struct Method {
+    pub verb: Text,
+    pub parameters: Arc<Vec<Pattern>>,
+    pub body: Arc<Vec<Expr>>,
 }
 
 /// Expressions that are evaluated in order.

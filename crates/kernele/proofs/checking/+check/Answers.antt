@@ -3,7 +3,7 @@ use Rattle.std.proofs.lemmas.Result.{err_from_is_err_and}
 use Rattle.kernele.specs.Scope.{in_turn, in_block, checked, checked_all, checked_with}
 use Rattle.kernele.specs.View.{trees_of}
 use Rattle.kernele.specs.Check.{scopes_in}
-use Rattle.kernele.proofs.Walks.{tree_is_call, tree_is_list, tree_is_hide, tree_is_if, tree_is_while, tree_is_for, tree_is_try, trees_from, no_trees_from}
+use Rattle.kernele.proofs.Walks.{tree_is_call, tree_is_list, tree_is_hide, tree_is_if, tree_is_while, tree_is_for, tree_is_try, tree_is_object, tree_is_escape, trees_from, no_trees_from}
 use Rattle.kernele.proofs.Refusals.{refuses_in_turn, refuses_same}
 use Rattle.kernele.proofs.checking.+check.Goals as goal
 
@@ -72,3 +72,13 @@ pub check_expr-returns-in_ok-check_block-in-Try : goal.check_expr-returns-in_ok-
 check_expr-returns-in_ok-check_block-in-Try t c =
     let is = tree_is_try c.in-Try.body c.in-Try.pattern c.in-Try.handler c.in-Try.is c.deref-in-Try.ensures c.deref-in-Try-2.ensures.value refl c.deref-in-Try-3.ensures c.deref-in-Try-4.ensures.value in
     rw (is, c.in_ok-check_block-in-Try.ensures) c.check_bound_block-in-Try.ensures
+
+pub check_expr-returns-in_ok-check_pattern-in-Object : goal.check_expr-returns-in_ok-check_pattern-in-Object
+check_expr-returns-in_ok-check_pattern-in-Object t c =
+    let is = tree_is_object c.in-Object.pattern c.in-Object.methods c.in-Object.is refl c.deref-in-Object.ensures c.deref-in-Object-2.ensures.value in
+    rw (is, c.in_ok-check_pattern-in-Object.ensures) c.check_methods.ensures
+
+pub check_expr-returns-in-Escape : goal.check_expr-returns-in-Escape
+check_expr-returns-in-Escape t c =
+    let is = tree_is_escape c.in-Escape.name c.in-Escape.body c.in-Escape.is refl c.deref-in-Escape.ensures c.deref-in-Escape-2.ensures.value in
+    rw is c.check_escape.ensures

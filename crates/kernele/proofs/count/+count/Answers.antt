@@ -1,8 +1,8 @@
 use Rattle.std.proofs.Common.{arith, ap, refl, ◌+◌}
-use Rattle.kernele.specs.View.{tree_of, trees_of}
-use Rattle.kernele.specs.Scope.{nodes, nodes_in}
+use Rattle.kernele.specs.View.{tree_of, trees_of, methods_of}
+use Rattle.kernele.specs.Scope.{nodes, nodes_in, nodes_of}
 use Rattle.kernele.proofs.Counts.{some_node, left_after}
-use Rattle.kernele.proofs.Walks.{tree_is_call, tree_is_list, tree_is_hide, tree_is_if, tree_is_while, tree_is_for, tree_is_try, trees_from, no_trees_from}
+use Rattle.kernele.proofs.Walks.{tree_is_call, tree_is_list, tree_is_hide, tree_is_if, tree_is_while, tree_is_for, tree_is_try, tree_is_object, tree_is_escape, trees_from, no_trees_from, methods_from, no_methods_from, body_is}
 use Rattle.kernele.proofs.count.+count.Goals as goal
 
 pub nodes_left-returns-in_err-left : goal.nodes_left-returns-in_err-left
@@ -78,3 +78,32 @@ nodes_left-returns-in_ok-nodes_left_by_all-in-Try t c =
     let is = ap nodes (tree_is_try c.in-Try.body c.in-Try.field-1 c.in-Try.handler c.in-Try.is c.deref-in-Try-3.ensures c.deref-in-Try-4.ensures.value refl c.deref-in-Try.ensures c.deref-in-Try-2.ensures.value) in
     left_after c.nodes_left_by_all-in-Try-2.result (1 + nodes_in (trees_of c.deref-in-Try-4.result.now)) (nodes_in (trees_of c.deref-in-Try-2.result.now)) _ c.in_ok-nodes_left_by_all-in-Try.field-0 c.args.limit
     (omega (arith, is)) (omega (arith, c.in_ok-nodes_left_by_all-in-Try.ensures.0, c.in_ok-nodes_left_by_all-in-Try.ensures.1, c.in_ok-left.ensures.0, c.in_ok-left.ensures.1)) c.nodes_left_by_all-in-Try-2.ensures
+
+pub nodes_left-returns-in-Object : goal.nodes_left-returns-in-Object
+nodes_left-returns-in-Object t c =
+    let is = ap nodes (tree_is_object c.in-Object.field-0 c.in-Object.methods c.in-Object.is refl c.deref-in-Object.ensures c.deref-in-Object-2.ensures.value) in
+    left_after c.nodes_left_by_methods.result 1 (nodes_of (methods_of c.deref-in-Object-2.result.now)) _ c.in_ok-left.left c.args.limit
+    (omega (arith, is)) (omega (arith, c.in_ok-left.ensures.0, c.in_ok-left.ensures.1)) c.nodes_left_by_methods.ensures
+
+pub nodes_left-returns-in-Escape : goal.nodes_left-returns-in-Escape
+nodes_left-returns-in-Escape t c =
+    let is = ap nodes (tree_is_escape c.in-Escape.field-0 c.in-Escape.body c.in-Escape.is refl c.deref-in-Escape.ensures c.deref-in-Escape-2.ensures.value) in
+    left_after c.nodes_left_by_all-in-Escape.result 1 (nodes_in (trees_of c.deref-in-Escape-2.result.now)) _ c.in_ok-left.left c.args.limit
+    (omega (arith, is)) (omega (arith, c.in_ok-left.ensures.0, c.in_ok-left.ensures.1)) c.nodes_left_by_all-in-Escape.ensures
+
+pub nodes_left_by_methods-returns-in_err-left : goal.nodes_left_by_methods-returns-in_err-left
+nodes_left_by_methods-returns-in_err-left t c =
+    let next = ap nodes_of (methods_from c.args.methods.now c.loop-method.method-index c.method-item.result c.loop-method-test.true c.method-item.is) in
+    let body = ap nodes_in (body_is c.method-item.result.body c.deref.ensures c.deref-in-loop-method.ensures.value) in
+    rw c.from_residual.ensures (λ h. c.in_err-left.ensures (omega (arith, h, next, body, c.loop-method.invariant)))
+
+pub nodes_left_by_methods-loop-method-preserved : goal.nodes_left_by_methods-loop-method-preserved
+nodes_left_by_methods-loop-method-preserved t c =
+    let next = ap nodes_of (methods_from c.args.methods.now c.loop-method.method-index c.method-item.result c.loop-method-test.true c.method-item.is) in
+    let body = ap nodes_in (body_is c.method-item.result.body c.deref.ensures c.deref-in-loop-method.ensures.value) in
+    omega (arith, next, body, c.loop-method.invariant, c.in_ok-left.ensures.0, c.in_ok-left.ensures.1)
+
+pub nodes_left_by_methods-returns : goal.nodes_left_by_methods-returns
+nodes_left_by_methods-returns t c =
+    let done = ap nodes_of (no_methods_from c.args.methods.now c.loop-method.method-index c.loop-method-test.false) in
+    (omega (arith, done, c.loop-method.invariant), omega (arith, done, c.loop-method.invariant))

@@ -1,9 +1,9 @@
 use Rattle.std.proofs.Common.{arith, ap, refl, subst}
 use Rattle.std.specs.Prelude.{IsTrue}
 use Rattle.kernele.specs.View.{tree_of}
-use Rattle.kernele.specs.Scope.{depth, depth_in}
+use Rattle.kernele.specs.Scope.{depth, depth_in, depth_of}
 use Rattle.kernele.proofs.Counts.{some_depth, is_true, not_true}
-use Rattle.kernele.proofs.Walks.{tree_is_call, tree_is_list, tree_is_hide, tree_is_if, tree_is_while, tree_is_for, tree_is_try, trees_from, no_trees_from}
+use Rattle.kernele.proofs.Walks.{tree_is_call, tree_is_list, tree_is_hide, tree_is_if, tree_is_while, tree_is_for, tree_is_try, tree_is_object, tree_is_escape, trees_from, no_trees_from, methods_from, no_methods_from, body_is}
 use Rattle.kernele.proofs.count.+depth.Goals as goal
 
 pub are_within_depth-returns-then-not-is_within_depth : goal.are_within_depth-returns-then-not-is_within_depth
@@ -71,3 +71,33 @@ pub is_within_depth-returns-else-are_within_depth : goal.is_within_depth-returns
 is_within_depth-returns-else-are_within_depth t c =
     let is = ap depth (tree_is_if c.in-If.condition c.in-If.first c.in-If.second c.in-If.is c.deref-in-If.ensures c.deref-then-is_within_depth-3.ensures c.deref-then-is_within_depth-3-2.ensures.value refl refl) in
     (λ h. absurd (not_true (subst IsTrue c.if-are_within_depth.false h)), λ h. c.are_within_depth-then-is_within_depth-3.ensures.1 (omega (arith, h, is)))
+
+pub are_methods_within_depth-returns-then-not-are_within_depth : goal.are_methods_within_depth-returns-then-not-are_within_depth
+are_methods_within_depth-returns-then-not-are_within_depth t c =
+    let next = ap depth_of (methods_from c.args.methods.now c.loop-method.method-index c.method-item.result c.loop-method-test.true c.method-item.is) in
+    let body = ap depth_in (body_is c.method-item.result.body c.deref.ensures c.deref-in-loop-method.ensures.value) in
+    (λ h. absurd (not_true h), λ h. c.if-not-are_within_depth.ensures.1 (omega (arith, h, next, body, c.loop-method.invariant.part)))
+
+pub are_methods_within_depth-loop-method-preserved : goal.are_methods_within_depth-loop-method-preserved
+are_methods_within_depth-loop-method-preserved t c =
+    let next = ap depth_of (methods_from c.args.methods.now c.loop-method.method-index c.method-item.result c.loop-method-test.true c.method-item.is) in
+    let body = ap depth_in (body_is c.method-item.result.body c.deref.ensures c.deref-in-loop-method.ensures.value) in
+    record {
+      whole = λ h. c.loop-method.invariant.whole (omega (arith, h, next, body, c.if-not-are_within_depth.ensures.0 is_true));
+      part = omega (arith, next, c.loop-method.invariant.part);
+    }
+
+pub are_methods_within_depth-returns : goal.are_methods_within_depth-returns
+are_methods_within_depth-returns t c =
+    let done = ap depth_of (no_methods_from c.args.methods.now c.loop-method.method-index c.loop-method-test.false) in
+    (λ h. c.loop-method.invariant.whole (omega (arith, done)), λ h. is_true)
+
+pub is_within_depth-returns-in-Object : goal.is_within_depth-returns-in-Object
+is_within_depth-returns-in-Object t c =
+    let is = ap depth (tree_is_object c.in-Object.field-0 c.in-Object.methods c.in-Object.is refl c.deref-in-Object.ensures c.deref-in-Object-2.ensures.value) in
+    (λ h. omega (arith, is, c.are_methods_within_depth.ensures.0 h), λ h. c.are_methods_within_depth.ensures.1 (omega (arith, h, is)))
+
+pub is_within_depth-returns-in-Escape : goal.is_within_depth-returns-in-Escape
+is_within_depth-returns-in-Escape t c =
+    let is = ap depth (tree_is_escape c.in-Escape.field-0 c.in-Escape.body c.in-Escape.is refl c.deref-in-Escape.ensures c.deref-in-Escape-2.ensures.value) in
+    (λ h. omega (arith, is, c.are_within_depth-in-Escape.ensures.0 h), λ h. c.are_within_depth-in-Escape.ensures.1 (omega (arith, h, is)))

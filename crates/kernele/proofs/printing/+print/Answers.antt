@@ -1,8 +1,8 @@
 use Rattle.std.proofs.Common.{refl, ap, sym, ◌∙◌, ◌++◌, append_assoc, rules, string_bytes, codes}
 use Rattle.std.proofs.lemmas.Result.{IfOk-equal}
-use Rattle.kernele.specs.Spelling.{led_by, joined, spelled, spelled_parts, spelled_items, as_part}
-use Rattle.kernele.specs.View.{tree_of, trees_of}
-use Rattle.kernele.proofs.Walks.{tree_is_call, tree_is_list, tree_is_hide, tree_is_if, tree_is_while, tree_is_for, tree_is_try, braces, append_more, append_end}
+use Rattle.kernele.specs.Spelling.{led_by, joined, spelled, spelled_parts, spelled_items, spelled_methods, methods_in_braces, method_text, as_part}
+use Rattle.kernele.specs.View.{tree_of, trees_of, methods_of}
+use Rattle.kernele.proofs.Walks.{tree_is_call, tree_is_list, tree_is_hide, tree_is_if, tree_is_while, tree_is_for, tree_is_try, tree_is_object, tree_is_escape, braces, append_more, append_end, methods_more, methods_end}
 use Rattle.kernele.proofs.printing.+print.Goals as goal
 
 pub write_expr-returns-in_ok-push_str-in-Call : goal.write_expr-returns-in_ok-push_str-in-Call
@@ -67,3 +67,23 @@ write_expr-returns-in_ok-write_catch-in-Try t c =
 pub write_block-returns : goal.write_block-returns
 write_block-returns t c =
     rw (braces c.args.items.now c.is_empty.result c.is_empty.ensures c.if-is_empty.false) (search (rules, IfOk-equal, append_assoc))
+
+pub write_expr-returns-in-Object : goal.write_expr-returns-in-Object
+write_expr-returns-in-Object t c =
+    let is = tree_is_object c.in-Object.pattern c.in-Object.methods c.in-Object.is refl c.deref-in-Object.ensures c.deref-in-Object-2.ensures.value in
+    rw is c.write_object.ensures
+
+pub write_expr-returns-in-Escape : goal.write_expr-returns-in-Escape
+write_expr-returns-in-Escape t c =
+    let is = tree_is_escape c.in-Escape.name c.in-Escape.body c.in-Escape.is refl c.deref-in-Escape.ensures c.deref-in-Escape-2.ensures.value in
+    rw is c.write_escape.ensures
+
+pub write_methods-loop-method-preserved : goal.write_methods-loop-method-preserved
+write_methods-loop-method-preserved t c =
+    methods_more (λ ms. led_by (codes " ") (spelled_methods ms)) (λ m. codes " " ++ method_text m.verb m.parameters.value.items (spelled_items (trees_of m.body.value.items))) (λ m ms. refl) (string_bytes c.loop-method.out) c.in-Some.rest.now c.loop-method.method-index c.method-item.result c.loop-method-test.true c.method-item.is (search (rules, append_assoc))
+    ∙ c.loop-method.invariant
+
+pub write_methods-returns : goal.write_methods-returns
+write_methods-returns t c =
+    let written = methods_end (λ ms. led_by (codes " ") (spelled_methods ms)) refl c.in-Some.rest.now c.loop-method.method-index c.loop-method-test.false c.loop-method.invariant in
+    rw (ap (λ ms. methods_in_braces (spelled_methods (methods_of ms))) c.in-Some.ensures.cases.0) (search (rules, IfOk-equal, append_assoc, written))
