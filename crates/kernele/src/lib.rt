@@ -3,7 +3,7 @@
 
 mod checking;
 mod count;
-mod free;
+pub mod free;
 mod naming;
 mod printing;
 #[cfg(test)]
