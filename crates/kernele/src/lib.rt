@@ -3,7 +3,7 @@
 
 mod checking;
 mod count;
-pub mod free;
+mod free;
 mod naming;
 mod printing;
 #[cfg(test)]

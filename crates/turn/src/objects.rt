@@ -17,7 +17,7 @@ use crate::results::no_such_method;
 use crate::working::Working;
 use ids::names::ObjId;
 use ids::text::Text;
-use kernele::free::captured_names;
+use kernele::captured_names;
 use kernele::tree::{Expr, Method, Pattern};
 use std::alloc::{AllocError, Global};
 use std::sync::Arc;
