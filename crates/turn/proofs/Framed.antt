@@ -12,6 +12,7 @@ use Rattle.turn.specs.State.{Bind, fixed, slot, lookup, Object, Cell, top, slot_
 use Rattle.turn.specs.Outcomes.{End, value, halt, Gather, values, halted, thrown, ejected, abandoned}
 use Rattle.turn.specs.Rules.{Listing, listed, unlisted, parts_of, parts_bound, parts_end, matched_all, top_bind, found, sought, slot_in, sought_slot, held_end, noun_end, bound_in, defined, next_slot, has_room, slot_made, variable_made, variable_end, declared, declared_end, assigned, assigned_end, matched, Capture, captured, missing, and_captured, all_captured, capture_of, next_object, has_object_room, object_made, placed, placed_end, with_object, object_end, Callee, on_object, on_ejector, on_datum, callee_of, callee_target, object_target, target_of, Ends, at_budget, at_depth, at_node, Runs, run_null, run_bool, run_int, run_text, run_noun, run_define, run_variable, run_assign, run_call_receiver, run_call_gives, run_call_enters, run_list, run_same_left, run_same, run_define_list, run_hide, run_throw, run_if_goes, run_if_ends, run_while_again, run_while_halts, run_while_done, run_while_ends, run_for, run_for_ends, run_try, run_try_caught, run_object, run_escape, Args, args_none, args_next, args_halt, Items, items_none, items_next, items_halt, Block, in_block, Taking, in_taking, Each, each_none, each_next, each_halt}
 use Rattle.turn.specs.Turn.{Delivery, Outcome, settled, kept, Delivers, opens, asks}
+use Rattle.turn.proofs.Captures.{missing_stays}
 use Rattle.turn.proofs.Patterns.{matched_moved, matched_kept, all_moved, all_kept}
 use Rattle.turn.specs.Touched.{Touch, got, put, sought_touched, read_touched, set_touched, noun_touched, assigned_touched, bound_touched, matched_touched, defined_touched, all_touched, parts_touched, variable_touched, declared_touched, capture_touched, placed_touched, with_object_touched, object_touched, callee_touched, called_touched, ends_touched, runs_touched, args_touched, items_touched, block_touched, taking_touched, each_touched, delivery_touched, Agree, in_state}
 
@@ -147,11 +148,6 @@ parts_case (listed vs) k ps e a o b u ls f run m =
     moved_case k (define_list ps e) e a o o b (matched_all ps vs b) u ls (all_touched b.own_scope ps vs) f (matched_all ps vs (in_state f.after b)).state (matched_all ps vs (in_state f.after b)) (all_moved ps vs b f.after) run m
     (λ c q. all_kept ps vs b f.after c q)
 parts_case (unlisted p) k ps e a o b u ls f run m = wrapped k (define_list ps e) e a o p b b u ls [] f f.after run m (λ c q. q)
-
--- behind a name that stands for nothing, nothing is captured
-missing_stays : (y : Name) (xs : List Name) (a : At) → all_captured (missing y) xs a ≡ missing y
-missing_stays y [] a = refl
-missing_stays y (x ∷ xs) a = missing_stays y xs a
 
 -- the same names are captured ..
 capture_framed : (c : Capture) (xs : List Name) (a : At) (u : State) → Agree (capture_touched c xs a) u a.state → all_captured c xs (in_state u a) ≡ all_captured c xs a

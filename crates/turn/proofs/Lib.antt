@@ -1,3 +1,4 @@
+pub mod Captures
 pub mod Cells
 pub mod Deliveries
 pub mod Determined
@@ -6,7 +7,6 @@ pub mod Ejectors
 pub mod Entered
 pub mod Framed
 pub mod Grown
-pub mod Objects
 pub mod Opened
 pub mod Patterns
 pub mod Scopes

@@ -53,13 +53,13 @@ all_kept (p ∷ ps) (and_val v vs) a t c h =
     subst (λ z. (matched_all ps vs z).state c ≡ (matched_all ps vs (matched p v a)).state c) (sym (matched_moved p v a t))
     (all_kept ps vs (matched p v a) (matched p v (in_state t a)).state c (matched_kept p v a t c h))
 
-as_many-true : (ps : List Pattern) (vs : List Value) → length vs ≡ length ps → as_many ps (vals_of vs) ≡ true
+pub as_many-true : (ps : List Pattern) (vs : List Value) → length vs ≡ length ps → as_many ps (vals_of vs) ≡ true
 as_many-true [] [] h = refl
 as_many-true [] (v ∷ vs) h = absurd (omega arith)
 as_many-true (p ∷ ps) [] h = absurd (omega arith)
 as_many-true (p ∷ ps) (v ∷ vs) h = as_many-true ps vs (omega arith)
 
-as_many-false : (ps : List Pattern) (vs : List Value) → (length vs ≡ length ps → ⊥) → as_many ps (vals_of vs) ≡ false
+pub as_many-false : (ps : List Pattern) (vs : List Value) → (length vs ≡ length ps → ⊥) → as_many ps (vals_of vs) ≡ false
 as_many-false [] [] h = absurd (h refl)
 as_many-false [] (v ∷ vs) h = refl
 as_many-false (p ∷ ps) [] h = refl

@@ -1,5 +1,5 @@
 -- On what objects capture, and on the names that a method begins with.
-use Rattle.std.proofs.Common.{◌≡◌, ℕ, ◌+◌, ◌<◌, ◌≤◌, List, [], ◌∷◌, ◌++◌, length, drop, get_or, Option, Some, None, Bool, true, false, cond, refl, sym, ap, ◌∙◌, suc, add-one, arith}
+use Rattle.std.proofs.Common.{◌≡◌, ℕ, ◌+◌, ◌<◌, ◌≤◌, List, [], ◌∷◌, ◌++◌, length, drop, get_or, Option, Some, None, Bool, true, false, ◌&&◌, cond, refl, sym, ap, ◌∙◌, suc, add-one, arith}
 use Rattle.std.proofs.Math.Seq.{drop-cons}
 use Rattle.std.proofs.lemmas.List.{drop_all}
 use Rattle.std.specs.Str.{bytes_eq}
@@ -11,6 +11,9 @@ use Rattle.values.specs.Data.{Val, Vals}
 use Rattle.values.specs.View.{val_of, vals_of}
 use Rattle.values.specs.declared.value.Value.{Value}
 use Rattle.turn.specs.State.{Bind, Nouns, At}
+use Rattle.turn.specs.View.{bind_of, nouns_after}
+use Rattle.turn.specs.declared.heap.Noun.{Noun}
+use Rattle.turn.proofs.Patterns.{as_many-true, as_many-false}
 use Rattle.turn.specs.Rules.{sought, Capture, captured, missing, and_captured, all_captured, named, named_all, method_in, as_many}
 
 -- behind a name that stands for nothing, nothing is captured
@@ -47,3 +50,30 @@ named_more ps vs i p v ns h g e f =
 -- no pattern is left
 pub named_end : (ps : List Pattern) (vs : Vals) (i : ℕ) (ns : Nouns) → length ps ≤ i → named_all (drop i ps) vs ns ≡ ns
 named_end ps vs i ns h = ap (λ qs. named_all qs vs ns) (drop_all i ps h)
+
+-- one more name is copied
+pub copied_more : (ns : Nouns) (xs : List Noun) (i : ℕ) (n : Noun) → i < length xs → n ≡ get_or xs i n → nouns_after ns (drop i xs) ≡ nouns_after ((n.name, bind_of n.binding) ∷ ns) (drop (i + 1) xs)
+copied_more ns xs i n h e = rw add-one (ap (nouns_after ns) (drop-cons xs i n h) ∙ ap (λ m. nouns_after ((m.name, bind_of m.binding) ∷ ns) (drop (suc i) xs)) (sym e))
+
+-- no name is left
+pub copied_end : (ns : Nouns) (xs : List Noun) (i : ℕ) → length xs ≤ i → nouns_after ns (drop i xs) ≡ ns
+copied_end ns xs i h = ap (nouns_after ns) (drop_all i xs h)
+
+-- the next method is the one that is sought
+pub method_here : (rest others : List Method) (m : Method) (verb : Name) (vs : List Value) → rest ≡ m ∷ others → bytes_eq m.verb verb ≡ true → length vs ≡ length m.parameters.value.items
+    → Some (m.parameters.value.items, trees_of m.body.value.items) ≡ method_in (methods_of rest) verb (vals_of vs)
+method_here rest others m verb vs e p q =
+    sym (ap (λ ms. method_in (methods_of ms) verb (vals_of vs)) e
+    ∙ (λ i. cond (p i && as_many-true m.parameters.value.items vs q i) (Some (m.parameters.value.items, trees_of m.body.value.items)) (method_in (methods_of others) verb (vals_of vs))))
+
+-- it has another verb
+pub method_not : (rest others : List Method) (m : Method) (verb : Name) (vs : List Value) → rest ≡ m ∷ others → bytes_eq m.verb verb ≡ false → method_in (methods_of others) verb (vals_of vs) ≡ method_in (methods_of rest) verb (vals_of vs)
+method_not rest others m verb vs e p =
+    sym (ap (λ ms. method_in (methods_of ms) verb (vals_of vs)) e
+    ∙ ap (λ b. cond (b && as_many m.parameters.value.items (vals_of vs)) (Some (m.parameters.value.items, trees_of m.body.value.items)) (method_in (methods_of others) verb (vals_of vs))) p)
+
+-- it has another number of parameters
+pub method_other : (rest others : List Method) (m : Method) (verb : Name) (vs : List Value) → rest ≡ m ∷ others → bytes_eq m.verb verb ≡ true → (length vs ≡ length m.parameters.value.items → ⊥) → method_in (methods_of others) verb (vals_of vs) ≡ method_in (methods_of rest) verb (vals_of vs)
+method_other rest others m verb vs e p q =
+    sym (ap (λ ms. method_in (methods_of ms) verb (vals_of vs)) e
+    ∙ (λ i. cond (p i && as_many-false m.parameters.value.items vs q i) (Some (m.parameters.value.items, trees_of m.body.value.items)) (method_in (methods_of others) verb (vals_of vs))))
