@@ -7,14 +7,16 @@ use Rattle.kernele.specs.Tree.{Name, Trees, Methods, and_method}
 use Rattle.kernele.specs.View.{trees_of, methods_of}
 use Rattle.kernele.specs.declared.tree.Method.{Method}
 use Rattle.kernele.specs.declared.tree.Pattern.{Pattern}
-use Rattle.values.specs.Data.{Val, Vals}
+use Rattle.ids.specs.declared.names.ObjId.{ObjId}
+use Rattle.values.specs.Data.{Val, Vals, object}
 use Rattle.values.specs.View.{val_of, vals_of}
 use Rattle.values.specs.declared.value.Value.{Value}
-use Rattle.turn.specs.State.{Bind, Nouns, At}
+use Rattle.turn.specs.State.{Bind, Nouns, Object, At}
 use Rattle.turn.specs.View.{bind_of, nouns_after}
 use Rattle.turn.specs.declared.heap.Noun.{Noun}
 use Rattle.turn.proofs.Patterns.{as_many-true, as_many-false}
-use Rattle.turn.specs.Rules.{sought, Capture, captured, missing, and_captured, all_captured, named, named_all, method_in, as_many}
+use Rattle.turn.specs.Rules.{sought, Capture, captured, missing, and_captured, all_captured, named, named_all, method_in, as_many, next_object, has_object_room, object_made, placed, matched, given}
+use Rattle.turn.proofs.Scopes.{room}
 
 -- behind a name that stands for nothing, nothing is captured
 pub missing_stays : (y : Name) (xs : List Name) (a : At) → all_captured (missing y) xs a ≡ missing y
@@ -77,3 +79,29 @@ pub method_other : (rest others : List Method) (m : Method) (verb : Name) (vs : 
 method_other rest others m verb vs e p q =
     sym (ap (λ ms. method_in (methods_of ms) verb (vals_of vs)) e
     ∙ (λ i. cond (p i && as_many-false m.parameters.value.items vs q i) (Some (m.parameters.value.items, trees_of m.body.value.items)) (method_in (methods_of others) verb (vals_of vs))))
+
+-- ---- the loops
+
+pub capture_step : (ns ms : Nouns) (xs : List Name) (i : ℕ) (x : Name) (b c : Bind) (a : At) (all : Capture) → i < length xs → x ≡ get_or xs i x → Some b ≡ sought x a → c ≡ b → ms ≡ ((x, c) ∷ ns)
+    → all_captured (captured ns) (drop i xs) a ≡ all → all_captured (captured ms) (drop (i + 1) xs) a ≡ all
+capture_step ns ms xs i x b c a all h e f g m p =
+    ap (λ ks. all_captured (captured ks) (drop (i + 1) xs) a) (m ∙ ap (λ d. (x, d) ∷ ns) g)
+    ∙ sym (captured_more ns xs i x b a h e (sym f)) ∙ p
+
+pub capture_stops : (ns : Nouns) (xs : List Name) (i : ℕ) (x y : Name) (a : At) (all : Capture) → i < length xs → x ≡ get_or xs i x → None ≡ sought x a → y ≡ x → all_captured (captured ns) (drop i xs) a ≡ all → missing y ≡ all
+capture_stops ns xs i x y a all h e f g p = ap missing g ∙ sym (captured_not ns xs i x a h e (sym f)) ∙ p
+
+pub copy_step : (ns ms : Nouns) (xs : List Noun) (i : ℕ) (n : Noun) (c : Bind) (all : Nouns) → i < length xs → n ≡ get_or xs i n → c ≡ bind_of n.binding → ms ≡ ((n.name, c) ∷ ns)
+    → nouns_after ns (drop i xs) ≡ all → nouns_after ms (drop (i + 1) xs) ≡ all
+copy_step ns ms xs i n c all h e g m p = ap (λ ks. nouns_after ks (drop (i + 1) xs)) (m ∙ ap (λ d. (n.name, d) ∷ ns) g) ∙ sym (copied_more ns xs i n h e) ∙ p
+
+-- an object for which there is room
+pub placed_there : (p : Pattern) (o q : Object) (i : ObjId) (a b c : At) → a.objects < 4096 → q ≡ o → i ≡ next_object a → b ≡ object_made q a → c ≡ matched p (object i) b → c ≡ placed (has_object_room a) p o a
+placed_there p o q i a b c h e f g m =
+    m ∙ (λ j. matched p (object (f j)) (g j)) ∙ ap (λ r. matched p (object (next_object a)) (object_made r a)) e ∙ sym (ap (λ r. placed r p o a) (room a.objects h))
+
+-- two values or more are no argument of an ejector
+pub given_none : (vs : List Value) → (length vs ≡ 0 → ⊥) → (length vs ≡ 1 → ⊥) → None ≡ given (vals_of vs)
+given_none [] h g = absurd (h refl)
+given_none (v ∷ []) h g = absurd (g refl)
+given_none (v ∷ w ∷ vs) h g = refl

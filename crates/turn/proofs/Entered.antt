@@ -20,20 +20,19 @@ use Rattle.turn.proofs.Ejectors.{opened_truncated}
 abbrev pub Enters : ℕ → Trees → Nouns → At → End → At → Type 0
 Enters k ts ns a o z = (d : At) × Items k null ts (inside ns a) o d × (z ≡ leaving a d)
 
-pub entered : {k : ℕ} {ts : Trees} {o : End} (ns : Nouns) (w u : Working) {b z : At} {names : List Noun} {own : Bool} → names ≡ w.nouns.items → own ≡ w.own_scope → b ≡ inside ns (at w) → Items k null ts b o (at u)
+pub entered : {k : ℕ} {ts bodies : Trees} {o : End} → bodies ≡ ts → (ns : Nouns) (w u : Working) {b z : At} {names : List Noun} {own : Bool} → names ≡ w.nouns.items → own ≡ w.own_scope → b ≡ inside ns (at w) → Items k null bodies b o (at u)
     → z ≡ record (at u) { nouns = nouns_of names; own_scope = own } → Enters k ts ns (at w) o z
-entered {k = k} {ts = ts} {o = o} ns w u e f q r h = (at u, subst (λ x. Items k null ts x o (at u)) q r, h ∙ (λ i. record (at u) { nouns = nouns_of (e i); own_scope = f i }))
+entered {k = k} {ts = ts} {o = o} d ns w u {b = b} e f q r h = (at u, subst (λ x. Items k null ts x o (at u)) q (subst (λ us. Items k null us b o (at u)) d r), h ∙ (λ i. record (at u) { nouns = nouns_of (e i); own_scope = f i }))
 
 -- a call that enters a method
-pub call_entered : {k : ℕ} {r : Tree} {verb : Name} {args : Trees} {a b c z : At} {v : Val} {g : Gather} {ns : Nouns} {body bodies : Trees} {o : End} → Ends (k + 1) r a (value v) b → Args (k + 1) args b g c → target_of v verb g c ≡ enters ns body → bodies ≡ body
-    → Enters (k + 1) bodies ns c o z → Runs k (call r verb args) a o z
-call_entered {k = k} {r = r} {verb = verb} {args = args} {a = a} {c = c} {ns = ns} {o = o} p u e q h =
-    subst (λ z. Runs k (call r verb args) a o z) (sym h.2) (run_call_enters p u e (subst (λ ts. Items (k + 1) null ts (inside ns c) o h.0) q h.1))
+pub call_entered : {k : ℕ} {r : Tree} {verb : Name} {args : Trees} {a b c z : At} {v : Val} {g : Gather} {ns : Nouns} {body : Trees} {o : End} → Ends (k + 1) r a (value v) b → Args (k + 1) args b g c → target_of v verb g c ≡ enters ns body
+    → Enters (k + 1) body ns c o z → Runs k (call r verb args) a o z
+call_entered {k = k} {r = r} {verb = verb} {args = args} {a = a} {o = o} p u e h = subst (λ z. Runs k (call r verb args) a o z) (sym h.2) (run_call_enters p u e h.1)
 
 -- an Escape is over
-pub escape_over : {k : ℕ} {xs : List Expr} {ts : Trees} {o p : End} (x : Name) (w u : Working) {q : Pattern} {j : EjId} {b z : At} {n : ℕ} → n ≡ length w.opened.items → j ≡ next_ejector (at w) → b ≡ escaping (at w) → q ≡ pattern.Name x → trees_of xs ≡ ts
+pub escape_over : {k : ℕ} {ts : Trees} {o p : End} (x : Name) (xs : List Expr) (w u : Working) {q : Pattern} {j : EjId} {b z : At} {n : ℕ} → n ≡ length w.opened.items → j ≡ next_ejector (at w) → b ≡ escaping (at w) → q ≡ pattern.Name x → trees_of xs ≡ ts
     → Taking (k + 1) q (ejector j) (trees_of xs) b o (at u) → z ≡ record (at u) { opened = opened_of (take n u.opened.items) } → p ≡ escape_end j o → Runs k (escape_tree x ts) (at w) p z
-escape_over {k = k} {xs = xs} {ts = ts} {o = o} x w u {q = q} {j = j} {b = b} {z = z} {n = n} l e f g s r h m =
+escape_over {k = k} {ts = ts} {o = o} x xs w u {q = q} {j = j} {b = b} {z = z} {n = n} l e f g s r h m =
     let taken : Taking (k + 1) (pattern.Name x) (ejector (next_ejector (at w))) ts (escaping (at w)) o (at u) =
         subst (λ ts. Taking (k + 1) (pattern.Name x) (ejector (next_ejector (at w))) ts (escaping (at w)) o (at u)) s
         (subst (λ q. Taking (k + 1) q (ejector (next_ejector (at w))) (trees_of xs) (escaping (at w)) o (at u)) g

@@ -34,15 +34,15 @@ pub struct Caller {
 /// What a call leads to, once its arguments have ended.
 pub fn call_target(
     w: &Working,
-    receiver: &Value,
+    receiver: Value,
     verb: &Text,
     gathered: Gathered,
 ) -> Result<Target, AllocError>
     ensures { IfOk result (λ t. target_view t
-        ≡ target_of (val_of receiver.now) verb.now (gather_of gathered) (at w.now)) }
+        ≡ target_of (val_of receiver) verb.now (gather_of gathered) (at w.now)) }
 {
     match gathered {
-        Gathered::Values(args) => value_target(w, receiver, verb, args.as_slice()),
+        Gathered::Values(args) => value_target(w, &receiver, verb, args.as_slice()),
         Gathered::Halt(halt) => Ok(Target::Gives(End::Halt(halt))),
     }
 }

@@ -29,6 +29,13 @@ pub fn open_escape(w: &mut Working) -> Result<EjId, AllocError>
     Ok(ejector)
 }
 
+/// How many Escapes are being evaluated.
+pub fn count_open(w: &Working) -> usize
+    ensures { result ≡ length w.now.opened.items }
+{
+    w.opened.len()
+}
+
 /// Ends the Escapes that were begun since there were so many: their ejectors are spent.
 pub fn close_escape(w: &mut Working, outer: usize)
     ensures { at w.new ≡ record (at w.old) { opened = opened_of (take outer w.old.opened.items) } }

@@ -86,22 +86,22 @@ pub eval::eval_list-returns : goal.eval::eval_list-returns
 eval::eval_list-returns t c = IfOk-weaker _ _ _ (λ o h. runs_as (run_list (children (slice_of c.deref-2.ensures.value c.deref.ensures) refl c.in_ok-gathered.ensures)) h) c.list_end.ensures
 
 pub calling::eval_call-returns-in-Halt : goal.calling::eval_call-returns-in-Halt
-calling::eval_call-returns-in-Halt t c = run_call_receiver (child c.deref.ensures c.in-Halt.is c.in_ok-received.ensures)
+calling::eval_call-returns-in-Halt t c = run_call_receiver (child c.deref.ensures c.in-Halt.is c.in_ok-value.ensures)
 
 pub calling::eval_call-returns-in-Gives : goal.calling::eval_call-returns-in-Gives
-calling::eval_call-returns-in-Gives t c = run_call_gives (child c.deref.ensures c.in-Value.is c.in_ok-received.ensures) (children (slice_of c.deref-3.ensures.value c.deref-2.ensures) refl c.in_ok-gathered.ensures) (sym c.in_ok-target.ensures ∙ ap target_view c.in-Gives.is)
+calling::eval_call-returns-in-Gives t c = run_call_gives (child c.deref.ensures c.in-Value.is c.in_ok-value.ensures) (children (slice_of c.deref-3.ensures.value c.deref-2.ensures) refl c.in_ok-gathered.ensures) (sym c.in_ok-target.ensures ∙ ap target_view c.in-Gives.is)
 
 pub calling::eval_call-returns-in_ok-end-in-Enters : goal.calling::eval_call-returns-in_ok-end-in-Enters
 calling::eval_call-returns-in_ok-end-in-Enters t c =
-    call_entered (child c.deref.ensures c.in-Value.is c.in_ok-received.ensures) (children (slice_of c.deref-3.ensures.value c.deref-2.ensures) refl c.in_ok-gathered.ensures) (sym c.in_ok-target.ensures ∙ ap target_view c.in-Enters.is)
-    (ap trees_of (slice_of c.deref-in-Enters-2.ensures.value c.deref-in-Enters.ensures)) c.in_ok-end-in-Enters.ensures
+    call_entered (child c.deref.ensures c.in-Value.is c.in_ok-value.ensures) (children (slice_of c.deref-3.ensures.value c.deref-2.ensures) refl c.in_ok-gathered.ensures) (sym c.in_ok-target.ensures ∙ ap target_view c.in-Enters.is)
+    c.in_ok-end-in-Enters.ensures
 
 pub calling::eval_method-returns : goal.calling::eval_method-returns
-calling::eval_method-returns t c = entered _ c.args.w.now c.eval_items.new.w (ap (λ v. v.items) c.enter_method-caller.ensures.names) c.enter_method-caller.ensures.own c.enter_method-caller.ensures.place c.in_ok-end.ensures c.leave_method.ensures
+calling::eval_method-returns t c = entered (ap trees_of (slice_of c.deref-2.ensures.value c.deref.ensures)) _ c.args.w.now c.eval_items.new.w (ap (λ v. v.items) c.enter_method-caller.ensures.names) c.enter_method-caller.ensures.own c.enter_method-caller.ensures.place c.in_ok-end.ensures c.leave_method.ensures
 
 pub calling::eval_escape-returns : goal.calling::eval_escape-returns
 calling::eval_escape-returns t c =
-    escape_over c.args.name.now c.args.w.now c.eval_taking.new.w c.len-outer.ensures c.in_ok-ejector.ensures.named c.in_ok-ejector.ensures.place (ap pattern.Name c.in_ok-share.ensures) (ap trees_of (slice_of c.deref-2.ensures.value c.deref.ensures)) c.in_ok-ended.ensures c.close_escape.ensures c.escape_end.ensures
+    escape_over c.args.name.now _ c.args.w.now c.eval_taking.new.w c.count_open-outer.ensures c.in_ok-ejector.ensures.named c.in_ok-ejector.ensures.place (ap pattern.Name c.in_ok-share.ensures) (ap trees_of (slice_of c.deref-2.ensures.value c.deref.ensures)) c.in_ok-ended.ensures c.close_escape.ensures c.escape_end.ensures
 
 pub eval::eval-returns-in-Object : goal.eval::eval-returns-in-Object
 eval::eval-returns-in-Object t c = if_both _ _ _ _ (λ o h g. node _ {a = at c.args.w.now} (ap tree_of c.in-Object.is ∙ tree_of-Object c.in-Object.pattern c.in-Object.methods) (runs_to run_object h g) (omega arith) c.if-level-gt-DEEPEST.false) c.define_object.ensures.ends c.define_object.ensures.makes
