@@ -4,6 +4,7 @@ use Rattle.std.proofs.Math.Seq.{drop-cons}
 use Rattle.std.proofs.lemmas.List.{drop_all}
 use Rattle.std.specs.Str.{bytes_eq}
 use Rattle.kernele.specs.Tree.{Name, Trees, Methods, and_method}
+use Rattle.kernele.specs.Free.{captures}
 use Rattle.kernele.specs.View.{trees_of, methods_of}
 use Rattle.kernele.specs.declared.tree.Method.{Method}
 use Rattle.kernele.specs.declared.tree.Pattern.{Pattern}
@@ -15,7 +16,7 @@ use Rattle.turn.specs.State.{Bind, Nouns, Object, At}
 use Rattle.turn.specs.View.{bind_of, nouns_after}
 use Rattle.turn.specs.declared.heap.Noun.{Noun}
 use Rattle.turn.proofs.Patterns.{as_many-true, as_many-false}
-use Rattle.turn.specs.Rules.{sought, Capture, captured, missing, and_captured, all_captured, named, named_all, method_in, as_many, next_object, has_object_room, object_made, placed, matched, given}
+use Rattle.turn.specs.Rules.{sought, Capture, captured, missing, and_captured, all_captured, capture_of, named, named_all, method_in, as_many, next_object, has_object_room, object_made, placed, matched, given}
 use Rattle.turn.proofs.Scopes.{room}
 
 -- behind a name that stands for nothing, nothing is captured
@@ -79,6 +80,10 @@ pub method_other : (rest others : List Method) (m : Method) (verb : Name) (vs : 
 method_other rest others m verb vs e p q =
     sym (ap (λ ms. method_in (methods_of ms) verb (vals_of vs)) e
     ∙ (λ i. cond (p i && as_many-false m.parameters.value.items vs q i) (Some (m.parameters.value.items, trees_of m.body.value.items)) (method_in (methods_of others) verb (vals_of vs))))
+
+-- what is captured of the names that were found free
+pub captures_all : (p : Pattern) {xs ys : List Name} {ss ts : List Method} (a : At) → xs ≡ ys → ys ≡ captures p (methods_of ss) → ss ≡ ts → all_captured (captured []) xs a ≡ capture_of p (methods_of ts) a
+captures_all p a e f g = ap (λ zs. all_captured (captured []) zs a) (e ∙ f ∙ ap (λ ms. captures p (methods_of ms)) g)
 
 -- ---- the loops
 

@@ -9,4 +9,4 @@ use Rattle.turn.proofs.objects.method_nouns.Given as goal
 abbrev pub invariant-loop-i : goal.invariant-loop-i
 invariant-loop-i l =
     named_all (drop l.i l.parameters) (vals_of (drop l.i l.args)) (nouns_of l.nouns.items)
-    ≡ named_all l.parameters (vals_of l.args) (named l.object.own (object l.id) (nouns_of l.object.captured.value.items))
+    ≡ named_all l.parameters (vals_of l.args) (named l.object.own (object l.fn.id) (nouns_of l.object.captured.value.items))
