@@ -1,5 +1,6 @@
 -- On what objects capture, and on the names that a method begins with.
-use Rattle.std.proofs.Common.{◌≡◌, ℕ, ◌+◌, ◌<◌, ◌≤◌, List, [], ◌∷◌, ◌++◌, length, drop, get_or, Option, Some, None, Bool, true, false, ◌&&◌, cond, refl, sym, ap, ◌∙◌, suc, add-one, arith}
+use Rattle.std.proofs.Common.{◌≡◌, ℕ, ◌+◌, ◌<◌, ◌≤◌, List, [], ◌∷◌, ◌++◌, length, drop, get_or, Option, Some, None, Bool, true, false, ◌&&◌, cond, refl, sym, ap, ◌∙◌, subst, suc, add-one, arith}
+use Rattle.std.specs.Prelude.{Result, IfOk}
 use Rattle.std.proofs.Math.Seq.{drop-cons}
 use Rattle.std.proofs.lemmas.List.{drop_all}
 use Rattle.std.specs.Str.{bytes_eq}
@@ -16,7 +17,7 @@ use Rattle.turn.specs.State.{Bind, Nouns, Object, At}
 use Rattle.turn.specs.View.{bind_of, nouns_after}
 use Rattle.turn.specs.declared.heap.Noun.{Noun}
 use Rattle.turn.proofs.Patterns.{as_many-true, as_many-false}
-use Rattle.turn.specs.Rules.{sought, Capture, captured, missing, and_captured, all_captured, capture_of, named, named_all, method_in, as_many, next_object, has_object_room, object_made, placed, matched, given}
+use Rattle.turn.specs.Rules.{sought, Capture, captured, missing, and_captured, all_captured, capture_of, named, named_all, method_in, as_many, next_object, has_object_room, object_made, placed, with_object, matched, given}
 use Rattle.turn.proofs.Scopes.{room}
 
 -- behind a name that stands for nothing, nothing is captured
@@ -84,6 +85,10 @@ method_other rest others m verb vs e p q =
 -- what is captured of the names that were found free
 pub captures_all : (p : Pattern) {xs ys : List Name} {ss ts : List Method} (a : At) → xs ≡ ys → ys ≡ captures p (methods_of ss) → ss ≡ ts → all_captured (captured []) xs a ≡ capture_of p (methods_of ts) a
 captures_all p a e f g = ap (λ zs. all_captured (captured []) zs a) (e ∙ f ∙ ap (λ ms. captures p (methods_of ms)) g)
+
+-- what is made of what is captured
+pub object_by : {X E : Type 0} (r : Result X E) (p : Pattern) (ms : Methods) (c d : Capture) (a z : At) → c ≡ d → IfOk r (λ x. z ≡ with_object p ms c a) → IfOk r (λ x. z ≡ with_object p ms d a)
+object_by r p ms c d a z q h = subst (λ m. IfOk r (λ x. z ≡ with_object p ms m a)) q h
 
 -- ---- the loops
 

@@ -1,14 +1,16 @@
 use Rattle.std.proofs.Common.{drop, ◌+◌, ap, sym, ◌∙◌, arith}
-use Rattle.ids.specs.declared.names.ObjId.{ObjId}
 use Rattle.values.specs.Data.{object}
 use Rattle.values.specs.View.{vals_of}
 use Rattle.turn.specs.Rules.{named, named_all}
 use Rattle.turn.specs.View.{nouns_of}
 use Rattle.turn.proofs.Captures.{named_more, named_end}
+use Rattle.turn.proofs.Steps.{slice_of}
 use Rattle.turn.proofs.objects.method_nouns.Goals as goal
 
 pub loop-i-init : goal.loop-i-init
-loop-i-init c = ap (named_all c.args.parameters.now (vals_of c.args.args.now)) (c.in_ok-name_value.ensures ∙ ap (named c.args.object.now.own (object c.args.id)) c.in_ok-nouns.ensures)
+loop-i-init c =
+    ap (named_all c.args.parameters.now (vals_of c.args.args.now))
+    (c.in_ok-name_value.ensures ∙ ap (named c.args.object.now.own (object c.args.id)) (c.in_ok-nouns.ensures ∙ ap nouns_of (slice_of c.as_slice.ensures.value c.deref.ensures)))
 
 pub loop-i-preserved : goal.loop-i-preserved
 loop-i-preserved c =
