@@ -1,16 +1,16 @@
 -- On what objects capture, and on the names that a method begins with.
-use Rattle.std.proofs.Common.{◌≡◌, ℕ, ◌+◌, ◌<◌, ◌≤◌, List, [], ◌∷◌, ◌++◌, length, drop, get_or, Option, Some, None, Bool, true, false, ◌&&◌, cond, refl, sym, ap, ◌∙◌, subst, suc, add-one, arith}
+use Rattle.std.proofs.Common.{◌≡◌, ℕ, ◌+◌, ◌<◌, ◌≤◌, List, [], ◌∷◌, length, drop, get_or, Some, None, true, false, ◌&&◌, cond, refl, sym, ap, ◌∙◌, subst, suc, add-one}
 use Rattle.std.specs.Prelude.{Result, IfOk}
 use Rattle.std.proofs.Math.Seq.{drop-cons}
 use Rattle.std.proofs.lemmas.List.{drop_all}
 use Rattle.std.specs.Str.{bytes_eq}
-use Rattle.kernele.specs.Tree.{Name, Trees, Methods, and_method}
+use Rattle.kernele.specs.Tree.{Name, Methods}
 use Rattle.kernele.specs.Free.{captures}
 use Rattle.kernele.specs.View.{trees_of, methods_of}
 use Rattle.kernele.specs.declared.tree.Method.{Method}
 use Rattle.kernele.specs.declared.tree.Pattern.{Pattern}
 use Rattle.ids.specs.declared.names.ObjId.{ObjId}
-use Rattle.values.specs.Data.{Val, Vals, object}
+use Rattle.values.specs.Data.{Vals, object}
 use Rattle.values.specs.View.{val_of, vals_of}
 use Rattle.values.specs.declared.value.Value.{Value}
 use Rattle.turn.specs.State.{Bind, Nouns, Object, At}

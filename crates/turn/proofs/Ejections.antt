@@ -1,5 +1,5 @@
 -- A value on its way to an Escape leaves only what is evaluated inside that Escape.
-use Rattle.std.proofs.Common.{◌≡◌, ℕ, List, [], ◌∷◌, Bool, true, false, Option, Some, None, cond, refl, sym, ap, ◌∙◌, subst}
+use Rattle.std.proofs.Common.{◌≡◌, ℕ, List, ◌∷◌, Bool, true, false, Option, Some, None, cond, refl, sym, ◌∙◌, subst}
 use Rattle.std.specs.Prelude.{codes}
 use Rattle.std.specs.Str.{bytes_eq}
 use Rattle.ids.specs.declared.names.EjId.{EjId}
@@ -12,9 +12,9 @@ use Rattle.kernele.specs.declared.tree.Pattern.{Pattern}
 use Rattle.values.specs.Data.{Val, null, bool, int, text, list, object, ejector, broken, Vals, Reply, gives as gives_reply, throws}
 use Rattle.values.specs.Replies.{data_reply, list_reply, text_reply, text_in, items_in, no_method}
 use Rattle.turn.specs.State.{Bind, fixed, slot, Object, slot_cell, object_cell, Content, bound, held, made, State, read, At}
-use Rattle.turn.specs.Outcomes.{Halt, thrown, ejected, abandoned, End, value, halt, Gather, values, halted, reply_end}
+use Rattle.turn.specs.Outcomes.{thrown, ejected, abandoned, End, value, halt, Gather, values, halted, reply_end}
 use Rattle.turn.specs.Rules.{sought, sought_slot, held_end, noun_end, mismatch, Listing, listed, unlisted, listing_by, listing_of, taken, parts_of, parts_end, has_room, variable_end, declared_end, assigned_end, gather_first}
-use Rattle.turn.specs.Rules.{Capture, captured, missing, capture_of, has_object_room, placed_end, object_end, Target, gives, enters, method_in, no_such_method, method_target, object_target, same_ejector, is_open, ejects, given, ejection, ejector_end, Callee, on_object, on_ejector, on_datum, callee_of, callee_target, target_of, next_ejector, escape_end}
+use Rattle.turn.specs.Rules.{Capture, captured, missing, capture_of, has_object_room, placed_end, object_end, Target, gives, enters, method_in, no_such_method, method_target, object_target, same_ejector, is_open, ejects, given, ejection, Callee, on_object, on_ejector, on_datum, callee_of, callee_target, target_of, next_ejector, escape_end}
 use Rattle.turn.specs.Rules.{list_end, same_end, Choice, goes, ends, bool_in, choice_by, choice_of, thrown_by, thrown_end, entering, Ends, at_budget, at_depth, at_node, Runs, run_null, run_bool, run_int, run_text, run_noun, run_define, run_variable, run_assign, run_call_receiver, run_call_gives, run_call_enters, run_list, run_same_left, run_same, run_define_list, run_hide, run_throw, run_if_goes, run_if_ends, run_while_again, run_while_halts, run_while_done, run_while_ends, run_for, run_for_ends, run_try, run_try_caught, run_object, run_escape, Args, args_none, args_next, args_halt, Items, items_none, items_next, items_halt, Block, in_block, Taking, in_taking, Each, each_none, each_next, each_halt}
 use Rattle.turn.proofs.Opened.{ends_opened, args_opened, block_opened, taking_opened, matched_opened}
 use Rattle.turn.specs.Turn.{start}

@@ -9,7 +9,7 @@ use Rattle.kernele.specs.declared.tree.Pattern.TheVariants as pattern
 use Rattle.values.specs.Data.{Val, null, ejector}
 use Rattle.turn.specs.State.{Nouns, At}
 use Rattle.turn.specs.Outcomes.{End, value, Gather}
-use Rattle.turn.specs.Rules.{inside, leaving, Target, gives, enters, target_of, next_ejector, escaping, escaped, escape_end, Ends, Runs, run_call_gives, run_call_enters, run_escape, Args, Items, Taking}
+use Rattle.turn.specs.Rules.{inside, leaving, enters, target_of, next_ejector, escaping, escape_end, Ends, Runs, run_call_enters, run_escape, Args, Items, Taking}
 use Rattle.turn.specs.View.{at, nouns_of, opened_of}
 use Rattle.turn.specs.declared.heap.Noun.{Noun}
 use Rattle.turn.specs.declared.working.Working.{Working}
@@ -34,9 +34,9 @@ pub escape_over : {k : ℕ} {ts : Trees} {o p : End} (x : Name) (xs : List Expr)
     → Taking (k + 1) q (ejector j) (trees_of xs) b o (at u) → z ≡ record (at u) { opened = opened_of (take n u.opened.items) } → p ≡ escape_end j o → Runs k (escape_tree x ts) (at w) p z
 escape_over {k = k} {ts = ts} {o = o} x xs w u {q = q} {j = j} {b = b} {z = z} {n = n} l e f g s r h m =
     let taken : Taking (k + 1) (pattern.Name x) (ejector (next_ejector (at w))) ts (escaping (at w)) o (at u) =
-        subst (λ ts. Taking (k + 1) (pattern.Name x) (ejector (next_ejector (at w))) ts (escaping (at w)) o (at u)) s
-        (subst (λ q. Taking (k + 1) q (ejector (next_ejector (at w))) (trees_of xs) (escaping (at w)) o (at u)) g
-        (subst (λ b. Taking (k + 1) q (ejector (next_ejector (at w))) (trees_of xs) b o (at u)) f
-        (subst (λ j. Taking (k + 1) q (ejector j) (trees_of xs) b o (at u)) e r))) in
+    subst (λ ts. Taking (k + 1) (pattern.Name x) (ejector (next_ejector (at w))) ts (escaping (at w)) o (at u)) s
+    (subst (λ q. Taking (k + 1) q (ejector (next_ejector (at w))) (trees_of xs) (escaping (at w)) o (at u)) g
+    (subst (λ b. Taking (k + 1) q (ejector (next_ejector (at w))) (trees_of xs) b o (at u)) f
+    (subst (λ j. Taking (k + 1) q (ejector j) (trees_of xs) b o (at u)) e r))) in
     subst (λ p. Runs k (escape_tree x ts) (at w) p z) (sym (m ∙ ap (λ j. escape_end j o) e))
     (subst (λ z. Runs k (escape_tree x ts) (at w) (escape_end (next_ejector (at w)) o) z) (sym (h ∙ ap (λ is. record (at u) { opened = is }) (opened_truncated w.opened.items u.opened.items n (next_ejector (at w)) l (taking_opened taken)))) (run_escape taken))

@@ -14,7 +14,7 @@ use Rattle.turn.specs.Rules.{Listing, listed, unlisted, parts_of, parts_bound, p
 use Rattle.turn.specs.Turn.{Delivery, Outcome, settled, kept, Delivers, opens, asks}
 use Rattle.turn.proofs.Captures.{missing_stays}
 use Rattle.turn.proofs.Patterns.{matched_moved, matched_kept, all_moved, all_kept}
-use Rattle.turn.specs.Touched.{Touch, got, put, sought_touched, read_touched, set_touched, noun_touched, assigned_touched, bound_touched, matched_touched, defined_touched, all_touched, parts_touched, variable_touched, declared_touched, capture_touched, placed_touched, with_object_touched, object_touched, callee_touched, called_touched, ends_touched, runs_touched, args_touched, items_touched, block_touched, taking_touched, each_touched, delivery_touched, Agree, in_state}
+use Rattle.turn.specs.Touched.{Touch, got, put, sought_touched, read_touched, set_touched, noun_touched, assigned_touched, bound_touched, defined_touched, all_touched, parts_touched, variable_touched, declared_touched, capture_touched, placed_touched, with_object_touched, object_touched, callee_touched, called_touched, ends_touched, runs_touched, args_touched, items_touched, block_touched, taking_touched, each_touched, delivery_touched, Agree, in_state}
 
 -- the same evaluation from the state t in place of s: where it ends, its derivation, its cells, and that it keeps what agrees
 pub record Framed (D : State → Type 0) (touch : (u : State) → D u → List Touch) (s s' t : State) (ls : List Touch) : Type 0 where

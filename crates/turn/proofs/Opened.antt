@@ -1,23 +1,15 @@
 -- Escapes: behind a tree as many are begun as before it, and only they are ended.
-use Rattle.std.proofs.Common.{◌≡◌, ℕ, List, [], ◌∷◌, Bool, true, false, Option, Some, None, cond, refl, sym, ap, ◌∙◌, subst}
-use Rattle.std.specs.Prelude.{codes}
-use Rattle.std.specs.Str.{bytes_eq}
-use Rattle.ids.specs.declared.names.EjId.{EjId}
-use Rattle.ids.specs.declared.names.EventName.{EventName}
-use Rattle.ids.specs.declared.names.VatNo.{VatNo}
-use Rattle.ids.specs.declared.names.ObjId.{ObjId}
+use Rattle.std.proofs.Common.{◌≡◌, ℕ, List, [], ◌∷◌, Bool, true, false, Option, Some, None, refl, ◌∙◌}
 use Rattle.ids.specs.declared.names.SlotId.{SlotId}
 use Rattle.kernele.specs.Tree.{Name, Tree, Trees, Methods}
 use Rattle.kernele.specs.declared.tree.Pattern.{Pattern}
 use Rattle.kernele.specs.declared.tree.Pattern.TheVariants as pattern
-use Rattle.values.specs.Data.{Val, null, bool, int, text, list, object, ejector, broken, Vals, no_vals, and_val, Reply, gives as gives_reply, throws}
-use Rattle.values.specs.Replies.{data_reply, list_reply, text_reply, text_in, items_in, no_method}
-use Rattle.turn.specs.State.{Bind, fixed, slot, Object, slot_cell, Content, bound, held, made, State, read, At}
-use Rattle.turn.specs.Outcomes.{Halt, thrown, ejected, abandoned, End, value, halt, Gather, values, halted, reply_end}
-use Rattle.turn.specs.Rules.{sought, sought_slot, held_end, noun_end, bound_in, matched, matched_all, defined, mismatch, Listing, listed, unlisted, listing_by, listing_of, taken, parts_of, parts_bound, parts_end, next_slot, has_room, slot_made, variable_made, variable_end, declared, declared_end, assigned, assigned_end}
-use Rattle.turn.specs.Rules.{Capture, captured, missing, capture_of, next_object, has_object_room, object_made, placed, placed_end, with_object, object_end, Target, gives, enters, method_in, no_such_method, method_target, object_target, same_ejector, is_open, ejects, given, ejection, ejector_end, Callee, on_object, on_ejector, on_datum, callee_of, callee_target, target_of, next_ejector, escape_end}
-use Rattle.turn.specs.Rules.{list_end, same_end, Choice, goes, ends, bool_in, choice_by, choice_of, thrown_by, thrown_end, caught, entering, Ends, at_budget, at_depth, at_node, Runs, run_null, run_bool, run_int, run_text, run_noun, run_define, run_variable, run_assign, run_call_receiver, run_call_gives, run_call_enters, run_list, run_same_left, run_same, run_define_list, run_hide, run_throw, run_if_goes, run_if_ends, run_while_again, run_while_halts, run_while_done, run_while_ends, run_for, run_for_ends, run_try, run_try_caught, run_object, run_escape, Args, args_none, args_next, args_halt, Items, items_none, items_next, items_halt, Block, in_block, Taking, in_taking, Each, each_none, each_next, each_halt}
-use Rattle.turn.specs.Turn.{start}
+use Rattle.values.specs.Data.{Val, object, Vals, no_vals, and_val}
+use Rattle.turn.specs.State.{Bind, fixed, slot, Object, At}
+use Rattle.turn.specs.Outcomes.{End, value, halt, Gather}
+use Rattle.turn.specs.Rules.{sought_slot, bound_in, matched, matched_all, defined, Listing, listed, unlisted, parts_of, parts_bound, next_slot, has_room, slot_made, variable_made, declared, assigned}
+use Rattle.turn.specs.Rules.{Capture, captured, missing, capture_of, next_object, has_object_room, object_made, placed, with_object}
+use Rattle.turn.specs.Rules.{entering, Ends, at_budget, at_depth, at_node, Runs, run_null, run_bool, run_int, run_text, run_noun, run_define, run_variable, run_assign, run_call_receiver, run_call_gives, run_call_enters, run_list, run_same_left, run_same, run_define_list, run_hide, run_throw, run_if_goes, run_if_ends, run_while_again, run_while_halts, run_while_done, run_while_ends, run_for, run_for_ends, run_try, run_try_caught, run_object, run_escape, Args, args_none, args_next, args_halt, Items, items_none, items_next, items_halt, Block, in_block, Taking, in_taking, Each, each_none, each_next, each_halt}
 
 bound_opened : (own : Bool) (x : Name) (b : Bind) (a : At) → (bound_in own x b a).opened ≡ a.opened
 bound_opened true x b a = refl

@@ -50,7 +50,7 @@ pub fn define_object(
         ≡ object_end (capture_of pattern.now (methods_of methods.now.value.items) (at w.old)) (at w.old)) }
     ensures makes { IfOk result (λ o. at w.new
         ≡ with_object pattern.now (methods_of methods.now.value.items)
-            (capture_of pattern.now (methods_of methods.now.value.items) (at w.old)) (at w.old)) }
+        (capture_of pattern.now (methods_of methods.now.value.items) (at w.old)) (at w.old)) }
 {
     let names = captured_names(w.alloc, pattern, methods.as_slice())?;
     let capture = capture_all(w, names.as_slice())?;
@@ -145,7 +145,7 @@ fn method_target(
 ) -> Result<Target, AllocError>
     ensures { IfOk result (λ t. target_view t
         ≡ method_target_of id (object_of object.now) verb.now (vals_of args.now)
-            (method_in (methods_of object.now.methods.value.items) verb.now (vals_of args.now))) }
+        (method_in (methods_of object.now.methods.value.items) verb.now (vals_of args.now))) }
 {
     match find_method(object.methods.as_slice(), verb, args) {
         Some(method) => {

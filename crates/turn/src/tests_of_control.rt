@@ -68,7 +68,11 @@ fn one_or_two(alloc: Global, condition: Expr) -> Result<Expr, AllocError> {
     )
 }
 
-pub(crate) fn while_true(alloc: Global, condition: Expr, body: Vec<Expr>) -> Result<Expr, AllocError> {
+pub(crate) fn while_true(
+    alloc: Global,
+    condition: Expr,
+    body: Vec<Expr>,
+) -> Result<Expr, AllocError> {
     Ok(Expr::While(Arc::new(alloc, condition)?, Arc::new(alloc, body)?))
 }
 
@@ -143,13 +147,23 @@ fn has_problem(outcome: &Outcome, problem: &str) -> bool {
 }
 
 /// A new vat answers the program with this value, in just so many steps.
-pub(crate) fn gives(alloc: Global, items: Vec<Expr>, value: &Value, steps: u32) -> Result<bool, AllocError> {
+pub(crate) fn gives(
+    alloc: Global,
+    items: Vec<Expr>,
+    value: &Value,
+    steps: u32,
+) -> Result<bool, AllocError> {
     let outcome = answered(alloc, items, steps)?;
     Ok(has_value(&outcome, value) && outcome.steps == 0)
 }
 
 /// A new vat answers the program with this problem, in just so many steps.
-pub(crate) fn throws(alloc: Global, items: Vec<Expr>, problem: &str, steps: u32) -> Result<bool, AllocError> {
+pub(crate) fn throws(
+    alloc: Global,
+    items: Vec<Expr>,
+    problem: &str,
+    steps: u32,
+) -> Result<bool, AllocError> {
     let outcome = answered(alloc, items, steps)?;
     Ok(has_problem(&outcome, problem) && outcome.steps == 0)
 }

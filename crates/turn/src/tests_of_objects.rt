@@ -276,18 +276,18 @@ fn too_many_objects(rt: HostRuntime) -> Result<(), Fail> {
 
 /// `if (x == 0) { 0 } else { f.run(x - 1) }`.
 fn counting_down(alloc: Global) -> Result<Expr, AllocError> {
-    let less = send(alloc, noun(alloc, "x")?, "subtract", one(alloc, Expr::Int(1))?)?;
+    let less = send(
+        alloc,
+        noun(alloc, "x")?,
+        "subtract",
+        one(alloc, Expr::Int(1))?,
+    )?;
     let again = send(alloc, noun(alloc, "f")?, "run", one(alloc, less)?)?;
     let done = is_same(alloc, noun(alloc, "x")?, Expr::Int(0))?;
     choose(alloc, done, Expr::Int(0), again)
 }
 
-fn choose(
-    alloc: Global,
-    condition: Expr,
-    first: Expr,
-    second: Expr,
-) -> Result<Expr, AllocError> {
+fn choose(alloc: Global, condition: Expr, first: Expr, second: Expr) -> Result<Expr, AllocError> {
     Ok(Expr::If(
         Arc::new(alloc, condition)?,
         Arc::new(alloc, one(alloc, first)?)?,
@@ -430,7 +430,12 @@ fn a_method_returns(rt: HostRuntime) -> Result<(), Fail> {
 #[test]
 fn a_captured_ejector_ends_its_escape(rt: HostRuntime) -> Result<(), Fail> {
     let alloc = rt.alloc();
-    let ejecting = send(alloc, noun(alloc, "e")?, "run", one(alloc, noun(alloc, "x")?)?)?;
+    let ejecting = send(
+        alloc,
+        noun(alloc, "e")?,
+        "run",
+        one(alloc, noun(alloc, "x")?)?,
+    )?;
     let mut body = two(alloc, define_f(alloc, ejecting)?, run_with(alloc, "f", 6)?)?;
     body.push(Expr::Int(2))?;
     let items = one(alloc, escape(alloc, "e", body)?)?;

@@ -9,6 +9,6 @@ returns-then-args-len-clause-found c = method_here _ _ _ _ _ c.in-Some.ensures.c
 pub loop-method-preserved : goal.loop-method-preserved
 loop-method-preserved c =
     elim c.else-eq.branch [
-      else-eq-via-then-eq+else-args-len w ↦ method_other _ _ _ _ _ c.in-Some.ensures.cases.0 (search rules) (search rules) ∙ c.loop-method.invariant
-    | else-eq-via-else-eq w ↦ method_not _ _ _ _ c.args.args.now c.in-Some.ensures.cases.0 (search rules) ∙ c.loop-method.invariant
+      | else-eq-via-then-eq+else-args-len w ↦ method_other _ _ _ _ _ c.in-Some.ensures.cases.0 (search rules) (search rules) ∙ c.loop-method.invariant
+      | else-eq-via-else-eq w ↦ method_not _ _ _ _ c.args.args.now c.in-Some.ensures.cases.0 (search rules) ∙ c.loop-method.invariant
     ]
