@@ -83,5 +83,5 @@ pub(crate) fn eval_escape(
     let pattern = Pattern::Name(name.share()?);
     let ended = eval_taking(w, &pattern, &Value::Ejector(ejector), body, level + 1)?;
     close_escape(w, outer);
-    Ok(escape_end(ejector, ended))
+    escape_end(ejector, ended)
 }
