@@ -102,7 +102,7 @@ calling::eval_method-returns t c = entered (ap trees_of (slice_of c.deref-2.ensu
 pub calling::eval_escape-returns : goal.calling::eval_escape-returns
 calling::eval_escape-returns t c =
     IfOk-weaker c.escape_end.result _ _ (λ o h. escape_over c.args.name.now _ c.args.w.now c.eval_taking.new.w c.count_open-outer.ensures c.in_ok-ejector.ensures.named c.in_ok-ejector.ensures.place (ap pattern.Name c.in_ok-share.ensures)
-      (ap trees_of (slice_of c.deref-2.ensures.value c.deref.ensures)) c.in_ok-ended.ensures c.close_escape.ensures h) c.escape_end.ensures
+    (ap trees_of (slice_of c.deref-2.ensures.value c.deref.ensures)) c.in_ok-ended.ensures c.close_escape.ensures h) c.escape_end.ensures
 
 pub eval::eval-returns-in-Object : goal.eval::eval-returns-in-Object
 eval::eval-returns-in-Object t c = if_both _ _ _ _ (λ o h g. node _ {a = at c.args.w.now} (ap tree_of c.in-Object.is ∙ tree_of-Object c.in-Object.pattern c.in-Object.methods) (runs_to run_object h g) (omega arith) c.if-level-gt-DEEPEST.false) c.define_object.ensures.ends c.define_object.ensures.makes
