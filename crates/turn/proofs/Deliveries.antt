@@ -2,6 +2,7 @@
 use Rattle.std.proofs.Common.{◌≡◌, ℕ, Bool, true, false, List, [], subst, sym, ap, ◌∙◌, ◌⊎◌, inl, inr}
 use Rattle.ids.specs.declared.names.EventName.{EventName}
 use Rattle.ids.specs.declared.names.VatNo.{VatNo}
+use Rattle.ids.specs.declared.names.EjId.{EjId}
 use Rattle.kernele.specs.Tree.{Name, Trees}
 use Rattle.values.specs.Data.{Val, null}
 use Rattle.turn.specs.State.{State, At}
@@ -10,7 +11,7 @@ use Rattle.turn.specs.Rules.{Items}
 use Rattle.turn.specs.Turn.{opening, asked, Delivers, opens, asks, Outcome, outcome, settled, start, kept}
 use Rattle.kernele.specs.View.{program_of}
 use Rattle.kernele.specs.declared.tree.Program.{Program}
-use Rattle.turn.specs.View.{delivery_of, ended_of, outcome_of, nouns_of}
+use Rattle.turn.specs.View.{delivery_of, ended_of, outcome_of, nouns_of, opened_of}
 use Rattle.turn.specs.declared.delivery.Ended.{Ended}
 use Rattle.turn.specs.declared.delivery.Ended.TheVariants as ended
 use Rattle.turn.specs.declared.end.Abandon.{Abandon}
@@ -25,11 +26,12 @@ abbrev pub Completes : Trees → Bool → EventName → VatNo → State → ℕ 
 Completes ts own e v s n r = (o : End) × (b : At) × Items 1 null ts (start own e v s n) o b × (r ≡ outcome s (settled o) b)
 
 -- a program's items, begun where the program stands
-pub program_items : {us ts : Trees} {ns : List Noun} {own : Bool} {e : EventName} {v : VatNo} {s t : State} {n : ℕ} {o : End} {b : At} → us ≡ ts → ns ≡ [] → s ≡ t → Items 1 null us (record { nouns = nouns_of ns; own_scope = own; state = s; left = n; event = e; vat = v; slots = 0 }) o b → Items 1 null ts (start own e v t n) o b
-program_items {us = us} {ns = ns} {own = own} {e = e} {v = v} {t = t} {n = n} {o = o} {b = b} p q r h =
+pub program_items : {us ts : Trees} {ns : List Noun} {js : List EjId} {own : Bool} {e : EventName} {v : VatNo} {s t : State} {n : ℕ} {o : End} {b : At} → us ≡ ts → ns ≡ [] → js ≡ [] → s ≡ t → Items 1 null us (record { nouns = nouns_of ns; own_scope = own; state = s; left = n; event = e; vat = v; slots = 0; objects = 0; ejectors = 0; opened = opened_of js }) o b → Items 1 null ts (start own e v t n) o b
+program_items {us = us} {ns = ns} {js = js} {own = own} {e = e} {v = v} {t = t} {n = n} {o = o} {b = b} p q z r h =
     subst (λ ts. Items 1 null ts (start own e v t n) o b) p
-    (subst (λ ms. Items 1 null us (record { nouns = nouns_of ms; own_scope = own; state = t; left = n; event = e; vat = v; slots = 0 }) o b) q
-    (subst (λ u. Items 1 null us (record { nouns = nouns_of ns; own_scope = own; state = u; left = n; event = e; vat = v; slots = 0 }) o b) r h))
+    (subst (λ ks. Items 1 null us (record { nouns = []; own_scope = own; state = t; left = n; event = e; vat = v; slots = 0; objects = 0; ejectors = 0; opened = opened_of ks }) o b) z
+    (subst (λ ms. Items 1 null us (record { nouns = nouns_of ms; own_scope = own; state = t; left = n; event = e; vat = v; slots = 0; objects = 0; ejectors = 0; opened = opened_of js }) o b) q
+    (subst (λ u. Items 1 null us (record { nouns = nouns_of ns; own_scope = own; state = u; left = n; event = e; vat = v; slots = 0; objects = 0; ejectors = 0; opened = opened_of js }) o b) r h)))
 
 pub opened : {d : code.Delivery} {p : Program} {e : EventName} {v : VatNo} {s : State} {n : ℕ} (r : code-outcome.Outcome) → d ≡ delivery.Opening p → Completes (program_of p) true e v s n (outcome_of r) → Delivers (delivery_of d) e v s n (outcome_of r)
 opened {p = p} {e = e} {v = v} {s = s} {n = n} r q h = subst (λ x. Delivers (delivery_of x) e v s n (outcome_of r)) (sym q) (subst (λ m. Delivers (opening (program_of p)) e v s n m) (sym h.3) (opens h.2))

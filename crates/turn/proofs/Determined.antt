@@ -1,13 +1,13 @@
 -- At most one outcome.
-use Rattle.std.proofs.Common.{◌≡◌, ℕ, Option, Some, None, Bool, true, false, refl, sym, ap, ◌∙◌, subst, arith}
+use Rattle.std.proofs.Common.{◌≡◌, ℕ, [], Option, Some, None, Bool, true, false, refl, sym, ap, ◌∙◌, subst, arith}
 use Rattle.ids.specs.declared.names.EventName.{EventName}
 use Rattle.ids.specs.declared.names.VatNo.{VatNo}
-use Rattle.kernele.specs.Tree.{Name, Tree, Trees}
+use Rattle.kernele.specs.Tree.{Name, Tree, Trees, none}
 use Rattle.kernele.specs.declared.tree.Pattern.{Pattern}
-use Rattle.values.specs.Data.{Val, text, Vals, no_vals}
-use Rattle.turn.specs.State.{At, State}
+use Rattle.values.specs.Data.{Val, null, text, Vals, no_vals}
+use Rattle.turn.specs.State.{Nouns, At, State}
 use Rattle.turn.specs.Outcomes.{Halt, End, value, halt, Gather, values, halted}
-use Rattle.turn.specs.Rules.{Listing, listed, unlisted, listing_of, parts_of, parts_bound, parts_end, Choice, goes, ends, choice_of, chosen, thrown_end, caught, leaving, again, sought_slot, defined, declared, declared_end, assigned, assigned_end, call_end, list_end, same_end, gather_first, Ends, at_budget, at_depth, at_node, Runs, run_null, run_bool, run_int, run_text, run_noun, run_define, run_variable, run_assign, run_call_receiver, run_call, run_list, run_same_left, run_same, run_define_list, run_hide, run_throw, run_if_goes, run_if_ends, run_while_again, run_while_halts, run_while_done, run_while_ends, run_for, run_for_ends, run_try, run_try_caught, Args, args_none, args_next, args_halt, Items, items_none, items_next, items_halt, Block, in_block, Taking, in_taking, Each, each_none, each_next, each_halt}
+use Rattle.turn.specs.Rules.{Listing, listed, unlisted, listing_of, parts_of, parts_bound, parts_end, Choice, goes, ends, choice_of, chosen, thrown_end, caught, leaving, again, sought_slot, defined, declared, declared_end, assigned, assigned_end, Target, gives, enters, target_of, inside, next_ejector, escaped, escape_end, list_end, same_end, gather_first, Ends, at_budget, at_depth, at_node, Runs, run_null, run_bool, run_int, run_text, run_noun, run_define, run_variable, run_assign, run_call_receiver, run_call_gives, run_call_enters, run_list, run_same_left, run_same, run_define_list, run_hide, run_throw, run_if_goes, run_if_ends, run_while_again, run_while_halts, run_while_done, run_while_ends, run_for, run_for_ends, run_try, run_try_caught, run_object, run_escape, Args, args_none, args_next, args_halt, Items, items_none, items_next, items_halt, Block, in_block, Taking, in_taking, Each, each_none, each_next, each_halt}
 use Rattle.turn.specs.Turn.{Delivery, Outcome, outcome, settled, Delivers, opens, asks}
 
 -- the same end, at the same place
@@ -97,6 +97,37 @@ some_same : {x y : Name} → Some x ≡ Some y → x ≡ y
 unfolding some_in
 some_same {x = x} e = ap (some_in x) e
 
+gives_enters : {o : End} {ns : Nouns} {body : Trees} → gives o ≡ enters ns body → ⊥
+gives_enters e = cc
+
+given_in : End → Target → End
+given_in o (gives p) = p
+given_in o (enters ns body) = o
+
+gives_same : {o p : End} → gives o ≡ gives p → o ≡ p
+unfolding given_in
+gives_same {o = o} e = ap (given_in o) e
+
+names_in : Target → Nouns
+names_in (gives o) = []
+names_in (enters ns body) = ns
+
+names_same : {ns ms : Nouns} {bs cs : Trees} → enters ns bs ≡ enters ms cs → ns ≡ ms
+unfolding names_in
+names_same e = ap names_in e
+
+body_in : Target → Trees
+body_in (gives o) = none
+body_in (enters ns body) = body
+
+bodies_same : {ns ms : Nouns} {bs cs : Trees} → enters ns bs ≡ enters ms cs → bs ≡ cs
+unfolding body_in
+bodies_same e = ap body_in e
+
+-- what calls lead to that are the same
+targets_meet : (verb : Name) {v w : Val} {g h : Gather} {b c : At} {x y : Target} → v ≡ w → Same g h b c → target_of v verb g b ≡ x → target_of w verb h c ≡ y → x ≡ y
+targets_meet verb p z e f = sym e ∙ (λ i. target_of (p i) verb (z.end i) (z.place i)) ∙ f
+
 -- what one function gives of two ends that are the same
 meet : {A : Type 0} {o p : End} {b c : At} {x y : A} (f : End → A) → Same o p b c → f o ≡ x → f p ≡ y → x ≡ y
 meet f t e g = sym e ∙ ap f t.end ∙ g
@@ -110,6 +141,11 @@ args_at {k = k} {ts = ts} {d = d} {g = g} q r = subst (λ x. Args k ts x g d) (s
 
 items_at : {k : ℕ} {v w : Val} {ts : Trees} {a b d : At} {o : End} → v ≡ w → a ≡ b → Items k w ts b o d → Items k v ts a o d
 items_at {k = k} {w = w} {ts = ts} {a = a} {d = d} {o = o} p q r = subst (λ v. Items k v ts a o d) (sym p) (subst (λ x. Items k w ts x o d) (sym q) r)
+
+method_at : {k : ℕ} {ns ms : Nouns} {bs cs : Trees} {a b d : At} {o : End} → enters ns bs ≡ enters ms cs → a ≡ b → Items k null cs (inside ms b) o d → Items k null bs (inside ns a) o d
+method_at {k = k} {ns = ns} {cs = cs} {a = a} {d = d} {o = o} p q r =
+    subst (λ ts. Items k null ts (inside ns a) o d) (sym (bodies_same p))
+    (subst (λ x. Items k null cs x o d) (λ i. inside (sym (names_same p) i) (sym q i)) r)
 
 runs_at : {k : ℕ} {t : Tree} {a b d : At} {o : End} → a ≡ b → Runs k t b o d → Runs k t a o d
 runs_at {k = k} {t = t} {d = d} {o = o} q r = subst (λ x. Runs k t x o d) (sym q) r
@@ -145,9 +181,21 @@ mutual
   runs_same (run_variable {x = x} r) (run_variable s) = along (λ o b. declared_end o b) (λ o b. declared x o b) (ends_same r s)
   runs_same (run_assign {x = x} r) (run_assign s) = along (λ o b. assigned_end x o (sought_slot x b)) (λ o b. assigned o (sought_slot x b) b) (ends_same r s)
   runs_same (run_call_receiver r) (run_call_receiver s) = ends_same r s
-  runs_same (run_call_receiver r) (run_call s u) = absurd (value_halt (sym (ends_same r s).end))
-  runs_same (run_call r q) (run_call_receiver s) = absurd (value_halt (ends_same r s).end)
-  runs_same (run_call {verb = verb} r q) (run_call s u) = let t = ends_same r s in with_value (λ v g. call_end v verb g) (value_same t.end) (args_same q (args_at t.place u))
+  runs_same (run_call_receiver r) (run_call_gives s u f) = absurd (value_halt (sym (ends_same r s).end))
+  runs_same (run_call_receiver r) (run_call_enters s u f w) = absurd (value_halt (sym (ends_same r s).end))
+  runs_same (run_call_gives r q e) (run_call_receiver s) = absurd (value_halt (ends_same r s).end)
+  runs_same (run_call_gives {verb = verb} r q e) (run_call_gives s u f) =
+      let t = ends_same r s in
+      let z = args_same q (args_at t.place u) in
+      record { end = gives_same (targets_meet verb (value_same t.end) z e f); place = z.place }
+  runs_same (run_call_gives {verb = verb} r q e) (run_call_enters s u f w) = let t = ends_same r s in absurd (gives_enters (targets_meet verb (value_same t.end) (args_same q (args_at t.place u)) e f))
+  runs_same (run_call_enters r q e v) (run_call_receiver s) = absurd (value_halt (ends_same r s).end)
+  runs_same (run_call_enters {verb = verb} r q e v) (run_call_gives s u f) = let t = ends_same r s in absurd (gives_enters (sym (targets_meet verb (value_same t.end) (args_same q (args_at t.place u)) e f)))
+  runs_same (run_call_enters {verb = verb} r q e v) (run_call_enters s u f w) =
+      let t = ends_same r s in
+      let z = args_same q (args_at t.place u) in
+      let y = items_same v (method_at (targets_meet verb (value_same t.end) z e f) z.place w) in
+      record { end = y.end; place = λ i. leaving (z.place i) (y.place i) }
   runs_same (run_list r) (run_list s) = along (λ g b. list_end g) (λ g b. b) (args_same r s)
   runs_same (run_same_left r) (run_same_left s) = ends_same r s
   runs_same (run_same_left r) (run_same s u) = absurd (value_halt (sym (ends_same r s).end))
@@ -184,6 +232,8 @@ mutual
   runs_same (run_try q e) (run_try_caught u f w) = absurd (none_some (meet caught (block_same q u) e f))
   runs_same (run_try_caught q e v) (run_try u f) = absurd (none_some (sym (meet caught (block_same q u) e f)))
   runs_same (run_try_caught q e v) (run_try_caught u f w) = let t = block_same q u in taking_same v (taking_at (ap text (some_same (meet caught t e f))) t.place w)
+  runs_same run_object run_object = alike
+  runs_same {a = a} (run_escape q) (run_escape u) = along (λ o b. escape_end (next_ejector a) o) (λ o b. escaped a b) (taking_same q u)
 
   pub args_same : {k : ℕ} {ts : Trees} {a b c : At} {g h : Gather} → Args k ts a g b → Args k ts a h c → Same g h b c
   args_same args_none args_none = alike

@@ -3,16 +3,18 @@ use Rattle.std.proofs.Common.{◌≡◌, ℕ, ◌+◌, List, [], ◌∷◌, ◌+
 use Rattle.ids.specs.declared.names.EventName.{EventName}
 use Rattle.ids.specs.declared.names.VatNo.{VatNo}
 use Rattle.ids.specs.declared.names.SlotId.{SlotId}
-use Rattle.kernele.specs.Tree.{Name, Tree, Trees, noun, define, variable, assign, define_list}
+use Rattle.kernele.specs.Tree.{Name, Tree, Trees, noun, define, variable, assign, define_list, object_tree, Methods}
+use Rattle.kernele.specs.Free.{captures}
 use Rattle.kernele.specs.declared.tree.Pattern.{Pattern}
 use Rattle.kernele.specs.declared.tree.Pattern.TheVariants as pattern
-use Rattle.values.specs.Data.{Val, Vals}
-use Rattle.turn.specs.State.{Bind, fixed, slot, lookup, Cell, top, slot_cell, Content, bound, held, same_cell, State, write, At}
-use Rattle.turn.specs.Outcomes.{End, value, halt, Gather, thrown, abandoned}
-use Rattle.turn.specs.Rules.{Listing, listed, unlisted, parts_of, parts_bound, parts_end, matched_all, top_bind, found, sought, slot_in, sought_slot, held_end, noun_end, bound_in, defined, next_slot, has_room, slot_made, made, made_end, declared, declared_end, assigned, assigned_end, Ends, at_budget, at_depth, at_node, Runs, run_null, run_bool, run_int, run_text, run_noun, run_define, run_variable, run_assign, run_call_receiver, run_call, run_list, run_same_left, run_same, run_define_list, run_hide, run_throw, run_if_goes, run_if_ends, run_while_again, run_while_halts, run_while_done, run_while_ends, run_for, run_for_ends, run_try, run_try_caught, Args, args_none, args_next, args_halt, Items, items_none, items_next, items_halt, Block, in_block, Taking, in_taking, Each, each_none, each_next, each_halt}
+use Rattle.values.specs.Data.{Val, object, Vals}
+use Rattle.turn.specs.State.{Bind, fixed, slot, lookup, Object, Cell, top, slot_cell, object_cell, Content, bound, held, made, same_cell, State, write, At}
+use Rattle.turn.specs.Outcomes.{End, value, halt, Gather, values, halted, thrown, ejected, abandoned}
+use Rattle.turn.specs.Rules.{Listing, listed, unlisted, parts_of, parts_bound, parts_end, matched_all, top_bind, found, sought, slot_in, sought_slot, held_end, noun_end, bound_in, defined, next_slot, has_room, slot_made, variable_made, variable_end, declared, declared_end, assigned, assigned_end, matched, Capture, captured, missing, and_captured, all_captured, capture_of, next_object, has_object_room, object_made, placed, placed_end, with_object, object_end, Callee, on_object, on_ejector, on_datum, callee_of, callee_target, object_target, target_of, Ends, at_budget, at_depth, at_node, Runs, run_null, run_bool, run_int, run_text, run_noun, run_define, run_variable, run_assign, run_call_receiver, run_call_gives, run_call_enters, run_list, run_same_left, run_same, run_define_list, run_hide, run_throw, run_if_goes, run_if_ends, run_while_again, run_while_halts, run_while_done, run_while_ends, run_for, run_for_ends, run_try, run_try_caught, run_object, run_escape, Args, args_none, args_next, args_halt, Items, items_none, items_next, items_halt, Block, in_block, Taking, in_taking, Each, each_none, each_next, each_halt}
 use Rattle.turn.specs.Turn.{Delivery, Outcome, settled, kept, Delivers, opens, asks}
-use Rattle.turn.proofs.Patterns.{all_moved, all_kept}
-use Rattle.turn.specs.Touched.{Touch, got, put, sought_touched, read_touched, set_touched, noun_touched, assigned_touched, bound_touched, defined_touched, all_touched, parts_touched, made_touched, declared_touched, ends_touched, runs_touched, args_touched, items_touched, block_touched, taking_touched, each_touched, delivery_touched, Agree, in_state}
+use Rattle.turn.proofs.Captures.{missing_stays}
+use Rattle.turn.proofs.Patterns.{matched_moved, matched_kept, all_moved, all_kept}
+use Rattle.turn.specs.Touched.{Touch, got, put, sought_touched, read_touched, set_touched, noun_touched, assigned_touched, bound_touched, defined_touched, all_touched, parts_touched, variable_touched, declared_touched, capture_touched, placed_touched, with_object_touched, object_touched, callee_touched, called_touched, ends_touched, runs_touched, args_touched, items_touched, block_touched, taking_touched, each_touched, delivery_touched, Agree, in_state}
 
 -- the same evaluation from the state t in place of s: where it ends, its derivation, its cells, and that it keeps what agrees
 pub record Framed (D : State → Type 0) (touch : (u : State) → D u → List Touch) (s s' t : State) (ls : List Touch) : Type 0 where
@@ -109,10 +111,10 @@ slot_case false k x e a v b u ls f run m =
     (write f.after (slot_cell (next_slot b)) (held v)) run m (λ c q. slot_kept f.after b.state (next_slot b) v c q)
 
 -- a variable, where it is known whether there is room for it
-made_case : (room : Bool) (k : ℕ) (x : Name) (e : Tree) (a : At) (v : Val) (b : At) (u : State) (ls : List Touch) (f : EndsFrame (k + 1) e a (value v) b u ls) (run : Runs k (variable x e) (in_state u a) (made_end room v) (made room x v (in_state f.after b)))
-    → runs_touched run ≡ ends_touched f.run ++ made_touched room x (in_state f.after b) → RunsFrame k (variable x e) a (made_end room v) (made room x v b) u (ls ++ made_touched room x b)
+made_case : (room : Bool) (k : ℕ) (x : Name) (e : Tree) (a : At) (v : Val) (b : At) (u : State) (ls : List Touch) (f : EndsFrame (k + 1) e a (value v) b u ls) (run : Runs k (variable x e) (in_state u a) (variable_end room v) (variable_made room x v (in_state f.after b)))
+    → runs_touched run ≡ ends_touched f.run ++ variable_touched room x (in_state f.after b) → RunsFrame k (variable x e) a (variable_end room v) (variable_made room x v b) u (ls ++ variable_touched room x b)
 made_case true k x e a v b u ls f run m = slot_case b.own_scope k x e a v b u ls f run m
-made_case false k x e a v b u ls f run m = wrapped k (variable x e) e a (value v) (made_end false v) b b u ls [] f f.after run m (λ c q. q)
+made_case false k x e a v b u ls f run m = wrapped k (variable x e) e a (value v) (variable_end false v) b b u ls [] f f.after run m (λ c q. q)
 
 declare_case : (k : ℕ) (x : Name) (e : Tree) (a : At) (o : End) (b : At) (u : State) (ls : List Touch) → EndsFrame (k + 1) e a o b u ls → RunsFrame k (variable x e) a (declared_end o b) (declared x o b) u (ls ++ declared_touched x o b)
 declare_case k x e a (value v) b u ls f = made_case (has_room b) k x e a v b u ls f (run_variable f.run) refl
@@ -147,6 +149,60 @@ parts_case (listed vs) k ps e a o b u ls f run m =
     (λ c q. all_kept ps vs b f.after c q)
 parts_case (unlisted p) k ps e a o b u ls f run m = wrapped k (define_list ps e) e a o p b b u ls [] f f.after run m (λ c q. q)
 
+-- the same names are captured ..
+capture_framed : (c : Capture) (xs : List Name) (a : At) (u : State) → Agree (capture_touched c xs a) u a.state → all_captured c xs (in_state u a) ≡ all_captured c xs a
+capture_framed c [] a u h = refl
+capture_framed (captured ns) (x ∷ xs) a u h =
+    let e : sought x (in_state u a) ≡ sought x a = found_framed x (lookup a.nouns x) u a.state (agree_left (sought_touched x (lookup a.nouns x)) (capture_touched (and_captured (captured ns) x (sought x a)) xs a) u a.state h) in
+    ap (λ m. all_captured (and_captured (captured ns) x m) xs (in_state u a)) e
+    ∙ capture_framed (and_captured (captured ns) x (sought x a)) xs a u (agree_right (sought_touched x (lookup a.nouns x)) (capture_touched (and_captured (captured ns) x (sought x a)) xs a) u a.state h)
+capture_framed (missing y) (x ∷ xs) a u h = missing_stays y xs (in_state u a) ∙ sym (missing_stays y xs a)
+
+-- .. and the same cells are read for them
+capture_touches : (c : Capture) (xs : List Name) (a : At) (u : State) → Agree (capture_touched c xs a) u a.state → capture_touched c xs (in_state u a) ≡ capture_touched c xs a
+capture_touches c [] a u h = refl
+capture_touches (captured ns) (x ∷ xs) a u h =
+    let e : sought x (in_state u a) ≡ sought x a = found_framed x (lookup a.nouns x) u a.state (agree_left (sought_touched x (lookup a.nouns x)) (capture_touched (and_captured (captured ns) x (sought x a)) xs a) u a.state h) in
+    ap (λ m. sought_touched x (lookup a.nouns x) ++ capture_touched (and_captured (captured ns) x m) xs (in_state u a)) e
+    ∙ ap (λ ls. sought_touched x (lookup a.nouns x) ++ ls) (capture_touches (and_captured (captured ns) x (sought x a)) xs a u (agree_right (sought_touched x (lookup a.nouns x)) (capture_touched (and_captured (captured ns) x (sought x a)) xs a) u a.state h))
+capture_touches (missing y) (x ∷ xs) a u h = refl
+
+-- an object that is made, where it is known whether there is room for it
+placed_case : (room : Bool) (k : ℕ) (p : Pattern) (ms : Methods) (o : Object) (a : At) (u : State) (ls : List Touch) (run : Runs k (object_tree p ms) (in_state u a) (placed_end room (in_state u a)) (placed room p o (in_state u a)))
+    → runs_touched run ≡ ls ++ placed_touched room p (in_state u a) → RunsFrame k (object_tree p ms) a (placed_end room a) (placed room p o a) u (ls ++ placed_touched room p a)
+placed_case true k p ms o a u ls run m =
+    let t : State = write u (object_cell (next_object a)) (made o) in
+    let v : Val = object (next_object a) in
+    let b : At = object_made o a in
+    let after : State = (matched p v (in_state t b)).state in
+    subst (λ z. (run : Runs k (object_tree p ms) (in_state u a) (placed_end true a) z) → runs_touched run ≡ ls ++ placed_touched true p a → RunsFrame k (object_tree p ms) a (placed_end true a) (matched p v b) u (ls ++ placed_touched true p a))
+    (sym (matched_moved p v b t))
+    (λ run m. record { after = after; run = run; same = m; kept = λ c q. matched_kept p v b t c (write_kept u a.state (object_cell (next_object a)) (made o) c q) }) run m
+placed_case false k p ms o a u ls run m = record { after = u; run = run; same = m; kept = λ c q. q }
+
+-- the same, where it is known what is captured
+captured_case : (c : Capture) (k : ℕ) (p : Pattern) (ms : Methods) (a : At) (u : State) (ls : List Touch) (run : Runs k (object_tree p ms) (in_state u a) (object_end c (in_state u a)) (with_object p ms c (in_state u a)))
+    → runs_touched run ≡ ls ++ with_object_touched p c (in_state u a) → RunsFrame k (object_tree p ms) a (object_end c a) (with_object p ms c a) u (ls ++ with_object_touched p c a)
+captured_case (captured ns) k p ms a u ls run m = placed_case (has_object_room a) k p ms (record { own = p; captured = ns; methods = ms }) a u ls run m
+captured_case (missing x) k p ms a u ls run m = record { after = u; run = run; same = m; kept = λ c q. q }
+
+object_case : (k : ℕ) (p : Pattern) (ms : Methods) (a : At) (u : State) → Agree (object_touched p ms a) u a.state → RunsFrame k (object_tree p ms) a (object_end (capture_of p ms a) a) (with_object p ms (capture_of p ms a) a) u (object_touched p ms a)
+object_case k p ms a u h =
+    let ls : List Touch = capture_touched (captured []) (captures p ms) a in
+    let g : Agree ls u a.state = agree_left ls (with_object_touched p (capture_of p ms a) a) u a.state h in
+    subst (λ c. RunsFrame k (object_tree p ms) a (object_end c a) (with_object p ms c a) u (ls ++ with_object_touched p c a)) (capture_framed (captured []) (captures p ms) a u g)
+    (captured_case (capture_of p ms (in_state u a)) k p ms a u ls run_object (ap (λ l. l ++ with_object_touched p (capture_of p ms (in_state u a)) (in_state u a)) (capture_touches (captured []) (captures p ms) a u g)))
+
+-- a call leads to the same
+callee_framed : (m : Callee) (v : Val) (verb : Name) (vs : Vals) (a : At) (u : State) → Agree (callee_touched m) u a.state → callee_target m v verb vs (in_state u a) ≡ callee_target m v verb vs a
+callee_framed (on_object i) v verb vs a u h = ap (λ x. object_target i x verb vs) h.0
+callee_framed (on_ejector j) v verb vs a u h = refl
+callee_framed on_datum v verb vs a u h = refl
+
+target_framed : (v : Val) (verb : Name) (g : Gather) (a : At) (u : State) → Agree (called_touched v g) u a.state → target_of v verb g (in_state u a) ≡ target_of v verb g a
+target_framed v verb (values vs) a u h = callee_framed (callee_of v) v verb vs a u h
+target_framed v verb (halted j) a u h = refl
+
 mutual
   pub ends_framed : {k : ℕ} {t : Tree} {a b : At} {o : End} (r : Ends k t a o b) (u : State) → Agree (ends_touched r) u a.state → EndsFrame k t a o b u (ends_touched r)
   ends_framed (at_budget h) u m = record { after = u; run = at_budget h; same = refl; kept = λ c e. e }
@@ -165,10 +221,20 @@ mutual
       let f = ends_framed r u (agree_left (ends_touched r) (assigned_touched x o b) u a.state m) in
       assign_case k x e a o b u (ends_touched r) f (agree_kept (assigned_touched x o b) u a.state f.after b.state f.kept (agree_right (ends_touched r) (assigned_touched x o b) u a.state m))
   runs_framed (run_call_receiver r) u m = let f = ends_framed r u m in record { after = f.after; run = run_call_receiver f.run; same = f.same; kept = f.kept }
-  runs_framed (run_call {a = a} {b = b} r q) u m =
-      let f = ends_framed r u (agree_left (ends_touched r) (args_touched q) u a.state m) in
-      let g = args_framed q f.after (agree_kept (args_touched q) u a.state f.after b.state f.kept (agree_right (ends_touched r) (args_touched q) u a.state m)) in
-      record { after = g.after; run = run_call f.run g.run; same = λ i. f.same i ++ g.same i; kept = λ c h. g.kept c (f.kept c h) }
+  runs_framed (run_call_gives {verb = verb} {a = a} {b = b} {c = c} {v = v} {g = g} r q e) u m =
+      let l = agree_left (ends_touched r ++ args_touched q) (called_touched v g) u a.state m in
+      let f = ends_framed r u (agree_left (ends_touched r) (args_touched q) u a.state l) in
+      let h = args_framed q f.after (agree_kept (args_touched q) u a.state f.after b.state f.kept (agree_right (ends_touched r) (args_touched q) u a.state l)) in
+      let t = target_framed v verb g c h.after (agree_kept (called_touched v g) u a.state h.after c.state (λ x z. h.kept x (f.kept x z)) (agree_right (ends_touched r ++ args_touched q) (called_touched v g) u a.state m)) in
+      record { after = h.after; run = run_call_gives f.run h.run (t ∙ e); same = λ i. (f.same i ++ h.same i) ++ called_touched v g; kept = λ x z. h.kept x (f.kept x z) }
+  runs_framed (run_call_enters {verb = verb} {a = a} {b = b} {c = c} {v = v} {g = g} r q e w) u m =
+      let n = agree_left ((ends_touched r ++ args_touched q) ++ called_touched v g) (items_touched w) u a.state m in
+      let l = agree_left (ends_touched r ++ args_touched q) (called_touched v g) u a.state n in
+      let f = ends_framed r u (agree_left (ends_touched r) (args_touched q) u a.state l) in
+      let h = args_framed q f.after (agree_kept (args_touched q) u a.state f.after b.state f.kept (agree_right (ends_touched r) (args_touched q) u a.state l)) in
+      let t = target_framed v verb g c h.after (agree_kept (called_touched v g) u a.state h.after c.state (λ x z. h.kept x (f.kept x z)) (agree_right (ends_touched r ++ args_touched q) (called_touched v g) u a.state n)) in
+      let y = items_framed w h.after (agree_kept (items_touched w) u a.state h.after c.state (λ x z. h.kept x (f.kept x z)) (agree_right ((ends_touched r ++ args_touched q) ++ called_touched v g) (items_touched w) u a.state m)) in
+      record { after = y.after; run = run_call_enters f.run h.run (t ∙ e) y.run; same = λ i. ((f.same i ++ h.same i) ++ called_touched v g) ++ y.same i; kept = λ x z. y.kept x (h.kept x (f.kept x z)) }
   runs_framed (run_list r) u m = let f = args_framed r u m in record { after = f.after; run = run_list f.run; same = f.same; kept = f.kept }
   runs_framed (run_same_left r) u m = let f = ends_framed r u m in record { after = f.after; run = run_same_left f.run; same = f.same; kept = f.kept }
   runs_framed (run_same {a = a} {b = b} r q) u m =
@@ -207,6 +273,8 @@ mutual
       let f = block_framed q u (agree_left (block_touched q) (taking_touched w) u a.state m) in
       let g = taking_framed w f.after (agree_kept (taking_touched w) u a.state f.after b.state f.kept (agree_right (block_touched q) (taking_touched w) u a.state m)) in
       record { after = g.after; run = run_try_caught f.run e g.run; same = λ i. f.same i ++ g.same i; kept = λ c h. g.kept c (f.kept c h) }
+  runs_framed (run_object {k = k} {p = p} {ms = ms} {a = a}) u m = object_case k p ms a u m
+  runs_framed (run_escape q) u m = let f = taking_framed q u m in record { after = f.after; run = run_escape f.run; same = f.same; kept = f.kept }
 
   pub args_framed : {k : ℕ} {ts : Trees} {a b : At} {g : Gather} (r : Args k ts a g b) (u : State) → Agree (args_touched r) u a.state → ArgsFrame k ts a g b u (args_touched r)
   args_framed args_none u m = record { after = u; run = args_none; same = refl; kept = λ c e. e }
@@ -243,6 +311,7 @@ mutual
 kept_agrees : (o : End) (u s t b : State) (c : Cell) → u c ≡ s c → t c ≡ b c → kept o u t c ≡ kept o s b c
 kept_agrees (value v) u s t b c p q = q
 kept_agrees (halt (thrown problem)) u s t b c p q = q
+kept_agrees (halt (ejected j v)) u s t b c p q = q
 kept_agrees (halt (abandoned why)) u s t b c p q = p
 
 abbrev DeliveryFrames : (d : Delivery) (e : EventName) (v : VatNo) (s : State) (n : ℕ) (o : Outcome) (u : State) → List Touch → Type 0

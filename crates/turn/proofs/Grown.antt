@@ -1,13 +1,13 @@
 -- Names are only added.
 use Rattle.std.proofs.Common.{◌≡◌, ℕ, List, [], ◌∷◌, ◌++◌, Bool, true, false, Option, Some, None, refl, sym, ap, ◌∙◌, append_assoc}
 use Rattle.ids.specs.declared.names.SlotId.{SlotId}
-use Rattle.kernele.specs.Tree.{Name, Tree, Trees}
+use Rattle.kernele.specs.Tree.{Name, Tree, Trees, Methods}
 use Rattle.kernele.specs.declared.tree.Pattern.{Pattern}
 use Rattle.kernele.specs.declared.tree.Pattern.TheVariants as pattern
-use Rattle.values.specs.Data.{Val, Vals, no_vals, and_val}
-use Rattle.turn.specs.State.{Bind, fixed, slot, Nouns, At}
+use Rattle.values.specs.Data.{Val, object, Vals, no_vals, and_val}
+use Rattle.turn.specs.State.{Bind, fixed, slot, Nouns, Object, At}
 use Rattle.turn.specs.Outcomes.{End, value, halt, Gather}
-use Rattle.turn.specs.Rules.{Listing, listed, unlisted, parts_of, parts_bound, again, bound_in, matched, matched_all, defined, next_slot, has_room, slot_made, made, declared, assigned, sought_slot, Ends, at_budget, at_depth, at_node, Runs, run_null, run_bool, run_int, run_text, run_noun, run_define, run_variable, run_assign, run_call_receiver, run_call, run_list, run_same_left, run_same, run_define_list, run_hide, run_throw, run_if_goes, run_if_ends, run_while_again, run_while_halts, run_while_done, run_while_ends, run_for, run_for_ends, run_try, run_try_caught, Args, args_none, args_next, args_halt, Items, items_none, items_next, items_halt, Block, in_block, Taking, in_taking, Each, each_none, each_next, each_halt}
+use Rattle.turn.specs.Rules.{Listing, listed, unlisted, parts_of, parts_bound, again, bound_in, matched, matched_all, defined, next_slot, has_room, slot_made, variable_made, declared, assigned, Capture, captured, missing, capture_of, next_object, has_object_room, object_made, placed, with_object, leaving, escaped, sought_slot, Ends, at_budget, at_depth, at_node, Runs, run_null, run_bool, run_int, run_text, run_noun, run_define, run_variable, run_assign, run_call_receiver, run_call_gives, run_call_enters, run_list, run_same_left, run_same, run_define_list, run_hide, run_throw, run_if_goes, run_if_ends, run_while_again, run_while_halts, run_while_done, run_while_ends, run_for, run_for_ends, run_try, run_try_caught, run_object, run_escape, Args, args_none, args_next, args_halt, Items, items_none, items_next, items_halt, Block, in_block, Taking, in_taking, Each, each_none, each_next, each_halt}
 
 -- newer names stand before those that were there
 abbrev pub Grown : At → At → Type 0
@@ -40,7 +40,7 @@ parts_grow : (ps : List Pattern) (l : Listing) (a : At) → Grown a (parts_bound
 parts_grow ps (listed vs) a = all_grow ps vs a
 parts_grow ps (unlisted o) a = same a a refl
 
-made_grow : (room : Bool) (x : Name) (v : Val) (a : At) → Grown a (made room x v a)
+made_grow : (room : Bool) (x : Name) (v : Val) (a : At) → Grown a (variable_made room x v a)
 made_grow true x v a = bound_grow a.own_scope x (slot (next_slot a)) (slot_made v a)
 made_grow false x v a = same a a refl
 
@@ -52,6 +52,14 @@ assigned_grow : (o : End) (i : Option SlotId) (a : At) → Grown a (assigned o i
 assigned_grow (value v) (Some i) a = same a (assigned (value v) (Some i) a) refl
 assigned_grow (value v) None a = same a a refl
 assigned_grow (halt h) i a = same a a refl
+
+placed_grow : (room : Bool) (p : Pattern) (o : Object) (a : At) → Grown a (placed room p o a)
+placed_grow true p o a = matched_grow p (object (next_object a)) (object_made o a)
+placed_grow false p o a = same a a refl
+
+object_grow : (p : Pattern) (ms : Methods) (c : Capture) (a : At) → Grown a (with_object p ms c a)
+object_grow p ms (captured ns) a = placed_grow (has_object_room a) p (record { own = p; captured = ns; methods = ms }) a
+object_grow p ms (missing x) a = same a a refl
 
 -- a block's names end with it
 pub block_names : {k : ℕ} {ts : Trees} {a b : At} {o : End} → Block k ts a o b → b.nouns ≡ a.nouns
@@ -81,7 +89,8 @@ mutual
   runs_grow (run_variable {x = x} {a = a} {b = b} {o = o} r) = both a b (declared x o b) (ends_grow r) (declared_grow x o b)
   runs_grow (run_assign {x = x} {a = a} {b = b} {o = o} r) = both a b (assigned o (sought_slot x b) b) (ends_grow r) (assigned_grow o (sought_slot x b) b)
   runs_grow (run_call_receiver r) = ends_grow r
-  runs_grow (run_call {a = a} {b = b} {c = c} r u) = both a b c (ends_grow r) (args_grow u)
+  runs_grow (run_call_gives {a = a} {b = b} {c = c} r u e) = both a b c (ends_grow r) (args_grow u)
+  runs_grow (run_call_enters {a = a} {b = b} {c = c} {d = d} r u e q) = both a c (leaving c d) (both a b c (ends_grow r) (args_grow u)) (same c (leaving c d) refl)
   runs_grow (run_list r) = args_grow r
   runs_grow (run_same_left r) = ends_grow r
   runs_grow (run_same {a = a} {b = b} {c = c} r u) = both a b c (ends_grow r) (ends_grow u)
@@ -98,6 +107,8 @@ mutual
   runs_grow (run_for_ends r e) = ends_grow r
   runs_grow {a = a} {b = b} (run_try q e) = same a b (block_names q)
   runs_grow (run_try_caught {a = a} {d = d} q e w) = same a d (taking_names w ∙ block_names q)
+  runs_grow (run_object {p = p} {ms = ms} {a = a}) = object_grow p ms (capture_of p ms a) a
+  runs_grow (run_escape {a = a} {b = b} q) = same a (escaped a b) (taking_names q)
 
   pub args_grow : {k : ℕ} {ts : Trees} {a b : At} {g : Gather} → Args k ts a g b → Grown a b
   args_grow {a = a} {b = b} args_none = same a b refl

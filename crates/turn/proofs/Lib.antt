@@ -1,8 +1,13 @@
+pub mod Captures
 pub mod Cells
 pub mod Deliveries
 pub mod Determined
+pub mod Ejections
+pub mod Ejectors
+pub mod Entered
 pub mod Framed
 pub mod Grown
+pub mod Opened
 pub mod Patterns
 pub mod Scopes
 pub mod Spent

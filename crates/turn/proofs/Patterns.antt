@@ -25,7 +25,7 @@ bound_moved : (own : Bool) (x : Name) (b : Bind) (a : At) (t : State) → bound_
 bound_moved true x b a t = refl
 bound_moved false x b a t = refl
 
-matched_moved : (p : Pattern) (v : Val) (a : At) (t : State) → matched p v (in_state t a) ≡ in_state (matched p v (in_state t a)).state (matched p v a)
+pub matched_moved : (p : Pattern) (v : Val) (a : At) (t : State) → matched p v (in_state t a) ≡ in_state (matched p v (in_state t a)).state (matched p v a)
 matched_moved (pattern.Name x) v a t = bound_moved a.own_scope x (fixed v) a t
 matched_moved pattern.Ignore v a t = refl
 
@@ -33,7 +33,7 @@ bound_kept : (own : Bool) (x : Name) (b : Bind) (a : At) (t : State) (c : Cell) 
 bound_kept true x b a t c h = ap (λ y. cond (same_cell (top x) c) (Some (bound b)) y) h
 bound_kept false x b a t c h = h
 
-matched_kept : (p : Pattern) (v : Val) (a : At) (t : State) (c : Cell) → t c ≡ a.state c → (matched p v (in_state t a)).state c ≡ (matched p v a).state c
+pub matched_kept : (p : Pattern) (v : Val) (a : At) (t : State) (c : Cell) → t c ≡ a.state c → (matched p v (in_state t a)).state c ≡ (matched p v a).state c
 matched_kept (pattern.Name x) v a t c h = bound_kept a.own_scope x (fixed v) a t c h
 matched_kept pattern.Ignore v a t c h = h
 
@@ -53,13 +53,13 @@ all_kept (p ∷ ps) (and_val v vs) a t c h =
     subst (λ z. (matched_all ps vs z).state c ≡ (matched_all ps vs (matched p v a)).state c) (sym (matched_moved p v a t))
     (all_kept ps vs (matched p v a) (matched p v (in_state t a)).state c (matched_kept p v a t c h))
 
-as_many-true : (ps : List Pattern) (vs : List Value) → length vs ≡ length ps → as_many ps (vals_of vs) ≡ true
+pub as_many-true : (ps : List Pattern) (vs : List Value) → length vs ≡ length ps → as_many ps (vals_of vs) ≡ true
 as_many-true [] [] h = refl
 as_many-true [] (v ∷ vs) h = absurd (omega arith)
 as_many-true (p ∷ ps) [] h = absurd (omega arith)
 as_many-true (p ∷ ps) (v ∷ vs) h = as_many-true ps vs (omega arith)
 
-as_many-false : (ps : List Pattern) (vs : List Value) → (length vs ≡ length ps → ⊥) → as_many ps (vals_of vs) ≡ false
+pub as_many-false : (ps : List Pattern) (vs : List Value) → (length vs ≡ length ps → ⊥) → as_many ps (vals_of vs) ≡ false
 as_many-false [] [] h = absurd (h refl)
 as_many-false [] (v ∷ vs) h = refl
 as_many-false (p ∷ ps) [] h = refl

@@ -9,7 +9,7 @@ use Rattle.kernele.specs.Tree.{Name}
 use Rattle.values.specs.Data.{Val}
 use Rattle.turn.specs.State.{Bind, slot, Nouns, lookup, top, slot_cell, bound, held, State, write, At}
 use Rattle.turn.specs.Outcomes.{value}
-use Rattle.turn.specs.Rules.{binding, bound_in, next_slot, slot_made, with_slot, made, declared, assigned}
+use Rattle.turn.specs.Rules.{binding, bound_in, next_slot, slot_made, with_slot, variable_made, declared, assigned}
 use Rattle.turn.specs.View.{bind_of, nouns_of, nouns_after}
 use Rattle.turn.specs.declared.heap.Noun.{Noun}
 
@@ -46,13 +46,13 @@ assigned_there v w i l a s h e p = ap (λ u. record a { state = u }) (e ∙ ap (
 pub assigned_nowhere : (v : Val) (l : Option SlotId) (a : At) → l ≡ None → a ≡ assigned (value v) l a
 assigned_nowhere v l a h = sym (ap (λ m. assigned (value v) m a) h)
 
-room : (n : ℕ) → n < 4096 → ltb n 4096 ≡ true
+pub room : (n : ℕ) → n < 4096 → ltb n 4096 ≡ true
 room n h = grind (arith, nat_tests)
 
 -- a variable for whose slot there is room
 pub declared_there : (x : Name) (v w : Val) (i : SlotId) (a b c : At) → a.slots < 4096 → w ≡ v → i ≡ next_slot a → b ≡ slot_made w a → c ≡ binding x (slot i) b → c ≡ declared x (value v) a
 declared_there x v w i a b c h p q e f =
-    f ∙ (λ j. binding x (slot (q j)) (e j)) ∙ ap (λ u. with_slot x u a) p ∙ sym (ap (λ r. made r x v a) (room a.slots h))
+    f ∙ (λ j. binding x (slot (q j)) (e j)) ∙ ap (λ u. with_slot x u a) p ∙ sym (ap (λ r. variable_made r x v a) (room a.slots h))
 
 nouns_after-split : (ns : Nouns) (xs : List Noun) → nouns_after ns xs ≡ nouns_of xs ++ ns
 nouns_after-split ns [] = refl
@@ -65,7 +65,7 @@ length-nouns_of [] = refl
 length-nouns_of (x ∷ xs) = ap length (nouns_after-split ((x.name, bind_of x.binding) ∷ []) xs) ∙ omega (arith, length-append (nouns_of xs) ((x.name, bind_of x.binding) ∷ []), length-nouns_of xs)
 
 -- lists that end alike, from equal lengths on
-same_end : (ps qs ss ts : Nouns) → ps ++ ss ≡ qs ++ ts → length ps ≡ length qs → ss ≡ ts
+pub same_end : {A : Type 0} (ps qs ss ts : List A) → ps ++ ss ≡ qs ++ ts → length ps ≡ length qs → ss ≡ ts
 same_end [] [] ss ts e h = e
 same_end [] (q ∷ qs) ss ts e h = absurd (omega arith)
 same_end (p ∷ ps) [] ss ts e h = absurd (omega arith)

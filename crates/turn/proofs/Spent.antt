@@ -3,13 +3,13 @@ use Rattle.std.proofs.Common.{◌≡◌, ℕ, ◌<◌, ◌≤◌, List, [], ◌�
 use Rattle.ids.specs.declared.names.EventName.{EventName}
 use Rattle.ids.specs.declared.names.VatNo.{VatNo}
 use Rattle.ids.specs.declared.names.SlotId.{SlotId}
-use Rattle.kernele.specs.Tree.{Name, Tree, Trees}
+use Rattle.kernele.specs.Tree.{Name, Tree, Trees, Methods}
 use Rattle.kernele.specs.declared.tree.Pattern.{Pattern}
 use Rattle.kernele.specs.declared.tree.Pattern.TheVariants as pattern
-use Rattle.values.specs.Data.{Val, Vals, no_vals, and_val}
-use Rattle.turn.specs.State.{Bind, fixed, slot, State, At}
+use Rattle.values.specs.Data.{Val, object, Vals, no_vals, and_val}
+use Rattle.turn.specs.State.{Bind, fixed, slot, Object, State, At}
 use Rattle.turn.specs.Outcomes.{End, value, halt, Gather}
-use Rattle.turn.specs.Rules.{Listing, listed, unlisted, parts_of, parts_bound, choice_of, goes, entering, bound_in, matched, matched_all, defined, next_slot, has_room, slot_made, made, declared, assigned, sought_slot, Ends, at_budget, at_depth, at_node, Runs, run_null, run_bool, run_int, run_text, run_noun, run_define, run_variable, run_assign, run_call_receiver, run_call, run_list, run_same_left, run_same, run_define_list, run_hide, run_throw, run_if_goes, run_if_ends, run_while_again, run_while_halts, run_while_done, run_while_ends, run_for, run_for_ends, run_try, run_try_caught, Args, args_none, args_next, args_halt, Items, items_none, items_next, items_halt, Block, in_block, Taking, in_taking, Each, each_none, each_next, each_halt}
+use Rattle.turn.specs.Rules.{Listing, listed, unlisted, parts_of, parts_bound, choice_of, goes, entering, bound_in, matched, matched_all, defined, next_slot, has_room, slot_made, variable_made, declared, assigned, Capture, captured, missing, capture_of, next_object, has_object_room, object_made, placed, with_object, sought_slot, Ends, at_budget, at_depth, at_node, Runs, run_null, run_bool, run_int, run_text, run_noun, run_define, run_variable, run_assign, run_call_receiver, run_call_gives, run_call_enters, run_list, run_same_left, run_same, run_define_list, run_hide, run_throw, run_if_goes, run_if_ends, run_while_again, run_while_halts, run_while_done, run_while_ends, run_for, run_for_ends, run_try, run_try_caught, run_object, run_escape, Args, args_none, args_next, args_halt, Items, items_none, items_next, items_halt, Block, in_block, Taking, in_taking, Each, each_none, each_next, each_halt}
 use Rattle.turn.specs.Turn.{Delivery, Outcome, Delivers, opens, asks}
 
 bound_left : (own : Bool) (x : Name) (b : Bind) (a : At) → (bound_in own x b a).left ≡ a.left
@@ -33,7 +33,7 @@ parts_left : (ps : List Pattern) (l : Listing) (a : At) → (parts_bound ps l a)
 parts_left ps (listed vs) a = all_left ps vs a
 parts_left ps (unlisted o) a = refl
 
-made_left : (room : Bool) (x : Name) (v : Val) (a : At) → (made room x v a).left ≡ a.left
+made_left : (room : Bool) (x : Name) (v : Val) (a : At) → (variable_made room x v a).left ≡ a.left
 made_left true x v a = bound_left a.own_scope x (slot (next_slot a)) (slot_made v a)
 made_left false x v a = refl
 
@@ -45,6 +45,14 @@ assigned_left : (o : End) (i : Option SlotId) (a : At) → (assigned o i a).left
 assigned_left (value v) (Some i) a = refl
 assigned_left (value v) None a = refl
 assigned_left (halt h) i a = refl
+
+placed_left : (room : Bool) (p : Pattern) (o : Object) (a : At) → (placed room p o a).left ≡ a.left
+placed_left true p o a = matched_left p (object (next_object a)) (object_made o a)
+placed_left false p o a = refl
+
+object_left : (p : Pattern) (ms : Methods) (c : Capture) (a : At) → (with_object p ms c a).left ≡ a.left
+object_left p ms (captured ns) a = placed_left (has_object_room a) p (record { own = p; captured = ns; methods = ms }) a
+object_left p ms (missing x) a = refl
 
 mutual
   pub ends_left : {k : ℕ} {t : Tree} {a b : At} {o : End} → Ends k t a o b → b.left ≤ a.left
@@ -62,7 +70,8 @@ mutual
   runs_left (run_variable {x = x} {b = b} {o = o} r) = omega (arith, ends_left r, declared_left x o b)
   runs_left (run_assign {x = x} {b = b} {o = o} r) = omega (arith, ends_left r, assigned_left o (sought_slot x b) b)
   runs_left (run_call_receiver r) = ends_left r
-  runs_left (run_call r u) = omega (arith, ends_left r, args_left u)
+  runs_left (run_call_gives r u e) = omega (arith, ends_left r, args_left u)
+  runs_left (run_call_enters r u e q) = omega (arith, ends_left r, args_left u, items_left q)
   runs_left (run_list r) = args_left r
   runs_left (run_same_left r) = ends_left r
   runs_left (run_same r u) = omega (arith, ends_left r, ends_left u)
@@ -79,6 +88,8 @@ mutual
   runs_left (run_for_ends r e) = ends_left r
   runs_left (run_try q e) = block_left q
   runs_left (run_try_caught q e w) = omega (arith, block_left q, taking_left w)
+  runs_left (run_object {p = p} {ms = ms} {a = a}) = omega (arith, object_left p ms (capture_of p ms a) a)
+  runs_left (run_escape q) = taking_left q
 
   pub args_left : {k : ℕ} {ts : Trees} {a b : At} {g : Gather} → Args k ts a g b → b.left ≤ a.left
   args_left args_none = omega arith

@@ -3,16 +3,17 @@ use Rattle.std.proofs.Common.{◌≡◌, ℕ, List, [], ◌∷◌, ◌++◌, Opt
 use Rattle.ids.specs.declared.names.EventName.{EventName}
 use Rattle.ids.specs.declared.names.VatNo.{VatNo}
 use Rattle.ids.specs.declared.names.SlotId.{SlotId}
-use Rattle.kernele.specs.Tree.{Name, Tree, Trees}
+use Rattle.kernele.specs.Tree.{Name, Tree, Trees, Methods}
+use Rattle.kernele.specs.Free.{captures}
 use Rattle.kernele.specs.declared.tree.Pattern.{Pattern}
 use Rattle.kernele.specs.declared.tree.Pattern.TheVariants as pattern
-use Rattle.values.specs.Data.{Val, Vals, no_vals, and_val}
-use Rattle.turn.specs.State.{Bind, fixed, slot, lookup, Cell, top, slot_cell, Content, bound, held, same_cell, State, write, At}
-use Rattle.turn.specs.Outcomes.{End, value, halt, thrown, abandoned, Gather}
-use Rattle.turn.specs.Rules.{Listing, listed, unlisted, parts_of, parts_bound, entering, sought_slot, bound_in, matched, matched_all, defined, next_slot, has_room, slot_made, made, declared, assigned, Ends, at_budget, at_depth, at_node, Runs, run_null, run_bool, run_int, run_text, run_noun, run_define, run_variable, run_assign, run_call_receiver, run_call, run_list, run_same_left, run_same, run_define_list, run_hide, run_throw, run_if_goes, run_if_ends, run_while_again, run_while_halts, run_while_done, run_while_ends, run_for, run_for_ends, run_try, run_try_caught, Args, args_none, args_next, args_halt, Items, items_none, items_next, items_halt, Block, in_block, Taking, in_taking, Each, each_none, each_next, each_halt}
+use Rattle.values.specs.Data.{Val, object, Vals, no_vals, and_val}
+use Rattle.turn.specs.State.{Bind, fixed, slot, lookup, Object, Cell, top, slot_cell, object_cell, Content, bound, held, made, same_cell, State, write, At}
+use Rattle.turn.specs.Outcomes.{End, value, halt, thrown, ejected, abandoned, Gather}
+use Rattle.turn.specs.Rules.{Listing, listed, unlisted, parts_of, parts_bound, entering, sought_slot, bound_in, matched, matched_all, defined, next_slot, has_room, slot_made, variable_made, declared, assigned, Capture, captured, missing, capture_of, next_object, has_object_room, object_made, placed, with_object, Ends, at_budget, at_depth, at_node, Runs, run_null, run_bool, run_int, run_text, run_noun, run_define, run_variable, run_assign, run_call_receiver, run_call_gives, run_call_enters, run_list, run_same_left, run_same, run_define_list, run_hide, run_throw, run_if_goes, run_if_ends, run_while_again, run_while_halts, run_while_done, run_while_ends, run_for, run_for_ends, run_try, run_try_caught, run_object, run_escape, Args, args_none, args_next, args_halt, Items, items_none, items_next, items_halt, Block, in_block, Taking, in_taking, Each, each_none, each_next, each_halt}
 use Rattle.turn.specs.Turn.{Delivery, Outcome, settled, kept, Delivers, opens, asks}
 use Rattle.turn.proofs.Patterns.{matched_own}
-use Rattle.turn.specs.Touched.{Touch, got, put, sought_touched, set_touched, assigned_touched, bound_touched, matched_touched, defined_touched, all_touched, parts_touched, made_touched, declared_touched, ends_touched, runs_touched, args_touched, items_touched, block_touched, taking_touched, each_touched, delivery_touched, NotPut}
+use Rattle.turn.specs.Touched.{Touch, got, put, sought_touched, set_touched, assigned_touched, bound_touched, matched_touched, defined_touched, all_touched, parts_touched, variable_touched, declared_touched, capture_touched, placed_touched, with_object_touched, called_touched, ends_touched, runs_touched, args_touched, items_touched, block_touched, taking_touched, each_touched, delivery_touched, NotPut}
 
 left : (xs ys : List Touch) (c : Cell) → NotPut c (xs ++ ys) → NotPut c xs
 left [] ys c h = tt
@@ -55,7 +56,7 @@ entered_un : (p : Pattern) (v : Val) (a : At) (c : Cell) → (matched p v (enter
 entered_un (pattern.Name x) v a c = refl
 entered_un pattern.Ignore v a c = refl
 
-made_un : (room : Bool) (x : Name) (v : Val) (b : At) (c : Cell) → NotPut c (made_touched room x b) → (made room x v b).state c ≡ b.state c
+made_un : (room : Bool) (x : Name) (v : Val) (b : At) (c : Cell) → NotPut c (variable_touched room x b) → (variable_made room x v b).state c ≡ b.state c
 made_un true x v b c h = bound_un b.own_scope x (slot (next_slot b)) (slot_made v b) c h.1 ∙ write_other b.state (slot_cell (next_slot b)) (held v) c h.0
 made_un false x v b c h = refl
 
@@ -70,6 +71,14 @@ set_un v None b c h = refl
 assign_un : (x : Name) (o : End) (b : At) (c : Cell) → NotPut c (assigned_touched x o b) → (assigned o (sought_slot x b) b).state c ≡ b.state c
 assign_un x (value v) b c h = set_un v (sought_slot x b) b c (right (sought_touched x (lookup b.nouns x)) (set_touched (sought_slot x b)) c h)
 assign_un x (halt j) b c h = refl
+
+placed_un : (room : Bool) (p : Pattern) (o : Object) (a : At) (c : Cell) → NotPut c (placed_touched room p a) → (placed room p o a).state c ≡ a.state c
+placed_un true p o a c h = matched_un p (object (next_object a)) (object_made o a) c h.1 ∙ write_other a.state (object_cell (next_object a)) (made o) c h.0
+placed_un false p o a c h = refl
+
+object_un : (p : Pattern) (ms : Methods) (m : Capture) (a : At) (c : Cell) → NotPut c (with_object_touched p m a) → (with_object p ms m a).state c ≡ a.state c
+object_un p ms (captured ns) a c h = placed_un (has_object_room a) p (record { own = p; captured = ns; methods = ms }) a c h
+object_un p ms (missing x) a c h = refl
 
 mutual
   pub ends_un : {k : ℕ} {t : Tree} {a b : At} {o : End} (r : Ends k t a o b) (c : Cell) → NotPut c (ends_touched r) → b.state c ≡ a.state c
@@ -87,7 +96,14 @@ mutual
   runs_un (run_variable {x = x} {b = b} {o = o} r) c n = declare_un x o b c (right (ends_touched r) (declared_touched x o b) c n) ∙ ends_un r c (left (ends_touched r) (declared_touched x o b) c n)
   runs_un (run_assign {x = x} {b = b} {o = o} r) c n = assign_un x o b c (right (ends_touched r) (assigned_touched x o b) c n) ∙ ends_un r c (left (ends_touched r) (assigned_touched x o b) c n)
   runs_un (run_call_receiver r) c n = ends_un r c n
-  runs_un (run_call r q) c n = args_un q c (right (ends_touched r) (args_touched q) c n) ∙ ends_un r c (left (ends_touched r) (args_touched q) c n)
+  runs_un (run_call_gives {v = v} {g = g} r q e) c n =
+      let m = left (ends_touched r ++ args_touched q) (called_touched v g) c n in
+      args_un q c (right (ends_touched r) (args_touched q) c m) ∙ ends_un r c (left (ends_touched r) (args_touched q) c m)
+  runs_un (run_call_enters {v = v} {g = g} r q e w) c n =
+      let l = left ((ends_touched r ++ args_touched q) ++ called_touched v g) (items_touched w) c n in
+      let m = left (ends_touched r ++ args_touched q) (called_touched v g) c l in
+      items_un w c (right ((ends_touched r ++ args_touched q) ++ called_touched v g) (items_touched w) c n)
+      ∙ (args_un q c (right (ends_touched r) (args_touched q) c m) ∙ ends_un r c (left (ends_touched r) (args_touched q) c m))
   runs_un (run_list r) c n = args_un r c n
   runs_un (run_same_left r) c n = ends_un r c n
   runs_un (run_same r q) c n = ends_un q c (right (ends_touched r) (ends_touched q) c n) ∙ ends_un r c (left (ends_touched r) (ends_touched q) c n)
@@ -106,6 +122,8 @@ mutual
   runs_un (run_for_ends r e) c n = ends_un r c n
   runs_un (run_try q e) c n = block_un q c n
   runs_un (run_try_caught q e w) c n = taking_un w c (right (block_touched q) (taking_touched w) c n) ∙ block_un q c (left (block_touched q) (taking_touched w) c n)
+  runs_un (run_object {p = p} {ms = ms} {a = a}) c n = object_un p ms (capture_of p ms a) a c (right (capture_touched (captured []) (captures p ms) a) (with_object_touched p (capture_of p ms a) a) c n)
+  runs_un (run_escape q) c n = taking_un q c n
 
   pub args_un : {k : ℕ} {ts : Trees} {a b : At} {g : Gather} (r : Args k ts a g b) (c : Cell) → NotPut c (args_touched r) → b.state c ≡ a.state c
   args_un args_none c n = refl
@@ -131,6 +149,7 @@ mutual
 kept_un : (o : End) (s t : State) (c : Cell) → t c ≡ s c → kept o s t c ≡ s c
 kept_un (value v) s t c e = e
 kept_un (halt (thrown problem)) s t c e = e
+kept_un (halt (ejected j v)) s t c e = e
 kept_un (halt (abandoned why)) s t c e = refl
 
 pub delivery_un : {d : Delivery} {e : EventName} {v : VatNo} {s : State} {n : ℕ} {o : Outcome} (r : Delivers d e v s n o) (c : Cell) → NotPut c (delivery_touched r) → o.state c ≡ s c

@@ -194,7 +194,7 @@ all_captured c (x ∷ xs) a = all_captured (and_captured c x (sought x a)) xs a
 
 -- what an object captures: the names that are free in its methods
 abbrev pub capture_of : Pattern → Methods → At → Capture
-capture_of p methods a = all_captured (captured []) (captures p methods) a
+capture_of p ms a = all_captured (captured []) (captures p ms) a
 
 -- the object that a turn makes next: they are numbered from 0 in order of making
 abbrev pub next_object : At → ObjId
@@ -219,8 +219,8 @@ placed_end false a = halt (abandoned too_large)
 
 -- an object is made once its names are captured
 abbrev pub with_object : Pattern → Methods → Capture → At → At
-with_object p methods (captured ns) a = placed (has_object_room a) p (record { own = p; captured = ns; methods = methods }) a
-with_object p methods (missing x) a = a
+with_object p ms (captured ns) a = placed (has_object_room a) p (record { own = p; captured = ns; methods = ms }) a
+with_object p ms (missing x) a = a
 
 -- and without one of them it is not made
 abbrev pub object_end : Capture → At → End
@@ -441,7 +441,7 @@ mutual
     run_for_ends : {k : ℕ} {p : Pattern} {e : Tree} {body : Trees} {a b : At} {o q : End} → Ends (k + 1) e a o b → listing_of o ≡ unlisted q → Runs k (for_tree p e body) a q b
     run_try : {k : ℕ} {body : Trees} {p : Pattern} {handler : Trees} {a b : At} {o : End} → Block (k + 1) body a o b → caught o ≡ None → Runs k (try_tree body p handler) a o b
     run_try_caught : {k : ℕ} {body : Trees} {p : Pattern} {handler : Trees} {a b d : At} {o q : End} {problem : Name} → Block (k + 1) body a o b → caught o ≡ Some problem → Taking (k + 1) p (text problem) handler b q d → Runs k (try_tree body p handler) a q d
-    run_object : {k : ℕ} {p : Pattern} {methods : Methods} {a : At} → Runs k (object_tree p methods) a (object_end (capture_of p methods a) a) (with_object p methods (capture_of p methods a) a)
+    run_object : {k : ℕ} {p : Pattern} {ms : Methods} {a : At} → Runs k (object_tree p ms) a (object_end (capture_of p ms a) a) (with_object p ms (capture_of p ms a) a)
     run_escape : {k : ℕ} {x : Name} {body : Trees} {a b : At} {o : End} → Taking (k + 1) (pattern.Name x) (ejector (next_ejector a)) body (escaping a) o b → Runs k (escape_tree x body) a (escape_end (next_ejector a) o) (escaped a b)
 
   -- trees from left to right, as arguments or as the items of a list

@@ -89,7 +89,7 @@ with_object_touched p (captured ns) a = placed_touched (has_object_room a) p a
 with_object_touched p (missing x) a = []
 
 abbrev pub object_touched : Pattern → Methods → At → List Touch
-object_touched p methods a = capture_touched (captured []) (captures p methods) a ++ with_object_touched p (capture_of p methods a) a
+object_touched p ms a = capture_touched (captured []) (captures p ms) a ++ with_object_touched p (capture_of p ms a) a
 
 -- a call on an object reads the object, whether it has the method or not
 abbrev pub callee_touched : Callee → List Touch
@@ -135,7 +135,7 @@ abbrev mutual
   runs_touched (run_for_ends r e) = ends_touched r
   runs_touched (run_try q e) = block_touched q
   runs_touched (run_try_caught q e w) = block_touched q ++ taking_touched w
-  runs_touched (run_object {p = p} {methods = methods} {a = a}) = object_touched p methods a
+  runs_touched (run_object {p = p} {ms = ms} {a = a}) = object_touched p ms a
   runs_touched (run_escape q) = taking_touched q
 
   pub args_touched : {k : ℕ} {ts : Trees} {a b : At} {g : Gather} → Args k ts a g b → List Touch

@@ -89,7 +89,7 @@ cause_of code-abandon.Size = too_large
 
 abbrev pub halt_of : code.Halt → Halt
 halt_of (code-halt.Thrown problem) = thrown problem
-halt_of (code-halt.Ejected j v) = ejected j (val_of v)
+halt_of (code-halt.Ejected e) = ejected e.value.ejector (val_of e.value.value)
 halt_of (code-halt.Abandoned why) = abandoned (cause_of why)
 
 abbrev pub end_of : code-ends.End → End

@@ -1,5 +1,5 @@
 // Calls and Escapes in the evaluation: a method's block runs in the turn, and so does an Escape's.
-ghost use Rattle.std.specs.Prelude.{◌≡◌, ◌≤◌, ◌<◌, ◌+◌, ◌×◌, IfOk};
+ghost use Rattle.std.specs.Prelude.{◌≡◌, ◌≤◌, ◌<◌, ◌+◌, IfOk};
 ghost use Rattle.kernele.specs.Tree.{call, escape_tree};
 ghost use Rattle.kernele.specs.View.{tree_of, trees_of};
 ghost use Rattle.values.specs.Data.{null};
@@ -10,7 +10,7 @@ ghost use Rattle.turn.specs.View.{at, end_of, nouns_of};
 use crate::calls::{call_target, enter_method, leave_method};
 use crate::control::eval_taking;
 use crate::end::End;
-use crate::escapes::{close_escape, escape_end, open_escape};
+use crate::escapes::{close_escape, count_open, escape_end, open_escape};
 use crate::eval::{eval, eval_args, eval_items};
 use crate::heap::Noun;
 use crate::objects::Target;
@@ -38,11 +38,11 @@ pub(crate) fn eval_call(
         End::Halt(halt) => return Ok(End::Halt(halt)),
     };
     let gathered = eval_args(w, args, level + 1)?;
-    let target = call_target(w, &received, verb, gathered)?;
+    let target = call_target(w, received, verb, gathered)?;
     match target {
         Target::Gives(end) => Ok(end),
         Target::Enters(nouns, body) => {
-            let end = eval_method(w, nouns, &body, level + 1)?;
+            let end = eval_method(w, nouns, body, level + 1)?;
             Ok(end)
         }
     }
@@ -53,15 +53,15 @@ pub(crate) fn eval_call(
 fn eval_method(
     w: &mut Working,
     nouns: Vec<Noun>,
-    body: &[Expr],
+    body: Arc<Vec<Expr>>,
     level: u32,
 ) -> Result<End, AllocError>
     requires { level ≤ 1001 }
-    ensures { IfOk result (λ o. (d : At) × Items level null (trees_of body.now) (inside (nouns_of nouns.items) (at w.old)) (end_of o) d
+    ensures { IfOk result (λ o. (d : At) × Items level null (trees_of body.value.items) (inside (nouns_of nouns.items) (at w.old)) (end_of o) d
         × (at w.new ≡ leaving (at w.old) d)) }
 {
     let caller = enter_method(w, nouns);
-    let end = eval_items(w, body, level)?;
+    let end = eval_items(w, &body, level)?;
     leave_method(w, caller);
     Ok(end)
 }
@@ -78,10 +78,10 @@ pub(crate) fn eval_escape(
     ensures { IfOk result (λ o. Runs level (escape_tree name.now (trees_of body.now.value.items))
         (at w.old) (end_of o) (at w.new)) }
 {
-    let outer = w.opened.len();
+    let outer = count_open(w);
     let ejector = open_escape(w)?;
     let pattern = Pattern::Name(name.share()?);
     let ended = eval_taking(w, &pattern, &Value::Ejector(ejector), body, level + 1)?;
     close_escape(w, outer);
-    Ok(escape_end(ejector, ended))
+    escape_end(ejector, ended)
 }

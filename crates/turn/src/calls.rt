@@ -34,15 +34,15 @@ pub struct Caller {
 /// What a call leads to, once its arguments have ended.
 pub fn call_target(
     w: &Working,
-    receiver: &Value,
+    receiver: Value,
     verb: &Text,
     gathered: Gathered,
 ) -> Result<Target, AllocError>
     ensures { IfOk result (λ t. target_view t
-        ≡ target_of (val_of receiver.now) verb.now (gather_of gathered) (at w.now)) }
+        ≡ target_of (val_of receiver) verb.now (gather_of gathered) (at w.now)) }
 {
     match gathered {
-        Gathered::Values(args) => value_target(w, receiver, verb, args.as_slice()),
+        Gathered::Values(args) => value_target(w, &receiver, verb, args.as_slice()),
         Gathered::Halt(halt) => Ok(Target::Gives(End::Halt(halt))),
     }
 }
@@ -57,7 +57,7 @@ fn value_target(
     ensures { IfOk result (λ t. target_view t
         ≡ callee_target (callee_of (val_of receiver.now)) (val_of receiver.now) verb.now (vals_of args.now) (at w.now)) }
 {
-    match callee(receiver) {
+    match called_on(receiver) {
         Callee::Object(id) => object_target(w, id, verb, args),
         Callee::Ejector(id) => Ok(Target::Gives(ejector_end(w, id, verb, args)?)),
         Callee::Datum => Ok(Target::Gives(data_end(w.alloc, receiver, verb, args)?)),
@@ -65,7 +65,7 @@ fn value_target(
 }
 
 /// What a value is to a call.
-fn callee(value: &Value) -> Callee
+fn called_on(value: &Value) -> Callee
     ensures { callee_view result ≡ callee_of (val_of value.now) }
 {
     match value {

@@ -148,7 +148,7 @@ fn settle(alloc: Global, end: End) -> Result<Ended, AllocError>
         End::Halt(halt) => match halt {
             Halt::Thrown(problem) => Ok(Ended::Problem(problem)),
             // No ejection leaves its Escape.
-            Halt::Ejected(_, _) => Ok(Ended::Problem(Text::new(alloc, "ejector is spent")?)),
+            Halt::Ejected(_) => Ok(Ended::Problem(Text::new(alloc, "ejector is spent")?)),
             Halt::Abandoned(why) => Ok(Ended::Abandoned(why)),
         },
     }

@@ -5,6 +5,7 @@ ghost use Rattle.turn.specs.View.{cause_of};
 
 use ids::names::EjId;
 use ids::text::Text;
+use std::sync::Arc;
 use values::value::Value;
 
 /// Why a turn is abandoned.
@@ -15,12 +16,19 @@ pub enum Abandon {
     Size,
 }
 
+/// What an ejector was given.
+#[derive(Drop)]
+pub struct Ejection {
+    pub ejector: EjId,
+    pub value: Value,
+}
+
 /// Why an expression has no value: a problem that was thrown, an ejection, or an abandoned turn.
 #[derive(Drop)]
 pub enum Halt {
     Thrown(Text),
-    /// A value on its way to the Escape of its ejector.
-    Ejected(EjId, Value),
+    /// A value on its way to the Escape of its ejector: behind a pointer, so that ends stay small.
+    Ejected(Arc<Ejection>),
     Abandoned(Abandon),
 }
 

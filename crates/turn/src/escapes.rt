@@ -5,12 +5,13 @@ ghost use Rattle.values.specs.View.{val_of, vals_of};
 ghost use Rattle.turn.specs.Rules.{next_ejector, escaping, escape_end as escape_end_of, is_open as is_open_of, ejects, given as given_of, ejector_end as ejector_end_of};
 ghost use Rattle.turn.specs.View.{at, end_of, opened_of};
 
-use crate::end::{End, Halt};
+use crate::end::{Ejection, End, Halt};
 use crate::results::no_such_method;
 use crate::working::Working;
 use ids::names::EjId;
 use ids::text::Text;
-use std::alloc::{AllocError, Global};
+use std::alloc::AllocError;
+use std::sync::Arc;
 use values::value::Value;
 
 /// Makes the turn's next ejector and begins its Escape.
@@ -29,6 +30,13 @@ pub fn open_escape(w: &mut Working) -> Result<EjId, AllocError>
     Ok(ejector)
 }
 
+/// How many Escapes are being evaluated.
+pub fn count_open(w: &Working) -> usize
+    ensures { result ≡ length w.now.opened.items }
+{
+    w.opened.len()
+}
+
 /// Ends the Escapes that were begun since there were so many: their ejectors are spent.
 pub fn close_escape(w: &mut Working, outer: usize)
     ensures { at w.new ≡ record (at w.old) { opened = opened_of (take outer w.old.opened.items) } }
@@ -37,21 +45,21 @@ pub fn close_escape(w: &mut Working, outer: usize)
 }
 
 /// How an Escape ends whose block ended so: a value that its own ejector was given is its value.
-pub fn escape_end(ejector: EjId, ended: End) -> End
-    ensures { end_of result ≡ escape_end_of ejector (end_of ended) }
+pub fn escape_end(ejector: EjId, ended: End) -> Result<End, AllocError>
+    ensures { IfOk result (λ o. end_of o ≡ escape_end_of ejector (end_of ended)) }
 {
     match ended {
-        End::Value(value) => End::Value(value),
+        End::Value(value) => Ok(End::Value(value)),
         End::Halt(halt) => match halt {
-            Halt::Thrown(problem) => End::Halt(Halt::Thrown(problem)),
-            Halt::Ejected(used, value) => {
-                if ejector.cmp(&used).is_eq() {
-                    End::Value(value)
+            Halt::Thrown(problem) => Ok(End::Halt(Halt::Thrown(problem))),
+            Halt::Ejected(ejection) => {
+                if ejector.cmp(&ejection.ejector).is_eq() {
+                    Ok(End::Value(ejection.value.share()?))
                 } else {
-                    End::Halt(Halt::Ejected(used, value))
+                    Ok(End::Halt(Halt::Ejected(ejection)))
                 }
             }
-            Halt::Abandoned(why) => End::Halt(Halt::Abandoned(why)),
+            Halt::Abandoned(why) => Ok(End::Halt(Halt::Abandoned(why))),
         },
     }
 }
@@ -94,7 +102,8 @@ fn eject(w: &Working, ejector: EjId, value: Value) -> Result<End, AllocError>
         ≡ ejects (is_open_of ejector (opened_of w.now.opened.items)) ejector (val_of value)) }
 {
     if is_open(&w.opened, ejector) {
-        Ok(End::Halt(Halt::Ejected(ejector, value)))
+        let ejection = Ejection { ejector, value };
+        Ok(End::Halt(Halt::Ejected(Arc::new(w.alloc, ejection)?)))
     } else {
         Ok(End::Halt(Halt::Thrown(Text::new(w.alloc, "ejector is spent")?)))
     }

@@ -20,6 +20,8 @@ pub mod results;
 mod tests;
 #[cfg(test)]
 mod tests_of_control;
+#[cfg(test)]
+mod tests_of_objects;
 pub mod theorems;
 pub mod ticket;
 pub mod wanted;

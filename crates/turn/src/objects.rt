@@ -1,5 +1,5 @@
 // Objects: what they capture, how they are made, and how a call finds a method.
-ghost use Rattle.std.specs.Prelude.{◌≡◌, ◌<◌, ◌×◌, IfOk, IfSome, OnOk, length};
+ghost use Rattle.std.specs.Prelude.{◌≡◌, ◌<◌, [], ◌∷◌, IfOk, IfSome, OnOk, length};
 ghost use Rattle.std.specs.Option.{option_map};
 ghost use Rattle.kernele.specs.View.{trees_of, methods_of};
 ghost use Rattle.values.specs.Data.{object as object_value};
@@ -8,7 +8,7 @@ ghost use Rattle.turn.specs.State.{object_cell, read};
 ghost use Rattle.turn.specs.Rules.{captured, all_captured, capture_of, next_object, has_object_room, object_made, placed, placed_end};
 ghost use Rattle.turn.specs.Rules.{with_object, object_end, named, named_all, method_in};
 ghost use Rattle.turn.specs.Rules.{method_target as method_target_of, object_target as object_target_of};
-ghost use Rattle.turn.specs.View.{at, capture_view, end_of, nouns_of, object_of, state_of, target_view};
+ghost use Rattle.turn.specs.View.{at, bind_of, capture_view, end_of, nouns_of, object_of, state_of, target_view};
 
 use crate::end::{Abandon, End, Halt};
 use crate::heap::{Binding, Made, Noun, share_pattern};
@@ -17,7 +17,7 @@ use crate::results::no_such_method;
 use crate::working::Working;
 use ids::names::ObjId;
 use ids::text::Text;
-use kernele::free::captured_names;
+use kernele::captured_names;
 use kernele::tree::{Expr, Method, Pattern};
 use std::alloc::{AllocError, Global};
 use std::sync::Arc;
@@ -50,10 +50,10 @@ pub fn define_object(
         ≡ object_end (capture_of pattern.now (methods_of methods.now.value.items) (at w.old)) (at w.old)) }
     ensures makes { IfOk result (λ o. at w.new
         ≡ with_object pattern.now (methods_of methods.now.value.items)
-            (capture_of pattern.now (methods_of methods.now.value.items) (at w.old)) (at w.old)) }
+        (capture_of pattern.now (methods_of methods.now.value.items) (at w.old)) (at w.old)) }
 {
     let names = captured_names(w.alloc, pattern, methods.as_slice())?;
-    let capture = capture(w, names.as_slice())?;
+    let capture = capture_all(w, names.as_slice())?;
     match capture {
         Capture::Captured(nouns) => place(w, pattern, nouns, methods),
         Capture::Missing(name) => undefined(w.alloc, &name),
@@ -61,7 +61,7 @@ pub fn define_object(
 }
 
 /// Captures names from the left, up to the first that stands for nothing. A variable is captured as its slot.
-fn capture(w: &Working, names: &[Text]) -> Result<Capture, AllocError>
+fn capture_all(w: &Working, names: &[Text]) -> Result<Capture, AllocError>
     ensures { IfOk result (λ c. capture_view c ≡ all_captured (captured []) names.now (at w.now)) }
 {
     let mut nouns = Vec::new(w.alloc);
@@ -145,7 +145,7 @@ fn method_target(
 ) -> Result<Target, AllocError>
     ensures { IfOk result (λ t. target_view t
         ≡ method_target_of id (object_of object.now) verb.now (vals_of args.now)
-            (method_in (methods_of object.now.methods.value.items) verb.now (vals_of args.now))) }
+        (method_in (methods_of object.now.methods.value.items) verb.now (vals_of args.now))) }
 {
     match find_method(object.methods.as_slice(), verb, args) {
         Some(method) => {

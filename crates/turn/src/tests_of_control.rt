@@ -15,11 +15,11 @@ use values::value::Value;
 
 // ---- expressions
 
-fn one(alloc: Global, e: Expr) -> Result<Vec<Expr>, AllocError> {
+pub(crate) fn one(alloc: Global, e: Expr) -> Result<Vec<Expr>, AllocError> {
     Ok(vec![in alloc; e]?)
 }
 
-fn two(alloc: Global, first: Expr, second: Expr) -> Result<Vec<Expr>, AllocError> {
+pub(crate) fn two(alloc: Global, first: Expr, second: Expr) -> Result<Vec<Expr>, AllocError> {
     Ok(vec![in alloc; first, second]?)
 }
 
@@ -68,7 +68,11 @@ fn one_or_two(alloc: Global, condition: Expr) -> Result<Expr, AllocError> {
     )
 }
 
-fn while_true(alloc: Global, condition: Expr, body: Vec<Expr>) -> Result<Expr, AllocError> {
+pub(crate) fn while_true(
+    alloc: Global,
+    condition: Expr,
+    body: Vec<Expr>,
+) -> Result<Expr, AllocError> {
     Ok(Expr::While(Arc::new(alloc, condition)?, Arc::new(alloc, body)?))
 }
 
@@ -81,7 +85,7 @@ fn for_each(
     Ok(Expr::For(pattern, Arc::new(alloc, values)?, Arc::new(alloc, body)?))
 }
 
-fn try_catch(
+pub(crate) fn try_catch(
     alloc: Global,
     body: Vec<Expr>,
     pattern: Pattern,
@@ -99,7 +103,7 @@ fn throw_text(alloc: Global, text: &str) -> Result<Expr, AllocError> {
     throw(alloc, Expr::Text(word(alloc, text)?))
 }
 
-fn named(alloc: Global, name: &str) -> Result<Pattern, AllocError> {
+pub(crate) fn named(alloc: Global, name: &str) -> Result<Pattern, AllocError> {
     Ok(Pattern::Name(word(alloc, name)?))
 }
 
@@ -118,7 +122,7 @@ fn with_top(alloc: Global, name: &str, value: Value) -> Result<VatState, AllocEr
     Ok(state)
 }
 
-fn opened(alloc: Global, script: Vec<Expr>, budget: u32) -> Result<Outcome, AllocError> {
+pub(crate) fn opened(alloc: Global, script: Vec<Expr>, budget: u32) -> Result<Outcome, AllocError> {
     let opening = Delivery::Opening(program(alloc, script)?);
     run(VatState::new(alloc), opening, budget)
 }
@@ -143,13 +147,23 @@ fn has_problem(outcome: &Outcome, problem: &str) -> bool {
 }
 
 /// A new vat answers the program with this value, in just so many steps.
-fn gives(alloc: Global, items: Vec<Expr>, value: &Value, steps: u32) -> Result<bool, AllocError> {
+pub(crate) fn gives(
+    alloc: Global,
+    items: Vec<Expr>,
+    value: &Value,
+    steps: u32,
+) -> Result<bool, AllocError> {
     let outcome = answered(alloc, items, steps)?;
     Ok(has_value(&outcome, value) && outcome.steps == 0)
 }
 
 /// A new vat answers the program with this problem, in just so many steps.
-fn throws(alloc: Global, items: Vec<Expr>, problem: &str, steps: u32) -> Result<bool, AllocError> {
+pub(crate) fn throws(
+    alloc: Global,
+    items: Vec<Expr>,
+    problem: &str,
+    steps: u32,
+) -> Result<bool, AllocError> {
     let outcome = answered(alloc, items, steps)?;
     Ok(has_problem(&outcome, problem) && outcome.steps == 0)
 }

@@ -120,7 +120,7 @@ pub fn caught(tried: End) -> Result<Text, End>
     match tried {
         End::Halt(halt) => match halt {
             Halt::Thrown(problem) => Ok(problem),
-            Halt::Ejected(ejector, value) => Err(End::Halt(Halt::Ejected(ejector, value))),
+            Halt::Ejected(ejection) => Err(End::Halt(Halt::Ejected(ejection))),
             Halt::Abandoned(why) => Err(End::Halt(Halt::Abandoned(why))),
         },
         End::Value(value) => Err(End::Value(value)),

@@ -1,5 +1,5 @@
 // What a turn works on.
-ghost use Rattle.std.specs.Prelude.{◌≤◌};
+ghost use Rattle.std.specs.Prelude.{◌+◌, ◌≤◌};
 
 use crate::heap::{Noun, VatState};
 use ids::names::{EjId, EventName, VatNo};

@@ -1,11 +1,13 @@
 use Rattle.std.proofs.Common.{rules, arith, ap, ◌∙◌, refl, sym, length}
 use Rattle.std.proofs.lemmas.Result.{IfOk-weaker}
-use Rattle.kernele.specs.View.{tree_of}
-use Rattle.kernele.proofs.Views.{tree_of-Call, tree_of-List, tree_of-Hide, tree_of-If, tree_of-While, tree_of-For, tree_of-Try}
+use Rattle.kernele.specs.View.{tree_of, trees_of}
+use Rattle.kernele.proofs.Views.{tree_of-Call, tree_of-List, tree_of-Hide, tree_of-If, tree_of-While, tree_of-For, tree_of-Try, tree_of-Object, tree_of-Escape}
+use Rattle.kernele.specs.declared.tree.Pattern.TheVariants as pattern
 use Rattle.values.specs.View.{val_of}
-use Rattle.turn.specs.View.{at, end_of, choice_view, listing_view}
-use Rattle.turn.specs.Rules.{at_budget, at_depth, run_null, run_bool, run_int, run_text, run_noun, run_define, run_variable, run_assign, run_call_receiver, run_call, run_list, run_same_left, run_same, goes, run_define_list, run_hide, run_throw, run_if_goes, run_if_ends, run_while_again, run_while_halts, run_while_done, run_while_ends, run_for, run_for_ends, run_try, run_try_caught}
+use Rattle.turn.specs.View.{at, end_of, choice_view, listing_view, target_view}
+use Rattle.turn.specs.Rules.{at_budget, at_depth, run_null, run_bool, run_int, run_text, run_noun, run_define, run_variable, run_assign, run_call_receiver, run_call_gives, run_list, run_same_left, run_same, goes, run_define_list, run_hide, run_throw, run_if_goes, run_if_ends, run_while_again, run_while_halts, run_while_done, run_while_ends, run_for, run_for_ends, run_try, run_try_caught, run_object}
 use Rattle.turn.proofs.Steps.{node, child, children, slice_of, if_both, runs_as, runs_to, parts_run, args_begin, args_pushed, args_more, args_no_more, args_end, args_done, items_more, items_no_more, items_end, blocks, block_ending, taking, taking_ending, each, block_end, taking_end, each_more, each_no_more, each_end, next_round}
+use Rattle.turn.proofs.Entered.{entered, call_entered, escape_over}
 use Rattle.turn.proofs.Scopes.{truncated-length}
 use Rattle.turn.proofs.Grown.{round_grow}
 use Rattle.turn.proofs.Spent.{condition_less, block_left}
@@ -83,11 +85,30 @@ eval::eval_args-returns t c = args_done _ (c.loop-arg.invariant _ _ (args_end _ 
 pub eval::eval_list-returns : goal.eval::eval_list-returns
 eval::eval_list-returns t c = IfOk-weaker _ _ _ (λ o h. runs_as (run_list (children (slice_of c.deref-2.ensures.value c.deref.ensures) refl c.in_ok-gathered.ensures)) h) c.list_end.ensures
 
-pub eval::eval_call-returns-in-Halt : goal.eval::eval_call-returns-in-Halt
-eval::eval_call-returns-in-Halt t c = run_call_receiver (child c.deref.ensures c.in-Halt.is c.in_ok-value.ensures)
+pub calling::eval_call-returns-in-Halt : goal.calling::eval_call-returns-in-Halt
+calling::eval_call-returns-in-Halt t c = run_call_receiver (child c.deref.ensures c.in-Halt.is c.in_ok-value.ensures)
 
-pub eval::eval_call-returns : goal.eval::eval_call-returns
-eval::eval_call-returns t c = IfOk-weaker _ _ _ (λ o h. runs_as (run_call (child c.deref.ensures c.in-Value.is c.in_ok-value.ensures) (children (slice_of c.deref-3.ensures.value c.deref-2.ensures) refl c.in_ok-gathered.ensures)) h) c.call_end.ensures
+pub calling::eval_call-returns-in-Gives : goal.calling::eval_call-returns-in-Gives
+calling::eval_call-returns-in-Gives t c = run_call_gives (child c.deref.ensures c.in-Value.is c.in_ok-value.ensures) (children (slice_of c.deref-3.ensures.value c.deref-2.ensures) refl c.in_ok-gathered.ensures) (sym c.in_ok-target.ensures ∙ ap target_view c.in-Gives.is)
+
+pub calling::eval_call-returns-in_ok-end-in-Enters : goal.calling::eval_call-returns-in_ok-end-in-Enters
+calling::eval_call-returns-in_ok-end-in-Enters t c =
+    call_entered (child c.deref.ensures c.in-Value.is c.in_ok-value.ensures) (children (slice_of c.deref-3.ensures.value c.deref-2.ensures) refl c.in_ok-gathered.ensures) (sym c.in_ok-target.ensures ∙ ap target_view c.in-Enters.is)
+    c.in_ok-end-in-Enters.ensures
+
+pub calling::eval_method-returns : goal.calling::eval_method-returns
+calling::eval_method-returns t c = entered (ap trees_of (slice_of c.deref-2.ensures.value c.deref.ensures)) _ c.args.w.now c.eval_items.new.w (ap (λ v. v.items) c.enter_method-caller.ensures.names) c.enter_method-caller.ensures.own c.enter_method-caller.ensures.place c.in_ok-end.ensures c.leave_method.ensures
+
+pub calling::eval_escape-returns : goal.calling::eval_escape-returns
+calling::eval_escape-returns t c =
+    IfOk-weaker c.escape_end.result _ _ (λ o h. escape_over c.args.name.now _ c.args.w.now c.eval_taking.new.w c.count_open-outer.ensures c.in_ok-ejector.ensures.named c.in_ok-ejector.ensures.place (ap pattern.Name c.in_ok-share.ensures)
+    (ap trees_of (slice_of c.deref-2.ensures.value c.deref.ensures)) c.in_ok-ended.ensures c.close_escape.ensures h) c.escape_end.ensures
+
+pub eval::eval-returns-in-Object : goal.eval::eval-returns-in-Object
+eval::eval-returns-in-Object t c = if_both _ _ _ _ (λ o h g. node _ {a = at c.args.w.now} (ap tree_of c.in-Object.is ∙ tree_of-Object c.in-Object.pattern c.in-Object.methods) (runs_to run_object h g) (omega arith) c.if-level-gt-DEEPEST.false) c.define_object.ensures.ends c.define_object.ensures.makes
+
+pub eval::eval-returns-in-Escape : goal.eval::eval-returns-in-Escape
+eval::eval-returns-in-Escape t c = IfOk-weaker _ _ _ (λ o h. node _ (ap tree_of c.in-Escape.is ∙ tree_of-Escape c.in-Escape.name c.in-Escape.body) h (omega arith) c.if-level-gt-DEEPEST.false) c.eval_escape.ensures
 
 pub eval::eval_same-returns-in-Halt : goal.eval::eval_same-returns-in-Halt
 eval::eval_same-returns-in-Halt t c = run_same_left (child c.deref.ensures c.in-Halt.is c.in_ok-value.ensures)

@@ -38,8 +38,14 @@ decreases-eval::eval_var l = 5 * (1000 - l.level) + 4
 abbrev pub decreases-eval::eval_assign : goal.decreases-eval::eval_assign
 decreases-eval::eval_assign l = 5 * (1000 - l.level) + 4
 
-abbrev pub decreases-eval::eval_call : goal.decreases-eval::eval_call
-decreases-eval::eval_call l = 5 * (1000 - l.level) + 4
+abbrev pub decreases-calling::eval_call : goal.decreases-calling::eval_call
+decreases-calling::eval_call l = 5 * (1000 - l.level) + 4
+
+abbrev pub decreases-calling::eval_escape : goal.decreases-calling::eval_escape
+decreases-calling::eval_escape l = 5 * (1000 - l.level) + 4
+
+abbrev pub decreases-calling::eval_method : goal.decreases-calling::eval_method
+decreases-calling::eval_method l = 5 * (1001 - l.level) + 2
 
 abbrev pub decreases-eval::eval_list : goal.decreases-eval::eval_list
 decreases-eval::eval_list l = 5 * (1000 - l.level) + 4

@@ -7,4 +7,4 @@ use Rattle.turn.proofs.Deliveries.{program_items, completed}
 use Rattle.turn.proofs.delivery.run_program.Goals as goal
 
 pub returns : goal.returns
-returns c = IfOk-weaker c.finish.result _ _ (λ r h. completed {r = outcome_of r} (program_items (ap trees_of (slice_of c.as_slice.ensures.value c.deref.ensures)) c.new.ensures.items c.in_ok-try_copy.ensures c.in_ok-end.ensures) h) c.finish.ensures
+returns c = IfOk-weaker c.finish.result _ _ (λ r h. completed {r = outcome_of r} (program_items (ap trees_of (slice_of c.as_slice.ensures.value c.deref.ensures)) c.new.ensures.items c.new-2.ensures.items c.in_ok-try_copy.ensures c.in_ok-end.ensures) h) c.finish.ensures

@@ -1,0 +1,11 @@
+use Rattle.std.proofs.Common.{arith}
+use Rattle.kernele.specs.View.{methods_of}
+use Rattle.turn.specs.View.{at, nouns_of}
+use Rattle.turn.proofs.Captures.{placed_there}
+use Rattle.turn.proofs.objects.place.Goals as goal
+
+pub returns-clause-makes : goal.returns-clause-makes
+returns-clause-makes c =
+    placed_there c.args.pattern.now _ _ _ (at c.args.w.now) _ _ (omega (arith, c.if-w-ge-MAX_OBJECTS.false))
+    (λ i. record { own = c.in_ok-share_pattern.ensures i; captured = nouns_of (c.in_ok-new.ensures.ok i).items; methods = methods_of (c.in_ok-try_clone.ensures i).items })
+    c.in_ok-make_object.ensures.named c.in_ok-make_object.ensures.made c.in_ok-match_pattern.ensures

@@ -1,0 +1,5 @@
+use Rattle.turn.proofs.Ejections.{none_leaves}
+use Rattle.turn.proofs.theorems.no_ejection_leaves_a_turn.Goals as goal
+
+pub returns : goal.returns
+returns c = none_leaves
