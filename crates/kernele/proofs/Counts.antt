@@ -24,7 +24,7 @@ some_node (while_tree c body) = omega arith
 some_node (for_tree p e body) = omega arith
 some_node (try_tree body p handler) = omega arith
 some_node (throw_tree e) = omega arith
-some_node (object_tree p methods) = omega arith
+some_node (object_tree p ms) = omega arith
 some_node (escape_tree x body) = omega arith
 
 -- a tree has a depth
@@ -47,7 +47,7 @@ some_depth (while_tree c body) = omega arith
 some_depth (for_tree p e body) = omega arith
 some_depth (try_tree body p handler) = omega arith
 some_depth (throw_tree e) = omega arith
-some_depth (object_tree p methods) = omega arith
+some_depth (object_tree p ms) = omega arith
 some_depth (escape_tree x body) = omega arith
 
 -- what is left of a number after some nodes is what is left after more of a greater number

@@ -113,7 +113,7 @@ mutual
       in_first (in_block (checked_all body) s) (in_block (checked_with p (checked_all handler))) [] s r
       (λ q. block_grows (checked_all body (entered s)) s q) (λ q. block_grows (checked_with p (checked_all handler) (entered q)) q r) e
   grows (throw_tree t) s r e = grows t s r e
-  grows (object_tree p methods) s r e = in_first (bound p s) (checked_methods [] methods) (name_of p) s r (λ q. bound_grows p s q) (λ q. methods_grow [] methods q r) e
+  grows (object_tree p ms) s r e = in_first (bound p s) (checked_methods [] ms) (name_of p) s r (λ q. bound_grows p s q) (λ q. methods_grow [] ms q r) e
   grows (escape_tree x body) s r e = block_grows (checked_with (pattern.Name x) (checked_all body) (entered s)) s r e
 
   -- so do trees in order

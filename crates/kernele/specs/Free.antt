@@ -38,7 +38,7 @@ abbrev mutual
   free (for_tree p e body) bs = free e bs ++ free_in body ((bs ++ own_names e) ++ name_of p)
   free (try_tree body p handler) bs = free_in body bs ++ free_in handler (bs ++ name_of p)
   free (throw_tree e) bs = free e bs
-  free (object_tree p methods) bs = free_of methods (bs ++ name_of p)
+  free (object_tree p ms) bs = free_of ms (bs ++ name_of p)
   free (escape_tree x body) bs = free_in body (bs ++ defined_name x ∷ [])
 
   pub free_in : Trees → List TopName → List Name
@@ -66,4 +66,4 @@ with_all_new xs (y ∷ ys) = with_all_new (with_new xs y) ys
 
 -- what an object captures: the names that are free in its methods, each once, in the order in which they first occur; its own name is none
 abbrev pub captures : Pattern → Methods → List Name
-captures p methods = with_all_new [] (free_of methods (name_of p))
+captures p ms = with_all_new [] (free_of ms (name_of p))

@@ -30,7 +30,7 @@ abbrev mutual
   nodes (for_tree p e body) = 1 + nodes e + nodes_in body
   nodes (try_tree body p handler) = 1 + nodes_in body + nodes_in handler
   nodes (throw_tree e) = 1 + nodes e
-  nodes (object_tree p methods) = 1 + nodes_of methods
+  nodes (object_tree p ms) = 1 + nodes_of ms
   nodes (escape_tree x body) = 1 + nodes_in body
 
   pub nodes_in : Trees → ℕ
@@ -62,7 +62,7 @@ abbrev mutual
   depth (for_tree p e body) = 1 + max (depth e) (depth_in body)
   depth (try_tree body p handler) = 1 + max (depth_in body) (depth_in handler)
   depth (throw_tree e) = 1 + depth e
-  depth (object_tree p methods) = 1 + depth_of methods
+  depth (object_tree p ms) = 1 + depth_of ms
   depth (escape_tree x body) = 1 + depth_in body
 
   pub depth_in : Trees → ℕ
@@ -226,7 +226,7 @@ abbrev mutual
   checked (for_tree p e body) s = in_turn (checked e s) (in_block (checked_with p (checked_all body)))
   checked (try_tree body p handler) s = in_turn (in_block (checked_all body) s) (in_block (checked_with p (checked_all handler)))
   checked (throw_tree e) s = checked e s
-  checked (object_tree p methods) s = in_turn (bound p s) (checked_methods [] methods)
+  checked (object_tree p ms) s = in_turn (bound p s) (checked_methods [] ms)
   checked (escape_tree x body) s = in_block (checked_with (pattern.Name x) (checked_all body)) s
 
   pub checked_all : Trees → Scopes → Checked
@@ -276,7 +276,7 @@ abbrev mutual
   own_names (for_tree p e body) = own_names e
   own_names (try_tree body p handler) = []
   own_names (throw_tree e) = own_names e
-  own_names (object_tree p methods) = name_of p
+  own_names (object_tree p ms) = name_of p
   own_names (escape_tree x body) = []
 
   pub own_names_in : Trees → List TopName

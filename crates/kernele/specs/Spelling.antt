@@ -45,7 +45,7 @@ needs_brackets (while_tree c body) = false
 needs_brackets (for_tree p e body) = false
 needs_brackets (try_tree body p handler) = false
 needs_brackets (throw_tree e) = false
-needs_brackets (object_tree p methods) = false
+needs_brackets (object_tree p ms) = false
 needs_brackets (escape_tree x body) = false
 
 -- nouns, literals, lists, calls and comparisons are receivers without brackets
@@ -68,7 +68,7 @@ is_bare_receiver (while_tree c body) = false
 is_bare_receiver (for_tree p e body) = false
 is_bare_receiver (try_tree body p handler) = false
 is_bare_receiver (throw_tree e) = false
-is_bare_receiver (object_tree p methods) = false
+is_bare_receiver (object_tree p ms) = false
 is_bare_receiver (escape_tree x body) = false
 
 -- a part of another tree, from its spelling
@@ -118,7 +118,7 @@ abbrev mutual
   spelled (for_tree p e body) = codes "for " ++ bound_name p ++ codes " in " ++ as_part e (spelled e) ++ codes " " ++ in_braces (spelled_items body)
   spelled (try_tree body p handler) = codes "try " ++ in_braces (spelled_items body) ++ codes " catch " ++ bound_name p ++ codes " " ++ in_braces (spelled_items handler)
   spelled (throw_tree e) = codes "throw(" ++ as_part e (spelled e) ++ codes ")"
-  spelled (object_tree p methods) = codes "def " ++ bound_name p ++ codes " " ++ methods_in_braces (spelled_methods methods)
+  spelled (object_tree p ms) = codes "def " ++ bound_name p ++ codes " " ++ methods_in_braces (spelled_methods ms)
   spelled (escape_tree x body) = codes "escape " ++ x ++ codes " " ++ in_braces (spelled_items body)
 
   -- arguments, or the items of a list

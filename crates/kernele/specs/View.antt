@@ -28,7 +28,7 @@ abbrev mutual
   tree_of (code.For' pattern p e q shape body) = for_tree pattern (tree_of e) (trees_of_row body)
   tree_of (code.Try' p shape body pattern q shape2 handler) = try_tree (trees_of_row body) pattern (trees_of_row handler)
   tree_of (code.Throw' p e) = throw_tree (tree_of e)
-  tree_of (code.Object' pattern p shape methods) = object_tree pattern (methods_of_row methods)
+  tree_of (code.Object' pattern p shape ms) = object_tree pattern (methods_of_row ms)
   tree_of (code.Escape' x p shape body) = escape_tree x (trees_of_row body)
 
   pub trees_of_row : {n : _} → code.Row_of-Expr n → Trees
