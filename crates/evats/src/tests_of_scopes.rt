@@ -8,7 +8,10 @@ fn names_in_scope(rt: HostRuntime) -> Result<(), Fail> {
     let rows = [
         ("[(def y := 1)]; def z := y; z", "value 1"),
         ("var x := 1; x := x + (x := 2); x", "value 3"),
-        ("if ((def x := true)) { x } else { def x := 1 }; x", "value true"),
+        (
+            "if ((def x := true)) { x } else { def x := 1 }; x",
+            "value true",
+        ),
         ("for p in (def l := []) { p }; l", "value []"),
         ("var v := 1; { def v := 2; { def v := 3 } }; v", "value 1"),
         ("var v := 1; { { v := 3 } }; v", "value 3"),
@@ -31,14 +34,20 @@ fn names_out_of_scope(rt: HostRuntime) -> Result<(), Fail> {
         ("y := 1", "no K1 Unbound y"),
         ("if (true) { def x := 1; 2 } else { x }", "no K1 Unbound x"),
         ("try { def x := 1 } catch _ { x }", "no K1 Unbound x"),
-        ("while ((def x := false)) { def y := 1 }; y", "no K1 Unbound y"),
+        (
+            "while ((def x := false)) { def y := 1 }; y",
+            "no K1 Unbound y",
+        ),
         ("try { p } catch p { p }", "no K1 Unbound p"),
         ("try { } catch p { p }; p", "no K1 Unbound p"),
         ("def [a] := a", "no K1 Unbound a"),
         ("x := (def x := 1)", "no K2 AssignToDef x"),
         ("var v := 1; { def v := 2; v := 3 }", "no K2 AssignToDef v"),
         ("def x := (def x := 1)", "no K3 DuplicateName x"),
-        ("def v := []; for v in v { def v := 1 }", "no K3 DuplicateName v"),
+        (
+            "def v := []; for v in v { def v := 1 }",
+            "no K3 DuplicateName v",
+        ),
     ];
     for (text, wanted) in rows {
         expect_asked(&rt, text, wanted, true)?;

@@ -12,8 +12,9 @@ fn expect_within(
     wanted: &str,
 ) -> Result<(), Fail> {
     let commands = format!(in rt.alloc(); "vat a () 0\nturn e1.m0\nask a {text}\nturn e3.m0\n")?;
-    let wanted =
-        format!(in rt.alloc(); "ok e1 e1.m0\nok e2 value null\nok e3 e3.m0\nok e4 {wanted}\n")?;
+    let wanted = format!(in rt.alloc();
+        "ok e1 e1.m0\nok e2 value null\nok e3 e3.m0\nok e4 {wanted}\n"
+    )?;
     expect(rt, budget, commands.as_bytes(), wanted.as_str(), false);
     Ok(())
 }
@@ -42,6 +43,34 @@ fn steps(rt: HostRuntime) -> Result<(), Fail> {
     for (text, budget, wanted) in rows {
         expect_within(&rt, text, budget, wanted)?;
         expect_within(&rt, text, budget - 1, "abandoned \"turn budget spent\"")?;
+    }
+    Ok(())
+}
+
+/// A turn makes at most 4,096 slots and 4,096 objects.
+#[test]
+fn limits_of_a_turn(rt: HostRuntime) -> Result<(), Fail> {
+    let large = "abandoned \"turn too large\"";
+    let rows = [
+        (
+            "var i := 0; while (i < 4094) { var s := i; i := i + 1 }; var last := 3",
+            "value 3",
+        ),
+        (
+            "var i := 0; while (i < 4095) { var s := i; i := i + 1 }; var last := 3",
+            large,
+        ),
+        (
+            "var i := 0; while (i < 4096) { def _ { }; i := i + 1 }; i",
+            "value 4096",
+        ),
+        (
+            "var i := 0; while (i < 4097) { def _ { }; i := i + 1 }; i",
+            large,
+        ),
+    ];
+    for (text, wanted) in rows {
+        expect_within(&rt, text, 100_000, wanted)?;
     }
     Ok(())
 }

@@ -18,10 +18,6 @@ pub mod objects;
 pub mod results;
 #[cfg(test)]
 mod tests;
-#[cfg(test)]
-mod tests_of_control;
-#[cfg(test)]
-mod tests_of_objects;
 pub mod theorems;
 pub mod ticket;
 pub mod wanted;

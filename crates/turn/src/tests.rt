@@ -13,27 +13,27 @@ use std::test::Fail;
 use values::sameness::same;
 use values::value::Value;
 
-pub(crate) fn word(alloc: Global, text: &str) -> Result<Text, AllocError> {
+fn word(alloc: Global, text: &str) -> Result<Text, AllocError> {
     Text::new(alloc, text)
 }
 
-pub(crate) fn program(alloc: Global, items: Vec<Expr>) -> Result<Program, AllocError> {
+fn program(alloc: Global, items: Vec<Expr>) -> Result<Program, AllocError> {
     Ok(Program(Block(Arc::new(alloc, items)?)))
 }
 
-pub(crate) fn define(alloc: Global, name: &str, right: Expr) -> Result<Expr, AllocError> {
+fn define(alloc: Global, name: &str, right: Expr) -> Result<Expr, AllocError> {
     Ok(Expr::Def(Pattern::Name(word(alloc, name)?), Arc::new(alloc, right)?))
 }
 
-pub(crate) fn noun(alloc: Global, name: &str) -> Result<Expr, AllocError> {
+fn noun(alloc: Global, name: &str) -> Result<Expr, AllocError> {
     Ok(Expr::Noun(word(alloc, name)?))
 }
 
-pub(crate) fn var(alloc: Global, name: &str, right: Expr) -> Result<Expr, AllocError> {
+fn var(alloc: Global, name: &str, right: Expr) -> Result<Expr, AllocError> {
     Ok(Expr::Var(word(alloc, name)?, Arc::new(alloc, right)?))
 }
 
-pub(crate) fn assign(alloc: Global, name: &str, right: Expr) -> Result<Expr, AllocError> {
+fn assign(alloc: Global, name: &str, right: Expr) -> Result<Expr, AllocError> {
     Ok(Expr::Assign(word(alloc, name)?, Arc::new(alloc, right)?))
 }
 
@@ -47,22 +47,8 @@ fn sum(alloc: Global) -> Result<Expr, AllocError> {
     ))
 }
 
-/// `0 + (0 + .. 7)`, this many sums deep.
-fn nested(alloc: Global, depth: u32) -> Result<Expr, AllocError> {
-    let mut e = Expr::Int(7);
-    for _ in 0..depth {
-        let args = vec![in alloc; e]?;
-        e = Expr::Call(
-            Arc::new(alloc, Expr::Int(0))?,
-            word(alloc, "add")?,
-            Arc::new(alloc, args)?,
-        );
-    }
-    Ok(e)
-}
-
 /// Runs a turn by a ticket.
-pub(crate) fn run(state: VatState, delivery: Delivery, budget: u32) -> Result<Outcome, AllocError> {
+fn run(state: VatState, delivery: Delivery, budget: u32) -> Result<Outcome, AllocError> {
     let ticket = Ticket::new(Out {
         event: EventName(2),
         message: MsgId {
@@ -83,28 +69,23 @@ pub(crate) fn run(state: VatState, delivery: Delivery, budget: u32) -> Result<Ou
     }
 }
 
-pub(crate) fn asked(
-    alloc: Global,
-    state: VatState,
-    e: Expr,
-    budget: u32,
-) -> Result<Outcome, AllocError> {
+fn asked(alloc: Global, state: VatState, e: Expr, budget: u32) -> Result<Outcome, AllocError> {
     let items = vec![in alloc; e]?;
     run(state, Delivery::Asked(program(alloc, items)?), budget)
 }
 
-pub(crate) fn broken(alloc: Global, problem: &str) -> Result<Value, AllocError> {
+fn broken(alloc: Global, problem: &str) -> Result<Value, AllocError> {
     Ok(Value::Broken(word(alloc, problem)?))
 }
 
-pub(crate) fn is_abandoned(ended: &Ended, why: Abandon) -> bool {
+fn is_abandoned(ended: &Ended, why: Abandon) -> bool {
     match ended {
         Ended::Abandoned(cause) => *cause == why,
         Ended::Value(_) | Ended::Problem(_) => false,
     }
 }
 
-pub(crate) fn has_top(state: &VatState, name: &Text, value: &Value) -> bool {
+fn has_top(state: &VatState, name: &Text, value: &Value) -> bool {
     match state.top(name) {
         Some(Binding::Fixed(bound)) => same(bound, value),
         Some(Binding::Slot(_)) | None => false,
@@ -174,20 +155,6 @@ fn a_question_defines_none(rt: HostRuntime) -> Result<(), Fail> {
 }
 
 #[test]
-fn a_throw_keeps_what_was_bound(rt: HostRuntime) -> Result<(), Fail> {
-    let alloc = rt.alloc();
-    let script = vec![in alloc; define(alloc, "x", Expr::Int(1))?, noun(alloc, "y")?]?;
-    let outcome = run(
-        VatState::new(alloc),
-        Delivery::Opening(program(alloc, script)?),
-        100,
-    )?;
-    assert!(rt; same(&outcome.result, &broken(alloc, "undefined noun y")?));
-    assert!(rt; has_top(&outcome.state, &word(alloc, "x")?, &Value::Int(1)));
-    Ok(())
-}
-
-#[test]
 fn an_abandoned_script_binds_nothing(rt: HostRuntime) -> Result<(), Fail> {
     let alloc = rt.alloc();
     let script = vec![in alloc; define(alloc, "x", Expr::Int(1))?, Expr::Null]?;
@@ -201,31 +168,25 @@ fn an_abandoned_script_binds_nothing(rt: HostRuntime) -> Result<(), Fail> {
     Ok(())
 }
 
-#[test]
-fn the_deepest_level(rt: HostRuntime) -> Result<(), Fail> {
-    let alloc = rt.alloc();
-    let deepest = asked(alloc, VatState::new(alloc), nested(alloc, 999)?, 2000)?;
-    assert!(rt; same(&deepest.result, &Value::Int(7)));
-    assert_eq!(rt; deepest.steps, 1);
-    let deeper = asked(alloc, VatState::new(alloc), nested(alloc, 1000)?, 2001)?;
-    assert!(rt; is_abandoned(&deeper.ended, Abandon::Depth));
-    assert!(rt; same(&deeper.result, &broken(alloc, "calls too deep")?));
-    assert_eq!(rt; deeper.steps, 1);
-    Ok(())
+/// A problem that a broken noun throws, where a condition is wanted and where a text is.
+fn problem_of(alloc: Global, e: Expr) -> Result<Value, AllocError> {
+    let mut state = VatState::new(alloc);
+    let lost = Binding::Fixed(broken(alloc, "lost")?);
+    state.bind_top(word(alloc, "b")?, lost)?;
+    Ok(asked(alloc, state, e, 10)?.result)
 }
 
 #[test]
-fn lists_are_the_same(rt: HostRuntime) -> Result<(), Fail> {
+fn a_broken_value_throws_its_problem(rt: HostRuntime) -> Result<(), Fail> {
     let alloc = rt.alloc();
-    let left = vec![in alloc; Expr::Int(1), Expr::Bool(true)]?;
-    let right = vec![in alloc; Expr::Int(1), Expr::Bool(true)]?;
-    let e = Expr::Same(
-        Arc::new(alloc, Expr::List(Arc::new(alloc, left)?))?,
-        Arc::new(alloc, Expr::List(Arc::new(alloc, right)?))?,
-    );
-    let outcome = asked(alloc, VatState::new(alloc), e, 7)?;
-    assert!(rt; same(&outcome.result, &Value::Bool(true)));
-    assert_eq!(rt; outcome.steps, 0);
+    let lost = broken(alloc, "lost")?;
+    let b = Arc::new(alloc, noun(alloc, "b")?)?;
+    let empty = Arc::new(alloc, Vec::new(alloc))?;
+    let thrown = problem_of(alloc, Expr::Throw(b))?;
+    assert!(rt; same(&thrown, &lost));
+    let b = Arc::new(alloc, noun(alloc, "b")?)?;
+    let looped = problem_of(alloc, Expr::While(b, empty))?;
+    assert!(rt; same(&looped, &lost));
     Ok(())
 }
 
@@ -259,109 +220,6 @@ fn a_delivery_is_shared(rt: HostRuntime) -> Result<(), Fail> {
     assert!(rt; same(&outcome.result, &Value::Int(5)));
     let again = run(VatState::new(alloc), delivery, 3)?;
     assert!(rt; same(&again.result, &Value::Int(5)));
-    Ok(())
-}
-
-/// A variable of a script is a slot, which an asked program changes and another one reads.
-#[test]
-fn a_variable_is_assigned(rt: HostRuntime) -> Result<(), Fail> {
-    let alloc = rt.alloc();
-    let script = vec![in alloc; var(alloc, "n", Expr::Int(0))?]?;
-    let opened = run(
-        VatState::new(alloc),
-        Delivery::Opening(program(alloc, script)?),
-        2,
-    )?;
-    assert!(rt; same(&opened.result, &Value::Int(0)));
-    assert_eq!(rt; opened.steps, 0);
-    assert!(rt; is_variable(&opened.state, &word(alloc, "n")?, slot_of_run(0)));
-    assert!(rt; holds(&opened.state, slot_of_run(0), &Value::Int(0)));
-    let changed = asked(alloc, opened.state, assign(alloc, "n", Expr::Int(7))?, 2)?;
-    assert!(rt; same(&changed.result, &Value::Int(7)));
-    assert_eq!(rt; changed.steps, 0);
-    assert!(rt; is_variable(&changed.state, &word(alloc, "n")?, slot_of_run(0)));
-    assert_eq!(rt; changed.state.slots().len(), 1);
-    let read = asked(alloc, changed.state, noun(alloc, "n")?, 1)?;
-    assert!(rt; same(&read.result, &Value::Int(7)));
-    Ok(())
-}
-
-/// `[var m := 1, m := 5, m]`: the variable is the asked program's own, its slot stays in the vat.
-#[test]
-fn a_nested_variable(rt: HostRuntime) -> Result<(), Fail> {
-    let alloc = rt.alloc();
-    let items = vec![in alloc;
-        var(alloc, "m", Expr::Int(1))?,
-        assign(alloc, "m", Expr::Int(5))?,
-        noun(alloc, "m")?,
-    ]?;
-    let outcome = asked(
-        alloc,
-        VatState::new(alloc),
-        Expr::List(Arc::new(alloc, items)?),
-        100,
-    )?;
-    let three = vec![in alloc; Value::Int(1), Value::Int(5), Value::Int(5)]?;
-    assert!(rt; same(&outcome.result, &Value::List(Arc::new(alloc, three)?)));
-    assert_eq!(rt; outcome.steps, 94);
-    assert!(rt; outcome.state.top(&word(alloc, "m")?).is_none());
-    assert!(rt; holds(&outcome.state, slot_of_run(0), &Value::Int(5)));
-    Ok(())
-}
-
-/// The right side comes first, and so does its end.
-#[test]
-fn an_undefined_noun_is_assigned(rt: HostRuntime) -> Result<(), Fail> {
-    let alloc = rt.alloc();
-    let outcome = asked(
-        alloc,
-        VatState::new(alloc),
-        assign(alloc, "x", Expr::Int(1))?,
-        3,
-    )?;
-    assert!(rt; same(&outcome.result, &broken(alloc, "undefined noun x")?));
-    assert_eq!(rt; outcome.steps, 1);
-    let both = assign(alloc, "x", noun(alloc, "y")?)?;
-    let first = asked(alloc, VatState::new(alloc), both, 3)?;
-    assert!(rt; same(&first.result, &broken(alloc, "undefined noun y")?));
-    Ok(())
-}
-
-/// Variables of one name each, and then what the last one makes of the turn.
-fn variables(alloc: Global, count: u32, last: Expr) -> Result<Outcome, AllocError> {
-    let mut items = Vec::new(alloc);
-    for _ in 0..count {
-        items.push(var(alloc, "v", Expr::Null)?)?;
-    }
-    items.push(last)?;
-    run(
-        VatState::new(alloc),
-        Delivery::Asked(program(alloc, items)?),
-        10_000,
-    )
-}
-
-#[test]
-fn the_last_slot(rt: HostRuntime) -> Result<(), Fail> {
-    let alloc = rt.alloc();
-    let full = variables(alloc, 4095, var(alloc, "v", Expr::Int(3))?)?;
-    assert!(rt; same(&full.result, &Value::Int(3)));
-    assert_eq!(rt; full.steps, 10_000 - 8192);
-    assert_eq!(rt; full.state.slots().len(), 4096);
-    assert!(rt; holds(&full.state, slot_of_run(4095), &Value::Int(3)));
-    Ok(())
-}
-
-#[test]
-fn a_slot_too_many(rt: HostRuntime) -> Result<(), Fail> {
-    let alloc = rt.alloc();
-    let over = variables(alloc, 4096, var(alloc, "v", Expr::Int(3))?)?;
-    assert!(rt; is_abandoned(&over.ended, Abandon::Size));
-    assert!(rt; same(&over.result, &broken(alloc, "turn too large")?));
-    assert_eq!(rt; over.steps, 10_000 - 8194);
-    assert_eq!(rt; over.state.slots().len(), 0);
-    let thrown = variables(alloc, 4096, var(alloc, "v", noun(alloc, "y")?)?)?;
-    assert!(rt; same(&thrown.result, &broken(alloc, "undefined noun y")?));
     Ok(())
 }
 
