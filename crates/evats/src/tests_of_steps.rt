@@ -1,4 +1,4 @@
-// How many steps each construct takes: just enough of them give the value, and one less spends the budget.
+// How many steps each construct takes (just enough of them give the value, one less spends the budget), and what a turn may make and keeps.
 
 use crate::tests::expect;
 use std::process::Abort;
@@ -73,4 +73,14 @@ fn limits_of_a_turn(rt: HostRuntime) -> Result<(), Fail> {
         expect_within(&rt, text, 100_000, wanted)?;
     }
     Ok(())
+}
+
+/// An abandoned turn leaves a variable as it was, a turn that ends with a problem keeps what it wrote.
+#[test]
+fn what_a_turn_keeps(rt: HostRuntime) {
+    let commands =
+        b"vat a () 1\nvar n := 0\nturn e1.m0\nask a n := 1; while (true) { }\nturn e3.m0\nask a n\nturn e5.m0\nask a n := 2; throw(\"x\")\nturn e7.m0\nask a n\nturn e9.m0\n";
+    let wanted =
+        "ok e1 e1.m0\nok e2 value 0\nok e3 e3.m0\nok e4 abandoned \"turn budget spent\"\nok e5 e5.m0\nok e6 value 0\nok e7 e7.m0\nok e8 problem \"x\"\nok e9 e9.m0\nok e10 value 2\n";
+    expect(&rt, 1_000, commands, wanted, false);
 }

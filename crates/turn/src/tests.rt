@@ -29,14 +29,6 @@ fn noun(alloc: Global, name: &str) -> Result<Expr, AllocError> {
     Ok(Expr::Noun(word(alloc, name)?))
 }
 
-fn var(alloc: Global, name: &str, right: Expr) -> Result<Expr, AllocError> {
-    Ok(Expr::Var(word(alloc, name)?, Arc::new(alloc, right)?))
-}
-
-fn assign(alloc: Global, name: &str, right: Expr) -> Result<Expr, AllocError> {
-    Ok(Expr::Assign(word(alloc, name)?, Arc::new(alloc, right)?))
-}
-
 /// `2 + 3`.
 fn sum(alloc: Global) -> Result<Expr, AllocError> {
     let args = vec![in alloc; Expr::Int(3)]?;
@@ -89,15 +81,6 @@ fn has_top(state: &VatState, name: &Text, value: &Value) -> bool {
     match state.top(name) {
         Some(Binding::Fixed(bound)) => same(bound, value),
         Some(Binding::Slot(_)) | None => false,
-    }
-}
-
-/// A slot of the event that `run` runs.
-fn slot_of_run(index: u32) -> SlotId {
-    SlotId {
-        event: EventName(2),
-        index,
-        vat: VatNo(EventName(1)),
     }
 }
 
@@ -220,22 +203,5 @@ fn a_delivery_is_shared(rt: HostRuntime) -> Result<(), Fail> {
     assert!(rt; same(&outcome.result, &Value::Int(5)));
     let again = run(VatState::new(alloc), delivery, 3)?;
     assert!(rt; same(&again.result, &Value::Int(5)));
-    Ok(())
-}
-
-/// An abandoned turn writes no slot, a turn that threw keeps what it wrote.
-#[test]
-fn what_is_kept_of_slots(rt: HostRuntime) -> Result<(), Fail> {
-    let alloc = rt.alloc();
-    let script = vec![in alloc; var(alloc, "n", Expr::Int(0))?]?;
-    let opening = Delivery::Opening(program(alloc, script)?);
-    let opened = run(VatState::new(alloc), opening, 2)?;
-    let items = vec![in alloc; assign(alloc, "n", Expr::Int(1))?, Expr::Null]?;
-    let short = run(opened.state, Delivery::Asked(program(alloc, items)?), 2)?;
-    assert!(rt; is_abandoned(&short.ended, Abandon::Budget));
-    assert!(rt; holds(&short.state, slot_of_run(0), &Value::Int(0)));
-    let items = vec![in alloc; assign(alloc, "n", Expr::Int(2))?, noun(alloc, "y")?]?;
-    let thrown = run(short.state, Delivery::Asked(program(alloc, items)?), 3)?;
-    assert!(rt; holds(&thrown.state, slot_of_run(0), &Value::Int(2)));
     Ok(())
 }
