@@ -5,6 +5,4 @@ pub mod book;
 pub mod fault;
 pub mod journal;
 pub mod rerun;
-#[cfg(test)]
-mod tests;
 pub mod undoing;

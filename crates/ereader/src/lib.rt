@@ -20,8 +20,6 @@ mod operator;
 mod peek;
 mod primaries;
 mod reader;
-#[cfg(test)]
-mod tests;
 pub mod theorems;
 
 use crate::fault::{ReadFault, Stop};

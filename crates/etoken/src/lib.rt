@@ -7,8 +7,6 @@ pub mod fault;
 mod lexer;
 pub mod names;
 mod table;
-#[cfg(test)]
-mod tests;
 pub mod theorems;
 pub mod token;
 pub mod tokens;

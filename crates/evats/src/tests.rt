@@ -51,6 +51,22 @@ pub fn expect_turn(rt: &(impl Abort + AllocGlobal), text: &str, wanted: &str) ->
     Ok(())
 }
 
+/// Runs asked texts with their turns, each in a vat of its own.
+pub fn expect_turns(rt: &(impl Abort + AllocGlobal), rows: &[(&str, &str)]) -> Result<(), Fail> {
+    for (text, wanted) in rows {
+        expect_turn(rt, text, wanted)?;
+    }
+    Ok(())
+}
+
+/// Runs asked texts that are refused, each in a vat of its own.
+pub fn expect_refusals(rt: &(impl Abort + AllocGlobal), rows: &[(&str, &str)]) -> Result<(), Fail> {
+    for (text, wanted) in rows {
+        expect_asked(rt, text, wanted, true)?;
+    }
+    Ok(())
+}
+
 #[test]
 fn nothing_is_replied_to_nothing(rt: HostRuntime) {
     expect(&rt, 10_000, b"", "", false);
@@ -70,53 +86,51 @@ fn turns_within_their_budget(rt: HostRuntime) {
 
 #[test]
 fn asked_texts_and_their_turns(rt: HostRuntime) -> Result<(), Fail> {
-    let rows = [
-        ("1 + 2 * 3", "value 7"),
-        ("1 - 2 - 3", "value -4"),
-        ("-7 // 2", "value -4"),
-        ("9223372036854775807 + 1", "problem \"integer too large\""),
-        ("-9223372036854775807 - 1", "value -9223372036854775808"),
-        ("1 // 0", "problem \"division by zero\""),
-        ("[1, [true, null]][1]", "value [true, null]"),
-        ("[1][1]", "problem \"index out of range\""),
-        ("[1, 2] == [1, 2]", "value true"),
-        ("1 != true", "value true"),
-        ("\"a\\n\" + \"\\\"\"", "value \"a\\n\\\"\""),
-        ("\"h\u{e9}\".size()", "value 2"),
-        ("1 + \"a\"", "problem \"bad argument\""),
-        ("3(1, 2)", "problem \"no method run/2\""),
-        ("!null", "problem \"no method not/0\""),
-        ("def x := 6; def _ := 7; x * 7", "value 42"),
-        ("(def x := 6) * x", "value 36"),
-        ("", "value null"),
-        (";; 1 ;; 2 ;;", "value 2"),
-    ];
-    for (text, wanted) in rows {
-        expect_turn(&rt, text, wanted)?;
-    }
-    Ok(())
+    expect_turns(
+        &rt,
+        &[
+            ("1 + 2 * 3", "value 7"),
+            ("1 - 2 - 3", "value -4"),
+            ("-7 // 2", "value -4"),
+            ("9223372036854775807 + 1", "problem \"integer too large\""),
+            ("-9223372036854775807 - 1", "value -9223372036854775808"),
+            ("1 // 0", "problem \"division by zero\""),
+            ("[1, [true, null]][1]", "value [true, null]"),
+            ("[1][1]", "problem \"index out of range\""),
+            ("[1, 2] == [1, 2]", "value true"),
+            ("1 != true", "value true"),
+            ("\"a\\n\" + \"\\\"\"", "value \"a\\n\\\"\""),
+            ("\"h\u{e9}\".size()", "value 2"),
+            ("1 + \"a\"", "problem \"bad argument\""),
+            ("3(1, 2)", "problem \"no method run/2\""),
+            ("!null", "problem \"no method not/0\""),
+            ("def x := 6; def _ := 7; x * 7", "value 42"),
+            ("(def x := 6) * x", "value 36"),
+            ("", "value null"),
+            (";; 1 ;; 2 ;;", "value 2"),
+        ],
+    )
 }
 
 #[test]
 fn refused_texts(rt: HostRuntime) -> Result<(), Fail> {
-    let rows = [
-        ("x", "no K1 Unbound x"),
-        ("def x := 1; def x := 2", "no K3 DuplicateName x"),
-        ("def x := 1; x := 2", "no K2 AssignToDef x"),
-        ("\"x", "no L2 UnclosedText 0"),
-        ("1 +", "no L5 Unexpected 3"),
-        ("1 < 2 < 3", "no L5 Unexpected 6"),
-        ("1 <- run()", "no L5 Unexpected 2"),
-        ("9223372036854775808", "no L4 IntegerTooLarge 0"),
-        ("\"a\\q\"", "no L3 BadEscape 2"),
-        ("1 & 2", "no L1 BadCharacter 2"),
-        ("1 \u{e9}", "no L1 BadCharacter 2"),
-        ("1 \0", "no L1 BadCharacter 2"),
-    ];
-    for (text, wanted) in rows {
-        expect_asked(&rt, text, wanted, true)?;
-    }
-    Ok(())
+    expect_refusals(
+        &rt,
+        &[
+            ("x", "no K1 Unbound x"),
+            ("def x := 1; def x := 2", "no K3 DuplicateName x"),
+            ("def x := 1; x := 2", "no K2 AssignToDef x"),
+            ("\"x", "no L2 UnclosedText 0"),
+            ("1 +", "no L5 Unexpected 3"),
+            ("1 < 2 < 3", "no L5 Unexpected 6"),
+            ("1 <- run()", "no L5 Unexpected 2"),
+            ("9223372036854775808", "no L4 IntegerTooLarge 0"),
+            ("\"a\\q\"", "no L3 BadEscape 2"),
+            ("1 & 2", "no L1 BadCharacter 2"),
+            ("1 \u{e9}", "no L1 BadCharacter 2"),
+            ("1 \0", "no L1 BadCharacter 2"),
+        ],
+    )
 }
 
 #[test]
@@ -199,20 +213,48 @@ pub fn copies(rt: &(impl Abort + AllocGlobal), text: &str, count: usize) -> Resu
     Ok(out)
 }
 
+/// So many copies of a text, and another behind them.
+fn behind_copies(
+    rt: &(impl Abort + AllocGlobal),
+    text: &str,
+    count: usize,
+    rest: &str,
+) -> Result<String, Fail> {
+    let mut out = copies(rt, text, count)?;
+    out.push_str(rest)?;
+    Ok(out)
+}
+
 #[test]
 fn texts_at_their_limits(rt: HostRuntime) -> Result<(), Fail> {
-    let open = copies(&rt, "(", 101)?;
-    expect_asked(&rt, open.as_str(), "no L6 TooDeep", true)?;
-    let inside = format!(in rt.alloc(); "{}1{}", copies(&rt, "(", 100)?, copies(&rt, ")", 100)?)?;
-    expect_turn(&rt, inside.as_str(), "value 1")?;
-    let sum = format!(in rt.alloc(); "1{}", copies(&rt, " + 1", 199)?)?;
-    expect_turn(&rt, sum.as_str(), "value 200")?;
-    let deeper = format!(in rt.alloc(); "1{}", copies(&rt, " + 1", 200)?)?;
-    expect_asked(&rt, deeper.as_str(), "no K4 TooDeep", true)?;
-    let many = copies(&rt, ";", 16_385)?;
-    expect_asked(&rt, many.as_str(), "no L8 TooLong", true)?;
-    let most = copies(&rt, ";", 16_384)?;
-    expect_turn(&rt, most.as_str(), "value null")
+    for (text, count, rest, wanted) in [
+        ("1 + ", 199, "1", "value 200"),
+        (";", 16_384, "", "value null"),
+    ] {
+        let asked = behind_copies(&rt, text, count, rest)?;
+        expect_turn(&rt, asked.as_str(), wanted)?;
+    }
+    Ok(())
+}
+
+#[test]
+fn brackets_at_their_limit(rt: HostRuntime) -> Result<(), Fail> {
+    let closed = behind_copies(&rt, "1", 1, copies(&rt, ")", 100)?.as_str())?;
+    let asked = behind_copies(&rt, "(", 100, closed.as_str())?;
+    expect_turn(&rt, asked.as_str(), "value 1")
+}
+
+#[test]
+fn texts_past_their_limits(rt: HostRuntime) -> Result<(), Fail> {
+    for (text, count, rest, wanted) in [
+        ("1 + ", 200, "1", "no K4 TooDeep"),
+        (";", 16_385, "", "no L8 TooLong"),
+        ("(", 101, "", "no L6 TooDeep"),
+    ] {
+        let asked = behind_copies(&rt, text, count, rest)?;
+        expect_asked(&rt, asked.as_str(), wanted, true)?;
+    }
+    Ok(())
 }
 
 #[test]

@@ -1,132 +1,128 @@
 // Asked texts with objects, methods and escapes, and what their authors are promised.
 
 use crate::replies_of;
-use crate::tests::{expect, expect_asked, expect_turn, limits};
+use crate::tests::{expect, expect_refusals, expect_turns, limits};
 use std::test::Fail;
 
 #[test]
 fn methods(rt: HostRuntime) -> Result<(), Fail> {
-    let rows = [
-        ("def f(x) { return x * 2 }; f(21)", "value 42"),
-        ("def f(x) { x * 2 }; f(21)", "value null"),
-        ("def f() { return }; f()", "value null"),
-        ("def f() { }; f()", "value null"),
-        (
-            "def f(x) { if (x < 0) { return \"neg\" }; return x * 2 }; [f(-3), f(4)]",
-            "value [\"neg\", 8]",
-        ),
-        (
-            "def o { to add(x) { return x + 1 } to add(x, y) { return x * y } }; [o.add(4), o.add(4, 5)]",
-            "value [5, 20]",
-        ),
-        ("def o { method get(i) { i * 3 } }; o[5]", "value 15"),
-        ("def o { method run(_, x) { x } }; o(1, 2)", "value 2"),
-        (
-            "def v { method add(x) { [x] } method negate() { 7 } }; [v + 3, -v]",
-            "value [[3], 7]",
-        ),
-        ("(def _ { method run() { 4 } })()", "value 4"),
-        ("def f() { throw(\"oops\") }; f()", "problem \"oops\""),
-        (
-            "def f() { throw(\"oops\") }; try { f() } catch p { [p] }",
-            "value [\"oops\"]",
-        ),
-    ];
-    for (text, wanted) in rows {
-        expect_turn(&rt, text, wanted)?;
-    }
-    Ok(())
+    expect_turns(
+        &rt,
+        &[
+            ("def f(x) { return x * 2 }; f(21)", "value 42"),
+            ("def f(x) { x * 2 }; f(21)", "value null"),
+            ("def f() { return }; f()", "value null"),
+            ("def f() { }; f()", "value null"),
+            (
+                "def f(x) { if (x < 0) { return \"neg\" }; return x * 2 }; [f(-3), f(4)]",
+                "value [\"neg\", 8]",
+            ),
+            (
+                "def o { to add(x) { return x + 1 } to add(x, y) { return x * y } }; [o.add(4), o.add(4, 5)]",
+                "value [5, 20]",
+            ),
+            ("def o { method get(i) { i * 3 } }; o[5]", "value 15"),
+            ("def o { method run(_, x) { x } }; o(1, 2)", "value 2"),
+            (
+                "def v { method add(x) { [x] } method negate() { 7 } }; [v + 3, -v]",
+                "value [[3], 7]",
+            ),
+            ("(def _ { method run() { 4 } })()", "value 4"),
+            ("def f() { throw(\"oops\") }; f()", "problem \"oops\""),
+            (
+                "def f() { throw(\"oops\") }; try { f() } catch p { [p] }",
+                "value [\"oops\"]",
+            ),
+        ],
+    )
 }
 
 #[test]
 fn returns(rt: HostRuntime) -> Result<(), Fail> {
-    let rows = [
-        (
-            "def find(xs, w) { for x in xs { if (x == w) { return true } }; return false }; [find([1, 2], 2), find([1, 2], 3)]",
-            "value [true, false]",
-        ),
-        (
-            "def f() { def g() { return 1 }; g(); return 2 }; f()",
-            "value 2",
-        ),
-        (
-            "def f() { try { return 1 } catch p { return 2 }; return 3 }; f()",
-            "value 1",
-        ),
-        ("def f() { while (true) { return [1] } }; f()", "value [1]"),
-    ];
-    for (text, wanted) in rows {
-        expect_turn(&rt, text, wanted)?;
-    }
-    Ok(())
+    expect_turns(
+        &rt,
+        &[
+            (
+                "def find(xs, w) { for x in xs { if (x == w) { return true } }; return false }; [find([1, 2], 2), find([1, 2], 3)]",
+                "value [true, false]",
+            ),
+            (
+                "def f() { def g() { return 1 }; g(); return 2 }; f()",
+                "value 2",
+            ),
+            (
+                "def f() { try { return 1 } catch p { return 2 }; return 3 }; f()",
+                "value 1",
+            ),
+            ("def f() { while (true) { return [1] } }; f()", "value [1]"),
+        ],
+    )
 }
 
 #[test]
 fn recursion(rt: HostRuntime) -> Result<(), Fail> {
-    let rows = [
-        (
-            "def f(n) { if (n < 2) { return 1 }; return n * f(n - 1) }; f(5)",
-            "value 120",
-        ),
-        (
-            "var odd := null; def even(n) { if (n == 0) { return true }; return odd(n - 1) }; odd := def _(n) { if (n == 0) { return false }; return even(n - 1) }; [even(7), even(4)]",
-            "value [false, true]",
-        ),
-        (
-            "def o { method run() { o } }; [o() == o, o()]",
-            "value [true, <e4.o0>]",
-        ),
-        (
-            "def p := def q { method run() { q } }; p() == p",
-            "value true",
-        ),
-    ];
-    for (text, wanted) in rows {
-        expect_turn(&rt, text, wanted)?;
-    }
-    Ok(())
+    expect_turns(
+        &rt,
+        &[
+            (
+                "def f(n) { if (n < 2) { return 1 }; return n * f(n - 1) }; f(5)",
+                "value 120",
+            ),
+            (
+                "var odd := null; def even(n) { if (n == 0) { return true }; return odd(n - 1) }; odd := def _(n) { if (n == 0) { return false }; return even(n - 1) }; [even(7), even(4)]",
+                "value [false, true]",
+            ),
+            (
+                "def o { method run() { o } }; [o() == o, o()]",
+                "value [true, <e4.o0>]",
+            ),
+            (
+                "def p := def q { method run() { q } }; p() == p",
+                "value true",
+            ),
+        ],
+    )
 }
 
 /// A method has the names that its object captured, and a captured variable is the same variable.
 #[test]
 fn captures(rt: HostRuntime) -> Result<(), Fail> {
-    let rows = [
-        (
-            "def x := 1; def f() { return x }; { def x := 2; f() }",
-            "value 1",
-        ),
-        ("var n := 1; def f() { return n }; n := 2; f()", "value 2"),
-        (
-            "var n := 0; def f() { n := n + 1; return n }; f(); f(); [f(), n]",
-            "value [3, 3]",
-        ),
-        (
-            "def make(k) { var n := k; return def _() { n := n + 1; return n } }; def a := make(0); def b := make(10); [a(), a(), b(), a()]",
-            "value [1, 2, 11, 3]",
-        ),
-        (
-            "def counter() { var n := 0; return def c { to up() { n := n + 1; return n } to get() { return n } } }; def c := counter(); c.up(); c.up(); c.get()",
-            "value 2",
-        ),
-        (
-            "def adder(k) { return def _(x) { return x + k } }; adder(3)(4)",
-            "value 7",
-        ),
-        (
-            "def x := 1; def f(y) { def x := y; return x }; [f(9), x]",
-            "value [9, 1]",
-        ),
-        ("def x := 1; def f(x) { return x }; f(5) + x", "value 6"),
-        ("def f(x) { def x := 5; return x }; f(1)", "value 5"),
-        (
-            "var n := 1; def f() { n := 2; throw(\"x\") }; try { f() } catch _ { n }",
-            "value 2",
-        ),
-    ];
-    for (text, wanted) in rows {
-        expect_turn(&rt, text, wanted)?;
-    }
-    Ok(())
+    expect_turns(
+        &rt,
+        &[
+            (
+                "def x := 1; def f() { return x }; { def x := 2; f() }",
+                "value 1",
+            ),
+            ("var n := 1; def f() { return n }; n := 2; f()", "value 2"),
+            (
+                "var n := 0; def f() { n := n + 1; return n }; f(); f(); [f(), n]",
+                "value [3, 3]",
+            ),
+            (
+                "def make(k) { var n := k; return def _() { n := n + 1; return n } }; def a := make(0); def b := make(10); [a(), a(), b(), a()]",
+                "value [1, 2, 11, 3]",
+            ),
+            (
+                "def counter() { var n := 0; return def c { to up() { n := n + 1; return n } to get() { return n } } }; def c := counter(); c.up(); c.up(); c.get()",
+                "value 2",
+            ),
+            (
+                "def adder(k) { return def _(x) { return x + k } }; adder(3)(4)",
+                "value 7",
+            ),
+            (
+                "def x := 1; def f(y) { def x := y; return x }; [f(9), x]",
+                "value [9, 1]",
+            ),
+            ("def x := 1; def f(x) { return x }; f(5) + x", "value 6"),
+            ("def f(x) { def x := 5; return x }; f(1)", "value 5"),
+            (
+                "var n := 1; def f() { n := 2; throw(\"x\") }; try { f() } catch _ { n }",
+                "value 2",
+            ),
+        ],
+    )
 }
 
 /// A name that the vat's opening never defined is missed when an object captures it: then no object is made.
@@ -141,107 +137,104 @@ fn captures_of_nothing(rt: HostRuntime) {
 
 #[test]
 fn escapes(rt: HostRuntime) -> Result<(), Fail> {
-    let rows = [
-        ("escape out { out(7); 8 }", "value 7"),
-        ("escape out { out.run(7); 8 }", "value 7"),
-        ("escape out { 8 }", "value 8"),
-        ("escape out { out(); 8 }", "value null"),
-        ("escape out { }", "value null"),
-        (
-            "escape out { for x in [1, 2, 3] { if (x == 2) { out(x) } }; 0 }",
-            "value 2",
-        ),
-        (
-            "var n := 0; escape out { while (true) { n := n + 1; if (n == 3) { out(n) } } }",
-            "value 3",
-        ),
-        ("escape a { escape b { a(1) }; 2 }", "value 1"),
-        ("escape a { escape b { b(1) }; 2 }", "value 2"),
-        ("1 + escape b { b(1); 5 }", "value 2"),
-        ("escape out { [out(1), out(2)] }", "value 1"),
-        ("escape out { try { out(1) } catch p { 2 } }", "value 1"),
-        (
-            "escape out { try { 1 // 0 } catch p { out(p) } }",
-            "value \"division by zero\"",
-        ),
-        (
-            "def f(j) { j(5); return 6 }; escape out { f(out); 7 }",
-            "value 5",
-        ),
-        (
-            "def f(n, k) { if (n == 0) { k(\"deep\") }; return escape out { f(n - 1, k); 1 } }; escape out { f(2, out); 0 }",
-            "value \"deep\"",
-        ),
-        ("escape a { def a2 := a; a2(3); 4 }", "value 3"),
-    ];
-    for (text, wanted) in rows {
-        expect_turn(&rt, text, wanted)?;
-    }
-    Ok(())
+    expect_turns(
+        &rt,
+        &[
+            ("escape out { out(7); 8 }", "value 7"),
+            ("escape out { out.run(7); 8 }", "value 7"),
+            ("escape out { 8 }", "value 8"),
+            ("escape out { out(); 8 }", "value null"),
+            ("escape out { }", "value null"),
+            (
+                "escape out { for x in [1, 2, 3] { if (x == 2) { out(x) } }; 0 }",
+                "value 2",
+            ),
+            (
+                "var n := 0; escape out { while (true) { n := n + 1; if (n == 3) { out(n) } } }",
+                "value 3",
+            ),
+            ("escape a { escape b { a(1) }; 2 }", "value 1"),
+            ("escape a { escape b { b(1) }; 2 }", "value 2"),
+            ("1 + escape b { b(1); 5 }", "value 2"),
+            ("escape out { [out(1), out(2)] }", "value 1"),
+            ("escape out { try { out(1) } catch p { 2 } }", "value 1"),
+            (
+                "escape out { try { 1 // 0 } catch p { out(p) } }",
+                "value \"division by zero\"",
+            ),
+            (
+                "def f(j) { j(5); return 6 }; escape out { f(out); 7 }",
+                "value 5",
+            ),
+            (
+                "def f(n, k) { if (n == 0) { k(\"deep\") }; return escape out { f(n - 1, k); 1 } }; escape out { f(2, out); 0 }",
+                "value \"deep\"",
+            ),
+            ("escape a { def a2 := a; a2(3); 4 }", "value 3"),
+        ],
+    )
 }
 
 /// An ejector is good for nothing once its escape has ended.
 #[test]
 fn spent_ejectors(rt: HostRuntime) -> Result<(), Fail> {
-    let rows = [
-        (
-            "var j := null; escape out { j := out }; j(1)",
-            "problem \"ejector is spent\"",
-        ),
-        (
-            "var j := null; escape out { j := out }; escape out { j(1); 2 }",
-            "problem \"ejector is spent\"",
-        ),
-        (
-            "def j := escape out { out(out) }; try { j() } catch p { p }",
-            "value \"ejector is spent\"",
-        ),
-        (
-            "var j := null; escape out { j := out }; j.go(1)",
-            "problem \"no method go/1\"",
-        ),
-        (
-            "var j := null; escape out { j := out }; j(1, 2)",
-            "problem \"no method run/2\"",
-        ),
-    ];
-    for (text, wanted) in rows {
-        expect_turn(&rt, text, wanted)?;
-    }
-    Ok(())
+    expect_turns(
+        &rt,
+        &[
+            (
+                "var j := null; escape out { j := out }; j(1)",
+                "problem \"ejector is spent\"",
+            ),
+            (
+                "var j := null; escape out { j := out }; escape out { j(1); 2 }",
+                "problem \"ejector is spent\"",
+            ),
+            (
+                "def j := escape out { out(out) }; try { j() } catch p { p }",
+                "value \"ejector is spent\"",
+            ),
+            (
+                "var j := null; escape out { j := out }; j.go(1)",
+                "problem \"no method go/1\"",
+            ),
+            (
+                "var j := null; escape out { j := out }; j(1, 2)",
+                "problem \"no method run/2\"",
+            ),
+        ],
+    )
 }
 
 #[test]
 fn problems_of_calls(rt: HostRuntime) -> Result<(), Fail> {
-    let rows = [
-        ("def o { }; o.go(1)", "problem \"no method go/1\""),
-        ("def o { }; o.go(1 // 0)", "problem \"division by zero\""),
-        ("def f(x) { return x }; f()", "problem \"no method run/0\""),
-        (
-            "def f(x) { return x }; f(1, 2)",
-            "problem \"no method run/2\"",
-        ),
-        ("def o { }; -o", "problem \"no method negate/0\""),
-        ("def o { }; o < 1", "problem \"no method lessThan/1\""),
-        ("escape out { out(1, 2) }", "problem \"no method run/2\""),
-        ("escape out { out.go() }", "problem \"no method go/0\""),
-        ("escape out { out + 1 }", "problem \"no method add/1\""),
-        ("1 + def o { }", "problem \"bad argument\""),
-        ("escape out { [1][out] }", "problem \"bad argument\""),
-        ("def o { }; if (o) { }", "problem \"not a truth value\""),
-        ("def o { }; for x in o { }", "problem \"not a list\""),
-        ("def o { }; def [x] := o", "problem \"wrong list\""),
-        ("def o { }; throw(o)", "problem \"not a text\""),
-        (
-            "def spin() { while (true) { } }; spin()",
-            "abandoned \"turn budget spent\"",
-        ),
-        ("while (true) { def _ { } }", "abandoned \"turn too large\""),
-    ];
-    for (text, wanted) in rows {
-        expect_turn(&rt, text, wanted)?;
-    }
-    Ok(())
+    expect_turns(
+        &rt,
+        &[
+            ("def o { }; o.go(1)", "problem \"no method go/1\""),
+            ("def o { }; o.go(1 // 0)", "problem \"division by zero\""),
+            ("def f(x) { return x }; f()", "problem \"no method run/0\""),
+            (
+                "def f(x) { return x }; f(1, 2)",
+                "problem \"no method run/2\"",
+            ),
+            ("def o { }; -o", "problem \"no method negate/0\""),
+            ("def o { }; o < 1", "problem \"no method lessThan/1\""),
+            ("escape out { out(1, 2) }", "problem \"no method run/2\""),
+            ("escape out { out.go() }", "problem \"no method go/0\""),
+            ("escape out { out + 1 }", "problem \"no method add/1\""),
+            ("1 + def o { }", "problem \"bad argument\""),
+            ("escape out { [1][out] }", "problem \"bad argument\""),
+            ("def o { }; if (o) { }", "problem \"not a truth value\""),
+            ("def o { }; for x in o { }", "problem \"not a list\""),
+            ("def o { }; def [x] := o", "problem \"wrong list\""),
+            ("def o { }; throw(o)", "problem \"not a text\""),
+            (
+                "def spin() { while (true) { } }; spin()",
+                "abandoned \"turn budget spent\"",
+            ),
+            ("while (true) { def _ { } }", "abandoned \"turn too large\""),
+        ],
+    )
 }
 
 /// The calls of a turn nest on the stack on which the program answers commands.
@@ -262,85 +255,83 @@ fn calls_without_end(rt: HostRuntime) -> Result<(), Fail> {
 
 #[test]
 fn texts_and_sameness(rt: HostRuntime) -> Result<(), Fail> {
-    let rows = [
-        ("def o { }", "value <e4.o0>"),
-        ("[def a { }, def b { }]", "value [<e4.o0>, <e4.o1>]"),
-        ("escape x { x }", "value <e4.j0>"),
-        (
-            "escape x { escape y { [x, y] } }",
-            "value [<e4.j0>, <e4.j1>]",
-        ),
-        (
-            "def a { }; def b { }; [a == a, a == b, a == null, a != b]",
-            "value [true, false, false, true]",
-        ),
-        (
-            "escape x { escape y { [x == x, x == y, x == 1] } }",
-            "value [true, false, false]",
-        ),
-        (
-            "def a { }; [[a] == [a], [a] == [1], [a] == [a, a]]",
-            "value [true, false, false]",
-        ),
-        ("def a { }; escape x { a == x }", "value false"),
-        (
-            "def f() { return def _ { } }; [f() == f(), f()]",
-            "value [false, <e4.o3>]",
-        ),
-        (
-            "def f() { return __return }; [f() == f(), f()]",
-            "value [false, <e4.j2>]",
-        ),
-        ("def a { }; a == \"<e4.o0>\"", "value false"),
-    ];
-    for (text, wanted) in rows {
-        expect_turn(&rt, text, wanted)?;
-    }
-    Ok(())
+    expect_turns(
+        &rt,
+        &[
+            ("def o { }", "value <e4.o0>"),
+            ("[def a { }, def b { }]", "value [<e4.o0>, <e4.o1>]"),
+            ("escape x { x }", "value <e4.j0>"),
+            (
+                "escape x { escape y { [x, y] } }",
+                "value [<e4.j0>, <e4.j1>]",
+            ),
+            (
+                "def a { }; def b { }; [a == a, a == b, a == null, a != b]",
+                "value [true, false, false, true]",
+            ),
+            (
+                "escape x { escape y { [x == x, x == y, x == 1] } }",
+                "value [true, false, false]",
+            ),
+            (
+                "def a { }; [[a] == [a], [a] == [1], [a] == [a, a]]",
+                "value [true, false, false]",
+            ),
+            ("def a { }; escape x { a == x }", "value false"),
+            (
+                "def f() { return def _ { } }; [f() == f(), f()]",
+                "value [false, <e4.o3>]",
+            ),
+            (
+                "def f() { return __return }; [f() == f(), f()]",
+                "value [false, <e4.j2>]",
+            ),
+            ("def a { }; a == \"<e4.o0>\"", "value false"),
+        ],
+    )
 }
 
 #[test]
 fn refused_objects(rt: HostRuntime) -> Result<(), Fail> {
-    let rows = [
-        ("return 1", "no K1 Unbound __return"),
-        ("return", "no K1 Unbound __return"),
-        (
-            "def o { method m() { return 1 } }",
-            "no K1 Unbound __return",
-        ),
-        ("def f() { return y }", "no K1 Unbound y"),
-        ("def f() { def y := 1 }; y", "no K1 Unbound y"),
-        ("def f(x) { }; x", "no K1 Unbound x"),
-        ("escape k { 1 }; k", "no K1 Unbound k"),
-        ("def f() { f := 1 }", "no K2 AssignToDef f"),
-        ("def f(x) { x := 1 }", "no K2 AssignToDef x"),
-        ("escape k { k := 1 }", "no K2 AssignToDef k"),
-        ("def f(x, x) { }", "no K3 DuplicateName x"),
-        ("def x := 1; def x { }", "no K3 DuplicateName x"),
-        ("escape k { def k := 1 }", "no K3 DuplicateName k"),
-        (
-            "def o { method m(x) { def x := 1 } }",
-            "no K3 DuplicateName x",
-        ),
-        ("def o { to m() { } to m() { } }", "no K3 DuplicateName m"),
-        (
-            "def o { to m(x) { } method m(y) { z } }",
-            "no K3 DuplicateName m",
-        ),
-        ("def f { 1 }", "no L5 Unexpected 8"),
-        ("def f(1) { }", "no L5 Unexpected 6"),
-        ("def f { to m { } }", "no L5 Unexpected 13"),
-        ("def [a] { }", "no L5 Unexpected 8"),
-        ("escape { }", "no L5 Unexpected 7"),
-        ("escape _ { }", "no L5 Unexpected 7"),
-        ("to m() { }", "no L5 Unexpected 0"),
-        ("def f()", "no L5 Unexpected 7"),
-        ("def f() { return return 1 }", "no L5 Unexpected 17"),
-    ];
-    for (text, wanted) in rows {
-        expect_asked(&rt, text, wanted, true)?;
-    }
-    Ok(())
+    expect_refusals(
+        &rt,
+        &[
+            ("return 1", "no K1 Unbound __return"),
+            ("return", "no K1 Unbound __return"),
+            (
+                "def o { method m() { return 1 } }",
+                "no K1 Unbound __return",
+            ),
+            ("def f() { return y }", "no K1 Unbound y"),
+            ("def f() { def y := 1 }; y", "no K1 Unbound y"),
+            ("def f(x) { }; x", "no K1 Unbound x"),
+            ("escape k { 1 }; k", "no K1 Unbound k"),
+            ("def f() { f := 1 }", "no K2 AssignToDef f"),
+            ("def f(x) { x := 1 }", "no K2 AssignToDef x"),
+            ("escape k { k := 1 }", "no K2 AssignToDef k"),
+            ("def f(x, x) { }", "no K3 DuplicateName x"),
+            ("def x := 1; def x { }", "no K3 DuplicateName x"),
+            ("escape k { def k := 1 }", "no K3 DuplicateName k"),
+            (
+                "def o { method m(x) { def x := 1 } }",
+                "no K3 DuplicateName x",
+            ),
+            ("def o { to m() { } to m() { } }", "no K3 DuplicateName m"),
+            (
+                "def o { to m(x) { } method m(y) { z } }",
+                "no K3 DuplicateName m",
+            ),
+            ("def f { 1 }", "no L5 Unexpected 8"),
+            ("def f(1) { }", "no L5 Unexpected 6"),
+            ("def f { to m { } }", "no L5 Unexpected 13"),
+            ("def [a] { }", "no L5 Unexpected 8"),
+            ("escape { }", "no L5 Unexpected 7"),
+            ("escape _ { }", "no L5 Unexpected 7"),
+            ("to m() { }", "no L5 Unexpected 0"),
+            ("def f()", "no L5 Unexpected 7"),
+            ("def f() { return return 1 }", "no L5 Unexpected 17"),
+        ],
+    )
 }
 
 /// Objects are shown behind the slots of their vat, by event and then by number, with the names that they were bound to.

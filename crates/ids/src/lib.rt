@@ -3,6 +3,4 @@
 
 pub mod names;
 pub mod quote;
-#[cfg(test)]
-mod tests;
 pub mod text;

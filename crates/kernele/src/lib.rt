@@ -6,8 +6,6 @@ mod count;
 mod free;
 mod naming;
 mod printing;
-#[cfg(test)]
-mod tests;
 pub mod tree;
 
 pub use checking::{CheckFault, Outer, check};

@@ -16,8 +16,6 @@ pub mod heap;
 pub mod nouns;
 pub mod objects;
 pub mod results;
-#[cfg(test)]
-mod tests;
 pub mod theorems;
 pub mod ticket;
 pub mod wanted;

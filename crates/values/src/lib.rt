@@ -8,8 +8,6 @@ pub mod lists;
 mod replies;
 pub mod sameness;
 pub mod showing;
-#[cfg(test)]
-mod tests;
 pub mod texts;
 pub mod theorems;
 pub mod value;

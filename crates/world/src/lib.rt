@@ -5,7 +5,5 @@ pub mod cells;
 pub mod event;
 pub mod ready;
 pub mod step;
-#[cfg(test)]
-mod tests;
 pub mod theorems;
 pub mod world;

@@ -1,0 +1,89 @@
+// What the check says of a program, the names that it defines, and what an object captures.
+
+use crate::answers::Asked;
+use crate::tables::{expect, repeated};
+use std::test::Fail;
+
+#[test]
+fn asked_programs(rt: HostRuntime) -> Result<(), Fail> {
+    expect(
+        &rt,
+        Asked::CheckAsked,
+        &[
+            ("x", "K1 Unbound x"),
+            ("v := 2", "fits"),
+            ("d := 2", "K2 AssignToDef d"),
+            ("var v := 1", "fits"),
+            ("var x := 1; def x := 2", "K3 DuplicateName x"),
+            ("def f { method m(x) { null } method n(x) { f } }", "fits"),
+            (
+                "def f { method m(x) { null } method m(x) { f } }",
+                "K3 DuplicateName m",
+            ),
+        ],
+    )
+}
+
+#[test]
+fn scripts(rt: HostRuntime) -> Result<(), Fail> {
+    expect(
+        &rt,
+        Asked::CheckScript,
+        &[
+            ("v", "fits"),
+            ("v := 2", "K2 AssignToDef v"),
+            ("var v := 1", "K3 DuplicateName v"),
+        ],
+    )
+}
+
+/// A sum of n ones is n nodes deep.
+#[test]
+fn depths(rt: HostRuntime) -> Result<(), Fail> {
+    for (count, wanted) in [(199, "fits"), (200, "K4 TooDeep"), (2_000, "K4 TooDeep")] {
+        let sums = repeated(rt.alloc(), "1+", count)?;
+        let text = format!(in rt.alloc(); "{sums}1")?;
+        expect(&rt, Asked::CheckAsked, &[(text.as_str(), wanted)])?;
+    }
+    Ok(())
+}
+
+/// `1 != 1` is four nodes, and `1 != !1` five.
+#[test]
+fn lengths(rt: HostRuntime) -> Result<(), Fail> {
+    for (count, rest, wanted) in [(4_095, "1!=1", "fits"), (4_095, "1!=!1", "K5 TooLong")] {
+        let items = repeated(rt.alloc(), "1!=1;", count)?;
+        let text = format!(in rt.alloc(); "{items}{rest}")?;
+        expect(&rt, Asked::CheckAsked, &[(text.as_str(), wanted)])?;
+    }
+    Ok(())
+}
+
+#[test]
+fn names(rt: HostRuntime) -> Result<(), Fail> {
+    expect(
+        &rt,
+        Asked::Names,
+        &[
+            ("def y := (var x := 1)", "var x def y "),
+            ("def f(x) { def y := x }; { def z := 1 }", "def f "),
+            ("def [a, _, b] := [1, 2, 3]", "def a def b "),
+        ],
+    )
+}
+
+#[test]
+fn captures(rt: HostRuntime) -> Result<(), Fail> {
+    expect(
+        &rt,
+        Asked::Captures,
+        &[
+            (
+                "def f { method m(x) { b + (f + a) } method n() { a } }",
+                "b a ",
+            ),
+            ("def f { method m(x) { def y := z; y := x } }", "z "),
+            ("def f { method m() { z := y } }", "z y "),
+        ],
+    )
+}

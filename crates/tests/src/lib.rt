@@ -1,0 +1,22 @@
+//! What the crates below the program answer where memory is ample: tables of texts, each with the answer that is wanted.
+#![tactic(auto)]
+
+#[cfg(test)]
+mod answers;
+#[cfg(test)]
+mod books;
+#[cfg(test)]
+mod checks;
+#[cfg(test)]
+#[cfg(test)]
+mod names;
+#[cfg(test)]
+mod programs;
+#[cfg(test)]
+mod refusals;
+#[cfg(test)]
+mod tables;
+#[cfg(test)]
+mod tokens;
+#[cfg(test)]
+mod turns;

@@ -1,0 +1,220 @@
+// Turns: what a text gives that is asked of a vat.
+
+use crate::tables::expect_turns;
+use ereader::read;
+use ids::names::{EventName, MsgId, VatNo};
+use ids::text::Text;
+use kernele::tree::Program;
+use std::alloc::{AllocError, Global};
+use std::test::Fail;
+use turn::delivery::{Delivery, Ended, Outcome};
+use turn::heap::{Binding, VatState};
+use turn::ticket::{Out, Ticket};
+use values::showing::show;
+use values::value::Value;
+
+const ALICE: VatNo = VatNo(EventName(1));
+
+/// A vat whose opening turn is over.
+#[derive(Drop)]
+pub struct Opened {
+    state: VatState,
+}
+
+/// What is read of a text, or an empty program.
+fn program(alloc: Global, text: &str) -> Result<Program, AllocError> {
+    match read(alloc, text) {
+        Ok(program) => Ok(program),
+        Err(_) => Err(AllocError),
+    }
+}
+
+/// Runs a turn by a ticket, with a budget of 1,000 steps.
+fn run(state: VatState, event: u64, delivery: Delivery) -> Result<Outcome, AllocError> {
+    let ticket = Ticket::new(Out {
+        event: EventName(event),
+        message: MsgId {
+            event: EventName(1),
+            index: 0,
+        },
+        vat: ALICE,
+        state,
+        delivery,
+        budget: 1000,
+    });
+    match ticket.run() {
+        Ok(ran) => Ok(ran.into_parts().outcome),
+        Err((ticket, error)) => {
+            ticket.discard();
+            Err(error)
+        }
+    }
+}
+
+/// A vat where the noun `gone` is broken by the problem "lost", once its script has run.
+fn after_script(alloc: Global, script: &str) -> Result<Opened, AllocError> {
+    let mut state = VatState::new(alloc);
+    let lost = Value::Broken(Text::new(alloc, "lost")?);
+    state.bind_top(Text::new(alloc, "gone")?, Binding::Fixed(lost))?;
+    let delivery = Delivery::Opening(program(alloc, script)?);
+    let state = run(state, 2, delivery)?.state;
+    Ok(Opened { state })
+}
+
+/// The value that a text gives, or `!` and its problem.
+pub fn shown(alloc: Global, opened: &Opened, text: &str) -> Result<String, AllocError> {
+    let delivery = Delivery::Asked(program(alloc, text)?);
+    let outcome = run(opened.state.try_copy()?, 4, delivery.share()?)?;
+    match &outcome.ended {
+        Ended::Value(value) => show(alloc, value),
+        Ended::Problem(problem) => format!(in alloc; "!{problem}"),
+        Ended::Abandoned(why) => String::from_str(alloc, why.reason()),
+    }
+}
+
+#[test]
+fn integers(rt: HostRuntime) -> Result<(), Fail> {
+    let vat = after_script(
+        rt.alloc(),
+        "def most := 9223372036854775807; def least := -most - 1",
+    )?;
+    expect_turns(
+        &rt,
+        &vat,
+        &[
+            ("2 + 3", "5"),
+            ("most + 1", "!integer too large"),
+            ("least", "-9223372036854775808"),
+            ("least - 1", "!integer too large"),
+            ("2 - 5", "-3"),
+            ("-4 * 6", "-24"),
+            ("most * 2", "!integer too large"),
+            ("7 // 2", "3"),
+            ("-7 // 2", "-4"),
+            ("7 // -2", "-4"),
+            ("-7 // -2", "3"),
+            ("-8 // 2", "-4"),
+            ("least // 1", "-9223372036854775808"),
+            ("least // -1", "!integer too large"),
+            ("1 // 0", "!division by zero"),
+            ("1 // gone", "!lost"),
+            (
+                "[1 < 2, 2 < 2, 2 <= 2, 3 <= 2]",
+                "[true, false, true, false]",
+            ),
+            (
+                "[3 > 2, 2 > 2, 2 >= 2, 1 >= 2]",
+                "[true, false, true, false]",
+            ),
+            ("1.power(2)", "!no method power/1"),
+            ("1.negate(2)", "!no method negate/1"),
+            ("1.add()", "!no method add/0"),
+            ("1.add(null, null)", "!no method add/2"),
+            ("1 + true", "!bad argument"),
+            ("1 + gone", "!lost"),
+            ("gone.fly(1)", "!lost"),
+            ("null.add(null)", "!no method add/1"),
+            ("[!true, !false]", "[false, true]"),
+            ("false.not(null)", "!no method not/1"),
+            ("-most", "-9223372036854775807"),
+            ("-least", "!integer too large"),
+        ],
+    )
+}
+
+#[test]
+fn texts_and_lists(rt: HostRuntime) -> Result<(), Fail> {
+    let vat = after_script(rt.alloc(), "def pair := [1, 2]; def accented := \"é\"")?;
+    expect_turns(
+        &rt,
+        &vat,
+        &[
+            ("accented.size()", "1"),
+            ("accented + \"a\\\"\"", "\"éa\\\"\""),
+            ("accented + 1", "!bad argument"),
+            ("accented + gone", "!lost"),
+            ("accented.get()", "!no method get/0"),
+            ("pair.size()", "2"),
+            ("pair + [3]", "[1, 2, 3]"),
+            ("pair + 3", "!bad argument"),
+            ("pair.with([])", "[1, 2, []]"),
+            ("pair.with(gone)", "[1, 2, <broken \"lost\">]"),
+            ("[pair[0], pair[1]]", "[1, 2]"),
+            ("pair[2]", "!index out of range"),
+            ("pair[-1]", "!index out of range"),
+            ("pair[null]", "!bad argument"),
+            (
+                "\"a\\\"b\\\\c\\nd\\te\\rf'\"",
+                "\"a\\\"b\\\\c\\nd\\te\\rf'\"",
+            ),
+        ],
+    )
+}
+
+#[test]
+fn sameness(rt: HostRuntime) -> Result<(), Fail> {
+    let vat = after_script(
+        rt.alloc(),
+        "def f() { }; def g() { }; def lists := [[1, 2], [1], [1, 3]]",
+    )?;
+    expect_turns(
+        &rt,
+        &vat,
+        &[
+            (
+                "[null == null, true == true, true == false, 1 == true]",
+                "[true, true, false, false]",
+            ),
+            (
+                "[lists[0] == [1, 2], lists[0] == lists[1], lists[0] == lists[2]]",
+                "[true, false, false]",
+            ),
+            (
+                "[gone == gone, gone == \"lost\", \"a\" == \"a\", \"a\" == \"b\"]",
+                "[true, false, true, false]",
+            ),
+            ("[f == f, f == g, f == \"<e2.o0>\"]", "[true, false, false]"),
+            ("escape x { [x == x, x == f] }", "[true, false]"),
+        ],
+    )
+}
+
+#[test]
+fn objects(rt: HostRuntime) -> Result<(), Fail> {
+    let vat = after_script(
+        rt.alloc(),
+        "var n := 0; def counter { to next() { n := n + 1; return n } to both(a, b) { return [a, b] } }",
+    )?;
+    expect_turns(
+        &rt,
+        &vat,
+        &[
+            ("counter", "<e2.o0>"),
+            ("[counter.next(), counter.next(), n]", "[1, 2, 2]"),
+            ("counter.both(1, counter.next())", "[1, 1]"),
+            ("counter.size()", "!no method size/0"),
+            ("1 + counter", "!bad argument"),
+            ("def o { method m() { o } }; o.m()", "<e4.o0>"),
+            ("escape e { e }", "<e4.j0>"),
+            ("def spent := escape e { e }; spent(1)", "!ejector is spent"),
+            ("escape e { e.size() }", "!no method size/0"),
+            ("throw(gone)", "!lost"),
+            ("while (gone) { }", "!lost"),
+            ("while (true) { }", "turn budget spent"),
+            ("z; def z := 1", "!undefined noun z"),
+        ],
+    )
+}
+
+/// An abandoned turn binds nothing, and an asked text binds no top noun.
+#[test]
+fn what_turns_bind(rt: HostRuntime) -> Result<(), Fail> {
+    let endless = after_script(rt.alloc(), "def x := 1; while (true) { }")?;
+    expect_turns(&rt, &endless, &[("x", "!undefined noun x")])?;
+    let vat = after_script(rt.alloc(), "def x := 1; def y := [x, 2]; throw(\"no\")")?;
+    expect_turns(
+        &rt,
+        &vat,
+        &[("def z := y; z", "[1, 2]"), ("z", "!undefined noun z")],
+    )
+}
