@@ -1,9 +1,9 @@
 // Worked turns.
 
 use crate::delivery::{Delivery, Ended, Outcome};
-use crate::end::Abandon;
-use crate::heap::{Binding, VatState};
 use crate::ticket::{Out, Ticket};
+use eval::end::Abandon;
+use heap::state::{Binding, VatState};
 use ids::names::{EventName, MsgId, SlotId, VatNo};
 use ids::text::Text;
 use kernele::tree::{Block, Expr, Pattern, Program};

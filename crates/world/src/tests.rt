@@ -1,7 +1,7 @@
 // Worked steps of the world.
 
 use crate::cells::{cells_of_ask, cells_of_birth, cells_of_turn};
-use crate::event::{Action, Event, share_program};
+use crate::event::{Action, Event};
 use crate::ready::{Unready, ready};
 use crate::step::{StepFault, deliver, enter_ask, enter_birth, enter_turn, step};
 use crate::world::{Place, World};
@@ -139,7 +139,7 @@ fn a_birth_is_entered(rt: HostRuntime) -> Result<(), Fail> {
     let None = world.vat(&name) else {
         return Err(Fail::from("a new world has a vat"));
     };
-    enter_birth(alloc, &mut world, BIRTH, &name, share_program(&script)?)?;
+    enter_birth(alloc, &mut world, BIRTH, &name, script.share()?)?;
     assert_eq!(rt; world.homes().len(), 1);
     assert_eq!(rt; world.messages().len(), 1);
     Ok(())
