@@ -29,7 +29,7 @@ use kernele::{CheckFault, Outer, check};
 use std::alloc::{AllocError, Global};
 use turn::delivery::Ended;
 use world::cells::{Cells, cells_of_ask, cells_of_birth, cells_of_turn};
-use world::event::{Action, Event, share_program};
+use world::event::{Action, Event};
 use world::ready::{Unready, ready};
 use world::step::{StepFault, deliver, enter_ask, enter_birth, enter_turn};
 use world::world::World;
@@ -198,7 +198,7 @@ impl Book {
         ensures unchanged { OnErr result (book_of self.new ≡ book_of self.old) }
     {
         let event = self.admit_birth(name, &script)?;
-        let action = Action::Birth(name.share()?, share_program(&script)?);
+        let action = Action::Birth(name.share()?, script.share()?);
         let cells = cells_of_birth(self.alloc, event, name)?;
         let entered = Event {
             name: event,
@@ -242,7 +242,7 @@ impl Book {
         ensures unchanged { OnErr result (book_of self.new ≡ book_of self.old) }
     {
         let (event, number) = self.admit_ask(name, &program)?;
-        let action = Action::Ask(name.share()?, share_program(&program)?);
+        let action = Action::Ask(name.share()?, program.share()?);
         let cells = cells_of_ask(self.alloc, event, name)?;
         let entered = Event {
             name: event,

@@ -17,10 +17,10 @@ use Rattle.ids.specs.Cells.{slot_cmp, object_cmp}
 use Rattle.std.specs.Ordering.{nat_cmp}
 use Rattle.std.specs.Cmp.Lexicographic.{slice_cmp}
 use Rattle.values.specs.declared.value.Value.{Value}
-use Rattle.turn.specs.State.{read, top, slot_cell, object_cell}
-use Rattle.turn.specs.View.{tops_of, slots_of, objects_of, state_of}
-use Rattle.turn.specs.declared.heap.Binding.{Binding}
-use Rattle.turn.specs.declared.heap.Made.{Made}
+use Rattle.heap.specs.State.{read, top, slot_cell, object_cell}
+use Rattle.heap.specs.View.{tops_of, slots_of, objects_of, state_of}
+use Rattle.heap.specs.declared.state.Binding.{Binding}
+use Rattle.heap.specs.declared.state.Made.{Made}
 use Rattle.world.specs.World.{Content, World}
 use Rattle.world.specs.View.{home_of}
 use Rattle.world.specs.declared.world.Home.{Home}

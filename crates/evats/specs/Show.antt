@@ -17,8 +17,8 @@ use Rattle.kernele.specs.Tree.{Name}
 use Rattle.kernele.specs.declared.tree.Pattern.{Pattern}
 use Rattle.kernele.specs.declared.tree.Pattern.TheVariants as pattern
 use Rattle.values.specs.Shown.{shown}
-use Rattle.turn.specs.State as state
-use Rattle.turn.specs.State.{State, top, slot_cell, object_cell, bound, fixed, slot, held, made}
+use Rattle.heap.specs.State as state
+use Rattle.heap.specs.State.{State, top, slot_cell, object_cell, bound, fixed, slot, held, made}
 use Rattle.world.specs.World.{Place, at_vat, done, Content, home, message, published, World}
 
 -- xs has the contents of a finite map with their keys, in the order of the keys

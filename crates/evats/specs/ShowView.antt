@@ -4,12 +4,12 @@ use Rattle.std.specs.BTreeMap.{BTreeMap}
 use Rattle.kernele.specs.Tree.{Name}
 use Rattle.values.specs.View.{val_of}
 use Rattle.values.specs.declared.value.Value.{Value}
-use Rattle.turn.specs.View.{bind_of, object_of, state_of}
-use Rattle.turn.specs.declared.heap.Binding.{Binding}
-use Rattle.turn.specs.declared.heap.Made.{Made}
+use Rattle.heap.specs.View.{bind_of, object_of, state_of}
+use Rattle.heap.specs.declared.state.Binding.{Binding}
+use Rattle.heap.specs.declared.state.Made.{Made}
 use Rattle.evats.specs.Show.{Nouns, Slots, Objects, noun_lines, slot_lines, object_lines, vat_line, HomeLines}
-use Rattle.turn.specs.State as state
-use Rattle.turn.specs.State.{bound, held, made}
+use Rattle.heap.specs.State as state
+use Rattle.heap.specs.State.{bound, held, made}
 use Rattle.ids.specs.declared.names.VatNo.{VatNo}
 use Rattle.ids.specs.declared.names.MsgId.{MsgId}
 use Rattle.ids.specs.declared.names.PromId.{PromId}

@@ -3,8 +3,8 @@ ghost use Rattle.std.specs.Prelude.{◌≡◌, ◌++◌, OnOk, string_bytes, Lis
 ghost use Rattle.values.specs.Shown.{shown};
 ghost use Rattle.ids.specs.Cells.{vat_cmp, message_cmp, promise_cmp, slot_cmp, object_cmp};
 ghost use Rattle.ids.specs.declared.names.CellKey.TheVariants as key;
-ghost use Rattle.turn.specs.View.{bind_of, object_of, tops_of, slots_of, objects_of};
-ghost use Rattle.turn.specs.State.{bound, held, made};
+ghost use Rattle.heap.specs.View.{bind_of, object_of, tops_of, slots_of, objects_of};
+ghost use Rattle.heap.specs.State.{bound, held, made};
 ghost use Rattle.std.specs.Ordering.{nat_cmp};
 ghost use Rattle.std.specs.Cmp.Lexicographic.{slice_cmp};
 ghost use Rattle.values.specs.View.{val_of};
@@ -15,12 +15,12 @@ ghost use Rattle.world.specs.View.{world_of, place_of, message_of, home_of};
 ghost use Rattle.evats.specs.Show.{pattern_text, content_text, noun_line, noun_lines, slot_line, slot_lines, object_line, object_lines, vat_line, place_text, message_line, message_lines, board_line, board_lines, Lists, Shows};
 ghost use Rattle.evats.specs.ShowView.{nouns_in, slots_in, objects_in, homes_in, messages_in, board_in, HomeWritten, HomesWritten};
 
+use heap::state::{Binding, Made};
 use ids::names::{MsgId, ObjId, PromId, SlotId, VatNo};
 use ids::text::Text;
 use kernele::tree::Pattern;
 use std::alloc::AllocError;
 use std::collections::BTreeMap;
-use turn::heap::{Binding, Made};
 use values::showing::write_value;
 use values::value::Value;
 use world::world::{Home, Message, Place, World};

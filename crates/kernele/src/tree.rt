@@ -1,6 +1,9 @@
 // Trees of the language, shared where they are held more than once.
+ghost use Rattle.std.specs.Prelude.{◌≡◌, IfOk};
+ghost use Rattle.kernele.specs.View.{program_of};
 
 use ids::text::Text;
+use std::alloc::AllocError;
 use std::sync::Arc;
 
 /// What a definition binds: a name, or nothing.
@@ -8,6 +11,18 @@ use std::sync::Arc;
 pub enum Pattern {
     Name(Text),
     Ignore,
+}
+
+impl Pattern {
+    /// The same pattern, whose name is shared. Fails only for want of memory.
+    pub fn share(&self) -> Result<Pattern, AllocError>
+        ensures { IfOk result (λ p. p ≡ self.now) }
+    {
+        match self {
+            Pattern::Name(name) => Ok(Pattern::Name(name.share()?)),
+            Pattern::Ignore => Ok(Pattern::Ignore),
+        }
+    }
 }
 
 /// An expression.
@@ -59,3 +74,12 @@ pub struct Block(pub Arc<Vec<Expr>>);
 /// A whole script or asked text.
 #[derive(Drop)]
 pub struct Program(pub Block);
+
+impl Program {
+    /// The same program, shared. Fails only for want of memory.
+    pub fn share(&self) -> Result<Program, AllocError>
+        ensures { IfOk result (λ p. program_of p ≡ program_of self.now) }
+    {
+        Ok(Program(Block(Arc::try_clone(&self.0.0)?)))
+    }
+}

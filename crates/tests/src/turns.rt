@@ -8,7 +8,7 @@ use kernele::tree::Program;
 use std::alloc::{AllocError, Global};
 use std::test::Fail;
 use turn::delivery::{Delivery, Ended, Outcome};
-use turn::heap::{Binding, VatState};
+use heap::state::{Binding, VatState};
 use turn::ticket::{Out, Ticket};
 use values::showing::show;
 use values::value::Value;

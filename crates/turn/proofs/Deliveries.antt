@@ -5,18 +5,21 @@ use Rattle.ids.specs.declared.names.VatNo.{VatNo}
 use Rattle.ids.specs.declared.names.EjId.{EjId}
 use Rattle.kernele.specs.Tree.{Name, Trees}
 use Rattle.values.specs.Data.{Val, null}
-use Rattle.turn.specs.State.{State, At}
-use Rattle.turn.specs.Outcomes.{End}
-use Rattle.turn.specs.Rules.{Items}
+use Rattle.heap.specs.State.{State}
+use Rattle.eval.specs.At.{At}
+use Rattle.eval.specs.Outcomes.{End}
+use Rattle.eval.specs.Rules.{Items}
 use Rattle.turn.specs.Turn.{opening, asked, Delivers, opens, asks, Outcome, outcome, settled, start, kept}
 use Rattle.kernele.specs.View.{program_of}
 use Rattle.kernele.specs.declared.tree.Program.{Program}
-use Rattle.turn.specs.View.{delivery_of, ended_of, outcome_of, nouns_of, opened_of}
+use Rattle.heap.specs.View.{nouns_of}
+use Rattle.eval.specs.View.{opened_of}
+use Rattle.turn.specs.View.{delivery_of, ended_of, outcome_of}
 use Rattle.turn.specs.declared.delivery.Ended.{Ended}
 use Rattle.turn.specs.declared.delivery.Ended.TheVariants as ended
-use Rattle.turn.specs.declared.end.Abandon.{Abandon}
+use Rattle.eval.specs.declared.end.Abandon.{Abandon}
 use Rattle.values.specs.declared.value.Value.{Value}
-use Rattle.turn.specs.declared.heap.Noun.{Noun}
+use Rattle.heap.specs.declared.state.Noun.{Noun}
 use Rattle.turn.specs.declared.delivery.Delivery as code
 use Rattle.turn.specs.declared.delivery.Delivery.TheVariants as delivery
 use Rattle.turn.specs.declared.delivery.Outcome as code-outcome

@@ -1,15 +1,2 @@
-pub mod Captures
-pub mod Cells
 pub mod Deliveries
-pub mod Determined
-pub mod Ejections
-pub mod Ejectors
-pub mod Entered
-pub mod Framed
-pub mod Grown
-pub mod Opened
-pub mod Patterns
-pub mod Scopes
-pub mod Spent
-pub mod Steps
-pub mod Unwritten
+pub mod Laws

@@ -1,6 +1,3 @@
-pub mod State
-pub mod Outcomes
-pub mod Rules
 pub mod Turn
 pub mod View
 pub mod Touched

@@ -5,9 +5,10 @@ use Rattle.ids.specs.declared.names.VatNo.{VatNo}
 use Rattle.kernele.specs.Tree.{Trees}
 use Rattle.values.specs.Data.{Val, null, broken}
 use Rattle.values.specs.Replies.{limited}
-use Rattle.turn.specs.State.{State, At}
-use Rattle.turn.specs.Outcomes.{thrown, ejected, abandoned, reason, End, value, halt, reply_end}
-use Rattle.turn.specs.Rules.{Items}
+use Rattle.heap.specs.State.{State}
+use Rattle.eval.specs.At.{At}
+use Rattle.eval.specs.Outcomes.{thrown, ejected, abandoned, reason, End, value, halt, reply_end}
+use Rattle.eval.specs.Rules.{Items}
 
 -- what is delivered: the vat's script, or a program that is asked of it
 pub data Delivery : Type 0 where

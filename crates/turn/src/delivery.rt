@@ -3,21 +3,22 @@ ghost use Rattle.std.specs.Prelude.{◌≡◌, IfOk};
 ghost use Rattle.kernele.specs.View.{program_of};
 ghost use Rattle.values.specs.Data.{null};
 ghost use Rattle.values.specs.View.{val_of};
-ghost use Rattle.turn.specs.State.{At};
-ghost use Rattle.turn.specs.Outcomes.{End as ModelEnd};
-ghost use Rattle.turn.specs.Rules.{Items};
+ghost use Rattle.eval.specs.At.{At};
+ghost use Rattle.eval.specs.Outcomes.{End as ModelEnd};
+ghost use Rattle.eval.specs.Rules.{Items};
 ghost use Rattle.turn.specs.Turn.{Delivers, start, settled, published as published_of, kept, outcome};
-ghost use Rattle.turn.specs.View.{at, end_of, ended_of, state_of, delivery_of, outcome_of};
+ghost use Rattle.heap.specs.View.{state_of};
+ghost use Rattle.eval.specs.View.{at, end_of};
+ghost use Rattle.turn.specs.View.{ended_of, delivery_of, outcome_of};
 
-use crate::end::{Abandon, End, Halt};
-use crate::eval::eval_items;
-use crate::heap::VatState;
-use crate::working::Working;
+use eval::end::{Abandon, End, Halt};
+use eval::eval::eval_items;
+use eval::working::Working;
+use heap::state::VatState;
 use ids::names::{EventName, VatNo};
 use ids::text::Text;
-use kernele::tree::{Block, Program};
+use kernele::tree::Program;
 use std::alloc::{AllocError, Global};
-use std::sync::Arc;
 use values::limits::is_within_limits;
 use values::value::Value;
 
@@ -57,16 +58,10 @@ impl Delivery {
         ensures { IfOk result (λ d. delivery_of d ≡ delivery_of self.now) }
     {
         match self {
-            Delivery::Opening(program) => Ok(Delivery::Opening(shared(program)?)),
-            Delivery::Asked(program) => Ok(Delivery::Asked(shared(program)?)),
+            Delivery::Opening(program) => Ok(Delivery::Opening(program.share()?)),
+            Delivery::Asked(program) => Ok(Delivery::Asked(program.share()?)),
         }
     }
-}
-
-fn shared(program: &Program) -> Result<Program, AllocError>
-    ensures { IfOk result (λ p. program_of p ≡ program_of program.now) }
-{
-    Ok(Program(Block(Arc::try_clone(&program.0.0)?)))
 }
 
 /// Runs a turn of a vat in this state, which itself stays as it is. Fails only for want of memory.

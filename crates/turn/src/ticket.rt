@@ -1,10 +1,11 @@
 // A turn that is checked out: carried away, run once, and handed back.
 ghost use Rattle.std.specs.Prelude.{◌≡◌, IfOk, IfErr};
 ghost use Rattle.turn.specs.Turn.{Delivers};
-ghost use Rattle.turn.specs.View.{state_of, delivery_of, outcome_of};
+ghost use Rattle.heap.specs.View.{state_of};
+ghost use Rattle.turn.specs.View.{delivery_of, outcome_of};
 
 use crate::delivery::{Delivery, Outcome, deliver};
-use crate::heap::VatState;
+use heap::state::VatState;
 use ids::names::{EventName, MsgId, VatNo};
 use std::alloc::AllocError;
 

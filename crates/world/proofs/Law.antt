@@ -9,10 +9,10 @@ use Rattle.ids.specs.declared.names.CellKey.{CellKey}
 use Rattle.ids.specs.declared.names.CellKey.TheVariants as key
 use Rattle.ids.proofs.Keys.{same_key_exact, same_key_self}
 use Rattle.kernele.specs.Tree.{Name}
-use Rattle.turn.specs.State.{State}
-use Rattle.turn.specs.Outcomes.{End, value, halt, thrown, ejected, abandoned}
+use Rattle.heap.specs.State.{State}
+use Rattle.eval.specs.Outcomes.{End, value, halt, thrown, ejected, abandoned}
 use Rattle.turn.specs.Turn.{Outcome, Delivers}
-use Rattle.turn.proofs.Determined.{delivery_same}
+use Rattle.turn.proofs.Laws.{delivery_same}
 use Rattle.world.specs.World.{Vat, Place, at_vat, done, Message, Content, home, World, vat_in, message_in, done_in}
 use Rattle.world.specs.Events.{Event, Foot, Turn, Turns, InOrder, awaited, new_state, done_and_published, ask_foot, turn_foot, Does, births, asks, turns, events}
 

@@ -4,8 +4,8 @@ use Rattle.std.proofs.Props.{props}
 use Rattle.kernele.specs.declared.tree.Pattern.{Pattern}
 use Rattle.kernele.specs.Tree.{Name, Trees, Trees-set, Methods, Methods-set}
 use Rattle.values.specs.Data.{Val, Val-set}
-use Rattle.turn.specs.State.{Bind, Bind-set, Nouns, Object, Object-set, State}
-use Rattle.turn.specs.State as state
+use Rattle.heap.specs.State.{Bind, Bind-set, Nouns, Object, Object-set, State}
+use Rattle.heap.specs.State as state
 use Rattle.turn.specs.Turn.{Delivery, Delivery-set}
 use Rattle.world.specs.World.{Vat, Vat-set, Place, Place-set, Message, Message-set, Content, Content-set, World}
 

@@ -10,9 +10,9 @@ use Rattle.std.specs.Prelude.{Result, Ok, Err, OnErr}
 use Rattle.std.specs.Option.{option_map, IsSome}
 use Rattle.std.specs.Ordering.{is_eq}
 use Rattle.std.specs.BTreeMap.{BTreeMap, get, UpdatesBy}
-use Rattle.turn.specs.State.{State}
-use Rattle.turn.specs.View.{state_of}
-use Rattle.turn.specs.declared.heap.VatState.{VatState}
+use Rattle.heap.specs.State.{State}
+use Rattle.heap.specs.View.{state_of}
+use Rattle.heap.specs.declared.state.VatState.{VatState}
 use Rattle.world.specs.World.{Content, World, hold, put, clear, home}
 use Rattle.world.specs.View.{world_of, home_of}
 use Rattle.world.specs.declared.world.World as code

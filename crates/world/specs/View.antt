@@ -4,7 +4,8 @@ use Rattle.std.specs.Ordering.{nat_cmp}
 use Rattle.std.specs.Cmp.Lexicographic.{slice_cmp}
 use Rattle.std.specs.BTreeMap.{get}
 use Rattle.values.specs.View.{val_of}
-use Rattle.turn.specs.View.{state_of, delivery_of}
+use Rattle.heap.specs.View.{state_of}
+use Rattle.turn.specs.View.{delivery_of}
 use Rattle.ids.specs.Cells.{vat_cmp, message_cmp, promise_cmp}
 use Rattle.ids.specs.declared.names.CellKey.TheVariants as key
 use Rattle.world.specs.World as model

@@ -3,7 +3,7 @@ use Rattle.std.specs.Prelude.{List, Bool, true, false, cond, Option, Some, None}
 use Rattle.kernele.specs.Tree.{Name}
 use Rattle.kernele.specs.declared.naming.TopName.{TopName}
 use Rattle.values.specs.Data.{Val}
-use Rattle.turn.specs.State.{State}
+use Rattle.heap.specs.State.{State}
 use Rattle.turn.specs.Turn.{Delivery}
 use Rattle.ids.specs.Cells.{same_key}
 use Rattle.ids.specs.declared.names.EventName.{EventName}

@@ -1,12 +1,7 @@
 // What happens: the events of a book.
-ghost use Rattle.std.specs.Prelude.{◌≡◌, IfOk};
-ghost use Rattle.kernele.specs.View.{program_of};
-
 use ids::names::{EventName, MsgId};
 use ids::text::Text;
-use kernele::tree::{Block, Program};
-use std::alloc::AllocError;
-use std::sync::Arc;
+use kernele::tree::Program;
 
 /// What an event does.
 #[derive(Drop)]
@@ -24,11 +19,4 @@ pub enum Action {
 pub struct Event {
     pub name: EventName,
     pub action: Action,
-}
-
-/// The same program, shared.
-pub fn share_program(program: &Program) -> Result<Program, AllocError>
-    ensures { IfOk result (λ p. program_of p ≡ program_of program.now) }
-{
-    Ok(Program(Block(Arc::try_clone(&program.0.0)?)))
 }

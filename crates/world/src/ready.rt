@@ -1,7 +1,7 @@
 // Whether a message may be delivered.
 ghost use Rattle.std.specs.Prelude.{◌≡◌, None, Some, IfOk, IfErr, OnOk};
 ghost use Rattle.ids.specs.declared.names.CellKey.TheVariants as key;
-ghost use Rattle.turn.specs.View.{state_of};
+ghost use Rattle.heap.specs.View.{state_of};
 ghost use Rattle.world.specs.World.{home, at_vat, done_in, message_of as message_in_world, message as message_content};
 ghost use Rattle.world.specs.Events.{InOrder};
 ghost use Rattle.world.specs.Ready.{unready, misplaced, awaits};

@@ -3,9 +3,10 @@ ghost use Rattle.std.specs.Prelude.{◌≡◌, ◌++◌, List, ℕ, [], ◌∷�
 ghost use Rattle.history.specs.Subject.{after as after_event};
 ghost use Rattle.ids.specs.declared.names.CellKey.TheVariants as key;
 ghost use Rattle.kernele.specs.View.{program_of};
-ghost use Rattle.turn.specs.State.{State};
+ghost use Rattle.heap.specs.State.{State};
 ghost use Rattle.turn.specs.Turn.{Delivers};
-ghost use Rattle.turn.specs.View.{ended_of, state_of, delivery_of, outcome_of};
+ghost use Rattle.heap.specs.View.{state_of};
+ghost use Rattle.turn.specs.View.{ended_of, delivery_of, outcome_of};
 ghost use Rattle.world.specs.World as model;
 ghost use Rattle.world.specs.World.{home, at_vat, done_in, message_of as message_in_world, message as message_content};
 ghost use Rattle.world.specs.Events.{Foot, Does, events, birth, ask, turn, InOrder, birth_foot, ask_foot, turn_foot, is_abandoned as is_abandoned_end, first_message as message_of_event, first_promise as promise_of_event};
@@ -14,16 +15,16 @@ ghost use Rattle.world.specs.Steps.{TellsStep};
 ghost use Rattle.world.specs.EventView.{event_of};
 ghost use Rattle.world.specs.View.{world_of, place_of, message_of};
 
-use crate::event::{Action, Event, share_program};
+use crate::event::{Action, Event};
 use crate::ready::ready;
 use crate::world::{Home, Message, Place, Vat, World};
+use heap::state::VatState;
 use ids::names::{CellKey, EventName, MsgId, PromId, VatNo};
 use ids::text::Text;
 use kernele::top_names;
 use kernele::tree::Program;
 use std::alloc::{AllocError, AllocFailed, Global};
 use turn::delivery::{Delivery, Ended, Outcome};
-use turn::heap::VatState;
 use turn::ticket::{Out, Ran, Ticket};
 
 /// Why an event was not done.
@@ -218,7 +219,7 @@ fn step_birth(
     let None = world.vat(name) else {
         return Err(StepFault::Impossible);
     };
-    enter_birth(alloc, world, event, name, share_program(script)?)?;
+    enter_birth(alloc, world, event, name, script.share()?)?;
     Ok(())
 }
 
@@ -235,7 +236,7 @@ fn step_ask(
         return Err(StepFault::Impossible);
     };
     let number = vat.number;
-    enter_ask(world, event, number, share_program(program)?)?;
+    enter_ask(world, event, number, program.share()?)?;
     Ok(())
 }
 

@@ -9,19 +9,19 @@ ghost use Rattle.ids.specs.declared.names.PromId.{PromId};
 ghost use Rattle.ids.specs.declared.names.CellKey.TheVariants as key;
 ghost use Rattle.values.specs.View.{val_of};
 ghost use Rattle.std.specs.Prelude.{List, ℕ};
-ghost use Rattle.turn.specs.State.{State};
-ghost use Rattle.turn.specs.View.{state_of};
+ghost use Rattle.heap.specs.State.{State};
+ghost use Rattle.heap.specs.View.{state_of};
 ghost use Rattle.world.specs.World as model;
 ghost use Rattle.world.specs.World.{Content, done, empty, hold, put, clear, vat, home, message, published};
 ghost use Rattle.world.specs.View.{world_of, vat_of, home_of, message_of};
 
+use heap::state::VatState;
 use ids::names::{EventName, MsgId, PromId, VatNo};
 use ids::text::Text;
 use kernele::TopName;
 use std::alloc::{AllocError, Global};
 use std::collections::BTreeMap;
 use turn::delivery::Delivery;
-use turn::heap::VatState;
 use values::value::Value;
 
 /// What is known of a vat by its name.

@@ -1,7 +1,7 @@
 use Rattle.std.specs.Ordering.{nat_cmp}
 use Rattle.std.specs.Cmp.Lexicographic.{slice_cmp}
-use Rattle.turn.specs.State.{bound}
-use Rattle.turn.specs.View.{bind_of}
+use Rattle.heap.specs.State.{bound}
+use Rattle.heap.specs.View.{bind_of}
 use Rattle.evats.proofs.Listings.{entries_list}
 use Rattle.evats.proofs.show.write_nouns.Goals as goal
 

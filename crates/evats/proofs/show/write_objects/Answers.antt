@@ -1,6 +1,6 @@
 use Rattle.ids.specs.Cells.{object_cmp}
-use Rattle.turn.specs.State.{made}
-use Rattle.turn.specs.View.{object_of}
+use Rattle.heap.specs.State.{made}
+use Rattle.heap.specs.View.{object_of}
 use Rattle.evats.proofs.Listings.{entries_list}
 use Rattle.evats.proofs.show.write_objects.Goals as goal
 

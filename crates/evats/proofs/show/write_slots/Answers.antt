@@ -1,6 +1,6 @@
 use Rattle.ids.specs.Cells.{slot_cmp}
 use Rattle.values.specs.View.{val_of}
-use Rattle.turn.specs.State.{held}
+use Rattle.heap.specs.State.{held}
 use Rattle.evats.proofs.Listings.{entries_list}
 use Rattle.evats.proofs.show.write_slots.Goals as goal
 

@@ -1,6 +1,6 @@
 use Rattle.std.proofs.Common.{ap, ◌∙◌}
 use Rattle.turn.specs.Turn.{kept, published}
-use Rattle.turn.specs.View.{state_of}
+use Rattle.heap.specs.View.{state_of}
 use Rattle.turn.proofs.Deliveries.{outcome_is}
 use Rattle.turn.proofs.delivery.finish.Goals as goal
 

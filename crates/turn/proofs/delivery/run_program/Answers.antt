@@ -2,7 +2,7 @@ use Rattle.std.proofs.Common.{ap}
 use Rattle.std.proofs.lemmas.Result.{IfOk-weaker}
 use Rattle.kernele.specs.View.{trees_of}
 use Rattle.turn.specs.View.{outcome_of}
-use Rattle.turn.proofs.Steps.{slice_of}
+use Rattle.eval.proofs.Steps.{slice_of}
 use Rattle.turn.proofs.Deliveries.{program_items, completed}
 use Rattle.turn.proofs.delivery.run_program.Goals as goal
 

@@ -1,5 +1,5 @@
 use Rattle.std.proofs.lemmas.Result.{IfOk-weaker}
-use Rattle.turn.specs.View.{state_of}
+use Rattle.heap.specs.View.{state_of}
 use Rattle.turn.proofs.Deliveries.{keeps_new, keeps_old}
 use Rattle.turn.proofs.delivery.state_after.Goals as goal
 

@@ -1,4 +1,4 @@
-use Rattle.turn.proofs.Determined.{delivery_same}
+use Rattle.turn.proofs.Laws.{delivery_same}
 use Rattle.turn.proofs.theorems.at_most_one_delivery.Goals as goal
 
 pub returns : goal.returns

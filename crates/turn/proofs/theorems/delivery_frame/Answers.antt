@@ -1,4 +1,4 @@
-use Rattle.turn.proofs.Framed.{delivery_framed}
+use Rattle.turn.proofs.Laws.{delivery_framed}
 use Rattle.turn.proofs.theorems.delivery_frame.Goals as goal
 
 pub returns : goal.returns

@@ -1,4 +1,4 @@
-use Rattle.turn.proofs.Ejections.{none_leaves}
+use Rattle.turn.proofs.Laws.{none_leaves}
 use Rattle.turn.proofs.theorems.no_ejection_leaves_a_turn.Goals as goal
 
 pub returns : goal.returns

@@ -1,4 +1,4 @@
-use Rattle.turn.proofs.Unwritten.{delivery_un}
+use Rattle.turn.proofs.Laws.{delivery_un}
 use Rattle.turn.proofs.theorems.others_stay_in_turns.Goals as goal
 
 pub returns : goal.returns

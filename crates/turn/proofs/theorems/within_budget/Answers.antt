@@ -1,4 +1,4 @@
-use Rattle.turn.proofs.Spent.{delivery_left}
+use Rattle.turn.proofs.Laws.{delivery_left}
 use Rattle.turn.proofs.theorems.within_budget.Goals as goal
 
 pub returns : goal.returns

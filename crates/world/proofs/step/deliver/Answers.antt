@@ -1,7 +1,8 @@
 use Rattle.std.proofs.Common.{◌∙◌, subst}
 use Rattle.turn.specs.Turn.{Delivery, Delivers}
-use Rattle.turn.specs.State.{State}
-use Rattle.turn.specs.View.{delivery_of, state_of, outcome_of}
+use Rattle.heap.specs.State.{State}
+use Rattle.heap.specs.View.{state_of}
+use Rattle.turn.specs.View.{delivery_of, outcome_of}
 use Rattle.turn.specs.declared.ticket.Out.{Out}
 use Rattle.world.proofs.step.deliver.Goals as goal
 

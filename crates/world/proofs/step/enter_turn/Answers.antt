@@ -2,7 +2,8 @@ use Rattle.std.proofs.Common.{◌∙◌, ◌∷◌, Bool, cond, List, [], Some, 
 use Rattle.ids.specs.Cells.{same_key}
 use Rattle.ids.specs.declared.names.CellKey.{CellKey}
 use Rattle.ids.specs.declared.names.CellKey.TheVariants as key
-use Rattle.turn.specs.View.{outcome_of, state_of}
+use Rattle.heap.specs.View.{state_of}
+use Rattle.turn.specs.View.{outcome_of}
 use Rattle.world.specs.World.{World, Content, home}
 use Rattle.world.specs.View.{world_of}
 use Rattle.world.proofs.Steps.{settled}

@@ -3,7 +3,8 @@ use Rattle.std.proofs.Math.Logic.{∥∥₁_map}
 use Rattle.ids.specs.declared.names.VatNo.{VatNo}
 use Rattle.ids.specs.declared.names.CellKey.TheVariants as key
 use Rattle.turn.specs.Turn.{Delivers}
-use Rattle.turn.specs.View.{state_of, outcome_of}
+use Rattle.heap.specs.View.{state_of}
+use Rattle.turn.specs.View.{outcome_of}
 use Rattle.world.specs.World.{at_vat}
 use Rattle.world.specs.Events.{Turn, Turns, turns, turn_foot}
 use Rattle.world.specs.View.{world_of, message_of}

@@ -4,7 +4,8 @@ use Rattle.ids.specs.declared.names.VatNo.{VatNo}
 use Rattle.ids.specs.declared.names.CellKey.{CellKey}
 use Rattle.ids.specs.declared.names.CellKey.TheVariants as key
 use Rattle.turn.specs.Turn.{Delivers}
-use Rattle.turn.specs.View.{state_of, outcome_of}
+use Rattle.heap.specs.View.{state_of}
+use Rattle.turn.specs.View.{outcome_of}
 use Rattle.world.specs.World.{at_vat}
 use Rattle.world.specs.Events.{Event, Turn, Turns, turn, turns, turn_foot}
 use Rattle.book.specs.Books.{Book}

@@ -1,0 +1,220 @@
+use Rattle.std.proofs.Common.{rules, arith, ap, ◌∙◌, refl, sym, length}
+use Rattle.std.proofs.lemmas.Result.{IfOk-weaker}
+use Rattle.kernele.specs.View.{tree_of, trees_of}
+use Rattle.kernele.proofs.Views.{tree_of-Call, tree_of-List, tree_of-Hide, tree_of-If, tree_of-While, tree_of-For, tree_of-Try, tree_of-Object, tree_of-Escape}
+use Rattle.kernele.specs.declared.tree.Pattern.TheVariants as pattern
+use Rattle.values.specs.View.{val_of}
+use Rattle.eval.specs.View.{at, end_of, choice_view, listing_view, target_view}
+use Rattle.eval.specs.Rules.{at_budget, at_depth, run_null, run_bool, run_int, run_text, run_noun, run_define, run_variable, run_assign, run_call_receiver, run_call_gives, run_list, run_same_left, run_same, goes, run_define_list, run_hide, run_throw, run_if_goes, run_if_ends, run_while_again, run_while_halts, run_while_done, run_while_ends, run_for, run_for_ends, run_try, run_try_caught, run_object}
+use Rattle.eval.proofs.Steps.{node, child, children, slice_of, if_both, runs_as, runs_to, parts_run, args_begin, args_pushed, args_more, args_no_more, args_end, args_done, items_more, items_no_more, items_end, blocks, block_ending, taking, taking_ending, each, block_end, taking_end, each_more, each_no_more, each_end, next_round}
+use Rattle.eval.proofs.Entered.{entered, call_entered, escape_over}
+use Rattle.eval.proofs.Scopes.{truncated-length}
+use Rattle.eval.proofs.Grown.{round_grow}
+use Rattle.eval.proofs.Spent.{condition_less, block_left}
+use Rattle.eval.proofs.+evaluate.Goals as goal
+
+pub eval::eval-returns-then-w-eq0 : goal.eval::eval-returns-then-w-eq0
+eval::eval-returns-then-w-eq0 t c = at_budget (search rules)
+
+pub eval::eval-returns-then-level-gt-DEEPEST : goal.eval::eval-returns-then-level-gt-DEEPEST
+eval::eval-returns-then-level-gt-DEEPEST t c = at_depth (omega arith) c.if-level-gt-DEEPEST.true
+
+pub eval::eval-returns-in-Null : goal.eval::eval-returns-in-Null
+eval::eval-returns-in-Null t c = node _ (ap tree_of c.in-Null.is) run_null (omega arith) c.if-level-gt-DEEPEST.false
+
+pub eval::eval-returns-in-Bool : goal.eval::eval-returns-in-Bool
+eval::eval-returns-in-Bool t c = node _ (ap tree_of c.in-Bool.is) run_bool (omega arith) c.if-level-gt-DEEPEST.false
+
+pub eval::eval-returns-in-Int : goal.eval::eval-returns-in-Int
+eval::eval-returns-in-Int t c = node _ (ap tree_of c.in-Int.is) (runs_as run_int (search rules)) (omega arith) c.if-level-gt-DEEPEST.false
+
+pub eval::eval-returns-in-Text : goal.eval::eval-returns-in-Text
+eval::eval-returns-in-Text t c = IfOk-weaker _ _ _ (λ o h. node _ {a = at c.args.w.now} (ap tree_of c.in-Text.is) (runs_as run_text h) (omega arith) c.if-level-gt-DEEPEST.false) c.text_end.ensures
+
+pub eval::eval-returns-in-Noun : goal.eval::eval-returns-in-Noun
+eval::eval-returns-in-Noun t c = IfOk-weaker _ _ _ (λ o h. node _ {a = at c.args.w.now} (ap tree_of c.in-Noun.is) (runs_as run_noun h) (omega arith) c.if-level-gt-DEEPEST.false) c.noun_end.ensures
+
+pub eval::eval-returns-in-Def : goal.eval::eval-returns-in-Def
+eval::eval-returns-in-Def t c = IfOk-weaker _ _ _ (λ o h. node _ (ap tree_of c.in-Def.is) h (omega arith) c.if-level-gt-DEEPEST.false) c.eval_def.ensures
+
+pub eval::eval-returns-in-Var : goal.eval::eval-returns-in-Var
+eval::eval-returns-in-Var t c = IfOk-weaker _ _ _ (λ o h. node _ (ap tree_of c.in-Var.is) h (omega arith) c.if-level-gt-DEEPEST.false) c.eval_var.ensures
+
+pub eval::eval-returns-in-Assign : goal.eval::eval-returns-in-Assign
+eval::eval-returns-in-Assign t c = IfOk-weaker _ _ _ (λ o h. node _ (ap tree_of c.in-Assign.is) h (omega arith) c.if-level-gt-DEEPEST.false) c.eval_assign.ensures
+
+pub eval::eval-returns-in-Call : goal.eval::eval-returns-in-Call
+eval::eval-returns-in-Call t c = IfOk-weaker _ _ _ (λ o h. node _ (ap tree_of c.in-Call.is ∙ tree_of-Call c.in-Call.receiver c.in-Call.verb c.in-Call.args) h (omega arith) c.if-level-gt-DEEPEST.false) c.eval_call.ensures
+
+pub eval::eval-returns-in-List : goal.eval::eval-returns-in-List
+eval::eval-returns-in-List t c = IfOk-weaker _ _ _ (λ o h. node _ (ap tree_of c.in-List.is ∙ tree_of-List c.in-List.items) h (omega arith) c.if-level-gt-DEEPEST.false) c.eval_list.ensures
+
+pub eval::eval-returns-in-Same : goal.eval::eval-returns-in-Same
+eval::eval-returns-in-Same t c = IfOk-weaker _ _ _ (λ o h. node _ (ap tree_of c.in-Same.is) h (omega arith) c.if-level-gt-DEEPEST.false) c.eval_same.ensures
+
+pub eval::eval_def-returns : goal.eval::eval_def-returns
+eval::eval_def-returns t c = rw c.in_ok-match_pattern.ensures (run_define (child c.deref.ensures c.in-Value.is c.in_ok-value.ensures))
+
+pub eval::eval_def-returns-in-Halt : goal.eval::eval_def-returns-in-Halt
+eval::eval_def-returns-in-Halt t c = run_define (child c.deref.ensures c.in-Halt.is c.in_ok-value.ensures)
+
+pub eval::eval_var-returns-in-Halt : goal.eval::eval_var-returns-in-Halt
+eval::eval_var-returns-in-Halt t c = run_variable (child c.deref.ensures c.in-Halt.is c.in_ok-value.ensures)
+
+pub eval::eval_var-returns : goal.eval::eval_var-returns
+eval::eval_var-returns t c = if_both _ _ _ _ (λ o p q. runs_to (run_variable (child c.deref.ensures c.in-Value.is c.in_ok-value.ensures)) p q) c.declare.ensures.ends c.declare.ensures.makes
+
+pub eval::eval_assign-returns-in-Halt : goal.eval::eval_assign-returns-in-Halt
+eval::eval_assign-returns-in-Halt t c = run_assign (child c.deref.ensures c.in-Halt.is c.in_ok-value.ensures)
+
+pub eval::eval_assign-returns : goal.eval::eval_assign-returns
+eval::eval_assign-returns t c = if_both _ _ _ _ (λ o p q. runs_to (run_assign (child c.deref.ensures c.in-Value.is c.in_ok-value.ensures)) p q) c.assign.ensures.ends c.assign.ensures.writes
+
+pub eval::eval_args-loop-arg-init : goal.eval::eval_args-loop-arg-init
+eval::eval_args-loop-arg-init t c = λ g b h. args_begin c.new-values.ensures.items h
+
+pub eval::eval_args-loop-arg-preserved : goal.eval::eval_args-loop-arg-preserved
+eval::eval_args-loop-arg-preserved t c = λ g b h. args_pushed g _ _ c.in_ok-push-in-Value.ensures.items (c.loop-arg.invariant _ _ (args_more _ g c.loop-arg-test.true c.arg-item.is (child refl c.in-Value.is c.in_ok-v.ensures) h))
+
+pub eval::eval_args-returns-in-Halt : goal.eval::eval_args-returns-in-Halt
+eval::eval_args-returns-in-Halt t c = c.loop-arg.invariant _ _ (args_no_more _ c.loop-arg-test.true c.arg-item.is (child refl c.in-Halt.is c.in_ok-v.ensures))
+
+pub eval::eval_args-returns : goal.eval::eval_args-returns
+eval::eval_args-returns t c = args_done _ (c.loop-arg.invariant _ _ (args_end _ c.loop-arg-test.false))
+
+pub eval::eval_list-returns : goal.eval::eval_list-returns
+eval::eval_list-returns t c = IfOk-weaker _ _ _ (λ o h. runs_as (run_list (children (slice_of c.deref-2.ensures.value c.deref.ensures) refl c.in_ok-gathered.ensures)) h) c.list_end.ensures
+
+pub calling::eval_call-returns-in-Halt : goal.calling::eval_call-returns-in-Halt
+calling::eval_call-returns-in-Halt t c = run_call_receiver (child c.deref.ensures c.in-Halt.is c.in_ok-value.ensures)
+
+pub calling::eval_call-returns-in-Gives : goal.calling::eval_call-returns-in-Gives
+calling::eval_call-returns-in-Gives t c = run_call_gives (child c.deref.ensures c.in-Value.is c.in_ok-value.ensures) (children (slice_of c.deref-3.ensures.value c.deref-2.ensures) refl c.in_ok-gathered.ensures) (sym c.in_ok-target.ensures ∙ ap target_view c.in-Gives.is)
+
+pub calling::eval_call-returns-in_ok-end-in-Enters : goal.calling::eval_call-returns-in_ok-end-in-Enters
+calling::eval_call-returns-in_ok-end-in-Enters t c =
+    call_entered (child c.deref.ensures c.in-Value.is c.in_ok-value.ensures) (children (slice_of c.deref-3.ensures.value c.deref-2.ensures) refl c.in_ok-gathered.ensures) (sym c.in_ok-target.ensures ∙ ap target_view c.in-Enters.is)
+    c.in_ok-end-in-Enters.ensures
+
+pub calling::eval_method-returns : goal.calling::eval_method-returns
+calling::eval_method-returns t c = entered (ap trees_of (slice_of c.deref-2.ensures.value c.deref.ensures)) _ c.args.w.now c.eval_items.new.w (ap (λ v. v.items) c.enter_method-caller.ensures.names) c.enter_method-caller.ensures.own c.enter_method-caller.ensures.place c.in_ok-end.ensures c.leave_method.ensures
+
+pub calling::eval_escape-returns : goal.calling::eval_escape-returns
+calling::eval_escape-returns t c =
+    IfOk-weaker c.escape_end.result _ _ (λ o h. escape_over c.args.name.now _ c.args.w.now c.eval_taking.new.w c.count_open-outer.ensures c.in_ok-ejector.ensures.named c.in_ok-ejector.ensures.place (ap pattern.Name c.in_ok-share.ensures)
+    (ap trees_of (slice_of c.deref-2.ensures.value c.deref.ensures)) c.in_ok-ended.ensures c.close_escape.ensures h) c.escape_end.ensures
+
+pub eval::eval-returns-in-Object : goal.eval::eval-returns-in-Object
+eval::eval-returns-in-Object t c = if_both _ _ _ _ (λ o h g. node _ {a = at c.args.w.now} (ap tree_of c.in-Object.is ∙ tree_of-Object c.in-Object.pattern c.in-Object.methods) (runs_to run_object h g) (omega arith) c.if-level-gt-DEEPEST.false) c.define_object.ensures.ends c.define_object.ensures.makes
+
+pub eval::eval-returns-in-Escape : goal.eval::eval-returns-in-Escape
+eval::eval-returns-in-Escape t c = IfOk-weaker _ _ _ (λ o h. node _ (ap tree_of c.in-Escape.is ∙ tree_of-Escape c.in-Escape.name c.in-Escape.body) h (omega arith) c.if-level-gt-DEEPEST.false) c.eval_escape.ensures
+
+pub eval::eval_same-returns-in-Halt : goal.eval::eval_same-returns-in-Halt
+eval::eval_same-returns-in-Halt t c = run_same_left (child c.deref.ensures c.in-Halt.is c.in_ok-value.ensures)
+
+pub eval::eval_same-returns-in-Halt-2 : goal.eval::eval_same-returns-in-Halt-2
+eval::eval_same-returns-in-Halt-2 t c = run_same (child c.deref.ensures c.in-Value.is c.in_ok-value.ensures) (child c.deref-2.ensures c.in-Halt-2.is c.in_ok-value-2.ensures)
+
+pub eval::eval_same-returns : goal.eval::eval_same-returns
+eval::eval_same-returns t c = runs_as (run_same (child c.deref.ensures c.in-Value.is c.in_ok-value.ensures) (child c.deref-2.ensures c.in-Value-2.is c.in_ok-value-2.ensures)) (search rules)
+
+pub eval::eval-returns-in-DefList : goal.eval::eval-returns-in-DefList
+eval::eval-returns-in-DefList t c = IfOk-weaker _ _ _ (λ o h. node _ (ap tree_of c.in-DefList.is) h (omega arith) c.if-level-gt-DEEPEST.false) c.eval_def_list.ensures
+
+pub eval::eval-returns-in-Hide : goal.eval::eval-returns-in-Hide
+eval::eval-returns-in-Hide t c = IfOk-weaker _ _ _ (λ o h. node _ (ap tree_of c.in-Hide.is ∙ tree_of-Hide c.in-Hide.body) h (omega arith) c.if-level-gt-DEEPEST.false) c.eval_hide.ensures
+
+pub eval::eval-returns-in-If : goal.eval::eval-returns-in-If
+eval::eval-returns-in-If t c = IfOk-weaker _ _ _ (λ o h. node _ (ap tree_of c.in-If.is ∙ tree_of-If c.in-If.condition c.in-If.first c.in-If.second) h (omega arith) c.if-level-gt-DEEPEST.false) c.eval_if.ensures
+
+pub eval::eval-returns-in-While : goal.eval::eval-returns-in-While
+eval::eval-returns-in-While t c = IfOk-weaker _ _ _ (λ o h. node _ (ap tree_of c.in-While.is ∙ tree_of-While c.in-While.condition c.in-While.body) h (omega arith) c.if-level-gt-DEEPEST.false) c.eval_while.ensures
+
+pub eval::eval-returns-in-For : goal.eval::eval-returns-in-For
+eval::eval-returns-in-For t c = IfOk-weaker _ _ _ (λ o h. node _ (ap tree_of c.in-For.is ∙ tree_of-For c.in-For.pattern c.in-For.list c.in-For.body) h (omega arith) c.if-level-gt-DEEPEST.false) c.eval_for.ensures
+
+pub eval::eval-returns-in-Try : goal.eval::eval-returns-in-Try
+eval::eval-returns-in-Try t c = IfOk-weaker _ _ _ (λ o h. node _ (ap tree_of c.in-Try.is ∙ tree_of-Try c.in-Try.body c.in-Try.pattern c.in-Try.handler) h (omega arith) c.if-level-gt-DEEPEST.false) c.eval_try.ensures
+
+pub eval::eval-returns-in-Throw : goal.eval::eval-returns-in-Throw
+eval::eval-returns-in-Throw t c = IfOk-weaker _ _ _ (λ o h. node _ (ap tree_of c.in-Throw.is) h (omega arith) c.if-level-gt-DEEPEST.false) c.eval_throw.ensures
+
+pub eval::eval_def_list-returns-in-Halt : goal.eval::eval_def_list-returns-in-Halt
+eval::eval_def_list-returns-in-Halt t c = run_define_list (child c.deref.ensures c.in-Halt.is c.in_ok-value.ensures)
+
+pub eval::eval_def_list-returns : goal.eval::eval_def_list-returns
+eval::eval_def_list-returns t c = if_both _ _ _ _ (λ o p q. parts_run (slice_of c.deref-3.ensures.value c.deref-2.ensures) (child c.deref.ensures c.in-Value.is c.in_ok-value.ensures) p q) c.bind_parts.ensures.ends c.bind_parts.ensures.binds
+
+pub eval::eval_throw-returns-in-Halt : goal.eval::eval_throw-returns-in-Halt
+eval::eval_throw-returns-in-Halt t c = run_throw (child c.deref.ensures c.in-Halt.is c.in_ok-value.ensures)
+
+pub eval::eval_throw-returns : goal.eval::eval_throw-returns
+eval::eval_throw-returns t c = IfOk-weaker _ _ _ (λ o h. runs_as (run_throw (child c.deref.ensures c.in-Value.is c.in_ok-value.ensures)) h) c.thrown.ensures
+
+pub eval::eval_items-loop-item-preserved : goal.eval::eval_items-loop-item-preserved
+eval::eval_items-loop-item-preserved t c = λ o b h. c.loop-item.invariant _ _ (items_more _ c.loop-item-test.true c.item-item.is (child refl c.in-Value.is c.in_ok-v.ensures) h)
+
+pub eval::eval_items-returns-in-Halt : goal.eval::eval_items-returns-in-Halt
+eval::eval_items-returns-in-Halt t c = c.loop-item.invariant _ _ (items_no_more _ c.loop-item-test.true c.item-item.is (child refl c.in-Halt.is c.in_ok-v.ensures))
+
+pub eval::eval_items-returns : goal.eval::eval_items-returns
+eval::eval_items-returns t c = c.loop-item.invariant _ _ (items_end _ c.loop-item-test.false)
+
+pub control::eval_hide-returns : goal.control::eval_hide-returns
+control::eval_hide-returns t c = IfOk-weaker _ _ _ (λ o h. run_hide (blocks (slice_of c.deref-2.ensures.value c.deref.ensures) refl h)) c.eval_block.ensures
+
+pub control::eval_if-returns-in-Ends : goal.control::eval_if-returns-in-Ends
+control::eval_if-returns-in-Ends t c = run_if_ends (child c.deref.ensures refl c.in_ok-tested.ensures) (sym c.in_ok-choice.ensures ∙ ap choice_view c.in-Ends.is)
+
+pub control::eval_if-returns-then-truth : goal.control::eval_if-returns-then-truth
+control::eval_if-returns-then-truth t c = IfOk-weaker _ _ _ (λ o h. run_if_goes (child c.deref.ensures refl c.in_ok-tested.ensures) (sym c.in_ok-choice.ensures ∙ ap choice_view c.in-Goes.is ∙ ap goes c.if-truth.true) (blocks (slice_of c.deref-then-truth-2.ensures.value c.deref-then-truth.ensures) refl h)) c.eval_block.ensures
+
+pub control::eval_if-returns-else-truth : goal.control::eval_if-returns-else-truth
+control::eval_if-returns-else-truth t c = IfOk-weaker _ _ _ (λ o h. run_if_goes (child c.deref.ensures refl c.in_ok-tested.ensures) (sym c.in_ok-choice.ensures ∙ ap choice_view c.in-Goes.is ∙ ap goes c.if-truth.false) (blocks (slice_of c.deref-else-truth-2.ensures.value c.deref-else-truth.ensures) refl h)) c.eval_block-else-truth.ensures
+
+pub control::eval_while-returns-in-Ends : goal.control::eval_while-returns-in-Ends
+control::eval_while-returns-in-Ends t c = c.rounds.invariant.0 _ _ (run_while_ends (child c.deref.ensures refl c.in_ok-tested.ensures) (sym c.in_ok-choice.ensures ∙ ap choice_view c.in-Ends.is))
+
+pub control::eval_while-returns-then-not-truth : goal.control::eval_while-returns-then-not-truth
+control::eval_while-returns-then-not-truth t c = c.rounds.invariant.0 _ _ (run_while_done (child c.deref.ensures refl c.in_ok-tested.ensures) (sym c.in_ok-choice.ensures ∙ ap choice_view c.in-Goes.is ∙ ap goes c.if-not-truth.true))
+
+pub control::eval_while-returns-in-Some : goal.control::eval_while-returns-in-Some
+control::eval_while-returns-in-Some t c = c.rounds.invariant.0 _ _ (run_while_halts (child c.deref.ensures refl c.in_ok-tested.ensures) (sym c.in_ok-choice.ensures ∙ ap choice_view c.in-Goes.is ∙ ap goes c.if-not-truth.false) (block_ending (slice_of c.deref-in-rounds-2.ensures.value c.deref-in-rounds.ensures) c.in-Some.ensures c.in_ok-ended.ensures))
+
+pub control::eval_while-rounds-preserved : goal.control::eval_while-rounds-preserved
+control::eval_while-rounds-preserved t c =
+    let g = round_grow c.in_ok-tested.ensures c.in_ok-ended.ensures in (
+      λ o b h. c.rounds.invariant.0 _ _ (run_while_again (child c.deref.ensures refl c.in_ok-tested.ensures) (sym c.in_ok-choice.ensures ∙ ap choice_view c.in-Goes.is ∙ ap goes c.if-not-truth.false) (block_ending (slice_of c.deref-in-rounds-2.ensures.value c.deref-in-rounds.ensures) c.in_default.ensures.1 c.in_ok-ended.ensures) (next_round c.rounds.w c.eval_block.new.w c.rounds.invariant.1 g c.truncate.ensures.items h)),
+      truncated-length c.rounds.w.nouns.items c.eval_block.new.w.nouns.items c.len-names.result c.rounds.invariant.1 g ∙ ap length (sym c.truncate.ensures.items),
+    )
+
+pub control::eval_while-rounds-smaller : goal.control::eval_while-rounds-smaller
+control::eval_while-rounds-smaller t c = omega (arith, condition_less c.in_ok-tested.ensures (sym c.in_ok-choice.ensures ∙ ap choice_view c.in-Goes.is ∙ ap goes c.if-not-truth.false), block_left c.in_ok-ended.ensures)
+
+pub control::eval_for-returns-in-Ends : goal.control::eval_for-returns-in-Ends
+control::eval_for-returns-in-Ends t c = run_for_ends (child c.deref.ensures refl c.in_ok-ended.ensures) (sym c.in_ok-gone_over.ensures ∙ ap listing_view c.in-Ends.is)
+
+pub control::eval_for-returns-in_ok-end-in-Listed : goal.control::eval_for-returns-in_ok-end-in-Listed
+control::eval_for-returns-in_ok-end-in-Listed t c = run_for (child c.deref.ensures refl c.in_ok-ended.ensures) (sym c.in_ok-gone_over.ensures ∙ ap listing_view c.in-Listed.is) (each (slice_of c.deref-in-Listed-4.ensures.value c.deref-in-Listed-3.ensures) (slice_of c.deref-in-Listed-2.ensures.value c.deref-in-Listed.ensures) c.in_ok-end-in-Listed.ensures)
+
+pub control::eval_try-returns-in-Err : goal.control::eval_try-returns-in-Err
+control::eval_try-returns-in-Err t c = runs_as (run_try (blocks (slice_of c.deref-2.ensures.value c.deref.ensures) refl c.in_ok-tried.ensures) c.in-Err.ensures.1) (ap end_of c.in-Err.ensures.0)
+
+pub control::eval_try-returns-in_ok-end-in-Ok : goal.control::eval_try-returns-in_ok-end-in-Ok
+control::eval_try-returns-in_ok-end-in-Ok t c = run_try_caught (blocks (slice_of c.deref-2.ensures.value c.deref.ensures) refl c.in_ok-tried.ensures) c.in-Ok.ensures (taking (slice_of c.deref-in-Ok-2.ensures.value c.deref-in-Ok.ensures) refl c.in_ok-end-in-Ok.ensures)
+
+pub control::eval_block-returns : goal.control::eval_block-returns
+control::eval_block-returns t c = block_end c.args.w.now c.eval_items.new.w c.enter-outer.ensures.names c.enter-outer.ensures.own c.enter-outer.ensures.place c.in_ok-end.ensures c.leave.ensures
+
+pub control::eval_taking-returns : goal.control::eval_taking-returns
+control::eval_taking-returns t c = taking_end c.args.pattern.now (val_of c.args.value.now) c.args.w.now c.eval_items.new.w c.enter-outer.ensures.names c.enter-outer.ensures.own c.enter-outer.ensures.place c.in_ok-match_pattern.ensures c.in_ok-end.ensures c.leave.ensures
+
+pub control::eval_each-loop-value-preserved : goal.control::eval_each-loop-value-preserved
+control::eval_each-loop-value-preserved t c = λ o b h. c.loop-value.invariant _ _ (each_more _ c.loop-value-test.true c.value-item.is (taking_ending c.in_default.ensures.1 c.in_ok-ended.ensures) h)
+
+pub control::eval_each-returns-in-Some : goal.control::eval_each-returns-in-Some
+control::eval_each-returns-in-Some t c = c.loop-value.invariant _ _ (each_no_more _ c.loop-value-test.true c.value-item.is (taking_ending c.in-Some.ensures c.in_ok-ended.ensures))
+
+pub control::eval_each-returns : goal.control::eval_each-returns
+control::eval_each-returns t c = c.loop-value.invariant _ _ (each_end _ c.loop-value-test.false)

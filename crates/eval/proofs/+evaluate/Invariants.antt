@@ -1,0 +1,94 @@
+use Rattle.std.proofs.Common.{drop, ◌-◌, ◌*◌, ◌+◌, ◌≡◌, length}
+use Rattle.kernele.specs.Tree.{while_tree}
+use Rattle.kernele.specs.View.{tree_of, trees_of}
+use Rattle.values.specs.Data.{null}
+use Rattle.values.specs.View.{val_of, vals_of}
+use Rattle.eval.specs.At.{At}
+use Rattle.eval.specs.Outcomes.{End, Gather}
+use Rattle.eval.specs.Rules.{Args, Each, Items, Runs}
+use Rattle.eval.specs.View.{at}
+use Rattle.eval.proofs.Steps.{after_values}
+use Rattle.eval.proofs.+evaluate.Given as goal
+
+-- a level's rank: a node, its parts in order, a block of them, a block for each value, and the construct one level above
+abbrev pub decreases-eval::eval : goal.decreases-eval::eval
+decreases-eval::eval l = 5 * (1001 - l.level)
+
+abbrev pub decreases-eval::eval_args : goal.decreases-eval::eval_args
+decreases-eval::eval_args l = 5 * (1001 - l.level) + 1
+
+abbrev pub decreases-eval::eval_items : goal.decreases-eval::eval_items
+decreases-eval::eval_items l = 5 * (1001 - l.level) + 1
+
+abbrev pub decreases-control::eval_block : goal.decreases-control::eval_block
+decreases-control::eval_block l = 5 * (1001 - l.level) + 2
+
+abbrev pub decreases-control::eval_taking : goal.decreases-control::eval_taking
+decreases-control::eval_taking l = 5 * (1001 - l.level) + 2
+
+abbrev pub decreases-control::eval_each : goal.decreases-control::eval_each
+decreases-control::eval_each l = 5 * (1001 - l.level) + 3
+
+abbrev pub decreases-eval::eval_def : goal.decreases-eval::eval_def
+decreases-eval::eval_def l = 5 * (1000 - l.level) + 4
+
+abbrev pub decreases-eval::eval_var : goal.decreases-eval::eval_var
+decreases-eval::eval_var l = 5 * (1000 - l.level) + 4
+
+abbrev pub decreases-eval::eval_assign : goal.decreases-eval::eval_assign
+decreases-eval::eval_assign l = 5 * (1000 - l.level) + 4
+
+abbrev pub decreases-calling::eval_call : goal.decreases-calling::eval_call
+decreases-calling::eval_call l = 5 * (1000 - l.level) + 4
+
+abbrev pub decreases-calling::eval_escape : goal.decreases-calling::eval_escape
+decreases-calling::eval_escape l = 5 * (1000 - l.level) + 4
+
+abbrev pub decreases-calling::eval_method : goal.decreases-calling::eval_method
+decreases-calling::eval_method l = 5 * (1001 - l.level) + 2
+
+abbrev pub decreases-eval::eval_list : goal.decreases-eval::eval_list
+decreases-eval::eval_list l = 5 * (1000 - l.level) + 4
+
+abbrev pub decreases-eval::eval_same : goal.decreases-eval::eval_same
+decreases-eval::eval_same l = 5 * (1000 - l.level) + 4
+
+abbrev pub decreases-eval::eval_def_list : goal.decreases-eval::eval_def_list
+decreases-eval::eval_def_list l = 5 * (1000 - l.level) + 4
+
+abbrev pub decreases-eval::eval_throw : goal.decreases-eval::eval_throw
+decreases-eval::eval_throw l = 5 * (1000 - l.level) + 4
+
+abbrev pub decreases-control::eval_hide : goal.decreases-control::eval_hide
+decreases-control::eval_hide l = 5 * (1000 - l.level) + 4
+
+abbrev pub decreases-control::eval_if : goal.decreases-control::eval_if
+decreases-control::eval_if l = 5 * (1000 - l.level) + 4
+
+abbrev pub decreases-control::eval_while : goal.decreases-control::eval_while
+decreases-control::eval_while l = 5 * (1000 - l.level) + 4
+
+abbrev pub decreases-control::eval_for : goal.decreases-control::eval_for
+decreases-control::eval_for l = 5 * (1000 - l.level) + 4
+
+abbrev pub decreases-control::eval_try : goal.decreases-control::eval_try
+decreases-control::eval_try l = 5 * (1000 - l.level) + 4
+
+-- what the rest gives, after the values so far, is what all give
+abbrev pub invariant-eval::eval_args-loop-arg : goal.invariant-eval::eval_args-loop-arg
+invariant-eval::eval_args-loop-arg l = (g : Gather) (b : At) → Args l.level (trees_of (drop l.arg-index l.args)) (at l.w) g b → Args l.level (trees_of l.args) (at l.initial.w) (after_values (vals_of l.values.items) g) b
+
+-- what the rest gives, after the last value so far, is what all give
+abbrev pub invariant-eval::eval_items-loop-item : goal.invariant-eval::eval_items-loop-item
+invariant-eval::eval_items-loop-item l = (o : End) (b : At) → Items l.level (val_of l.last) (trees_of (drop l.item-index l.items)) (at l.w) o b → Items l.level null (trees_of l.items) (at l.initial.w) o b
+
+-- what the block does for the values that are left, is what it does for all
+abbrev pub invariant-control::eval_each-loop-value : goal.invariant-control::eval_each-loop-value
+invariant-control::eval_each-loop-value l = (o : End) (b : At) → Each l.level l.pattern (trees_of l.items) (vals_of (drop l.value-index l.values)) (at l.w) o b → Each l.level l.pattern (trees_of l.items) (vals_of l.values) (at l.initial.w) o b
+
+-- what the rounds from here on give is what all give, and each round begins with as many names
+abbrev pub invariant-control::eval_while-rounds : goal.invariant-control::eval_while-rounds
+invariant-control::eval_while-rounds l = ((o : End) (b : At) → Runs l.level (while_tree (tree_of l.condition.value) (trees_of l.body.value.items)) (at l.w) o b → Runs l.level (while_tree (tree_of l.condition.value) (trees_of l.body.value.items)) (at l.initial.w) o b) × (l.names ≡ length l.w.nouns.items)
+
+abbrev pub decreases-control::eval_while-rounds : goal.decreases-control::eval_while-rounds
+decreases-control::eval_while-rounds l = l.w.steps

@@ -1,0 +1,6 @@
+pub mod At
+pub mod Outcomes
+pub mod Rules
+pub mod View
+pub mod Touched
+pub mod Laws

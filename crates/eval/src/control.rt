@@ -1,0 +1,192 @@
+// Control: the constructs that have blocks, each block in a scope of its own.
+ghost use Rattle.std.specs.Prelude.{◌≡◌, ◌≤◌, IfOk};
+ghost use Rattle.kernele.specs.Tree.{hide, if_tree, while_tree, for_tree, try_tree};
+ghost use Rattle.kernele.specs.View.{tree_of, trees_of};
+ghost use Rattle.values.specs.View.{val_of, vals_of};
+ghost use Rattle.eval.specs.Rules.{Runs, Block, Taking, Each};
+ghost use Rattle.eval.specs.View.{at, end_of};
+
+use crate::blocks::{enter, leave};
+use crate::end::End;
+use crate::eval::{eval, eval_items};
+use crate::nouns::match_pattern;
+use crate::wanted::{Choosing, Listing, caught, choose, halt_in, items_of};
+use crate::working::Working;
+use kernele::tree::{Expr, Pattern};
+use std::alloc::AllocError;
+use std::sync::Arc;
+use values::value::Value;
+
+#[cycle(evaluate)]
+pub(crate) fn eval_hide(
+    w: &mut Working,
+    body: &Arc<Vec<Expr>>,
+    level: u32,
+) -> Result<End, AllocError>
+    requires { level ≤ 1000 }
+    ensures { IfOk result (λ o. Runs level (hide (trees_of body.now.value.items))
+        (at w.old) (end_of o) (at w.new)) }
+{
+    eval_block(w, body, level + 1)
+}
+
+#[cycle(evaluate)]
+pub(crate) fn eval_if(
+    w: &mut Working,
+    condition: &Arc<Expr>,
+    first: &Arc<Vec<Expr>>,
+    second: &Arc<Vec<Expr>>,
+    level: u32,
+) -> Result<End, AllocError>
+    requires { level ≤ 1000 }
+    ensures { IfOk result (λ o. Runs level (if_tree (tree_of condition.now.value)
+        (trees_of first.now.value.items) (trees_of second.now.value.items))
+        (at w.old) (end_of o) (at w.new)) }
+{
+    let tested = eval(w, condition, level + 1)?;
+    let choice = choose(w.alloc, tested)?;
+    match choice {
+        Choosing::Ends(end) => Ok(end),
+        Choosing::Goes(truth) => {
+            if truth {
+                eval_block(w, first, level + 1)
+            } else {
+                eval_block(w, second, level + 1)
+            }
+        }
+    }
+}
+
+#[cycle(evaluate)]
+pub(crate) fn eval_while(
+    w: &mut Working,
+    condition: &Arc<Expr>,
+    body: &Arc<Vec<Expr>>,
+    level: u32,
+) -> Result<End, AllocError>
+    requires { level ≤ 1000 }
+    ensures { IfOk result (λ o. Runs level (while_tree (tree_of condition.now.value)
+        (trees_of body.now.value.items))
+        (at w.old) (end_of o) (at w.new)) }
+{
+    let names = w.nouns.len();
+    'rounds: loop {
+        let tested = eval(w, condition, level + 1)?;
+        let choice = choose(w.alloc, tested)?;
+        match choice {
+            Choosing::Ends(end) => return Ok(end),
+            Choosing::Goes(truth) => {
+                if !truth {
+                    return Ok(End::Value(Value::Null));
+                }
+            }
+        }
+        let ended = eval_block(w, body, level + 1)?;
+        if let Some(halt) = halt_in(ended) {
+            return Ok(End::Halt(halt));
+        }
+        // Names that the condition defined are not in scope at its next time.
+        w.nouns.truncate(names);
+    }
+}
+
+#[cycle(evaluate)]
+pub(crate) fn eval_for(
+    w: &mut Working,
+    pattern: &Pattern,
+    list: &Arc<Expr>,
+    body: &Arc<Vec<Expr>>,
+    level: u32,
+) -> Result<End, AllocError>
+    requires { level ≤ 1000 }
+    ensures { IfOk result (λ o. Runs level (for_tree pattern.now (tree_of list.now.value)
+        (trees_of body.now.value.items))
+        (at w.old) (end_of o) (at w.new)) }
+{
+    let ended = eval(w, list, level + 1)?;
+    let gone_over = items_of(w.alloc, ended)?;
+    match gone_over {
+        Listing::Ends(end) => Ok(end),
+        Listing::Listed(values) => {
+            let end = eval_each(w, pattern, &values, body, level + 1)?;
+            Ok(end)
+        }
+    }
+}
+
+#[cycle(evaluate)]
+pub(crate) fn eval_try(
+    w: &mut Working,
+    body: &Arc<Vec<Expr>>,
+    pattern: &Pattern,
+    handler: &Arc<Vec<Expr>>,
+    level: u32,
+) -> Result<End, AllocError>
+    requires { level ≤ 1000 }
+    ensures { IfOk result (λ o. Runs level (try_tree (trees_of body.now.value.items) pattern.now
+        (trees_of handler.now.value.items))
+        (at w.old) (end_of o) (at w.new)) }
+{
+    let tried = eval_block(w, body, level + 1)?;
+    match caught(tried) {
+        Ok(problem) => {
+            let end = eval_taking(w, pattern, &Value::Text(problem), handler, level + 1)?;
+            Ok(end)
+        }
+        Err(end) => Ok(end),
+    }
+}
+
+/// Evaluates a block, in a scope of its own.
+#[cycle(evaluate)]
+fn eval_block(w: &mut Working, items: &[Expr], level: u32) -> Result<End, AllocError>
+    requires { level ≤ 1001 }
+    ensures { IfOk result (λ o. Block level (trees_of items.now) (at w.old) (end_of o) (at w.new)) }
+{
+    let outer = enter(w);
+    let end = eval_items(w, items, level)?;
+    leave(w, outer);
+    Ok(end)
+}
+
+/// Evaluates a block in whose own scope a pattern takes a value first.
+#[cycle(evaluate)]
+pub(crate) fn eval_taking(
+    w: &mut Working,
+    pattern: &Pattern,
+    value: &Value,
+    items: &[Expr],
+    level: u32,
+) -> Result<End, AllocError>
+    requires { level ≤ 1001 }
+    ensures { IfOk result (λ o. Taking level pattern.now (val_of value.now) (trees_of items.now)
+        (at w.old) (end_of o) (at w.new)) }
+{
+    let outer = enter(w);
+    match_pattern(w, pattern, value)?;
+    let end = eval_items(w, items, level)?;
+    leave(w, outer);
+    Ok(end)
+}
+
+/// Evaluates a block for each value from the left, up to the first that halts it.
+#[cycle(evaluate)]
+fn eval_each(
+    w: &mut Working,
+    pattern: &Pattern,
+    values: &[Value],
+    items: &[Expr],
+    level: u32,
+) -> Result<End, AllocError>
+    requires { level ≤ 1001 }
+    ensures { IfOk result (λ o. Each level pattern.now (trees_of items.now) (vals_of values.now)
+        (at w.old) (end_of o) (at w.new)) }
+{
+    for value in values {
+        let ended = eval_taking(w, pattern, value, items, level)?;
+        if let Some(halt) = halt_in(ended) {
+            return Ok(End::Halt(halt));
+        }
+    }
+    Ok(End::Value(Value::Null))
+}

@@ -1,0 +1,195 @@
+// Evaluation: one small function for each construct; those that have blocks are in `control`.
+ghost use Rattle.std.specs.Prelude.{◌≡◌, ◌≤◌, IfOk};
+ghost use Rattle.kernele.specs.Tree.{define, define_list, variable, assign as assign_tree, list_tree, same_tree, throw_tree};
+ghost use Rattle.kernele.specs.View.{tree_of, trees_of};
+ghost use Rattle.values.specs.Data.{null};
+ghost use Rattle.eval.specs.Rules.{Ends, Runs, Args, Items};
+ghost use Rattle.eval.specs.View.{at, end_of, gather_of};
+
+use crate::calling::{eval_call, eval_escape};
+use crate::control::{eval_for, eval_hide, eval_if, eval_try, eval_while};
+use crate::end::{Abandon, End, Gathered, Halt};
+use crate::nouns::{assign, bind_parts, declare, match_pattern, noun_end};
+use crate::objects::define_object;
+use crate::results::{int_end, list_end, text_end};
+use crate::wanted::thrown;
+use crate::working::Working;
+use ids::text::Text;
+use kernele::tree::{Expr, Pattern};
+use std::alloc::AllocError;
+use std::sync::Arc;
+use values::sameness::same;
+use values::value::Value;
+
+/// The deepest level at which a node may begin.
+const DEEPEST: u32 = 1000;
+
+/// The value of an end, or an early return of what halted it.
+macro_rules! value {
+    ($end:expr) => {
+        match $end {
+            End::Value(value) => value,
+            End::Halt(halt) => return Ok(End::Halt(halt)),
+        }
+    };
+}
+
+/// Evaluates an expression at a level. Fails only for want of memory.
+#[cycle(evaluate)]
+pub fn eval(w: &mut Working, e: &Expr, level: u32) -> Result<End, AllocError>
+    ensures { IfOk result (λ o. Ends level (tree_of e.now) (at w.old) (end_of o) (at w.new)) }
+{
+    if w.steps == 0 {
+        return Ok(End::Halt(Halt::Abandoned(Abandon::Budget)));
+    }
+    w.steps -= 1;
+    if level > DEEPEST {
+        return Ok(End::Halt(Halt::Abandoned(Abandon::Depth)));
+    }
+    match e {
+        Expr::Null => Ok(End::Value(Value::Null)),
+        Expr::Bool(b) => Ok(End::Value(Value::Bool(*b))),
+        Expr::Int(n) => Ok(int_end(*n)),
+        Expr::Text(text) => text_end(w.alloc, text),
+        Expr::Noun(name) => noun_end(w, name),
+        Expr::Def(pattern, right) => eval_def(w, pattern, right, level),
+        Expr::Var(name, right) => eval_var(w, name, right, level),
+        Expr::Assign(name, right) => eval_assign(w, name, right, level),
+        Expr::Call(receiver, verb, args) => eval_call(w, receiver, verb, args, level),
+        Expr::List(items) => eval_list(w, items, level),
+        Expr::Same(left, right) => eval_same(w, left, right, level),
+        Expr::DefList(patterns, right) => eval_def_list(w, patterns, right, level),
+        Expr::Hide(body) => eval_hide(w, body, level),
+        Expr::If(condition, first, second) => eval_if(w, condition, first, second, level),
+        Expr::While(condition, body) => eval_while(w, condition, body, level),
+        Expr::For(pattern, list, body) => eval_for(w, pattern, list, body, level),
+        Expr::Try(body, pattern, handler) => eval_try(w, body, pattern, handler, level),
+        Expr::Throw(problem) => eval_throw(w, problem, level),
+        Expr::Object(pattern, methods) => define_object(w, pattern, methods),
+        Expr::Escape(name, body) => eval_escape(w, name, body, level),
+    }
+}
+
+#[cycle(evaluate)]
+fn eval_def(
+    w: &mut Working,
+    pattern: &Pattern,
+    right: &Arc<Expr>,
+    level: u32,
+) -> Result<End, AllocError>
+    requires { level ≤ 1000 }
+    ensures { IfOk result (λ o. Runs level (define pattern.now (tree_of right.now.value))
+        (at w.old) (end_of o) (at w.new)) }
+{
+    let v = value!(eval(w, right, level + 1)?);
+    match_pattern(w, pattern, &v)?;
+    Ok(End::Value(v))
+}
+
+#[cycle(evaluate)]
+fn eval_def_list(
+    w: &mut Working,
+    patterns: &Arc<Vec<Pattern>>,
+    right: &Arc<Expr>,
+    level: u32,
+) -> Result<End, AllocError>
+    requires { level ≤ 1000 }
+    ensures { IfOk result (λ o. Runs level (define_list patterns.now.value.items (tree_of right.now.value))
+        (at w.old) (end_of o) (at w.new)) }
+{
+    let v = value!(eval(w, right, level + 1)?);
+    bind_parts(w, patterns, v)
+}
+
+#[cycle(evaluate)]
+fn eval_var(w: &mut Working, name: &Text, right: &Arc<Expr>, level: u32) -> Result<End, AllocError>
+    requires { level ≤ 1000 }
+    ensures { IfOk result (λ o. Runs level (variable name.now (tree_of right.now.value))
+        (at w.old) (end_of o) (at w.new)) }
+{
+    let v = value!(eval(w, right, level + 1)?);
+    declare(w, name, v)
+}
+
+#[cycle(evaluate)]
+fn eval_assign(
+    w: &mut Working,
+    name: &Text,
+    right: &Arc<Expr>,
+    level: u32,
+) -> Result<End, AllocError>
+    requires { level ≤ 1000 }
+    ensures { IfOk result (λ o. Runs level (assign_tree name.now (tree_of right.now.value))
+        (at w.old) (end_of o) (at w.new)) }
+{
+    let v = value!(eval(w, right, level + 1)?);
+    assign(w, name, v)
+}
+
+#[cycle(evaluate)]
+fn eval_list(w: &mut Working, items: &Arc<Vec<Expr>>, level: u32) -> Result<End, AllocError>
+    requires { level ≤ 1000 }
+    ensures { IfOk result (λ o. Runs level (list_tree (trees_of items.now.value.items))
+        (at w.old) (end_of o) (at w.new)) }
+{
+    let gathered = eval_args(w, items, level + 1)?;
+    list_end(w.alloc, gathered)
+}
+
+#[cycle(evaluate)]
+fn eval_same(
+    w: &mut Working,
+    left: &Arc<Expr>,
+    right: &Arc<Expr>,
+    level: u32,
+) -> Result<End, AllocError>
+    requires { level ≤ 1000 }
+    ensures { IfOk result (λ o. Runs level (same_tree (tree_of left.now.value) (tree_of right.now.value))
+        (at w.old) (end_of o) (at w.new)) }
+{
+    let l = value!(eval(w, left, level + 1)?);
+    let r = value!(eval(w, right, level + 1)?);
+    Ok(End::Value(Value::Bool(same(&l, &r))))
+}
+
+#[cycle(evaluate)]
+fn eval_throw(w: &mut Working, problem: &Arc<Expr>, level: u32) -> Result<End, AllocError>
+    requires { level ≤ 1000 }
+    ensures { IfOk result (λ o. Runs level (throw_tree (tree_of problem.now.value))
+        (at w.old) (end_of o) (at w.new)) }
+{
+    let v = value!(eval(w, problem, level + 1)?);
+    thrown(w.alloc, &v)
+}
+
+/// Evaluates arguments or items of a list from left to right.
+#[cycle(evaluate)]
+pub(crate) fn eval_args(w: &mut Working, args: &[Expr], level: u32) -> Result<Gathered, AllocError>
+    requires { level ≤ 1001 }
+    ensures { IfOk result (λ g. Args level (trees_of args.now) (at w.old) (gather_of g) (at w.new)) }
+{
+    let mut values = Vec::new(w.alloc);
+    for arg in args {
+        match eval(w, arg, level)? {
+            End::Value(v) => values.push(v)?,
+            End::Halt(halt) => return Ok(Gathered::Halt(halt)),
+        }
+    }
+    Ok(Gathered::Values(values))
+}
+
+/// Evaluates the items of a block in order: the last one's value, or null.
+#[cycle(evaluate)]
+pub fn eval_items(w: &mut Working, items: &[Expr], level: u32) -> Result<End, AllocError>
+    requires { level ≤ 1001 }
+    ensures { IfOk result (λ o. Items level null (trees_of items.now) (at w.old) (end_of o) (at w.new)) }
+{
+    let mut last = Value::Null;
+    for item in items {
+        match eval(w, item, level)? {
+            End::Value(v) => last = v,
+            End::Halt(halt) => return Ok(End::Halt(halt)),
+        }
+    }
+    Ok(End::Value(last))
+}

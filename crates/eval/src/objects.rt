@@ -1,0 +1,215 @@
+// Objects: what they capture, how they are made, and how a call finds a method.
+ghost use Rattle.std.specs.Prelude.{◌≡◌, ◌<◌, [], ◌∷◌, IfOk, IfSome, OnOk, length};
+ghost use Rattle.std.specs.Option.{option_map};
+ghost use Rattle.kernele.specs.View.{trees_of, methods_of};
+ghost use Rattle.values.specs.Data.{object as object_value};
+ghost use Rattle.values.specs.View.{val_of, vals_of};
+ghost use Rattle.heap.specs.State.{object_cell, read};
+ghost use Rattle.eval.specs.Rules.{captured, all_captured, capture_of, next_object, has_object_room, object_made, placed, placed_end};
+ghost use Rattle.eval.specs.Rules.{with_object, object_end, named, named_all, method_in};
+ghost use Rattle.eval.specs.Rules.{method_target as method_target_of, object_target as object_target_of};
+ghost use Rattle.heap.specs.View.{bind_of, nouns_of, object_of, state_of};
+ghost use Rattle.eval.specs.View.{at, capture_view, end_of, target_view};
+
+use crate::end::{Abandon, End, Halt};
+use crate::nouns::{match_pattern, seek, undefined};
+use crate::results::no_such_method;
+use crate::working::Working;
+use heap::state::{Binding, Made, Noun};
+use ids::names::ObjId;
+use ids::text::Text;
+use kernele::captured_names;
+use kernele::tree::{Expr, Method, Pattern};
+use std::alloc::{AllocError, Global};
+use std::sync::Arc;
+use values::value::Value;
+
+/// How many objects a turn may make.
+const MAX_OBJECTS: u32 = 4096;
+
+/// The names that an object captures, the newest last, or the first of them that stands for nothing.
+#[derive(Drop)]
+pub enum Capture {
+    Captured(Vec<Noun>),
+    Missing(Text),
+}
+
+/// What a call leads to: an end, or a method's block with the names that it begins with.
+#[derive(Drop)]
+pub enum Target {
+    Gives(End),
+    Enters(Vec<Noun>, Arc<Vec<Expr>>),
+}
+
+/// Makes an object once its names are captured, and binds its pattern.
+pub fn define_object(
+    w: &mut Working,
+    pattern: &Pattern,
+    methods: &Arc<Vec<Method>>,
+) -> Result<End, AllocError>
+    ensures ends { IfOk result (λ o. end_of o
+        ≡ object_end (capture_of pattern.now (methods_of methods.now.value.items) (at w.old)) (at w.old)) }
+    ensures makes { IfOk result (λ o. at w.new
+        ≡ with_object pattern.now (methods_of methods.now.value.items)
+        (capture_of pattern.now (methods_of methods.now.value.items) (at w.old)) (at w.old)) }
+{
+    let names = captured_names(w.alloc, pattern, methods.as_slice())?;
+    let capture = capture_all(w, names.as_slice())?;
+    match capture {
+        Capture::Captured(nouns) => place(w, pattern, nouns, methods),
+        Capture::Missing(name) => undefined(w.alloc, &name),
+    }
+}
+
+/// Captures names from the left, up to the first that stands for nothing. A variable is captured as its slot.
+fn capture_all(w: &Working, names: &[Text]) -> Result<Capture, AllocError>
+    ensures { IfOk result (λ c. capture_view c ≡ all_captured (captured []) names.now (at w.now)) }
+{
+    let mut nouns = Vec::new(w.alloc);
+    for name in names {
+        match seek(w, name) {
+            Some(binding) => add_noun(&mut nouns, name, binding.share()?)?,
+            None => return Ok(Capture::Missing(name.share()?)),
+        }
+    }
+    Ok(Capture::Captured(nouns))
+}
+
+/// Adds a newer name.
+fn add_noun(nouns: &mut Vec<Noun>, name: &Text, binding: Binding) -> Result<(), AllocError>
+    ensures { OnOk result (nouns_of nouns.new.items ≡ (name.now, bind_of binding) ∷ nouns_of nouns.old.items) }
+{
+    let name = name.share()?;
+    nouns.push(Noun { name, binding })?;
+    Ok(())
+}
+
+/// Makes an object with these names and binds its pattern, or abandons a turn that has made too many.
+fn place(
+    w: &mut Working,
+    pattern: &Pattern,
+    nouns: Vec<Noun>,
+    methods: &Arc<Vec<Method>>,
+) -> Result<End, AllocError>
+    ensures ends { IfOk result (λ o. end_of o ≡ placed_end (has_object_room (at w.old)) (at w.old)) }
+    ensures makes { IfOk result (λ o. at w.new ≡ placed (has_object_room (at w.old)) pattern.now
+        (record { own = pattern.now; captured = nouns_of nouns.items; methods = methods_of methods.now.value.items })
+        (at w.old)) }
+{
+    if w.objects >= MAX_OBJECTS {
+        return Ok(End::Halt(Halt::Abandoned(Abandon::Size)));
+    }
+    let made = Made {
+        own: pattern.share()?,
+        captured: Arc::new(w.alloc, nouns)?,
+        methods: Arc::try_clone(methods)?,
+    };
+    let object = Value::Object(make_object(w, made)?);
+    match_pattern(w, pattern, &object)?;
+    Ok(End::Value(object))
+}
+
+/// Makes the turn's next object.
+fn make_object(w: &mut Working, object: Made) -> Result<ObjId, AllocError>
+    requires { w.old.objects < 4096 }
+    ensures named { IfOk result (λ i. i ≡ next_object (at w.old)) }
+    ensures made { IfOk result (λ i. at w.new ≡ object_made (object_of object) (at w.old)) }
+{
+    let id = w.state.new_object(w.event, w.objects, w.vat, object)?;
+    w.objects += 1;
+    Ok(id)
+}
+
+/// What a call on an object leads to.
+pub fn object_target(
+    w: &Working,
+    id: ObjId,
+    verb: &Text,
+    args: &[Value],
+) -> Result<Target, AllocError>
+    ensures { IfOk result (λ t. target_view t
+        ≡ object_target_of id (read (state_of w.now.state) (object_cell id)) verb.now (vals_of args.now)) }
+{
+    match w.state.object(id) {
+        Some(object) => method_target(w.alloc, id, object, verb, args),
+        None => Ok(Target::Gives(no_such_method(w.alloc, verb, args)?)),
+    }
+}
+
+/// The method that a call on this object enters, with the names that it begins with.
+fn method_target(
+    alloc: Global,
+    id: ObjId,
+    object: &Made,
+    verb: &Text,
+    args: &[Value],
+) -> Result<Target, AllocError>
+    ensures { IfOk result (λ t. target_view t
+        ≡ method_target_of id (object_of object.now) verb.now (vals_of args.now)
+        (method_in (methods_of object.now.methods.value.items) verb.now (vals_of args.now))) }
+{
+    match find_method(object.methods.as_slice(), verb, args) {
+        Some(method) => {
+            let nouns = method_nouns(alloc, id, object, method.parameters.as_slice(), args)?;
+            Ok(Target::Enters(nouns, Arc::try_clone(&method.body)?))
+        }
+        None => Ok(Target::Gives(no_such_method(alloc, verb, args)?)),
+    }
+}
+
+/// The method with this verb and as many parameters as there are arguments.
+fn find_method<'a>(methods: &'a [Method], verb: &Text, args: &[Value]) -> Option<&'a Method>
+    ensures found { option_map (λ m. (m.now.parameters.value.items, trees_of m.now.body.value.items)) result
+        ≡ method_in (methods_of methods.now) verb.now (vals_of args.now) }
+    ensures count { IfSome result (λ m. length args.now ≡ length m.now.parameters.value.items) }
+{
+    let mut rest = methods;
+    while let Some((method, others)) = rest.split_first() {
+        if method.verb.as_str() == verb.as_str() && args.len() == method.parameters.len() {
+            return Some(method);
+        }
+        rest = others;
+    }
+    None
+}
+
+/// The names that a method begins with: the object's, its own, and the parameters.
+fn method_nouns(
+    alloc: Global,
+    id: ObjId,
+    object: &Made,
+    parameters: &[Pattern],
+    args: &[Value],
+) -> Result<Vec<Noun>, AllocError>
+    requires { length args.now ≡ length parameters.now }
+    ensures { IfOk result (λ ns. nouns_of ns.items ≡ named_all parameters.now (vals_of args.now)
+        (named object.now.own (object_value id) (nouns_of object.now.captured.value.items))) }
+{
+    let mut nouns = copied(alloc, object.captured.as_slice())?;
+    name_value(&mut nouns, &object.own, &Value::Object(id))?;
+    for i in 0..parameters.len() {
+        name_value(&mut nouns, &parameters[i], &args[i])?;
+    }
+    Ok(nouns)
+}
+
+/// The same names, with what they stand for shared.
+fn copied(alloc: Global, nouns: &[Noun]) -> Result<Vec<Noun>, AllocError>
+    ensures { IfOk result (λ ns. nouns_of ns.items ≡ nouns_of nouns.now) }
+{
+    let mut copy = Vec::new(alloc);
+    for noun in nouns {
+        add_noun(&mut copy, &noun.name, noun.binding.share()?)?;
+    }
+    Ok(copy)
+}
+
+/// Adds what a pattern names.
+fn name_value(nouns: &mut Vec<Noun>, pattern: &Pattern, value: &Value) -> Result<(), AllocError>
+    ensures { OnOk result (nouns_of nouns.new.items ≡ named pattern.now (val_of value.now) (nouns_of nouns.old.items)) }
+{
+    match pattern {
+        Pattern::Name(name) => add_noun(nouns, name, Binding::Fixed(value.share()?)),
+        Pattern::Ignore => Ok(()),
+    }
+}

@@ -1,0 +1,65 @@
+-- The state of a vat: a finite map from cells to contents.
+use Rattle.std.specs.Prelude.{Bool, false, Option, Some, None, List, [], ◌∷◌, cond}
+use Rattle.std.specs.Str.{bytes_eq}
+use Rattle.std.specs.Ordering.{is_eq}
+use Rattle.ids.specs.Cells.{slot_cmp, object_cmp}
+use Rattle.ids.specs.declared.names.SlotId.{SlotId}
+use Rattle.ids.specs.declared.names.ObjId.{ObjId}
+use Rattle.kernele.specs.Tree.{Name, Methods}
+use Rattle.kernele.specs.declared.tree.Pattern.{Pattern}
+use Rattle.values.specs.Data.{Val}
+
+-- what a name stands for: a value that never changes, or a variable's slot
+pub data Bind : Type 0 where
+  fixed : (v : Val) → Bind
+  slot : (s : SlotId) → Bind
+  deriving IsSet as Bind-set
+
+-- names and what they stand for, the newest first
+abbrev pub Nouns : Type 0
+Nouns = List (Name × Bind)
+
+abbrev pub lookup : Nouns → Name → Option Bind
+lookup [] x = None
+lookup (n ∷ ns) x = cond (bytes_eq n.0 x) (Some n.1) (lookup ns x)
+
+-- what an object is: what its definition names it in its methods, the names that it captured, the newest first,
+-- and its methods
+pub record Object : Type 0 where
+  pub own : Pattern
+  pub captured : Nouns
+  pub methods : Methods
+  deriving IsSet as Object-set
+
+-- a cell of a vat: a name that its script defined, a slot, or an object
+pub data Cell : Type 0 where
+  top : (x : Name) → Cell
+  slot_cell : (s : SlotId) → Cell
+  object_cell : (i : ObjId) → Cell
+
+-- what a cell holds: a name's meaning, a slot's value, or what an object is
+pub data Content : Type 0 where
+  bound : (b : Bind) → Content
+  held : (v : Val) → Content
+  made : (o : Object) → Content
+  deriving IsSet as Content-set
+
+abbrev pub State : Type 0
+State = Cell → Option Content
+
+-- the state of a new vat
+abbrev pub nothing : State
+nothing c = None
+
+abbrev pub same_cell : Cell → Cell → Bool
+same_cell (top x) (top y) = bytes_eq x y
+same_cell (slot_cell s) (slot_cell t) = is_eq (slot_cmp s t)
+same_cell (object_cell i) (object_cell j) = is_eq (object_cmp i j)
+same_cell _ _ = false
+
+-- the one way to read a cell, and the one way to write it
+abbrev pub read : State → Cell → Option Content
+read s c = s c
+
+abbrev pub write : State → Cell → Content → State
+write s c x = λ d. cond (same_cell c d) (Some x) (s d)

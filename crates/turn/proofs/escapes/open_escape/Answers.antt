@@ -1,8 +1,0 @@
-use Rattle.std.proofs.Common.{◌+◌, ap, ◌∙◌}
-use Rattle.turn.specs.View.{at, opened_of}
-use Rattle.turn.specs.Rules.{next_ejector}
-use Rattle.turn.proofs.Ejectors.{opened_of-push}
-use Rattle.turn.proofs.escapes.open_escape.Goals as goal
-
-pub returns-clause-place : goal.returns-clause-place
-returns-clause-place c = ap (λ js. record (at c.args.w.now) { ejectors = c.args.w.now.ejectors + 1; opened = js }) (ap opened_of c.in_ok-push.ensures.items ∙ opened_of-push c.args.w.now.opened.items (next_ejector (at c.args.w.now)))

@@ -1,8 +1,0 @@
-use Rattle.std.proofs.Common.{arith}
-use Rattle.turn.specs.View.{at}
-use Rattle.values.specs.View.{val_of}
-use Rattle.turn.proofs.Scopes.{declared_there}
-use Rattle.turn.proofs.nouns.declare.Goals as goal
-
-pub returns-clause-makes : goal.returns-clause-makes
-returns-clause-makes c = declared_there c.args.name.now (val_of c.args.value) _ _ (at c.args.w.now) _ _ (omega arith) c.in_ok-share.ensures c.in_ok-slot.ensures.named c.in_ok-slot.ensures.made c.in_ok-bind.ensures

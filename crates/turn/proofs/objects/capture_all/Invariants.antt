@@ -1,8 +1,0 @@
-use Rattle.std.proofs.Common.{◌≡◌, [], drop}
-use Rattle.turn.specs.Rules.{captured, all_captured}
-use Rattle.turn.specs.View.{at, nouns_of}
-use Rattle.turn.proofs.objects.capture_all.Given as goal
-
--- what is captured from here on is what is captured of all
-abbrev pub invariant-loop-name : goal.invariant-loop-name
-invariant-loop-name l = all_captured (captured (nouns_of l.nouns.items)) (drop l.name-index l.names) (at l.w) ≡ all_captured (captured []) l.names (at l.w)

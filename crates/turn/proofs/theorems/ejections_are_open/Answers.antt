@@ -1,5 +1,0 @@
-use Rattle.turn.proofs.Ejections.{ends_inside}
-use Rattle.turn.proofs.theorems.ejections_are_open.Goals as goal
-
-pub returns : goal.returns
-returns c = λ k t a b j v r. ends_inside r
