@@ -3,5 +3,6 @@ pub mod View
 pub mod Limits
 pub mod Same
 pub mod Shown
+pub mod Verbs
 pub mod Replies
 pub mod Laws

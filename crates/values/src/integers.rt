@@ -6,31 +6,32 @@ ghost use Rattle.values.specs.View.{val_of, vals_of, reply_of};
 
 use crate::replies::{fitting, no_method, thrown, truth, wrong_argument};
 use crate::value::{Answer, Value};
+use crate::verb::{Verb, Word};
 use std::alloc::{AllocError, Global};
 
 /// What a verb of an integer leads to.
 pub(crate) fn int_call(
     alloc: Global,
     x: i64,
-    verb: &str,
+    verb: &Verb,
     arguments: &[Value],
 ) -> Result<Answer, AllocError>
     ensures { IfOk result (λ a. reply_of a ≡ int_table x verb.now (vals_of arguments.now)) }
 {
     match arguments {
-        [] => match verb {
-            "negate" => int_negate(alloc, x),
+        [] => match verb.word() {
+            Some(Word::Negate) => int_negate(alloc, x),
             _ => no_method(alloc, verb, 0),
         },
-        [argument] => match verb {
-            "add" => int_add(alloc, x, argument),
-            "subtract" => int_subtract(alloc, x, argument),
-            "multiply" => int_multiply(alloc, x, argument),
-            "floorDivide" => int_floor_divide(alloc, x, argument),
-            "lessThan" => int_less_than(alloc, x, argument),
-            "atMost" => int_at_most(alloc, x, argument),
-            "moreThan" => int_more_than(alloc, x, argument),
-            "atLeast" => int_at_least(alloc, x, argument),
+        [argument] => match verb.word() {
+            Some(Word::Add) => int_add(alloc, x, argument),
+            Some(Word::Subtract) => int_subtract(alloc, x, argument),
+            Some(Word::Multiply) => int_multiply(alloc, x, argument),
+            Some(Word::FloorDivide) => int_floor_divide(alloc, x, argument),
+            Some(Word::LessThan) => int_less_than(alloc, x, argument),
+            Some(Word::AtMost) => int_at_most(alloc, x, argument),
+            Some(Word::MoreThan) => int_more_than(alloc, x, argument),
+            Some(Word::AtLeast) => int_at_least(alloc, x, argument),
             _ => no_method(alloc, verb, 1),
         },
         _ => no_method(alloc, verb, arguments.len()),

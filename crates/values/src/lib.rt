@@ -13,3 +13,4 @@ mod tests;
 pub mod texts;
 pub mod theorems;
 pub mod value;
+pub mod verb;

@@ -7,6 +7,7 @@ ghost use Rattle.values.specs.View.{val_of, reply_of};
 
 use crate::limits::is_within_limits;
 use crate::value::{Answer, Value};
+use crate::verb::Verb;
 use ids::text::Text;
 use std::alloc::{AllocError, Global};
 
@@ -18,9 +19,10 @@ pub(crate) fn thrown(alloc: Global, problem: &str) -> Result<Answer, AllocError>
 }
 
 /// A verb that the receiver does not have, with this many arguments.
-pub(crate) fn no_method(alloc: Global, verb: &str, count: usize) -> Result<Answer, AllocError>
+pub(crate) fn no_method(alloc: Global, verb: &Verb, count: usize) -> Result<Answer, AllocError>
     ensures { IfOk result (λ a. reply_of a ≡ throws (codes "no method " ++ (verb.now ++ (codes "/" ++ decimal count)))) }
 {
+    let verb = verb.as_str();
     let problem = format!(in alloc; "no method {verb}/{count}")?;
     Ok(Answer::Throws(Text::from_string(problem)?))
 }
