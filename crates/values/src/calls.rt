@@ -1,4 +1,4 @@
-// The verbs of data.
+// The verbs of data. Calls on integers are inlined where they are made, and no others, so that a sum costs little.
 ghost use Rattle.std.specs.Prelude.{◌≡◌, IfOk};
 ghost use Rattle.values.specs.Replies.{bool_table, data_reply};
 ghost use Rattle.values.specs.View.{val_of, vals_of, reply_of};
@@ -28,6 +28,7 @@ pub fn data_call(
 /// What a verb of data leads to. A broken receiver throws its problem; else the verb and the number
 /// of arguments are looked up first, then the arguments' kinds are tested, and then the result.
 /// Null, objects and ejectors have no verbs of data. No texts are compared.
+#[inline(always)]
 pub fn call_verb(
     alloc: Global,
     receiver: &Value,
@@ -51,6 +52,7 @@ pub fn call_verb(
 }
 
 /// What a verb of a truth value leads to.
+#[inline(never)]
 fn bool_call(
     alloc: Global,
     holds: bool,

@@ -27,6 +27,7 @@ pub fn list_value(alloc: Global, items: Vec<Value>) -> Result<Answer, AllocError
 }
 
 /// What a verb of a list leads to.
+#[inline(never)]
 pub(crate) fn list_call(
     alloc: Global,
     items: &[Value],

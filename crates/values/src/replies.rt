@@ -12,6 +12,7 @@ use ids::text::Text;
 use std::alloc::{AllocError, Global};
 
 /// A problem that is thrown.
+#[inline(never)]
 pub(crate) fn thrown(alloc: Global, problem: &str) -> Result<Answer, AllocError>
     ensures { IfOk result (λ a. reply_of a ≡ throws problem.now) }
 {
@@ -19,6 +20,7 @@ pub(crate) fn thrown(alloc: Global, problem: &str) -> Result<Answer, AllocError>
 }
 
 /// A verb that the receiver does not have, with this many arguments.
+#[inline(never)]
 pub(crate) fn no_method(alloc: Global, verb: &Verb, count: usize) -> Result<Answer, AllocError>
     ensures { IfOk result (λ a. reply_of a ≡ throws (codes "no method " ++ (verb.now ++ (codes "/" ++ decimal count)))) }
 {
@@ -63,6 +65,7 @@ pub(crate) fn limited(alloc: Global, value: Value) -> Result<Answer, AllocError>
 }
 
 /// What an argument of the wrong kind leads to: its own problem, if it is broken.
+#[inline(never)]
 pub(crate) fn wrong_argument(alloc: Global, argument: &Value) -> Result<Answer, AllocError>
     ensures { IfOk result (λ a. reply_of a ≡ wrong_kind (val_of argument.now)) }
 {

@@ -20,6 +20,7 @@ pub fn text_value(alloc: Global, text: &Text) -> Result<Answer, AllocError>
 }
 
 /// What a verb of a text leads to.
+#[inline(never)]
 pub(crate) fn text_call(
     alloc: Global,
     text: &Text,
