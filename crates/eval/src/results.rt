@@ -10,10 +10,11 @@ ghost use Rattle.eval.specs.View.{end_of, gather_of};
 use crate::end::{End, Gathered, Halt};
 use ids::text::Text;
 use std::alloc::{AllocError, Global};
-use values::calls::data_call;
+use values::calls::call_verb;
 use values::lists::list_value;
 use values::texts::text_value;
 use values::value::{Answer, Value};
+use values::verb::Verb;
 
 /// What an integer literal gives.
 pub fn int_end(n: i64) -> End
@@ -48,7 +49,8 @@ pub fn data_end(
 ) -> Result<End, AllocError>
     ensures { IfOk result (λ o. end_of o ≡ reply_end (data_reply (val_of receiver.now) verb.now (vals_of args.now))) }
 {
-    Ok(answer_end(data_call(alloc, receiver, verb.as_str(), args)?))
+    let verb = Verb::new(verb.share()?);
+    Ok(answer_end(call_verb(alloc, receiver, &verb, args)?))
 }
 
 /// What a call gives on what has no such verb with so many arguments.

@@ -4,3 +4,4 @@ pub mod Weighing
 pub mod Differing
 pub mod ShownItems
 pub mod Equivalence
+pub mod VerbTexts

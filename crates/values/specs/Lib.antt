@@ -1,7 +1,8 @@
 pub mod Data
-pub mod View
 pub mod Limits
 pub mod Same
 pub mod Shown
+pub mod Verbs
 pub mod Replies
+pub mod View
 pub mod Laws

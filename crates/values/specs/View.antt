@@ -1,6 +1,9 @@
 -- What the program's values stand for.
-use Rattle.std.specs.Prelude.{List, [], ◌∷◌}
+use Rattle.std.specs.Prelude.{ℕ, List, [], ◌∷◌, codes}
 use Rattle.values.specs.Data.{Val, null, bool, int, text, list, object, ejector, broken, Vals, no_vals, and_val, Reply, gives, throws}
+use Rattle.values.specs.Replies.{no_method, wrong_kind}
+use Rattle.values.specs.declared.integers.IntReply.{IntReply}
+use Rattle.values.specs.declared.integers.IntReply.TheVariants as int-reply
 use Rattle.values.specs.declared.value.Value as code
 use Rattle.values.specs.declared.value.Value.{Value}
 use Rattle.values.specs.declared.value.Answer.{Answer}
@@ -29,3 +32,12 @@ vals_of (v ∷ vs) = and_val (val_of v) (vals_of vs)
 abbrev pub reply_of : Answer → Reply
 reply_of (answer.Gives v) = gives (val_of v)
 reply_of (answer.Throws p) = throws p
+
+-- what an integer leads to with one argument
+abbrev pub int_reply : IntReply → List ℕ → Val → Reply
+int_reply (int-reply.Integer z) verb v = gives (int z)
+int_reply (int-reply.Truth b) verb v = gives (bool b)
+int_reply int-reply.TooLarge verb v = throws (codes "integer too large")
+int_reply int-reply.DivisionByZero verb v = throws (codes "division by zero")
+int_reply int-reply.WrongArgument verb v = wrong_kind v
+int_reply int-reply.NoMethod verb v = no_method verb (and_val v no_vals)

@@ -1,4 +1,4 @@
-// The verbs of data.
+// The verbs of data. Calls on integers are inlined where they are made, and no others, so that a sum costs little.
 ghost use Rattle.std.specs.Prelude.{◌≡◌, IfOk};
 ghost use Rattle.values.specs.Replies.{bool_table, data_reply};
 ghost use Rattle.values.specs.View.{val_of, vals_of, reply_of};
@@ -8,15 +8,31 @@ use crate::lists::list_call;
 use crate::replies::{no_method, truth};
 use crate::texts::text_call;
 use crate::value::{Answer, Value};
+use crate::verb::{Verb, Word};
+use ids::text::Text;
 use std::alloc::{AllocError, Global};
 
-/// What a verb of data leads to. A broken receiver throws its problem; else the verb and the number
-/// of arguments are looked up first, then the arguments' kinds are tested, and then the result.
-/// Null, objects and ejectors have no verbs of data.
+/// What a verb leads to that is given as a text, which is looked up at each call.
 pub fn data_call(
     alloc: Global,
     receiver: &Value,
     verb: &str,
+    arguments: &[Value],
+) -> Result<Answer, AllocError>
+    ensures { IfOk result (λ a. reply_of a ≡ data_reply (val_of receiver.now) verb.now (vals_of arguments.now)) }
+{
+    let verb = Verb::new(Text::new(alloc, verb)?);
+    call_verb(alloc, receiver, &verb, arguments)
+}
+
+/// What a verb of data leads to. A broken receiver throws its problem; else the verb and the number
+/// of arguments are looked up first, then the arguments' kinds are tested, and then the result.
+/// Null, objects and ejectors have no verbs of data. No texts are compared.
+#[inline(always)]
+pub fn call_verb(
+    alloc: Global,
+    receiver: &Value,
+    verb: &Verb,
     arguments: &[Value],
 ) -> Result<Answer, AllocError>
     ensures { IfOk result (λ a. reply_of a ≡ data_reply (val_of receiver.now) verb.now (vals_of arguments.now)) }
@@ -36,17 +52,18 @@ pub fn data_call(
 }
 
 /// What a verb of a truth value leads to.
+#[inline(never)]
 fn bool_call(
     alloc: Global,
     holds: bool,
-    verb: &str,
+    verb: &Verb,
     arguments: &[Value],
 ) -> Result<Answer, AllocError>
     ensures { IfOk result (λ a. reply_of a ≡ bool_table holds verb.now (vals_of arguments.now)) }
 {
     match arguments {
-        [] => match verb {
-            "not" => Ok(truth(!holds)),
+        [] => match verb.word() {
+            Some(Word::Not) => Ok(truth(!holds)),
             _ => no_method(alloc, verb, 0),
         },
         _ => no_method(alloc, verb, arguments.len()),

@@ -11,3 +11,4 @@ pub mod showing;
 pub mod texts;
 pub mod theorems;
 pub mod value;
+pub mod verb;

@@ -8,6 +8,7 @@ ghost use Rattle.values.specs.View.{val_of, vals_of, reply_of};
 use crate::limits::items_left;
 use crate::replies::{limited, no_method, sized, thrown, wrong_argument};
 use crate::value::{Answer, Value};
+use crate::verb::{Verb, Word};
 use std::alloc::{AllocError, Global};
 use std::slice;
 use std::sync::Arc;
@@ -26,23 +27,24 @@ pub fn list_value(alloc: Global, items: Vec<Value>) -> Result<Answer, AllocError
 }
 
 /// What a verb of a list leads to.
+#[inline(never)]
 pub(crate) fn list_call(
     alloc: Global,
     items: &[Value],
-    verb: &str,
+    verb: &Verb,
     arguments: &[Value],
 ) -> Result<Answer, AllocError>
     ensures { IfOk result (λ a. reply_of a ≡ list_table (vals_of items.now) verb.now (vals_of arguments.now)) }
 {
     match arguments {
-        [] => match verb {
-            "size" => list_size(alloc, items),
+        [] => match verb.word() {
+            Some(Word::Size) => list_size(alloc, items),
             _ => no_method(alloc, verb, 0),
         },
-        [argument] => match verb {
-            "add" => list_add(alloc, items, argument),
-            "with" => list_with(alloc, items, argument),
-            "get" => list_get(alloc, items, argument),
+        [argument] => match verb.word() {
+            Some(Word::Add) => list_add(alloc, items, argument),
+            Some(Word::With) => list_with(alloc, items, argument),
+            Some(Word::Get) => list_get(alloc, items, argument),
             _ => no_method(alloc, verb, 1),
         },
         _ => no_method(alloc, verb, arguments.len()),

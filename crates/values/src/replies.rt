@@ -7,10 +7,12 @@ ghost use Rattle.values.specs.View.{val_of, reply_of};
 
 use crate::limits::is_within_limits;
 use crate::value::{Answer, Value};
+use crate::verb::Verb;
 use ids::text::Text;
 use std::alloc::{AllocError, Global};
 
 /// A problem that is thrown.
+#[inline(never)]
 pub(crate) fn thrown(alloc: Global, problem: &str) -> Result<Answer, AllocError>
     ensures { IfOk result (λ a. reply_of a ≡ throws problem.now) }
 {
@@ -18,9 +20,11 @@ pub(crate) fn thrown(alloc: Global, problem: &str) -> Result<Answer, AllocError>
 }
 
 /// A verb that the receiver does not have, with this many arguments.
-pub(crate) fn no_method(alloc: Global, verb: &str, count: usize) -> Result<Answer, AllocError>
+#[inline(never)]
+pub(crate) fn no_method(alloc: Global, verb: &Verb, count: usize) -> Result<Answer, AllocError>
     ensures { IfOk result (λ a. reply_of a ≡ throws (codes "no method " ++ (verb.now ++ (codes "/" ++ decimal count)))) }
 {
+    let verb = verb.as_str();
     let problem = format!(in alloc; "no method {verb}/{count}")?;
     Ok(Answer::Throws(Text::from_string(problem)?))
 }
@@ -61,6 +65,7 @@ pub(crate) fn limited(alloc: Global, value: Value) -> Result<Answer, AllocError>
 }
 
 /// What an argument of the wrong kind leads to: its own problem, if it is broken.
+#[inline(never)]
 pub(crate) fn wrong_argument(alloc: Global, argument: &Value) -> Result<Answer, AllocError>
     ensures { IfOk result (λ a. reply_of a ≡ wrong_kind (val_of argument.now)) }
 {

@@ -5,6 +5,7 @@ ghost use Rattle.values.specs.View.{val_of, vals_of, reply_of};
 
 use crate::replies::{limited, no_method, sized, thrown, wrong_argument};
 use crate::value::{Answer, Value};
+use crate::verb::{Verb, Word};
 use ids::text::Text;
 use std::alloc::{AllocError, Global};
 
@@ -19,21 +20,22 @@ pub fn text_value(alloc: Global, text: &Text) -> Result<Answer, AllocError>
 }
 
 /// What a verb of a text leads to.
+#[inline(never)]
 pub(crate) fn text_call(
     alloc: Global,
     text: &Text,
-    verb: &str,
+    verb: &Verb,
     arguments: &[Value],
 ) -> Result<Answer, AllocError>
     ensures { IfOk result (λ a. reply_of a ≡ text_table text.now verb.now (vals_of arguments.now)) }
 {
     match arguments {
-        [] => match verb {
-            "size" => text_size(alloc, text.as_str()),
+        [] => match verb.word() {
+            Some(Word::Size) => text_size(alloc, text.as_str()),
             _ => no_method(alloc, verb, 0),
         },
-        [argument] => match verb {
-            "add" => text_add(alloc, text.as_str(), argument),
+        [argument] => match verb.word() {
+            Some(Word::Add) => text_add(alloc, text.as_str(), argument),
             _ => no_method(alloc, verb, 1),
         },
         _ => no_method(alloc, verb, arguments.len()),

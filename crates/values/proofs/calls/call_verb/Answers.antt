@@ -1,7 +1,7 @@
 use Rattle.std.proofs.Common.{sym}
 use Rattle.values.proofs.Views.{list_is}
 use Rattle.values.proofs.Tables.{no_row, no_verbs, replied}
-use Rattle.values.proofs.calls.data_call.Goals as goal
+use Rattle.values.proofs.calls.call_verb.Goals as goal
 
 pub returns-in-Null : goal.returns-in-Null
 returns-in-Null c = rw (no_verbs c.args.receiver.now c.in-Null.is) (replied c.no_method.result _ _ (sym (no_row c.args.verb.now c.args.arguments.now)) c.no_method.ensures)

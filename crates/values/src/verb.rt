@@ -1,0 +1,142 @@
+// The verbs of data, and the verbs that programs call.
+ghost use Rattle.std.specs.Prelude.{◌≡◌, IfOk};
+ghost use Rattle.values.specs.Verbs.{text_of, word_of};
+
+use ids::text::Text;
+use std::alloc::AllocError;
+use std::marker::Model;
+
+/// A verb of data: one that the table of some kind of receiver has.
+#[derive(Clone, Copy, Debug, PartialEq, Eq)]
+pub enum Word {
+    /// `add`
+    Add,
+    /// `subtract`
+    Subtract,
+    /// `multiply`
+    Multiply,
+    /// `floorDivide`
+    FloorDivide,
+    /// `lessThan`
+    LessThan,
+    /// `atMost`
+    AtMost,
+    /// `moreThan`
+    MoreThan,
+    /// `atLeast`
+    AtLeast,
+    /// `negate`
+    Negate,
+    /// `not`
+    Not,
+    /// `size`
+    Size,
+    /// `with`
+    With,
+    /// `get`
+    Get,
+}
+
+impl Word {
+    /// The text that spells it.
+    pub fn text(self) -> &'static str
+        ensures { result.now ≡ text_of self }
+    {
+        match self {
+            Word::Add => "add",
+            Word::Subtract => "subtract",
+            Word::Multiply => "multiply",
+            Word::FloorDivide => "floorDivide",
+            Word::LessThan => "lessThan",
+            Word::AtMost => "atMost",
+            Word::MoreThan => "moreThan",
+            Word::AtLeast => "atLeast",
+            Word::Negate => "negate",
+            Word::Not => "not",
+            Word::Size => "size",
+            Word::With => "with",
+            Word::Get => "get",
+        }
+    }
+
+    /// The verb that a text spells, if it spells one.
+    pub fn of(text: &str) -> Option<Word>
+        ensures { result ≡ word_of text.now }
+    {
+        match text {
+            "add" => Some(Word::Add),
+            "subtract" => Some(Word::Subtract),
+            "multiply" => Some(Word::Multiply),
+            "floorDivide" => Some(Word::FloorDivide),
+            "lessThan" => Some(Word::LessThan),
+            "atMost" => Some(Word::AtMost),
+            "moreThan" => Some(Word::MoreThan),
+            "atLeast" => Some(Word::AtLeast),
+            "negate" => Some(Word::Negate),
+            "not" => Some(Word::Not),
+            "size" => Some(Word::Size),
+            "with" => Some(Word::With),
+            "get" => Some(Word::Get),
+            _ => None,
+        }
+    }
+}
+
+/// A verb that a program calls, looked up once among the verbs of data. Clauses see its text.
+#[derive(Drop)]
+pub struct Verb {
+    text: Text,
+    word: Option<Word>,
+}
+
+impl Model for Verb {
+    ghost use Rattle.std.specs.Prelude.{List, ℕ, ◌≡◌};
+    ghost use Rattle.values.specs.Verbs.{word_of};
+
+    ghost Value = { List ℕ };
+
+    ghost view = { λ v. v.text };
+
+    // The verb of data that its text spells, if it spells one.
+    ghost invariant = { λ v. v.word ≡ word_of v.text };
+}
+
+impl Verb {
+    /// The verb of this text.
+    pub fn new(text: Text) -> Verb
+        ensures { result ≡ text }
+    {
+        let word = Word::of(text.as_str());
+        Verb { text, word }
+    }
+
+    /// Its text.
+    pub fn text(&self) -> &Text
+        ensures { result.now ≡ self.now }
+    {
+        &self.text
+    }
+
+    pub fn as_str(&self) -> &str
+        ensures { result.now ≡ self.now }
+    {
+        self.text.as_str()
+    }
+
+    /// The verb of data that it is, if it is one.
+    pub fn word(&self) -> Option<Word>
+        ensures { result ≡ word_of self.now }
+    {
+        self.word
+    }
+
+    /// The same verb, shared.
+    pub fn share(&self) -> Result<Verb, AllocError>
+        ensures { IfOk result (λ v. v ≡ self.now) }
+    {
+        Ok(Verb {
+            text: self.text.share()?,
+            word: self.word,
+        })
+    }
+}
