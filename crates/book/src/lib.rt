@@ -8,3 +8,4 @@ pub mod rerun;
 #[cfg(test)]
 mod tests;
 pub mod undoing;
+mod writers;
