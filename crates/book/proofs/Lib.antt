@@ -10,4 +10,6 @@ pub mod Marking
 pub mod Kept
 pub mod Firsts
 pub mod Runs
-pub mod Keys
+pub mod KeyMaps
+pub mod Places
+pub mod Index

@@ -7,3 +7,5 @@ pub mod Fault
 pub mod Causes
 pub mod EntryView
 pub mod BookView
+pub mod Writers
+pub mod WritersView

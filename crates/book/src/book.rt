@@ -19,7 +19,7 @@ ghost use Rattle.book.specs.Refusals.{refusal_of};
 ghost use Rattle.world.specs.View.{world_of};
 
 use crate::fault::BookFault;
-use crate::journal::{Entry, Mark, causes_of, count_of, mark_redone, mark_undone};
+use crate::journal::{Entry, Journal, count_of};
 use crate::rerun::plain_run;
 use crate::undoing::{check_redo, check_undo, cone};
 use ids::names::{EventName, MsgId, VatNo};
@@ -28,7 +28,7 @@ use kernele::tree::Program;
 use kernele::{CheckFault, Outer, check};
 use std::alloc::{AllocError, Global};
 use turn::delivery::Ended;
-use world::cells::{Cells, cells_of_ask, cells_of_birth, cells_of_turn};
+use world::cells::{cells_of_ask, cells_of_birth, cells_of_turn};
 use world::event::{Action, Event};
 use world::ready::{Unready, ready};
 use world::step::{StepFault, deliver, enter_ask, enter_birth, enter_turn};
@@ -52,12 +52,12 @@ pub struct Turned {
 pub struct Book {
     alloc: Global,
     world: World,
-    entries: Vec<Entry>,
+    journal: Journal,
     next: u64,
     // The events of the last call, if it was an undo.
     redoable: Vec<EventName>,
     ghost in_range: { next ≤ 4294967296 },
-    ghost stands: { Stands (record { world = world_of world; journal = lines_of entries.items; next = next; redoable = redoable.items }) },
+    ghost stands: { Stands (record { world = world_of world; journal = lines_of journal.entries.items; next = next; redoable = redoable.items }) },
 }
 
 fn check_program(alloc: Global, program: &Program, outer: &Outer) -> Result<(), BookFault>
@@ -69,50 +69,6 @@ fn check_program(alloc: Global, program: &Program, outer: &Outer) -> Result<(), 
         Err(CheckFault::Memory) => Err(BookFault::Memory),
         Err(fault) => Err(BookFault::Check(fault)),
     }
-}
-
-/// Adds an entry for an event that touches these cells, with its causes, or changes nothing.
-fn add_entry(
-    alloc: Global,
-    entries: &mut Vec<Entry>,
-    event: Event,
-    cells: Cells,
-) -> Result<(), AllocError>
-    ensures ok { OnOk result (lines_of entries.new.items ≡ lines_of entries.old.items ++ (record { event = event_of event; touched = cells.touched.items; written = cells.written.items; causes = causes_in cells.touched.items (lines_of entries.old.items); live = true }) ∷ []) }
-    ensures shorter { OnOk result ((last : Entry) × (entries.new.items ≡ entries.old.items ++ last ∷ [])) }
-    ensures err { OnErr result (entries.new.items ≡ entries.old.items) }
-{
-    let Cells { touched, written } = cells;
-    let causes = causes_of(alloc, &touched, entries)?;
-    entries.push(Entry {
-        event,
-        touched,
-        written,
-        causes,
-        mark: Mark::Live,
-    })?;
-    Ok(())
-}
-
-/// Marks entries as undone.
-fn undo_entries(entries: &mut Vec<Entry>, names: &[EventName])
-    ensures { lines_of entries.new.items ≡ undone_in names.now (lines_of entries.old.items) }
-{
-    mark_undone(entries, names);
-}
-
-/// Marks entries as live.
-fn redo_entries(entries: &mut Vec<Entry>, names: &[EventName])
-    ensures { lines_of entries.new.items ≡ redone_in names.now (lines_of entries.old.items) }
-{
-    mark_redone(entries, names);
-}
-
-/// Takes the last entry away.
-fn remove_last(entries: &mut Vec<Entry>)
-    ensures { (before : List Entry) (last : Entry) → entries.old.items ≡ before ++ last ∷ [] → entries.new.items ≡ before }
-{
-    entries.pop();
 }
 
 fn unready_fault(message: MsgId, unready: Unready) -> BookFault
@@ -135,7 +91,7 @@ impl Book {
         Book {
             alloc,
             world: World::new(alloc),
-            entries: Vec::new(alloc),
+            journal: Journal::new(alloc),
             next: 1,
             redoable: Vec::new(alloc),
         }
@@ -153,7 +109,7 @@ impl Book {
     pub fn journal(&self) -> &[Entry]
         ensures { lines_of result.now ≡ (book_of self.now).journal }
     {
-        self.entries.as_slice()
+        self.journal.entries()
     }
 
     /// The name that the next event is given.
@@ -161,7 +117,7 @@ impl Book {
         ensures ok { IfOk result (λ e. (e.0 ≡ self.now.next) × (self.now.next ≤ 4294967295) × (full_refusal (book_of self.now) ≡ None)) }
         ensures err { IfErr result (λ fault. Tells fault (full_refusal (book_of self.now))) }
     {
-        if self.next > LAST_NAME || self.entries.len() >= MOST_ENTRIES {
+        if self.next > LAST_NAME || self.journal.entries().len() >= MOST_ENTRIES {
             return Err(BookFault::Full);
         }
         Ok(EventName(self.next))
@@ -204,7 +160,7 @@ impl Book {
             name: event,
             action,
         };
-        add_entry(self.alloc, &mut self.entries, entered, cells)?;
+        self.journal.add(entered, cells)?;
         match enter_birth(self.alloc, &mut self.world, event, name, script) {
             Ok(()) => {
                 self.next += 1;
@@ -212,7 +168,7 @@ impl Book {
                 Ok(event)
             }
             Err(_) => {
-                remove_last(&mut self.entries);
+                self.journal.remove_last();
                 Err(BookFault::Memory)
             }
         }
@@ -248,7 +204,7 @@ impl Book {
             name: event,
             action,
         };
-        add_entry(self.alloc, &mut self.entries, entered, cells)?;
+        self.journal.add(entered, cells)?;
         match enter_ask(&mut self.world, event, number, program) {
             Ok(()) => {
                 self.next += 1;
@@ -256,7 +212,7 @@ impl Book {
                 Ok(event)
             }
             Err(_) => {
-                remove_last(&mut self.entries);
+                self.journal.remove_last();
                 Err(BookFault::Memory)
             }
         }
@@ -282,7 +238,7 @@ impl Book {
             name: event,
             action: Action::Turn(message, budget),
         };
-        add_entry(self.alloc, &mut self.entries, entered, cells)?;
+        self.journal.add(entered, cells)?;
         match enter_turn(&mut self.world, event, message, delivered) {
             Ok(ended) => {
                 self.next += 1;
@@ -290,7 +246,7 @@ impl Book {
                 Ok(Turned { event, ended })
             }
             Err(_) => {
-                remove_last(&mut self.entries);
+                self.journal.remove_last();
                 Err(BookFault::Memory)
             }
         }
@@ -305,21 +261,21 @@ impl Book {
         ensures err { IfErr result (λ fault. Tells fault (undo_refusal (book_of self.old).journal events.now)) }
         ensures unchanged { OnErr result (book_of self.new ≡ book_of self.old) }
     {
-        check_undo(&self.entries, events)?;
+        check_undo(self.journal.entries(), events)?;
         if events.is_empty() {
             return Ok(0);
         }
         let redoable = Vec::from_slice(self.alloc, events)?;
-        let count = count_of(&self.entries, events);
-        undo_entries(&mut self.entries, events);
-        match plain_run(self.alloc, &self.entries) {
+        let count = count_of(self.journal.entries(), events);
+        self.journal.undo(events);
+        match plain_run(self.alloc, self.journal.entries()) {
             Ok(world) => {
                 self.world = world;
                 self.redoable = redoable;
                 Ok(count)
             }
             Err(StepFault::Memory) => {
-                redo_entries(&mut self.entries, events);
+                self.journal.redo(events);
                 Err(BookFault::Memory)
             }
             Err(StepFault::Impossible) => unreachable!(),
@@ -335,20 +291,20 @@ impl Book {
         ensures err { IfErr result (λ fault. Tells fault (redo_refusal (book_of self.old) events.now)) }
         ensures unchanged { OnErr result (book_of self.new ≡ book_of self.old) }
     {
-        check_redo(&self.entries, events, &self.redoable)?;
+        check_redo(self.journal.entries(), events, &self.redoable)?;
         if events.is_empty() {
             return Ok(0);
         }
-        let count = count_of(&self.entries, events);
-        redo_entries(&mut self.entries, events);
-        match plain_run(self.alloc, &self.entries) {
+        let count = count_of(self.journal.entries(), events);
+        self.journal.redo(events);
+        match plain_run(self.alloc, self.journal.entries()) {
             Ok(world) => {
                 self.world = world;
                 self.redoable.clear();
                 Ok(count)
             }
             Err(StepFault::Memory) => {
-                undo_entries(&mut self.entries, events);
+                self.journal.undo(events);
                 Err(BookFault::Memory)
             }
             Err(StepFault::Impossible) => unreachable!(),
@@ -363,6 +319,6 @@ impl Book {
         ensures ok { IfOk result (λ names. (cone_refusal (book_of self.now).journal event ≡ None) × Cone (book_of self.now).journal event names.items) }
         ensures err { IfErr result (λ fault. Tells fault (cone_refusal (book_of self.now).journal event)) }
     {
-        cone(self.alloc, &self.entries, event)
+        cone(self.alloc, self.journal.entries(), event)
     }
 }

@@ -6,3 +6,4 @@ pub mod fault;
 pub mod journal;
 pub mod rerun;
 pub mod undoing;
+mod writers;

@@ -10,40 +10,40 @@ use Rattle.book.proofs.Entering.{enters, stands_entered, stands_so}
 use Rattle.book.proofs.book.Book.ask.Goals as goal
 
 pub invariant_of-self : goal.invariant_of-self
-invariant_of-self c = record { in_range = c.args.self.now.in_range; stands = stands_so _ _ _ _ _ _ refl (ap lines_of c.in_err-add_entry.ensures.err) c.args.self.now.stands }
+invariant_of-self c = record { in_range = c.args.self.now.in_range; stands = stands_so _ _ _ _ _ _ refl (ap lines_of c.in_err-add.ensures.err) c.args.self.now.stands }
 
 pub invariant_of-self-in-Ok-clause-stands : goal.invariant_of-self-in-Ok-clause-stands
 invariant_of-self-in-Ok-clause-stands c =
     let e = c.in_ok-event.event in
     let old = book_of c.args.self.now in
-    let new : Book = record { world = world_of c.enter_ask.new.world; journal = lines_of c.add_entry.new.entries.items; next = c.args.self.now.next + 1; redoable = c.clear.new.self.items } in
+    let new : Book = record { world = world_of c.enter_ask.new.world; journal = lines_of c.add.new.self.entries.items; next = c.args.self.now.next + 1; redoable = c.clear.new.self.items } in
     let ev : Event = record { name = e; act = ask c.args.name.now (program_of c.args.program) } in
     let entered : Event = record { name = e; act = ask c.in_ok-share.field-0 (program_of c.in_ok-share-2.field-0) } in
     let f = ask_foot e c.args.name.now c.in_ok-event.number (program_of c.args.program) in
     let n : Enters ev f old new =
-    enters ev entered f old new c.in_ok-cells.cells.touched.items c.in_ok-cells.cells.written.items c.in_ok-event.ensures.ok.0 refl ∣ asks c.in_ok-event.ensures.ok.2.1 ∣₁ (c.in-Ok.ensures.ok c.args.name.now) c.in_ok-add_entry.ensures.ok
+    enters ev entered f old new c.in_ok-cells.cells.touched.items c.in_ok-cells.cells.written.items c.in_ok-event.ensures.ok.0 refl ∣ asks c.in_ok-event.ensures.ok.2.1 ∣₁ (c.in-Ok.ensures.ok c.args.name.now) c.in_ok-add.ensures.ok
     (λ i. record { name = e; act = ask (c.in_ok-share.ensures i) (c.in_ok-share-2.ensures i) }) c.in_ok-cells.ensures.0 c.in_ok-cells.ensures.1 c.clear.ensures.items in
     stands_entered ev f old new c.args.self.now.stands n
 
 pub invariant_of-self-in-Err-clause-stands : goal.invariant_of-self-in-Err-clause-stands
 invariant_of-self-in-Err-clause-stands c =
-    let s = c.in_ok-add_entry.ensures.shorter in
-    stands_so _ _ _ _ _ _ c.in-Err.ensures.err (ap lines_of (c.remove_last.ensures c.args.self.now.entries.items s.0 s.1)) c.args.self.now.stands
+    let s = c.in_ok-add.ensures.shorter in
+    stands_so _ _ _ _ _ _ c.in-Err.ensures.err (ap lines_of (c.remove_last.ensures c.args.self.now.journal.entries.items s.0 s.1)) c.args.self.now.stands
 
 pub returns-in-Ok-clause-ok : goal.returns-in-Ok-clause-ok
 returns-in-Ok-clause-ok c =
     let e = c.in_ok-event.event in
     let old = book_of c.args.self.now in
-    let new : Book = record { world = world_of c.enter_ask.new.world; journal = lines_of c.add_entry.new.entries.items; next = c.args.self.now.next + 1; redoable = c.clear.new.self.items } in
+    let new : Book = record { world = world_of c.enter_ask.new.world; journal = lines_of c.add.new.self.entries.items; next = c.args.self.now.next + 1; redoable = c.clear.new.self.items } in
     let ev : Event = record { name = e; act = ask c.args.name.now (program_of c.args.program) } in
     let entered : Event = record { name = e; act = ask c.in_ok-share.field-0 (program_of c.in_ok-share-2.field-0) } in
     let f = ask_foot e c.args.name.now c.in_ok-event.number (program_of c.args.program) in
     let n : Enters ev f old new =
-    enters ev entered f old new c.in_ok-cells.cells.touched.items c.in_ok-cells.cells.written.items c.in_ok-event.ensures.ok.0 refl ∣ asks c.in_ok-event.ensures.ok.2.1 ∣₁ (c.in-Ok.ensures.ok c.args.name.now) c.in_ok-add_entry.ensures.ok
+    enters ev entered f old new c.in_ok-cells.cells.touched.items c.in_ok-cells.cells.written.items c.in_ok-event.ensures.ok.0 refl ∣ asks c.in_ok-event.ensures.ok.2.1 ∣₁ (c.in-Ok.ensures.ok c.args.name.now) c.in_ok-add.ensures.ok
     (λ i. record { name = e; act = ask (c.in_ok-share.ensures i) (c.in_ok-share-2.ensures i) }) c.in_ok-cells.ensures.0 c.in_ok-cells.ensures.1 c.clear.ensures.items in
     (c.in_ok-event.ensures.ok.3, (c.in_ok-event.number, n))
 
 pub returns-in-Err-clause-unchanged : goal.returns-in-Err-clause-unchanged
 returns-in-Err-clause-unchanged c =
-    let s = c.in_ok-add_entry.ensures.shorter in
-    λ i. record { world = c.in-Err.ensures.err i; journal = lines_of (c.remove_last.ensures c.args.self.now.entries.items s.0 s.1 i); next = c.args.self.now.next; redoable = c.args.self.now.redoable.items }
+    let s = c.in_ok-add.ensures.shorter in
+    λ i. record { world = c.in-Err.ensures.err i; journal = lines_of (c.remove_last.ensures c.args.self.now.journal.entries.items s.0 s.1 i); next = c.args.self.now.next; redoable = c.args.self.now.redoable.items }

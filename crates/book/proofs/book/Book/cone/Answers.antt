@@ -6,4 +6,4 @@ use Rattle.book.proofs.Firsts.{causes_first}
 use Rattle.book.proofs.book.Book.cone.Goals as goal
 
 pub cone-requires : goal.cone-requires
-cone-requires c = subst CausesComeFirst (ap lines_of (sym c.deref.ensures.value)) (causes_first (book_of c.args.self.now) c.args.self.now.stands)
+cone-requires c = subst CausesComeFirst (ap lines_of (sym c.entries.ensures)) (causes_first (book_of c.args.self.now) c.args.self.now.stands)

@@ -17,7 +17,7 @@ pub returns-then-is_empty-clause-ok : goal.returns-then-is_empty-clause-ok
 returns-then-is_empty-clause-ok c =
     let old = book_of c.args.self.now in
     let ev = c.args.events.now in
-    let ok : undo_refusal old.journal ev ≡ None = ap (λ (es : List Entry). undo_refusal (lines_of es) ev) (sym c.deref.ensures.value) ∙ c.in_ok-check_undo.ensures.ok in
+    let ok : undo_refusal old.journal ev ≡ None = ap (λ (es : List Entry). undo_refusal (lines_of es) ev) (sym c.entries.ensures) ∙ c.in_ok-check_undo.ensures.ok in
     let none = undoes_none ev old (sym c.is_empty.ensures ∙ c.if-is_empty.true) c.args.self.now.stands in
     (ok, none.0, none.1)
 
@@ -25,55 +25,55 @@ pub invariant_of-self-in-Err-Memory-clause-stands : goal.invariant_of-self-in-Er
 invariant_of-self-in-Err-Memory-clause-stands c =
     let old = book_of c.args.self.now in
     let ev = c.args.events.now in
-    let ok : undo_refusal old.journal ev ≡ None = ap (λ (es : List Entry). undo_refusal (lines_of es) ev) (sym c.deref.ensures.value) ∙ c.in_ok-check_undo.ensures.ok in
-    stands_so _ _ _ _ _ _ refl (c.redo_entries.ensures ∙ ap (redone_in ev) c.undo_entries.ensures ∙ redone-undone old.journal ev ok) c.args.self.now.stands
+    let ok : undo_refusal old.journal ev ≡ None = ap (λ (es : List Entry). undo_refusal (lines_of es) ev) (sym c.entries.ensures) ∙ c.in_ok-check_undo.ensures.ok in
+    stands_so _ _ _ _ _ _ refl (c.redo.ensures ∙ ap (redone_in ev) c.undo.ensures ∙ redone-undone old.journal ev ok) c.args.self.now.stands
 
 pub unreachable-requires : goal.unreachable-requires
 unreachable-requires c =
     let old = book_of c.args.self.now in
     let ev = c.args.events.now in
-    let ok : undo_refusal old.journal ev ≡ None = ap (λ (es : List Entry). undo_refusal (lines_of es) ev) (sym c.deref.ensures.value) ∙ c.in_ok-check_undo.ensures.ok in
-    let rest : live_events (lines_of c.deref-3.result.now) ≡ rest_of ev old.journal = ap live_events (ap lines_of c.deref-3.ensures.value ∙ c.undo_entries.ensures) ∙ live_events-undone ev old.journal in
+    let ok : undo_refusal old.journal ev ≡ None = ap (λ (es : List Entry). undo_refusal (lines_of es) ev) (sym c.entries.ensures) ∙ c.in_ok-check_undo.ensures.ok in
+    let rest : live_events (lines_of c.entries-3.result.now) ≡ rest_of ev old.journal = ap live_events (ap lines_of c.entries-3.ensures ∙ c.undo.ensures) ∙ live_events-undone ev old.journal in
     undo_runs old ev c.args.self.now.stands ok
-    (λ w r. subst (TellsRun (live_events (lines_of c.deref-3.result.now))) c.in-Err-Impossible.field-0-is c.in-Err-Impossible.ensures.err w (subst (λ es. PlainRun es w) (sym rest) r))
+    (λ w r. subst (TellsRun (live_events (lines_of c.entries-3.result.now))) c.in-Err-Impossible.field-0-is c.in-Err-Impossible.ensures.err w (subst (λ es. PlainRun es w) (sym rest) r))
 
 pub returns-in-Ok-clause-ok : goal.returns-in-Ok-clause-ok
 returns-in-Ok-clause-ok c =
     let old = book_of c.args.self.now in
     let ev = c.args.events.now in
-    let ok : undo_refusal old.journal ev ≡ None = ap (λ (es : List Entry). undo_refusal (lines_of es) ev) (sym c.deref.ensures.value) ∙ c.in_ok-check_undo.ensures.ok in
+    let ok : undo_refusal old.journal ev ≡ None = ap (λ (es : List Entry). undo_refusal (lines_of es) ev) (sym c.entries.ensures) ∙ c.in_ok-check_undo.ensures.ok in
     let some : (length ev == 0) ≡ false = sym c.is_empty.ensures ∙ c.if-is_empty.false in
-    let lines = lines_of c.undo_entries.new.entries.items in
+    let lines = lines_of c.undo.new.self.entries.items in
     let new : Book = record { world = world_of c.in-Ok.world; journal = lines; next = c.args.self.now.next; redoable = c.in_ok-redoable.redoable.items } in
-    let rest : live_events (lines_of c.deref-3.result.now) ≡ rest_of ev old.journal = ap live_events (ap lines_of c.deref-3.ensures.value ∙ c.undo_entries.ensures) ∙ live_events-undone ev old.journal in
+    let rest : live_events (lines_of c.entries-3.result.now) ≡ rest_of ev old.journal = ap live_events (ap lines_of c.entries-3.ensures ∙ c.undo.ensures) ∙ live_events-undone ev old.journal in
     let u : Undoes ev old new = record {
       rest = subst (λ es. PlainRun es new.world) rest c.in-Ok.ensures.ok;
-      marked = c.undo_entries.ensures;
+      marked = c.undo.ensures;
       same_next = refl;
       redoable = c.in_ok-redoable.ensures.items ∙ sym (now_those ev old.redoable some);
     } in
-    (ok, u, c.count_of-count.ensures ∙ ap (λ (es : List Entry). length (filter (chosen ev) (lines_of es))) c.deref-2.ensures.value)
+    (ok, u, c.count_of-count.ensures ∙ ap (λ (es : List Entry). length (filter (chosen ev) (lines_of es))) c.entries-2.ensures)
 
 pub returns-in-Err-Memory-clause-unchanged : goal.returns-in-Err-Memory-clause-unchanged
 returns-in-Err-Memory-clause-unchanged c =
     let old = book_of c.args.self.now in
     let ev = c.args.events.now in
-    let ok : undo_refusal old.journal ev ≡ None = ap (λ (es : List Entry). undo_refusal (lines_of es) ev) (sym c.deref.ensures.value) ∙ c.in_ok-check_undo.ensures.ok in
-    let back = c.redo_entries.ensures ∙ ap (redone_in ev) c.undo_entries.ensures ∙ redone-undone old.journal ev ok in
+    let ok : undo_refusal old.journal ev ≡ None = ap (λ (es : List Entry). undo_refusal (lines_of es) ev) (sym c.entries.ensures) ∙ c.in_ok-check_undo.ensures.ok in
+    let back = c.redo.ensures ∙ ap (redone_in ev) c.undo.ensures ∙ redone-undone old.journal ev ok in
     λ i. record { world = old.world; journal = back i; next = old.next; redoable = old.redoable }
 
 pub invariant_of-self : goal.invariant_of-self
 invariant_of-self c =
     let old = book_of c.args.self.now in
     let ev = c.args.events.now in
-    let ok : undo_refusal old.journal ev ≡ None = ap (λ (es : List Entry). undo_refusal (lines_of es) ev) (sym c.deref.ensures.value) ∙ c.in_ok-check_undo.ensures.ok in
+    let ok : undo_refusal old.journal ev ≡ None = ap (λ (es : List Entry). undo_refusal (lines_of es) ev) (sym c.entries.ensures) ∙ c.in_ok-check_undo.ensures.ok in
     let some : (length ev == 0) ≡ false = sym c.is_empty.ensures ∙ c.if-is_empty.false in
-    let lines = lines_of c.undo_entries.new.entries.items in
+    let lines = lines_of c.undo.new.self.entries.items in
     let new : Book = record { world = world_of c.in-Ok.world; journal = lines; next = c.args.self.now.next; redoable = c.in_ok-redoable.redoable.items } in
-    let rest : live_events (lines_of c.deref-3.result.now) ≡ rest_of ev old.journal = ap live_events (ap lines_of c.deref-3.ensures.value ∙ c.undo_entries.ensures) ∙ live_events-undone ev old.journal in
+    let rest : live_events (lines_of c.entries-3.result.now) ≡ rest_of ev old.journal = ap live_events (ap lines_of c.entries-3.ensures ∙ c.undo.ensures) ∙ live_events-undone ev old.journal in
     let u : Undoes ev old new = record {
       rest = subst (λ es. PlainRun es new.world) rest c.in-Ok.ensures.ok;
-      marked = c.undo_entries.ensures;
+      marked = c.undo.ensures;
       same_next = refl;
       redoable = c.in_ok-redoable.ensures.items ∙ sym (now_those ev old.redoable some);
     } in
