@@ -4,7 +4,7 @@ use Rattle.kernele.specs.Scope.{name_of, names_of_all}
 use Rattle.kernele.specs.Free.{captures}
 use Rattle.kernele.specs.declared.tree.Pattern.{Pattern}
 use Rattle.code.specs.View.{tree_of_code, methods_of_codes}
-use Rattle.code.specs.Frames.{Frame, behind, after, all_placed, captured_names_of, fits, fits_row, fits_methods_row, fits_all, fits_methods}
+use Rattle.code.specs.Frames.{Frame, only_names, after, all_placed, captured_names_of, fits, fits_row, fits_methods_row, fits_all, fits_methods}
 use Rattle.code.proofs.Views.{methods_row}
 use Rattle.code.specs.declared.code.Capture.{Capture}
 use Rattle.code.specs.declared.code.Code as code
@@ -24,7 +24,7 @@ fits_of_row own frame xs = row_items own frame (code.TheBlock.hidden-the_row-Cod
 method_items : {n : _} (frame : Frame) (k : code.Row_of-MethodCode n) → fits_methods_row frame k ≡ fits_methods frame (code.items-the_row-MethodCode _ k)
 method_items frame code.end_of-MethodCode = refl
 method_items frame (code.more_of-MethodCode verb ps p shape body rest) =
-    λ i. (row_items false (behind false (names_of_all ps.value.items) frame) body ∙ ap (fits_all false (behind false (names_of_all ps.value.items) frame)) (sym (code.items_shown-the_row-Code-0 shape body))) i × method_items frame rest i
+    λ i. (row_items false (frame ++ only_names (names_of_all ps.value.items)) body ∙ ap (fits_all false (frame ++ only_names (names_of_all ps.value.items))) (sym (code.items_shown-the_row-Code-0 shape body))) i × method_items frame rest i
 
 fits_of_method_row : (frame : Frame) (xs : Vec MethodCode Global) → fits_methods_row frame (code.TheBlock.hidden-the_row-MethodCode-1 xs) ≡ fits_methods frame xs.items
 fits_of_method_row frame xs = method_items frame (code.TheBlock.hidden-the_row-MethodCode-1 xs) ∙ ap (fits_methods frame) (code.items_hidden-the_row-MethodCode-1 xs)
@@ -49,18 +49,18 @@ pub fits-While : (own : Bool) (frame : Frame) (c : Arc Code Global) (body : Arc 
 fits-While own frame c body = ap (λ A. fits own frame c.value × A) (fits_of_row false (after own (tree_of_code c.value) frame) body.value)
 
 pub fits-For : (own : Bool) (frame : Frame) (p : Pattern) (e : Arc Code Global) (body : Arc (Vec Code Global) Global)
-    → fits own frame (code.For p e body) ≡ (fits own frame e.value × fits_all false (behind false (name_of p) (after own (tree_of_code e.value) frame)) body.value.items)
-fits-For own frame p e body = ap (λ A. fits own frame e.value × A) (fits_of_row false (behind false (name_of p) (after own (tree_of_code e.value) frame)) body.value)
+    → fits own frame (code.For p e body) ≡ (fits own frame e.value × fits_all false (after own (tree_of_code e.value) frame ++ only_names (name_of p)) body.value.items)
+fits-For own frame p e body = ap (λ A. fits own frame e.value × A) (fits_of_row false (after own (tree_of_code e.value) frame ++ only_names (name_of p)) body.value)
 
 pub fits-Try : (own : Bool) (frame : Frame) (body : Arc (Vec Code Global) Global) (p : Pattern) (handler : Arc (Vec Code Global) Global)
-    → fits own frame (code.Try body p handler) ≡ (fits_all false frame body.value.items × fits_all false (behind false (name_of p) frame) handler.value.items)
-fits-Try own frame body p handler = λ i. fits_of_row false frame body.value i × fits_of_row false (behind false (name_of p) frame) handler.value i
+    → fits own frame (code.Try body p handler) ≡ (fits_all false frame body.value.items × fits_all false (frame ++ only_names (name_of p)) handler.value.items)
+fits-Try own frame body p handler = λ i. fits_of_row false frame body.value i × fits_of_row false (frame ++ only_names (name_of p)) handler.value i
 
 pub fits-Object : (own : Bool) (frame : Frame) (p : Pattern) (captured : Arc (Vec Capture Global) Global) (ms : Arc (Vec MethodCode Global) Global)
     → fits own frame (code.Object p captured ms)
-    ≡ ((captured_names_of captured.value.items ≡ captures p (methods_of_codes ms.value.items)) × all_placed frame captured.value.items × fits_methods (behind false (name_of p) (captured_names_of captured.value.items)) ms.value.items)
+    ≡ ((captured_names_of captured.value.items ≡ captures p (methods_of_codes ms.value.items)) × all_placed frame captured.value.items × fits_methods (captured_names_of captured.value.items ++ only_names (name_of p)) ms.value.items)
 fits-Object own frame p captured ms =
-    λ i. (captured_names_of captured.value.items ≡ captures p (methods_row ms.value i)) × all_placed frame captured.value.items × fits_of_method_row (behind false (name_of p) (captured_names_of captured.value.items)) ms.value i
+    λ i. (captured_names_of captured.value.items ≡ captures p (methods_row ms.value i)) × all_placed frame captured.value.items × fits_of_method_row (captured_names_of captured.value.items ++ only_names (name_of p)) ms.value i
 
 pub fits-Escape : (own : Bool) (frame : Frame) (x : List ℕ) (body : Arc (Vec Code Global) Global) → fits own frame (code.Escape x body) ≡ fits_all false (frame ++ x ∷ []) body.value.items
 fits-Escape own frame x body = fits_of_row false (frame ++ x ∷ []) body.value

@@ -17,19 +17,23 @@ use Rattle.code.specs.View.{tree_of_code, methods_of_code_row}
 abbrev pub Frame : Type 0
 Frame = List Name
 
--- the frame behind these definitions: in the script's own scope a name that is defined goes to the vat's top nouns and the frame
--- stays, elsewhere it is the frame's newest name
-abbrev pub behind : Bool → List TopName → Frame → Frame
-behind true ts frame = frame
-behind false ts frame = frame ++ map (λ t. t.name) ts
+-- the names of definitions, whatever they define them as
+abbrev pub only_names : List TopName → List Name
+only_names ts = map (λ t. t.name) ts
+
+-- the frame behind definitions of these names: in the script's own scope a name that is defined goes to the vat's top nouns and the
+-- frame stays, elsewhere it is the frame's newest name
+abbrev pub behind : Bool → List Name → Frame → Frame
+behind true xs frame = frame
+behind false xs frame = frame ++ xs
 
 -- the frame behind a tree that gave a value
 abbrev pub after : Bool → Tree → Frame → Frame
-after own t frame = behind own (own_names t) frame
+after own t frame = behind own (only_names (own_names t)) frame
 
 -- the same of trees in order
 abbrev pub after_in : Bool → Trees → Frame → Frame
-after_in own ts frame = behind own (own_names_in ts) frame
+after_in own ts frame = behind own (only_names (own_names_in ts)) frame
 
 -- a newer name of this spelling is at its position, counted from behind the oldest; else the oldest is, where it is the one
 abbrev pub or_oldest : Option ℕ → Bool → Option ℕ
@@ -80,13 +84,13 @@ abbrev mutual
   fits own frame (code.Hide' p shape body) = fits_row false frame body
   fits own frame (code.If' p c q shape first r shape2 second) = fits own frame c × fits_row false (after own (tree_of_code c) frame) first × fits_row false (after own (tree_of_code c) frame) second
   fits own frame (code.While' p c q shape body) = fits own frame c × fits_row false (after own (tree_of_code c) frame) body
-  fits own frame (code.For' pattern p e q shape body) = fits own frame e × fits_row false (behind false (name_of pattern) (after own (tree_of_code e) frame)) body
-  fits own frame (code.Try' p shape body pattern q shape2 handler) = fits_row false frame body × fits_row false (behind false (name_of pattern) frame) handler
+  fits own frame (code.For' pattern p e q shape body) = fits own frame e × fits_row false (after own (tree_of_code e) frame ++ only_names (name_of pattern)) body
+  fits own frame (code.Try' p shape body pattern q shape2 handler) = fits_row false frame body × fits_row false (frame ++ only_names (name_of pattern)) handler
   fits own frame (code.Throw' p e) = fits own frame e
   -- a method begins with the names that the object captured, the object's own name, and its parameters
   fits own frame (code.Object' pattern captured p shape ms) =
       (captured_names_of captured.value.items ≡ captures pattern (methods_of_code_row ms)) × all_placed frame captured.value.items
-      × fits_methods_row (behind false (name_of pattern) (captured_names_of captured.value.items)) ms
+      × fits_methods_row (captured_names_of captured.value.items ++ only_names (name_of pattern)) ms
   fits own frame (code.Escape' x p shape body) = fits_row false (frame ++ x ∷ []) body
 
   pub fits_row : {n : _} → Bool → Frame → code.Row_of-Code n → Type 0
@@ -95,7 +99,7 @@ abbrev mutual
 
   pub fits_methods_row : {n : _} → Frame → code.Row_of-MethodCode n → Type 0
   fits_methods_row frame code.end_of-MethodCode = Unit {0}
-  fits_methods_row frame (code.more_of-MethodCode verb ps p shape body rest) = fits_row false (behind false (names_of_all ps.value.items) frame) body × fits_methods_row frame rest
+  fits_methods_row frame (code.more_of-MethodCode verb ps p shape body rest) = fits_row false (frame ++ only_names (names_of_all ps.value.items)) body × fits_methods_row frame rest
 
 -- code in order: each item in the frame behind those before it
 abbrev pub fits_all : Bool → Frame → List Code → Type 0
@@ -105,4 +109,4 @@ fits_all own frame (e ∷ es) = fits own frame e × fits_all own (after own (tre
 -- the methods of an object, whose bodies begin with these names and the method's parameters
 abbrev pub fits_methods : Frame → List MethodCode → Type 0
 fits_methods frame [] = Unit {0}
-fits_methods frame (m ∷ ms) = fits_all false (behind false (names_of_all m.parameters.value.items) frame) m.body.value.items × fits_methods frame ms
+fits_methods frame (m ∷ ms) = fits_all false (frame ++ only_names (names_of_all m.parameters.value.items)) m.body.value.items × fits_methods frame ms
