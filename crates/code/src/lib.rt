@@ -1,4 +1,5 @@
-//! Programs whose names are resolved: each noun has its position in the frame where it is evaluated.
+//! Programs.
 #![tactic(auto)]
 
 pub mod code;
+mod frame;
