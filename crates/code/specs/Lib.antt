@@ -1,0 +1,4 @@
+pub mod View
+pub mod Frames
+pub mod Resolves
+pub mod Props

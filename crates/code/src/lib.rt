@@ -1,0 +1,8 @@
+//! Programs whose names are resolved: each noun has its position in the frame where it is evaluated.
+#![tactic(auto)]
+
+pub mod code;
+mod frame;
+mod resolving;
+
+pub use resolving::{Resolved, resolve};
