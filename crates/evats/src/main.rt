@@ -16,6 +16,8 @@ mod tests;
 #[cfg(test)]
 mod tests_of_control;
 #[cfg(test)]
+mod tests_of_depth;
+#[cfg(test)]
 mod tests_of_objects;
 #[cfg(test)]
 mod tests_of_scopes;

@@ -1,7 +1,6 @@
 // Asked texts with blocks, conditions, loops and problems, and what their authors are promised.
 
-use crate::replies_of;
-use crate::tests::{copies, expect_refusals, expect_turns, limits};
+use crate::tests::{expect_refusals, expect_turns};
 use std::test::Fail;
 
 #[test]
@@ -119,27 +118,4 @@ fn refused_blocks(rt: HostRuntime) -> Result<(), Fail> {
             ("{ 1", "no L5 Unexpected 3"),
         ],
     )
-}
-
-/// A loop over each list of a loop, or a condition behind each `else`, as deep as the tokens of a text allow: the texts
-/// are read, and the trees are too deep.
-#[test]
-fn nests_without_brackets(rt: HostRuntime) -> Result<(), Fail> {
-    let loops = format!(in rt.alloc();
-        "ask a {}[]{}\n",
-        copies(&rt, "for a in ", 3276)?,
-        copies(&rt, "{}", 3276)?
-    )?;
-    let open = format!(in rt.alloc(); "ask a {}\n", copies(&rt, "for a in ", 5461)?)?;
-    let choices = format!(in rt.alloc();
-        "ask a {}{{}}\n",
-        copies(&rt, "if (true) {} else ", 2300)?
-    )?;
-    let commands = format!(in rt.alloc(); "vat a () 0\n{loops}{open}{choices}")?;
-    let wanted = "ok e1 e1.m0\nno K4 TooDeep\nno L5 Unexpected 49149\nno K4 TooDeep\n";
-    match replies_of(&rt, commands.into_bytes(), limits(10_000)) {
-        Ok((written, _)) => assert_eq!(rt; str::from_utf8(&written), Ok(wanted)),
-        Err(fault) => assert!(rt; false, "{fault}"),
-    }
-    Ok(())
 }

@@ -1,7 +1,6 @@
 // Asked texts with objects, methods and escapes, and what their authors are promised.
 
-use crate::replies_of;
-use crate::tests::{expect, expect_refusals, expect_turns, limits};
+use crate::tests::{expect, expect_refusals, expect_turns};
 use std::test::Fail;
 
 #[test]
@@ -235,22 +234,6 @@ fn problems_of_calls(rt: HostRuntime) -> Result<(), Fail> {
             ("while (true) { def _ { } }", "abandoned \"turn too large\""),
         ],
     )
-}
-
-/// The calls of a turn nest on the stack on which the program answers commands.
-#[test]
-fn calls_without_end(rt: HostRuntime) -> Result<(), Fail> {
-    let commands = String::from_str(
-        rt.alloc(),
-        "vat a () 1\ndef f() { f() }\nturn e1.m0\nask a f()\nturn e3.m0\n",
-    )?;
-    let wanted =
-        "ok e1 e1.m0\nok e2 value <e2.o0>\nok e3 e3.m0\nok e4 abandoned \"calls too deep\"\n";
-    match replies_of(&rt, commands.into_bytes(), limits(10_000)) {
-        Ok((written, _)) => assert_eq!(rt; str::from_utf8(&written), Ok(wanted)),
-        Err(fault) => assert!(rt; false, "{fault}"),
-    }
-    Ok(())
 }
 
 #[test]

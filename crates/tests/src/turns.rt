@@ -2,13 +2,13 @@
 
 use crate::tables::expect_turns;
 use ereader::read;
+use heap::state::{Binding, VatState};
 use ids::names::{EventName, MsgId, VatNo};
 use ids::text::Text;
 use kernele::tree::Program;
 use std::alloc::{AllocError, Global};
 use std::test::Fail;
 use turn::delivery::{Delivery, Ended, Outcome};
-use heap::state::{Binding, VatState};
 use turn::ticket::{Out, Ticket};
 use values::showing::show;
 use values::value::Value;
@@ -29,7 +29,7 @@ fn program(alloc: Global, text: &str) -> Result<Program, AllocError> {
     }
 }
 
-/// Runs a turn by a ticket, with a budget of 1,000 steps.
+/// Runs a turn by a ticket, with a budget of 2,000 steps.
 fn run(state: VatState, event: u64, delivery: Delivery) -> Result<Outcome, AllocError> {
     let ticket = Ticket::new(Out {
         event: EventName(event),
@@ -40,7 +40,7 @@ fn run(state: VatState, event: u64, delivery: Delivery) -> Result<Outcome, Alloc
         vat: ALICE,
         state,
         delivery,
-        budget: 1000,
+        budget: 2000,
     });
     match ticket.run() {
         Ok(ran) => Ok(ran.into_parts().outcome),
@@ -216,5 +216,31 @@ fn what_turns_bind(rt: HostRuntime) -> Result<(), Fail> {
         &rt,
         &vat,
         &[("def z := y; z", "[1, 2]"), ("z", "!undefined noun z")],
+    )
+}
+
+/// The longest text, the longest list and the deepest list, and one more of each.
+#[test]
+fn limits_of_values(rt: HostRuntime) -> Result<(), Fail> {
+    let script =
+        "var t := \"\"; var l := []; var i := 0; while (i < 16) { t := t + t + \"a\"; l := l + l + [0]; i := i + 1 }; var n := null; i := 0; while (i < 64) { n := [n]; i := i + 1 }";
+    let vat = after_script(rt.alloc(), script)?;
+    expect_turns(
+        &rt,
+        &vat,
+        &[
+            ("t.size()", "65535"),
+            ("t + \"a\"", "!value too large"),
+            ("[t]", "!value too large"),
+            ("[].with(t)", "!value too large"),
+            ("l.size()", "65535"),
+            ("l[65534]", "0"),
+            ("l[65535]", "!index out of range"),
+            ("l.with(0)", "!value too large"),
+            ("l + l", "!value too large"),
+            ("[n]", "!value too large"),
+            ("[].with(n)", "!value too large"),
+            ("n[0] == n", "false"),
+        ],
     )
 }
