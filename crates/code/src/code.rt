@@ -1,0 +1,64 @@
+// Trees of the language whose names are resolved.
+
+use ids::text::Text;
+use kernele::tree::Pattern;
+use std::sync::Arc;
+
+/// Where what a name stands for is found.
+#[derive(Clone, Copy, Debug, PartialEq, Eq)]
+pub enum Place {
+    /// At this position in the frame, counted from its oldest name.
+    Frame(usize),
+    /// Outside the frame: among the vat's top nouns.
+    Top,
+}
+
+/// A name that an object captures, and where it is found when the object is made.
+#[derive(Drop)]
+pub struct Capture {
+    pub name: Text,
+    pub place: Place,
+}
+
+/// An expression whose names are resolved.
+#[cycle(code)]
+#[derive(Drop)]
+pub enum Code {
+    Null,
+    Bool(bool),
+    Int(i64),
+    Text(Text),
+    Noun(Text, Place),
+    Def(Pattern, Arc<Code>),
+    Var(Text, Arc<Code>),
+    /// The name is looked up behind the right side.
+    Assign(Text, Place, Arc<Code>),
+    Call(Arc<Code>, Text, Arc<Vec<Code>>),
+    List(Arc<Vec<Code>>),
+    Same(Arc<Code>, Arc<Code>),
+    /// Names for the items of a list.
+    DefList(Arc<Vec<Pattern>>, Arc<Code>),
+    /// A block in braces, with a scope of its own.
+    Hide(Arc<Vec<Code>>),
+    /// A condition, and a block for each of its answers.
+    If(Arc<Code>, Arc<Vec<Code>>, Arc<Vec<Code>>),
+    While(Arc<Code>, Arc<Vec<Code>>),
+    /// What each item of a list is bound to, the list, and the body.
+    For(Pattern, Arc<Code>, Arc<Vec<Code>>),
+    /// A body, what its problem is bound to, and the handler.
+    Try(Arc<Vec<Code>>, Pattern, Arc<Vec<Code>>),
+    Throw(Arc<Code>),
+    /// What the object is bound to, what it captures, and its methods.
+    Object(Pattern, Arc<Vec<Capture>>, Arc<Vec<MethodCode>>),
+    /// The name of the ejector, and the block that it ends.
+    Escape(Text, Arc<Vec<Code>>),
+}
+
+/// What an object does when it is called by this verb with as many arguments as there are parameters.
+#[cycle(code)]
+#[derive(Drop)]
+pub struct MethodCode {
+    pub verb: Text,
+    pub parameters: Arc<Vec<Pattern>>,
+    pub body: Arc<Vec<Code>>,
+}

@@ -1,0 +1,4 @@
+//! Programs whose names are resolved: each noun has its position in the frame where it is evaluated.
+#![tactic(auto)]
+
+pub mod code;
