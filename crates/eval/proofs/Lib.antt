@@ -1,3 +1,4 @@
+pub mod Added
 pub mod Captures
 pub mod Determined
 pub mod Ejections
