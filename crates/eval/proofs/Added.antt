@@ -3,7 +3,7 @@ use Rattle.std.proofs.Common.{◌≡◌, ℕ, List, [], ◌∷◌, ◌++◌, Boo
 use Rattle.std.proofs.lemmas.List.{map-append}
 use Rattle.ids.specs.declared.names.SlotId.{SlotId}
 use Rattle.kernele.specs.Tree.{Name, Tree, Trees, Methods}
-use Rattle.kernele.specs.Scope.{variable_name, name_of, names_of_all, own_names, own_names_in}
+use Rattle.kernele.specs.Scope.{defined_name, variable_name, name_of, names_of_all, own_names, own_names_in}
 use Rattle.kernele.specs.declared.naming.TopName.{TopName}
 use Rattle.kernele.specs.declared.tree.Pattern.{Pattern}
 use Rattle.kernele.specs.declared.tree.Pattern.TheVariants as pattern
@@ -13,7 +13,7 @@ use Rattle.values.specs.Replies.{items_in, list_reply, text_in}
 use Rattle.heap.specs.State.{Bind, fixed, slot, Nouns, Object, State, frame_of}
 use Rattle.eval.specs.At.{At}
 use Rattle.eval.specs.Outcomes.{Halt, End, value, halt, Gather, values, halted, reply_end}
-use Rattle.eval.specs.Rules.{Listing, listed, unlisted, listing_by, listing_of, taken, parts_of, parts_bound, parts_end, mismatch, as_many, again, bound_in, matched, matched_all, defined, next_slot, has_room, slot_made, variable_made, variable_end, declared, declared_end, assigned, assigned_end, Capture, captured, missing, capture_of, next_object, has_object_room, object_made, placed, placed_end, with_object, object_end, leaving, escaped, sought_slot, sought, noun_end}
+use Rattle.eval.specs.Rules.{begun, Listing, listed, unlisted, listing_by, listing_of, taken, parts_of, parts_bound, parts_end, mismatch, as_many, again, bound_in, matched, matched_all, defined, next_slot, has_room, slot_made, variable_made, variable_end, declared, declared_end, assigned, assigned_end, Capture, captured, missing, capture_of, next_object, has_object_room, object_made, placed, placed_end, with_object, object_end, leaving, escaped, sought_slot, sought, noun_end}
 use Rattle.eval.specs.Rules.{Target, gives, enters, callee_of, callee_target, target_of, list_end, same_end, Choice, goes, ends, bool_in, choice_by, choice_of, thrown_by, thrown_end, caught, next_ejector, escape_end}
 use Rattle.eval.specs.Rules.{Ends, at_budget, at_depth, at_node, Runs, run_null, run_bool, run_int, run_text, run_noun, run_define, run_variable, run_assign, run_call_receiver, run_call_gives, run_call_enters, run_list, run_same_left, run_same, run_define_list, run_hide, run_throw, run_if_goes, run_if_ends, run_while_again, run_while_halts, run_while_done, run_while_ends, run_for, run_for_ends, run_try, run_try_caught, run_object, run_escape, Args, args_none, args_next, args_halt, Items, items_none, items_next, items_halt, Block, in_block, Taking, in_taking, Each, each_none, each_next, each_halt}
 
@@ -96,7 +96,7 @@ bound_adds true t b a e = (sym (ap (λ own. behind own (t.name ∷ []) (frame_of
 bound_adds false t b a e = (sym (ap (λ own. behind own (t.name ∷ []) (frame_of a.nouns)) e), refl)
 
 matched_adds : (p : Pattern) (v : Val) (a : At) → Adds (name_of p) a (matched p v a)
-matched_adds (pattern.Name x) v a = bound_adds a.own_scope _ (fixed v) a refl
+matched_adds (pattern.Name x) v a = bound_adds a.own_scope (defined_name x) (fixed v) a refl
 matched_adds pattern.Ignore v a = adds_none a a refl refl
 
 all_adds : (ps : List Pattern) (vs : Vals) (a : At) → as_many ps vs ≡ true → Adds (names_of_all ps) a (matched_all ps vs a)
@@ -193,7 +193,7 @@ mutual
   pub ends_add : {k : ℕ} {t : Tree} {a b : At} {o : End} → Ends k t a o b → EndAdds o (own_names t) a b
   ends_add (at_budget h) = tt
   ends_add (at_depth h g) = tt
-  ends_add (at_node h g r) = runs_add r
+  ends_add {t = t} {a = a} {b = b} {o = o} (at_node h g r) = begun_adds o (own_names t) a (begun a) b refl refl (runs_add r)
 
   pub runs_add : {k : ℕ} {t : Tree} {a b : At} {o : End} → Runs k t a o b → EndAdds o (own_names t) a b
   runs_add {a = a} {o = o} run_null = stays o a a refl refl
@@ -243,3 +243,10 @@ mutual
   args_add (args_next {t = t} {ts = ts} {a = a} {b = b} {c = c} {g = values vs} r u) = adds_both (own_names t) (own_names_in ts) a b c (ends_add r) (args_add u)
   args_add (args_next {g = halted h} r u) = tt
   args_add (args_halt r) = tt
+
+-- a condition that chose has given a value, and so has a list that is gone over
+pub goes_add : {k : ℕ} {t : Tree} {a b : At} {o : End} {q : Bool} → Ends k t a o b → choice_of o ≡ goes q → Adds (own_names t) a b
+goes_add {t = t} {a = a} {b = b} {o = o} r e = subst (λ c. ChoiceAdds c (own_names t) a b) e (choice_adds o (own_names t) a b (ends_add r))
+
+pub lists_add : {k : ℕ} {t : Tree} {a b : At} {o : End} {vs : Vals} → Ends k t a o b → listing_of o ≡ listed vs → Adds (own_names t) a b
+lists_add {t = t} {a = a} {b = b} {o = o} r e = subst (λ l. ListingAdds l (own_names t) a b) e (listing_adds o (own_names t) a b (ends_add r))

@@ -1,7 +1,7 @@
 use Rattle.std.proofs.Common.{rules, arith, ap, ◌∙◌, refl, sym, length}
 use Rattle.std.proofs.lemmas.Result.{IfOk-weaker}
-use Rattle.kernele.specs.View.{tree_of, trees_of}
-use Rattle.kernele.proofs.Views.{tree_of-Call, tree_of-List, tree_of-Hide, tree_of-If, tree_of-While, tree_of-For, tree_of-Try, tree_of-Object, tree_of-Escape}
+use Rattle.code.specs.View.{tree_of_code, trees_of_codes}
+use Rattle.code.proofs.Views.{tree_of_code-Call, tree_of_code-List, tree_of_code-Hide, tree_of_code-If, tree_of_code-While, tree_of_code-For, tree_of_code-Try, tree_of_code-Object, tree_of_code-Escape}
 use Rattle.kernele.specs.declared.tree.Pattern.TheVariants as pattern
 use Rattle.values.specs.View.{val_of}
 use Rattle.eval.specs.View.{at, end_of, choice_view, listing_view, target_view}
@@ -20,37 +20,37 @@ pub eval::eval-returns-then-level-gt-DEEPEST : goal.eval::eval-returns-then-leve
 eval::eval-returns-then-level-gt-DEEPEST t c = at_depth (omega arith) c.if-level-gt-DEEPEST.true
 
 pub eval::eval-returns-in-Null : goal.eval::eval-returns-in-Null
-eval::eval-returns-in-Null t c = node _ (ap tree_of c.in-Null.is) run_null (omega arith) c.if-level-gt-DEEPEST.false
+eval::eval-returns-in-Null t c = node _ (ap tree_of_code c.in-Null.is) run_null (omega arith) c.if-level-gt-DEEPEST.false
 
 pub eval::eval-returns-in-Bool : goal.eval::eval-returns-in-Bool
-eval::eval-returns-in-Bool t c = node _ (ap tree_of c.in-Bool.is) run_bool (omega arith) c.if-level-gt-DEEPEST.false
+eval::eval-returns-in-Bool t c = node _ (ap tree_of_code c.in-Bool.is) run_bool (omega arith) c.if-level-gt-DEEPEST.false
 
 pub eval::eval-returns-in-Int : goal.eval::eval-returns-in-Int
-eval::eval-returns-in-Int t c = node _ (ap tree_of c.in-Int.is) (runs_as run_int (search rules)) (omega arith) c.if-level-gt-DEEPEST.false
+eval::eval-returns-in-Int t c = node _ (ap tree_of_code c.in-Int.is) (runs_as run_int (search rules)) (omega arith) c.if-level-gt-DEEPEST.false
 
 pub eval::eval-returns-in-Text : goal.eval::eval-returns-in-Text
-eval::eval-returns-in-Text t c = IfOk-weaker _ _ _ (λ o h. node _ {a = at c.args.w.now} (ap tree_of c.in-Text.is) (runs_as run_text h) (omega arith) c.if-level-gt-DEEPEST.false) c.text_end.ensures
+eval::eval-returns-in-Text t c = IfOk-weaker _ _ _ (λ o h. node _ {a = at c.args.w.now} (ap tree_of_code c.in-Text.is) (runs_as run_text h) (omega arith) c.if-level-gt-DEEPEST.false) c.text_end.ensures
 
 pub eval::eval-returns-in-Noun : goal.eval::eval-returns-in-Noun
-eval::eval-returns-in-Noun t c = IfOk-weaker _ _ _ (λ o h. node _ {a = at c.args.w.now} (ap tree_of c.in-Noun.is) (runs_as run_noun h) (omega arith) c.if-level-gt-DEEPEST.false) c.noun_end.ensures
+eval::eval-returns-in-Noun t c = IfOk-weaker _ _ _ (λ o h. node _ {a = at c.args.w.now} (ap tree_of_code c.in-Noun.is) (runs_as run_noun h) (omega arith) c.if-level-gt-DEEPEST.false) c.noun_end.ensures
 
 pub eval::eval-returns-in-Def : goal.eval::eval-returns-in-Def
-eval::eval-returns-in-Def t c = IfOk-weaker _ _ _ (λ o h. node _ (ap tree_of c.in-Def.is) h (omega arith) c.if-level-gt-DEEPEST.false) c.eval_def.ensures
+eval::eval-returns-in-Def t c = IfOk-weaker _ _ _ (λ o h. node _ (ap tree_of_code c.in-Def.is) h (omega arith) c.if-level-gt-DEEPEST.false) c.eval_def.ensures
 
 pub eval::eval-returns-in-Var : goal.eval::eval-returns-in-Var
-eval::eval-returns-in-Var t c = IfOk-weaker _ _ _ (λ o h. node _ (ap tree_of c.in-Var.is) h (omega arith) c.if-level-gt-DEEPEST.false) c.eval_var.ensures
+eval::eval-returns-in-Var t c = IfOk-weaker _ _ _ (λ o h. node _ (ap tree_of_code c.in-Var.is) h (omega arith) c.if-level-gt-DEEPEST.false) c.eval_var.ensures
 
 pub eval::eval-returns-in-Assign : goal.eval::eval-returns-in-Assign
-eval::eval-returns-in-Assign t c = IfOk-weaker _ _ _ (λ o h. node _ (ap tree_of c.in-Assign.is) h (omega arith) c.if-level-gt-DEEPEST.false) c.eval_assign.ensures
+eval::eval-returns-in-Assign t c = IfOk-weaker _ _ _ (λ o h. node _ (ap tree_of_code c.in-Assign.is) h (omega arith) c.if-level-gt-DEEPEST.false) c.eval_assign.ensures
 
 pub eval::eval-returns-in-Call : goal.eval::eval-returns-in-Call
-eval::eval-returns-in-Call t c = IfOk-weaker _ _ _ (λ o h. node _ (ap tree_of c.in-Call.is ∙ tree_of-Call c.in-Call.receiver c.in-Call.verb c.in-Call.args) h (omega arith) c.if-level-gt-DEEPEST.false) c.eval_call.ensures
+eval::eval-returns-in-Call t c = IfOk-weaker _ _ _ (λ o h. node _ (ap tree_of_code c.in-Call.is ∙ tree_of_code-Call c.in-Call.receiver c.in-Call.verb c.in-Call.args) h (omega arith) c.if-level-gt-DEEPEST.false) c.eval_call.ensures
 
 pub eval::eval-returns-in-List : goal.eval::eval-returns-in-List
-eval::eval-returns-in-List t c = IfOk-weaker _ _ _ (λ o h. node _ (ap tree_of c.in-List.is ∙ tree_of-List c.in-List.items) h (omega arith) c.if-level-gt-DEEPEST.false) c.eval_list.ensures
+eval::eval-returns-in-List t c = IfOk-weaker _ _ _ (λ o h. node _ (ap tree_of_code c.in-List.is ∙ tree_of_code-List c.in-List.items) h (omega arith) c.if-level-gt-DEEPEST.false) c.eval_list.ensures
 
 pub eval::eval-returns-in-Same : goal.eval::eval-returns-in-Same
-eval::eval-returns-in-Same t c = IfOk-weaker _ _ _ (λ o h. node _ (ap tree_of c.in-Same.is) h (omega arith) c.if-level-gt-DEEPEST.false) c.eval_same.ensures
+eval::eval-returns-in-Same t c = IfOk-weaker _ _ _ (λ o h. node _ (ap tree_of_code c.in-Same.is) h (omega arith) c.if-level-gt-DEEPEST.false) c.eval_same.ensures
 
 pub eval::eval_def-returns : goal.eval::eval_def-returns
 eval::eval_def-returns t c = rw c.in_ok-match_pattern.ensures (run_define (child c.deref.ensures c.in-Value.is c.in_ok-value.ensures))
@@ -97,18 +97,18 @@ calling::eval_call-returns-in_ok-end-in-Enters t c =
     c.in_ok-end-in-Enters.ensures
 
 pub calling::eval_method-returns : goal.calling::eval_method-returns
-calling::eval_method-returns t c = entered (ap trees_of (slice_of c.deref-2.ensures.value c.deref.ensures)) _ c.args.w.now c.eval_items.new.w (ap (λ v. v.items) c.enter_method-caller.ensures.names) c.enter_method-caller.ensures.own c.enter_method-caller.ensures.place c.in_ok-end.ensures c.leave_method.ensures
+calling::eval_method-returns t c = entered (ap trees_of_codes (slice_of c.deref-2.ensures.value c.deref.ensures)) _ c.args.w.now c.eval_items.new.w (ap (λ v. v.items) c.enter_method-caller.ensures.names) c.enter_method-caller.ensures.own c.enter_method-caller.ensures.place c.in_ok-end.ensures c.leave_method.ensures
 
 pub calling::eval_escape-returns : goal.calling::eval_escape-returns
 calling::eval_escape-returns t c =
     IfOk-weaker c.escape_end.result _ _ (λ o h. escape_over c.args.name.now _ c.args.w.now c.eval_taking.new.w c.count_open-outer.ensures c.in_ok-ejector.ensures.named c.in_ok-ejector.ensures.place (ap pattern.Name c.in_ok-share.ensures)
-    (ap trees_of (slice_of c.deref-2.ensures.value c.deref.ensures)) c.in_ok-ended.ensures c.close_escape.ensures h) c.escape_end.ensures
+    (ap trees_of_codes (slice_of c.deref-2.ensures.value c.deref.ensures)) c.in_ok-ended.ensures c.close_escape.ensures h) c.escape_end.ensures
 
 pub eval::eval-returns-in-Object : goal.eval::eval-returns-in-Object
-eval::eval-returns-in-Object t c = if_both _ _ _ _ (λ o h g. node _ {a = at c.args.w.now} (ap tree_of c.in-Object.is ∙ tree_of-Object c.in-Object.pattern c.in-Object.methods) (runs_to run_object h g) (omega arith) c.if-level-gt-DEEPEST.false) c.define_object.ensures.ends c.define_object.ensures.makes
+eval::eval-returns-in-Object t c = if_both _ _ _ _ (λ o h g. node _ {a = at c.args.w.now} (ap tree_of_code c.in-Object.is ∙ tree_of_code-Object c.in-Object.pattern c.in-Object.captures c.in-Object.methods) (runs_to run_object h g) (omega arith) c.if-level-gt-DEEPEST.false) c.define_object.ensures.ends c.define_object.ensures.makes
 
 pub eval::eval-returns-in-Escape : goal.eval::eval-returns-in-Escape
-eval::eval-returns-in-Escape t c = IfOk-weaker _ _ _ (λ o h. node _ (ap tree_of c.in-Escape.is ∙ tree_of-Escape c.in-Escape.name c.in-Escape.body) h (omega arith) c.if-level-gt-DEEPEST.false) c.eval_escape.ensures
+eval::eval-returns-in-Escape t c = IfOk-weaker _ _ _ (λ o h. node _ (ap tree_of_code c.in-Escape.is ∙ tree_of_code-Escape c.in-Escape.name c.in-Escape.body) h (omega arith) c.if-level-gt-DEEPEST.false) c.eval_escape.ensures
 
 pub eval::eval_same-returns-in-Halt : goal.eval::eval_same-returns-in-Halt
 eval::eval_same-returns-in-Halt t c = run_same_left (child c.deref.ensures c.in-Halt.is c.in_ok-value.ensures)
@@ -120,25 +120,25 @@ pub eval::eval_same-returns : goal.eval::eval_same-returns
 eval::eval_same-returns t c = runs_as (run_same (child c.deref.ensures c.in-Value.is c.in_ok-value.ensures) (child c.deref-2.ensures c.in-Value-2.is c.in_ok-value-2.ensures)) (search rules)
 
 pub eval::eval-returns-in-DefList : goal.eval::eval-returns-in-DefList
-eval::eval-returns-in-DefList t c = IfOk-weaker _ _ _ (λ o h. node _ (ap tree_of c.in-DefList.is) h (omega arith) c.if-level-gt-DEEPEST.false) c.eval_def_list.ensures
+eval::eval-returns-in-DefList t c = IfOk-weaker _ _ _ (λ o h. node _ (ap tree_of_code c.in-DefList.is) h (omega arith) c.if-level-gt-DEEPEST.false) c.eval_def_list.ensures
 
 pub eval::eval-returns-in-Hide : goal.eval::eval-returns-in-Hide
-eval::eval-returns-in-Hide t c = IfOk-weaker _ _ _ (λ o h. node _ (ap tree_of c.in-Hide.is ∙ tree_of-Hide c.in-Hide.body) h (omega arith) c.if-level-gt-DEEPEST.false) c.eval_hide.ensures
+eval::eval-returns-in-Hide t c = IfOk-weaker _ _ _ (λ o h. node _ (ap tree_of_code c.in-Hide.is ∙ tree_of_code-Hide c.in-Hide.body) h (omega arith) c.if-level-gt-DEEPEST.false) c.eval_hide.ensures
 
 pub eval::eval-returns-in-If : goal.eval::eval-returns-in-If
-eval::eval-returns-in-If t c = IfOk-weaker _ _ _ (λ o h. node _ (ap tree_of c.in-If.is ∙ tree_of-If c.in-If.condition c.in-If.first c.in-If.second) h (omega arith) c.if-level-gt-DEEPEST.false) c.eval_if.ensures
+eval::eval-returns-in-If t c = IfOk-weaker _ _ _ (λ o h. node _ (ap tree_of_code c.in-If.is ∙ tree_of_code-If c.in-If.condition c.in-If.first c.in-If.second) h (omega arith) c.if-level-gt-DEEPEST.false) c.eval_if.ensures
 
 pub eval::eval-returns-in-While : goal.eval::eval-returns-in-While
-eval::eval-returns-in-While t c = IfOk-weaker _ _ _ (λ o h. node _ (ap tree_of c.in-While.is ∙ tree_of-While c.in-While.condition c.in-While.body) h (omega arith) c.if-level-gt-DEEPEST.false) c.eval_while.ensures
+eval::eval-returns-in-While t c = IfOk-weaker _ _ _ (λ o h. node _ (ap tree_of_code c.in-While.is ∙ tree_of_code-While c.in-While.condition c.in-While.body) h (omega arith) c.if-level-gt-DEEPEST.false) c.eval_while.ensures
 
 pub eval::eval-returns-in-For : goal.eval::eval-returns-in-For
-eval::eval-returns-in-For t c = IfOk-weaker _ _ _ (λ o h. node _ (ap tree_of c.in-For.is ∙ tree_of-For c.in-For.pattern c.in-For.list c.in-For.body) h (omega arith) c.if-level-gt-DEEPEST.false) c.eval_for.ensures
+eval::eval-returns-in-For t c = IfOk-weaker _ _ _ (λ o h. node _ (ap tree_of_code c.in-For.is ∙ tree_of_code-For c.in-For.pattern c.in-For.list c.in-For.body) h (omega arith) c.if-level-gt-DEEPEST.false) c.eval_for.ensures
 
 pub eval::eval-returns-in-Try : goal.eval::eval-returns-in-Try
-eval::eval-returns-in-Try t c = IfOk-weaker _ _ _ (λ o h. node _ (ap tree_of c.in-Try.is ∙ tree_of-Try c.in-Try.body c.in-Try.pattern c.in-Try.handler) h (omega arith) c.if-level-gt-DEEPEST.false) c.eval_try.ensures
+eval::eval-returns-in-Try t c = IfOk-weaker _ _ _ (λ o h. node _ (ap tree_of_code c.in-Try.is ∙ tree_of_code-Try c.in-Try.body c.in-Try.pattern c.in-Try.handler) h (omega arith) c.if-level-gt-DEEPEST.false) c.eval_try.ensures
 
 pub eval::eval-returns-in-Throw : goal.eval::eval-returns-in-Throw
-eval::eval-returns-in-Throw t c = IfOk-weaker _ _ _ (λ o h. node _ (ap tree_of c.in-Throw.is) h (omega arith) c.if-level-gt-DEEPEST.false) c.eval_throw.ensures
+eval::eval-returns-in-Throw t c = IfOk-weaker _ _ _ (λ o h. node _ (ap tree_of_code c.in-Throw.is) h (omega arith) c.if-level-gt-DEEPEST.false) c.eval_throw.ensures
 
 pub eval::eval_def_list-returns-in-Halt : goal.eval::eval_def_list-returns-in-Halt
 eval::eval_def_list-returns-in-Halt t c = run_define_list (child c.deref.ensures c.in-Halt.is c.in_ok-value.ensures)

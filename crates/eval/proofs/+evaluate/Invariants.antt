@@ -1,6 +1,6 @@
 use Rattle.std.proofs.Common.{drop, ◌-◌, ◌*◌, ◌+◌, ◌≡◌, length}
 use Rattle.kernele.specs.Tree.{while_tree}
-use Rattle.kernele.specs.View.{tree_of, trees_of}
+use Rattle.code.specs.View.{tree_of_code, trees_of_codes}
 use Rattle.values.specs.Data.{null}
 use Rattle.values.specs.View.{val_of, vals_of}
 use Rattle.eval.specs.At.{At}
@@ -76,19 +76,19 @@ decreases-control::eval_try l = 5 * (1000 - l.level) + 4
 
 -- what the rest gives, after the values so far, is what all give
 abbrev pub invariant-eval::eval_args-loop-arg : goal.invariant-eval::eval_args-loop-arg
-invariant-eval::eval_args-loop-arg l = (g : Gather) (b : At) → Args l.level (trees_of (drop l.arg-index l.args)) (at l.w) g b → Args l.level (trees_of l.args) (at l.initial.w) (after_values (vals_of l.values.items) g) b
+invariant-eval::eval_args-loop-arg l = (g : Gather) (b : At) → Args l.level (trees_of_codes (drop l.arg-index l.args)) (at l.w) g b → Args l.level (trees_of_codes l.args) (at l.initial.w) (after_values (vals_of l.values.items) g) b
 
 -- what the rest gives, after the last value so far, is what all give
 abbrev pub invariant-eval::eval_items-loop-item : goal.invariant-eval::eval_items-loop-item
-invariant-eval::eval_items-loop-item l = (o : End) (b : At) → Items l.level (val_of l.last) (trees_of (drop l.item-index l.items)) (at l.w) o b → Items l.level null (trees_of l.items) (at l.initial.w) o b
+invariant-eval::eval_items-loop-item l = (o : End) (b : At) → Items l.level (val_of l.last) (trees_of_codes (drop l.item-index l.items)) (at l.w) o b → Items l.level null (trees_of_codes l.items) (at l.initial.w) o b
 
 -- what the block does for the values that are left, is what it does for all
 abbrev pub invariant-control::eval_each-loop-value : goal.invariant-control::eval_each-loop-value
-invariant-control::eval_each-loop-value l = (o : End) (b : At) → Each l.level l.pattern (trees_of l.items) (vals_of (drop l.value-index l.values)) (at l.w) o b → Each l.level l.pattern (trees_of l.items) (vals_of l.values) (at l.initial.w) o b
+invariant-control::eval_each-loop-value l = (o : End) (b : At) → Each l.level l.pattern (trees_of_codes l.items) (vals_of (drop l.value-index l.values)) (at l.w) o b → Each l.level l.pattern (trees_of_codes l.items) (vals_of l.values) (at l.initial.w) o b
 
 -- what the rounds from here on give is what all give, and each round begins with as many names
 abbrev pub invariant-control::eval_while-rounds : goal.invariant-control::eval_while-rounds
-invariant-control::eval_while-rounds l = ((o : End) (b : At) → Runs l.level (while_tree (tree_of l.condition.value) (trees_of l.body.value.items)) (at l.w) o b → Runs l.level (while_tree (tree_of l.condition.value) (trees_of l.body.value.items)) (at l.initial.w) o b) × (l.names ≡ length l.w.nouns.items)
+invariant-control::eval_while-rounds l = ((o : End) (b : At) → Runs l.level (while_tree (tree_of_code l.condition.value) (trees_of_codes l.body.value.items)) (at l.w) o b → Runs l.level (while_tree (tree_of_code l.condition.value) (trees_of_codes l.body.value.items)) (at l.initial.w) o b) × (l.names ≡ length l.w.nouns.items)
 
 abbrev pub decreases-control::eval_while-rounds : goal.decreases-control::eval_while-rounds
 decreases-control::eval_while-rounds l = l.w.steps
