@@ -61,9 +61,9 @@ adds_none a b n o = (ap frame_of n ∙ behind_nothing a.own_scope (frame_of a.no
 -- first these, then those
 adds_both : (ts us : List TopName) (a b c : At) → Adds ts a b → Adds us b c → Adds (ts ++ us) a c
 adds_both ts us a b c h g = (
-    g.0 ∙ (λ i. behind (h.1 i) (only_names us) (h.0 i)) ∙ behind_more a.own_scope (only_names ts) (only_names us) (frame_of a.nouns)
-    ∙ ap (λ xs. behind a.own_scope xs (frame_of a.nouns)) (sym (map-append (λ (t : TopName). t.name) ts us)),
-    g.1 ∙ h.1,
+  g.0 ∙ (λ i. behind (h.1 i) (only_names us) (h.0 i)) ∙ behind_more a.own_scope (only_names ts) (only_names us) (frame_of a.nouns)
+      ∙ ap (λ xs. behind a.own_scope xs (frame_of a.nouns)) (sym (map-append (λ (t : TopName). t.name) ts us)),
+  g.1 ∙ h.1,
 )
 
 -- what comes behind adds nothing

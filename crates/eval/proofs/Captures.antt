@@ -1,5 +1,5 @@
 -- On what objects capture, and on the names that a method begins with.
-use Rattle.std.proofs.Common.{◌≡◌, ℕ, ◌+◌, ◌<◌, ◌≤◌, List, [], ◌∷◌, length, drop, get_or, Some, None, true, false, ◌&&◌, cond, refl, sym, ap, ◌∙◌, subst, suc, add-one}
+use Rattle.std.proofs.Common.{◌≡◌, ℕ, ◌+◌, ◌<◌, ◌≤◌, List, [], ◌∷◌, ◌++◌, length, drop, get_or, Option, Some, None, true, false, ◌&&◌, cond, refl, sym, ap, ◌∙◌, subst, suc, add-one, append_assoc, append-nil}
 use Rattle.std.specs.Prelude.{Result, IfOk}
 use Rattle.std.proofs.Math.Seq.{drop-cons}
 use Rattle.std.proofs.lemmas.List.{drop_all}
@@ -13,7 +13,7 @@ use Rattle.ids.specs.declared.names.ObjId.{ObjId}
 use Rattle.values.specs.Data.{Vals, object}
 use Rattle.values.specs.View.{val_of, vals_of}
 use Rattle.values.specs.declared.value.Value.{Value}
-use Rattle.heap.specs.State.{Bind, Nouns, Object}
+use Rattle.heap.specs.State.{Bind, Nouns, Object, frame_of}
 use Rattle.eval.specs.At.{At}
 use Rattle.heap.specs.View.{bind_of, nouns_after}
 use Rattle.heap.specs.declared.state.Noun.{Noun}
@@ -116,3 +116,24 @@ pub given_none : (vs : List Value) → (length vs ≡ 0 → ⊥) → (length vs 
 given_none [] h g = absurd (h refl)
 given_none (v ∷ []) h g = absurd (g refl)
 given_none (v ∷ w ∷ vs) h g = refl
+
+-- the next name stands for nothing
+pub capture_ends : (ns : Nouns) (x y : Name) (xs : List Name) (a : At) (all : Capture) → None ≡ sought x a → y ≡ x → all_captured (captured ns) (x ∷ xs) a ≡ all → missing y ≡ all
+capture_ends ns x y xs a all n e h = ap missing e ∙ sym (missing_stays x xs a) ∙ ap (λ m. all_captured (and_captured (captured ns) x m) xs a) n ∙ h
+
+not_missing : (ms : Nouns) (x : Name) → captured ms ≡ missing x → ⊥
+not_missing ms x e = cc
+
+abbrev nouns_in : Nouns → Capture → Nouns
+nouns_in ns (captured ms) = ms
+nouns_in ns (missing x) = ns
+
+captured_more_frame : (ns ms : Nouns) (x : Name) (xs : List Name) (a : At) (m : Option Bind) → ((b : Bind) → captured ms ≡ all_captured (captured ((x, b) ∷ ns)) xs a → frame_of ms ≡ (frame_of ns ++ x ∷ []) ++ xs)
+    → captured ms ≡ all_captured (and_captured (captured ns) x m) xs a → frame_of ms ≡ frame_of ns ++ x ∷ xs
+captured_more_frame ns ms x xs a (Some b) more h = more b h ∙ append_assoc (frame_of ns) (x ∷ []) xs
+captured_more_frame ns ms x xs a None more h = absurd (not_missing ms x (h ∙ missing_stays x xs a))
+
+-- what is captured has the names that are wanted
+pub captured_frame : (ns ms : Nouns) (xs : List Name) (a : At) → captured ms ≡ all_captured (captured ns) xs a → frame_of ms ≡ frame_of ns ++ xs
+captured_frame ns ms [] a h = ap (λ c. frame_of (nouns_in ns c)) h ∙ sym (append-nil (frame_of ns))
+captured_frame ns ms (x ∷ xs) a h = captured_more_frame ns ms x xs a (sought x a) (λ b. captured_frame ((x, b) ∷ ns) ms xs a) h

@@ -13,46 +13,44 @@ use Rattle.heap.proofs.Names.{frame_of_nouns}
 use Rattle.heap.specs.declared.state.Noun.{Noun}
 use Rattle.eval.specs.Rules.{found, top_bind}
 
--- a name that is not in the frame is not among the nouns
-mutual
-  unseen : (ns : Nouns) (xs : List Noun) (x : Name) → newest (names_of xs) x ≡ None → lookup (nouns_after ns xs) x ≡ lookup ns x
-  unseen ns [] x e = refl
-  unseen ns (y ∷ ys) x e = unseen_more ns y ys x (newest (names_of ys) x) (bytes_eq y.name x) refl refl e
-
-  unseen_more : (ns : Nouns) (y : Noun) (ys : List Noun) (x : Name) (m : Option ℕ) (q : Bool) → newest (names_of ys) x ≡ m → bytes_eq y.name x ≡ q → or_oldest m q ≡ None
-      → lookup (nouns_after ((y.name, bind_of y.binding) ∷ ns) ys) x ≡ lookup ns x
-  unseen_more ns y ys x (Some j) q m e h = absurd (cc)
-  unseen_more ns y ys x None true m e h = absurd (cc)
-  unseen_more ns y ys x None false m e h = unseen ((y.name, bind_of y.binding) ∷ ns) ys x m ∙ ap (λ q. cond q (Some (bind_of y.binding)) (lookup ns x)) e
-
 abbrev position : Option ℕ → ℕ
 position (Some i) = i
 position None = 0
 
--- a name that is in the frame is at its newest position
-mutual
-  seen : (ns : Nouns) (xs : List Noun) (x : Name) (i : ℕ) (d : Noun) → newest (names_of xs) x ≡ Some i → lookup (nouns_after ns xs) x ≡ Some (bind_of (get_or xs i d).binding)
-  seen ns [] x i d e = absurd (cc)
-  seen ns (y ∷ ys) x i d e = seen_more ns y ys x i d (newest (names_of ys) x) (bytes_eq y.name x) refl refl e
+-- a name that is not in the frame is not among the nouns
+unseen_more : (ns : Nouns) (y : Noun) (ys : List Noun) (x : Name) (m : Option ℕ) (q : Bool) → newest (names_of ys) x ≡ m → bytes_eq y.name x ≡ q → or_oldest m q ≡ None
+    → (newest (names_of ys) x ≡ None → lookup (nouns_after ((y.name, bind_of y.binding) ∷ ns) ys) x ≡ lookup ((y.name, bind_of y.binding) ∷ ns) x)
+    → lookup (nouns_after ((y.name, bind_of y.binding) ∷ ns) ys) x ≡ lookup ns x
+unseen_more ns y ys x (Some j) q m e h more = absurd (cc)
+unseen_more ns y ys x None true m e h more = absurd (cc)
+unseen_more ns y ys x None false m e h more = more m ∙ ap (λ q. cond q (Some (bind_of y.binding)) (lookup ns x)) e
 
-  seen_more : (ns : Nouns) (y : Noun) (ys : List Noun) (x : Name) (i : ℕ) (d : Noun) (m : Option ℕ) (q : Bool) → newest (names_of ys) x ≡ m → bytes_eq y.name x ≡ q → or_oldest m q ≡ Some i
-      → lookup (nouns_after ((y.name, bind_of y.binding) ∷ ns) ys) x ≡ Some (bind_of (get_or (y ∷ ys) i d).binding)
-  seen_more ns y ys x i d (Some j) q m e h =
-      seen ((y.name, bind_of y.binding) ∷ ns) ys x j d m ∙ ap (λ k. Some (bind_of (get_or (y ∷ ys) k d).binding)) (sym (add-one j) ∙ ap position h)
-  seen_more ns y ys x i d None true m e h =
-      unseen ((y.name, bind_of y.binding) ∷ ns) ys x m ∙ ap (λ q. cond q (Some (bind_of y.binding)) (lookup ns x)) e ∙ ap (λ k. Some (bind_of (get_or (y ∷ ys) k d).binding)) (ap position h)
-  seen_more ns y ys x i d None false m e h = absurd (cc)
+unseen : (ns : Nouns) (xs : List Noun) (x : Name) → newest (names_of xs) x ≡ None → lookup (nouns_after ns xs) x ≡ lookup ns x
+unseen ns [] x e = refl
+unseen ns (y ∷ ys) x e = unseen_more ns y ys x (newest (names_of ys) x) (bytes_eq y.name x) refl refl e (λ m. unseen ((y.name, bind_of y.binding) ∷ ns) ys x m)
+
+-- a name that is in the frame is at its newest position
+seen_more : (ns : Nouns) (y : Noun) (ys : List Noun) (x : Name) (i : ℕ) (d : Noun) (m : Option ℕ) (q : Bool) → newest (names_of ys) x ≡ m → bytes_eq y.name x ≡ q → or_oldest m q ≡ Some i
+    → ((j : ℕ) → newest (names_of ys) x ≡ Some j → lookup (nouns_after ((y.name, bind_of y.binding) ∷ ns) ys) x ≡ Some (bind_of (get_or ys j d).binding))
+    → lookup (nouns_after ((y.name, bind_of y.binding) ∷ ns) ys) x ≡ Some (bind_of (get_or (y ∷ ys) i d).binding)
+seen_more ns y ys x i d (Some j) q m e h more = more j m ∙ ap (λ k. Some (bind_of (get_or (y ∷ ys) k d).binding)) (sym (add-one j) ∙ ap position h)
+seen_more ns y ys x i d None true m e h more =
+    unseen ((y.name, bind_of y.binding) ∷ ns) ys x m ∙ ap (λ q. cond q (Some (bind_of y.binding)) (lookup ns x)) e ∙ ap (λ k. Some (bind_of (get_or (y ∷ ys) k d).binding)) (ap position h)
+seen_more ns y ys x i d None false m e h more = absurd (cc)
+
+seen : (ns : Nouns) (xs : List Noun) (x : Name) (i : ℕ) (d : Noun) → newest (names_of xs) x ≡ Some i → lookup (nouns_after ns xs) x ≡ Some (bind_of (get_or xs i d).binding)
+seen ns [] x i d e = absurd (cc)
+seen ns (y ∷ ys) x i d e = seen_more ns y ys x i d (newest (names_of ys) x) (bytes_eq y.name x) refl refl e (λ j m. seen ((y.name, bind_of y.binding) ∷ ns) ys x j d m)
 
 -- and that is a position of the frame
-mutual
-  inside : (xs : List Noun) (x : Name) (i : ℕ) → newest (names_of xs) x ≡ Some i → i < length xs
-  inside [] x i e = absurd (cc)
-  inside (y ∷ ys) x i e = inside_more y ys x i (newest (names_of ys) x) (bytes_eq y.name x) refl e
+inside_more : (y : Noun) (ys : List Noun) (x : Name) (i : ℕ) (m : Option ℕ) (q : Bool) → newest (names_of ys) x ≡ m → or_oldest m q ≡ Some i → ((j : ℕ) → newest (names_of ys) x ≡ Some j → j < length ys) → i < length (y ∷ ys)
+inside_more y ys x i (Some j) q m h more = omega (arith, more j m, ap position h)
+inside_more y ys x i None true m h more = omega (arith, ap position h)
+inside_more y ys x i None false m h more = absurd (cc)
 
-  inside_more : (y : Noun) (ys : List Noun) (x : Name) (i : ℕ) (m : Option ℕ) (q : Bool) → newest (names_of ys) x ≡ m → or_oldest m q ≡ Some i → i < length (y ∷ ys)
-  inside_more y ys x i (Some j) q m h = omega (arith, inside ys x j m, ap position h)
-  inside_more y ys x i None true m h = omega (arith, ap position h)
-  inside_more y ys x i None false m h = absurd (cc)
+inside : (xs : List Noun) (x : Name) (i : ℕ) → newest (names_of xs) x ≡ Some i → i < length xs
+inside [] x i e = absurd (cc)
+inside (y ∷ ys) x i e = inside_more y ys x i (newest (names_of ys) x) (bytes_eq y.name x) refl e (λ j m. inside ys x j m)
 
 abbrev of_place : Place → Option ℕ
 of_place (place.Frame i) = Some i

@@ -18,8 +18,8 @@ use crate::escapes::{close_escape, count_open, escape_end, open_escape};
 use crate::eval::{eval, eval_args, eval_items};
 use crate::objects::Target;
 use crate::working::Working;
-use ids::text::Text;
 use code::code::Code;
+use ids::text::Text;
 use kernele::tree::Pattern;
 use std::alloc::AllocError;
 use std::sync::Arc;
@@ -55,11 +55,7 @@ pub(crate) fn eval_call(
 
 /// Evaluates a method's block with the names that it begins with.
 #[cycle(evaluate)]
-fn eval_method(
-    w: &mut Working,
-    entry: Entry,
-    level: u32,
-) -> Result<End, AllocError>
+fn eval_method(w: &mut Working, entry: Entry, level: u32) -> Result<End, AllocError>
     requires { level ≤ 1001 }
     ensures { IfOk result (λ o. (d : At) × Items level null (trees_of_codes entry.body.value.items) (inside (nouns_of entry.nouns.items) (at w.old)) (end_of o) d
         × (at w.new ≡ leaving (at w.old) d)) }

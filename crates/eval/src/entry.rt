@@ -13,6 +13,5 @@ use std::sync::Arc;
 pub struct Entry {
     pub nouns: Vec<Noun>,
     pub body: Arc<Vec<Code>>,
-    pub ghost fits: { fits_all false (names_of nouns.items) body.value.items }
-        by { fits_all-prop false (names_of nouns.items) body.value.items },
+    pub ghost fits: { fits_all false (names_of nouns.items) body.value.items } by { fits_all-prop false (names_of nouns.items) body.value.items },
 }

@@ -18,6 +18,5 @@ pub struct Made {
     /// The names that it captured, the newest last.
     pub captured: Arc<Vec<Noun>>,
     pub methods: Arc<Vec<MethodCode>>,
-    pub ghost fits: { fits_methods (names_of captured.value.items ++ only_names (name_of own)) methods.value.items }
-        by { fits_methods-prop (names_of captured.value.items ++ only_names (name_of own)) methods.value.items },
+    pub ghost fits: { fits_methods (names_of captured.value.items ++ only_names (name_of own)) methods.value.items } by { fits_methods-prop (names_of captured.value.items ++ only_names (name_of own)) methods.value.items },
 }
