@@ -1,2 +1,6 @@
 pub mod Views
 pub mod Fitting
+pub mod Places
+pub mod Growing
+pub mod Made
+pub mod Ranks

@@ -1,3 +1,4 @@
 pub mod View
 pub mod Frames
-pub mod Propositions
+pub mod Resolves
+pub mod Props

@@ -2,3 +2,7 @@
 #![tactic(auto)]
 
 pub mod code;
+mod frame;
+mod resolving;
+
+pub use resolving::{Resolved, resolve};

@@ -1,7 +1,7 @@
 // What a method's block begins with.
 ghost use Rattle.std.specs.Prelude.{false};
 ghost use Rattle.code.specs.Frames.{fits_all};
-ghost use Rattle.code.specs.Propositions.{fits_all-prop};
+ghost use Rattle.code.specs.Props.{fits_all-prop};
 ghost use Rattle.heap.specs.Names.{names_of};
 
 use code::code::Code;

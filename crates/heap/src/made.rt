@@ -1,7 +1,7 @@
 // What an object is made of.
 ghost use Rattle.std.specs.Prelude.{◌++◌};
 ghost use Rattle.code.specs.Frames.{only_names, fits_methods};
-ghost use Rattle.code.specs.Propositions.{fits_methods-prop};
+ghost use Rattle.code.specs.Props.{fits_methods-prop};
 ghost use Rattle.heap.specs.Names.{names_of};
 ghost use Rattle.kernele.specs.Scope.{name_of};
 

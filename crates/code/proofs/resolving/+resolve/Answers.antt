@@ -1,0 +1,121 @@
+use Rattle.std.proofs.Common.{◌∙◌, ap, sym, subst, refl, arith, rules, [], ◌∷◌}
+use Rattle.std.proofs.Math.Path.{transport}
+use Rattle.std.proofs.lemmas.Result.{IfOk-weaker}
+use Rattle.kernele.specs.View.{tree_of, methods_of}
+use Rattle.kernele.specs.Scope.{nodes}
+use Rattle.kernele.proofs.Views.{tree_of-Call, tree_of-List, tree_of-Hide, tree_of-If, tree_of-While, tree_of-For, tree_of-Try, tree_of-Object, tree_of-Escape}
+use Rattle.kernele.specs.Free.{captures}
+use Rattle.code.specs.Frames.{all_placed, captured_names_of}
+use Rattle.code.specs.Resolves.{ResolvesMethod, ResolvesMethods}
+use Rattle.code.proofs.Growing.{truncated}
+use Rattle.code.proofs.Made.{resolved_as, resolved_call, resolved_list, resolved_hide, resolved_if, resolved_while, resolved_for, resolved_try, resolved_escape, resolved_object, resolved_block, all_more, all_pushed, all_end, all_done, methods_more, methods_pushed, methods_end, methods_done}
+use Rattle.code.proofs.Ranks.{part_nodes, method_nodes}
+use Rattle.code.proofs.resolving.+resolve.Goals as goal
+
+pub resolve_expr-resolve_call-requires : goal.resolve_expr-resolve_call-requires
+resolve_expr-resolve_call-requires t c = (omega (arith, ap nodes (ap tree_of c.in-Call.is ∙ tree_of-Call c.in-Call.receiver c.in-Call.verb c.in-Call.args)), tt)
+
+pub resolve_expr-resolve_row-requires : goal.resolve_expr-resolve_row-requires
+resolve_expr-resolve_row-requires t c = (omega (arith, ap nodes (ap tree_of c.in-List.is ∙ tree_of-List c.in-List.items)), tt)
+
+pub resolve_expr-resolve_block-requires : goal.resolve_expr-resolve_block-requires
+resolve_expr-resolve_block-requires t c = (omega (arith, ap nodes (ap tree_of c.in-Hide.is ∙ tree_of-Hide c.in-Hide.body)), tt)
+
+pub resolve_expr-resolve_if-requires : goal.resolve_expr-resolve_if-requires
+resolve_expr-resolve_if-requires t c = (omega (arith, ap nodes (ap tree_of c.in-If.is ∙ tree_of-If c.in-If.condition c.in-If.first c.in-If.second)), tt)
+
+pub resolve_expr-resolve_while-requires : goal.resolve_expr-resolve_while-requires
+resolve_expr-resolve_while-requires t c = (omega (arith, ap nodes (ap tree_of c.in-While.is ∙ tree_of-While c.in-While.condition c.in-While.body)), tt)
+
+pub resolve_expr-resolve_for-requires : goal.resolve_expr-resolve_for-requires
+resolve_expr-resolve_for-requires t c = (omega (arith, ap nodes (ap tree_of c.in-For.is ∙ tree_of-For c.in-For.pattern c.in-For.list c.in-For.body)), tt)
+
+pub resolve_expr-resolve_try-requires : goal.resolve_expr-resolve_try-requires
+resolve_expr-resolve_try-requires t c = (omega (arith, ap nodes (ap tree_of c.in-Try.is ∙ tree_of-Try c.in-Try.body c.in-Try.pattern c.in-Try.handler)), tt)
+
+pub resolve_expr-resolve_object-requires : goal.resolve_expr-resolve_object-requires
+resolve_expr-resolve_object-requires t c = (omega (arith, ap nodes (ap tree_of c.in-Object.is ∙ tree_of-Object c.in-Object.pattern c.in-Object.methods)), tt)
+
+pub resolve_expr-resolve_escape-requires : goal.resolve_expr-resolve_escape-requires
+resolve_expr-resolve_escape-requires t c = (omega (arith, ap nodes (ap tree_of c.in-Escape.is ∙ tree_of-Escape c.in-Escape.name c.in-Escape.body)), tt)
+
+pub resolve_expr-returns-in-Call : goal.resolve_expr-returns-in-Call
+resolve_expr-returns-in-Call t c = IfOk-weaker _ _ _ (λ d h. resolved_as (ap tree_of c.in-Call.is ∙ tree_of-Call c.in-Call.receiver c.in-Call.verb c.in-Call.args) h) c.resolve_call.ensures
+
+pub resolve_expr-returns-in_ok-resolve_row-in-List : goal.resolve_expr-returns-in_ok-resolve_row-in-List
+resolve_expr-returns-in_ok-resolve_row-in-List t c = resolved_as (ap tree_of c.in-List.is ∙ tree_of-List c.in-List.items) (resolved_list _ c.in_ok-resolve_row-in-List.ensures)
+
+pub resolve_expr-returns-in_ok-resolve_block-in-Hide : goal.resolve_expr-returns-in_ok-resolve_block-in-Hide
+resolve_expr-returns-in_ok-resolve_block-in-Hide t c = resolved_as (ap tree_of c.in-Hide.is ∙ tree_of-Hide c.in-Hide.body) (resolved_hide _ c.in_ok-resolve_block-in-Hide.ensures.code c.in_ok-resolve_block-in-Hide.ensures.frame)
+
+pub resolve_expr-returns-in-If : goal.resolve_expr-returns-in-If
+resolve_expr-returns-in-If t c = IfOk-weaker _ _ _ (λ d h. resolved_as (ap tree_of c.in-If.is ∙ tree_of-If c.in-If.condition c.in-If.first c.in-If.second) h) c.resolve_if.ensures
+
+pub resolve_expr-returns-in-While : goal.resolve_expr-returns-in-While
+resolve_expr-returns-in-While t c = IfOk-weaker _ _ _ (λ d h. resolved_as (ap tree_of c.in-While.is ∙ tree_of-While c.in-While.condition c.in-While.body) h) c.resolve_while.ensures
+
+pub resolve_expr-returns-in-For : goal.resolve_expr-returns-in-For
+resolve_expr-returns-in-For t c = IfOk-weaker _ _ _ (λ d h. resolved_as (ap tree_of c.in-For.is ∙ tree_of-For c.in-For.pattern c.in-For.list c.in-For.body) h) c.resolve_for.ensures
+
+pub resolve_expr-returns-in-Try : goal.resolve_expr-returns-in-Try
+resolve_expr-returns-in-Try t c = IfOk-weaker _ _ _ (λ d h. resolved_as (ap tree_of c.in-Try.is ∙ tree_of-Try c.in-Try.body c.in-Try.pattern c.in-Try.handler) (h c.args.own_scope)) c.resolve_try.ensures
+
+pub resolve_expr-returns-in-Object : goal.resolve_expr-returns-in-Object
+resolve_expr-returns-in-Object t c = IfOk-weaker _ _ _ (λ d h. resolved_as (ap tree_of c.in-Object.is ∙ tree_of-Object c.in-Object.pattern c.in-Object.methods) h) c.resolve_object.ensures
+
+pub resolve_expr-returns-in-Escape : goal.resolve_expr-returns-in-Escape
+resolve_expr-returns-in-Escape t c = IfOk-weaker _ _ _ (λ d h. resolved_as (ap tree_of c.in-Escape.is ∙ tree_of-Escape c.in-Escape.name c.in-Escape.body) (h c.args.own_scope)) c.resolve_escape.ensures
+
+pub resolve_all-resolve_expr-requires : goal.resolve_all-resolve_expr-requires
+resolve_all-resolve_expr-requires t c = (omega (arith, part_nodes c.args.trees.now c.loop-tree.tree-index c.tree-item.result c.loop-tree-test.true c.tree-item.is), tt)
+
+pub resolve_all-loop-tree-preserved : goal.resolve_all-loop-tree-preserved
+resolve_all-loop-tree-preserved t c = λ rest next h. all_pushed c.loop-tree.codes.items _ c.in_ok-code.code rest c.in_ok-push.ensures.items
+    (c.loop-tree.invariant (c.in_ok-code.code ∷ rest) next (all_more c.args.trees.now c.loop-tree.tree-index c.tree-item.result c.in_ok-code.code rest c.loop-tree-test.true c.tree-item.is c.in_ok-code.ensures h))
+
+pub resolve_all-returns : goal.resolve_all-returns
+resolve_all-returns t c = all_done c.loop-tree.codes.items (c.loop-tree.invariant [] c.loop-tree.frame.items (all_end c.loop-tree.frame.items c.args.trees.now c.loop-tree.tree-index c.loop-tree-test.false))
+
+pub resolve_methods-resolve_method-requires : goal.resolve_methods-resolve_method-requires
+resolve_methods-resolve_method-requires t c = (omega (arith, method_nodes c.args.methods.now c.loop-method.method-index c.method-item.result c.loop-method-test.true c.method-item.is), tt)
+
+pub resolve_methods-loop-method-preserved : goal.resolve_methods-loop-method-preserved
+resolve_methods-loop-method-preserved t c =
+    let stays = c.in_ok-code.ensures.frame ∙ c.loop-method.invariant.stays in
+    let code = subst (λ frame. ResolvesMethod frame c.method-item.result c.in_ok-code.code) c.loop-method.invariant.stays c.in_ok-code.ensures.code in
+    record {
+      stays = stays;
+      code = λ rest h. methods_pushed c.loop-method.codes.items _ c.in_ok-code.code rest c.in_ok-push.ensures.items
+          (c.loop-method.invariant.code (c.in_ok-code.code ∷ rest) (methods_more c.args.methods.now c.loop-method.method-index c.method-item.result c.in_ok-code.code rest c.loop-method-test.true c.method-item.is code h));
+    }
+
+pub resolve_methods-returns : goal.resolve_methods-returns
+resolve_methods-returns t c = methods_done c.loop-method.codes.items (c.loop-method.invariant.code [] (methods_end c.args.frame.now.items c.args.methods.now c.loop-method.method-index c.loop-method-test.false))
+
+pub resolve_call-returns : goal.resolve_call-returns
+resolve_call-returns t c = resolved_call _ _ c.in_ok-share.ensures c.in_ok-receiver.ensures c.in_ok-args.ensures
+
+pub resolve_if-returns : goal.resolve_if-returns
+resolve_if-returns t c = resolved_if _ _ _ c.in_ok-condition.ensures c.in_ok-first.ensures.code c.in_ok-first.ensures.frame c.in_ok-second.ensures.code c.in_ok-second.ensures.frame
+
+pub resolve_while-returns : goal.resolve_while-returns
+resolve_while-returns t c = resolved_while _ _ c.in_ok-condition.ensures c.in_ok-body.ensures.code c.in_ok-body.ensures.frame
+
+pub resolve_for-returns : goal.resolve_for-returns
+resolve_for-returns t c = resolved_for _ _ c.in_ok-share_pattern.ensures c.in_ok-list.ensures c.in_ok-body.ensures.code c.in_ok-body.ensures.frame
+
+pub resolve_try-returns : goal.resolve_try-returns
+resolve_try-returns t c = λ own. resolved_try _ _ c.in_ok-share_pattern.ensures c.in_ok-body.ensures.code c.in_ok-body.ensures.frame c.in_ok-handler.ensures.code c.in_ok-handler.ensures.frame
+
+pub resolve_escape-returns : goal.resolve_escape-returns
+resolve_escape-returns t c = λ own. resolved_escape _ c.in_ok-share.ensures c.in_ok-add_name.ensures (resolved_block refl c.in_ok-body.ensures)
+    (truncated {f = c.args.frame.now.items} c.len-before.result (c.args.name.now ∷ []) _ (search rules) c.in_ok-add_name.ensures c.in_ok-body.ensures.grown c.truncate.ensures.items)
+
+pub resolve_object-returns : goal.resolve_object-returns
+resolve_object-returns t c =
+    let all = c.deref-2.ensures.value ∙ ap (λ v. v.items) c.deref.ensures in
+    let same = c.deref-6.ensures.value ∙ ap (λ v. v.items) c.deref-5.ensures in
+    resolved_object _ _ c.in_ok-share_pattern.ensures (c.in_ok-inside.ensures ∙ ap (λ ms. captures c.args.pattern.now (methods_of ms)) all)
+    (ap (λ v. captured_names_of v.items) c.in_ok-new.ensures.ok ∙ c.in_ok-captures.ensures.names ∙ c.deref-3.ensures.value)
+    (transport (λ i. all_placed (c.deref-4.ensures.value i) (sym c.in_ok-new.ensures.ok i).items) c.in_ok-captures.ensures.places) c.in_ok-add_bound.ensures
+    (transport (λ i. ResolvesMethods c.add_bound.new.frame.items (methods_of (same i)) (sym c.in_ok-new-2.ensures.ok i).items) c.in_ok-methods.ensures) c.in_ok-add_bound-2.ensures
