@@ -14,5 +14,5 @@ returns-clause-ok c =
     let program = program_of c.args.program.now in (
       ask_foot c.args.event x v.number program,
       asks (ap vat_in (sym c.in-Some.ensures)),
-      c.in_ok-enter_ask.ensures.ok x ∙ ap (λ (p : Trees). after events (ask_foot c.args.event x v.number p) (world_of c.args.world.now)) c.in_ok-share_program.ensures,
+      c.in_ok-enter_ask.ensures.ok x ∙ ap (λ (p : Trees). after events (ask_foot c.args.event x v.number p) (world_of c.args.world.now)) c.in_ok-share.ensures,
     )

@@ -10,5 +10,5 @@ pub returns-clause-ok : goal.returns-clause-ok
 returns-clause-ok c = (
   birth_foot c.args.event c.args.name.now (program_of c.args.script.now),
   births (sym c.in-None.ensures),
-  c.in_ok-enter_birth.ensures.ok ∙ ap (λ (p : Trees). after events (birth_foot c.args.event c.args.name.now p) (world_of c.args.world.now)) c.in_ok-share_program.ensures,
+  c.in_ok-enter_birth.ensures.ok ∙ ap (λ (p : Trees). after events (birth_foot c.args.event c.args.name.now p) (world_of c.args.world.now)) c.in_ok-share.ensures,
 )

@@ -18,11 +18,11 @@ invariant_of-self-in-Ok-clause-stands c =
     let old = book_of c.args.self.now in
     let new : Book = record { world = world_of c.enter_ask.new.world; journal = lines_of c.add_entry.new.entries.items; next = c.args.self.now.next + 1; redoable = c.clear.new.self.items } in
     let ev : Event = record { name = e; act = ask c.args.name.now (program_of c.args.program) } in
-    let entered : Event = record { name = e; act = ask c.in_ok-share.field-0 (program_of c.in_ok-share_program.field-0) } in
+    let entered : Event = record { name = e; act = ask c.in_ok-share.field-0 (program_of c.in_ok-share-2.field-0) } in
     let f = ask_foot e c.args.name.now c.in_ok-event.number (program_of c.args.program) in
     let n : Enters ev f old new =
     enters ev entered f old new c.in_ok-cells.cells.touched.items c.in_ok-cells.cells.written.items c.in_ok-event.ensures.ok.0 refl ∣ asks c.in_ok-event.ensures.ok.2.1 ∣₁ (c.in-Ok.ensures.ok c.args.name.now) c.in_ok-add_entry.ensures.ok
-    (λ i. record { name = e; act = ask (c.in_ok-share.ensures i) (c.in_ok-share_program.ensures i) }) c.in_ok-cells.ensures.0 c.in_ok-cells.ensures.1 c.clear.ensures.items in
+    (λ i. record { name = e; act = ask (c.in_ok-share.ensures i) (c.in_ok-share-2.ensures i) }) c.in_ok-cells.ensures.0 c.in_ok-cells.ensures.1 c.clear.ensures.items in
     stands_entered ev f old new c.args.self.now.stands n
 
 pub invariant_of-self-in-Err-clause-stands : goal.invariant_of-self-in-Err-clause-stands
@@ -36,11 +36,11 @@ returns-in-Ok-clause-ok c =
     let old = book_of c.args.self.now in
     let new : Book = record { world = world_of c.enter_ask.new.world; journal = lines_of c.add_entry.new.entries.items; next = c.args.self.now.next + 1; redoable = c.clear.new.self.items } in
     let ev : Event = record { name = e; act = ask c.args.name.now (program_of c.args.program) } in
-    let entered : Event = record { name = e; act = ask c.in_ok-share.field-0 (program_of c.in_ok-share_program.field-0) } in
+    let entered : Event = record { name = e; act = ask c.in_ok-share.field-0 (program_of c.in_ok-share-2.field-0) } in
     let f = ask_foot e c.args.name.now c.in_ok-event.number (program_of c.args.program) in
     let n : Enters ev f old new =
     enters ev entered f old new c.in_ok-cells.cells.touched.items c.in_ok-cells.cells.written.items c.in_ok-event.ensures.ok.0 refl ∣ asks c.in_ok-event.ensures.ok.2.1 ∣₁ (c.in-Ok.ensures.ok c.args.name.now) c.in_ok-add_entry.ensures.ok
-    (λ i. record { name = e; act = ask (c.in_ok-share.ensures i) (c.in_ok-share_program.ensures i) }) c.in_ok-cells.ensures.0 c.in_ok-cells.ensures.1 c.clear.ensures.items in
+    (λ i. record { name = e; act = ask (c.in_ok-share.ensures i) (c.in_ok-share-2.ensures i) }) c.in_ok-cells.ensures.0 c.in_ok-cells.ensures.1 c.clear.ensures.items in
     (c.in_ok-event.ensures.ok.3, (c.in_ok-event.number, n))
 
 pub returns-in-Err-clause-unchanged : goal.returns-in-Err-clause-unchanged
