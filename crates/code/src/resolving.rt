@@ -150,10 +150,10 @@ fn resolve_bound_block(
     ensures code { IfOk result (λ cs. ResolvesBlock (frame.old.items ++ only_names (name_of pattern.now)) (trees_of body.now.value.items) cs.value.items) }
     ensures frame { OnOk result (frame.new.items ≡ frame.old.items) }
 {
-    let outer = frame.len();
+    let around = frame.len();
     add_bound(pattern, false, frame)?;
     let codes = resolve_row(alloc, body, false, frame)?;
-    frame.truncate(outer);
+    frame.truncate(around);
     Ok(codes)
 }
 
@@ -198,9 +198,9 @@ fn resolve_assign(
 ) -> Result<Code, AllocError>
     ensures { IfOk result (λ c. Resolves own_scope frame.old.items (assign name.now (tree_of right.now.value)) c frame.new.items) }
 {
-    let right = resolve_part(alloc, right, own_scope, frame)?;
+    let value = resolve_part(alloc, right, own_scope, frame)?;
     let place = find_place(frame, name);
-    Ok(Code::Assign(name.share()?, place, right))
+    Ok(Code::Assign(name.share()?, place, value))
 }
 
 #[cycle(resolve)]
@@ -321,10 +321,10 @@ fn resolve_escape(
 ) -> Result<Code, AllocError>
     ensures { IfOk result (λ c. (own : Bool) → Resolves own frame.old.items (escape_tree name.now (trees_of body.now.value.items)) c frame.new.items) }
 {
-    let outer = frame.len();
+    let before = frame.len();
     add_name(name, false, frame)?;
     let body = resolve_row(alloc, body, false, frame)?;
-    frame.truncate(outer);
+    frame.truncate(before);
     Ok(Code::Escape(name.share()?, body))
 }
 
@@ -377,10 +377,10 @@ fn resolve_method(
     ensures code { IfOk result (λ c. ResolvesMethod frame.old.items method.now c) }
     ensures frame { OnOk result (frame.new.items ≡ frame.old.items) }
 {
-    let outer = frame.len();
+    let captured = frame.len();
     add_all_bound(&method.parameters, false, frame)?;
     let body = resolve_row(alloc, &method.body, false, frame)?;
-    frame.truncate(outer);
+    frame.truncate(captured);
     Ok(MethodCode {
         verb: method.verb.share()?,
         parameters: Arc::try_clone(&method.parameters)?,

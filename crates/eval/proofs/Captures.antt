@@ -1,19 +1,19 @@
 -- On what objects capture, and on the names that a method begins with.
-use Rattle.std.proofs.Common.{◌≡◌, ℕ, ◌+◌, ◌<◌, ◌≤◌, List, [], ◌∷◌, length, drop, get_or, Some, None, true, false, ◌&&◌, cond, refl, sym, ap, ◌∙◌, subst, suc, add-one}
+use Rattle.std.proofs.Common.{◌≡◌, ℕ, ◌+◌, ◌<◌, ◌≤◌, List, [], ◌∷◌, ◌++◌, length, drop, get_or, Option, Some, None, true, false, ◌&&◌, cond, refl, sym, ap, ◌∙◌, subst, suc, add-one, append_assoc, append-nil}
 use Rattle.std.specs.Prelude.{Result, IfOk}
 use Rattle.std.proofs.Math.Seq.{drop-cons}
 use Rattle.std.proofs.lemmas.List.{drop_all}
 use Rattle.std.specs.Str.{bytes_eq}
 use Rattle.kernele.specs.Tree.{Name, Methods}
 use Rattle.kernele.specs.Free.{captures}
-use Rattle.kernele.specs.View.{trees_of, methods_of}
-use Rattle.kernele.specs.declared.tree.Method.{Method}
+use Rattle.code.specs.View.{trees_of_codes, methods_of_codes}
+use Rattle.code.specs.declared.code.MethodCode.{MethodCode}
 use Rattle.kernele.specs.declared.tree.Pattern.{Pattern}
 use Rattle.ids.specs.declared.names.ObjId.{ObjId}
 use Rattle.values.specs.Data.{Vals, object}
 use Rattle.values.specs.View.{val_of, vals_of}
 use Rattle.values.specs.declared.value.Value.{Value}
-use Rattle.heap.specs.State.{Bind, Nouns, Object}
+use Rattle.heap.specs.State.{Bind, Nouns, Object, frame_of}
 use Rattle.eval.specs.At.{At}
 use Rattle.heap.specs.View.{bind_of, nouns_after}
 use Rattle.heap.specs.declared.state.Noun.{Noun}
@@ -65,27 +65,27 @@ pub copied_end : (ns : Nouns) (xs : List Noun) (i : ℕ) → length xs ≤ i →
 copied_end ns xs i h = ap (nouns_after ns) (drop_all i xs h)
 
 -- the next method is the one that is sought
-pub method_here : (rest others : List Method) (m : Method) (verb : Name) (vs : List Value) → rest ≡ m ∷ others → bytes_eq m.verb verb ≡ true → length vs ≡ length m.parameters.value.items
-    → Some (m.parameters.value.items, trees_of m.body.value.items) ≡ method_in (methods_of rest) verb (vals_of vs)
+pub method_here : (rest others : List MethodCode) (m : MethodCode) (verb : Name) (vs : List Value) → rest ≡ m ∷ others → bytes_eq m.verb verb ≡ true → length vs ≡ length m.parameters.value.items
+    → Some (m.parameters.value.items, trees_of_codes m.body.value.items) ≡ method_in (methods_of_codes rest) verb (vals_of vs)
 method_here rest others m verb vs e p q =
-    sym (ap (λ ms. method_in (methods_of ms) verb (vals_of vs)) e
-    ∙ (λ i. cond (p i && as_many-true m.parameters.value.items vs q i) (Some (m.parameters.value.items, trees_of m.body.value.items)) (method_in (methods_of others) verb (vals_of vs))))
+    sym (ap (λ ms. method_in (methods_of_codes ms) verb (vals_of vs)) e
+    ∙ (λ i. cond (p i && as_many-true m.parameters.value.items vs q i) (Some (m.parameters.value.items, trees_of_codes m.body.value.items)) (method_in (methods_of_codes others) verb (vals_of vs))))
 
 -- it has another verb
-pub method_not : (rest others : List Method) (m : Method) (verb : Name) (vs : List Value) → rest ≡ m ∷ others → bytes_eq m.verb verb ≡ false → method_in (methods_of others) verb (vals_of vs) ≡ method_in (methods_of rest) verb (vals_of vs)
+pub method_not : (rest others : List MethodCode) (m : MethodCode) (verb : Name) (vs : List Value) → rest ≡ m ∷ others → bytes_eq m.verb verb ≡ false → method_in (methods_of_codes others) verb (vals_of vs) ≡ method_in (methods_of_codes rest) verb (vals_of vs)
 method_not rest others m verb vs e p =
-    sym (ap (λ ms. method_in (methods_of ms) verb (vals_of vs)) e
-    ∙ ap (λ b. cond (b && as_many m.parameters.value.items (vals_of vs)) (Some (m.parameters.value.items, trees_of m.body.value.items)) (method_in (methods_of others) verb (vals_of vs))) p)
+    sym (ap (λ ms. method_in (methods_of_codes ms) verb (vals_of vs)) e
+    ∙ ap (λ b. cond (b && as_many m.parameters.value.items (vals_of vs)) (Some (m.parameters.value.items, trees_of_codes m.body.value.items)) (method_in (methods_of_codes others) verb (vals_of vs))) p)
 
 -- it has another number of parameters
-pub method_other : (rest others : List Method) (m : Method) (verb : Name) (vs : List Value) → rest ≡ m ∷ others → bytes_eq m.verb verb ≡ true → (length vs ≡ length m.parameters.value.items → ⊥) → method_in (methods_of others) verb (vals_of vs) ≡ method_in (methods_of rest) verb (vals_of vs)
+pub method_other : (rest others : List MethodCode) (m : MethodCode) (verb : Name) (vs : List Value) → rest ≡ m ∷ others → bytes_eq m.verb verb ≡ true → (length vs ≡ length m.parameters.value.items → ⊥) → method_in (methods_of_codes others) verb (vals_of vs) ≡ method_in (methods_of_codes rest) verb (vals_of vs)
 method_other rest others m verb vs e p q =
-    sym (ap (λ ms. method_in (methods_of ms) verb (vals_of vs)) e
-    ∙ (λ i. cond (p i && as_many-false m.parameters.value.items vs q i) (Some (m.parameters.value.items, trees_of m.body.value.items)) (method_in (methods_of others) verb (vals_of vs))))
+    sym (ap (λ ms. method_in (methods_of_codes ms) verb (vals_of vs)) e
+    ∙ (λ i. cond (p i && as_many-false m.parameters.value.items vs q i) (Some (m.parameters.value.items, trees_of_codes m.body.value.items)) (method_in (methods_of_codes others) verb (vals_of vs))))
 
 -- what is captured of the names that were found free
-pub captures_all : (p : Pattern) {xs ys : List Name} {ss ts : List Method} (a : At) → xs ≡ ys → ys ≡ captures p (methods_of ss) → ss ≡ ts → all_captured (captured []) xs a ≡ capture_of p (methods_of ts) a
-captures_all p a e f g = ap (λ zs. all_captured (captured []) zs a) (e ∙ f ∙ ap (λ ms. captures p (methods_of ms)) g)
+pub captures_all : (p : Pattern) {xs ys : List Name} {ss ts : List MethodCode} (a : At) → xs ≡ ys → ys ≡ captures p (methods_of_codes ss) → ss ≡ ts → all_captured (captured []) xs a ≡ capture_of p (methods_of_codes ts) a
+captures_all p a e f g = ap (λ zs. all_captured (captured []) zs a) (e ∙ f ∙ ap (λ ms. captures p (methods_of_codes ms)) g)
 
 -- what is made of what is captured
 pub object_by : {X E : Type 0} (r : Result X E) (p : Pattern) (ms : Methods) (c d : Capture) (a z : At) → c ≡ d → IfOk r (λ x. z ≡ with_object p ms c a) → IfOk r (λ x. z ≡ with_object p ms d a)
@@ -116,3 +116,24 @@ pub given_none : (vs : List Value) → (length vs ≡ 0 → ⊥) → (length vs 
 given_none [] h g = absurd (h refl)
 given_none (v ∷ []) h g = absurd (g refl)
 given_none (v ∷ w ∷ vs) h g = refl
+
+-- the next name stands for nothing
+pub capture_ends : (ns : Nouns) (x y : Name) (xs : List Name) (a : At) (all : Capture) → None ≡ sought x a → y ≡ x → all_captured (captured ns) (x ∷ xs) a ≡ all → missing y ≡ all
+capture_ends ns x y xs a all n e h = ap missing e ∙ sym (missing_stays x xs a) ∙ ap (λ m. all_captured (and_captured (captured ns) x m) xs a) n ∙ h
+
+not_missing : (ms : Nouns) (x : Name) → captured ms ≡ missing x → ⊥
+not_missing ms x e = cc
+
+abbrev nouns_in : Nouns → Capture → Nouns
+nouns_in ns (captured ms) = ms
+nouns_in ns (missing x) = ns
+
+captured_more_frame : (ns ms : Nouns) (x : Name) (xs : List Name) (a : At) (m : Option Bind) → ((b : Bind) → captured ms ≡ all_captured (captured ((x, b) ∷ ns)) xs a → frame_of ms ≡ (frame_of ns ++ x ∷ []) ++ xs)
+    → captured ms ≡ all_captured (and_captured (captured ns) x m) xs a → frame_of ms ≡ frame_of ns ++ x ∷ xs
+captured_more_frame ns ms x xs a (Some b) more h = more b h ∙ append_assoc (frame_of ns) (x ∷ []) xs
+captured_more_frame ns ms x xs a None more h = absurd (not_missing ms x (h ∙ missing_stays x xs a))
+
+-- what is captured has the names that are wanted
+pub captured_frame : (ns ms : Nouns) (xs : List Name) (a : At) → captured ms ≡ all_captured (captured ns) xs a → frame_of ms ≡ frame_of ns ++ xs
+captured_frame ns ms [] a h = ap (λ c. frame_of (nouns_in ns c)) h ∙ sym (append-nil (frame_of ns))
+captured_frame ns ms (x ∷ xs) a h = captured_more_frame ns ms x xs a (sought x a) (λ b. captured_frame ((x, b) ∷ ns) ms xs a) h

@@ -2,8 +2,8 @@
 use Rattle.std.proofs.Common.{◌≡◌, ℕ, ◌+◌, Bool, List, length, take, subst, sym, ap, ◌∙◌}
 use Rattle.ids.specs.declared.names.EjId.{EjId}
 use Rattle.kernele.specs.Tree.{Name, Tree, Trees, call, escape_tree}
-use Rattle.kernele.specs.View.{trees_of}
-use Rattle.kernele.specs.declared.tree.Expr.{Expr}
+use Rattle.code.specs.View.{trees_of_codes}
+use Rattle.code.specs.declared.code.Code.{Code}
 use Rattle.kernele.specs.declared.tree.Pattern.{Pattern}
 use Rattle.kernele.specs.declared.tree.Pattern.TheVariants as pattern
 use Rattle.values.specs.Data.{Val, null, ejector}
@@ -32,13 +32,13 @@ pub call_entered : {k : ℕ} {r : Tree} {verb : Name} {args : Trees} {a b c z : 
 call_entered {k = k} {r = r} {verb = verb} {args = args} {a = a} {o = o} p u e h = subst (λ z. Runs k (call r verb args) a o z) (sym h.2) (run_call_enters p u e h.1)
 
 -- an Escape is over
-pub escape_over : {k : ℕ} {ts : Trees} {o p : End} (x : Name) (xs : List Expr) (w u : Working) {q : Pattern} {j : EjId} {b z : At} {n : ℕ} → n ≡ length w.opened.items → j ≡ next_ejector (at w) → b ≡ escaping (at w) → q ≡ pattern.Name x → trees_of xs ≡ ts
-    → Taking (k + 1) q (ejector j) (trees_of xs) b o (at u) → z ≡ record (at u) { opened = opened_of (take n u.opened.items) } → p ≡ escape_end j o → Runs k (escape_tree x ts) (at w) p z
+pub escape_over : {k : ℕ} {ts : Trees} {o p : End} (x : Name) (xs : List Code) (w u : Working) {q : Pattern} {j : EjId} {b z : At} {n : ℕ} → n ≡ length w.opened.items → j ≡ next_ejector (at w) → b ≡ escaping (at w) → q ≡ pattern.Name x → trees_of_codes xs ≡ ts
+    → Taking (k + 1) q (ejector j) (trees_of_codes xs) b o (at u) → z ≡ record (at u) { opened = opened_of (take n u.opened.items) } → p ≡ escape_end j o → Runs k (escape_tree x ts) (at w) p z
 escape_over {k = k} {ts = ts} {o = o} x xs w u {q = q} {j = j} {b = b} {z = z} {n = n} l e f g s r h m =
     let taken : Taking (k + 1) (pattern.Name x) (ejector (next_ejector (at w))) ts (escaping (at w)) o (at u) =
     subst (λ ts. Taking (k + 1) (pattern.Name x) (ejector (next_ejector (at w))) ts (escaping (at w)) o (at u)) s
-    (subst (λ q. Taking (k + 1) q (ejector (next_ejector (at w))) (trees_of xs) (escaping (at w)) o (at u)) g
-    (subst (λ b. Taking (k + 1) q (ejector (next_ejector (at w))) (trees_of xs) b o (at u)) f
-    (subst (λ j. Taking (k + 1) q (ejector j) (trees_of xs) b o (at u)) e r))) in
+    (subst (λ q. Taking (k + 1) q (ejector (next_ejector (at w))) (trees_of_codes xs) (escaping (at w)) o (at u)) g
+    (subst (λ b. Taking (k + 1) q (ejector (next_ejector (at w))) (trees_of_codes xs) b o (at u)) f
+    (subst (λ j. Taking (k + 1) q (ejector j) (trees_of_codes xs) b o (at u)) e r))) in
     subst (λ p. Runs k (escape_tree x ts) (at w) p z) (sym (m ∙ ap (λ j. escape_end j o) e))
     (subst (λ z. Runs k (escape_tree x ts) (at w) (escape_end (next_ejector (at w)) o) z) (sym (h ∙ ap (λ is. record (at u) { opened = is }) (opened_truncated w.opened.items u.opened.items n (next_ejector (at w)) l (taking_opened taken)))) (run_escape taken))

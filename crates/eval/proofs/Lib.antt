@@ -1,12 +1,15 @@
+pub mod Added
 pub mod Captures
 pub mod Determined
 pub mod Ejections
 pub mod Ejectors
 pub mod Entered
+pub mod Fitting
 pub mod Framed
 pub mod Grown
 pub mod Opened
 pub mod Patterns
+pub mod Places
 pub mod Scopes
 pub mod Spent
 pub mod Steps

@@ -4,8 +4,8 @@ use Rattle.std.specs.Prelude.{Result, Ok, Err, IfOk}
 use Rattle.std.proofs.Math.Seq.{drop-cons}
 use Rattle.std.proofs.lemmas.List.{drop_all}
 use Rattle.kernele.specs.Tree.{Tree, define_list, Trees, and_then}
-use Rattle.kernele.specs.View.{tree_of, trees_of}
-use Rattle.kernele.specs.declared.tree.Expr.{Expr}
+use Rattle.code.specs.View.{tree_of_code, trees_of_codes}
+use Rattle.code.specs.declared.code.Code.{Code}
 use Rattle.values.specs.Data.{Val, null, Vals, and_val, no_vals}
 use Rattle.values.specs.View.{val_of, vals_of}
 use Rattle.values.specs.declared.value.Value.{Value}
@@ -43,15 +43,15 @@ vals_of-push [] v = refl
 vals_of-push (x ∷ xs) v = ap (and_val (val_of x)) (vals_of-push xs v)
 
 -- a node, by the rule for its construct
-pub node : (e : Expr) {t : Tree} {k : ℕ} {a b : At} {o : End} → tree_of e ≡ t → Runs k t (begun a) o b → 0 < a.left → k ≤ 1000 → Ends k (tree_of e) a o b
+pub node : (e : Code) {t : Tree} {k : ℕ} {a b : At} {o : End} → tree_of_code e ≡ t → Runs k t (begun a) o b → 0 < a.left → k ≤ 1000 → Ends k (tree_of_code e) a o b
 node e {k = k} {a = a} {b = b} {o = o} is r has fits = subst (λ u. Ends k u a o b) (sym is) (at_node has fits r)
 
 -- what a call for a child gave, at the child and the arm that are known
-pub child : {e d : Expr} {o p : code.End} {k : ℕ} {a b : At} → e ≡ d → o ≡ p → Ends k (tree_of e) a (end_of o) b → Ends k (tree_of d) a (end_of p) b
-child {d = d} {o = o} {k = k} {a = a} {b = b} same is h = subst (λ q. Ends k (tree_of d) a (end_of q) b) is (subst (λ x. Ends k (tree_of x) a (end_of o) b) same h)
+pub child : {e d : Code} {o p : code.End} {k : ℕ} {a b : At} → e ≡ d → o ≡ p → Ends k (tree_of_code e) a (end_of o) b → Ends k (tree_of_code d) a (end_of p) b
+child {d = d} {o = o} {k = k} {a = a} {b = b} same is h = subst (λ q. Ends k (tree_of_code d) a (end_of q) b) is (subst (λ x. Ends k (tree_of_code x) a (end_of o) b) same h)
 
-pub children : {xs ys : List Expr} {g h : Gathered} {k : ℕ} {a b : At} → xs ≡ ys → g ≡ h → Args k (trees_of xs) a (gather_of g) b → Args k (trees_of ys) a (gather_of h) b
-children {ys = ys} {g = g} {k = k} {a = a} {b = b} same is r = subst (λ q. Args k (trees_of ys) a (gather_of q) b) is (subst (λ x. Args k (trees_of x) a (gather_of g) b) same r)
+pub children : {xs ys : List Code} {g h : Gathered} {k : ℕ} {a b : At} → xs ≡ ys → g ≡ h → Args k (trees_of_codes xs) a (gather_of g) b → Args k (trees_of_codes ys) a (gather_of h) b
+children {ys = ys} {g = g} {k = k} {a = a} {b = b} same is r = subst (λ q. Args k (trees_of_codes ys) a (gather_of q) b) is (subst (λ x. Args k (trees_of_codes x) a (gather_of g) b) same r)
 
 -- values, and then how the rest ends
 abbrev pub after_values : Vals → Gather → Gather
@@ -59,19 +59,19 @@ after_values vs (values ws) = values (appended vs ws)
 after_values vs (halted s) = halted s
 
 -- the trees from an index on
-pub trees_from : (xs : List Expr) (i : ℕ) (x : Expr) → i < length xs → x ≡ get_or xs i x → trees_of (drop i xs) ≡ and_then (tree_of x) (trees_of (drop (i + 1) xs))
-trees_from xs i x h e = rw add-one (ap trees_of (drop-cons xs i x h) ∙ ap (λ y. and_then (tree_of y) (trees_of (drop (suc i) xs))) (sym e))
+pub trees_from : (xs : List Code) (i : ℕ) (x : Code) → i < length xs → x ≡ get_or xs i x → trees_of_codes (drop i xs) ≡ and_then (tree_of_code x) (trees_of_codes (drop (i + 1) xs))
+trees_from xs i x h e = rw add-one (ap trees_of_codes (drop-cons xs i x h) ∙ ap (λ y. and_then (tree_of_code y) (trees_of_codes (drop (suc i) xs))) (sym e))
 
 -- one more argument
-pub args_more : {k : ℕ} (xs : List Expr) {i : ℕ} {x : Expr} {a b c : At} {v : Val} (g : Gather) → i < length xs → x ≡ get_or xs i x → Ends k (tree_of x) a (value v) b → Args k (trees_of (drop (i + 1) xs)) b g c → Args k (trees_of (drop i xs)) a (after_values (and_val v no_vals) g) c
+pub args_more : {k : ℕ} (xs : List Code) {i : ℕ} {x : Code} {a b c : At} {v : Val} (g : Gather) → i < length xs → x ≡ get_or xs i x → Ends k (tree_of_code x) a (value v) b → Args k (trees_of_codes (drop (i + 1) xs)) b g c → Args k (trees_of_codes (drop i xs)) a (after_values (and_val v no_vals) g) c
 args_more {k = k} xs {i = i} {x = x} {a = a} {b = b} {c = c} {v = v} (values vs) h e f r = subst (λ ts. Args k ts a (values (and_val v vs)) c) (sym (trees_from xs i x h e)) (args_next f r)
 args_more {k = k} xs {i = i} {x = x} {a = a} {b = b} {c = c} {v = v} (halted s) h e f r = subst (λ ts. Args k ts a (halted s) c) (sym (trees_from xs i x h e)) (args_next f r)
 
-pub args_no_more : {k : ℕ} (xs : List Expr) {i : ℕ} {x : Expr} {a b : At} {s : Halt} → i < length xs → x ≡ get_or xs i x → Ends k (tree_of x) a (halt s) b → Args k (trees_of (drop i xs)) a (halted s) b
+pub args_no_more : {k : ℕ} (xs : List Code) {i : ℕ} {x : Code} {a b : At} {s : Halt} → i < length xs → x ≡ get_or xs i x → Ends k (tree_of_code x) a (halt s) b → Args k (trees_of_codes (drop i xs)) a (halted s) b
 args_no_more {k = k} xs {i = i} {x = x} {a = a} {b = b} {s = s} h e f = subst (λ ts. Args k ts a (halted s) b) (sym (trees_from xs i x h e)) (args_halt f)
 
-pub args_end : {k : ℕ} (xs : List Expr) {i : ℕ} {a : At} → length xs ≤ i → Args k (trees_of (drop i xs)) a (values no_vals) a
-args_end {k = k} xs {i = i} {a = a} h = subst (λ ys. Args k (trees_of ys) a (values no_vals) a) (sym (drop_all i xs h)) args_none
+pub args_end : {k : ℕ} (xs : List Code) {i : ℕ} {a : At} → length xs ≤ i → Args k (trees_of_codes (drop i xs)) a (values no_vals) a
+args_end {k = k} xs {i = i} {a = a} h = subst (λ ys. Args k (trees_of_codes ys) a (values no_vals) a) (sym (drop_all i xs h)) args_none
 
 pub after_values-push : (xs : List Value) (v : Value) (g : Gather) → after_values (vals_of xs) (after_values (and_val (val_of v) no_vals) g) ≡ after_values (vals_of (xs ++ v ∷ [])) g
 after_values-push xs v (values ws) = ap values (sym (ap (λ us. appended us ws) (vals_of-push xs v) ∙ appended-appended (vals_of xs) (and_val (val_of v) no_vals) ws))
@@ -89,14 +89,14 @@ pub args_done : {k : ℕ} {ts : Trees} {a b : At} (xs : List Value) → Args k t
 args_done {k = k} {ts = ts} {a = a} {b = b} xs r = subst (λ vs. Args k ts a (values vs) b) (appended-none (vals_of xs)) r
 
 -- one more tree of a block
-pub items_more : {k : ℕ} (xs : List Expr) {i : ℕ} {x : Expr} {a b c : At} {u v : Val} {o : End} → i < length xs → x ≡ get_or xs i x → Ends k (tree_of x) a (value v) b → Items k v (trees_of (drop (i + 1) xs)) b o c → Items k u (trees_of (drop i xs)) a o c
+pub items_more : {k : ℕ} (xs : List Code) {i : ℕ} {x : Code} {a b c : At} {u v : Val} {o : End} → i < length xs → x ≡ get_or xs i x → Ends k (tree_of_code x) a (value v) b → Items k v (trees_of_codes (drop (i + 1) xs)) b o c → Items k u (trees_of_codes (drop i xs)) a o c
 items_more {k = k} xs {i = i} {x = x} {a = a} {c = c} {u = u} {o = o} h e f r = subst (λ ts. Items k u ts a o c) (sym (trees_from xs i x h e)) (items_next f r)
 
-pub items_no_more : {k : ℕ} (xs : List Expr) {i : ℕ} {x : Expr} {a b : At} {u : Val} {s : Halt} → i < length xs → x ≡ get_or xs i x → Ends k (tree_of x) a (halt s) b → Items k u (trees_of (drop i xs)) a (halt s) b
+pub items_no_more : {k : ℕ} (xs : List Code) {i : ℕ} {x : Code} {a b : At} {u : Val} {s : Halt} → i < length xs → x ≡ get_or xs i x → Ends k (tree_of_code x) a (halt s) b → Items k u (trees_of_codes (drop i xs)) a (halt s) b
 items_no_more {k = k} xs {i = i} {x = x} {a = a} {b = b} {u = u} {s = s} h e f = subst (λ ts. Items k u ts a (halt s) b) (sym (trees_from xs i x h e)) (items_halt f)
 
-pub items_end : {k : ℕ} (xs : List Expr) {i : ℕ} {a : At} {u : Val} → length xs ≤ i → Items k u (trees_of (drop i xs)) a (value u) a
-items_end {k = k} xs {i = i} {a = a} {u = u} h = subst (λ ys. Items k u (trees_of ys) a (value u) a) (sym (drop_all i xs h)) items_none
+pub items_end : {k : ℕ} (xs : List Code) {i : ℕ} {a : At} {u : Val} → length xs ≤ i → Items k u (trees_of_codes (drop i xs)) a (value u) a
+items_end {k = k} xs {i = i} {a = a} {u = u} h = subst (λ ys. Items k u (trees_of_codes ys) a (value u) a) (sym (drop_all i xs h)) items_none
 
 -- an outcome that is known only by an equation
 pub runs_as : {k : ℕ} {t : Tree} {a b : At} {o p : End} → Runs k t a p b → o ≡ p → Runs k t a o b
@@ -120,21 +120,21 @@ if_both (Ok x) P Q R h p q = h x p q
 if_both (Err e) P Q R h p q = tt
 
 -- a block's items, where its block is known
-pub blocks : {xs ys : List Expr} {o p : code.End} {k : ℕ} {a b : At} → xs ≡ ys → o ≡ p → Block k (trees_of xs) a (end_of o) b → Block k (trees_of ys) a (end_of p) b
-blocks {ys = ys} {o = o} {k = k} {a = a} {b = b} same is r = subst (λ q. Block k (trees_of ys) a (end_of q) b) is (subst (λ x. Block k (trees_of x) a (end_of o) b) same r)
+pub blocks : {xs ys : List Code} {o p : code.End} {k : ℕ} {a b : At} → xs ≡ ys → o ≡ p → Block k (trees_of_codes xs) a (end_of o) b → Block k (trees_of_codes ys) a (end_of p) b
+blocks {ys = ys} {o = o} {k = k} {a = a} {b = b} same is r = subst (λ q. Block k (trees_of_codes ys) a (end_of q) b) is (subst (λ x. Block k (trees_of_codes x) a (end_of o) b) same r)
 
 -- the same, where its end is known by an equation
-pub block_ending : {xs ys : List Expr} {o p : End} {k : ℕ} {a b : At} → xs ≡ ys → o ≡ p → Block k (trees_of xs) a o b → Block k (trees_of ys) a p b
-block_ending {ys = ys} {o = o} {k = k} {a = a} {b = b} same is r = subst (λ q. Block k (trees_of ys) a q b) is (subst (λ x. Block k (trees_of x) a o b) same r)
+pub block_ending : {xs ys : List Code} {o p : End} {k : ℕ} {a b : At} → xs ≡ ys → o ≡ p → Block k (trees_of_codes xs) a o b → Block k (trees_of_codes ys) a p b
+block_ending {ys = ys} {o = o} {k = k} {a = a} {b = b} same is r = subst (λ q. Block k (trees_of_codes ys) a q b) is (subst (λ x. Block k (trees_of_codes x) a o b) same r)
 
-pub taking : {xs ys : List Expr} {k : ℕ} {p : Pattern} {v w : Val} {a b : At} {o : End} → xs ≡ ys → v ≡ w → Taking k p v (trees_of xs) a o b → Taking k p w (trees_of ys) a o b
-taking {ys = ys} {k = k} {p = p} {v = v} {a = a} {b = b} {o = o} same is r = subst (λ w. Taking k p w (trees_of ys) a o b) is (subst (λ x. Taking k p v (trees_of x) a o b) same r)
+pub taking : {xs ys : List Code} {k : ℕ} {p : Pattern} {v w : Val} {a b : At} {o : End} → xs ≡ ys → v ≡ w → Taking k p v (trees_of_codes xs) a o b → Taking k p w (trees_of_codes ys) a o b
+taking {ys = ys} {k = k} {p = p} {v = v} {a = a} {b = b} {o = o} same is r = subst (λ w. Taking k p w (trees_of_codes ys) a o b) is (subst (λ x. Taking k p v (trees_of_codes x) a o b) same r)
 
 pub taking_ending : {k : ℕ} {p : Pattern} {v : Val} {ts : Trees} {a b : At} {o q : End} → o ≡ q → Taking k p v ts a o b → Taking k p v ts a q b
 taking_ending {k = k} {p = p} {v = v} {ts = ts} {a = a} {b = b} e r = subst (λ q. Taking k p v ts a q b) e r
 
-pub each : {xs ys : List Expr} {k : ℕ} {p : Pattern} {vs ws : List Value} {a b : At} {o : End} → xs ≡ ys → vs ≡ ws → Each k p (trees_of xs) (vals_of vs) a o b → Each k p (trees_of ys) (vals_of ws) a o b
-each {ys = ys} {k = k} {p = p} {vs = vs} {a = a} {b = b} {o = o} same is r = subst (λ ws. Each k p (trees_of ys) (vals_of ws) a o b) is (subst (λ x. Each k p (trees_of x) (vals_of vs) a o b) same r)
+pub each : {xs ys : List Code} {k : ℕ} {p : Pattern} {vs ws : List Value} {a b : At} {o : End} → xs ≡ ys → vs ≡ ws → Each k p (trees_of_codes xs) (vals_of vs) a o b → Each k p (trees_of_codes ys) (vals_of ws) a o b
+each {ys = ys} {k = k} {p = p} {vs = vs} {a = a} {b = b} {o = o} same is r = subst (λ ws. Each k p (trees_of_codes ys) (vals_of ws) a o b) is (subst (λ x. Each k p (trees_of_codes x) (vals_of vs) a o b) same r)
 
 -- the names of a scope are truncated to those from before it
 place_after : (w u : Working) (z : At) (n : ℕ) (own : Bool) → n ≡ length w.nouns.items → own ≡ w.own_scope → Grown (at w) (at u) → z ≡ record (at u) { nouns = nouns_of (take n u.nouns.items); own_scope = own } → z ≡ leaving (at w) (at u)

@@ -3,9 +3,10 @@ use Rattle.std.specs.Prelude.{◌≡◌, ℕ, ◌≤◌, ◌++◌, true}
 use Rattle.ids.specs.declared.names.EjId.{EjId}
 use Rattle.kernele.specs.Tree.{Tree}
 use Rattle.values.specs.Data.{Val}
-use Rattle.heap.specs.State.{Nouns, Cell, State}
+use Rattle.code.specs.Frames.{after}
+use Rattle.heap.specs.State.{Nouns, frame_of, Cell, State}
 use Rattle.eval.specs.At.{At}
-use Rattle.eval.specs.Outcomes.{End, ejected, halt}
+use Rattle.eval.specs.Outcomes.{End, value, ejected, halt}
 use Rattle.eval.specs.Rules.{Ends, is_open}
 use Rattle.eval.specs.Touched.{ends_touched, Agree, NotPut, in_state}
 
@@ -30,6 +31,10 @@ StepsOnlyFall = (k : ℕ) (t : Tree) (a b : At) (o : End) → Ends k t a o b →
 -- a tree takes no name from the scopes and puts none behind another: it only adds newer ones
 abbrev pub NamesAreOnlyAdded : Type 0
 NamesAreOnlyAdded = (k : ℕ) (t : Tree) (a b : At) (o : End) → Ends k t a o b → (more : Nouns) × (b.nouns ≡ more ++ a.nouns)
+
+-- behind a tree that gave a value stand the names that it defines, in the scope in which it began
+abbrev pub DefinitionsAreAdded : Type 0
+DefinitionsAreAdded = (k : ℕ) (t : Tree) (a b : At) (v : Val) → Ends k t a (value v) b → (frame_of b.nouns ≡ after a.own_scope t (frame_of a.nouns)) × (b.own_scope ≡ a.own_scope)
 
 -- a value on its way to an Escape leaves a tree only where that Escape is being evaluated around the tree
 abbrev pub EjectionsAreOpen : Type 0

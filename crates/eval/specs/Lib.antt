@@ -1,4 +1,5 @@
 pub mod At
+pub mod Fits
 pub mod Outcomes
 pub mod Rules
 pub mod View

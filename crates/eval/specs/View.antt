@@ -6,7 +6,7 @@ use Rattle.eval.specs.At.{At}
 use Rattle.heap.specs.View.{nouns_of, state_of}
 use Rattle.eval.specs.Outcomes.{Cause, budget_spent, too_deep, too_large, Halt, thrown, ejected, abandoned, End, value, halt, Gather, values, halted}
 use Rattle.eval.specs.Rules.{Choice, goes, ends, Listing, listed, unlisted, Capture, captured, missing, Callee, on_object, on_ejector, on_datum, Target, gives, enters}
-use Rattle.kernele.specs.View.{trees_of}
+use Rattle.code.specs.View.{trees_of_codes}
 use Rattle.eval.specs.declared.wanted.Choosing.{Choosing}
 use Rattle.eval.specs.declared.wanted.Choosing.TheVariants as code-choosing
 use Rattle.eval.specs.declared.wanted.Listing as code-list
@@ -79,4 +79,4 @@ callee_view code-callees.Datum = on_datum
 
 abbrev pub target_view : code-target.Target → Target
 target_view (code-targets.Gives e) = gives (end_of e)
-target_view (code-targets.Enters nouns body) = enters (nouns_of nouns.items) (trees_of body.value.items)
+target_view (code-targets.Enters e) = enters (nouns_of e.nouns.items) (trees_of_codes e.body.value.items)

@@ -1,7 +1,9 @@
 // Calls and Escapes in the evaluation: a method's block runs in the turn, and so does an Escape's.
-ghost use Rattle.std.specs.Prelude.{◌≡◌, ◌≤◌, ◌<◌, ◌+◌, IfOk};
+ghost use Rattle.std.specs.Prelude.{◌≡◌, ◌≤◌, ◌<◌, ◌+◌, ◌++◌, ◌∷◌, [], false, IfOk};
 ghost use Rattle.kernele.specs.Tree.{call, escape_tree};
-ghost use Rattle.kernele.specs.View.{tree_of, trees_of};
+ghost use Rattle.code.specs.Frames.{fits_all};
+ghost use Rattle.eval.specs.Fits.{fits_at, frame_at, frame_behind};
+ghost use Rattle.code.specs.View.{tree_of_code, trees_of_codes};
 ghost use Rattle.values.specs.Data.{null};
 ghost use Rattle.eval.specs.At.{At};
 ghost use Rattle.eval.specs.Rules.{Runs, Items, inside, leaving};
@@ -11,13 +13,14 @@ ghost use Rattle.eval.specs.View.{at, end_of};
 use crate::calls::{call_target, enter_method, leave_method};
 use crate::control::eval_taking;
 use crate::end::End;
+use crate::entry::Entry;
 use crate::escapes::{close_escape, count_open, escape_end, open_escape};
 use crate::eval::{eval, eval_args, eval_items};
 use crate::objects::Target;
 use crate::working::Working;
-use heap::state::Noun;
+use code::code::Code;
 use ids::text::Text;
-use kernele::tree::{Expr, Pattern};
+use kernele::tree::Pattern;
 use std::alloc::AllocError;
 use std::sync::Arc;
 use values::value::Value;
@@ -25,13 +28,14 @@ use values::value::Value;
 #[cycle(evaluate)]
 pub(crate) fn eval_call(
     w: &mut Working,
-    receiver: &Arc<Expr>,
+    receiver: &Arc<Code>,
     verb: &Text,
-    args: &Arc<Vec<Expr>>,
+    args: &Arc<Vec<Code>>,
     level: u32,
 ) -> Result<End, AllocError>
-    requires { level ≤ 1000 }
-    ensures { IfOk result (λ o. Runs level (call (tree_of receiver.now.value) verb.now (trees_of args.now.value.items))
+    requires level { level ≤ 1000 }
+    requires fits { fits_at (at w.old) receiver.now.value × fits_all w.old.own_scope (frame_behind (at w.old) receiver.now.value) args.now.value.items }
+    ensures { IfOk result (λ o. Runs level (call (tree_of_code receiver.now.value) verb.now (trees_of_codes args.now.value.items))
         (at w.old) (end_of o) (at w.new)) }
 {
     let received = match eval(w, receiver, level + 1)? {
@@ -42,8 +46,8 @@ pub(crate) fn eval_call(
     let target = call_target(w, received, verb, gathered)?;
     match target {
         Target::Gives(end) => Ok(end),
-        Target::Enters(nouns, body) => {
-            let end = eval_method(w, nouns, body, level + 1)?;
+        Target::Enters(entry) => {
+            let end = eval_method(w, entry, level + 1)?;
             Ok(end)
         }
     }
@@ -51,16 +55,12 @@ pub(crate) fn eval_call(
 
 /// Evaluates a method's block with the names that it begins with.
 #[cycle(evaluate)]
-fn eval_method(
-    w: &mut Working,
-    nouns: Vec<Noun>,
-    body: Arc<Vec<Expr>>,
-    level: u32,
-) -> Result<End, AllocError>
+fn eval_method(w: &mut Working, entry: Entry, level: u32) -> Result<End, AllocError>
     requires { level ≤ 1001 }
-    ensures { IfOk result (λ o. (d : At) × Items level null (trees_of body.value.items) (inside (nouns_of nouns.items) (at w.old)) (end_of o) d
+    ensures { IfOk result (λ o. (d : At) × Items level null (trees_of_codes entry.body.value.items) (inside (nouns_of entry.nouns.items) (at w.old)) (end_of o) d
         × (at w.new ≡ leaving (at w.old) d)) }
 {
+    let Entry { nouns, body } = entry;
     let caller = enter_method(w, nouns);
     let end = eval_items(w, &body, level)?;
     leave_method(w, caller);
@@ -71,12 +71,13 @@ fn eval_method(
 pub(crate) fn eval_escape(
     w: &mut Working,
     name: &Text,
-    body: &Arc<Vec<Expr>>,
+    body: &Arc<Vec<Code>>,
     level: u32,
 ) -> Result<End, AllocError>
     requires level { level ≤ 1000 }
+    requires fits { fits_all false (frame_at (at w.old) ++ name.now ∷ []) body.now.value.items }
     requires counted { w.old.ejectors + w.old.steps < 4294967295 }
-    ensures { IfOk result (λ o. Runs level (escape_tree name.now (trees_of body.now.value.items))
+    ensures { IfOk result (λ o. Runs level (escape_tree name.now (trees_of_codes body.now.value.items))
         (at w.old) (end_of o) (at w.new)) }
 {
     let outer = count_open(w);

@@ -1,7 +1,10 @@
 // Control: the constructs that have blocks, each block in a scope of its own.
-ghost use Rattle.std.specs.Prelude.{◌≡◌, ◌≤◌, IfOk};
+ghost use Rattle.std.specs.Prelude.{◌≡◌, ◌≤◌, ◌++◌, false, IfOk};
 ghost use Rattle.kernele.specs.Tree.{hide, if_tree, while_tree, for_tree, try_tree};
-ghost use Rattle.kernele.specs.View.{tree_of, trees_of};
+ghost use Rattle.code.specs.Frames.{fits_all, only_names};
+ghost use Rattle.eval.specs.Fits.{fits_at, frame_at, frame_behind};
+ghost use Rattle.kernele.specs.Scope.{name_of};
+ghost use Rattle.code.specs.View.{tree_of_code, trees_of_codes};
 ghost use Rattle.values.specs.View.{val_of, vals_of};
 ghost use Rattle.eval.specs.Rules.{Runs, Block, Taking, Each};
 ghost use Rattle.eval.specs.View.{at, end_of};
@@ -12,7 +15,8 @@ use crate::eval::{eval, eval_items};
 use crate::nouns::match_pattern;
 use crate::wanted::{Choosing, Listing, caught, choose, halt_in, items_of};
 use crate::working::Working;
-use kernele::tree::{Expr, Pattern};
+use code::code::Code;
+use kernele::tree::Pattern;
 use std::alloc::AllocError;
 use std::sync::Arc;
 use values::value::Value;
@@ -20,11 +24,12 @@ use values::value::Value;
 #[cycle(evaluate)]
 pub(crate) fn eval_hide(
     w: &mut Working,
-    body: &Arc<Vec<Expr>>,
+    body: &Arc<Vec<Code>>,
     level: u32,
 ) -> Result<End, AllocError>
-    requires { level ≤ 1000 }
-    ensures { IfOk result (λ o. Runs level (hide (trees_of body.now.value.items))
+    requires level { level ≤ 1000 }
+    requires fits { fits_all false (frame_at (at w.old)) body.now.value.items }
+    ensures { IfOk result (λ o. Runs level (hide (trees_of_codes body.now.value.items))
         (at w.old) (end_of o) (at w.new)) }
 {
     eval_block(w, body, level + 1)
@@ -33,14 +38,15 @@ pub(crate) fn eval_hide(
 #[cycle(evaluate)]
 pub(crate) fn eval_if(
     w: &mut Working,
-    condition: &Arc<Expr>,
-    first: &Arc<Vec<Expr>>,
-    second: &Arc<Vec<Expr>>,
+    condition: &Arc<Code>,
+    first: &Arc<Vec<Code>>,
+    second: &Arc<Vec<Code>>,
     level: u32,
 ) -> Result<End, AllocError>
-    requires { level ≤ 1000 }
-    ensures { IfOk result (λ o. Runs level (if_tree (tree_of condition.now.value)
-        (trees_of first.now.value.items) (trees_of second.now.value.items))
+    requires level { level ≤ 1000 }
+    requires fits { fits_at (at w.old) condition.now.value × fits_all false (frame_behind (at w.old) condition.now.value) first.now.value.items × fits_all false (frame_behind (at w.old) condition.now.value) second.now.value.items }
+    ensures { IfOk result (λ o. Runs level (if_tree (tree_of_code condition.now.value)
+        (trees_of_codes first.now.value.items) (trees_of_codes second.now.value.items))
         (at w.old) (end_of o) (at w.new)) }
 {
     let tested = eval(w, condition, level + 1)?;
@@ -60,13 +66,14 @@ pub(crate) fn eval_if(
 #[cycle(evaluate)]
 pub(crate) fn eval_while(
     w: &mut Working,
-    condition: &Arc<Expr>,
-    body: &Arc<Vec<Expr>>,
+    condition: &Arc<Code>,
+    body: &Arc<Vec<Code>>,
     level: u32,
 ) -> Result<End, AllocError>
-    requires { level ≤ 1000 }
-    ensures { IfOk result (λ o. Runs level (while_tree (tree_of condition.now.value)
-        (trees_of body.now.value.items))
+    requires level { level ≤ 1000 }
+    requires fits { fits_at (at w.old) condition.now.value × fits_all false (frame_behind (at w.old) condition.now.value) body.now.value.items }
+    ensures { IfOk result (λ o. Runs level (while_tree (tree_of_code condition.now.value)
+        (trees_of_codes body.now.value.items))
         (at w.old) (end_of o) (at w.new)) }
 {
     let names = w.nouns.len();
@@ -94,13 +101,14 @@ pub(crate) fn eval_while(
 pub(crate) fn eval_for(
     w: &mut Working,
     pattern: &Pattern,
-    list: &Arc<Expr>,
-    body: &Arc<Vec<Expr>>,
+    list: &Arc<Code>,
+    body: &Arc<Vec<Code>>,
     level: u32,
 ) -> Result<End, AllocError>
-    requires { level ≤ 1000 }
-    ensures { IfOk result (λ o. Runs level (for_tree pattern.now (tree_of list.now.value)
-        (trees_of body.now.value.items))
+    requires level { level ≤ 1000 }
+    requires fits { fits_at (at w.old) list.now.value × fits_all false (frame_behind (at w.old) list.now.value ++ only_names (name_of pattern.now)) body.now.value.items }
+    ensures { IfOk result (λ o. Runs level (for_tree pattern.now (tree_of_code list.now.value)
+        (trees_of_codes body.now.value.items))
         (at w.old) (end_of o) (at w.new)) }
 {
     let ended = eval(w, list, level + 1)?;
@@ -117,14 +125,15 @@ pub(crate) fn eval_for(
 #[cycle(evaluate)]
 pub(crate) fn eval_try(
     w: &mut Working,
-    body: &Arc<Vec<Expr>>,
+    body: &Arc<Vec<Code>>,
     pattern: &Pattern,
-    handler: &Arc<Vec<Expr>>,
+    handler: &Arc<Vec<Code>>,
     level: u32,
 ) -> Result<End, AllocError>
-    requires { level ≤ 1000 }
-    ensures { IfOk result (λ o. Runs level (try_tree (trees_of body.now.value.items) pattern.now
-        (trees_of handler.now.value.items))
+    requires level { level ≤ 1000 }
+    requires fits { fits_all false (frame_at (at w.old)) body.now.value.items × fits_all false (frame_at (at w.old) ++ only_names (name_of pattern.now)) handler.now.value.items }
+    ensures { IfOk result (λ o. Runs level (try_tree (trees_of_codes body.now.value.items) pattern.now
+        (trees_of_codes handler.now.value.items))
         (at w.old) (end_of o) (at w.new)) }
 {
     let tried = eval_block(w, body, level + 1)?;
@@ -139,9 +148,10 @@ pub(crate) fn eval_try(
 
 /// Evaluates a block, in a scope of its own.
 #[cycle(evaluate)]
-fn eval_block(w: &mut Working, items: &[Expr], level: u32) -> Result<End, AllocError>
-    requires { level ≤ 1001 }
-    ensures { IfOk result (λ o. Block level (trees_of items.now) (at w.old) (end_of o) (at w.new)) }
+fn eval_block(w: &mut Working, items: &[Code], level: u32) -> Result<End, AllocError>
+    requires level { level ≤ 1001 }
+    requires fits { fits_all false (frame_at (at w.old)) items.now }
+    ensures { IfOk result (λ o. Block level (trees_of_codes items.now) (at w.old) (end_of o) (at w.new)) }
 {
     let outer = enter(w);
     let end = eval_items(w, items, level)?;
@@ -155,11 +165,12 @@ pub(crate) fn eval_taking(
     w: &mut Working,
     pattern: &Pattern,
     value: &Value,
-    items: &[Expr],
+    items: &[Code],
     level: u32,
 ) -> Result<End, AllocError>
-    requires { level ≤ 1001 }
-    ensures { IfOk result (λ o. Taking level pattern.now (val_of value.now) (trees_of items.now)
+    requires level { level ≤ 1001 }
+    requires fits { fits_all false (frame_at (at w.old) ++ only_names (name_of pattern.now)) items.now }
+    ensures { IfOk result (λ o. Taking level pattern.now (val_of value.now) (trees_of_codes items.now)
         (at w.old) (end_of o) (at w.new)) }
 {
     let outer = enter(w);
@@ -175,11 +186,12 @@ fn eval_each(
     w: &mut Working,
     pattern: &Pattern,
     values: &[Value],
-    items: &[Expr],
+    items: &[Code],
     level: u32,
 ) -> Result<End, AllocError>
-    requires { level ≤ 1001 }
-    ensures { IfOk result (λ o. Each level pattern.now (trees_of items.now) (vals_of values.now)
+    requires level { level ≤ 1001 }
+    requires fits { fits_all false (frame_at (at w.old) ++ only_names (name_of pattern.now)) items.now }
+    ensures { IfOk result (λ o. Each level pattern.now (trees_of_codes items.now) (vals_of values.now)
         (at w.old) (end_of o) (at w.new)) }
 {
     for value in values {

@@ -1,7 +1,9 @@
 // Evaluation: one small function for each construct; those that have blocks are in `control`.
 ghost use Rattle.std.specs.Prelude.{◌≡◌, ◌≤◌, IfOk};
 ghost use Rattle.kernele.specs.Tree.{define, define_list, variable, assign as assign_tree, list_tree, same_tree, throw_tree};
-ghost use Rattle.kernele.specs.View.{tree_of, trees_of};
+ghost use Rattle.code.specs.Frames.{fits, place_in};
+ghost use Rattle.code.specs.View.{tree_of_code, trees_of_codes};
+ghost use Rattle.eval.specs.Fits.{fits_at, all_fit_at, frame_behind};
 ghost use Rattle.values.specs.Data.{null};
 ghost use Rattle.eval.specs.Rules.{Ends, Runs, Args, Items};
 ghost use Rattle.eval.specs.View.{at, end_of, gather_of};
@@ -14,8 +16,9 @@ use crate::objects::define_object;
 use crate::results::{int_end, list_end, text_end};
 use crate::wanted::thrown;
 use crate::working::Working;
+use code::code::{Code, Place};
 use ids::text::Text;
-use kernele::tree::{Expr, Pattern};
+use kernele::tree::Pattern;
 use std::alloc::AllocError;
 use std::sync::Arc;
 use values::sameness::same;
@@ -36,8 +39,9 @@ macro_rules! value {
 
 /// Evaluates an expression at a level. Fails only for want of memory.
 #[cycle(evaluate)]
-pub fn eval(w: &mut Working, e: &Expr, level: u32) -> Result<End, AllocError>
-    ensures { IfOk result (λ o. Ends level (tree_of e.now) (at w.old) (end_of o) (at w.new)) }
+pub fn eval(w: &mut Working, e: &Code, level: u32) -> Result<End, AllocError>
+    requires fits { fits_at (at w.old) e.now }
+    ensures { IfOk result (λ o. Ends level (tree_of_code e.now) (at w.old) (end_of o) (at w.new)) }
 {
     if w.steps == 0 {
         return Ok(End::Halt(Halt::Abandoned(Abandon::Budget)));
@@ -47,26 +51,26 @@ pub fn eval(w: &mut Working, e: &Expr, level: u32) -> Result<End, AllocError>
         return Ok(End::Halt(Halt::Abandoned(Abandon::Depth)));
     }
     match e {
-        Expr::Null => Ok(End::Value(Value::Null)),
-        Expr::Bool(b) => Ok(End::Value(Value::Bool(*b))),
-        Expr::Int(n) => Ok(int_end(*n)),
-        Expr::Text(text) => text_end(w.alloc, text),
-        Expr::Noun(name) => noun_end(w, name),
-        Expr::Def(pattern, right) => eval_def(w, pattern, right, level),
-        Expr::Var(name, right) => eval_var(w, name, right, level),
-        Expr::Assign(name, right) => eval_assign(w, name, right, level),
-        Expr::Call(receiver, verb, args) => eval_call(w, receiver, verb, args, level),
-        Expr::List(items) => eval_list(w, items, level),
-        Expr::Same(left, right) => eval_same(w, left, right, level),
-        Expr::DefList(patterns, right) => eval_def_list(w, patterns, right, level),
-        Expr::Hide(body) => eval_hide(w, body, level),
-        Expr::If(condition, first, second) => eval_if(w, condition, first, second, level),
-        Expr::While(condition, body) => eval_while(w, condition, body, level),
-        Expr::For(pattern, list, body) => eval_for(w, pattern, list, body, level),
-        Expr::Try(body, pattern, handler) => eval_try(w, body, pattern, handler, level),
-        Expr::Throw(problem) => eval_throw(w, problem, level),
-        Expr::Object(pattern, methods) => define_object(w, pattern, methods),
-        Expr::Escape(name, body) => eval_escape(w, name, body, level),
+        Code::Null => Ok(End::Value(Value::Null)),
+        Code::Bool(b) => Ok(End::Value(Value::Bool(*b))),
+        Code::Int(n) => Ok(int_end(*n)),
+        Code::Text(text) => text_end(w.alloc, text),
+        Code::Noun(name, place) => noun_end(w, name, *place),
+        Code::Def(pattern, right) => eval_def(w, pattern, right, level),
+        Code::Var(name, right) => eval_var(w, name, right, level),
+        Code::Assign(name, place, right) => eval_assign(w, name, *place, right, level),
+        Code::Call(receiver, verb, args) => eval_call(w, receiver, verb, args, level),
+        Code::List(items) => eval_list(w, items, level),
+        Code::Same(left, right) => eval_same(w, left, right, level),
+        Code::DefList(patterns, right) => eval_def_list(w, patterns, right, level),
+        Code::Hide(body) => eval_hide(w, body, level),
+        Code::If(condition, first, second) => eval_if(w, condition, first, second, level),
+        Code::While(condition, body) => eval_while(w, condition, body, level),
+        Code::For(pattern, list, body) => eval_for(w, pattern, list, body, level),
+        Code::Try(body, pattern, handler) => eval_try(w, body, pattern, handler, level),
+        Code::Throw(problem) => eval_throw(w, problem, level),
+        Code::Object(pattern, captures, methods) => define_object(w, pattern, captures, methods),
+        Code::Escape(name, body) => eval_escape(w, name, body, level),
     }
 }
 
@@ -74,11 +78,12 @@ pub fn eval(w: &mut Working, e: &Expr, level: u32) -> Result<End, AllocError>
 fn eval_def(
     w: &mut Working,
     pattern: &Pattern,
-    right: &Arc<Expr>,
+    right: &Arc<Code>,
     level: u32,
 ) -> Result<End, AllocError>
-    requires { level ≤ 1000 }
-    ensures { IfOk result (λ o. Runs level (define pattern.now (tree_of right.now.value))
+    requires level { level ≤ 1000 }
+    requires fits { fits_at (at w.old) right.now.value }
+    ensures { IfOk result (λ o. Runs level (define pattern.now (tree_of_code right.now.value))
         (at w.old) (end_of o) (at w.new)) }
 {
     let v = value!(eval(w, right, level + 1)?);
@@ -90,11 +95,12 @@ fn eval_def(
 fn eval_def_list(
     w: &mut Working,
     patterns: &Arc<Vec<Pattern>>,
-    right: &Arc<Expr>,
+    right: &Arc<Code>,
     level: u32,
 ) -> Result<End, AllocError>
-    requires { level ≤ 1000 }
-    ensures { IfOk result (λ o. Runs level (define_list patterns.now.value.items (tree_of right.now.value))
+    requires level { level ≤ 1000 }
+    requires fits { fits_at (at w.old) right.now.value }
+    ensures { IfOk result (λ o. Runs level (define_list patterns.now.value.items (tree_of_code right.now.value))
         (at w.old) (end_of o) (at w.new)) }
 {
     let v = value!(eval(w, right, level + 1)?);
@@ -102,9 +108,10 @@ fn eval_def_list(
 }
 
 #[cycle(evaluate)]
-fn eval_var(w: &mut Working, name: &Text, right: &Arc<Expr>, level: u32) -> Result<End, AllocError>
-    requires { level ≤ 1000 }
-    ensures { IfOk result (λ o. Runs level (variable name.now (tree_of right.now.value))
+fn eval_var(w: &mut Working, name: &Text, right: &Arc<Code>, level: u32) -> Result<End, AllocError>
+    requires level { level ≤ 1000 }
+    requires fits { fits_at (at w.old) right.now.value }
+    ensures { IfOk result (λ o. Runs level (variable name.now (tree_of_code right.now.value))
         (at w.old) (end_of o) (at w.new)) }
 {
     let v = value!(eval(w, right, level + 1)?);
@@ -115,21 +122,24 @@ fn eval_var(w: &mut Working, name: &Text, right: &Arc<Expr>, level: u32) -> Resu
 fn eval_assign(
     w: &mut Working,
     name: &Text,
-    right: &Arc<Expr>,
+    place: Place,
+    right: &Arc<Code>,
     level: u32,
 ) -> Result<End, AllocError>
-    requires { level ≤ 1000 }
-    ensures { IfOk result (λ o. Runs level (assign_tree name.now (tree_of right.now.value))
+    requires level { level ≤ 1000 }
+    requires fits { fits_at (at w.old) right.now.value × (place ≡ place_in (frame_behind (at w.old) right.now.value) name.now) }
+    ensures { IfOk result (λ o. Runs level (assign_tree name.now (tree_of_code right.now.value))
         (at w.old) (end_of o) (at w.new)) }
 {
     let v = value!(eval(w, right, level + 1)?);
-    assign(w, name, v)
+    assign(w, name, place, v)
 }
 
 #[cycle(evaluate)]
-fn eval_list(w: &mut Working, items: &Arc<Vec<Expr>>, level: u32) -> Result<End, AllocError>
-    requires { level ≤ 1000 }
-    ensures { IfOk result (λ o. Runs level (list_tree (trees_of items.now.value.items))
+fn eval_list(w: &mut Working, items: &Arc<Vec<Code>>, level: u32) -> Result<End, AllocError>
+    requires level { level ≤ 1000 }
+    requires fits { all_fit_at (at w.old) items.now.value.items }
+    ensures { IfOk result (λ o. Runs level (list_tree (trees_of_codes items.now.value.items))
         (at w.old) (end_of o) (at w.new)) }
 {
     let gathered = eval_args(w, items, level + 1)?;
@@ -139,12 +149,13 @@ fn eval_list(w: &mut Working, items: &Arc<Vec<Expr>>, level: u32) -> Result<End,
 #[cycle(evaluate)]
 fn eval_same(
     w: &mut Working,
-    left: &Arc<Expr>,
-    right: &Arc<Expr>,
+    left: &Arc<Code>,
+    right: &Arc<Code>,
     level: u32,
 ) -> Result<End, AllocError>
-    requires { level ≤ 1000 }
-    ensures { IfOk result (λ o. Runs level (same_tree (tree_of left.now.value) (tree_of right.now.value))
+    requires level { level ≤ 1000 }
+    requires fits { fits_at (at w.old) left.now.value × fits w.old.own_scope (frame_behind (at w.old) left.now.value) right.now.value }
+    ensures { IfOk result (λ o. Runs level (same_tree (tree_of_code left.now.value) (tree_of_code right.now.value))
         (at w.old) (end_of o) (at w.new)) }
 {
     let l = value!(eval(w, left, level + 1)?);
@@ -153,9 +164,10 @@ fn eval_same(
 }
 
 #[cycle(evaluate)]
-fn eval_throw(w: &mut Working, problem: &Arc<Expr>, level: u32) -> Result<End, AllocError>
-    requires { level ≤ 1000 }
-    ensures { IfOk result (λ o. Runs level (throw_tree (tree_of problem.now.value))
+fn eval_throw(w: &mut Working, problem: &Arc<Code>, level: u32) -> Result<End, AllocError>
+    requires level { level ≤ 1000 }
+    requires fits { fits_at (at w.old) problem.now.value }
+    ensures { IfOk result (λ o. Runs level (throw_tree (tree_of_code problem.now.value))
         (at w.old) (end_of o) (at w.new)) }
 {
     let v = value!(eval(w, problem, level + 1)?);
@@ -164,9 +176,10 @@ fn eval_throw(w: &mut Working, problem: &Arc<Expr>, level: u32) -> Result<End, A
 
 /// Evaluates arguments or items of a list from left to right.
 #[cycle(evaluate)]
-pub(crate) fn eval_args(w: &mut Working, args: &[Expr], level: u32) -> Result<Gathered, AllocError>
-    requires { level ≤ 1001 }
-    ensures { IfOk result (λ g. Args level (trees_of args.now) (at w.old) (gather_of g) (at w.new)) }
+pub(crate) fn eval_args(w: &mut Working, args: &[Code], level: u32) -> Result<Gathered, AllocError>
+    requires level { level ≤ 1001 }
+    requires fits { all_fit_at (at w.old) args.now }
+    ensures { IfOk result (λ g. Args level (trees_of_codes args.now) (at w.old) (gather_of g) (at w.new)) }
 {
     let mut values = Vec::new(w.alloc);
     for arg in args {
@@ -180,9 +193,10 @@ pub(crate) fn eval_args(w: &mut Working, args: &[Expr], level: u32) -> Result<Ga
 
 /// Evaluates the items of a block in order: the last one's value, or null.
 #[cycle(evaluate)]
-pub fn eval_items(w: &mut Working, items: &[Expr], level: u32) -> Result<End, AllocError>
-    requires { level ≤ 1001 }
-    ensures { IfOk result (λ o. Items level null (trees_of items.now) (at w.old) (end_of o) (at w.new)) }
+pub fn eval_items(w: &mut Working, items: &[Code], level: u32) -> Result<End, AllocError>
+    requires level { level ≤ 1001 }
+    requires fits { all_fit_at (at w.old) items.now }
+    ensures { IfOk result (λ o. Items level null (trees_of_codes items.now) (at w.old) (end_of o) (at w.new)) }
 {
     let mut last = Value::Null;
     for item in items {

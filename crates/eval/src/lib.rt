@@ -9,6 +9,7 @@ pub mod calling;
 pub mod calls;
 pub mod control;
 pub mod end;
+pub mod entry;
 pub mod escapes;
 pub mod eval;
 pub mod nouns;

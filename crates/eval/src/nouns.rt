@@ -3,17 +3,20 @@ ghost use Rattle.std.specs.Prelude.{◌≡◌, ◌<◌, IfOk, IfSome, OnOk, leng
 ghost use Rattle.std.specs.Option.{option_map};
 ghost use Rattle.values.specs.Replies.{items_in};
 ghost use Rattle.values.specs.View.{val_of, vals_of};
-ghost use Rattle.heap.specs.State.{lookup, read, slot_cell};
+ghost use Rattle.code.specs.Frames.{place_in};
+ghost use Rattle.eval.specs.Fits.{frame_at};
+ghost use Rattle.heap.specs.State.{read, slot_cell};
 ghost use Rattle.eval.specs.Outcomes.{value as value_end};
 ghost use Rattle.eval.specs.Rules.{binding as binding_of, matched, matched_all, taken, parts_of, parts_bound, parts_end, sought, sought_slot, held_end, undefined_noun};
 ghost use Rattle.eval.specs.Rules.{next_slot, slot_made, declared, declared_end, assigned, assigned_end};
 ghost use Rattle.eval.specs.Rules.{noun_end as noun_end_of};
-ghost use Rattle.heap.specs.View.{bind_of, nouns_of, state_of};
+ghost use Rattle.heap.specs.View.{bind_of, state_of};
 ghost use Rattle.eval.specs.View.{at, end_of};
 
 use crate::end::{Abandon, End, Halt};
 use crate::wanted::mismatch;
 use crate::working::Working;
+use code::code::Place;
 use heap::state::{Binding, Noun};
 use ids::names::SlotId;
 use ids::text::Text;
@@ -25,11 +28,12 @@ use values::value::Value;
 const MAX_SLOTS: u32 = 4096;
 
 /// The value of a noun: a slot gives what it holds.
-pub fn noun_end(w: &Working, name: &Text) -> Result<End, AllocError>
+pub fn noun_end(w: &Working, name: &Text, place: Place) -> Result<End, AllocError>
+    requires { place ≡ place_in (frame_at (at w.now)) name.now }
     ensures { IfOk result (λ o. end_of o
         ≡ noun_end_of (state_of w.now.state) name.now (sought name.now (at w.now))) }
 {
-    match seek(w, name) {
+    match seek(w, name, place) {
         Some(Binding::Fixed(value)) => Ok(End::Value(value.share()?)),
         Some(Binding::Slot(slot)) => slot_end(w, *slot, name),
         None => undefined(w.alloc, name),
@@ -55,35 +59,23 @@ pub fn undefined(alloc: Global, name: &Text) -> Result<End, AllocError>
     Ok(End::Halt(Halt::Thrown(Text::from_string(problem)?)))
 }
 
-/// What a name stands for: its newest meaning in the scopes, else the vat's top noun.
-pub fn seek<'a>(w: &'a Working, name: &Text) -> Option<&'a Binding>
+/// What a name stands for: its newest meaning in the scopes, which is at its place, else the vat's top noun.
+pub fn seek<'a>(w: &'a Working, name: &Text, place: Place) -> Option<&'a Binding>
+    requires { place ≡ place_in (frame_at (at w.now)) name.now }
     ensures { option_map (λ b. bind_of b.now) result ≡ sought name.now (at w.now) }
 {
-    match find(&w.nouns, name) {
-        Some(binding) => Some(binding),
-        None => w.state.top(name),
+    match place {
+        Place::Frame(i) => Some(&w.nouns[i].binding),
+        Place::Top => w.state.top(name),
     }
-}
-
-/// The newest meaning of a name.
-fn find<'a>(nouns: &'a Vec<Noun>, name: &Text) -> Option<&'a Binding>
-    ensures { option_map (λ b. bind_of b.now) result ≡ lookup (nouns_of nouns.now.items) name.now }
-{
-    let mut rest = nouns.as_slice();
-    while let Some((newest, older)) = rest.split_last() {
-        if newest.name.as_str() == name.as_str() {
-            return Some(&newest.binding);
-        }
-        rest = older;
-    }
-    None
 }
 
 /// The slot that a name stands for.
-fn seek_slot(w: &Working, name: &Text) -> Option<SlotId>
+fn seek_slot(w: &Working, name: &Text, place: Place) -> Option<SlotId>
+    requires { place ≡ place_in (frame_at (at w.now)) name.now }
     ensures { result ≡ sought_slot name.now (at w.now) }
 {
-    match seek(w, name) {
+    match seek(w, name, place) {
         Some(Binding::Slot(slot)) => Some(*slot),
         Some(Binding::Fixed(_)) | None => None,
     }
@@ -182,13 +174,14 @@ fn make_slot(w: &mut Working, value: Value) -> Result<SlotId, AllocError>
 
 /// Lets the slot that a name stands for hold this value. What stands for no slot is undefined here:
 /// a program that assigns to a definition is refused before it runs.
-pub fn assign(w: &mut Working, name: &Text, value: Value) -> Result<End, AllocError>
+pub fn assign(w: &mut Working, name: &Text, place: Place, value: Value) -> Result<End, AllocError>
+    requires { place ≡ place_in (frame_at (at w.old)) name.now }
     ensures ends { IfOk result (λ o. end_of o
         ≡ assigned_end name.now (value_end (val_of value)) (sought_slot name.now (at w.old))) }
     ensures writes { IfOk result (λ o. at w.new
         ≡ assigned (value_end (val_of value)) (sought_slot name.now (at w.old)) (at w.old)) }
 {
-    match seek_slot(w, name) {
+    match seek_slot(w, name, place) {
         Some(slot) => {
             w.state.write_slot(slot, value.share()?)?;
             Ok(End::Value(value))

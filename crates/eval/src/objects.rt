@@ -1,7 +1,12 @@
 // Objects: what they capture, how they are made, and how a call finds a method.
-ghost use Rattle.std.specs.Prelude.{◌≡◌, ◌<◌, [], ◌∷◌, IfOk, IfSome, OnOk, length};
+ghost use Rattle.std.specs.Prelude.{◌≡◌, ◌<◌, [], ◌∷◌, ◌++◌, false, IfOk, IfSome, OnOk, length};
 ghost use Rattle.std.specs.Option.{option_map};
-ghost use Rattle.kernele.specs.View.{trees_of, methods_of};
+ghost use Rattle.code.specs.Frames.{Frame, only_names, captured_names_of, all_placed, fits_all, fits_methods};
+ghost use Rattle.heap.specs.Names.{names_of};
+ghost use Rattle.eval.specs.Fits.{frame_at};
+ghost use Rattle.kernele.specs.Free.{captures as captures_of};
+ghost use Rattle.kernele.specs.Scope.{name_of, names_of_all};
+ghost use Rattle.code.specs.View.{trees_of_codes, methods_of_codes};
 ghost use Rattle.values.specs.Data.{object as object_value};
 ghost use Rattle.values.specs.View.{val_of, vals_of};
 ghost use Rattle.heap.specs.State.{object_cell, read};
@@ -12,14 +17,16 @@ ghost use Rattle.heap.specs.View.{bind_of, nouns_of, object_of, state_of};
 ghost use Rattle.eval.specs.View.{at, capture_view, end_of, target_view};
 
 use crate::end::{Abandon, End, Halt};
+use crate::entry::Entry;
 use crate::nouns::{match_pattern, seek, undefined};
 use crate::results::no_such_method;
 use crate::working::Working;
-use heap::state::{Binding, Made, Noun};
+use code::code::{Capture as CaptureCode, MethodCode};
+use heap::made::Made;
+use heap::state::{Binding, Noun};
 use ids::names::ObjId;
 use ids::text::Text;
-use kernele::captured_names;
-use kernele::tree::{Expr, Method, Pattern};
+use kernele::tree::Pattern;
 use std::alloc::{AllocError, Global};
 use std::sync::Arc;
 use values::value::Value;
@@ -34,27 +41,30 @@ pub enum Capture {
     Missing(Text),
 }
 
-/// What a call leads to: an end, or a method's block with the names that it begins with.
+/// What a call leads to: an end, or a method's block.
 #[derive(Drop)]
 pub enum Target {
     Gives(End),
-    Enters(Vec<Noun>, Arc<Vec<Expr>>),
+    Enters(Entry),
 }
 
 /// Makes an object once its names are captured, and binds its pattern.
 pub fn define_object(
     w: &mut Working,
     pattern: &Pattern,
-    methods: &Arc<Vec<Method>>,
+    captures: &Arc<Vec<CaptureCode>>,
+    methods: &Arc<Vec<MethodCode>>,
 ) -> Result<End, AllocError>
+    requires fits { (captured_names_of captures.now.value.items ≡ captures_of pattern.now (methods_of_codes methods.now.value.items))
+        × all_placed (frame_at (at w.old)) captures.now.value.items
+        × fits_methods (captured_names_of captures.now.value.items ++ only_names (name_of pattern.now)) methods.now.value.items }
     ensures ends { IfOk result (λ o. end_of o
-        ≡ object_end (capture_of pattern.now (methods_of methods.now.value.items) (at w.old)) (at w.old)) }
+        ≡ object_end (capture_of pattern.now (methods_of_codes methods.now.value.items) (at w.old)) (at w.old)) }
     ensures makes { IfOk result (λ o. at w.new
-        ≡ with_object pattern.now (methods_of methods.now.value.items)
-        (capture_of pattern.now (methods_of methods.now.value.items) (at w.old)) (at w.old)) }
+        ≡ with_object pattern.now (methods_of_codes methods.now.value.items)
+        (capture_of pattern.now (methods_of_codes methods.now.value.items) (at w.old)) (at w.old)) }
 {
-    let names = captured_names(w.alloc, pattern, methods.as_slice())?;
-    let capture = capture_all(w, names.as_slice())?;
+    let capture = capture_all(w, captures.as_slice())?;
     match capture {
         Capture::Captured(nouns) => place(w, pattern, nouns, methods),
         Capture::Missing(name) => undefined(w.alloc, &name),
@@ -62,15 +72,18 @@ pub fn define_object(
 }
 
 /// Captures names from the left, up to the first that stands for nothing. A variable is captured as its slot.
-fn capture_all(w: &Working, names: &[Text]) -> Result<Capture, AllocError>
-    ensures { IfOk result (λ c. capture_view c ≡ all_captured (captured []) names.now (at w.now)) }
+fn capture_all(w: &Working, captures: &[CaptureCode]) -> Result<Capture, AllocError>
+    requires { all_placed (frame_at (at w.now)) captures.now }
+    ensures { IfOk result (λ c. capture_view c ≡ all_captured (captured []) (captured_names_of captures.now) (at w.now)) }
 {
     let mut nouns = Vec::new(w.alloc);
-    for name in names {
-        match seek(w, name) {
-            Some(binding) => add_noun(&mut nouns, name, binding.share()?)?,
-            None => return Ok(Capture::Missing(name.share()?)),
+    let mut rest = captures;
+    while let Some((first, others)) = rest.split_first() {
+        match seek(w, &first.name, first.place) {
+            Some(binding) => add_noun(&mut nouns, &first.name, binding.share()?)?,
+            None => return Ok(Capture::Missing(first.name.share()?)),
         }
+        rest = others;
     }
     Ok(Capture::Captured(nouns))
 }
@@ -89,11 +102,12 @@ fn place(
     w: &mut Working,
     pattern: &Pattern,
     nouns: Vec<Noun>,
-    methods: &Arc<Vec<Method>>,
+    methods: &Arc<Vec<MethodCode>>,
 ) -> Result<End, AllocError>
+    requires { fits_methods (names_of nouns.items ++ only_names (name_of pattern.now)) methods.now.value.items }
     ensures ends { IfOk result (λ o. end_of o ≡ placed_end (has_object_room (at w.old)) (at w.old)) }
     ensures makes { IfOk result (λ o. at w.new ≡ placed (has_object_room (at w.old)) pattern.now
-        (record { own = pattern.now; captured = nouns_of nouns.items; methods = methods_of methods.now.value.items })
+        (record { own = pattern.now; captured = nouns_of nouns.items; methods = methods_of_codes methods.now.value.items })
         (at w.old)) }
 {
     if w.objects >= MAX_OBJECTS {
@@ -146,22 +160,25 @@ fn method_target(
 ) -> Result<Target, AllocError>
     ensures { IfOk result (λ t. target_view t
         ≡ method_target_of id (object_of object.now) verb.now (vals_of args.now)
-        (method_in (methods_of object.now.methods.value.items) verb.now (vals_of args.now))) }
+        (method_in (methods_of_codes object.now.methods.value.items) verb.now (vals_of args.now))) }
 {
     match find_method(object.methods.as_slice(), verb, args) {
         Some(method) => {
             let nouns = method_nouns(alloc, id, object, method.parameters.as_slice(), args)?;
-            Ok(Target::Enters(nouns, Arc::try_clone(&method.body)?))
+            let body = Arc::try_clone(&method.body)?;
+            Ok(Target::Enters(Entry { nouns, body }))
         }
         None => Ok(Target::Gives(no_such_method(alloc, verb, args)?)),
     }
 }
 
 /// The method with this verb and as many parameters as there are arguments.
-fn find_method<'a>(methods: &'a [Method], verb: &Text, args: &[Value]) -> Option<&'a Method>
-    ensures found { option_map (λ m. (m.now.parameters.value.items, trees_of m.now.body.value.items)) result
-        ≡ method_in (methods_of methods.now) verb.now (vals_of args.now) }
+fn find_method<'a>(methods: &'a [MethodCode], verb: &Text, args: &[Value]) -> Option<&'a MethodCode>
+    ensures found { option_map (λ m. (m.now.parameters.value.items, trees_of_codes m.now.body.value.items)) result
+        ≡ method_in (methods_of_codes methods.now) verb.now (vals_of args.now) }
     ensures count { IfSome result (λ m. length args.now ≡ length m.now.parameters.value.items) }
+    ensures fits { IfSome result (λ m. (frame : Frame) → fits_methods frame methods.now
+        → fits_all false (frame ++ only_names (names_of_all m.now.parameters.value.items)) m.now.body.value.items) }
 {
     let mut rest = methods;
     while let Some((method, others)) = rest.split_first() {

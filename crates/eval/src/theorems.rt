@@ -1,5 +1,5 @@
 // What holds of evaluation: each function's contract is a law.
-ghost use Rattle.eval.specs.Laws.{AtMostOneOutcome, Frame, OthersStay, StepsOnlyFall, NamesAreOnlyAdded, EjectionsAreOpen};
+ghost use Rattle.eval.specs.Laws.{AtMostOneOutcome, Frame, OthersStay, StepsOnlyFall, NamesAreOnlyAdded, DefinitionsAreAdded, EjectionsAreOpen};
 
 /// A tree has at most one outcome.
 pub fn at_most_one_outcome()
@@ -24,6 +24,11 @@ pub fn steps_only_fall()
 /// A tree adds newer names to the scopes, and takes none away.
 pub fn names_are_only_added()
     ensures { NamesAreOnlyAdded }
+{}
+
+/// A tree that gives a value adds the names that it defines, and stays in its scope.
+pub fn definitions_are_added()
+    ensures { DefinitionsAreAdded }
 {}
 
 /// A value on its way to an Escape leaves a tree only inside that Escape.

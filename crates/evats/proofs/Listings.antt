@@ -20,7 +20,7 @@ use Rattle.values.specs.declared.value.Value.{Value}
 use Rattle.heap.specs.State.{read, top, slot_cell, object_cell}
 use Rattle.heap.specs.View.{tops_of, slots_of, objects_of, state_of}
 use Rattle.heap.specs.declared.state.Binding.{Binding}
-use Rattle.heap.specs.declared.state.Made.{Made}
+use Rattle.heap.specs.declared.made.Made.{Made}
 use Rattle.world.specs.World.{Content, World}
 use Rattle.world.specs.View.{home_of}
 use Rattle.world.specs.declared.world.Home.{Home}

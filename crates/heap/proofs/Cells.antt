@@ -18,7 +18,7 @@ use Rattle.values.specs.View.{val_of}
 use Rattle.heap.specs.State.{Cell, top, slot_cell, object_cell, bound, held, made, write}
 use Rattle.heap.specs.View.{bind_of, object_of, tops_of, slots_of, objects_of, cells_of}
 use Rattle.heap.specs.declared.state.Binding.{Binding}
-use Rattle.heap.specs.declared.state.Made.{Made}
+use Rattle.heap.specs.declared.made.Made.{Made}
 
 -- the order of slots is total: it compares numbers, one after another
 pub slot_cmp_total : IsTotalOrder slot_cmp

@@ -1,5 +1,5 @@
 -- The state of a vat: a finite map from cells to contents.
-use Rattle.std.specs.Prelude.{Bool, false, Option, Some, None, List, [], ◌∷◌, cond}
+use Rattle.std.specs.Prelude.{Bool, false, Option, Some, None, List, [], ◌∷◌, ◌++◌, cond}
 use Rattle.std.specs.Str.{bytes_eq}
 use Rattle.std.specs.Ordering.{is_eq}
 use Rattle.ids.specs.Cells.{slot_cmp, object_cmp}
@@ -22,6 +22,11 @@ Nouns = List (Name × Bind)
 abbrev pub lookup : Nouns → Name → Option Bind
 lookup [] x = None
 lookup (n ∷ ns) x = cond (bytes_eq n.0 x) (Some n.1) (lookup ns x)
+
+-- the names alone, the oldest first
+abbrev pub frame_of : Nouns → List Name
+frame_of [] = []
+frame_of (n ∷ ns) = frame_of ns ++ n.0 ∷ []
 
 -- what an object is: what its definition names it in its methods, the names that it captured, the newest first,
 -- and its methods

@@ -8,7 +8,7 @@ use Rattle.ids.specs.Cells.{slot_cmp, object_cmp}
 use Rattle.ids.specs.declared.names.SlotId.{SlotId}
 use Rattle.ids.specs.declared.names.ObjId.{ObjId}
 use Rattle.kernele.specs.Tree.{Name}
-use Rattle.kernele.specs.View.{methods_of}
+use Rattle.code.specs.View.{methods_of_codes}
 use Rattle.values.specs.declared.value.Value.{Value}
 use Rattle.values.specs.View.{val_of}
 use Rattle.heap.specs.State.{Bind, fixed, slot, Nouns, Object, top, slot_cell, object_cell, Content, bound, held, made, State}
@@ -16,7 +16,7 @@ use Rattle.heap.specs.declared.state.VatState.{VatState}
 use Rattle.heap.specs.declared.state.Binding.{Binding}
 use Rattle.heap.specs.declared.state.Binding.TheVariants as binding
 use Rattle.heap.specs.declared.state.Noun.{Noun}
-use Rattle.heap.specs.declared.state.Made.{Made}
+use Rattle.heap.specs.declared.made.Made.{Made}
 
 abbrev pub bind_of : Binding → Bind
 bind_of (binding.Fixed v) = fixed (val_of v)
@@ -32,7 +32,7 @@ nouns_of items = nouns_after [] items
 
 -- what an object is
 abbrev pub object_of : Made → Object
-object_of m = record { own = m.own; captured = nouns_of m.captured.value.items; methods = methods_of m.methods.value.items }
+object_of m = record { own = m.own; captured = nouns_of m.captured.value.items; methods = methods_of_codes m.methods.value.items }
 
 -- what the cells of top nouns hold, those of slots, and those of objects
 abbrev pub tops_of : BTreeMap Name Binding → Name → Option Content

@@ -2,4 +2,5 @@
 //! what they are.
 #![tactic(auto)]
 
+pub mod made;
 pub mod state;

@@ -7,9 +7,9 @@ ghost use Rattle.heap.specs.State.{top, slot_cell, object_cell, bound, held, mad
 ghost use Rattle.heap.specs.View.{bind_of, object_of, tops_of, slots_of, objects_of, state_of};
 ghost use Rattle.values.specs.View.{val_of};
 
+use crate::made::Made;
 use ids::names::{EventName, ObjId, SlotId, VatNo};
 use ids::text::Text;
-use kernele::tree::{Method, Pattern};
 use std::alloc::{AllocError, Global};
 use std::collections::BTreeMap;
 use std::sync::Arc;
@@ -39,16 +39,6 @@ impl Binding {
 pub struct Noun {
     pub name: Text,
     pub binding: Binding,
-}
-
-/// What an object is. Sharing it costs nothing that grows with it.
-#[derive(Drop)]
-pub struct Made {
-    /// What its definition names it in its methods.
-    pub own: Pattern,
-    /// The names that it captured, the newest last.
-    pub captured: Arc<Vec<Noun>>,
-    pub methods: Arc<Vec<Method>>,
 }
 
 impl Made {

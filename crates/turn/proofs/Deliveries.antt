@@ -4,8 +4,10 @@ use Rattle.ids.specs.declared.names.EventName.{EventName}
 use Rattle.ids.specs.declared.names.VatNo.{VatNo}
 use Rattle.ids.specs.declared.names.EjId.{EjId}
 use Rattle.kernele.specs.Tree.{Name, Trees}
+use Rattle.code.specs.Frames.{fits_all}
+use Rattle.code.specs.declared.code.Code.{Code}
 use Rattle.values.specs.Data.{Val, null}
-use Rattle.heap.specs.State.{State}
+use Rattle.heap.specs.State.{State, frame_of}
 use Rattle.eval.specs.At.{At}
 use Rattle.eval.specs.Outcomes.{End}
 use Rattle.eval.specs.Rules.{Items}
@@ -60,3 +62,8 @@ keeps_new d s t (inr h) = sym (ap (λ e. kept (ended_of e) s t) h.1)
 -- an abandoned turn keeps the old one
 pub keeps_old : (d : Ended) (why : Abandon) (s t u : State) → d ≡ ended.Abandoned why → u ≡ s → u ≡ kept (ended_of d) s t
 keeps_old d why s t u h e = e ∙ sym (ap (λ x. kept (ended_of x) s t) h)
+
+-- a resolved program fits where its turn begins
+pub program_fits : {own was : Bool} {ns : List Noun} {ds es : List Code} → was ≡ own → ns ≡ [] → ds ≡ es → fits_all was [] es → fits_all own (frame_of (nouns_of ns)) ds
+program_fits {own = own} {ns = ns} {es = es} e n same h =
+    subst (fits_all own (frame_of (nouns_of ns))) (sym same) (subst (λ ms. fits_all own (frame_of (nouns_of ms)) es) (sym n) (subst (λ own. fits_all own [] es) e h))

@@ -14,6 +14,7 @@ ghost use Rattle.turn.specs.View.{ended_of, delivery_of, outcome_of};
 use eval::end::{Abandon, End, Halt};
 use eval::eval::eval_items;
 use eval::working::Working;
+use code::resolve;
 use heap::state::VatState;
 use ids::names::{EventName, VatNo};
 use ids::text::Text;
@@ -94,6 +95,7 @@ fn run_program(
         × (outcome_of r ≡ outcome (state_of state.now) (settled o) b)) }
 {
     let alloc = state.allocator();
+    let resolved = resolve(alloc, program, own_scope)?;
     let mut w = Working {
         alloc,
         state: state.try_copy()?,
@@ -107,7 +109,7 @@ fn run_program(
         ejectors: 0,
         opened: Vec::new(alloc),
     };
-    let end = eval_items(&mut w, program.0.0.as_slice(), 1)?;
+    let end = eval_items(&mut w, &resolved.items, 1)?;
     finish(state, w, end)
 }
 

@@ -1,14 +1,22 @@
-use Rattle.std.proofs.Common.{rules, arith, ap, ◌∙◌, refl, sym, length}
+use Rattle.std.proofs.Common.{rules, arith, ap, ◌∙◌, refl, sym, subst, length, ◌++◌}
 use Rattle.std.proofs.lemmas.Result.{IfOk-weaker}
-use Rattle.kernele.specs.View.{tree_of, trees_of}
-use Rattle.kernele.proofs.Views.{tree_of-Call, tree_of-List, tree_of-Hide, tree_of-If, tree_of-While, tree_of-For, tree_of-Try, tree_of-Object, tree_of-Escape}
+use Rattle.code.specs.View.{tree_of_code, trees_of_codes}
+use Rattle.code.proofs.Views.{tree_of_code-Call, tree_of_code-List, tree_of_code-Hide, tree_of_code-If, tree_of_code-While, tree_of_code-For, tree_of_code-Try, tree_of_code-Object, tree_of_code-Escape}
 use Rattle.kernele.specs.declared.tree.Pattern.TheVariants as pattern
 use Rattle.values.specs.View.{val_of}
 use Rattle.eval.specs.View.{at, end_of, choice_view, listing_view, target_view}
 use Rattle.eval.specs.Rules.{at_budget, at_depth, run_null, run_bool, run_int, run_text, run_noun, run_define, run_variable, run_assign, run_call_receiver, run_call_gives, run_list, run_same_left, run_same, goes, run_define_list, run_hide, run_throw, run_if_goes, run_if_ends, run_while_again, run_while_halts, run_while_done, run_while_ends, run_for, run_for_ends, run_try, run_try_caught, run_object}
 use Rattle.eval.proofs.Steps.{node, child, children, slice_of, if_both, runs_as, runs_to, parts_run, args_begin, args_pushed, args_more, args_no_more, args_end, args_done, items_more, items_no_more, items_end, blocks, block_ending, taking, taking_ending, each, block_end, taking_end, each_more, each_no_more, each_end, next_round}
 use Rattle.eval.proofs.Entered.{entered, call_entered, escape_over}
-use Rattle.eval.proofs.Scopes.{truncated-length}
+use Rattle.eval.proofs.Scopes.{truncated, truncated-length}
+use Rattle.eval.proofs.Added.{goes_add, block_stays, taking_stays}
+use Rattle.eval.proofs.Fitting.{fits_then, all_fit_then, chosen_fits, repeated_fits, placed_then, parts_fit, block_fits, entry_fits, round_fits, fits_from}
+use Rattle.code.proofs.Fitting.{fits-Call, fits-List, fits-Hide, fits-If, fits-While, fits-For, fits-Try, fits-Object, fits-Escape}
+use Rattle.code.specs.Frames.{only_names}
+use Rattle.kernele.specs.Scope.{name_of}
+use Rattle.heap.specs.State.{frame_of}
+use Rattle.heap.specs.View.{nouns_of}
+use Rattle.eval.specs.Fits.{fits_at}
 use Rattle.eval.proofs.Grown.{round_grow}
 use Rattle.eval.proofs.Spent.{condition_less, block_left}
 use Rattle.eval.proofs.+evaluate.Goals as goal
@@ -20,37 +28,37 @@ pub eval::eval-returns-then-level-gt-DEEPEST : goal.eval::eval-returns-then-leve
 eval::eval-returns-then-level-gt-DEEPEST t c = at_depth (omega arith) c.if-level-gt-DEEPEST.true
 
 pub eval::eval-returns-in-Null : goal.eval::eval-returns-in-Null
-eval::eval-returns-in-Null t c = node _ (ap tree_of c.in-Null.is) run_null (omega arith) c.if-level-gt-DEEPEST.false
+eval::eval-returns-in-Null t c = node _ (ap tree_of_code c.in-Null.is) run_null (omega arith) c.if-level-gt-DEEPEST.false
 
 pub eval::eval-returns-in-Bool : goal.eval::eval-returns-in-Bool
-eval::eval-returns-in-Bool t c = node _ (ap tree_of c.in-Bool.is) run_bool (omega arith) c.if-level-gt-DEEPEST.false
+eval::eval-returns-in-Bool t c = node _ (ap tree_of_code c.in-Bool.is) run_bool (omega arith) c.if-level-gt-DEEPEST.false
 
 pub eval::eval-returns-in-Int : goal.eval::eval-returns-in-Int
-eval::eval-returns-in-Int t c = node _ (ap tree_of c.in-Int.is) (runs_as run_int (search rules)) (omega arith) c.if-level-gt-DEEPEST.false
+eval::eval-returns-in-Int t c = node _ (ap tree_of_code c.in-Int.is) (runs_as run_int (search rules)) (omega arith) c.if-level-gt-DEEPEST.false
 
 pub eval::eval-returns-in-Text : goal.eval::eval-returns-in-Text
-eval::eval-returns-in-Text t c = IfOk-weaker _ _ _ (λ o h. node _ {a = at c.args.w.now} (ap tree_of c.in-Text.is) (runs_as run_text h) (omega arith) c.if-level-gt-DEEPEST.false) c.text_end.ensures
+eval::eval-returns-in-Text t c = IfOk-weaker _ _ _ (λ o h. node _ {a = at c.args.w.now} (ap tree_of_code c.in-Text.is) (runs_as run_text h) (omega arith) c.if-level-gt-DEEPEST.false) c.text_end.ensures
 
 pub eval::eval-returns-in-Noun : goal.eval::eval-returns-in-Noun
-eval::eval-returns-in-Noun t c = IfOk-weaker _ _ _ (λ o h. node _ {a = at c.args.w.now} (ap tree_of c.in-Noun.is) (runs_as run_noun h) (omega arith) c.if-level-gt-DEEPEST.false) c.noun_end.ensures
+eval::eval-returns-in-Noun t c = IfOk-weaker _ _ _ (λ o h. node _ {a = at c.args.w.now} (ap tree_of_code c.in-Noun.is) (runs_as run_noun h) (omega arith) c.if-level-gt-DEEPEST.false) c.noun_end.ensures
 
 pub eval::eval-returns-in-Def : goal.eval::eval-returns-in-Def
-eval::eval-returns-in-Def t c = IfOk-weaker _ _ _ (λ o h. node _ (ap tree_of c.in-Def.is) h (omega arith) c.if-level-gt-DEEPEST.false) c.eval_def.ensures
+eval::eval-returns-in-Def t c = IfOk-weaker _ _ _ (λ o h. node _ (ap tree_of_code c.in-Def.is) h (omega arith) c.if-level-gt-DEEPEST.false) c.eval_def.ensures
 
 pub eval::eval-returns-in-Var : goal.eval::eval-returns-in-Var
-eval::eval-returns-in-Var t c = IfOk-weaker _ _ _ (λ o h. node _ (ap tree_of c.in-Var.is) h (omega arith) c.if-level-gt-DEEPEST.false) c.eval_var.ensures
+eval::eval-returns-in-Var t c = IfOk-weaker _ _ _ (λ o h. node _ (ap tree_of_code c.in-Var.is) h (omega arith) c.if-level-gt-DEEPEST.false) c.eval_var.ensures
 
 pub eval::eval-returns-in-Assign : goal.eval::eval-returns-in-Assign
-eval::eval-returns-in-Assign t c = IfOk-weaker _ _ _ (λ o h. node _ (ap tree_of c.in-Assign.is) h (omega arith) c.if-level-gt-DEEPEST.false) c.eval_assign.ensures
+eval::eval-returns-in-Assign t c = IfOk-weaker _ _ _ (λ o h. node _ (ap tree_of_code c.in-Assign.is) h (omega arith) c.if-level-gt-DEEPEST.false) c.eval_assign.ensures
 
 pub eval::eval-returns-in-Call : goal.eval::eval-returns-in-Call
-eval::eval-returns-in-Call t c = IfOk-weaker _ _ _ (λ o h. node _ (ap tree_of c.in-Call.is ∙ tree_of-Call c.in-Call.receiver c.in-Call.verb c.in-Call.args) h (omega arith) c.if-level-gt-DEEPEST.false) c.eval_call.ensures
+eval::eval-returns-in-Call t c = IfOk-weaker _ _ _ (λ o h. node _ (ap tree_of_code c.in-Call.is ∙ tree_of_code-Call c.in-Call.receiver c.in-Call.verb c.in-Call.args) h (omega arith) c.if-level-gt-DEEPEST.false) c.eval_call.ensures
 
 pub eval::eval-returns-in-List : goal.eval::eval-returns-in-List
-eval::eval-returns-in-List t c = IfOk-weaker _ _ _ (λ o h. node _ (ap tree_of c.in-List.is ∙ tree_of-List c.in-List.items) h (omega arith) c.if-level-gt-DEEPEST.false) c.eval_list.ensures
+eval::eval-returns-in-List t c = IfOk-weaker _ _ _ (λ o h. node _ (ap tree_of_code c.in-List.is ∙ tree_of_code-List c.in-List.items) h (omega arith) c.if-level-gt-DEEPEST.false) c.eval_list.ensures
 
 pub eval::eval-returns-in-Same : goal.eval::eval-returns-in-Same
-eval::eval-returns-in-Same t c = IfOk-weaker _ _ _ (λ o h. node _ (ap tree_of c.in-Same.is) h (omega arith) c.if-level-gt-DEEPEST.false) c.eval_same.ensures
+eval::eval-returns-in-Same t c = IfOk-weaker _ _ _ (λ o h. node _ (ap tree_of_code c.in-Same.is) h (omega arith) c.if-level-gt-DEEPEST.false) c.eval_same.ensures
 
 pub eval::eval_def-returns : goal.eval::eval_def-returns
 eval::eval_def-returns t c = rw c.in_ok-match_pattern.ensures (run_define (child c.deref.ensures c.in-Value.is c.in_ok-value.ensures))
@@ -71,16 +79,19 @@ pub eval::eval_assign-returns : goal.eval::eval_assign-returns
 eval::eval_assign-returns t c = if_both _ _ _ _ (λ o p q. runs_to (run_assign (child c.deref.ensures c.in-Value.is c.in_ok-value.ensures)) p q) c.assign.ensures.ends c.assign.ensures.writes
 
 pub eval::eval_args-loop-arg-init : goal.eval::eval_args-loop-arg-init
-eval::eval_args-loop-arg-init t c = λ g b h. args_begin c.new-values.ensures.items h
+eval::eval_args-loop-arg-init t c = (λ g b h. args_begin c.new-values.ensures.items h, c.requires.fits)
 
 pub eval::eval_args-loop-arg-preserved : goal.eval::eval_args-loop-arg-preserved
-eval::eval_args-loop-arg-preserved t c = λ g b h. args_pushed g _ _ c.in_ok-push-in-Value.ensures.items (c.loop-arg.invariant _ _ (args_more _ g c.loop-arg-test.true c.arg-item.is (child refl c.in-Value.is c.in_ok-v.ensures) h))
+eval::eval_args-loop-arg-preserved t c = (
+  λ g b h. args_pushed g _ _ c.in_ok-push-in-Value.ensures.items (c.loop-arg.invariant.0 _ _ (args_more _ g c.loop-arg-test.true c.arg-item.is (child refl c.in-Value.is c.in_ok-v.ensures) h)),
+  all_fit_then refl (child refl c.in-Value.is c.in_ok-v.ensures) (fits_from _ _ c.args.args.now c.loop-arg.arg-index _ c.loop-arg-test.true c.arg-item.is c.loop-arg.invariant.1).1,
+)
 
 pub eval::eval_args-returns-in-Halt : goal.eval::eval_args-returns-in-Halt
-eval::eval_args-returns-in-Halt t c = c.loop-arg.invariant _ _ (args_no_more _ c.loop-arg-test.true c.arg-item.is (child refl c.in-Halt.is c.in_ok-v.ensures))
+eval::eval_args-returns-in-Halt t c = c.loop-arg.invariant.0 _ _ (args_no_more _ c.loop-arg-test.true c.arg-item.is (child refl c.in-Halt.is c.in_ok-v.ensures))
 
 pub eval::eval_args-returns : goal.eval::eval_args-returns
-eval::eval_args-returns t c = args_done _ (c.loop-arg.invariant _ _ (args_end _ c.loop-arg-test.false))
+eval::eval_args-returns t c = args_done _ (c.loop-arg.invariant.0 _ _ (args_end _ c.loop-arg-test.false))
 
 pub eval::eval_list-returns : goal.eval::eval_list-returns
 eval::eval_list-returns t c = IfOk-weaker _ _ _ (λ o h. runs_as (run_list (children (slice_of c.deref-2.ensures.value c.deref.ensures) refl c.in_ok-gathered.ensures)) h) c.list_end.ensures
@@ -97,18 +108,18 @@ calling::eval_call-returns-in_ok-end-in-Enters t c =
     c.in_ok-end-in-Enters.ensures
 
 pub calling::eval_method-returns : goal.calling::eval_method-returns
-calling::eval_method-returns t c = entered (ap trees_of (slice_of c.deref-2.ensures.value c.deref.ensures)) _ c.args.w.now c.eval_items.new.w (ap (λ v. v.items) c.enter_method-caller.ensures.names) c.enter_method-caller.ensures.own c.enter_method-caller.ensures.place c.in_ok-end.ensures c.leave_method.ensures
+calling::eval_method-returns t c = entered (ap trees_of_codes (slice_of c.deref-2.ensures.value c.deref.ensures)) _ c.args.w.now c.eval_items.new.w (ap (λ v. v.items) c.enter_method-caller.ensures.names) c.enter_method-caller.ensures.own c.enter_method-caller.ensures.place c.in_ok-end.ensures c.leave_method.ensures
 
 pub calling::eval_escape-returns : goal.calling::eval_escape-returns
 calling::eval_escape-returns t c =
     IfOk-weaker c.escape_end.result _ _ (λ o h. escape_over c.args.name.now _ c.args.w.now c.eval_taking.new.w c.count_open-outer.ensures c.in_ok-ejector.ensures.named c.in_ok-ejector.ensures.place (ap pattern.Name c.in_ok-share.ensures)
-    (ap trees_of (slice_of c.deref-2.ensures.value c.deref.ensures)) c.in_ok-ended.ensures c.close_escape.ensures h) c.escape_end.ensures
+    (ap trees_of_codes (slice_of c.deref-2.ensures.value c.deref.ensures)) c.in_ok-ended.ensures c.close_escape.ensures h) c.escape_end.ensures
 
 pub eval::eval-returns-in-Object : goal.eval::eval-returns-in-Object
-eval::eval-returns-in-Object t c = if_both _ _ _ _ (λ o h g. node _ {a = at c.args.w.now} (ap tree_of c.in-Object.is ∙ tree_of-Object c.in-Object.pattern c.in-Object.methods) (runs_to run_object h g) (omega arith) c.if-level-gt-DEEPEST.false) c.define_object.ensures.ends c.define_object.ensures.makes
+eval::eval-returns-in-Object t c = if_both _ _ _ _ (λ o h g. node _ {a = at c.args.w.now} (ap tree_of_code c.in-Object.is ∙ tree_of_code-Object c.in-Object.pattern c.in-Object.captures c.in-Object.methods) (runs_to run_object h g) (omega arith) c.if-level-gt-DEEPEST.false) c.define_object.ensures.ends c.define_object.ensures.makes
 
 pub eval::eval-returns-in-Escape : goal.eval::eval-returns-in-Escape
-eval::eval-returns-in-Escape t c = IfOk-weaker _ _ _ (λ o h. node _ (ap tree_of c.in-Escape.is ∙ tree_of-Escape c.in-Escape.name c.in-Escape.body) h (omega arith) c.if-level-gt-DEEPEST.false) c.eval_escape.ensures
+eval::eval-returns-in-Escape t c = IfOk-weaker _ _ _ (λ o h. node _ (ap tree_of_code c.in-Escape.is ∙ tree_of_code-Escape c.in-Escape.name c.in-Escape.body) h (omega arith) c.if-level-gt-DEEPEST.false) c.eval_escape.ensures
 
 pub eval::eval_same-returns-in-Halt : goal.eval::eval_same-returns-in-Halt
 eval::eval_same-returns-in-Halt t c = run_same_left (child c.deref.ensures c.in-Halt.is c.in_ok-value.ensures)
@@ -120,25 +131,25 @@ pub eval::eval_same-returns : goal.eval::eval_same-returns
 eval::eval_same-returns t c = runs_as (run_same (child c.deref.ensures c.in-Value.is c.in_ok-value.ensures) (child c.deref-2.ensures c.in-Value-2.is c.in_ok-value-2.ensures)) (search rules)
 
 pub eval::eval-returns-in-DefList : goal.eval::eval-returns-in-DefList
-eval::eval-returns-in-DefList t c = IfOk-weaker _ _ _ (λ o h. node _ (ap tree_of c.in-DefList.is) h (omega arith) c.if-level-gt-DEEPEST.false) c.eval_def_list.ensures
+eval::eval-returns-in-DefList t c = IfOk-weaker _ _ _ (λ o h. node _ (ap tree_of_code c.in-DefList.is) h (omega arith) c.if-level-gt-DEEPEST.false) c.eval_def_list.ensures
 
 pub eval::eval-returns-in-Hide : goal.eval::eval-returns-in-Hide
-eval::eval-returns-in-Hide t c = IfOk-weaker _ _ _ (λ o h. node _ (ap tree_of c.in-Hide.is ∙ tree_of-Hide c.in-Hide.body) h (omega arith) c.if-level-gt-DEEPEST.false) c.eval_hide.ensures
+eval::eval-returns-in-Hide t c = IfOk-weaker _ _ _ (λ o h. node _ (ap tree_of_code c.in-Hide.is ∙ tree_of_code-Hide c.in-Hide.body) h (omega arith) c.if-level-gt-DEEPEST.false) c.eval_hide.ensures
 
 pub eval::eval-returns-in-If : goal.eval::eval-returns-in-If
-eval::eval-returns-in-If t c = IfOk-weaker _ _ _ (λ o h. node _ (ap tree_of c.in-If.is ∙ tree_of-If c.in-If.condition c.in-If.first c.in-If.second) h (omega arith) c.if-level-gt-DEEPEST.false) c.eval_if.ensures
+eval::eval-returns-in-If t c = IfOk-weaker _ _ _ (λ o h. node _ (ap tree_of_code c.in-If.is ∙ tree_of_code-If c.in-If.condition c.in-If.first c.in-If.second) h (omega arith) c.if-level-gt-DEEPEST.false) c.eval_if.ensures
 
 pub eval::eval-returns-in-While : goal.eval::eval-returns-in-While
-eval::eval-returns-in-While t c = IfOk-weaker _ _ _ (λ o h. node _ (ap tree_of c.in-While.is ∙ tree_of-While c.in-While.condition c.in-While.body) h (omega arith) c.if-level-gt-DEEPEST.false) c.eval_while.ensures
+eval::eval-returns-in-While t c = IfOk-weaker _ _ _ (λ o h. node _ (ap tree_of_code c.in-While.is ∙ tree_of_code-While c.in-While.condition c.in-While.body) h (omega arith) c.if-level-gt-DEEPEST.false) c.eval_while.ensures
 
 pub eval::eval-returns-in-For : goal.eval::eval-returns-in-For
-eval::eval-returns-in-For t c = IfOk-weaker _ _ _ (λ o h. node _ (ap tree_of c.in-For.is ∙ tree_of-For c.in-For.pattern c.in-For.list c.in-For.body) h (omega arith) c.if-level-gt-DEEPEST.false) c.eval_for.ensures
+eval::eval-returns-in-For t c = IfOk-weaker _ _ _ (λ o h. node _ (ap tree_of_code c.in-For.is ∙ tree_of_code-For c.in-For.pattern c.in-For.list c.in-For.body) h (omega arith) c.if-level-gt-DEEPEST.false) c.eval_for.ensures
 
 pub eval::eval-returns-in-Try : goal.eval::eval-returns-in-Try
-eval::eval-returns-in-Try t c = IfOk-weaker _ _ _ (λ o h. node _ (ap tree_of c.in-Try.is ∙ tree_of-Try c.in-Try.body c.in-Try.pattern c.in-Try.handler) h (omega arith) c.if-level-gt-DEEPEST.false) c.eval_try.ensures
+eval::eval-returns-in-Try t c = IfOk-weaker _ _ _ (λ o h. node _ (ap tree_of_code c.in-Try.is ∙ tree_of_code-Try c.in-Try.body c.in-Try.pattern c.in-Try.handler) h (omega arith) c.if-level-gt-DEEPEST.false) c.eval_try.ensures
 
 pub eval::eval-returns-in-Throw : goal.eval::eval-returns-in-Throw
-eval::eval-returns-in-Throw t c = IfOk-weaker _ _ _ (λ o h. node _ (ap tree_of c.in-Throw.is) h (omega arith) c.if-level-gt-DEEPEST.false) c.eval_throw.ensures
+eval::eval-returns-in-Throw t c = IfOk-weaker _ _ _ (λ o h. node _ (ap tree_of_code c.in-Throw.is) h (omega arith) c.if-level-gt-DEEPEST.false) c.eval_throw.ensures
 
 pub eval::eval_def_list-returns-in-Halt : goal.eval::eval_def_list-returns-in-Halt
 eval::eval_def_list-returns-in-Halt t c = run_define_list (child c.deref.ensures c.in-Halt.is c.in_ok-value.ensures)
@@ -153,13 +164,16 @@ pub eval::eval_throw-returns : goal.eval::eval_throw-returns
 eval::eval_throw-returns t c = IfOk-weaker _ _ _ (λ o h. runs_as (run_throw (child c.deref.ensures c.in-Value.is c.in_ok-value.ensures)) h) c.thrown.ensures
 
 pub eval::eval_items-loop-item-preserved : goal.eval::eval_items-loop-item-preserved
-eval::eval_items-loop-item-preserved t c = λ o b h. c.loop-item.invariant _ _ (items_more _ c.loop-item-test.true c.item-item.is (child refl c.in-Value.is c.in_ok-v.ensures) h)
+eval::eval_items-loop-item-preserved t c = (
+  λ o b h. c.loop-item.invariant.0 _ _ (items_more _ c.loop-item-test.true c.item-item.is (child refl c.in-Value.is c.in_ok-v.ensures) h),
+  all_fit_then refl (child refl c.in-Value.is c.in_ok-v.ensures) (fits_from _ _ c.args.items.now c.loop-item.item-index _ c.loop-item-test.true c.item-item.is c.loop-item.invariant.1).1,
+)
 
 pub eval::eval_items-returns-in-Halt : goal.eval::eval_items-returns-in-Halt
-eval::eval_items-returns-in-Halt t c = c.loop-item.invariant _ _ (items_no_more _ c.loop-item-test.true c.item-item.is (child refl c.in-Halt.is c.in_ok-v.ensures))
+eval::eval_items-returns-in-Halt t c = c.loop-item.invariant.0 _ _ (items_no_more _ c.loop-item-test.true c.item-item.is (child refl c.in-Halt.is c.in_ok-v.ensures))
 
 pub eval::eval_items-returns : goal.eval::eval_items-returns
-eval::eval_items-returns t c = c.loop-item.invariant _ _ (items_end _ c.loop-item-test.false)
+eval::eval_items-returns t c = c.loop-item.invariant.0 _ _ (items_end _ c.loop-item-test.false)
 
 pub control::eval_hide-returns : goal.control::eval_hide-returns
 control::eval_hide-returns t c = IfOk-weaker _ _ _ (λ o h. run_hide (blocks (slice_of c.deref-2.ensures.value c.deref.ensures) refl h)) c.eval_block.ensures
@@ -187,6 +201,8 @@ control::eval_while-rounds-preserved t c =
     let g = round_grow c.in_ok-tested.ensures c.in_ok-ended.ensures in (
       λ o b h. c.rounds.invariant.0 _ _ (run_while_again (child c.deref.ensures refl c.in_ok-tested.ensures) (sym c.in_ok-choice.ensures ∙ ap choice_view c.in-Goes.is ∙ ap goes c.if-not-truth.false) (block_ending (slice_of c.deref-in-rounds-2.ensures.value c.deref-in-rounds.ensures) c.in_default.ensures.1 c.in_ok-ended.ensures) (next_round c.rounds.w c.eval_block.new.w c.rounds.invariant.1 g c.truncate.ensures.items h)),
       truncated-length c.rounds.w.nouns.items c.eval_block.new.w.nouns.items c.len-names.result c.rounds.invariant.1 g ∙ ap length (sym c.truncate.ensures.items),
+      round_fits (at c.rounds.w) (record (at c.eval_block.new.w) { nouns = nouns_of c.truncate.new.self.items }) c.args.condition.now.value c.args.body.now.value.items (ap nouns_of c.truncate.ensures.items ∙ truncated c.rounds.w.nouns.items c.eval_block.new.w.nouns.items c.len-names.result c.rounds.invariant.1 g)
+          ((block_stays c.in_ok-ended.ensures).1 ∙ (goes_add c.in_ok-tested.ensures (sym c.in_ok-choice.ensures ∙ ap choice_view c.in-Goes.is)).1) c.rounds.invariant.2,
     )
 
 pub control::eval_while-rounds-smaller : goal.control::eval_while-rounds-smaller
@@ -211,10 +227,76 @@ pub control::eval_taking-returns : goal.control::eval_taking-returns
 control::eval_taking-returns t c = taking_end c.args.pattern.now (val_of c.args.value.now) c.args.w.now c.eval_items.new.w c.enter-outer.ensures.names c.enter-outer.ensures.own c.enter-outer.ensures.place c.in_ok-match_pattern.ensures c.in_ok-end.ensures c.leave.ensures
 
 pub control::eval_each-loop-value-preserved : goal.control::eval_each-loop-value-preserved
-control::eval_each-loop-value-preserved t c = λ o b h. c.loop-value.invariant _ _ (each_more _ c.loop-value-test.true c.value-item.is (taking_ending c.in_default.ensures.1 c.in_ok-ended.ensures) h)
+control::eval_each-loop-value-preserved t c = (
+  λ o b h. c.loop-value.invariant.0 _ _ (each_more _ c.loop-value-test.true c.value-item.is (taking_ending c.in_default.ensures.1 c.in_ok-ended.ensures) h),
+  block_fits refl (ap (λ ns. frame_of ns ++ only_names (name_of c.args.pattern.now)) (taking_stays c.in_ok-ended.ensures).0) c.loop-value.invariant.1,
+)
 
 pub control::eval_each-returns-in-Some : goal.control::eval_each-returns-in-Some
-control::eval_each-returns-in-Some t c = c.loop-value.invariant _ _ (each_no_more _ c.loop-value-test.true c.value-item.is (taking_ending c.in-Some.ensures c.in_ok-ended.ensures))
+control::eval_each-returns-in-Some t c = c.loop-value.invariant.0 _ _ (each_no_more _ c.loop-value-test.true c.value-item.is (taking_ending c.in-Some.ensures c.in_ok-ended.ensures))
 
 pub control::eval_each-returns : goal.control::eval_each-returns
-control::eval_each-returns t c = c.loop-value.invariant _ _ (each_end _ c.loop-value-test.false)
+control::eval_each-returns t c = c.loop-value.invariant.0 _ _ (each_end _ c.loop-value-test.false)
+
+pub calling::eval_call-eval_args-requires : goal.calling::eval_call-eval_args-requires
+calling::eval_call-eval_args-requires t c = (search rules, (search rules, all_fit_then (slice_of c.deref-3.ensures.value c.deref-2.ensures) (child c.deref.ensures c.in-Value.is c.in_ok-value.ensures) c.requires.fits.1))
+
+pub calling::eval_method-eval_items-requires : goal.calling::eval_method-eval_items-requires
+calling::eval_method-eval_items-requires t c = (search rules, (search rules, entry_fits c.args.entry.nouns.items (at c.args.w.now) _ c.enter_method-caller.ensures.place (slice_of c.deref-2.ensures.value c.deref.ensures) c.args.entry.fits))
+
+pub control::eval_each-eval_taking-requires : goal.control::eval_each-eval_taking-requires
+control::eval_each-eval_taking-requires t c = (search rules, (search rules, c.loop-value.invariant.1))
+
+pub control::eval_for-eval_each-requires : goal.control::eval_for-eval_each-requires
+control::eval_for-eval_each-requires t c = (search rules, (search rules, repeated_fits (only_names (name_of c.args.pattern.now)) (slice_of c.deref-in-Listed-4.ensures.value c.deref-in-Listed-3.ensures) (child c.deref.ensures refl c.in_ok-ended.ensures) (sym c.in_ok-gone_over.ensures ∙ ap listing_view c.in-Listed.is) c.requires.fits.1))
+
+pub control::eval_if-eval_block-requires : goal.control::eval_if-eval_block-requires
+control::eval_if-eval_block-requires t c = (search rules, (search rules, chosen_fits (slice_of c.deref-then-truth-2.ensures.value c.deref-then-truth.ensures) (child c.deref.ensures refl c.in_ok-tested.ensures) (sym c.in_ok-choice.ensures ∙ ap choice_view c.in-Goes.is) c.requires.fits.1))
+
+pub control::eval_if-eval_block-requires-else-truth : goal.control::eval_if-eval_block-requires-else-truth
+control::eval_if-eval_block-requires-else-truth t c = (search rules, (search rules, chosen_fits (slice_of c.deref-else-truth-2.ensures.value c.deref-else-truth.ensures) (child c.deref.ensures refl c.in_ok-tested.ensures) (sym c.in_ok-choice.ensures ∙ ap choice_view c.in-Goes.is) c.requires.fits.2))
+
+pub control::eval_while-eval-requires : goal.control::eval_while-eval-requires
+control::eval_while-eval-requires t c = (search rules, subst (fits_at (at c.rounds.w)) (sym c.deref.ensures) c.rounds.invariant.2.0)
+
+pub control::eval_while-eval_block-requires : goal.control::eval_while-eval_block-requires
+control::eval_while-eval_block-requires t c = (search rules, (search rules, chosen_fits (slice_of c.deref-in-rounds-2.ensures.value c.deref-in-rounds.ensures) (child c.deref.ensures refl c.in_ok-tested.ensures) (sym c.in_ok-choice.ensures ∙ ap choice_view c.in-Goes.is) c.rounds.invariant.2.1))
+
+pub eval::eval-eval_call-requires : goal.eval::eval-eval_call-requires
+eval::eval-eval_call-requires t c = (search rules, (search rules, parts_fit (at c.args.w.now) c.in-Call.is (fits-Call c.args.w.now.own_scope (frame_of (at c.args.w.now).nouns) c.in-Call.receiver c.in-Call.verb c.in-Call.args) c.requires.fits))
+
+pub eval::eval-eval_list-requires : goal.eval::eval-eval_list-requires
+eval::eval-eval_list-requires t c = (search rules, (search rules, parts_fit (at c.args.w.now) c.in-List.is (fits-List c.args.w.now.own_scope (frame_of (at c.args.w.now).nouns) c.in-List.items) c.requires.fits))
+
+pub eval::eval-eval_hide-requires : goal.eval::eval-eval_hide-requires
+eval::eval-eval_hide-requires t c = (search rules, (search rules, parts_fit (at c.args.w.now) c.in-Hide.is (fits-Hide c.args.w.now.own_scope (frame_of (at c.args.w.now).nouns) c.in-Hide.body) c.requires.fits))
+
+pub eval::eval-eval_if-requires : goal.eval::eval-eval_if-requires
+eval::eval-eval_if-requires t c = (search rules, (search rules, parts_fit (at c.args.w.now) c.in-If.is (fits-If c.args.w.now.own_scope (frame_of (at c.args.w.now).nouns) c.in-If.condition c.in-If.first c.in-If.second) c.requires.fits))
+
+pub eval::eval-eval_while-requires : goal.eval::eval-eval_while-requires
+eval::eval-eval_while-requires t c = (search rules, (search rules, parts_fit (at c.args.w.now) c.in-While.is (fits-While c.args.w.now.own_scope (frame_of (at c.args.w.now).nouns) c.in-While.condition c.in-While.body) c.requires.fits))
+
+pub eval::eval-eval_for-requires : goal.eval::eval-eval_for-requires
+eval::eval-eval_for-requires t c = (search rules, (search rules, parts_fit (at c.args.w.now) c.in-For.is (fits-For c.args.w.now.own_scope (frame_of (at c.args.w.now).nouns) c.in-For.pattern c.in-For.list c.in-For.body) c.requires.fits))
+
+pub eval::eval-eval_try-requires : goal.eval::eval-eval_try-requires
+eval::eval-eval_try-requires t c = (search rules, (search rules, parts_fit (at c.args.w.now) c.in-Try.is (fits-Try c.args.w.now.own_scope (frame_of (at c.args.w.now).nouns) c.in-Try.body c.in-Try.pattern c.in-Try.handler) c.requires.fits))
+
+pub eval::eval-define_object-requires : goal.eval::eval-define_object-requires
+eval::eval-define_object-requires t c = record { fits = parts_fit (at c.args.w.now) c.in-Object.is (fits-Object c.args.w.now.own_scope (frame_of (at c.args.w.now).nouns) c.in-Object.pattern c.in-Object.captures c.in-Object.methods) c.requires.fits }
+
+pub eval::eval-eval_escape-requires : goal.eval::eval-eval_escape-requires
+eval::eval-eval_escape-requires t c = (search rules, (search rules, (parts_fit (at c.args.w.now) c.in-Escape.is (fits-Escape c.args.w.now.own_scope (frame_of (at c.args.w.now).nouns) c.in-Escape.name c.in-Escape.body) c.requires.fits, search rules)))
+
+pub eval::eval_args-eval-requires : goal.eval::eval_args-eval-requires
+eval::eval_args-eval-requires t c = (search rules, (fits_from _ _ c.args.args.now c.loop-arg.arg-index _ c.loop-arg-test.true c.arg-item.is c.loop-arg.invariant.1).0)
+
+pub eval::eval_items-eval-requires : goal.eval::eval_items-eval-requires
+eval::eval_items-eval-requires t c = (search rules, (fits_from _ _ c.args.items.now c.loop-item.item-index _ c.loop-item-test.true c.item-item.is c.loop-item.invariant.1).0)
+
+pub eval::eval_assign-assign-requires : goal.eval::eval_assign-assign-requires
+eval::eval_assign-assign-requires t c = placed_then c.args.name.now (child c.deref.ensures c.in-Value.is c.in_ok-value.ensures) c.requires.fits.1
+
+pub eval::eval_same-eval-requires-2 : goal.eval::eval_same-eval-requires-2
+eval::eval_same-eval-requires-2 t c = (search rules, fits_then c.deref-2.ensures (child c.deref.ensures c.in-Value.is c.in_ok-value.ensures) c.requires.fits.1)

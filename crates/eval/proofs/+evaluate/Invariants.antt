@@ -1,6 +1,9 @@
-use Rattle.std.proofs.Common.{drop, ◌-◌, ◌*◌, ◌+◌, ◌≡◌, length}
+use Rattle.std.proofs.Common.{drop, ◌-◌, ◌*◌, ◌+◌, ◌≡◌, ◌++◌, length, false}
 use Rattle.kernele.specs.Tree.{while_tree}
-use Rattle.kernele.specs.View.{tree_of, trees_of}
+use Rattle.code.specs.Frames.{fits_all, only_names}
+use Rattle.kernele.specs.Scope.{name_of}
+use Rattle.eval.specs.Fits.{fits_at, all_fit_at, frame_at, frame_behind}
+use Rattle.code.specs.View.{tree_of_code, trees_of_codes}
 use Rattle.values.specs.Data.{null}
 use Rattle.values.specs.View.{val_of, vals_of}
 use Rattle.eval.specs.At.{At}
@@ -74,21 +77,29 @@ decreases-control::eval_for l = 5 * (1000 - l.level) + 4
 abbrev pub decreases-control::eval_try : goal.decreases-control::eval_try
 decreases-control::eval_try l = 5 * (1000 - l.level) + 4
 
--- what the rest gives, after the values so far, is what all give
+-- what the rest gives, after the values so far, is what all give, and it fits
 abbrev pub invariant-eval::eval_args-loop-arg : goal.invariant-eval::eval_args-loop-arg
-invariant-eval::eval_args-loop-arg l = (g : Gather) (b : At) → Args l.level (trees_of (drop l.arg-index l.args)) (at l.w) g b → Args l.level (trees_of l.args) (at l.initial.w) (after_values (vals_of l.values.items) g) b
+invariant-eval::eval_args-loop-arg l =
+    ((g : Gather) (b : At) → Args l.level (trees_of_codes (drop l.arg-index l.args)) (at l.w) g b → Args l.level (trees_of_codes l.args) (at l.initial.w) (after_values (vals_of l.values.items) g) b)
+    × all_fit_at (at l.w) (drop l.arg-index l.args)
 
--- what the rest gives, after the last value so far, is what all give
+-- what the rest gives, after the last value so far, is what all give, and it fits
 abbrev pub invariant-eval::eval_items-loop-item : goal.invariant-eval::eval_items-loop-item
-invariant-eval::eval_items-loop-item l = (o : End) (b : At) → Items l.level (val_of l.last) (trees_of (drop l.item-index l.items)) (at l.w) o b → Items l.level null (trees_of l.items) (at l.initial.w) o b
+invariant-eval::eval_items-loop-item l =
+    ((o : End) (b : At) → Items l.level (val_of l.last) (trees_of_codes (drop l.item-index l.items)) (at l.w) o b → Items l.level null (trees_of_codes l.items) (at l.initial.w) o b)
+    × all_fit_at (at l.w) (drop l.item-index l.items)
 
--- what the block does for the values that are left, is what it does for all
+-- what the block does for the values that are left, is what it does for all, and it fits
 abbrev pub invariant-control::eval_each-loop-value : goal.invariant-control::eval_each-loop-value
-invariant-control::eval_each-loop-value l = (o : End) (b : At) → Each l.level l.pattern (trees_of l.items) (vals_of (drop l.value-index l.values)) (at l.w) o b → Each l.level l.pattern (trees_of l.items) (vals_of l.values) (at l.initial.w) o b
+invariant-control::eval_each-loop-value l =
+    ((o : End) (b : At) → Each l.level l.pattern (trees_of_codes l.items) (vals_of (drop l.value-index l.values)) (at l.w) o b → Each l.level l.pattern (trees_of_codes l.items) (vals_of l.values) (at l.initial.w) o b)
+    × fits_all false (frame_at (at l.w) ++ only_names (name_of l.pattern)) l.items
 
--- what the rounds from here on give is what all give, and each round begins with as many names
+-- what the rounds from here on give is what all give, and each round begins with as many names, which its parts fit
 abbrev pub invariant-control::eval_while-rounds : goal.invariant-control::eval_while-rounds
-invariant-control::eval_while-rounds l = ((o : End) (b : At) → Runs l.level (while_tree (tree_of l.condition.value) (trees_of l.body.value.items)) (at l.w) o b → Runs l.level (while_tree (tree_of l.condition.value) (trees_of l.body.value.items)) (at l.initial.w) o b) × (l.names ≡ length l.w.nouns.items)
+invariant-control::eval_while-rounds l =
+    ((o : End) (b : At) → Runs l.level (while_tree (tree_of_code l.condition.value) (trees_of_codes l.body.value.items)) (at l.w) o b → Runs l.level (while_tree (tree_of_code l.condition.value) (trees_of_codes l.body.value.items)) (at l.initial.w) o b) × (l.names ≡ length l.w.nouns.items)
+    × (fits_at (at l.w) l.condition.value × fits_all false (frame_behind (at l.w) l.condition.value) l.body.value.items)
 
 abbrev pub decreases-control::eval_while-rounds : goal.decreases-control::eval_while-rounds
 decreases-control::eval_while-rounds l = l.w.steps

@@ -109,7 +109,7 @@ resolve_try-returns t c = λ own. resolved_try _ _ c.in_ok-share_pattern.ensures
 
 pub resolve_escape-returns : goal.resolve_escape-returns
 resolve_escape-returns t c = λ own. resolved_escape _ c.in_ok-share.ensures c.in_ok-add_name.ensures (resolved_block refl c.in_ok-body.ensures)
-    (truncated {f = c.args.frame.now.items} c.len-outer.result (c.args.name.now ∷ []) _ (search rules) c.in_ok-add_name.ensures c.in_ok-body.ensures.grown c.truncate.ensures.items)
+    (truncated {f = c.args.frame.now.items} c.len-before.result (c.args.name.now ∷ []) _ (search rules) c.in_ok-add_name.ensures c.in_ok-body.ensures.grown c.truncate.ensures.items)
 
 pub resolve_object-returns : goal.resolve_object-returns
 resolve_object-returns t c =

@@ -1,9 +1,14 @@
-use Rattle.std.proofs.Common.{◌≡◌, [], drop}
+use Rattle.std.proofs.Common.{◌≡◌, [], length}
+use Rattle.code.specs.Frames.{captured_names_of, all_placed}
+use Rattle.eval.specs.Fits.{frame_at}
 use Rattle.eval.specs.Rules.{captured, all_captured}
 use Rattle.heap.specs.View.{nouns_of}
 use Rattle.eval.specs.View.{at}
 use Rattle.eval.proofs.objects.capture_all.Given as goal
 
--- what is captured from here on is what is captured of all
-abbrev pub invariant-loop-name : goal.invariant-loop-name
-invariant-loop-name l = all_captured (captured (nouns_of l.nouns.items)) (drop l.name-index l.names) (at l.w) ≡ all_captured (captured []) l.names (at l.w)
+-- what is captured from here on is what is captured of all, and each is at its place
+abbrev pub invariant-loop-first : goal.invariant-loop-first
+invariant-loop-first l = (all_captured (captured (nouns_of l.nouns.items)) (captured_names_of l.rest) (at l.w) ≡ all_captured (captured []) (captured_names_of l.captures) (at l.w)) × all_placed (frame_at (at l.w)) l.rest
+
+abbrev pub decreases-loop-first : goal.decreases-loop-first
+decreases-loop-first l = length l.rest

@@ -1,7 +1,7 @@
 use Rattle.std.proofs.Common.{◌≡◌, List, ◌++◌, length}
 use Rattle.ids.specs.Cells.{object_cmp}
 use Rattle.ids.specs.declared.names.ObjId.{ObjId}
-use Rattle.heap.specs.declared.state.Made.{Made}
+use Rattle.heap.specs.declared.made.Made.{Made}
 use Rattle.heap.specs.State.{made}
 use Rattle.heap.specs.View.{object_of, objects_of}
 use Rattle.heap.proofs.Cells.{listed}

@@ -1,10 +1,15 @@
-use Rattle.std.proofs.Common.{ap}
+use Rattle.std.proofs.Common.{rules, ap, ◌∙◌}
 use Rattle.std.proofs.lemmas.Result.{IfOk-weaker}
-use Rattle.kernele.specs.View.{trees_of}
+use Rattle.code.specs.View.{trees_of_codes}
 use Rattle.turn.specs.View.{outcome_of}
 use Rattle.eval.proofs.Steps.{slice_of}
-use Rattle.turn.proofs.Deliveries.{program_items, completed}
+use Rattle.turn.proofs.Deliveries.{program_items, program_fits, completed}
 use Rattle.turn.proofs.delivery.run_program.Goals as goal
 
+pub eval_items-requires : goal.eval_items-requires
+eval_items-requires c = record { level = search rules; fits = program_fits c.in_ok-resolved.ensures.scope c.new.ensures.items (slice_of c.deref-2.ensures.value c.deref.ensures) c.in_ok-resolved.resolved.fits }
+
 pub returns : goal.returns
-returns c = IfOk-weaker c.finish.result _ _ (λ r h. completed {r = outcome_of r} (program_items (ap trees_of (slice_of c.as_slice.ensures.value c.deref.ensures)) c.new.ensures.items c.new-2.ensures.items c.in_ok-try_copy.ensures c.in_ok-end.ensures) h) c.finish.ensures
+returns c =
+    let items = ap trees_of_codes (slice_of c.deref-2.ensures.value c.deref.ensures) ∙ c.in_ok-resolved.ensures.program in
+    IfOk-weaker c.finish.result _ _ (λ r h. completed {r = outcome_of r} (program_items items c.new.ensures.items c.new-2.ensures.items c.in_ok-try_copy.ensures c.in_ok-end.ensures) h) c.finish.ensures
