@@ -4,3 +4,4 @@ pub mod Places
 pub mod Growing
 pub mod Made
 pub mod Ranks
+pub mod Newest

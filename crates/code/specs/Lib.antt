@@ -2,3 +2,4 @@ pub mod View
 pub mod Frames
 pub mod Resolves
 pub mod Props
+pub mod Newest

@@ -3,6 +3,7 @@
 use ids::text::Text;
 use kernele::tree::Pattern;
 use std::sync::Arc;
+use values::verb::Verb;
 
 /// Where what a name stands for is found.
 #[derive(Clone, Copy, Debug, PartialEq, Eq)]
@@ -33,7 +34,7 @@ pub enum Code {
     Var(Text, Arc<Code>),
     /// The name is looked up behind the right side.
     Assign(Text, Place, Arc<Code>),
-    Call(Arc<Code>, Text, Arc<Vec<Code>>),
+    Call(Arc<Code>, Verb, Arc<Vec<Code>>),
     List(Arc<Vec<Code>>),
     Same(Arc<Code>, Arc<Code>),
     /// Names for the items of a list.

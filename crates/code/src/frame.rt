@@ -2,6 +2,7 @@
 ghost use Rattle.std.specs.Prelude.{◌≡◌, [], ◌∷◌, ◌++◌, OnOk, IfOk};
 ghost use Rattle.kernele.specs.Scope.{name_of, names_of_all};
 ghost use Rattle.code.specs.Frames.{all_placed, behind, captured_names_of, only_names, place_in};
+ghost use Rattle.code.specs.Newest.{PlacesAreNewest, TopNounsAreOutside};
 
 use crate::code::{Capture, Place};
 use ids::text::Text;
@@ -21,6 +22,12 @@ pub(crate) fn find_place(frame: &[Text], name: &Text) -> Place
     }
     Place::Top
 }
+
+/// A place in a frame is that of the newest name of its spelling, and a name that is found outside is not in the frame.
+pub fn places_are_newest()
+    ensures inside { PlacesAreNewest }
+    ensures outside { TopNounsAreOutside }
+{}
 
 /// Adds a name, unless it goes to the vat's top nouns.
 pub(crate) fn add_name(

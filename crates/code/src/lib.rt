@@ -5,4 +5,5 @@ pub mod code;
 mod frame;
 mod resolving;
 
+pub use frame::places_are_newest;
 pub use resolving::{Resolved, resolve};

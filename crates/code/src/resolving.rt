@@ -15,6 +15,7 @@ use kernele::captured_names;
 use kernele::tree::{Expr, Method, Pattern, Program};
 use std::alloc::{AllocError, Global};
 use std::sync::Arc;
+use values::verb::Verb;
 
 /// A program whose names are resolved, for a frame that begins without names.
 #[derive(Drop)]
@@ -216,7 +217,7 @@ fn resolve_call(
 {
     let receiver = resolve_part(alloc, receiver, own_scope, frame)?;
     let args = resolve_row(alloc, args, own_scope, frame)?;
-    Ok(Code::Call(receiver, verb.share()?, args))
+    Ok(Code::Call(receiver, Verb::new(verb.share()?), args))
 }
 
 #[cycle(resolve)]

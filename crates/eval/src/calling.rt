@@ -24,12 +24,13 @@ use kernele::tree::Pattern;
 use std::alloc::AllocError;
 use std::sync::Arc;
 use values::value::Value;
+use values::verb::Verb;
 
 #[cycle(evaluate)]
 pub(crate) fn eval_call(
     w: &mut Working,
     receiver: &Arc<Code>,
-    verb: &Text,
+    verb: &Verb,
     args: &Arc<Vec<Code>>,
     level: u32,
 ) -> Result<End, AllocError>

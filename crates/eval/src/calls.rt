@@ -16,6 +16,7 @@ use ids::text::Text;
 use std::alloc::AllocError;
 use std::mem;
 use values::value::Value;
+use values::verb::Verb;
 
 /// What a call is made on.
 #[derive(Clone, Copy)]
@@ -36,7 +37,7 @@ pub struct Caller {
 pub fn call_target(
     w: &Working,
     receiver: Value,
-    verb: &Text,
+    verb: &Verb,
     gathered: Gathered,
 ) -> Result<Target, AllocError>
     ensures { IfOk result (λ t. target_view t
@@ -52,7 +53,7 @@ pub fn call_target(
 fn value_target(
     w: &Working,
     receiver: &Value,
-    verb: &Text,
+    verb: &Verb,
     args: &[Value],
 ) -> Result<Target, AllocError>
     ensures { IfOk result (λ t. target_view t

@@ -13,6 +13,7 @@ use ids::text::Text;
 use std::alloc::AllocError;
 use std::sync::Arc;
 use values::value::Value;
+use values::verb::Verb;
 
 /// Makes the turn's next ejector and begins its Escape.
 pub fn open_escape(w: &mut Working) -> Result<EjId, AllocError>
@@ -68,7 +69,7 @@ pub fn escape_end(ejector: EjId, ended: End) -> Result<End, AllocError>
 pub fn ejector_end(
     w: &Working,
     ejector: EjId,
-    verb: &Text,
+    verb: &Verb,
     args: &[Value],
 ) -> Result<End, AllocError>
     ensures { IfOk result (λ o. end_of o

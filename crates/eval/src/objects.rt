@@ -30,6 +30,7 @@ use kernele::tree::Pattern;
 use std::alloc::{AllocError, Global};
 use std::sync::Arc;
 use values::value::Value;
+use values::verb::Verb;
 
 /// How many objects a turn may make.
 const MAX_OBJECTS: u32 = 4096;
@@ -138,7 +139,7 @@ fn make_object(w: &mut Working, object: Made) -> Result<ObjId, AllocError>
 pub fn object_target(
     w: &Working,
     id: ObjId,
-    verb: &Text,
+    verb: &Verb,
     args: &[Value],
 ) -> Result<Target, AllocError>
     ensures { IfOk result (λ t. target_view t
@@ -155,7 +156,7 @@ fn method_target(
     alloc: Global,
     id: ObjId,
     object: &Made,
-    verb: &Text,
+    verb: &Verb,
     args: &[Value],
 ) -> Result<Target, AllocError>
     ensures { IfOk result (λ t. target_view t
@@ -173,7 +174,7 @@ fn method_target(
 }
 
 /// The method with this verb and as many parameters as there are arguments.
-fn find_method<'a>(methods: &'a [MethodCode], verb: &Text, args: &[Value]) -> Option<&'a MethodCode>
+fn find_method<'a>(methods: &'a [MethodCode], verb: &Verb, args: &[Value]) -> Option<&'a MethodCode>
     ensures found { option_map (λ m. (m.now.parameters.value.items, trees_of_codes m.now.body.value.items)) result
         ≡ method_in (methods_of_codes methods.now) verb.now (vals_of args.now) }
     ensures count { IfSome result (λ m. length args.now ≡ length m.now.parameters.value.items) }

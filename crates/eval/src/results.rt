@@ -44,17 +44,16 @@ pub fn list_end(alloc: Global, gathered: Gathered) -> Result<End, AllocError>
 pub fn data_end(
     alloc: Global,
     receiver: &Value,
-    verb: &Text,
+    verb: &Verb,
     args: &[Value],
 ) -> Result<End, AllocError>
     ensures { IfOk result (λ o. end_of o ≡ reply_end (data_reply (val_of receiver.now) verb.now (vals_of args.now))) }
 {
-    let verb = Verb::new(verb.share()?);
-    Ok(answer_end(call_verb(alloc, receiver, &verb, args)?))
+    Ok(answer_end(call_verb(alloc, receiver, verb, args)?))
 }
 
 /// What a call gives on what has no such verb with so many arguments.
-pub fn no_such_method(alloc: Global, verb: &Text, args: &[Value]) -> Result<End, AllocError>
+pub fn no_such_method(alloc: Global, verb: &Verb, args: &[Value]) -> Result<End, AllocError>
     ensures { IfOk result (λ o. end_of o ≡ no_such_method_end verb.now (vals_of args.now)) }
 {
     // Null has no verb at all.

@@ -93,7 +93,7 @@ pub resolve_methods-returns : goal.resolve_methods-returns
 resolve_methods-returns t c = methods_done c.loop-method.codes.items (c.loop-method.invariant.code [] (methods_end c.args.frame.now.items c.args.methods.now c.loop-method.method-index c.loop-method-test.false))
 
 pub resolve_call-returns : goal.resolve_call-returns
-resolve_call-returns t c = resolved_call _ _ c.in_ok-share.ensures c.in_ok-receiver.ensures c.in_ok-args.ensures
+resolve_call-returns t c = resolved_call _ _ (c.new.ensures ∙ c.in_ok-share.ensures) c.in_ok-receiver.ensures c.in_ok-args.ensures
 
 pub resolve_if-returns : goal.resolve_if-returns
 resolve_if-returns t c = resolved_if _ _ _ c.in_ok-condition.ensures c.in_ok-first.ensures.code c.in_ok-first.ensures.frame c.in_ok-second.ensures.code c.in_ok-second.ensures.frame
