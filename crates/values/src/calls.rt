@@ -12,7 +12,7 @@ use crate::verb::{Verb, Word};
 use ids::text::Text;
 use std::alloc::{AllocError, Global};
 
-/// What a verb leads to that is given as a text, which is looked up at each call.
+/// What a verb that is given as a text leads to. It is looked up at each call, which takes memory.
 pub fn data_call(
     alloc: Global,
     receiver: &Value,

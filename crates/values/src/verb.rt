@@ -117,6 +117,7 @@ impl Verb {
         &self.text
     }
 
+    /// Its text, as a slice.
     pub fn as_str(&self) -> &str
         ensures { result.now ≡ self.now }
     {
