@@ -1,17 +1,17 @@
 -- On sets of names, and on sets that nothing live is left of.
-use Rattle.std.proofs.Common.{◌≡◌, ◌∙◌, List, [], ◌∷◌, Bool, true, false, cond, Option, Some, None, refl, sym, ap, inl, inr, ℕ, ◌+◌, ◌<◌, length, take, get_or}
+use Rattle.std.proofs.Common.{◌≡◌, ◌∙◌, List, [], ◌∷◌, Bool, true, false, cond, Option, Some, None, refl, sym, ap, inl, inr, ℕ, ◌+◌, ◌<◌, length, take, get_or, ◌++◌}
 use Rattle.std.specs.Prelude.{◌||◌, ◌&&◌, ◌==◌, not}
 use Rattle.std.specs.List.{list_any}
 use Rattle.std.specs.Option.{option_map, option_or}
 use Rattle.std.specs.Cmp.{unsigned_ties}
 use Rattle.std.specs.BTreeMap.{is_at}
 use Rattle.std.proofs.lemmas.Bool.{or_cases, or_left, or_right, or_parts}
-use Rattle.std.proofs.lemmas.List.Folds.{list_any_more}
+use Rattle.std.proofs.lemmas.List.Folds.{list_any_more, list_any-append}
 use Rattle.ids.specs.declared.names.EventName.{EventName}
 use Rattle.ids.specs.contracts.names.EventNameOrd.TheImpl.{cmp-value}
 use Rattle.book.specs.Journal.{Line, name_of, among, chosen}
 use Rattle.book.specs.Refusals.{first_some, not_closed, consequence, open_refusal}
-use Rattle.book.specs.Causes.{is_left}
+use Rattle.book.specs.Causes.{is_left, joins, joined_with, gathered}
 use Rattle.book.proofs.Along.{same_name, turned}
 use Rattle.book.proofs.Marking.{open_at}
 
@@ -86,3 +86,25 @@ pub one_more_name : (old new names : List EventName) (i : ℕ) (d : EventName) �
 one_more_name old new names i d h updates before e =
     sym (has_is new e) ∙ updates e ∙ (λ k. cond ((by_name (get_or names i d) e ∙ flipped e (get_or names i d)) k) true ((has_is old e ∙ before e) k))
     ∙ either_or ((get_or names i d).0 == e.0) (among (take i names) e) ∙ sym (list_any_more (λ n. n.0 == e.0) names i d h)
+
+-- one more name is in the set, and at the end of the list
+pub also_joined : (old new names more : List EventName) (n : EventName) → more ≡ names ++ n ∷ []
+    → ((q : EventName) → list_any (is_at (cmp-value.it q)) new ≡ cond (is_at (cmp-value.it n) q) true (list_any (is_at (cmp-value.it q)) old))
+    → ((e : EventName) → among old e ≡ among names e) → (e : EventName) → among new e ≡ among more e
+also_joined old new names more n is updates before e =
+    sym (has_is new e) ∙ updates e ∙ (λ k. cond ((by_name n e ∙ flipped e n) k) true ((has_is old e ∙ before e) k))
+    ∙ either_or (n.0 == e.0) (among names e) ∙ ap (λ b. among names e || b) (or_false (n.0 == e.0)) ∙ sym (list_any-append (λ k. k.0 == e.0) names (n ∷ [])) ∙ ap (λ ns. among ns e) (sym is)
+  where
+    or_false : (b : Bool) → b ≡ (b || false)
+    or_false true = refl
+    or_false false = refl
+
+-- lists with the same names are joined alike
+pub same_joins : (root : EventName) (set joined : List EventName) (l : Line) → ((e : EventName) → among set e ≡ among joined e) → joins root set l ≡ joins root joined l
+same_joins root set joined l same = λ i. ((name_of l).0 == root.0) || (l.live && list_any (λ e. same e i) l.causes)
+
+-- the walk goes on with those that have joined by now
+pub joined_step : (root : EventName) (set joined now : List EventName) (l : Line) (rest : List Line) (b : Bool) → ((e : EventName) → among set e ≡ among joined e) → joins root set l ≡ b
+    → now ≡ joined_with b joined l → gathered root now rest ≡ gathered root joined (l ∷ rest)
+joined_step root set joined now l rest b same decided is =
+    ap (λ names. gathered root names rest) (is ∙ ap (λ c. joined_with c joined l) (sym decided ∙ same_joins root set joined l same))

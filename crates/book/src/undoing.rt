@@ -1,5 +1,5 @@
 // What may be undone and redone, and what goes with an event that is undone.
-ghost use Rattle.std.specs.Prelude.{◌≡◌, [], IfOk, IfErr, OnOk, None, not};
+ghost use Rattle.std.specs.Prelude.{◌≡◌, ◌++◌, ◌∷◌, [], IfOk, IfErr, OnOk, None, not};
 ghost use Rattle.std.specs.List.{filter, list_all, list_any};
 ghost use Rattle.book.specs.Journal.{among, Cone};
 ghost use Rattle.book.specs.Causes.{CausesComeFirst, joins, gathered, is_left};
@@ -209,23 +209,25 @@ pub fn check_redo(
     check_next(names, redoable)
 }
 
-/// Whether an event came of one of those that have joined.
-fn came_of(entry: &Entry, joined: &[EventName]) -> bool
-    ensures { result ≡ list_any (among joined.now) entry.now.causes.items }
+/// Whether an event joins: it is the root, or it is live and came of one that has joined.
+fn does_join(entry: &Entry, joined: &BTreeSet<EventName>, root: EventName) -> bool
+    ensures { result ≡ joins root joined.now.keys (line_of entry.now) }
 {
-    for cause in &entry.causes {
-        if is_among(joined, *cause) {
-            return true;
-        }
-    }
-    false
+    entry.event.name == root || (entry.mark == Mark::Live && has_any(joined, &entry.causes))
 }
 
-/// Whether an event joins: it is the root, or it is live and came of one that has joined.
-fn does_join(entry: &Entry, joined: &[EventName], root: EventName) -> bool
-    ensures { result ≡ joins root joined.now (line_of entry.now) }
+/// Adds a name to a list and to its set.
+fn join(
+    joined: &mut Vec<EventName>,
+    set: &mut BTreeSet<EventName>,
+    name: EventName,
+) -> Result<(), AllocError>
+    ensures names { OnOk result (joined.new.items ≡ joined.old.items ++ name ∷ []) }
+    ensures same { OnOk result (((e : EventName) → among set.old.keys e ≡ among joined.old.items e) → (e : EventName) → among set.new.keys e ≡ among joined.new.items e) }
 {
-    entry.event.name == root || (entry.mark == Mark::Live && came_of(entry, joined))
+    joined.push(name)?;
+    set.insert(name)?;
+    Ok(())
 }
 
 /// Goes once over the journal. Causes come before their event, so each has joined by then, or never will.
@@ -233,9 +235,10 @@ fn gather(alloc: Global, entries: &[Entry], root: EventName) -> Result<Vec<Event
     ensures { IfOk result (λ names. names.items ≡ gathered root [] (lines_of entries.now)) }
 {
     let mut joined = Vec::new(alloc);
+    let mut set = BTreeSet::new(alloc);
     for entry in entries {
-        if does_join(entry, &joined, root) {
-            joined.push(entry.event.name)?;
+        if does_join(entry, &set, root) {
+            join(&mut joined, &mut set, entry.event.name)?;
         }
     }
     Ok(joined)
