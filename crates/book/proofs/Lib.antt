@@ -13,3 +13,4 @@ pub mod Runs
 pub mod KeyMaps
 pub mod Places
 pub mod Index
+pub mod NameSets

@@ -1,8 +1,8 @@
 -- Causes come before what they cause, so that one walk along the journal gathers a cone.
-use Rattle.std.specs.Prelude.{◌≡◌, ◌==◌, ◌||◌, ◌&&◌, Bool, false, cond, List, [], ◌∷◌, ◌++◌}
+use Rattle.std.specs.Prelude.{◌≡◌, ◌==◌, ◌||◌, ◌&&◌, Bool, false, not, cond, List, [], ◌∷◌, ◌++◌}
 use Rattle.std.specs.List.{list_any, AllByRecursion}
 use Rattle.ids.specs.declared.names.EventName.{EventName}
-use Rattle.book.specs.Journal.{Line, name_of, among}
+use Rattle.book.specs.Journal.{Line, name_of, among, chosen}
 
 -- a line, with those behind it: no cause of it is its own name or the name of a later line, and no later line has its name
 pub record ComesFirst (l : Line) (later : List Line) : Type 0 where
@@ -27,3 +27,7 @@ joined_with b joined l = cond b (joined ++ name_of l ∷ []) joined
 abbrev pub gathered : EventName → List EventName → List Line → List EventName
 gathered root joined [] = joined
 gathered root joined (l ∷ lines) = gathered root (joined_with (joins root joined l) joined l) lines
+
+-- a live line outside a set came of it
+abbrev pub is_left : List EventName → Line → Bool
+is_left names l = l.live && (not (chosen names l) && list_any (among names) l.causes)

@@ -261,7 +261,7 @@ impl Book {
         ensures err { IfErr result (λ fault. Tells fault (undo_refusal (book_of self.old).journal events.now)) }
         ensures unchanged { OnErr result (book_of self.new ≡ book_of self.old) }
     {
-        check_undo(self.journal.entries(), events)?;
+        check_undo(self.alloc, self.journal.entries(), events)?;
         if events.is_empty() {
             return Ok(0);
         }

@@ -1,8 +1,9 @@
 // What may be undone and redone, and what goes with an event that is undone.
-ghost use Rattle.std.specs.Prelude.{◌≡◌, [], IfOk, IfErr, OnOk, None, not};
+ghost use Rattle.std.specs.Prelude.{◌≡◌, ◌++◌, ◌∷◌, [], IfOk, IfErr, OnOk, None, not};
 ghost use Rattle.std.specs.List.{filter, list_all, list_any};
 ghost use Rattle.book.specs.Journal.{among, Cone};
-ghost use Rattle.book.specs.Causes.{CausesComeFirst, joins, gathered};
+ghost use Rattle.book.specs.Causes.{CausesComeFirst, joins, gathered, is_left};
+ghost use Rattle.ids.specs.declared.names.EventName.{EventName};
 ghost use Rattle.book.specs.Refusals as refusals;
 ghost use Rattle.book.specs.Refusals.{least, lesser, consequence, first, missing_refusal, undone_refusal, live_refusal, open_refusal, undo_refusal, next_refusal, cone_refusal};
 ghost use Rattle.book.specs.Fault.{Tells};
@@ -12,6 +13,7 @@ use crate::fault::BookFault;
 use crate::journal::{Entry, Mark, is_among, is_entered};
 use ids::names::EventName;
 use std::alloc::{AllocError, Global};
+use std::collections::BTreeSet;
 
 /// The lesser of a name and what was least before it.
 fn lesser_of(name: EventName, least: Option<EventName>) -> EventName
@@ -86,8 +88,57 @@ fn consequence_of(entries: &[Entry], names: &[EventName], name: EventName) -> Op
     None
 }
 
-/// None of the events has a live consequence that is not among them.
-fn check_closed(entries: &[Entry], names: &[EventName]) -> Result<(), BookFault>
+/// The events as a set that finds a name without a walk along them.
+fn sorted(alloc: Global, names: &[EventName]) -> Result<BTreeSet<EventName>, AllocError>
+    ensures { IfOk result (λ set. (e : EventName) → among set.keys e ≡ among names.now e) }
+{
+    let mut set = BTreeSet::new(alloc);
+    for name in names {
+        set.insert(*name)?;
+    }
+    Ok(set)
+}
+
+/// Whether a set has a name.
+fn has(set: &BTreeSet<EventName>, name: EventName) -> bool
+    ensures { result ≡ among set.now.keys name }
+{
+    set.contains(&name)
+}
+
+/// Whether a set has one of these names.
+fn has_any(set: &BTreeSet<EventName>, names: &[EventName]) -> bool
+    ensures { result ≡ list_any (among set.now.keys) names.now }
+{
+    for name in names {
+        if has(set, *name) {
+            return true;
+        }
+    }
+    false
+}
+
+/// Whether a live event outside a set came of it.
+fn is_left(entry: &Entry, set: &BTreeSet<EventName>) -> bool
+    ensures { result ≡ is_left set.now.keys (line_of entry.now) }
+{
+    entry.mark == Mark::Live && !has(set, entry.event.name) && has_any(set, &entry.causes)
+}
+
+/// Whether a live event outside a set came of it, anywhere in the journal.
+fn is_any_left(entries: &[Entry], set: &BTreeSet<EventName>) -> bool
+    ensures { result ≡ list_any (is_left set.now.keys) (lines_of entries.now) }
+{
+    for entry in entries {
+        if is_left(entry, set) {
+            return true;
+        }
+    }
+    false
+}
+
+/// The first of the events that has a live consequence that is not among them is told, with the first such.
+fn tell_open(entries: &[Entry], names: &[EventName]) -> Result<(), BookFault>
     ensures ok { OnOk result (open_refusal names.now (lines_of entries.now) ≡ None) }
     ensures err { IfErr result (λ fault. Tells fault (open_refusal names.now (lines_of entries.now))) }
 {
@@ -102,15 +153,27 @@ fn check_closed(entries: &[Entry], names: &[EventName]) -> Result<(), BookFault>
     Ok(())
 }
 
+/// None of the events has a live consequence that is not among them. Only where one has, the pairs are gone through.
+fn check_closed(alloc: Global, entries: &[Entry], names: &[EventName]) -> Result<(), BookFault>
+    ensures ok { OnOk result (open_refusal names.now (lines_of entries.now) ≡ None) }
+    ensures err { IfErr result (λ fault. Tells fault (open_refusal names.now (lines_of entries.now))) }
+{
+    let set = sorted(alloc, names)?;
+    if is_any_left(entries, &set) {
+        return tell_open(entries, names);
+    }
+    Ok(())
+}
+
 /// Whether these events may be undone: all are in the journal and live, and so are all live
 /// events that came of them.
-pub fn check_undo(entries: &[Entry], names: &[EventName]) -> Result<(), BookFault>
+pub fn check_undo(alloc: Global, entries: &[Entry], names: &[EventName]) -> Result<(), BookFault>
     ensures ok { OnOk result (undo_refusal (lines_of entries.now) names.now ≡ None) }
     ensures err { IfErr result (λ fault. Tells fault (undo_refusal (lines_of entries.now) names.now)) }
 {
     check_entered(entries, names)?;
     check_live(entries, names)?;
-    check_closed(entries, names)
+    check_closed(alloc, entries, names)
 }
 
 fn are_among(names: &[EventName], others: &[EventName]) -> bool
@@ -146,23 +209,25 @@ pub fn check_redo(
     check_next(names, redoable)
 }
 
-/// Whether an event came of one of those that have joined.
-fn came_of(entry: &Entry, joined: &[EventName]) -> bool
-    ensures { result ≡ list_any (among joined.now) entry.now.causes.items }
+/// Whether an event joins: it is the root, or it is live and came of one that has joined.
+fn does_join(entry: &Entry, joined: &BTreeSet<EventName>, root: EventName) -> bool
+    ensures { result ≡ joins root joined.now.keys (line_of entry.now) }
 {
-    for cause in &entry.causes {
-        if is_among(joined, *cause) {
-            return true;
-        }
-    }
-    false
+    entry.event.name == root || (entry.mark == Mark::Live && has_any(joined, &entry.causes))
 }
 
-/// Whether an event joins: it is the root, or it is live and came of one that has joined.
-fn does_join(entry: &Entry, joined: &[EventName], root: EventName) -> bool
-    ensures { result ≡ joins root joined.now (line_of entry.now) }
+/// Adds a name to a list and to its set.
+fn join(
+    joined: &mut Vec<EventName>,
+    set: &mut BTreeSet<EventName>,
+    name: EventName,
+) -> Result<(), AllocError>
+    ensures names { OnOk result (joined.new.items ≡ joined.old.items ++ name ∷ []) }
+    ensures same { OnOk result (((e : EventName) → among set.old.keys e ≡ among joined.old.items e) → (e : EventName) → among set.new.keys e ≡ among joined.new.items e) }
 {
-    entry.event.name == root || (entry.mark == Mark::Live && came_of(entry, joined))
+    joined.push(name)?;
+    set.insert(name)?;
+    Ok(())
 }
 
 /// Goes once over the journal. Causes come before their event, so each has joined by then, or never will.
@@ -170,9 +235,10 @@ fn gather(alloc: Global, entries: &[Entry], root: EventName) -> Result<Vec<Event
     ensures { IfOk result (λ names. names.items ≡ gathered root [] (lines_of entries.now)) }
 {
     let mut joined = Vec::new(alloc);
+    let mut set = BTreeSet::new(alloc);
     for entry in entries {
-        if does_join(entry, &joined, root) {
-            joined.push(entry.event.name)?;
+        if does_join(entry, &set, root) {
+            join(&mut joined, &mut set, entry.event.name)?;
         }
     }
     Ok(joined)

@@ -43,7 +43,7 @@ fn add_position(positions: &mut Vec<usize>, position: usize) -> Result<(), Alloc
     Ok(())
 }
 
-/// Takes the positions from this one on away.
+/// Takes the positions from this one on away. Only want of memory leads here, so a walk along them does not matter.
 fn cut(positions: &mut Vec<usize>, from: usize)
     ensures { positions.new.items ≡ below from positions.old.items }
 {
