@@ -1,5 +1,5 @@
 -- The names behind a tree that gave a value: those that it defines, in the scope in which it began.
-use Rattle.std.proofs.Common.{◌≡◌, ℕ, List, [], ◌∷◌, ◌++◌, Bool, true, false, Option, Some, None, cond, map, refl, sym, ap, ◌∙◌, subst, append_assoc, append-nil, codes}
+use Rattle.std.proofs.Common.{◌≡◌, ℕ, List, [], ◌∷◌, ◌++◌, Bool, true, false, Option, Some, None, cond, refl, sym, ap, ◌∙◌, subst, append_assoc, append-nil, codes}
 use Rattle.std.proofs.lemmas.List.{map-append}
 use Rattle.ids.specs.declared.names.SlotId.{SlotId}
 use Rattle.kernele.specs.Tree.{Name, Tree, Trees, Methods}
@@ -8,14 +8,14 @@ use Rattle.kernele.specs.declared.naming.TopName.{TopName}
 use Rattle.kernele.specs.declared.tree.Pattern.{Pattern}
 use Rattle.kernele.specs.declared.tree.Pattern.TheVariants as pattern
 use Rattle.code.specs.Frames.{Frame, only_names, behind}
-use Rattle.values.specs.Data.{Val, null, bool, int, text, list, broken, object, ejector, Vals, no_vals, and_val, Reply, gives as gives_reply, throws}
+use Rattle.values.specs.Data.{Val, null, bool, int, text, list, broken, object, ejector, Vals, no_vals, and_val}
 use Rattle.values.specs.Replies.{items_in, list_reply, text_in}
-use Rattle.heap.specs.State.{Bind, fixed, slot, Nouns, Object, State, frame_of}
+use Rattle.heap.specs.State.{Bind, fixed, slot, Object, frame_of}
 use Rattle.eval.specs.At.{At}
-use Rattle.eval.specs.Outcomes.{Halt, End, value, halt, Gather, values, halted, reply_end}
-use Rattle.eval.specs.Rules.{begun, Listing, listed, unlisted, listing_by, listing_of, taken, parts_of, parts_bound, parts_end, mismatch, as_many, again, bound_in, matched, matched_all, defined, next_slot, has_room, slot_made, variable_made, variable_end, declared, declared_end, assigned, assigned_end, Capture, captured, missing, capture_of, next_object, has_object_room, object_made, placed, placed_end, with_object, object_end, leaving, escaped, sought_slot, sought, noun_end}
-use Rattle.eval.specs.Rules.{Target, gives, enters, callee_of, callee_target, target_of, list_end, same_end, Choice, goes, ends, bool_in, choice_by, choice_of, thrown_by, thrown_end, caught, next_ejector, escape_end}
-use Rattle.eval.specs.Rules.{Ends, at_budget, at_depth, at_node, Runs, run_null, run_bool, run_int, run_text, run_noun, run_define, run_variable, run_assign, run_call_receiver, run_call_gives, run_call_enters, run_list, run_same_left, run_same, run_define_list, run_hide, run_throw, run_if_goes, run_if_ends, run_while_again, run_while_halts, run_while_done, run_while_ends, run_for, run_for_ends, run_try, run_try_caught, run_object, run_escape, Args, args_none, args_next, args_halt, Items, items_none, items_next, items_halt, Block, in_block, Taking, in_taking, Each, each_none, each_next, each_halt}
+use Rattle.eval.specs.Outcomes.{End, value, halt, Gather, values, halted, reply_end}
+use Rattle.eval.specs.Rules.{begun, Listing, listed, unlisted, listing_by, listing_of, taken, parts_of, parts_bound, parts_end, mismatch, as_many, again, bound_in, matched, matched_all, next_slot, has_room, slot_made, variable_made, variable_end, assigned, assigned_end, Capture, captured, missing, capture_of, next_object, has_object_room, object_made, placed, placed_end, with_object, object_end, leaving, escaped, sought_slot}
+use Rattle.eval.specs.Rules.{Target, gives, enters, callee_of, callee_target, target_of, list_end, same_end, Choice, goes, ends, bool_in, choice_by, choice_of, thrown_by, thrown_end, next_ejector, escape_end}
+use Rattle.eval.specs.Rules.{Ends, at_budget, at_depth, at_node, Runs, run_null, run_bool, run_int, run_text, run_noun, run_define, run_variable, run_assign, run_call_receiver, run_call_gives, run_call_enters, run_list, run_same_left, run_same, run_define_list, run_hide, run_throw, run_if_goes, run_if_ends, run_while_again, run_while_halts, run_while_done, run_while_ends, run_for, run_for_ends, run_try, run_try_caught, run_object, run_escape, Args, args_none, args_next, args_halt, Block, in_block, Taking, in_taking, Each, each_none, each_next, each_halt}
 
 -- behind a place stand these names more, in the same scope
 abbrev pub Adds : List TopName → At → At → Type 0

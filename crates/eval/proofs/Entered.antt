@@ -1,5 +1,6 @@
 -- From the rules of calls and of Escapes to what the program's functions ensure.
 use Rattle.std.proofs.Common.{◌≡◌, ℕ, ◌+◌, Bool, List, length, take, subst, sym, ap, ◌∙◌}
+use Rattle.std.specs.Prelude.{Result, Ok, Err, IfOk}
 use Rattle.ids.specs.declared.names.EjId.{EjId}
 use Rattle.kernele.specs.Tree.{Name, Tree, Trees, call, escape_tree}
 use Rattle.code.specs.View.{trees_of_codes}
@@ -10,7 +11,7 @@ use Rattle.values.specs.Data.{Val, null, ejector}
 use Rattle.heap.specs.State.{Nouns}
 use Rattle.eval.specs.At.{At}
 use Rattle.eval.specs.Outcomes.{End, value, Gather}
-use Rattle.eval.specs.Rules.{inside, leaving, enters, target_of, next_ejector, escaping, escape_end, Ends, Runs, run_call_enters, run_escape, Args, Items, Taking}
+use Rattle.eval.specs.Rules.{Target, inside, leaving, enters, target_of, next_ejector, escaping, escape_end, Ends, Runs, run_call_enters, run_escape, Args, Items, Taking}
 use Rattle.heap.specs.View.{nouns_of}
 use Rattle.eval.specs.View.{at, opened_of}
 use Rattle.heap.specs.declared.state.Noun.{Noun}
@@ -42,3 +43,15 @@ escape_over {k = k} {ts = ts} {o = o} x xs w u {q = q} {j = j} {b = b} {z = z} {
     (subst (λ j. Taking (k + 1) q (ejector j) (trees_of_codes xs) b o (at u)) e r))) in
     subst (λ p. Runs k (escape_tree x ts) (at w) p z) (sym (m ∙ ap (λ j. escape_end j o) e))
     (subst (λ z. Runs k (escape_tree x ts) (at w) (escape_end (next_ejector (at w)) o) z) (sym (h ∙ ap (λ is. record (at u) { opened = is }) (opened_truncated w.opened.items u.opened.items n (next_ejector (at w)) l (taking_opened taken)))) (run_escape taken))
+
+-- what a call leads to, and how its arguments ended
+abbrev pub Leads : ℕ → Trees → Val → Name → At → Target → At → Type 0
+Leads k ts v verb a m b = (g : Gather) × Args k ts a g b × (m ≡ target_of v verb g b)
+
+pub call_leads : {X E : Type 0} {k : ℕ} {ts : Trees} {a b : At} {g : Gather} (r : Result X E) (view : X → Target) (v : Val) (verb : Name) → Args k ts a g b → IfOk r (λ x. view x ≡ target_of v verb g b) → IfOk r (λ x. Leads k ts v verb a (view x) b)
+call_leads {g = g} (Ok x) view v verb u h = (g, u, h)
+call_leads (Err e) view v verb u h = tt
+
+-- the same, where the arguments are known otherwise
+pub leads_as : {X E : Type 0} {ts us : Trees} (r : Result X E) (view : X → Target) (k : ℕ) (v : Val) (verb : Name) (a b : At) → ts ≡ us → IfOk r (λ x. Leads k ts v verb a (view x) b) → IfOk r (λ x. Leads k us v verb a (view x) b)
+leads_as r view k v verb a b same h = subst (λ ts. IfOk r (λ x. Leads k ts v verb a (view x) b)) same h

@@ -1,8 +1,8 @@
 -- Code fits where it is evaluated: what is left fits behind a tree that gave a value.
-use Rattle.std.proofs.Common.{◌≡◌, ℕ, ◌+◌, ◌<◌, List, [], ◌∷◌, ◌++◌, length, take, drop, get_or, Bool, false, refl, sym, ap, ◌∙◌, subst, suc, add-one, append-nil, append_assoc, true}
+use Rattle.std.proofs.Common.{◌≡◌, ℕ, ◌+◌, ◌<◌, List, [], ◌∷◌, ◌++◌, length, drop, get_or, Bool, false, refl, sym, ap, ◌∙◌, subst, suc, add-one, append-nil, append_assoc, true}
 use Rattle.std.proofs.Math.Seq.{drop-cons}
 use Rattle.std.proofs.lemmas.List.{map-append}
-use Rattle.kernele.specs.Tree.{Name, Tree, Trees}
+use Rattle.kernele.specs.Tree.{Name, Tree}
 use Rattle.kernele.specs.Scope.{name_of, names_of_all, own_names}
 use Rattle.kernele.specs.declared.tree.Pattern.{Pattern}
 use Rattle.kernele.specs.declared.tree.Pattern.TheVariants as pattern
@@ -23,9 +23,9 @@ use Rattle.heap.specs.declared.state.Noun.{Noun}
 use Rattle.eval.specs.At.{At}
 use Rattle.eval.specs.Outcomes.{End, value}
 use Rattle.eval.specs.Fits.{fits_at, all_fit_at, frame_behind}
-use Rattle.eval.specs.Rules.{Ends, Block, Taking, Choice, goes, choice_of, Listing, listed, listing_of, matched, entering, inside, named, named_all, as_many}
+use Rattle.eval.specs.Rules.{Ends, goes, choice_of, listed, listing_of, matched, entering, inside, named, named_all, as_many}
 use Rattle.eval.proofs.Patterns.{as_many-true}
-use Rattle.eval.proofs.Added.{Adds, ends_add, goes_add, lists_add, block_stays, taking_stays}
+use Rattle.eval.proofs.Added.{Adds, ends_add, goes_add, lists_add}
 
 -- what holds of the frame behind a place holds where the names have been added
 arrived : (P : Bool → Frame → Type 0) (t : Tree) (a b : At) → Adds (own_names t) a b → P a.own_scope (after a.own_scope t (frame_of a.nouns)) → P b.own_scope (frame_of b.nouns)

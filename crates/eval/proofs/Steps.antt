@@ -1,9 +1,9 @@
 -- From the rules to what the program's functions ensure.
-use Rattle.std.proofs.Common.{◌≡◌, ℕ, ◌+◌, ◌<◌, ◌≤◌, Bool, List, [], ◌∷◌, ◌++◌, subst, sym, ap, refl, length, take, drop, get_or, add-one, ◌∙◌, suc}
+use Rattle.std.proofs.Common.{arith, ◌≡◌, ℕ, ◌+◌, ◌<◌, ◌≤◌, Bool, List, [], ◌∷◌, ◌++◌, subst, sym, ap, refl, length, take, drop, get_or, add-one, ◌∙◌, suc}
 use Rattle.std.specs.Prelude.{Result, Ok, Err, IfOk}
 use Rattle.std.proofs.Math.Seq.{drop-cons}
 use Rattle.std.proofs.lemmas.List.{drop_all}
-use Rattle.kernele.specs.Tree.{Tree, define_list, Trees, and_then}
+use Rattle.kernele.specs.Tree.{Tree, define_list, Trees, none, and_then}
 use Rattle.code.specs.View.{tree_of_code, trees_of_codes}
 use Rattle.code.specs.declared.code.Code.{Code}
 use Rattle.values.specs.Data.{Val, null, Vals, and_val, no_vals}
@@ -171,3 +171,17 @@ pub next_round : {k : ℕ} {t : Tree} (w u : Working) {zs : List Noun} {n : ℕ}
 next_round {k = k} {t = t} w u {n = n} {p = p} {e = e} l g h r =
     subst (λ ns. Runs k t (record (at u) { nouns = ns }) p e) (truncated w.nouns.items u.nouns.items n l g)
     (subst (λ zs. Runs k t (record (at u) { nouns = nouns_of zs }) p e) h r)
+
+-- arguments, where their slice is known otherwise
+pub args_as : {xs ys : List Code} {k : ℕ} {a b : At} {g : Gather} → xs ≡ ys → Args k (trees_of_codes xs) a g b → Args k (trees_of_codes ys) a g b
+args_as {k = k} {a = a} {b = b} {g = g} same r = subst (λ xs. Args k (trees_of_codes xs) a g b) same r
+
+-- the only one of a list
+pub only_one : (xs : List Code) (x : Code) → length xs ≡ 1 → x ≡ get_or xs 0 x → (x ∷ []) ≡ xs
+only_one [] x l e = absurd (cc)
+only_one (y ∷ []) x l e = ap (λ y. y ∷ []) e
+only_one (y ∷ z ∷ zs) x l e = absurd (omega (arith, l))
+
+-- a call's only argument
+pub one_arg : {k : ℕ} {t : Tree} {a b : At} {v : Value} {vs : List Value} → vs ≡ v ∷ [] → Ends k t a (value (val_of v)) b → Args k (and_then t none) a (values (vals_of vs)) b
+one_arg {k = k} {t = t} {a = a} {b = b} e r = subst (λ us. Args k (and_then t none) a (values (vals_of us)) b) (sym e) (args_next r args_none)

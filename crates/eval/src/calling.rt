@@ -1,16 +1,18 @@
 // Calls and Escapes in the evaluation: a method's block runs in the turn, and so does an Escape's.
 ghost use Rattle.std.specs.Prelude.{◌≡◌, ◌≤◌, ◌<◌, ◌+◌, ◌++◌, ◌∷◌, [], false, IfOk};
-ghost use Rattle.kernele.specs.Tree.{call, escape_tree};
+ghost use Rattle.kernele.specs.Tree.{call, escape_tree, none, and_then};
 ghost use Rattle.code.specs.Frames.{fits_all};
-ghost use Rattle.eval.specs.Fits.{fits_at, frame_at, frame_behind};
+ghost use Rattle.eval.specs.Fits.{fits_at, all_fit_at, frame_at, frame_behind};
 ghost use Rattle.code.specs.View.{tree_of_code, trees_of_codes};
 ghost use Rattle.values.specs.Data.{null};
 ghost use Rattle.eval.specs.At.{At};
-ghost use Rattle.eval.specs.Rules.{Runs, Items, inside, leaving};
+ghost use Rattle.eval.specs.Outcomes.{Gather};
+ghost use Rattle.values.specs.View.{val_of};
+ghost use Rattle.eval.specs.Rules.{Runs, Args, Items, inside, leaving, target_of};
 ghost use Rattle.heap.specs.View.{nouns_of};
-ghost use Rattle.eval.specs.View.{at, end_of};
+ghost use Rattle.eval.specs.View.{at, end_of, target_view};
 
-use crate::calls::{call_target, enter_method, leave_method};
+use crate::calls::{call_target, enter_method, leave_method, value_target};
 use crate::control::eval_taking;
 use crate::end::End;
 use crate::entry::Entry;
@@ -22,6 +24,7 @@ use code::code::Code;
 use ids::text::Text;
 use kernele::tree::Pattern;
 use std::alloc::AllocError;
+use std::slice;
 use std::sync::Arc;
 use values::value::Value;
 use values::verb::Verb;
@@ -43,14 +46,54 @@ pub(crate) fn eval_call(
         End::Value(value) => value,
         End::Halt(halt) => return Ok(End::Halt(halt)),
     };
-    let gathered = eval_args(w, args, level + 1)?;
-    let target = call_target(w, received, verb, gathered)?;
+    let target = eval_target(w, received, verb, args, level + 1)?;
     match target {
         Target::Gives(end) => Ok(end),
         Target::Enters(entry) => {
             let end = eval_method(w, entry, level + 1)?;
             Ok(end)
         }
+    }
+}
+
+/// What a call leads to, once its arguments are evaluated. One, which most calls have, needs no list.
+#[cycle(evaluate)]
+fn eval_target(
+    w: &mut Working,
+    receiver: Value,
+    verb: &Text,
+    args: &[Code],
+    level: u32,
+) -> Result<Target, AllocError>
+    requires level { level ≤ 1001 }
+    requires fits { all_fit_at (at w.old) args.now }
+    ensures { IfOk result (λ t. (g : Gather) × Args level (trees_of_codes args.now) (at w.old) g (at w.new)
+        × (target_view t ≡ target_of (val_of receiver) verb.now g (at w.new))) }
+{
+    if args.len() == 1 {
+        return eval_with_one(w, &receiver, verb, &args[0], level);
+    }
+    let gathered = eval_args(w, args, level)?;
+    call_target(w, receiver, verb, gathered)
+}
+
+/// What a call with one argument leads to, once that is evaluated.
+#[cycle(evaluate)]
+fn eval_with_one(
+    w: &mut Working,
+    receiver: &Value,
+    verb: &Text,
+    arg: &Code,
+    level: u32,
+) -> Result<Target, AllocError>
+    requires level { level ≤ 1001 }
+    requires fits { fits_at (at w.old) arg.now }
+    ensures { IfOk result (λ t. (g : Gather) × Args level (and_then (tree_of_code arg.now) none) (at w.old) g (at w.new)
+        × (target_view t ≡ target_of (val_of receiver.now) verb.now g (at w.new))) }
+{
+    match eval(w, arg, level)? {
+        End::Value(value) => value_target(w, receiver, verb, slice::from_ref(&value)),
+        End::Halt(halt) => Ok(Target::Gives(End::Halt(halt))),
     }
 }
 

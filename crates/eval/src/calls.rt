@@ -50,7 +50,7 @@ pub fn call_target(
 }
 
 /// What a call with these arguments leads to.
-fn value_target(
+pub(crate) fn value_target(
     w: &Working,
     receiver: &Value,
     verb: &Verb,

@@ -4,10 +4,11 @@ use Rattle.code.specs.View.{tree_of_code, trees_of_codes}
 use Rattle.code.proofs.Views.{tree_of_code-Call, tree_of_code-List, tree_of_code-Hide, tree_of_code-If, tree_of_code-While, tree_of_code-For, tree_of_code-Try, tree_of_code-Object, tree_of_code-Escape}
 use Rattle.kernele.specs.declared.tree.Pattern.TheVariants as pattern
 use Rattle.values.specs.View.{val_of}
-use Rattle.eval.specs.View.{at, end_of, choice_view, listing_view, target_view}
-use Rattle.eval.specs.Rules.{at_budget, at_depth, run_null, run_bool, run_int, run_text, run_noun, run_define, run_variable, run_assign, run_call_receiver, run_call_gives, run_list, run_same_left, run_same, goes, run_define_list, run_hide, run_throw, run_if_goes, run_if_ends, run_while_again, run_while_halts, run_while_done, run_while_ends, run_for, run_for_ends, run_try, run_try_caught, run_object}
-use Rattle.eval.proofs.Steps.{node, child, children, slice_of, if_both, runs_as, runs_to, parts_run, args_begin, args_pushed, args_more, args_no_more, args_end, args_done, items_more, items_no_more, items_end, blocks, block_ending, taking, taking_ending, each, block_end, taking_end, each_more, each_no_more, each_end, next_round}
-use Rattle.eval.proofs.Entered.{entered, call_entered, escape_over}
+use Rattle.eval.specs.Outcomes.{halted}
+use Rattle.eval.specs.View.{at, end_of, halt_of, choice_view, listing_view, target_view}
+use Rattle.eval.specs.Rules.{at_budget, at_depth, run_null, run_bool, run_int, run_text, run_noun, run_define, run_variable, run_assign, run_call_receiver, run_call_gives, run_list, run_same_left, run_same, goes, run_define_list, run_hide, run_throw, run_if_goes, run_if_ends, run_while_again, run_while_halts, run_while_done, run_while_ends, run_for, run_for_ends, run_try, run_try_caught, run_object, args_halt}
+use Rattle.eval.proofs.Steps.{node, child, children, slice_of, if_both, runs_as, runs_to, parts_run, args_begin, args_pushed, args_more, args_no_more, args_end, args_done, args_as, only_one, one_arg, items_more, items_no_more, items_end, blocks, block_ending, taking, taking_ending, each, block_end, taking_end, each_more, each_no_more, each_end, next_round}
+use Rattle.eval.proofs.Entered.{call_leads, leads_as, entered, call_entered, escape_over}
 use Rattle.eval.proofs.Scopes.{truncated, truncated-length}
 use Rattle.eval.proofs.Added.{goes_add, block_stays, taking_stays}
 use Rattle.eval.proofs.Fitting.{fits_then, all_fit_then, chosen_fits, repeated_fits, placed_then, parts_fit, block_fits, entry_fits, round_fits, fits_from}
@@ -16,7 +17,7 @@ use Rattle.code.specs.Frames.{only_names}
 use Rattle.kernele.specs.Scope.{name_of}
 use Rattle.heap.specs.State.{frame_of}
 use Rattle.heap.specs.View.{nouns_of}
-use Rattle.eval.specs.Fits.{fits_at}
+use Rattle.eval.specs.Fits.{fits_at, all_fit_at}
 use Rattle.eval.proofs.Grown.{round_grow}
 use Rattle.eval.proofs.Spent.{condition_less, block_left}
 use Rattle.eval.proofs.+evaluate.Goals as goal
@@ -98,14 +99,6 @@ eval::eval_list-returns t c = IfOk-weaker _ _ _ (λ o h. runs_as (run_list (chil
 
 pub calling::eval_call-returns-in-Halt : goal.calling::eval_call-returns-in-Halt
 calling::eval_call-returns-in-Halt t c = run_call_receiver (child c.deref.ensures c.in-Halt.is c.in_ok-value.ensures)
-
-pub calling::eval_call-returns-in-Gives : goal.calling::eval_call-returns-in-Gives
-calling::eval_call-returns-in-Gives t c = run_call_gives (child c.deref.ensures c.in-Value.is c.in_ok-value.ensures) (children (slice_of c.deref-3.ensures.value c.deref-2.ensures) refl c.in_ok-gathered.ensures) (sym c.in_ok-target.ensures ∙ ap target_view c.in-Gives.is)
-
-pub calling::eval_call-returns-in_ok-end-in-Enters : goal.calling::eval_call-returns-in_ok-end-in-Enters
-calling::eval_call-returns-in_ok-end-in-Enters t c =
-    call_entered (child c.deref.ensures c.in-Value.is c.in_ok-value.ensures) (children (slice_of c.deref-3.ensures.value c.deref-2.ensures) refl c.in_ok-gathered.ensures) (sym c.in_ok-target.ensures ∙ ap target_view c.in-Enters.is)
-    c.in_ok-end-in-Enters.ensures
 
 pub calling::eval_method-returns : goal.calling::eval_method-returns
 calling::eval_method-returns t c = entered (ap trees_of_codes (slice_of c.deref-2.ensures.value c.deref.ensures)) _ c.args.w.now c.eval_items.new.w (ap (λ v. v.items) c.enter_method-caller.ensures.names) c.enter_method-caller.ensures.own c.enter_method-caller.ensures.place c.in_ok-end.ensures c.leave_method.ensures
@@ -238,9 +231,6 @@ control::eval_each-returns-in-Some t c = c.loop-value.invariant.0 _ _ (each_no_m
 pub control::eval_each-returns : goal.control::eval_each-returns
 control::eval_each-returns t c = c.loop-value.invariant.0 _ _ (each_end _ c.loop-value-test.false)
 
-pub calling::eval_call-eval_args-requires : goal.calling::eval_call-eval_args-requires
-calling::eval_call-eval_args-requires t c = (search rules, (search rules, all_fit_then (slice_of c.deref-3.ensures.value c.deref-2.ensures) (child c.deref.ensures c.in-Value.is c.in_ok-value.ensures) c.requires.fits.1))
-
 pub calling::eval_method-eval_items-requires : goal.calling::eval_method-eval_items-requires
 calling::eval_method-eval_items-requires t c = (search rules, (search rules, entry_fits c.args.entry.nouns.items (at c.args.w.now) _ c.enter_method-caller.ensures.place (slice_of c.deref-2.ensures.value c.deref.ensures) c.args.entry.fits))
 
@@ -300,3 +290,31 @@ eval::eval_assign-assign-requires t c = placed_then c.args.name.now (child c.der
 
 pub eval::eval_same-eval-requires-2 : goal.eval::eval_same-eval-requires-2
 eval::eval_same-eval-requires-2 t c = (search rules, fits_then c.deref-2.ensures (child c.deref.ensures c.in-Value.is c.in_ok-value.ensures) c.requires.fits.1)
+
+pub calling::eval_call-returns-in-Gives : goal.calling::eval_call-returns-in-Gives
+calling::eval_call-returns-in-Gives t c =
+    run_call_gives (child c.deref.ensures c.in-Value.is c.in_ok-value.ensures) (args_as (slice_of c.deref-3.ensures.value c.deref-2.ensures) c.in_ok-target.ensures.1) (sym c.in_ok-target.ensures.2 ∙ ap target_view c.in-Gives.is)
+
+pub calling::eval_call-returns-in_ok-end-in-Enters : goal.calling::eval_call-returns-in_ok-end-in-Enters
+calling::eval_call-returns-in_ok-end-in-Enters t c =
+    call_entered (child c.deref.ensures c.in-Value.is c.in_ok-value.ensures) (args_as (slice_of c.deref-3.ensures.value c.deref-2.ensures) c.in_ok-target.ensures.1) (sym c.in_ok-target.ensures.2 ∙ ap target_view c.in-Enters.is)
+    c.in_ok-end-in-Enters.ensures
+
+pub calling::eval_call-eval_target-requires : goal.calling::eval_call-eval_target-requires
+calling::eval_call-eval_target-requires t c = (search rules, (search rules, all_fit_then (slice_of c.deref-3.ensures.value c.deref-2.ensures) (child c.deref.ensures c.in-Value.is c.in_ok-value.ensures) c.requires.fits.1))
+
+pub calling::eval_target-eval_with_one-requires : goal.calling::eval_target-eval_with_one-requires
+calling::eval_target-eval_with_one-requires t c = (search rules, (search rules, (subst (all_fit_at (at c.args.w.now)) (sym (only_one c.args.args.now _ (search rules) c.index-args-0.is)) c.requires.fits).0))
+
+pub calling::eval_target-returns-then-args-eq1 : goal.calling::eval_target-returns-then-args-eq1
+calling::eval_target-returns-then-args-eq1 t c =
+    leads_as c.eval_with_one.result target_view c.args.level (val_of c.args.receiver) c.args.verb.now (at c.args.w.now) (at c.eval_with_one.new.w) (ap trees_of_codes (only_one c.args.args.now c.index-args-0.result (search rules) c.index-args-0.is)) c.eval_with_one.ensures
+
+pub calling::eval_target-returns : goal.calling::eval_target-returns
+calling::eval_target-returns t c = call_leads c.call_target.result target_view (val_of c.args.receiver) c.args.verb.now c.in_ok-gathered.ensures c.call_target.ensures
+
+pub calling::eval_with_one-returns-in-Value : goal.calling::eval_with_one-returns-in-Value
+calling::eval_with_one-returns-in-Value t c = call_leads c.value_target.result target_view (val_of c.args.receiver.now) c.args.verb.now (one_arg c.from_ref.ensures.value (child refl c.in-Value.is c.in_ok-value.ensures)) c.value_target.ensures
+
+pub calling::eval_with_one-returns-in-Halt : goal.calling::eval_with_one-returns-in-Halt
+calling::eval_with_one-returns-in-Halt t c = (halted (halt_of c.in-Halt.halt), args_halt (child refl c.in-Halt.is c.in_ok-value.ensures), refl)

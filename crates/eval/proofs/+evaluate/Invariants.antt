@@ -50,6 +50,12 @@ decreases-calling::eval_escape l = 5 * (1000 - l.level) + 4
 abbrev pub decreases-calling::eval_method : goal.decreases-calling::eval_method
 decreases-calling::eval_method l = 5 * (1001 - l.level) + 2
 
+abbrev pub decreases-calling::eval_target : goal.decreases-calling::eval_target
+decreases-calling::eval_target l = 5 * (1001 - l.level) + 2
+
+abbrev pub decreases-calling::eval_with_one : goal.decreases-calling::eval_with_one
+decreases-calling::eval_with_one l = 5 * (1001 - l.level) + 1
+
 abbrev pub decreases-eval::eval_list : goal.decreases-eval::eval_list
 decreases-eval::eval_list l = 5 * (1000 - l.level) + 4
 
