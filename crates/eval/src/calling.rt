@@ -61,7 +61,7 @@ pub(crate) fn eval_call(
 fn eval_target(
     w: &mut Working,
     receiver: Value,
-    verb: &Text,
+    verb: &Verb,
     args: &[Code],
     level: u32,
 ) -> Result<Target, AllocError>
@@ -82,7 +82,7 @@ fn eval_target(
 fn eval_with_one(
     w: &mut Working,
     receiver: &Value,
-    verb: &Text,
+    verb: &Verb,
     arg: &Code,
     level: u32,
 ) -> Result<Target, AllocError>
