@@ -15,7 +15,8 @@ ghost use Rattle.world.specs.View.{world_of, place_of, message_of, home_of};
 ghost use Rattle.evats.specs.Show.{pattern_text, content_text, noun_line, noun_lines, slot_line, slot_lines, object_line, object_lines, vat_line, place_text, message_line, message_lines, board_line, board_lines, Lists, Shows};
 ghost use Rattle.evats.specs.ShowView.{nouns_in, slots_in, objects_in, homes_in, messages_in, board_in, HomeWritten, HomesWritten};
 
-use heap::state::{Binding, Made};
+use heap::made::Made;
+use heap::state::Binding;
 use ids::names::{MsgId, ObjId, PromId, SlotId, VatNo};
 use ids::text::Text;
 use kernele::tree::Pattern;
