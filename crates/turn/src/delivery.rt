@@ -11,10 +11,10 @@ ghost use Rattle.heap.specs.View.{state_of};
 ghost use Rattle.eval.specs.View.{at, end_of};
 ghost use Rattle.turn.specs.View.{ended_of, delivery_of, outcome_of};
 
+use code::resolve;
 use eval::end::{Abandon, End, Halt};
 use eval::eval::eval_items;
 use eval::working::Working;
-use code::resolve;
 use heap::state::VatState;
 use ids::names::{EventName, VatNo};
 use ids::text::Text;
