@@ -7,6 +7,7 @@ pub mod Entered
 pub mod Fitting
 pub mod Framed
 pub mod Grown
+pub mod Leaves
 pub mod Opened
 pub mod Patterns
 pub mod Places

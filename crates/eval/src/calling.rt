@@ -19,6 +19,7 @@ use crate::entry::Entry;
 use crate::escapes::{close_escape, count_open, escape_end, open_escape};
 use crate::eval::{eval, eval_args, eval_items};
 use crate::objects::Target;
+use crate::quick::quick_value;
 use crate::working::Working;
 use code::code::Code;
 use ids::text::Text;
@@ -31,6 +32,30 @@ use values::verb::Verb;
 
 #[cycle(evaluate)]
 pub(crate) fn eval_call(
+    w: &mut Working,
+    receiver: &Arc<Code>,
+    verb: &Verb,
+    args: &Arc<Vec<Code>>,
+    level: u32,
+) -> Result<End, AllocError>
+    requires level { level ≤ 1000 }
+    requires fits { fits_at (at w.old) receiver.now.value × fits_all w.old.own_scope (frame_behind (at w.old) receiver.now.value) args.now.value.items }
+    ensures { IfOk result (λ o. Runs level (call (tree_of_code receiver.now.value) verb.now (trees_of_codes args.now.value.items))
+        (at w.old) (end_of o) (at w.new)) }
+{
+    match quick_value(w, receiver, verb, args, level) {
+        Some(value) => {
+            w.steps -= 2;
+            Ok(End::Value(value))
+        }
+        None => eval_any_call(w, receiver, verb, args, level),
+    }
+}
+
+/// A call on anything. It stands apart, so that a call on integers needs little of the stack.
+#[cycle(evaluate)]
+#[inline(never)]
+fn eval_any_call(
     w: &mut Working,
     receiver: &Arc<Code>,
     verb: &Verb,

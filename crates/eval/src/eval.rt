@@ -25,7 +25,7 @@ use values::sameness::same;
 use values::value::Value;
 
 /// The deepest level at which a node may begin.
-const DEEPEST: u32 = 1000;
+pub(crate) const DEEPEST: u32 = 1000;
 
 /// The value of an end, or an early return of what halted it.
 macro_rules! value {

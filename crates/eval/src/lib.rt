@@ -13,6 +13,7 @@ pub mod entry;
 pub mod escapes;
 pub mod eval;
 pub mod nouns;
+mod quick;
 pub mod objects;
 pub mod results;
 pub mod theorems;

@@ -1,9 +1,10 @@
 // The verbs of data. Calls on integers are inlined where they are made, and no others, so that a sum costs little.
-ghost use Rattle.std.specs.Prelude.{◌≡◌, IfOk};
+ghost use Rattle.std.specs.Prelude.{◌≡◌, IfOk, IfSome};
+ghost use Rattle.values.specs.Data.{int, and_val, no_vals, gives};
 ghost use Rattle.values.specs.Replies.{bool_table, data_reply};
 ghost use Rattle.values.specs.View.{val_of, vals_of, reply_of};
 
-use crate::integers::int_call;
+use crate::integers::{IntReply, int_call, int_with};
 use crate::lists::list_call;
 use crate::replies::{no_method, truth};
 use crate::texts::text_call;
@@ -48,6 +49,21 @@ pub fn call_verb(
         Value::Text(text) => text_call(alloc, text, verb, arguments),
         Value::List(items) => list_call(alloc, items.as_slice(), verb, arguments),
         Value::Broken(problem) => Ok(Answer::Throws(problem.share()?)),
+    }
+}
+
+/// The value that a verb gives on two integers, if it gives one. Nothing is made.
+#[inline(always)]
+pub fn call_integers(x: i64, verb: &Verb, y: i64) -> Option<Value>
+    ensures { IfSome result (λ v. data_reply (int x) verb.now (and_val (int y) no_vals) ≡ gives (val_of v)) }
+{
+    match int_with(x, verb, &Value::Int(y)) {
+        IntReply::Integer(integer) => Some(Value::Int(integer)),
+        IntReply::Truth(holds) => Some(Value::Bool(holds)),
+        IntReply::TooLarge
+        | IntReply::DivisionByZero
+        | IntReply::WrongArgument
+        | IntReply::NoMethod => None,
     }
 }
 

@@ -44,7 +44,7 @@ pub(crate) fn int_call(
 
 /// What a verb with one argument leads to.
 #[inline(always)]
-fn int_with(x: i64, verb: &Verb, argument: &Value) -> IntReply
+pub(crate) fn int_with(x: i64, verb: &Verb, argument: &Value) -> IntReply
     ensures { int_reply result verb.now (val_of argument.now) ≡ int_table x verb.now (and_val (val_of argument.now) no_vals) }
 {
     match verb.word() {

@@ -97,8 +97,8 @@ eval::eval_args-returns t c = args_done _ (c.loop-arg.invariant.0 _ _ (args_end 
 pub eval::eval_list-returns : goal.eval::eval_list-returns
 eval::eval_list-returns t c = IfOk-weaker _ _ _ (λ o h. runs_as (run_list (children (slice_of c.deref-2.ensures.value c.deref.ensures) refl c.in_ok-gathered.ensures)) h) c.list_end.ensures
 
-pub calling::eval_call-returns-in-Halt : goal.calling::eval_call-returns-in-Halt
-calling::eval_call-returns-in-Halt t c = run_call_receiver (child c.deref.ensures c.in-Halt.is c.in_ok-value.ensures)
+pub calling::eval_any_call-returns-in-Halt : goal.calling::eval_any_call-returns-in-Halt
+calling::eval_any_call-returns-in-Halt t c = run_call_receiver (child c.deref.ensures c.in-Halt.is c.in_ok-value.ensures)
 
 pub calling::eval_method-returns : goal.calling::eval_method-returns
 calling::eval_method-returns t c = entered (ap trees_of_codes (slice_of c.deref-2.ensures.value c.deref.ensures)) _ c.args.w.now c.eval_items.new.w (ap (λ v. v.items) c.enter_method-caller.ensures.names) c.enter_method-caller.ensures.own c.enter_method-caller.ensures.place c.in_ok-end.ensures c.leave_method.ensures
@@ -291,17 +291,17 @@ eval::eval_assign-assign-requires t c = placed_then c.args.name.now (child c.der
 pub eval::eval_same-eval-requires-2 : goal.eval::eval_same-eval-requires-2
 eval::eval_same-eval-requires-2 t c = (search rules, fits_then c.deref-2.ensures (child c.deref.ensures c.in-Value.is c.in_ok-value.ensures) c.requires.fits.1)
 
-pub calling::eval_call-returns-in-Gives : goal.calling::eval_call-returns-in-Gives
-calling::eval_call-returns-in-Gives t c =
+pub calling::eval_any_call-returns-in-Gives : goal.calling::eval_any_call-returns-in-Gives
+calling::eval_any_call-returns-in-Gives t c =
     run_call_gives (child c.deref.ensures c.in-Value.is c.in_ok-value.ensures) (args_as (slice_of c.deref-3.ensures.value c.deref-2.ensures) c.in_ok-target.ensures.1) (sym c.in_ok-target.ensures.2 ∙ ap target_view c.in-Gives.is)
 
-pub calling::eval_call-returns-in_ok-end-in-Enters : goal.calling::eval_call-returns-in_ok-end-in-Enters
-calling::eval_call-returns-in_ok-end-in-Enters t c =
+pub calling::eval_any_call-returns-in_ok-end-in-Enters : goal.calling::eval_any_call-returns-in_ok-end-in-Enters
+calling::eval_any_call-returns-in_ok-end-in-Enters t c =
     call_entered (child c.deref.ensures c.in-Value.is c.in_ok-value.ensures) (args_as (slice_of c.deref-3.ensures.value c.deref-2.ensures) c.in_ok-target.ensures.1) (sym c.in_ok-target.ensures.2 ∙ ap target_view c.in-Enters.is)
     c.in_ok-end-in-Enters.ensures
 
-pub calling::eval_call-eval_target-requires : goal.calling::eval_call-eval_target-requires
-calling::eval_call-eval_target-requires t c = (search rules, (search rules, all_fit_then (slice_of c.deref-3.ensures.value c.deref-2.ensures) (child c.deref.ensures c.in-Value.is c.in_ok-value.ensures) c.requires.fits.1))
+pub calling::eval_any_call-eval_target-requires : goal.calling::eval_any_call-eval_target-requires
+calling::eval_any_call-eval_target-requires t c = (search rules, (search rules, all_fit_then (slice_of c.deref-3.ensures.value c.deref-2.ensures) (child c.deref.ensures c.in-Value.is c.in_ok-value.ensures) c.requires.fits.1))
 
 pub calling::eval_target-eval_with_one-requires : goal.calling::eval_target-eval_with_one-requires
 calling::eval_target-eval_with_one-requires t c = (search rules, (search rules, (subst (all_fit_at (at c.args.w.now)) (sym (only_one c.args.args.now _ (search rules) c.index-args-0.is)) c.requires.fits).0))

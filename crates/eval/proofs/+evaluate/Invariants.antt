@@ -44,6 +44,9 @@ decreases-eval::eval_assign l = 5 * (1000 - l.level) + 4
 abbrev pub decreases-calling::eval_call : goal.decreases-calling::eval_call
 decreases-calling::eval_call l = 5 * (1000 - l.level) + 4
 
+abbrev pub decreases-calling::eval_any_call : goal.decreases-calling::eval_any_call
+decreases-calling::eval_any_call l = 5 * (1000 - l.level) + 3
+
 abbrev pub decreases-calling::eval_escape : goal.decreases-calling::eval_escape
 decreases-calling::eval_escape l = 5 * (1000 - l.level) + 4
 
