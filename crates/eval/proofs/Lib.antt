@@ -14,3 +14,4 @@ pub mod Scopes
 pub mod Spent
 pub mod Steps
 pub mod Unwritten
+pub mod Drafted
