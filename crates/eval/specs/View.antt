@@ -3,7 +3,8 @@ use Rattle.std.specs.Prelude.{List, [], ◌∷◌}
 use Rattle.ids.specs.declared.names.EjId.{EjId}
 use Rattle.values.specs.View.{val_of, vals_of}
 use Rattle.eval.specs.At.{At}
-use Rattle.heap.specs.View.{nouns_of, state_of}
+use Rattle.heap.specs.View.{nouns_of}
+use Rattle.heap.specs.Drafts.{draft_of, counts_of}
 use Rattle.eval.specs.Outcomes.{Cause, budget_spent, too_deep, too_large, Halt, thrown, ejected, abandoned, End, value, halt, Gather, values, halted}
 use Rattle.eval.specs.Rules.{Choice, goes, ends, Listing, listed, unlisted, Capture, captured, missing, Callee, on_object, on_ejector, on_datum, Target, gives, enters}
 use Rattle.code.specs.View.{trees_of_codes}
@@ -55,7 +56,7 @@ opened_of items = ejectors_after [] items
 
 -- where the program stands
 abbrev pub at : Working → At
-at w = record { nouns = nouns_of w.nouns.items; own_scope = w.own_scope; state = state_of w.state; left = w.steps; event = w.event; vat = w.vat; slots = w.slots; objects = w.objects; ejectors = w.ejectors; opened = opened_of w.opened.items }
+at w = record { nouns = nouns_of w.nouns.items; own_scope = w.own_scope; state = draft_of w.draft; left = w.steps; event = (counts_of w.draft).event; vat = (counts_of w.draft).vat; slots = (counts_of w.draft).slots; objects = (counts_of w.draft).objects; ejectors = w.ejectors; opened = opened_of w.opened.items }
 
 -- what a condition leads to, and what stands where a list is wanted
 abbrev pub choice_view : Choosing → Choice

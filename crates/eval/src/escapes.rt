@@ -22,9 +22,9 @@ pub fn open_escape(w: &mut Working) -> Result<EjId, AllocError>
     ensures place { IfOk result (λ j. at w.new ≡ escaping (at w.old)) }
 {
     let ejector = EjId {
-        event: w.event,
+        event: w.draft.event(),
         index: w.ejectors,
-        vat: w.vat,
+        vat: w.draft.vat(),
     };
     w.opened.push(ejector)?;
     w.ejectors += 1;

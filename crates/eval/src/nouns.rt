@@ -1,5 +1,5 @@
 // Nouns: what they stand for, and how they are bound, declared and assigned.
-ghost use Rattle.std.specs.Prelude.{◌≡◌, ◌<◌, IfOk, IfSome, OnOk, length};
+ghost use Rattle.std.specs.Prelude.{◌≡◌, IfOk, IfSome, OnOk, length};
 ghost use Rattle.std.specs.Option.{option_map};
 ghost use Rattle.values.specs.Replies.{items_in};
 ghost use Rattle.values.specs.View.{val_of, vals_of};
@@ -8,9 +8,10 @@ ghost use Rattle.eval.specs.Fits.{frame_at};
 ghost use Rattle.heap.specs.State.{read, slot_cell};
 ghost use Rattle.eval.specs.Outcomes.{value as value_end};
 ghost use Rattle.eval.specs.Rules.{binding as binding_of, matched, matched_all, taken, parts_of, parts_bound, parts_end, sought, sought_slot, held_end, undefined_noun};
-ghost use Rattle.eval.specs.Rules.{next_slot, slot_made, declared, declared_end, assigned, assigned_end};
+ghost use Rattle.eval.specs.Rules.{declared, declared_end, assigned, assigned_end};
 ghost use Rattle.eval.specs.Rules.{noun_end as noun_end_of};
-ghost use Rattle.heap.specs.View.{bind_of, state_of};
+ghost use Rattle.heap.specs.View.{bind_of};
+ghost use Rattle.heap.specs.Drafts.{draft_of};
 ghost use Rattle.eval.specs.View.{at, end_of};
 
 use crate::end::{Abandon, End, Halt};
@@ -25,13 +26,13 @@ use std::alloc::{AllocError, Global};
 use values::value::Value;
 
 /// How many slots a turn may make.
-const MAX_SLOTS: u32 = 4096;
+const MAX_SLOTS: usize = 4096;
 
 /// The value of a noun: a slot gives what it holds.
 pub fn noun_end(w: &Working, name: &Text, place: Place) -> Result<End, AllocError>
     requires { place ≡ place_in (frame_at (at w.now)) name.now }
     ensures { IfOk result (λ o. end_of o
-        ≡ noun_end_of (state_of w.now.state) name.now (sought name.now (at w.now))) }
+        ≡ noun_end_of (draft_of w.now.draft) name.now (sought name.now (at w.now))) }
 {
     match seek(w, name, place) {
         Some(Binding::Fixed(value)) => Ok(End::Value(value.share()?)),
@@ -42,9 +43,9 @@ pub fn noun_end(w: &Working, name: &Text, place: Place) -> Result<End, AllocErro
 
 fn slot_end(w: &Working, slot: SlotId, name: &Text) -> Result<End, AllocError>
     ensures { IfOk result (λ o. end_of o
-        ≡ held_end name.now (read (state_of w.now.state) (slot_cell slot))) }
+        ≡ held_end name.now (read (draft_of w.now.draft) (slot_cell slot))) }
 {
-    match w.state.read_slot(slot) {
+    match w.draft.read_slot(slot) {
         Some(value) => Ok(End::Value(value.share()?)),
         None => undefined(w.alloc, name),
     }
@@ -66,7 +67,7 @@ pub fn seek<'a>(w: &'a Working, name: &Text, place: Place) -> Option<&'a Binding
 {
     match place {
         Place::Frame(i) => Some(&w.nouns[i].binding),
-        Place::Top => w.state.top(name),
+        Place::Top => w.draft.top(name),
     }
 }
 
@@ -141,7 +142,7 @@ fn bind(w: &mut Working, name: &Text, binding: Binding) -> Result<(), AllocError
 {
     let name = name.share()?;
     if w.own_scope {
-        w.state.bind_top(name, binding)
+        w.draft.bind_top(name, binding)
     } else {
         w.nouns.push(Noun { name, binding })?;
         Ok(())
@@ -153,23 +154,12 @@ pub fn declare(w: &mut Working, name: &Text, value: Value) -> Result<End, AllocE
     ensures ends { IfOk result (λ o. end_of o ≡ declared_end (value_end (val_of value)) (at w.old)) }
     ensures makes { IfOk result (λ o. at w.new ≡ declared name.now (value_end (val_of value)) (at w.old)) }
 {
-    if w.slots >= MAX_SLOTS {
+    if w.draft.slot_count() >= MAX_SLOTS {
         return Ok(End::Halt(Halt::Abandoned(Abandon::Size)));
     }
-    let slot = make_slot(w, value.share()?)?;
+    let slot = w.draft.new_slot(value.share()?)?;
     bind(w, name, Binding::Slot(slot))?;
     Ok(End::Value(value))
-}
-
-/// Makes the turn's next slot.
-fn make_slot(w: &mut Working, value: Value) -> Result<SlotId, AllocError>
-    requires { w.old.slots < 4096 }
-    ensures named { IfOk result (λ i. i ≡ next_slot (at w.old)) }
-    ensures made { IfOk result (λ i. at w.new ≡ slot_made (val_of value) (at w.old)) }
-{
-    let slot = w.state.new_slot(w.event, w.slots, w.vat, value)?;
-    w.slots += 1;
-    Ok(slot)
 }
 
 /// Lets the slot that a name stands for hold this value. What stands for no slot is undefined here:
@@ -183,7 +173,7 @@ pub fn assign(w: &mut Working, name: &Text, place: Place, value: Value) -> Resul
 {
     match seek_slot(w, name, place) {
         Some(slot) => {
-            w.state.write_slot(slot, value.share()?)?;
+            w.draft.write_slot(slot, value.share()?)?;
             Ok(End::Value(value))
         }
         None => undefined(w.alloc, name),

@@ -1,5 +1,5 @@
 // Objects: what they capture, how they are made, and how a call finds a method.
-ghost use Rattle.std.specs.Prelude.{◌≡◌, ◌<◌, [], ◌∷◌, ◌++◌, false, IfOk, IfSome, OnOk, length};
+ghost use Rattle.std.specs.Prelude.{◌≡◌, [], ◌∷◌, ◌++◌, false, IfOk, IfSome, OnOk, length};
 ghost use Rattle.std.specs.Option.{option_map};
 ghost use Rattle.code.specs.Frames.{Frame, only_names, captured_names_of, all_placed, fits_all, fits_methods};
 ghost use Rattle.heap.specs.Names.{names_of};
@@ -10,10 +10,11 @@ ghost use Rattle.code.specs.View.{trees_of_codes, methods_of_codes};
 ghost use Rattle.values.specs.Data.{object as object_value};
 ghost use Rattle.values.specs.View.{val_of, vals_of};
 ghost use Rattle.heap.specs.State.{object_cell, read};
-ghost use Rattle.eval.specs.Rules.{captured, all_captured, capture_of, next_object, has_object_room, object_made, placed, placed_end};
+ghost use Rattle.eval.specs.Rules.{captured, all_captured, capture_of, has_object_room, placed, placed_end};
 ghost use Rattle.eval.specs.Rules.{with_object, object_end, named, named_all, method_in};
 ghost use Rattle.eval.specs.Rules.{method_target as method_target_of, object_target as object_target_of};
-ghost use Rattle.heap.specs.View.{bind_of, nouns_of, object_of, state_of};
+ghost use Rattle.heap.specs.View.{bind_of, nouns_of, object_of};
+ghost use Rattle.heap.specs.Drafts.{draft_of};
 ghost use Rattle.eval.specs.View.{at, capture_view, end_of, target_view};
 
 use crate::end::{Abandon, End, Halt};
@@ -33,7 +34,7 @@ use values::value::Value;
 use values::verb::Verb;
 
 /// How many objects a turn may make.
-const MAX_OBJECTS: u32 = 4096;
+const MAX_OBJECTS: usize = 4096;
 
 /// The names that an object captures, the newest last, or the first of them that stands for nothing.
 #[derive(Drop)]
@@ -111,7 +112,7 @@ fn place(
         (record { own = pattern.now; captured = nouns_of nouns.items; methods = methods_of_codes methods.now.value.items })
         (at w.old)) }
 {
-    if w.objects >= MAX_OBJECTS {
+    if w.draft.object_count() >= MAX_OBJECTS {
         return Ok(End::Halt(Halt::Abandoned(Abandon::Size)));
     }
     let made = Made {
@@ -119,20 +120,9 @@ fn place(
         captured: Arc::new(w.alloc, nouns)?,
         methods: Arc::try_clone(methods)?,
     };
-    let object = Value::Object(make_object(w, made)?);
+    let object = Value::Object(w.draft.new_object(made)?);
     match_pattern(w, pattern, &object)?;
     Ok(End::Value(object))
-}
-
-/// Makes the turn's next object.
-fn make_object(w: &mut Working, object: Made) -> Result<ObjId, AllocError>
-    requires { w.old.objects < 4096 }
-    ensures named { IfOk result (λ i. i ≡ next_object (at w.old)) }
-    ensures made { IfOk result (λ i. at w.new ≡ object_made (object_of object) (at w.old)) }
-{
-    let id = w.state.new_object(w.event, w.objects, w.vat, object)?;
-    w.objects += 1;
-    Ok(id)
 }
 
 /// What a call on an object leads to.
@@ -143,9 +133,9 @@ pub fn object_target(
     args: &[Value],
 ) -> Result<Target, AllocError>
     ensures { IfOk result (λ t. target_view t
-        ≡ object_target_of id (read (state_of w.now.state) (object_cell id)) verb.now (vals_of args.now)) }
+        ≡ object_target_of id (read (draft_of w.now.draft) (object_cell id)) verb.now (vals_of args.now)) }
 {
-    match w.state.object(id) {
+    match w.draft.object(id) {
         Some(object) => method_target(w.alloc, id, object, verb, args),
         None => Ok(Target::Gives(no_such_method(w.alloc, verb, args)?)),
     }

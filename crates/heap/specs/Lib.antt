@@ -1,3 +1,4 @@
 pub mod State
 pub mod Names
 pub mod View
+pub mod Drafts

@@ -2,5 +2,6 @@
 //! what they are.
 #![tactic(auto)]
 
+pub mod draft;
 pub mod made;
 pub mod state;

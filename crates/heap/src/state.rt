@@ -8,7 +8,7 @@ ghost use Rattle.heap.specs.View.{bind_of, object_of, tops_of, slots_of, objects
 ghost use Rattle.values.specs.View.{val_of};
 
 use crate::made::Made;
-use ids::names::{EventName, ObjId, SlotId, VatNo};
+use ids::names::{ObjId, SlotId};
 use ids::text::Text;
 use std::alloc::{AllocError, Global};
 use std::collections::BTreeMap;
@@ -102,22 +102,6 @@ impl VatState {
         self.slots.get(&slot)
     }
 
-    /// Makes a slot that holds a value, by its event, its number among that event's slots, and its vat.
-    pub fn new_slot(
-        &mut self,
-        event: EventName,
-        index: u32,
-        vat: VatNo,
-        value: Value,
-    ) -> Result<SlotId, AllocError>
-        ensures { IfOk result (λ i. (i ≡ record { event = event; index = index; vat = vat })
-            × (state_of self.new ≡ write (state_of self.old) (slot_cell i) (held (val_of value)))) }
-    {
-        let slot = SlotId { event, index, vat };
-        self.write_slot(slot, value)?;
-        Ok(slot)
-    }
-
     /// Lets a slot hold a value. Without memory for a new one the state stays as it was.
     pub fn write_slot(&mut self, slot: SlotId, value: Value) -> Result<(), AllocError>
         ensures ok { OnOk result
@@ -136,20 +120,14 @@ impl VatState {
         self.objects.get(&object)
     }
 
-    /// Makes an object, by its event, its number among that event's objects, and its vat.
-    pub fn new_object(
-        &mut self,
-        event: EventName,
-        index: u32,
-        vat: VatNo,
-        object: Made,
-    ) -> Result<ObjId, AllocError>
-        ensures { IfOk result (λ i. (i ≡ record { event = event; index = index; vat = vat })
-            × (state_of self.new ≡ write (state_of self.old) (object_cell i) (made (object_of object)))) }
+    /// Lets an object be this. Without memory for a new one the state stays as it was.
+    pub(crate) fn keep_object(&mut self, id: ObjId, object: Made) -> Result<(), AllocError>
+        ensures ok { OnOk result
+            (state_of self.new ≡ write (state_of self.old) (object_cell id) (made (object_of object))) }
+        ensures err { OnErr result (state_of self.new ≡ state_of self.old) }
     {
-        let id = ObjId { event, index, vat };
         self.objects.insert(id, object)?;
-        Ok(id)
+        Ok(())
     }
 
     /// An equal state of its own, whose values and objects are shared. Fails only for want of memory.

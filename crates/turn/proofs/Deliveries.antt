@@ -8,6 +8,7 @@ use Rattle.code.specs.Frames.{fits_all}
 use Rattle.code.specs.declared.code.Code.{Code}
 use Rattle.values.specs.Data.{Val, null}
 use Rattle.heap.specs.State.{State, frame_of}
+use Rattle.heap.specs.Drafts.{Counts}
 use Rattle.eval.specs.At.{At}
 use Rattle.eval.specs.Outcomes.{End}
 use Rattle.eval.specs.Rules.{Items}
@@ -31,12 +32,12 @@ abbrev pub Completes : Trees → Bool → EventName → VatNo → State → ℕ 
 Completes ts own e v s n r = (o : End) × (b : At) × Items 1 null ts (start own e v s n) o b × (r ≡ outcome s (settled o) b)
 
 -- a program's items, begun where the program stands
-pub program_items : {us ts : Trees} {ns : List Noun} {js : List EjId} {own : Bool} {e : EventName} {v : VatNo} {s t : State} {n : ℕ} {o : End} {b : At} → us ≡ ts → ns ≡ [] → js ≡ [] → s ≡ t → Items 1 null us (record { nouns = nouns_of ns; own_scope = own; state = s; left = n; event = e; vat = v; slots = 0; objects = 0; ejectors = 0; opened = opened_of js }) o b → Items 1 null ts (start own e v t n) o b
-program_items {us = us} {ns = ns} {js = js} {own = own} {e = e} {v = v} {t = t} {n = n} {o = o} {b = b} p q z r h =
-    subst (λ ts. Items 1 null ts (start own e v t n) o b) p
-    (subst (λ ks. Items 1 null us (record { nouns = []; own_scope = own; state = t; left = n; event = e; vat = v; slots = 0; objects = 0; ejectors = 0; opened = opened_of ks }) o b) z
-    (subst (λ ms. Items 1 null us (record { nouns = nouns_of ms; own_scope = own; state = t; left = n; event = e; vat = v; slots = 0; objects = 0; ejectors = 0; opened = opened_of js }) o b) q
-    (subst (λ u. Items 1 null us (record { nouns = nouns_of ns; own_scope = own; state = u; left = n; event = e; vat = v; slots = 0; objects = 0; ejectors = 0; opened = opened_of js }) o b) r h)))
+pub program_items : {us ts : Trees} {ns : List Noun} {js : List EjId} {own : Bool} {e : EventName} {v : VatNo} {s t : State} {m : Counts} {n : ℕ} {o : End} {b : At} → us ≡ ts → ns ≡ [] → js ≡ [] → s ≡ t → m ≡ record { event = e; vat = v; slots = 0; objects = 0 }
+    → Items 1 null us (record { nouns = nouns_of ns; own_scope = own; state = s; left = n; event = m.event; vat = m.vat; slots = m.slots; objects = m.objects; ejectors = 0; opened = opened_of js }) o b → Items 1 null ts (start own e v t n) o b
+program_items {us = us} {ns = ns} {js = js} {own = own} {s = s} {m = m} {n = n} {o = o} {b = b} p q z r x h =
+    let from : Trees → List Noun → List EjId → State → Counts → Type 0 =
+    λ us ns js s m. Items 1 null us (record { nouns = nouns_of ns; own_scope = own; state = s; left = n; event = m.event; vat = m.vat; slots = m.slots; objects = m.objects; ejectors = 0; opened = opened_of js }) o b in
+    subst (λ (f : Type 0). f) (λ i. from (p i) (q i) (z i) (r i) (x i)) h
 
 pub opened : {d : code.Delivery} {p : Program} {e : EventName} {v : VatNo} {s : State} {n : ℕ} (r : code-outcome.Outcome) → d ≡ delivery.Opening p → Completes (program_of p) true e v s n (outcome_of r) → Delivers (delivery_of d) e v s n (outcome_of r)
 opened {p = p} {e = e} {v = v} {s = s} {n = n} r q h = subst (λ x. Delivers (delivery_of x) e v s n (outcome_of r)) (sym q) (subst (λ m. Delivers (opening (program_of p)) e v s n m) (sym h.3) (opens h.2))

@@ -7,6 +7,7 @@ ghost use Rattle.eval.specs.At.{At};
 ghost use Rattle.eval.specs.Outcomes.{End as ModelEnd};
 ghost use Rattle.eval.specs.Rules.{Items};
 ghost use Rattle.turn.specs.Turn.{Delivers, start, settled, published as published_of, kept, outcome};
+ghost use Rattle.heap.specs.Drafts.{draft_of};
 ghost use Rattle.heap.specs.View.{state_of};
 ghost use Rattle.eval.specs.View.{at, end_of};
 ghost use Rattle.turn.specs.View.{ended_of, delivery_of, outcome_of};
@@ -15,6 +16,7 @@ use code::resolve;
 use eval::end::{Abandon, End, Halt};
 use eval::eval::eval_items;
 use eval::working::Working;
+use heap::draft::Draft;
 use heap::state::VatState;
 use ids::names::{EventName, VatNo};
 use ids::text::Text;
@@ -98,14 +100,10 @@ fn run_program(
     let resolved = resolve(alloc, program, own_scope)?;
     let mut w = Working {
         alloc,
-        state: state.try_copy()?,
+        draft: Draft::new(state.try_copy()?, event, vat),
         own_scope,
         nouns: Vec::new(alloc),
         steps: budget,
-        event,
-        vat,
-        slots: 0,
-        objects: 0,
         ejectors: 0,
         opened: Vec::new(alloc),
     };
@@ -121,7 +119,7 @@ fn finish(old: &VatState, w: Working, end: End) -> Result<Outcome, AllocError>
     let steps = w.steps;
     let ended = settle(w.alloc, end)?;
     let result = published(w.alloc, &ended)?;
-    let state = state_after(old, w.state, &ended)?;
+    let state = state_after(old, w.draft, &ended)?;
     Ok(Outcome {
         state,
         result,
@@ -162,12 +160,12 @@ fn published(alloc: Global, ended: &Ended) -> Result<Value, AllocError>
 }
 
 /// The new state, or the old one where the turn was abandoned.
-fn state_after(old: &VatState, new: VatState, ended: &Ended) -> Result<VatState, AllocError>
+fn state_after(old: &VatState, new: Draft, ended: &Ended) -> Result<VatState, AllocError>
     ensures { IfOk result (λ s.
-        state_of s ≡ kept (ended_of ended.now) (state_of old.now) (state_of new)) }
+        state_of s ≡ kept (ended_of ended.now) (state_of old.now) (draft_of new)) }
 {
     match ended {
-        Ended::Value(_) | Ended::Problem(_) => Ok(new),
+        Ended::Value(_) | Ended::Problem(_) => new.finish(),
         Ended::Abandoned(_) => old.try_copy(),
     }
 }

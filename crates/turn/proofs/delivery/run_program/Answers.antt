@@ -7,9 +7,9 @@ use Rattle.turn.proofs.Deliveries.{program_items, program_fits, completed}
 use Rattle.turn.proofs.delivery.run_program.Goals as goal
 
 pub eval_items-requires : goal.eval_items-requires
-eval_items-requires c = record { level = search rules; fits = program_fits c.in_ok-resolved.ensures.scope c.new.ensures.items (slice_of c.deref-2.ensures.value c.deref.ensures) c.in_ok-resolved.resolved.fits }
+eval_items-requires c = record { level = search rules; fits = program_fits c.in_ok-resolved.ensures.scope c.new-2.ensures.items (slice_of c.deref-2.ensures.value c.deref.ensures) c.in_ok-resolved.resolved.fits }
 
 pub returns : goal.returns
 returns c =
     let items = ap trees_of_codes (slice_of c.deref-2.ensures.value c.deref.ensures) ∙ c.in_ok-resolved.ensures.program in
-    IfOk-weaker c.finish.result _ _ (λ r h. completed {r = outcome_of r} (program_items items c.new.ensures.items c.new-2.ensures.items c.in_ok-try_copy.ensures c.in_ok-end.ensures) h) c.finish.ensures
+    IfOk-weaker c.finish.result _ _ (λ r h. completed {r = outcome_of r} (program_items items c.new-2.ensures.items c.new-3.ensures.items (c.new.ensures.state ∙ c.in_ok-try_copy.ensures) c.new.ensures.counts c.in_ok-end.ensures) h) c.finish.ensures

@@ -1,0 +1,50 @@
+-- What a vat's state under a turn stands for.
+use Rattle.std.specs.Prelude.{ℕ, Bool, Option, Some, None, List, length, cond, ◌==◌, ◌&&◌}
+use Rattle.std.specs.List.{slice_get}
+use Rattle.ids.specs.declared.names.EventName.{EventName}
+use Rattle.ids.specs.declared.names.VatNo.{VatNo}
+use Rattle.values.specs.declared.value.Value.{Value}
+use Rattle.values.specs.View.{val_of}
+use Rattle.heap.specs.State.{top, slot_cell, object_cell, Content, held, made, State}
+use Rattle.heap.specs.View.{object_of, state_of}
+use Rattle.heap.specs.declared.made.Made.{Made}
+use Rattle.heap.specs.declared.draft.Draft.{Draft}
+
+-- whether a cell is of the turn's own event and vat
+abbrev pub is_of : EventName → VatNo → EventName → VatNo → Bool
+is_of e v f w = (e.0 == f.0) && (v.0.0 == w.0.0)
+
+-- the turn's own item of a number, if a cell is of the turn and there is one
+abbrev pub own_item : {X : Type 0} → Bool → List X → ℕ → Option X
+own_item q xs i = cond q (slice_get xs i) None
+
+-- what a cell holds: the turn's own item where there is one, else what the state beneath says
+abbrev pub over : {X : Type 0} → (X → Content) → Option X → Option Content → Option Content
+over f (Some x) c = Some (f x)
+over f None c = c
+
+-- a state with the slots that a turn made over it, by their number
+abbrev pub with_slots : EventName → VatNo → List Value → State → State
+with_slots e v slots s (top x) = s (top x)
+with_slots e v slots s (slot_cell i) = over (λ x. held (val_of x)) (own_item (is_of e v i.event i.vat) slots i.index) (s (slot_cell i))
+with_slots e v slots s (object_cell i) = s (object_cell i)
+
+-- the same of the objects that it made
+abbrev pub with_objects : EventName → VatNo → List Made → State → State
+with_objects e v objects s (top x) = s (top x)
+with_objects e v objects s (slot_cell i) = s (slot_cell i)
+with_objects e v objects s (object_cell i) = over (λ m. made (object_of m)) (own_item (is_of e v i.event i.vat) objects i.index) (s (object_cell i))
+
+-- a vat's state under a turn
+abbrev pub draft_of : Draft → State
+draft_of d = with_objects d.event d.vat d.objects.items (with_slots d.event d.vat d.slots.items (state_of d.base))
+
+-- what names a turn's next slot and its next object: its event, its vat, and how many of each it has made
+pub record Counts : Type 0 where
+  pub event : EventName
+  pub vat : VatNo
+  pub slots : ℕ
+  pub objects : ℕ
+
+abbrev pub counts_of : Draft → Counts
+counts_of d = record { event = d.event; vat = d.vat; slots = length d.slots.items; objects = length d.objects.items }
