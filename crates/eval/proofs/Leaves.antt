@@ -39,8 +39,8 @@ pub leaf_call : (a : At) {k : ℕ} {r t : Tree} {verb : Name} {x y p q : ℤ} {v
 leaf_call a {k = k} {r = r} {t = t} {verb = verb} {x = x} {y = y} {v = v} left right two deep h e f =
     subst (λ n. Runs k (call r verb (and_then t none)) a (value v) (record a { left = n })) (twice a.left)
     (run_call_gives (leaf_ends a r (int x) (k + 1) a.left left (omega (arith, two)) (omega (arith, deep)))
-      (args_next (leaf_ends a t (int y) (k + 1) (a.left - 1) right (omega (arith, two)) (omega (arith, deep))) args_none)
-      (ap (λ m. rules.gives (reply_end m)) (sym (λ i. data_reply (int (e i)) verb (and_val (int (f i)) no_vals)) ∙ h)))
+    (args_next (leaf_ends a t (int y) (k + 1) (a.left - 1) right (omega (arith, two)) (omega (arith, deep))) args_none)
+    (ap (λ m. rules.gives (reply_end m)) (sym (λ i. data_reply (int (e i)) verb (and_val (int (f i)) no_vals)) ∙ h)))
 
 -- a call whose parts are known otherwise
 pub call_as : {r s : Code} {xs ys : List Code} {k : ℕ} {verb : Name} {a b : At} {o : End} → r ≡ s → xs ≡ ys → Runs k (call (tree_of_code r) verb (trees_of_codes xs)) a o b → Runs k (call (tree_of_code s) verb (trees_of_codes ys)) a o b

@@ -5,7 +5,7 @@ ghost use Rattle.code.specs.View.{tree_of_code, trees_of_codes};
 ghost use Rattle.code.specs.Frames.{fits_all, place_in};
 ghost use Rattle.values.specs.Data.{int};
 ghost use Rattle.values.specs.View.{val_of};
-ghost use Rattle.heap.specs.View.{state_of};
+ghost use Rattle.heap.specs.Drafts.{draft_of};
 ghost use Rattle.eval.specs.Fits.{fits_at, frame_at, frame_behind};
 ghost use Rattle.eval.specs.Leaves.{Leaf};
 ghost use Rattle.eval.specs.Outcomes.{value as value_end};
@@ -59,11 +59,11 @@ fn integer_at(w: &Working, e: &Code) -> Option<i64>
 /// The integer that a noun stands for, if it stands for one.
 fn integer_of(w: &Working, name: &Text, place: Place) -> Option<i64>
     requires { place ≡ place_in (frame_at (at w.now)) name.now }
-    ensures { IfSome result (λ n. noun_end (state_of w.now.state) name.now (sought name.now (at w.now)) ≡ value_end (int n)) }
+    ensures { IfSome result (λ n. noun_end (draft_of w.now.draft) name.now (sought name.now (at w.now)) ≡ value_end (int n)) }
 {
     match seek(w, name, place) {
         Some(Binding::Fixed(value)) => value.as_int(),
-        Some(Binding::Slot(slot)) => w.state.read_slot(*slot)?.as_int(),
+        Some(Binding::Slot(slot)) => w.draft.read_slot(*slot)?.as_int(),
         None => None,
     }
 }

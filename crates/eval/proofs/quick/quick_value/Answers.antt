@@ -16,4 +16,4 @@ integer_at-requires-2 c = (subst (all_fit_at (at c.args.w.now)) (sym (only_one c
 pub returns-clause-runs : goal.returns-clause-runs
 returns-clause-runs c =
     IfSome_then c.call_integers.result c.call_integers.ensures (λ v h. call_as refl (only_one c.args.args.now _ (search rules) c.index-args-0.is)
-      (leaf_call (at c.args.w.now) c.in_ok-x.ensures c.in_ok-y.ensures c.if-w-lt2.false c.if-level-ge-DEEPEST.false h (to_z-of_z w64 c.in_ok-x.x (search rules)) (to_z-of_z w64 c.in_ok-y.y (search rules))))
+    (leaf_call (at c.args.w.now) c.in_ok-x.ensures c.in_ok-y.ensures c.if-w-lt2.false c.if-level-ge-DEEPEST.false h (to_z-of_z w64 c.in_ok-x.x (search rules)) (to_z-of_z w64 c.in_ok-y.y (search rules))))
