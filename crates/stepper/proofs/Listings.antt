@@ -24,8 +24,8 @@ use Rattle.heap.specs.declared.made.Made.{Made}
 use Rattle.world.specs.World.{Content, World}
 use Rattle.world.specs.View.{home_of}
 use Rattle.world.specs.declared.world.Home.{Home}
-use Rattle.evats.specs.Show.{Lists, noun_lines, slot_lines, object_lines, vat_line, home_lines_none, home_lines_more, message_lines, board_lines, Shows}
-use Rattle.evats.specs.ShowView.{entries_as, nouns_in, slots_in, objects_in, HomeWritten, HomesWritten}
+use Rattle.stepper.specs.Show.{Lists, noun_lines, slot_lines, object_lines, vat_line, home_lines_none, home_lines_more, message_lines, board_lines, Shows}
+use Rattle.stepper.specs.ShowView.{entries_as, nouns_in, slots_in, objects_in, HomeWritten, HomesWritten}
 
 keys_as : {K V W : Type 0} (f : V → W) (es : List (K × V)) → map (λ e. e.0) (entries_as f es) ≡ keys_of es
 keys_as f [] = refl

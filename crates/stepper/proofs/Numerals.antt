@@ -6,7 +6,7 @@ use Rattle.std.specs.Option.{option_map, MatchOption}
 use Rattle.std.specs.Result.{OkIff, result_ok}
 use Rattle.std.specs.List.{list_all}
 use Rattle.std.specs.Char.{is_ascii_digit}
-use Rattle.evats.specs.Numbers.{numeral_from, within, number_of, is_numeral, behind_tag}
+use Rattle.stepper.specs.Numbers.{numeral_from, within, number_of, is_numeral, behind_tag}
 
 within_is : (n : ℕ) (E : Type 0) (r : Result ℕ E) (bs : List ℕ) → OkIff r ((0 < length bs) × (n < 2 ^ 32)) n → 0 < length bs → result_ok r ≡ within n
 within_is n E (Ok x) bs h l = let a : n < 2 ^ 32 = h.0.1 in let e : x ≡ n = h.1 in grind (arith, a, e)

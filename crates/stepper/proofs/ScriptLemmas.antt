@@ -2,15 +2,15 @@
 use Rattle.std.proofs.Common.{◌≡◌, ℕ, zero, suc, ◌+◌, ◌-◌, List, [], ◌∷◌, ◌++◌, length, map, Bool, true, false, ◌||◌, cond, Option, Some, None, Result, Ok, Err, refl, sym, ap, ◌∙◌, arith, append_assoc, length-append, ◌<◌, nat_eq}
 use Rattle.std.specs.Prelude.{IfOk}
 use Rattle.std.specs.Borrow.{Bor}
-use Rattle.evats.specs.ScriptView.{fault_at}
+use Rattle.stepper.specs.ScriptView.{fault_at}
 use Rattle.std.specs.List.{list_any, join_with_byte}
 use Rattle.std.specs.Str.{IsUtf8, is_utf8}
 use Rattle.std.proofs.lemmas.Str.{IsUtf8-from_is_utf8, is_utf8-from_IsUtf8}
-use Rattle.evats.specs.Lines.{line_of, behind_line}
-use Rattle.evats.specs.Commands.{is_empty}
-use Rattle.evats.specs.Scripts.{fault_in, fault_of, starts, behind_lines, or_fault, first_fault, unless, script_of}
-use Rattle.evats.specs.declared.command.LineFault.{LineFault}
-use Rattle.evats.specs.declared.command.LineFault.TheVariants.{BadWord, Truncated}
+use Rattle.stepper.specs.Lines.{line_of, behind_line}
+use Rattle.stepper.specs.Commands.{is_empty}
+use Rattle.stepper.specs.Scripts.{fault_in, fault_of, starts, behind_lines, or_fault, first_fault, unless, script_of}
+use Rattle.stepper.specs.declared.command.LineFault.{LineFault}
+use Rattle.stepper.specs.declared.command.LineFault.TheVariants.{BadWord, Truncated}
 
 -- a line that is text has no fault
 pub no_fault : (line : List ℕ) (long : Bool) → long ≡ false → IsUtf8 line → fault_in line long ≡ None

@@ -3,8 +3,8 @@ use Rattle.std.proofs.Common.{◌≡◌, ℕ, suc, ◌+◌, ◌<◌, ◌≤◌, 
 use Rattle.std.specs.Option.{option_map, option_and_then}
 use Rattle.std.specs.List.{position_or_len, slice_split, onto_first}
 use Rattle.ids.specs.declared.names.EventName.{EventName}
-use Rattle.evats.specs.Words.{is_blank, without_blanks, first_word, behind_word, is_word, words_in}
-use Rattle.evats.specs.Numbers.{event_named, events_named, one_or_more}
+use Rattle.stepper.specs.Words.{is_blank, without_blanks, first_word, behind_word, is_word, words_in}
+use Rattle.stepper.specs.Numbers.{event_named, events_named, one_or_more}
 
 one_more : (n : ℕ) → 1 + n ≡ suc n
 one_more n = omega arith

@@ -5,12 +5,12 @@ use Rattle.std.specs.Str.{bytes_eq}
 use Rattle.etoken.specs.Names.{is_name}
 use Rattle.ids.specs.declared.names.EventName.{EventName}
 use Rattle.ids.specs.declared.names.MsgId.{MsgId}
-use Rattle.evats.specs.Words.{without_blanks, first_word, behind_word, words_in}
-use Rattle.evats.specs.Numbers.{number_of, message_named, event_named, one_or_more}
-use Rattle.evats.specs.declared.command.Command.{Command}
-use Rattle.evats.specs.declared.command.Command.TheVariants as code
-use Rattle.evats.specs.declared.command.LineFault.{LineFault}
-use Rattle.evats.specs.declared.command.LineFault.TheVariants.{UnknownCommand, BadWord, LineTooLong, Truncated}
+use Rattle.stepper.specs.Words.{without_blanks, first_word, behind_word, words_in}
+use Rattle.stepper.specs.Numbers.{number_of, message_named, event_named, one_or_more}
+use Rattle.stepper.specs.declared.command.Command.{Command}
+use Rattle.stepper.specs.declared.command.Command.TheVariants as code
+use Rattle.stepper.specs.declared.command.LineFault.{LineFault}
+use Rattle.stepper.specs.declared.command.LineFault.TheVariants.{UnknownCommand, BadWord, LineTooLong, Truncated}
 
 pub data Spelled : Type 0 where
   birth : (x : List ℕ) → (lines : ℕ) → Spelled

@@ -2,8 +2,8 @@
 use Rattle.std.specs.Prelude.{◌≡◌, ℕ, List, Bool}
 use Rattle.book.specs.Books as books
 use Rattle.book.specs.BookView.{book_of}
-use Rattle.evats.specs.Written.{Adds}
-use Rattle.evats.specs.declared.engine.Engine.{Engine}
+use Rattle.stepper.specs.Written.{Adds}
+use Rattle.stepper.specs.declared.engine.Engine.{Engine}
 
 -- the book goes the way that the definition allows, and the replies grow by its reply
 pub record Happens (old new : Engine) (Allowed : books.Book → List ℕ → Bool → books.Book → Type 0) : Type 0 where

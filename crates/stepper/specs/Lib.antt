@@ -1,5 +1,5 @@
 pub mod Commands
-pub mod Ended
+pub mod Fault
 pub mod Lines
 pub mod Listing
 pub mod Numbers

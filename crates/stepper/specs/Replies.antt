@@ -19,13 +19,13 @@ use Rattle.book.specs.Refusals.{Refusal, no_vat, name_taken, no_message, not_the
 use Rattle.book.specs.Refusals.{birth_refusal, ask_refusal, turn_refusal, undo_refusal, redo_refusal, cone_refusal}
 use Rattle.book.specs.Books.{Book}
 use Rattle.book.specs.Calls.{Enters, Undoes, Redoes}
-use Rattle.evats.specs.Lines.{line_of, behind_line}
-use Rattle.evats.specs.Commands as command
-use Rattle.evats.specs.Commands.{Spelled, spelled_by, fault_text}
-use Rattle.evats.specs.Scripts.{fault_of, script_of, behind_lines}
-use Rattle.evats.specs.Show.{Shows}
-use Rattle.evats.specs.Listing.{journal_text, cone_text}
-use Rattle.evats.specs.declared.command.LineFault.{LineFault}
+use Rattle.stepper.specs.Lines.{line_of, behind_line}
+use Rattle.stepper.specs.Commands as command
+use Rattle.stepper.specs.Commands.{Spelled, spelled_by, fault_text}
+use Rattle.stepper.specs.Scripts.{fault_of, script_of, behind_lines}
+use Rattle.stepper.specs.Show.{Shows}
+use Rattle.stepper.specs.Listing.{journal_text, cone_text}
+use Rattle.stepper.specs.declared.command.LineFault.{LineFault}
 
 -- no CODE NAME ARGS
 abbrev pub refused : List ℕ → List ℕ

@@ -2,7 +2,7 @@
 use Rattle.std.specs.Prelude.{ℕ, List, Option, Some, None, Result, Ok, Err, string_bytes}
 use Rattle.std.specs.declared.string.String.{String}
 use Rattle.std.specs.declared.alloc.Global.{Global}
-use Rattle.evats.specs.declared.command.LineFault.{LineFault}
+use Rattle.stepper.specs.declared.command.LineFault.{LineFault}
 
 abbrev pub fault_at : {A : Type 0} → Result A LineFault → Option LineFault
 fault_at (Ok x) = None

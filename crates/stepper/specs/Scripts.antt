@@ -2,10 +2,10 @@
 use Rattle.std.specs.Prelude.{ℕ, zero, suc, List, [], ◌∷◌, Bool, cond, map, Option, Some, None, Result, Ok, Err}
 use Rattle.std.specs.List.{list_any, join_with_byte}
 use Rattle.std.specs.Str.{is_utf8}
-use Rattle.evats.specs.Lines.{line_of, behind_line, is_long}
-use Rattle.evats.specs.Commands.{is_empty}
-use Rattle.evats.specs.declared.command.LineFault.{LineFault}
-use Rattle.evats.specs.declared.command.LineFault.TheVariants.{BadWord, LineTooLong, Truncated}
+use Rattle.stepper.specs.Lines.{line_of, behind_line, is_long}
+use Rattle.stepper.specs.Commands.{is_empty}
+use Rattle.stepper.specs.declared.command.LineFault.{LineFault}
+use Rattle.stepper.specs.declared.command.LineFault.TheVariants.{BadWord, LineTooLong, Truncated}
 
 -- why a line is no text: it is too long, or its bytes are no UTF-8
 abbrev pub fault_in : List ℕ → Bool → Option LineFault

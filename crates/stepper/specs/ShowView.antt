@@ -7,7 +7,7 @@ use Rattle.values.specs.declared.value.Value.{Value}
 use Rattle.heap.specs.View.{bind_of, object_of, state_of}
 use Rattle.heap.specs.declared.state.Binding.{Binding}
 use Rattle.heap.specs.declared.made.Made.{Made}
-use Rattle.evats.specs.Show.{Nouns, Slots, Objects, noun_lines, slot_lines, object_lines, vat_line, HomeLines}
+use Rattle.stepper.specs.Show.{Nouns, Slots, Objects, noun_lines, slot_lines, object_lines, vat_line, HomeLines}
 use Rattle.heap.specs.State as state
 use Rattle.heap.specs.State.{bound, held, made}
 use Rattle.ids.specs.declared.names.VatNo.{VatNo}

@@ -1,6 +1,6 @@
 -- What is added to the replies.
 use Rattle.std.specs.Prelude.{◌≡◌, ℕ, List, ◌++◌, Bool, ◌||◌, string_bytes}
-use Rattle.evats.specs.declared.reply.Written.{Written}
+use Rattle.stepper.specs.declared.reply.Written.{Written}
 
 -- this reply is added, a refusal or not
 pub record Adds (old new : Written) (reply : List ℕ) (refusal : Bool) : Type 0 where

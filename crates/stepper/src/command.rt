@@ -1,9 +1,9 @@
 // Commands, as lines spell them.
 ghost use Rattle.std.specs.Prelude.{◌≡◌, Some, IfOk};
 ghost use Rattle.std.specs.Option.{option_map, option_and_then};
-ghost use Rattle.evats.specs.Numbers.{number_of};
+ghost use Rattle.stepper.specs.Numbers.{number_of};
 ghost use Rattle.ids.specs.declared.names.EventName.{EventName};
-ghost use Rattle.evats.specs.Commands.{Spelled, is_vat_name, at_most, birth_of, ask_of, turn_of, show, journal, cone, undo, undo_cone, redo, alone, of_event, of_events, is_skipped, begun_by, spelled_by, command_of, reading_of, fault_text};
+ghost use Rattle.stepper.specs.Commands.{Spelled, is_vat_name, at_most, birth_of, ask_of, turn_of, show, journal, cone, undo, undo_cone, redo, alone, of_event, of_events, is_skipped, begun_by, spelled_by, command_of, reading_of, fault_text};
 
 use crate::numbers::{event_named, events_named, message_named, number};
 use crate::words::{cut_word, skip_blanks};

@@ -3,13 +3,13 @@ ghost use Rattle.std.specs.Prelude.{◌≡◌, ◌<◌, ◌≤◌, ℕ, List, Bo
 ghost use Rattle.kernele.specs.View.{program_of};
 ghost use Rattle.ereader.specs.Texts.{ReadAs};
 ghost use Rattle.book.specs.Books.{Book as BookModel, blank};
-ghost use Rattle.evats.specs.Commands as commands;
-ghost use Rattle.evats.specs.Commands.{command_of, reading_of};
-ghost use Rattle.evats.specs.Lines.{behind_line};
-ghost use Rattle.evats.specs.Ended.{fault_text};
-ghost use Rattle.evats.specs.declared.engine.Fault.TheVariants.{Memory};
-ghost use Rattle.evats.specs.ScriptView.{script_text};
-ghost use Rattle.evats.specs.Replies.{Answers, AnswersBirth, FirstReply, Replies, said};
+ghost use Rattle.stepper.specs.Commands as commands;
+ghost use Rattle.stepper.specs.Commands.{command_of, reading_of};
+ghost use Rattle.stepper.specs.Lines.{behind_line};
+ghost use Rattle.stepper.specs.Fault.{fault_text};
+ghost use Rattle.stepper.specs.declared.engine.Fault.TheVariants.{Memory};
+ghost use Rattle.stepper.specs.ScriptView.{script_text};
+ghost use Rattle.stepper.specs.Replies.{Answers, AnswersBirth, FirstReply, Replies, said};
 
 use crate::command::{Command, LineFault, command_of};
 use crate::lines::cut_line;
@@ -24,6 +24,10 @@ use kernele::tree::Program;
 use std::alloc::{AllocError, Global};
 use std::fmt;
 use std::fmt::{Display, Formatter, Write};
+
+/// The bytes of the stack on which commands are to be answered: a text may nest thousands of levels deep, and the calls
+/// that read it nest with it.
+pub const STACK: usize = 256 << 20;
 
 /// What the author's options allow.
 #[derive(Clone, Copy, Debug)]
@@ -83,7 +87,7 @@ struct Engine {
 }
 
 impl Engine {
-    ghost use Rattle.evats.specs.Engine.{Happens, HappensAt};
+    ghost use Rattle.stepper.specs.Engine.{Happens, HappensAt};
 
     fn ask_program(&mut self, name: &str, program: Program) -> Result<(), AllocError>
         ensures { (text : List ℕ) → ReadAs text (Ok (program_of program)) → OnOk result (Happens self.old self.new (λ b r s d. Answers self.old.budget b (commands.ask name.now text) r s d)) }

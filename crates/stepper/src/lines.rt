@@ -1,7 +1,7 @@
 // Lines of an input.
 ghost use Rattle.std.specs.Prelude.{◌≡◌, ◌<◌, length};
 ghost use Rattle.std.specs.List.{position};
-ghost use Rattle.evats.specs.Lines.{line_of, behind_line, is_long, is_line_feed, without_return};
+ghost use Rattle.stepper.specs.Lines.{line_of, behind_line, is_long, is_line_feed, without_return};
 
 /// The most bytes that may stand before a line feed.
 const LONGEST_LINE: usize = 65_536;

@@ -3,8 +3,8 @@ ghost use Rattle.std.specs.Prelude.{◌≡◌, ◌<◌, Some, IfOk};
 ghost use Rattle.std.specs.Char.{is_ascii_digit};
 ghost use Rattle.std.specs.Option.{option_map};
 ghost use Rattle.std.specs.List.{list_all};
-ghost use Rattle.evats.specs.Numbers.{number_of, behind_tag, tagged, message_named, event_named, one_or_more, is_numeral};
-ghost use Rattle.evats.specs.Words.{words_in};
+ghost use Rattle.stepper.specs.Numbers.{number_of, behind_tag, tagged, message_named, event_named, one_or_more, is_numeral};
+ghost use Rattle.stepper.specs.Words.{words_in};
 
 use crate::words::{cut_word, skip_blanks};
 use ids::names::{EventName, MsgId};

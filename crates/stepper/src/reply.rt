@@ -4,11 +4,11 @@ ghost use Rattle.ereader.specs.Shown.{shown};
 ghost use Rattle.book.specs.Fault as book_fault;
 ghost use Rattle.world.specs.View.{world_of};
 ghost use Rattle.turn.specs.View.{ended_of};
-ghost use Rattle.evats.specs.Commands.{fault_text};
-ghost use Rattle.evats.specs.Replies.{refused, queued_text, turned_text, end_text, undone_text, redone_text};
-ghost use Rattle.evats.specs.Listing.{journal_text, cone_text};
+ghost use Rattle.stepper.specs.Commands.{fault_text};
+ghost use Rattle.stepper.specs.Replies.{refused, queued_text, turned_text, end_text, undone_text, redone_text};
+ghost use Rattle.stepper.specs.Listing.{journal_text, cone_text};
 ghost use Rattle.book.specs.EntryView.{lines_of};
-ghost use Rattle.evats.specs.Show.{Shows};
+ghost use Rattle.stepper.specs.Show.{Shows};
 
 use crate::command::LineFault;
 use crate::listing::{write_cone, write_journal};
@@ -50,7 +50,7 @@ fn write_end(ended: &Ended, out: &mut String) -> Result<(), AllocError>
 }
 
 impl Written {
-    ghost use Rattle.evats.specs.Written.{Adds, AddsText};
+    ghost use Rattle.stepper.specs.Written.{Adds, AddsText};
 
     pub fn new(alloc: Global) -> Written
         ensures text { string_bytes result.text ≡ [] }

@@ -1,7 +1,7 @@
 // The script lines of a vat.
 ghost use Rattle.std.specs.Prelude.{◌≡◌, ◌≤◌, ◌++◌, length, [], ◌∷◌, IfOk, OnOk, cond, Some, None, string_bytes};
-ghost use Rattle.evats.specs.Scripts.{fault_in, or_fault, script_of, behind_lines, unless};
-ghost use Rattle.evats.specs.ScriptView.{fault_at, script_text};
+ghost use Rattle.stepper.specs.Scripts.{fault_in, or_fault, script_of, behind_lines, unless};
+ghost use Rattle.stepper.specs.ScriptView.{fault_at, script_text};
 
 use crate::command::LineFault;
 use crate::lines::cut_line;

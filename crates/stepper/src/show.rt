@@ -12,8 +12,8 @@ ghost use Rattle.std.specs.Option.{option_map};
 ghost use Rattle.std.specs.BTreeMap.{get};
 ghost use Rattle.world.specs.World.{message as message_content, published};
 ghost use Rattle.world.specs.View.{world_of, place_of, message_of, home_of};
-ghost use Rattle.evats.specs.Show.{pattern_text, content_text, noun_line, noun_lines, slot_line, slot_lines, object_line, object_lines, vat_line, place_text, message_line, message_lines, board_line, board_lines, Lists, Shows};
-ghost use Rattle.evats.specs.ShowView.{nouns_in, slots_in, objects_in, homes_in, messages_in, board_in, HomeWritten, HomesWritten};
+ghost use Rattle.stepper.specs.Show.{pattern_text, content_text, noun_line, noun_lines, slot_line, slot_lines, object_line, object_lines, vat_line, place_text, message_line, message_lines, board_line, board_lines, Lists, Shows};
+ghost use Rattle.stepper.specs.ShowView.{nouns_in, slots_in, objects_in, homes_in, messages_in, board_in, HomeWritten, HomesWritten};
 
 use heap::made::Made;
 use heap::state::Binding;

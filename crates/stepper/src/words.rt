@@ -1,7 +1,7 @@
 // Words of a line.
 ghost use Rattle.std.specs.Prelude.{◌≡◌, not};
 ghost use Rattle.std.specs.List.{position, position_or_len};
-ghost use Rattle.evats.specs.Words.{is_blank, without_blanks, first_word, behind_word};
+ghost use Rattle.stepper.specs.Words.{is_blank, without_blanks, first_word, behind_word};
 
 fn is_blank(b: u8) -> bool
     ensures { result ≡ is_blank b }

@@ -1,6 +1,6 @@
 // Asked texts with blocks, conditions, loops and problems, and what their authors are promised.
 
-use crate::tests::{expect_refusals, expect_turns};
+use crate::sessions::{expect_refusals, expect_turns};
 use std::test::Fail;
 
 #[test]

@@ -1,6 +1,6 @@
 // Asked texts with objects, methods and escapes, and what their authors are promised.
 
-use crate::tests::{expect, expect_refusals, expect_turns};
+use crate::sessions::{expect, expect_refusals, expect_turns};
 use std::test::Fail;
 
 #[test]

@@ -1,6 +1,6 @@
 // Where names are in scope, in asked texts.
 
-use crate::tests::{expect_refusals, expect_turns};
+use crate::sessions::{expect_refusals, expect_turns};
 use std::test::Fail;
 
 #[test]

@@ -1,9 +1,9 @@
 // Whole texts of commands with the replies that their authors are promised.
 
-use crate::ended::{Ended, status};
-use crate::engine::{Fault, Limits, Summary, replies};
+use crate::tables::repeated;
 use std::process::Abort;
 use std::test::Fail;
+use stepper::{Limits, replies};
 
 const OPENED: &str = "vat a () 0\nturn e1.m0\n";
 
@@ -204,15 +204,6 @@ fn slots_are_shown(rt: HostRuntime) {
     expect(&rt, 10_000, commands, wanted, false);
 }
 
-/// A text of so many copies.
-pub fn copies(rt: &(impl Abort + AllocGlobal), text: &str, count: usize) -> Result<String, Fail> {
-    let mut out = String::new(rt.alloc());
-    for _ in 0..count {
-        out.push_str(text)?;
-    }
-    Ok(out)
-}
-
 /// So many copies of a text, and another behind them.
 fn behind_copies(
     rt: &(impl Abort + AllocGlobal),
@@ -220,7 +211,7 @@ fn behind_copies(
     count: usize,
     rest: &str,
 ) -> Result<String, Fail> {
-    let mut out = copies(rt, text, count)?;
+    let mut out = repeated(rt.alloc(), text, count)?;
     out.push_str(rest)?;
     Ok(out)
 }
@@ -239,7 +230,7 @@ fn texts_at_their_limits(rt: HostRuntime) -> Result<(), Fail> {
 
 #[test]
 fn brackets_at_their_limit(rt: HostRuntime) -> Result<(), Fail> {
-    let closed = behind_copies(&rt, "1", 1, copies(&rt, ")", 100)?.as_str())?;
+    let closed = behind_copies(&rt, "1", 1, repeated(rt.alloc(), ")", 100)?.as_str())?;
     let asked = behind_copies(&rt, "(", 100, closed.as_str())?;
     expect_turn(&rt, asked.as_str(), "value 1")
 }
@@ -259,9 +250,9 @@ fn texts_past_their_limits(rt: HostRuntime) -> Result<(), Fail> {
 
 #[test]
 fn lines_at_their_limits(rt: HostRuntime) -> Result<(), Fail> {
-    let endless = copies(&rt, "x", 70_000)?;
+    let endless = repeated(rt.alloc(), "x", 70_000)?;
     expect(&rt, 10_000, endless.as_bytes(), "no S3 LineTooLong\n", true);
-    let longest = copies(&rt, "x", 65_536)?;
+    let longest = repeated(rt.alloc(), "x", 65_536)?;
     expect(
         &rt,
         10_000,
@@ -269,19 +260,9 @@ fn lines_at_their_limits(rt: HostRuntime) -> Result<(), Fail> {
         "no S1 UnknownCommand\n",
         true,
     );
-    let half = copies(&rt, " ", 32_768)?;
+    let half = repeated(rt.alloc(), " ", 32_768)?;
     let script = format!(in rt.alloc(); "vat a () 2\n{half}\n{half}\nshow\n")?;
     expect(&rt, 10_000, script.as_bytes(), "no L8 TooLong\n", true);
     expect(&rt, 10_000, b"ask a \xff\nshow", "no S2 BadWord\n", true);
     Ok(())
-}
-
-#[test]
-fn statuses(rt: HostRuntime) {
-    assert_eq!(rt; status(&Ended::Help), 0);
-    assert_eq!(rt; status(&Ended::Usage), 2);
-    assert_eq!(rt; status(&Ended::NoFile), 2);
-    assert_eq!(rt; status(&Ended::Ran(Ok(Summary { refused: false }))), 0);
-    assert_eq!(rt; status(&Ended::Ran(Ok(Summary { refused: true }))), 1);
-    assert_eq!(rt; status(&Ended::Ran(Err(Fault::Memory))), 2);
 }

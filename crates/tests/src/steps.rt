@@ -1,6 +1,6 @@
 // How many steps each construct takes (just enough of them give the value, one less spends the budget), and what a turn may make and keeps.
 
-use crate::tests::expect;
+use crate::sessions::expect;
 use std::process::Abort;
 use std::test::Fail;
 

@@ -2,10 +2,10 @@ use Rattle.std.proofs.Common.{Vec, Global, ap, ◌≡◌, ◌<◌, refl, subst, 
 use Rattle.std.specs.Prelude.{string_bytes}
 use Rattle.book.specs.BookView.{book_of}
 use Rattle.book.specs.Books.{blank}
-use Rattle.evats.specs.Lines.{behind_line}
-use Rattle.evats.specs.Replies.{FirstReply, said}
-use Rattle.evats.proofs.Answered.{replies_begin, replies_more, replies_end}
-use Rattle.evats.proofs.engine.replies.Goals as goal
+use Rattle.stepper.specs.Lines.{behind_line}
+use Rattle.stepper.specs.Replies.{FirstReply, said}
+use Rattle.stepper.proofs.Answered.{replies_begin, replies_more, replies_end}
+use Rattle.stepper.proofs.engine.replies.Goals as goal
 
 pub lines-init : goal.lines-init
 lines-init c = record { more = λ replies refused d h. replies_begin c.args.limits.budget _ d c.args.input.now replies _ refused _ c.new.ensures c.new-2.ensures.text c.new-2.ensures.refused h; budget = refl }

@@ -2,8 +2,8 @@ use Rattle.std.proofs.Common.{◌≡◌, ◌++◌, List, ℕ, length}
 use Rattle.std.specs.Prelude.{string_bytes, Bool, ◌||◌}
 use Rattle.book.specs.BookView.{book_of}
 use Rattle.book.specs.Books.{Book, blank}
-use Rattle.evats.specs.Replies.{Replies}
-use Rattle.evats.proofs.engine.replies.Given as goal
+use Rattle.stepper.specs.Replies.{Replies}
+use Rattle.stepper.proofs.engine.replies.Given as goal
 
 -- what may be replied to the rest is, behind the replies so far, what may be replied to all
 abbrev pub invariant-lines : goal.invariant-lines

@@ -1,7 +1,7 @@
 use Rattle.std.proofs.Common.{◌≡◌, ◌+◌, ◌++◌, drop, string_bytes}
 use Rattle.book.specs.EntryView.{lines_of}
-use Rattle.evats.specs.Listing.{entry_lines, journal_text}
-use Rattle.evats.proofs.listing.write_journal.Given as goal
+use Rattle.stepper.specs.Listing.{entry_lines, journal_text}
+use Rattle.stepper.proofs.listing.write_journal.Given as goal
 
 -- what is written, and the entries that are left
 abbrev pub invariant-loop-index : goal.invariant-loop-index

@@ -1,6 +1,6 @@
 use Rattle.std.proofs.Common.{◌≡◌, ◌++◌, drop, string_bytes}
-use Rattle.evats.specs.Listing.{names_text}
-use Rattle.evats.proofs.listing.write_names.Given as goal
+use Rattle.stepper.specs.Listing.{names_text}
+use Rattle.stepper.proofs.listing.write_names.Given as goal
 
 -- what is written, and the names that are left
 abbrev pub invariant-loop-name : goal.invariant-loop-name

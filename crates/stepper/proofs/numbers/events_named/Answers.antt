@@ -1,8 +1,8 @@
 use Rattle.std.proofs.Common.{◌≡◌, ◌==◌, ap, ◌∙◌, false, arith, rules, length, drop}
 use Rattle.std.specs.List.{position_or_len}
-use Rattle.evats.specs.Words.{is_blank}
-use Rattle.evats.proofs.Wording.{begins, blanks_gone, named_first, named_more, named_not, shorter_behind}
-use Rattle.evats.proofs.numbers.events_named.Goals as goal
+use Rattle.stepper.specs.Words.{is_blank}
+use Rattle.stepper.proofs.Wording.{begins, blanks_gone, named_first, named_more, named_not, shorter_behind}
+use Rattle.stepper.proofs.numbers.events_named.Goals as goal
 
 pub words-init : goal.words-init
 words-init c = record {

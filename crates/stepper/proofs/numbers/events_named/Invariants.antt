@@ -2,10 +2,10 @@ use denote.Shadow.{shadow}
 use denote.Text.{Utf8}
 use Rattle.std.proofs.Common.{◌≡◌, ◌++◌, length, true}
 use Rattle.std.specs.Option.{option_map}
-use Rattle.evats.specs.Words.{words_in}
-use Rattle.evats.specs.Numbers.{events_named}
-use Rattle.evats.proofs.Wording.{begins}
-use Rattle.evats.proofs.numbers.events_named.Given as goal
+use Rattle.stepper.specs.Words.{words_in}
+use Rattle.stepper.specs.Numbers.{events_named}
+use Rattle.stepper.proofs.Wording.{begins}
+use Rattle.stepper.proofs.numbers.events_named.Given as goal
 
 -- the events so far, and then those of the words that are left
 abbrev pub invariant-words : goal.invariant-words

@@ -2,9 +2,9 @@ use Rattle.std.proofs.Common.{◌≡◌, ◌∙◌, rules, true}
 use Rattle.std.specs.List.{list_all}
 use Rattle.std.specs.Char.{is_ascii_digit}
 use Rattle.std.proofs.lemmas.Str.Parse.{IsNumeralModel, numerals_by_fold, parse_digits}
-use Rattle.evats.specs.Numbers.{numeral_from, is_numeral}
-use Rattle.evats.proofs.Numerals.{number_is, all_digits_of}
-use Rattle.evats.proofs.numbers.number.Goals as goal
+use Rattle.stepper.specs.Numbers.{numeral_from, is_numeral}
+use Rattle.stepper.proofs.Numerals.{number_is, all_digits_of}
+use Rattle.stepper.proofs.numbers.number.Goals as goal
 
 own : IsNumeralModel (λ ds. list_all is_ascii_digit ds ≡ true) (numeral_from 0)
 own = numerals_by_fold _ (search rules) numeral_from (search rules)

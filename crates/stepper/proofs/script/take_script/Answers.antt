@@ -1,9 +1,9 @@
 use Rattle.std.proofs.Common.{◌≡◌, ◌∙◌, sym, ap, subst, arith, [], ◌∷◌, ◌+◌, cond, nat_eq}
 use Rattle.std.specs.Prelude.{string_bytes, IfOk}
-use Rattle.evats.specs.Lines.{line_of}
-use Rattle.evats.specs.Scripts.{fault_in, or_fault}
-use Rattle.evats.proofs.ScriptLemmas.{Taken, taken_more, truncated, added, nothing_behind}
-use Rattle.evats.proofs.script.take_script.Goals as goal
+use Rattle.stepper.specs.Lines.{line_of}
+use Rattle.stepper.specs.Scripts.{fault_in, or_fault}
+use Rattle.stepper.proofs.ScriptLemmas.{Taken, taken_more, truncated, added, nothing_behind}
+use Rattle.stepper.proofs.script.take_script.Goals as goal
 
 pub lines-preserved : goal.lines-preserved
 lines-preserved c =

@@ -1,6 +1,6 @@
 use Rattle.std.specs.Prelude.{◌≤◌, length, string_bytes}
-use Rattle.evats.proofs.ScriptLemmas.{Taken}
-use Rattle.evats.proofs.script.take_script.Given as goal
+use Rattle.stepper.proofs.ScriptLemmas.{Taken}
+use Rattle.stepper.proofs.script.take_script.Given as goal
 
 abbrev pub invariant-lines : goal.invariant-lines
 invariant-lines l = record {

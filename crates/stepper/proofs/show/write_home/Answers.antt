@@ -1,5 +1,5 @@
-use Rattle.evats.proofs.Listings.{home_written}
-use Rattle.evats.proofs.show.write_home.Goals as goal
+use Rattle.stepper.proofs.Listings.{home_written}
+use Rattle.stepper.proofs.show.write_home.Goals as goal
 
 pub returns : goal.returns
 returns c =

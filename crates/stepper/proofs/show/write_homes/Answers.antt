@@ -2,11 +2,11 @@ use Rattle.std.proofs.Common.{subst, sym}
 use Rattle.std.specs.Prelude.{string_bytes}
 use Rattle.std.specs.Map.Iter.{deref_pair}
 use Rattle.std.proofs.lemmas.Map.Iter.{rest_more, rest_all}
-use Rattle.evats.specs.ShowView.{home_entries, HomesWritten}
+use Rattle.stepper.specs.ShowView.{home_entries, HomesWritten}
 use Rattle.ids.specs.Cells.{vat_cmp}
 use Rattle.world.specs.View.{home_of}
-use Rattle.evats.proofs.Listings.{entries_list, homes_more, homes_none}
-use Rattle.evats.proofs.show.write_homes.Goals as goal
+use Rattle.stepper.proofs.Listings.{entries_list, homes_more, homes_none}
+use Rattle.stepper.proofs.show.write_homes.Goals as goal
 
 pub returns-clause-listed : goal.returns-clause-listed
 returns-clause-listed c = entries_list vat_cmp home_of c.args.homes.now c.iter-number-items.ensures.ordered

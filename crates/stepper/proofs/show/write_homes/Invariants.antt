@@ -1,7 +1,7 @@
 use Rattle.std.proofs.Common.{List, ℕ}
 use Rattle.std.specs.Prelude.{string_bytes}
-use Rattle.evats.specs.ShowView.{homes_in, home_entries, HomesWritten}
-use Rattle.evats.proofs.show.write_homes.Given as goal
+use Rattle.stepper.specs.ShowView.{homes_in, home_entries, HomesWritten}
+use Rattle.stepper.proofs.show.write_homes.Given as goal
 
 -- what may be written for the vats that are left is, behind what was written, what may be written for all
 abbrev pub invariant-loop-number : goal.invariant-loop-number

@@ -1,9 +1,9 @@
 use Rattle.std.specs.Prelude.{string_bytes}
 use Rattle.ids.specs.Cells.{vat_cmp, message_cmp, promise_cmp}
 use Rattle.world.specs.View.{world_of}
-use Rattle.evats.specs.ShowView.{homes_in, messages_in, board_in}
-use Rattle.evats.proofs.Listings.{all_written, lists_along}
-use Rattle.evats.proofs.show.write_world.Goals as goal
+use Rattle.stepper.specs.ShowView.{homes_in, messages_in, board_in}
+use Rattle.stepper.proofs.Listings.{all_written, lists_along}
+use Rattle.stepper.proofs.show.write_world.Goals as goal
 
 pub returns : goal.returns
 returns c =

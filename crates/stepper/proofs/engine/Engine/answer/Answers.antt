@@ -1,7 +1,7 @@
 use Rattle.std.proofs.Common.{ap, sym, ◌∙◌}
-use Rattle.evats.specs.Commands.{command_of, undo, redo}
-use Rattle.evats.proofs.Answered.{happens_as, born_at, answered_at}
-use Rattle.evats.proofs.engine.Engine.answer.Goals as goal
+use Rattle.stepper.specs.Commands.{command_of, undo, redo}
+use Rattle.stepper.proofs.Answered.{happens_as, born_at, answered_at}
+use Rattle.stepper.proofs.engine.Engine.answer.Goals as goal
 
 pub returns-in_ok-birth-in-Birth-clause-reply : goal.returns-in_ok-birth-in-Birth-clause-reply
 returns-in_ok-birth-in-Birth-clause-reply c = happens_as (λ b r s d k. born_at _ b d _ _ c.in-Birth.lines c.args.input.now _ r s _ (ap command_of c.in-Birth.is) c.in_ok-script-in-Birth.ensures.text c.in_ok-script-in-Birth.ensures.rest k) c.in_ok-birth-in-Birth.ensures

@@ -1,8 +1,8 @@
 use Rattle.std.proofs.Common.{ap, sym, ◌∙◌}
-use Rattle.evats.specs.Lines.{line_of}
-use Rattle.evats.specs.Scripts.{fault_in}
-use Rattle.evats.proofs.Answered.{happens_as, if_ok, said_at, said_text, said_fault}
-use Rattle.evats.proofs.engine.Engine.answer_first.Goals as goal
+use Rattle.stepper.specs.Lines.{line_of}
+use Rattle.stepper.specs.Scripts.{fault_in}
+use Rattle.stepper.proofs.Answered.{happens_as, if_ok, said_at, said_text, said_fault}
+use Rattle.stepper.proofs.engine.Engine.answer_first.Goals as goal
 
 pub returns-in_ok-says-in-Ok-clause-reply : goal.returns-in_ok-says-in-Ok-clause-reply
 returns-in_ok-says-in-Ok-clause-reply c =

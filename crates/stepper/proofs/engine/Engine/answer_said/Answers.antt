@@ -1,8 +1,8 @@
 use Rattle.std.proofs.Common.{true, refl, sym, ap, ◌∙◌, Ok}
-use Rattle.evats.specs.Commands.{reading_of}
-use Rattle.evats.specs.Replies.{no_command}
-use Rattle.evats.proofs.Answered.{happens_as, if_ok, said_as, nothing_happens}
-use Rattle.evats.proofs.engine.Engine.answer_said.Goals as goal
+use Rattle.stepper.specs.Commands.{reading_of}
+use Rattle.stepper.specs.Replies.{no_command}
+use Rattle.stepper.proofs.Answered.{happens_as, if_ok, said_as, nothing_happens}
+use Rattle.stepper.proofs.engine.Engine.answer_said.Goals as goal
 
 pub returns-in-Some-clause-reply : goal.returns-in-Some-clause-reply
 returns-in-Some-clause-reply c =

@@ -1,8 +1,8 @@
 use Rattle.std.proofs.Common.{true, false, refl}
 use Rattle.book.specs.BookView.{book_of}
-use Rattle.evats.specs.Replies.{ask_without_memory}
-use Rattle.evats.proofs.Answered.{on_ok, ask_done, ask_fails}
-use Rattle.evats.proofs.engine.Engine.ask_program.Goals as goal
+use Rattle.stepper.specs.Replies.{ask_without_memory}
+use Rattle.stepper.proofs.Answered.{on_ok, ask_done, ask_fails}
+use Rattle.stepper.proofs.engine.Engine.ask_program.Goals as goal
 
 pub returns-in_default : goal.returns-in_default
 returns-in_default c = λ text h. on_ok c.refuse_call.result (λ a. record { reply = _; refusal = true; allowed = ask_without_memory; adds = a; budget = refl }) c.refuse_call.ensures

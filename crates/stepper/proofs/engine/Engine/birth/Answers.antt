@@ -1,9 +1,9 @@
 use Rattle.std.proofs.Common.{true, refl, subst, sym, ap, ◌∙◌, Ok, List, ℕ}
 use Rattle.book.specs.BookView.{book_of}
-use Rattle.evats.specs.ScriptView.{script_text}
-use Rattle.evats.specs.Replies.{AnswersBirth}
-use Rattle.evats.proofs.Answered.{on_ok, happens_as, refused_at}
-use Rattle.evats.proofs.engine.Engine.birth.Goals as goal
+use Rattle.stepper.specs.ScriptView.{script_text}
+use Rattle.stepper.specs.Replies.{AnswersBirth}
+use Rattle.stepper.proofs.Answered.{on_ok, happens_as, refused_at}
+use Rattle.stepper.proofs.engine.Engine.birth.Goals as goal
 
 pub returns-in-Ok : goal.returns-in-Ok
 returns-in-Ok c = on_ok c.birth_text.result

@@ -1,7 +1,7 @@
 use Rattle.std.proofs.Common.{true, refl}
 use Rattle.book.specs.BookView.{book_of}
-use Rattle.evats.proofs.Answered.{on_ok, birth_not_read}
-use Rattle.evats.proofs.engine.Engine.birth_text.Goals as goal
+use Rattle.stepper.proofs.Answered.{on_ok, birth_not_read}
+use Rattle.stepper.proofs.engine.Engine.birth_text.Goals as goal
 
 pub returns-in-Ok : goal.returns-in-Ok
 returns-in-Ok c = c.birth_program.ensures c.args.text.now c.in-Ok.ensures

@@ -1,7 +1,7 @@
 use Rattle.std.proofs.Common.{false, refl}
 use Rattle.book.specs.BookView.{book_of}
-use Rattle.evats.proofs.Answered.{on_ok, all_listed}
-use Rattle.evats.proofs.engine.Engine.journal.Goals as goal
+use Rattle.stepper.proofs.Answered.{on_ok, all_listed}
+use Rattle.stepper.proofs.engine.Engine.journal.Goals as goal
 
 pub returns : goal.returns
 returns c = on_ok c.journal-2.result

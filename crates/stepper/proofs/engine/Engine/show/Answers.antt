@@ -1,8 +1,8 @@
 use Rattle.std.proofs.Common.{false, refl, subst}
-use Rattle.evats.specs.Replies.{shown}
-use Rattle.evats.specs.Show.{Shows}
-use Rattle.evats.proofs.Answered.{on_ok, no_refusal}
-use Rattle.evats.proofs.engine.Engine.show.Goals as goal
+use Rattle.stepper.specs.Replies.{shown}
+use Rattle.stepper.specs.Show.{Shows}
+use Rattle.stepper.proofs.Answered.{on_ok, no_refusal}
+use Rattle.stepper.proofs.engine.Engine.show.Goals as goal
 
 pub returns : goal.returns
 returns c = on_ok c.world-2.result

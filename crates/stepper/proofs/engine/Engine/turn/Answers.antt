@@ -1,7 +1,7 @@
 use Rattle.std.proofs.Common.{true, false, refl}
 use Rattle.book.specs.BookView.{book_of}
-use Rattle.evats.proofs.Answered.{on_ok, turn_done, turn_fails}
-use Rattle.evats.proofs.engine.Engine.turn.Goals as goal
+use Rattle.stepper.proofs.Answered.{on_ok, turn_done, turn_fails}
+use Rattle.stepper.proofs.engine.Engine.turn.Goals as goal
 
 pub returns-in-Ok : goal.returns-in-Ok
 returns-in-Ok c = on_ok c.turned.result

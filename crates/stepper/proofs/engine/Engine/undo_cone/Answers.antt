@@ -1,7 +1,7 @@
 use Rattle.std.proofs.Common.{true, refl}
 use Rattle.book.specs.BookView.{book_of}
-use Rattle.evats.proofs.Answered.{on_ok, cone_undone, undo_cone_fails}
-use Rattle.evats.proofs.engine.Engine.undo_cone.Goals as goal
+use Rattle.stepper.proofs.Answered.{on_ok, cone_undone, undo_cone_fails}
+use Rattle.stepper.proofs.engine.Engine.undo_cone.Goals as goal
 
 pub returns-in-Ok : goal.returns-in-Ok
 returns-in-Ok c = on_ok c.undo.result
