@@ -2,7 +2,7 @@
 ghost use Rattle.std.specs.Prelude.{◌≡◌};
 ghost use Rattle.evats.specs.Ended.{status_of};
 
-use crate::engine::{Fault, Summary};
+use stepper::{Fault, Summary};
 
 /// How a run of the program ends.
 #[derive(Clone, Copy, Debug, PartialEq, Eq)]

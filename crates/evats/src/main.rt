@@ -1,42 +1,19 @@
 //! Runs a text of commands on vats, and writes one reply for each.
 #![tactic(auto)]
 
-mod command;
 mod ended;
-mod engine;
-mod lines;
-mod listing;
-mod numbers;
 mod options;
-mod reply;
-mod script;
-mod show;
 #[cfg(test)]
 mod tests;
-#[cfg(test)]
-mod tests_of_control;
-#[cfg(test)]
-mod tests_of_depth;
-#[cfg(test)]
-mod tests_of_objects;
-#[cfg(test)]
-mod tests_of_scopes;
-#[cfg(test)]
-mod tests_of_steps;
-mod words;
 
 pub use ended::{Ended, status};
-pub use engine::{Fault, Limits, Summary, replies};
 use options::{Options, Parsed, parse};
 use std::io::{Read, Write};
 use std::process::ExitCode;
 use std::rt::Runtime;
 use std::thread::{Builder, Threads};
 use std::{fs, io};
-
-/// The bytes of the stack on which commands are answered: a text may nest thousands of levels deep, and the calls that
-/// read it nest with it.
-const STACK: usize = 256 << 20;
+use stepper::{Fault, Limits, STACK, Summary, replies};
 
 /// What is read: a file, or standard input.
 fn input<R: Runtime + AllocGlobal>(rt: &R, file: Option<&str>) -> Result<Vec<u8>, Ended> {

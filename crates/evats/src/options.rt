@@ -1,11 +1,11 @@
 // The words of the command line.
 
 use crate::ended::Ended;
-use crate::engine::Limits;
 use clap::{Arg, ArgAction, ArgMatches, Command, value_parser};
 use std::alloc::{AllocError, Global};
 use std::io;
 use std::rt::Runtime;
+use stepper::Limits;
 
 /// The options of a run.
 #[derive(Drop)]

@@ -8,12 +8,23 @@ mod books;
 #[cfg(test)]
 mod checks;
 #[cfg(test)]
+mod control;
+#[cfg(test)]
+mod depth;
 #[cfg(test)]
 mod names;
+#[cfg(test)]
+mod objects;
 #[cfg(test)]
 mod programs;
 #[cfg(test)]
 mod refusals;
+#[cfg(test)]
+mod scopes;
+#[cfg(test)]
+mod sessions;
+#[cfg(test)]
+mod steps;
 #[cfg(test)]
 mod tables;
 #[cfg(test)]

@@ -1,8 +1,0 @@
-use Rattle.std.proofs.Common.{false, refl}
-use Rattle.book.specs.BookView.{book_of}
-use Rattle.evats.proofs.Answered.{on_ok, all_listed}
-use Rattle.evats.proofs.engine.Engine.journal.Goals as goal
-
-pub returns : goal.returns
-returns c = on_ok c.journal-2.result
-    (λ a. record { reply = _; refusal = false; allowed = all_listed c.args.self.now.budget (book_of c.args.self.now.book) c.journal.ensures; adds = a; budget = refl }) c.journal-2.ensures

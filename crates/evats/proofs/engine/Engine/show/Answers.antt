@@ -1,9 +1,0 @@
-use Rattle.std.proofs.Common.{false, refl, subst}
-use Rattle.evats.specs.Replies.{shown}
-use Rattle.evats.specs.Show.{Shows}
-use Rattle.evats.proofs.Answered.{on_ok, no_refusal}
-use Rattle.evats.proofs.engine.Engine.show.Goals as goal
-
-pub returns : goal.returns
-returns c = on_ok c.world-2.result
-    (λ a. record { reply = a.0; refusal = false; allowed = shown (subst (λ w. Shows w a.0) c.world.ensures.same a.1); adds = record { text = a.2; refused = no_refusal a.3 }; budget = refl }) c.world-2.ensures

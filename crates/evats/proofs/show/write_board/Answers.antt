@@ -1,8 +1,0 @@
-use Rattle.ids.specs.Cells.{promise_cmp}
-use Rattle.values.specs.View.{val_of}
-use Rattle.world.specs.World.{published}
-use Rattle.evats.proofs.Listings.{entries_list}
-use Rattle.evats.proofs.show.write_board.Goals as goal
-
-pub returns-clause-listed : goal.returns-clause-listed
-returns-clause-listed c = entries_list promise_cmp (λ v. published (val_of v)) c.args.board.now c.iter-promise-items.ensures.ordered

@@ -1,0 +1,241 @@
+-- From what the parts answer to what the definition allows.
+use Rattle.std.proofs.Common.{◌≡◌, ℕ, List, Option, Some, None, Result, Ok, Err, true, false, ◌||◌, refl, subst, sym, ap, ◌∙◌, [], ◌++◌, append_assoc, append-nil, ◌<◌, length, ◌∷◌, arith}
+use Rattle.std.specs.Prelude.{codes, OnOk, IfOk, Bool, string_bytes}
+use Rattle.kernele.specs.Tree.{Trees}
+use Rattle.kernele.specs.Scope as scope
+use Rattle.kernele.specs.declared.checking.CheckFault.{CheckFault}
+use Rattle.kernele.specs.declared.checking.CheckFault.TheVariants as check_fault
+use Rattle.ereader.specs.Texts.{ReadAs}
+use Rattle.ereader.specs.Texts as texts
+use Rattle.ereader.specs.Shown as reading
+use Rattle.ereader.specs.declared.fault.ReadFault.{ReadFault}
+use Rattle.ereader.specs.declared.fault.ReadFault.TheVariants as read_fault
+use Rattle.world.specs.Events.{Turn, Turns, birth, ask, turn, birth_foot, ask_foot, turn_foot}
+use Rattle.book.specs.Journal.{Line, Cone}
+use Rattle.book.specs.Refusals.{Refusal, no_vat, name_taken, no_message, not_there, before, full, no_event, not_live, still_live, not_closed, not_next, unchecked}
+use Rattle.book.specs.Refusals.{birth_refusal, ask_refusal, turn_refusal, undo_refusal, redo_refusal, cone_refusal}
+use Rattle.book.specs.Books.{Book, blank}
+use Rattle.book.specs.Calls.{Enters, Undoes, Redoes}
+use Rattle.ids.specs.declared.names.EventName.{EventName}
+use Rattle.ids.specs.declared.names.MsgId.{MsgId}
+use Rattle.eval.specs.Outcomes.{End}
+use Rattle.ids.specs.declared.names.VatNo.{VatNo}
+use Rattle.book.specs.Fault as book
+use Rattle.book.specs.Fault.{Tells, check_tells}
+use Rattle.book.specs.declared.fault.BookFault.{BookFault}
+use Rattle.book.specs.declared.fault.BookFault.TheVariants as fault
+use Rattle.kernele.specs.Check as check
+use Rattle.stepper.specs.declared.engine.Engine.{Engine}
+use Rattle.stepper.specs.Engine.{Happens}
+use Rattle.stepper.specs.Commands as commands
+use Rattle.stepper.specs.Commands.{Spelled, spelled_by, fault_text}
+use Rattle.stepper.specs.Scripts.{script_of, behind_lines, fault_of}
+use Rattle.stepper.specs.declared.command.LineFault.{LineFault}
+use Rattle.stepper.specs.Replies.{refused, refusal_text, Answers, ask_without_memory, asked_without_memory, asked_unread, ask_refused, turn_without_memory, turn_refused, count_of, undone_text, redone_text, listed, cone_found, undo_cone_found, cone_without_memory, cone_refused, undo_without_memory, undo_refused, undo_accepted, undo_cone_without_memory, undo_cone_refused, redo_without_memory, redo_refused, redo_accepted, AnswersBirth, birth_without_memory, script_without_memory, script_unread, birth_refused, birth_accepted, ask_accepted, turn_accepted, queued_text, turned_text, FirstReply, born, answered, skipped, script_refused, said, said_by, Replies, first_and_more, no_more}
+use Rattle.stepper.specs.Listing.{journal_text, cone_text}
+use Rattle.stepper.specs.Lines.{line_of, behind_line}
+
+-- what holds where a call succeeded leads to more
+pub on_ok : {A E P Q : Type 0} (r : Result A E) → (P → Q) → OnOk r P → OnOk r Q
+on_ok (Ok x) f p = f p
+on_ok (Err e) f p = tt
+
+check_told : (f : CheckFault) (o : Option Refusal) (T : List ℕ → Type 0) → check_tells f o → ((r : Refusal) → o ≡ Some r → T (refusal_text r)) → T (codes "B20 Memory") → T (check.fault_text f)
+check_told (check_fault.Unbound x) o T h g m = g (unchecked (scope.unbound x)) h
+check_told (check_fault.AssignToDef x) o T h g m = g (unchecked (scope.assign_to_def x)) h
+check_told (check_fault.DuplicateName x) o T h g m = g (unchecked (scope.duplicate_name x)) h
+check_told check_fault.TooDeep o T h g m = g (unchecked scope.too_deep) h
+check_told check_fault.TooLong o T h g m = g (unchecked scope.too_long) h
+check_told check_fault.Memory o T h g m = m
+
+-- a fault of the book is written as the refusal that it tells, or as want of memory
+pub told : (f : BookFault) (o : Option Refusal) (T : List ℕ → Type 0) → Tells f o → ((r : Refusal) → o ≡ Some r → T (refusal_text r)) → T (codes "B20 Memory") → T (book.fault_text f)
+told (fault.NoVat x) o T h g m = g (no_vat x) h
+told (fault.NameTaken x) o T h g m = g (name_taken x) h
+told (fault.NoMessage x) o T h g m = g (no_message x) h
+told fault.NotThere o T h g m = g not_there h
+told (fault.Before x) o T h g m = g (before x) h
+told fault.Full o T h g m = g full h
+told (fault.NoEvent e) o T h g m = g (no_event e) h
+told (fault.NotLive e) o T h g m = g (not_live e) h
+told (fault.IsLive e) o T h g m = g (still_live e) h
+told (fault.NotClosed e f) o T h g m = g (not_closed e f) h
+told fault.NotNext o T h g m = g not_next h
+told (fault.Check f) o T h g m = check_told f o T h g m
+told fault.Memory o T h g m = m
+
+-- a fault of reading is written as the text's refusal, or as want of memory
+pub unread : (f : ReadFault) (text : List ℕ) (T : List ℕ → Type 0) → texts.Answers text (Err f) → (ReadAs text (Err f) → T (reading.shown f)) → T (codes "L7 Memory") → T (reading.shown f)
+unread (read_fault.BadCharacter i) text T h g m = g h
+unread (read_fault.UnclosedText i) text T h g m = g h
+unread (read_fault.BadEscape i) text T h g m = g h
+unread (read_fault.IntegerTooLarge i) text T h g m = g h
+unread (read_fault.Unexpected i) text T h g m = g h
+unread read_fault.TooDeep text T h g m = g h
+unread read_fault.TooLong text T h g m = g h
+unread read_fault.Memory text T h g m = m
+
+module _ (budget : ℕ) (b : Book) where
+  pub ask_told : (x text : List ℕ) (program : Trees) (f : BookFault) → ReadAs text (Ok program) → Tells f (ask_refusal b x program)
+      → Answers budget b (commands.ask x text) (refused (book.fault_text f)) true b
+  ask_told x text program f h t = told f (ask_refusal b x program) (λ words. Answers budget b (commands.ask x text) (refused words) true b) t (λ r e. ask_refused h e) ask_without_memory
+
+  pub ask_not_read : (x text : List ℕ) (f : ReadFault) → texts.Answers text (Err f) → Answers budget b (commands.ask x text) (refused (reading.shown f)) true b
+  ask_not_read x text f h = unread f text (λ words. Answers budget b (commands.ask x text) (refused words) true b) h (λ k. asked_unread k) asked_without_memory
+
+  pub turn_told : (m : MsgId) (f : BookFault) → Tells f (turn_refusal b m) → Answers budget b (commands.turn m) (refused (book.fault_text f)) true b
+  turn_told m f t = told f (turn_refusal b m) (λ words. Answers budget b (commands.turn m) (refused words) true b) t (λ r e. turn_refused e) turn_without_memory
+
+  pub birth_told : (x text : List ℕ) (program : Trees) (f : BookFault) → ReadAs text (Ok program) → Tells f (birth_refusal b x program)
+      → AnswersBirth b x (Ok text) (refused (book.fault_text f)) true b
+  birth_told x text program f h t = told f (birth_refusal b x program) (λ words. AnswersBirth b x (Ok text) (refused words) true b) t (λ r e. birth_refused h e) birth_without_memory
+
+  pub birth_not_read : (x text : List ℕ) (f : ReadFault) → texts.Answers text (Err f) → AnswersBirth b x (Ok text) (refused (reading.shown f)) true b
+  birth_not_read x text f h = unread f text (λ words. AnswersBirth b x (Ok text) (refused words) true b) h (λ k. script_unread k) script_without_memory
+
+  pub ask_done : {x y text : List ℕ} {program : Trees} {e : EventName} {d : Book} → y ≡ x → ReadAs text (Ok program) → (ask_refusal b y program ≡ None) × ((v : VatNo) × Enters (record { name = e; act = ask y program }) (ask_foot e y v program) b d)
+      → Answers budget b (commands.ask x text) (queued_text e) false d
+  ask_done {text = text} {program = program} {e = e} {d = d} same h a = subst (λ z. Answers budget b (commands.ask z text) (queued_text e) false d) same (ask_accepted {v = a.1.0} h a.0 a.1.1)
+
+  pub ask_fails : {x y text : List ℕ} {program : Trees} (f : BookFault) {d : Book} → y ≡ x → ReadAs text (Ok program) → Tells f (ask_refusal b y program) → d ≡ b
+      → Answers budget b (commands.ask x text) (refused (book.fault_text f)) true d
+  ask_fails {y = y} {text = text} {program = program} f {d = d} same h t stays =
+      subst (λ z. Answers budget b (commands.ask z text) (refused (book.fault_text f)) true d) same
+      (subst (λ z. Answers budget b (commands.ask y text) (refused (book.fault_text f)) true z) (sym stays) (ask_told y text program f h t))
+
+  pub birth_done : {x y text : List ℕ} {program : Trees} {e : EventName} {d : Book} → y ≡ x → ReadAs text (Ok program) → (birth_refusal b y program ≡ None) × Enters (record { name = e; act = birth y program }) (birth_foot e y program) b d
+      → AnswersBirth b x (Ok text) (queued_text e) false d
+  birth_done {text = text} {program = program} {e = e} {d = d} same h a = subst (λ z. AnswersBirth b z (Ok text) (queued_text e) false d) same (birth_accepted h a.0 a.1)
+
+  pub birth_fails : {x y text : List ℕ} {program : Trees} (f : BookFault) {d : Book} → y ≡ x → ReadAs text (Ok program) → Tells f (birth_refusal b y program) → d ≡ b
+      → AnswersBirth b x (Ok text) (refused (book.fault_text f)) true d
+  birth_fails {y = y} {text = text} {program = program} f {d = d} same h t stays =
+      subst (λ z. AnswersBirth b z (Ok text) (refused (book.fault_text f)) true d) same
+      (subst (λ z. AnswersBirth b y (Ok text) (refused (book.fault_text f)) true z) (sym stays) (birth_told y text program f h t))
+
+  pub turn_done : {m : MsgId} {e : EventName} {d : Book} {o : End}
+      → (turn_refusal b m ≡ None) × ((t : Turn) × ∥ Turns e b.world m budget t ∥₁ × Enters (record { name = e; act = turn m budget }) (turn_foot e m t) b d × (o ≡ t.outcome.end))
+      → Answers budget b (commands.turn m) (turned_text e o) false d
+  turn_done {m = m} {e = e} {d = d} (none, (t, run, enters, same)) = subst (λ z. Answers budget b (commands.turn m) (turned_text e z) false d) (sym same) (turn_accepted {t = t} none run enters)
+
+  pub turn_fails : {m : MsgId} (f : BookFault) {d : Book} → Tells f (turn_refusal b m) → d ≡ b → Answers budget b (commands.turn m) (refused (book.fault_text f)) true d
+  turn_fails {m = m} f t stays = subst (λ z. Answers budget b (commands.turn m) (refused (book.fault_text f)) true z) (sym stays) (turn_told m f t)
+
+  -- the journal as it is
+  pub all_listed : {lines : List Line} → lines ≡ b.journal → Answers budget b commands.journal (journal_text lines) false b
+  all_listed same = subst (λ ls. Answers budget b commands.journal (journal_text ls) false b) (sym same) listed
+
+  pub cone_done : {e : EventName} {names events : List EventName} → names ≡ events → (cone_refusal b.journal e ≡ None) × Cone b.journal e events
+      → Answers budget b (commands.cone e) (cone_text names) false b
+  cone_done {e = e} same (none, cone) = subst (λ es. Answers budget b (commands.cone e) (cone_text es) false b) (sym same) (cone_found none cone)
+
+  -- the cone is undone as if its events were named
+  pub cone_undone : {e : EventName} {names events : List EventName} {d : Book} {reply : List ℕ} {refusal : Bool} → names ≡ events → (cone_refusal b.journal e ≡ None) × Cone b.journal e events
+      → Answers budget b (commands.undo names) reply refusal d → Answers budget b (commands.undo_cone e) reply refusal d
+  cone_undone {d = d} {reply = reply} {refusal = refusal} same (none, cone) h = undo_cone_found none cone (subst (λ es. Answers budget b (commands.undo es) reply refusal d) same h)
+
+  pub cone_fails : {e : EventName} (f : BookFault) → Tells f (cone_refusal b.journal e) → Answers budget b (commands.cone e) (refused (book.fault_text f)) true b
+  cone_fails {e = e} f t = told f (cone_refusal b.journal e) (λ words. Answers budget b (commands.cone e) (refused words) true b) t (λ r h. cone_refused h) cone_without_memory
+
+  pub undo_cone_fails : {e : EventName} (f : BookFault) → Tells f (cone_refusal b.journal e) → Answers budget b (commands.undo_cone e) (refused (book.fault_text f)) true b
+  undo_cone_fails {e = e} f t = told f (cone_refusal b.journal e) (λ words. Answers budget b (commands.undo_cone e) (refused words) true b) t (λ r h. undo_cone_refused h) undo_cone_without_memory
+
+  undo_told : (events : List EventName) (f : BookFault) → Tells f (undo_refusal b.journal events) → Answers budget b (commands.undo events) (refused (book.fault_text f)) true b
+  undo_told events f t = told f (undo_refusal b.journal events) (λ words. Answers budget b (commands.undo events) (refused words) true b) t (λ r h. undo_refused h) undo_without_memory
+
+  pub undo_fails : {events : List EventName} (f : BookFault) {d : Book} → Tells f (undo_refusal b.journal events) → d ≡ b → Answers budget b (commands.undo events) (refused (book.fault_text f)) true d
+  undo_fails {events = events} f t stays = subst (λ z. Answers budget b (commands.undo events) (refused (book.fault_text f)) true z) (sym stays) (undo_told events f t)
+
+  pub undo_done : {events : List EventName} {d : Book} {count : ℕ} → (undo_refusal b.journal events ≡ None) × Undoes events b d × (count ≡ count_of events b.journal)
+      → Answers budget b (commands.undo events) (undone_text count) false d
+  undo_done {events = events} {d = d} (none, undoes, same) = subst (λ n. Answers budget b (commands.undo events) (undone_text n) false d) (sym same) (undo_accepted none undoes)
+
+  redo_told : (events : List EventName) (f : BookFault) → Tells f (redo_refusal b events) → Answers budget b (commands.redo events) (refused (book.fault_text f)) true b
+  redo_told events f t = told f (redo_refusal b events) (λ words. Answers budget b (commands.redo events) (refused words) true b) t (λ r h. redo_refused h) redo_without_memory
+
+  pub redo_fails : {events : List EventName} (f : BookFault) {d : Book} → Tells f (redo_refusal b events) → d ≡ b → Answers budget b (commands.redo events) (refused (book.fault_text f)) true d
+  redo_fails {events = events} f t stays = subst (λ z. Answers budget b (commands.redo events) (refused (book.fault_text f)) true z) (sym stays) (redo_told events f t)
+
+  pub redo_done : {events : List EventName} {d : Book} {count : ℕ} → (redo_refusal b events ≡ None) × Redoes events b d × (count ≡ count_of events b.journal)
+      → Answers budget b (commands.redo events) (redone_text count) false d
+  redo_done {events = events} {d = d} (none, redoes, same) = subst (λ n. Answers budget b (commands.redo events) (redone_text n) false d) (sym same) (redo_accepted none redoes)
+
+or_false : (s : Bool) → s ≡ (s || false)
+or_false true = refl
+or_false false = refl
+
+-- what is no refusal changes nothing about refusals
+pub no_refusal : {s t : Bool} → t ≡ s → t ≡ (s || false)
+no_refusal {s = s} e = e ∙ or_false s
+
+-- what happens, as something else that the definition allows
+pub happens_as : {old new : Engine} {P Q : Book → List ℕ → Bool → Book → Type 0} → ((b : Book) (r : List ℕ) (s : Bool) (d : Book) → P b r s d → Q b r s d) → Happens old new P → Happens old new Q
+happens_as f h = record { reply = h.reply; refusal = h.refusal; allowed = f _ _ _ _ h.allowed; adds = h.adds; budget = h.budget }
+
+-- the first line is a command for a vat
+pub born_at : (budget : ℕ) (b d : Book) (c : Spelled) (x : List ℕ) (lines : ℕ) (input rest reply : List ℕ) (refusal : Bool) (script : Result (List ℕ) LineFault)
+    → c ≡ commands.birth x lines → script ≡ script_of lines input → rest ≡ behind_lines lines input → AnswersBirth b x script reply refusal d
+    → FirstReply budget b (Ok (Some c)) input reply refusal d rest
+born_at budget b d c x lines input rest reply refusal script e f g h =
+    subst (λ z. FirstReply budget b (Ok (Some z)) input reply refusal d rest) (sym e)
+    (subst (λ z. FirstReply budget b (Ok (Some (commands.birth x lines))) input reply refusal d z) (sym g)
+    (born (subst (λ z. AnswersBirth b x z reply refusal d) f h)))
+
+-- the first line is another command
+pub answered_at : (budget : ℕ) (b d : Book) (c a : Spelled) (input reply : List ℕ) (refusal : Bool) → c ≡ a → Answers budget b a reply refusal d → FirstReply budget b (Ok (Some c)) input reply refusal d input
+answered_at budget b d c a input reply refusal e h = subst (λ z. FirstReply budget b (Ok (Some z)) input reply refusal d input) (sym e) (answered h)
+
+-- the script is refused
+pub refused_at : (b : Book) (x : List ℕ) (f : LineFault) (script : Result (List ℕ) LineFault) → script ≡ Err f → AnswersBirth b x script (refused (fault_text f)) true b
+refused_at b x f script e = subst (λ z. AnswersBirth b x z (refused (fault_text f)) true b) (sym e) script_refused
+
+-- what holds of a success leads to more
+pub if_ok : {A E : Type 0} {P Q : A → Type 0} (r : Result A E) → ((x : A) → P x → Q x) → IfOk r P → IfOk r Q
+if_ok (Ok x) f h = f x h
+if_ok (Err e) f h = tt
+
+-- a line is said in other words
+pub said_as : {budget : ℕ} {b d : Book} {x y : Result (Option Spelled) LineFault} {input reply rest : List ℕ} {refusal : Bool} → x ≡ y → FirstReply budget b x input reply refusal d rest → FirstReply budget b y input reply refusal d rest
+said_as {budget = budget} {b = b} {d = d} {input = input} {reply = reply} {rest = rest} {refusal = refusal} e h = subst (λ z. FirstReply budget b z input reply refusal d rest) e h
+
+-- a line is said in other words, before other input
+pub said_at : {budget : ℕ} {b d : Book} {x y : Result (Option Spelled) LineFault} {input later reply rest : List ℕ} {refusal : Bool} → x ≡ y → input ≡ later → FirstReply budget b x input reply refusal d rest → FirstReply budget b y later reply refusal d rest
+said_at {budget = budget} {b = b} {d = d} {y = y} {reply = reply} {rest = rest} {refusal = refusal} e f h = subst (λ z. FirstReply budget b y z reply refusal d rest) f (said_as e h)
+
+-- a line that is a text says what it spells
+pub said_text : (input line : List ℕ) → fault_of input ≡ None → line ≡ line_of input → spelled_by line ≡ said input
+said_text input line none e = ap spelled_by e ∙ sym (ap (λ f. said_by f (line_of input)) none)
+
+-- a line that is no text says why
+pub said_fault : (input : List ℕ) (f : LineFault) → fault_of input ≡ Some f → Err f ≡ said input
+said_fault input f e = sym (ap (λ g. said_by g (line_of input)) e)
+
+-- nothing happens
+pub nothing_happens : (e : Engine) (budget : ℕ) (input : List ℕ) → Happens e e (λ b r s d. FirstReply budget b (Ok None) input r s d input)
+nothing_happens e budget input = record { reply = []; refusal = false; allowed = skipped; adds = record { text = sym (append-nil (string_bytes e.written.text)); refused = or_false e.written.refused }; budget = refl }
+
+or_or : (a b c : Bool) → a || (b || c) ≡ (a || b) || c
+or_or true b c = refl
+or_or false b c = refl
+
+-- one reply, and then those to the rest
+pub replies_more : (budget : ℕ) (b c d : Book) (input rest reply replies earlier : List ℕ) (r s t u : Bool) (first : Book) (all : List ℕ) → 0 < length input
+    → FirstReply budget b (said input) (behind_line input) reply r c rest
+    → ((more : List ℕ) (v : Bool) → Replies budget b input more v d → Replies budget first all (earlier ++ more) (t || v) d)
+    → Replies budget c rest replies s d → (now : List ℕ) → now ≡ earlier ++ reply → u ≡ (t || r) → Replies budget first all (now ++ replies) (u || s) d
+replies_more budget b c d input rest reply replies earlier r s t u first all l f h k now e g =
+    subst (λ (z : List ℕ). Replies budget first all z (u || s) d) (sym (append_assoc earlier reply replies) ∙ ap (λ z. z ++ replies) (sym e))
+    (subst (λ (z : Bool). Replies budget first all (earlier ++ (reply ++ replies)) z d) (or_or t r s ∙ ap (λ z. z || s) (sym g)) (h (reply ++ replies) (r || s) (first_and_more l f k)))
+
+-- before the first line nothing is replied
+pub replies_begin : (budget : ℕ) (b d : Book) (input replies text : List ℕ) (r s : Bool) → b ≡ blank → text ≡ [] → s ≡ false → Replies budget b input replies r d → Replies budget blank input (text ++ replies) (s || r) d
+replies_begin budget b d input replies text r s e f g h =
+    subst (λ (z : Bool). Replies budget blank input (text ++ replies) (z || r) d) (sym g)
+    (subst (λ (z : List ℕ). Replies budget blank input (z ++ replies) r d) (sym f) (subst (λ (z : Book). Replies budget z input replies r d) e h))
+
+-- behind the last line nothing is left
+pub replies_end : (budget : ℕ) (b first : Book) (rest all text bytes : List ℕ) (s : Bool) → length rest ≡ 0 → bytes ≡ text
+    → ((more : List ℕ) (v : Bool) → Replies budget b rest more v b → Replies budget first all (text ++ more) (s || v) b) → Replies budget first all bytes s b
+replies_end budget b first [] all text bytes s l e h =
+    subst (λ (z : List ℕ). Replies budget first all z s b) (append-nil text ∙ sym e) (subst (λ (z : Bool). Replies budget first all (text ++ []) z b) (sym (or_false s)) (h [] false no_more))
+replies_end budget b first (x ∷ xs) all text bytes s l e h = absurd (omega (arith, l))

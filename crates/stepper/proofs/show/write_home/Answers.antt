@@ -1,0 +1,7 @@
+use Rattle.stepper.proofs.Listings.{home_written}
+use Rattle.stepper.proofs.show.write_home.Goals as goal
+
+pub returns : goal.returns
+returns c =
+    home_written c.args.number c.args.home.now c.nouns.result.now c.slots.result.now c.objects.result.now _ _ _ _ _ c.in_ok-write_vat.ensures c.in_ok-write_nouns.ensures.written c.in_ok-write_slots.ensures.written c.in_ok-write_objects.ensures.written
+    c.in_ok-write_nouns.ensures.listed c.in_ok-write_slots.ensures.listed c.in_ok-write_objects.ensures.listed c.nouns.ensures c.slots.ensures c.objects.ensures

@@ -1,0 +1,18 @@
+-- What an answer does to the book and to the replies.
+use Rattle.std.specs.Prelude.{◌≡◌, ℕ, List, Bool}
+use Rattle.book.specs.Books as books
+use Rattle.book.specs.BookView.{book_of}
+use Rattle.stepper.specs.Written.{Adds}
+use Rattle.stepper.specs.declared.engine.Engine.{Engine}
+
+-- the book goes the way that the definition allows, and the replies grow by its reply
+pub record Happens (old new : Engine) (Allowed : books.Book → List ℕ → Bool → books.Book → Type 0) : Type 0 where
+  pub reply : List ℕ
+  pub refusal : Bool
+  pub allowed : Allowed (book_of old.book) reply refusal (book_of new.book)
+  pub adds : Adds old.written new.written reply refusal
+  pub budget : new.budget ≡ old.budget
+
+-- the same, and this is left of the input
+abbrev pub HappensAt : Engine → Engine → List ℕ → (books.Book → List ℕ → Bool → books.Book → List ℕ → Type 0) → Type 0
+HappensAt old new rest Allowed = Happens old new (λ b r s d. Allowed b r s d rest)

@@ -1,0 +1,147 @@
+-- The replies to a text of commands.
+use Rattle.std.specs.Prelude.{◌≡◌, ℕ, ◌<◌, List, [], ◌∷◌, ◌++◌, length, filter, Bool, true, false, ◌||◌, Option, Some, None, Result, Ok, Err, codes}
+use Rattle.std.specs.Fmt.{decimal}
+use Rattle.ids.specs.Names.{event_text, message_text}
+use Rattle.ids.specs.Quoted.{quoted}
+use Rattle.ids.specs.declared.names.EventName.{EventName}
+use Rattle.ids.specs.declared.names.MsgId.{MsgId}
+use Rattle.ids.specs.declared.names.VatNo.{VatNo}
+use Rattle.kernele.specs.Tree.{Trees}
+use Rattle.kernele.specs.Scope as scope
+use Rattle.values.specs.Shown as values
+use Rattle.eval.specs.Outcomes.{End, value, halt, thrown, ejected, abandoned, reason}
+use Rattle.ereader.specs.Texts.{ReadAs}
+use Rattle.ereader.specs.Shown as reading
+use Rattle.ereader.specs.declared.fault.ReadFault.{ReadFault}
+use Rattle.world.specs.Events.{Turn, Turns, birth, ask, turn, birth_foot, ask_foot, turn_foot, first_message}
+use Rattle.book.specs.Journal.{Line, chosen, Cone}
+use Rattle.book.specs.Refusals.{Refusal, no_vat, name_taken, no_message, not_there, before, full, no_event, not_live, still_live, not_closed, not_next, unchecked}
+use Rattle.book.specs.Refusals.{birth_refusal, ask_refusal, turn_refusal, undo_refusal, redo_refusal, cone_refusal}
+use Rattle.book.specs.Books.{Book}
+use Rattle.book.specs.Calls.{Enters, Undoes, Redoes}
+use Rattle.stepper.specs.Lines.{line_of, behind_line}
+use Rattle.stepper.specs.Commands as command
+use Rattle.stepper.specs.Commands.{Spelled, spelled_by, fault_text}
+use Rattle.stepper.specs.Scripts.{fault_of, script_of, behind_lines}
+use Rattle.stepper.specs.Show.{Shows}
+use Rattle.stepper.specs.Listing.{journal_text, cone_text}
+use Rattle.stepper.specs.declared.command.LineFault.{LineFault}
+
+-- no CODE NAME ARGS
+abbrev pub refused : List ℕ → List ℕ
+refused words = codes "no " ++ (words ++ 10 ∷ [])
+
+abbrev pub check_text : scope.Refusal → List ℕ
+check_text (scope.unbound x) = codes "K1 Unbound " ++ x
+check_text (scope.assign_to_def x) = codes "K2 AssignToDef " ++ x
+check_text (scope.duplicate_name x) = codes "K3 DuplicateName " ++ x
+check_text scope.too_deep = codes "K4 TooDeep"
+check_text scope.too_long = codes "K5 TooLong"
+
+abbrev pub refusal_text : Refusal → List ℕ
+refusal_text (no_vat x) = codes "B1 NoVat " ++ x
+refusal_text (name_taken x) = codes "B2 NameTaken " ++ x
+refusal_text (no_message m) = codes "B3 NoMessage " ++ message_text m
+refusal_text not_there = codes "B4 NotThere"
+refusal_text (before m) = codes "B6 Before " ++ message_text m
+refusal_text full = codes "B8 Full"
+refusal_text (no_event e) = codes "B12 NoEvent " ++ event_text e
+refusal_text (not_live e) = codes "B13 NotLive " ++ event_text e
+refusal_text (still_live e) = codes "B14 IsLive " ++ event_text e
+refusal_text (not_closed e f) = codes "B15 NotClosed " ++ (event_text e ++ (codes " " ++ event_text f))
+refusal_text not_next = codes "B21 NotNext"
+refusal_text (unchecked fault) = check_text fault
+
+-- ok EVENT MESSAGE
+abbrev pub queued_text : EventName → List ℕ
+queued_text e = codes "ok " ++ (event_text e ++ (codes " " ++ (message_text (first_message e) ++ 10 ∷ [])))
+
+-- how a turn ended; none ends with a value on its way to an Escape, whose ejector would be spent
+abbrev pub end_text : End → List ℕ
+end_text (value v) = codes "value " ++ values.shown v
+end_text (halt (thrown problem)) = codes "problem " ++ quoted problem
+end_text (halt (ejected j v)) = codes "problem " ++ quoted (codes "ejector is spent")
+end_text (halt (abandoned why)) = codes "abandoned " ++ quoted (reason why)
+
+-- ok EVENT value V, or problem T, or abandoned T
+abbrev pub turned_text : EventName → End → List ℕ
+turned_text e o = codes "ok " ++ (event_text e ++ (codes " " ++ (end_text o ++ 10 ∷ [])))
+
+-- how many entries of a journal these events are
+abbrev pub count_of : List EventName → List Line → ℕ
+count_of events lines = length (filter (chosen events) lines)
+
+-- ok undone C
+abbrev pub undone_text : ℕ → List ℕ
+undone_text count = codes "ok undone " ++ (decimal count ++ 10 ∷ [])
+
+-- ok redone C
+abbrev pub redone_text : ℕ → List ℕ
+redone_text count = codes "ok redone " ++ (decimal count ++ 10 ∷ [])
+
+-- With a budget for each turn: a command leads from a book to a reply, refused or not, and a book.
+-- Want of memory may refuse what needs it; the book then is as it was.
+pub data Answers (budget : ℕ) : Book → Spelled → List ℕ → Bool → Book → Type 0 where
+  ask_without_memory : {b : Book} {x text : List ℕ} → Answers budget b (command.ask x text) (refused (codes "B20 Memory")) true b
+  asked_without_memory : {b : Book} {x text : List ℕ} → Answers budget b (command.ask x text) (refused (codes "L7 Memory")) true b
+  asked_unread : {b : Book} {x text : List ℕ} {f : ReadFault} → ReadAs text (Err f) → Answers budget b (command.ask x text) (refused (reading.shown f)) true b
+  ask_refused : {b : Book} {x text : List ℕ} {program : Trees} {r : Refusal} → ReadAs text (Ok program) → ask_refusal b x program ≡ Some r
+      → Answers budget b (command.ask x text) (refused (refusal_text r)) true b
+  ask_accepted : {b d : Book} {x text : List ℕ} {program : Trees} {e : EventName} {v : VatNo} → ReadAs text (Ok program) → ask_refusal b x program ≡ None
+      → Enters (record { name = e; act = ask x program }) (ask_foot e x v program) b d → Answers budget b (command.ask x text) (queued_text e) false d
+  turn_without_memory : {b : Book} {m : MsgId} → Answers budget b (command.turn m) (refused (codes "B20 Memory")) true b
+  turn_refused : {b : Book} {m : MsgId} {r : Refusal} → turn_refusal b m ≡ Some r → Answers budget b (command.turn m) (refused (refusal_text r)) true b
+  turn_accepted : {b d : Book} {m : MsgId} {e : EventName} {t : Turn} → turn_refusal b m ≡ None → ∥ Turns e b.world m budget t ∥₁
+      → Enters (record { name = e; act = turn m budget }) (turn_foot e m t) b d → Answers budget b (command.turn m) (turned_text e t.outcome.end) false d
+  shown : {b : Book} {text : List ℕ} → Shows b.world text → Answers budget b command.show text false b
+  listed : {b : Book} → Answers budget b command.journal (journal_text b.journal) false b
+  cone_without_memory : {b : Book} {e : EventName} → Answers budget b (command.cone e) (refused (codes "B20 Memory")) true b
+  cone_refused : {b : Book} {e : EventName} {r : Refusal} → cone_refusal b.journal e ≡ Some r → Answers budget b (command.cone e) (refused (refusal_text r)) true b
+  cone_found : {b : Book} {e : EventName} {names : List EventName} → cone_refusal b.journal e ≡ None → Cone b.journal e names → Answers budget b (command.cone e) (cone_text names) false b
+  undo_without_memory : {b : Book} {events : List EventName} → Answers budget b (command.undo events) (refused (codes "B20 Memory")) true b
+  undo_refused : {b : Book} {events : List EventName} {r : Refusal} → undo_refusal b.journal events ≡ Some r → Answers budget b (command.undo events) (refused (refusal_text r)) true b
+  undo_accepted : {b d : Book} {events : List EventName} → undo_refusal b.journal events ≡ None → Undoes events b d
+      → Answers budget b (command.undo events) (undone_text (count_of events b.journal)) false d
+  undo_cone_without_memory : {b : Book} {e : EventName} → Answers budget b (command.undo_cone e) (refused (codes "B20 Memory")) true b
+  undo_cone_refused : {b : Book} {e : EventName} {r : Refusal} → cone_refusal b.journal e ≡ Some r → Answers budget b (command.undo_cone e) (refused (refusal_text r)) true b
+  -- the cone is undone as if its events were named
+  undo_cone_found : {b d : Book} {e : EventName} {events : List EventName} {reply : List ℕ} {refusal : Bool} → cone_refusal b.journal e ≡ None → Cone b.journal e events
+      → Answers budget b (command.undo events) reply refusal d → Answers budget b (command.undo_cone e) reply refusal d
+  redo_without_memory : {b : Book} {events : List EventName} → Answers budget b (command.redo events) (refused (codes "B20 Memory")) true b
+  redo_refused : {b : Book} {events : List EventName} {r : Refusal} → redo_refusal b events ≡ Some r → Answers budget b (command.redo events) (refused (refusal_text r)) true b
+  redo_accepted : {b d : Book} {events : List EventName} → redo_refusal b events ≡ None → Redoes events b d
+      → Answers budget b (command.redo events) (redone_text (count_of events b.journal)) false d
+
+-- the same for a vat whose script was taken from the lines behind the command
+pub data AnswersBirth : Book → List ℕ → Result (List ℕ) LineFault → List ℕ → Bool → Book → Type 0 where
+  birth_without_memory : {b : Book} {x : List ℕ} {text : List ℕ} → AnswersBirth b x (Ok text) (refused (codes "B20 Memory")) true b
+  script_without_memory : {b : Book} {x : List ℕ} {text : List ℕ} → AnswersBirth b x (Ok text) (refused (codes "L7 Memory")) true b
+  script_refused : {b : Book} {x : List ℕ} {f : LineFault} → AnswersBirth b x (Err f) (refused (fault_text f)) true b
+  script_unread : {b : Book} {x text : List ℕ} {f : ReadFault} → ReadAs text (Err f) → AnswersBirth b x (Ok text) (refused (reading.shown f)) true b
+  birth_refused : {b : Book} {x text : List ℕ} {program : Trees} {r : Refusal} → ReadAs text (Ok program) → birth_refusal b x program ≡ Some r
+      → AnswersBirth b x (Ok text) (refused (refusal_text r)) true b
+  birth_accepted : {b d : Book} {x text : List ℕ} {program : Trees} {e : EventName} → ReadAs text (Ok program) → birth_refusal b x program ≡ None
+      → Enters (record { name = e; act = birth x program }) (birth_foot e x program) b d → AnswersBirth b x (Ok text) (queued_text e) false d
+
+-- what the first line of an input says: why it is no text, or the command that it spells, if any
+abbrev pub said_by : Option LineFault → List ℕ → Result (Option Spelled) LineFault
+said_by (Some fault) text = Err fault
+said_by None text = spelled_by text
+
+abbrev pub said : List ℕ → Result (Option Spelled) LineFault
+said input = said_by (fault_of input) (line_of input)
+
+-- the reply to the first line of an input, with its script; then the book, and the input that is left
+pub data FirstReply (budget : ℕ) : Book → Result (Option Spelled) LineFault → List ℕ → List ℕ → Bool → Book → List ℕ → Type 0 where
+  skipped : {b : Book} {input : List ℕ} → FirstReply budget b (Ok None) input [] false b input
+  no_command : {b : Book} {f : LineFault} {input : List ℕ} → FirstReply budget b (Err f) input (refused (fault_text f)) true b input
+  born : {b d : Book} {x : List ℕ} {lines : ℕ} {input reply : List ℕ} {refusal : Bool}
+      → AnswersBirth b x (script_of lines input) reply refusal d → FirstReply budget b (Ok (Some (command.birth x lines))) input reply refusal d (behind_lines lines input)
+  answered : {b d : Book} {c : Spelled} {input reply : List ℕ} {refusal : Bool}
+      → Answers budget b c reply refusal d → FirstReply budget b (Ok (Some c)) input reply refusal d input
+
+-- the replies to a whole input, one after another; whether one is a refusal; and the book in the end
+pub data Replies (budget : ℕ) : Book → List ℕ → List ℕ → Bool → Book → Type 0 where
+  no_more : {b : Book} → Replies budget b [] [] false b
+  first_and_more : {b c d : Book} {input rest reply replies : List ℕ} {r s : Bool} → 0 < length input
+      → FirstReply budget b (said input) (behind_line input) reply r c rest → Replies budget c rest replies s d → Replies budget b input (reply ++ replies) (r || s) d

@@ -1,0 +1,306 @@
+// Commands answered one after another.
+ghost use Rattle.std.specs.Prelude.{◌≡◌, ◌<◌, ◌≤◌, ℕ, List, Bool, length, OnOk, IfOk, IfErr, Ok, Some, string_bytes};
+ghost use Rattle.kernele.specs.View.{program_of};
+ghost use Rattle.ereader.specs.Texts.{ReadAs};
+ghost use Rattle.book.specs.Books.{Book as BookModel, blank};
+ghost use Rattle.stepper.specs.Commands as commands;
+ghost use Rattle.stepper.specs.Commands.{command_of, reading_of};
+ghost use Rattle.stepper.specs.Lines.{behind_line};
+ghost use Rattle.stepper.specs.Fault.{fault_text};
+ghost use Rattle.stepper.specs.declared.engine.Fault.TheVariants.{Memory};
+ghost use Rattle.stepper.specs.ScriptView.{script_text};
+ghost use Rattle.stepper.specs.Replies.{Answers, AnswersBirth, FirstReply, Replies, said};
+
+use crate::command::{Command, LineFault, command_of};
+use crate::lines::cut_line;
+use crate::reply::Written;
+use crate::script::{take_script, text_of};
+use book::book::{Book, Turned};
+use book::fault::BookFault;
+use ereader::read;
+use ids::names::{EventName, MsgId};
+use ids::text::Text;
+use kernele::tree::Program;
+use std::alloc::{AllocError, Global};
+use std::fmt;
+use std::fmt::{Display, Formatter, Write};
+
+/// The bytes of the stack on which commands are to be answered: a text may nest thousands of levels deep, and the calls
+/// that read it nest with it.
+pub const STACK: usize = 256 << 20;
+
+/// What the author's options allow.
+#[derive(Clone, Copy, Debug)]
+pub struct Limits {
+    /// The most steps of a turn, from 1 to 1,000,000.
+    pub budget: u32,
+    /// The most workers, from 1 to 64. No command of this version starts one.
+    pub workers: u32,
+}
+
+/// What is known of a run that came to its end.
+#[derive(Clone, Copy, Debug, PartialEq, Eq)]
+pub struct Summary {
+    /// Whether a command was refused.
+    pub refused: bool,
+}
+
+/// Why a run did not come to its end.
+#[derive(Clone, Copy, Debug, PartialEq, Eq)]
+pub enum Fault {
+    /// The input could not be read.
+    Reader,
+    /// The replies could not be written.
+    Writer,
+    /// Memory ran out for a reply or for a command's text.
+    Memory,
+}
+
+impl Display for Fault {
+    ghost output = { λ fault. Some (fault_text fault) };
+
+    fn fmt<W: Write>(&self, f: &mut Formatter<W>) -> fmt::Result {
+        match self {
+            Fault::Reader => write!(f, "reading failed"),
+            Fault::Writer => write!(f, "writing failed"),
+            Fault::Memory => write!(f, "out of memory"),
+        }
+    }
+}
+
+impl From<AllocError> for Fault {
+    ghost from_gives = { λ _ f. f ≡ Memory };
+
+    fn from(_error: AllocError) -> Self {
+        Fault::Memory
+    }
+}
+
+/// The book, and the replies so far.
+#[derive(Drop)]
+struct Engine {
+    alloc: Global,
+    /// The most steps of a turn.
+    budget: u32,
+    book: Book,
+    written: Written,
+}
+
+impl Engine {
+    ghost use Rattle.stepper.specs.Engine.{Happens, HappensAt};
+
+    fn ask_program(&mut self, name: &str, program: Program) -> Result<(), AllocError>
+        ensures { (text : List ℕ) → ReadAs text (Ok (program_of program)) → OnOk result (Happens self.old self.new (λ b r s d. Answers self.old.budget b (commands.ask name.now text) r s d)) }
+    {
+        let Ok(name) = Text::new(self.alloc, name) else {
+            return self.written.refuse_call(&BookFault::Memory);
+        };
+        match self.book.ask(&name, program) {
+            Ok(event) => self.written.queued(event),
+            Err(fault) => self.written.refuse_call(&fault),
+        }
+    }
+
+    fn ask(&mut self, name: &str, text: &str) -> Result<(), AllocError>
+        ensures { OnOk result (Happens self.old self.new (λ b r s d. Answers self.old.budget b (commands.ask name.now text.now) r s d)) }
+    {
+        match read(self.alloc, text) {
+            Ok(program) => self.ask_program(name, program),
+            Err(fault) => self.written.refuse_text(&fault),
+        }
+    }
+
+    fn turn(&mut self, message: MsgId) -> Result<(), AllocError>
+        ensures { OnOk result (Happens self.old self.new (λ b r s d. Answers self.old.budget b (commands.turn message) r s d)) }
+    {
+        match self.book.turn(message, self.budget) {
+            Ok(Turned { event, ended }) => self.written.turned(event, &ended),
+            Err(fault) => self.written.refuse_call(&fault),
+        }
+    }
+
+    fn show(&mut self) -> Result<(), AllocError>
+        ensures { OnOk result (Happens self.old self.new (λ b r s d. Answers self.old.budget b commands.show r s d)) }
+    {
+        self.written.world(self.book.world())
+    }
+
+    fn journal(&mut self) -> Result<(), AllocError>
+        ensures { OnOk result (Happens self.old self.new (λ b r s d. Answers self.old.budget b commands.journal r s d)) }
+    {
+        self.written.journal(self.book.journal())
+    }
+
+    fn cone(&mut self, event: EventName) -> Result<(), AllocError>
+        ensures { OnOk result (Happens self.old self.new (λ b r s d. Answers self.old.budget b (commands.cone event) r s d)) }
+    {
+        match self.book.cone(event) {
+            Ok(events) => self.written.cone(&events),
+            Err(fault) => self.written.refuse_call(&fault),
+        }
+    }
+
+    fn undo(&mut self, events: &[EventName]) -> Result<(), AllocError>
+        ensures { OnOk result (Happens self.old self.new (λ b r s d. Answers self.old.budget b (commands.undo events.now) r s d)) }
+    {
+        match self.book.undo(events) {
+            Ok(count) => self.written.undone(count),
+            Err(fault) => self.written.refuse_call(&fault),
+        }
+    }
+
+    /// Undoes an event with its cone.
+    fn undo_cone(&mut self, event: EventName) -> Result<(), AllocError>
+        ensures { OnOk result (Happens self.old self.new (λ b r s d. Answers self.old.budget b (commands.undo_cone event) r s d)) }
+    {
+        match self.book.cone(event) {
+            Ok(events) => self.undo(&events),
+            Err(fault) => self.written.refuse_call(&fault),
+        }
+    }
+
+    fn redo(&mut self, events: &[EventName]) -> Result<(), AllocError>
+        ensures { OnOk result (Happens self.old self.new (λ b r s d. Answers self.old.budget b (commands.redo events.now) r s d)) }
+    {
+        match self.book.redo(events) {
+            Ok(count) => self.written.redone(count),
+            Err(fault) => self.written.refuse_call(&fault),
+        }
+    }
+
+    fn birth_program(&mut self, name: &str, script: Program) -> Result<(), AllocError>
+        ensures { (text : List ℕ) → ReadAs text (Ok (program_of script)) → OnOk result (Happens self.old self.new (λ b r s d. AnswersBirth b name.now (Ok text) r s d)) }
+    {
+        let Ok(name) = Text::new(self.alloc, name) else {
+            return self.written.refuse_call(&BookFault::Memory);
+        };
+        match self.book.birth(&name, script) {
+            Ok(event) => self.written.queued(event),
+            Err(fault) => self.written.refuse_call(&fault),
+        }
+    }
+
+    fn birth_text(&mut self, name: &str, text: &str) -> Result<(), AllocError>
+        ensures { OnOk result (Happens self.old self.new (λ b r s d. AnswersBirth b name.now (Ok text.now) r s d)) }
+    {
+        match read(self.alloc, text) {
+            Ok(program) => self.birth_program(name, program),
+            Err(fault) => self.written.refuse_text(&fault),
+        }
+    }
+
+    /// A new vat, whose script was taken from the lines behind the command.
+    fn birth(&mut self, name: &str, script: &Result<String, LineFault>) -> Result<(), AllocError>
+        ensures { OnOk result (Happens self.old self.new (λ b r s d. AnswersBirth b name.now (script_text script.now) r s d)) }
+    {
+        match script {
+            Ok(text) => self.birth_text(name, text.as_str()),
+            Err(fault) => self.written.refuse_line(*fault),
+        }
+    }
+
+    /// Answers a command, and gives what is left of the input behind it.
+    fn answer<'a>(&mut self, command: Command, input: &'a [u8]) -> Result<&'a [u8], AllocError>
+        ensures shorter { IfOk result (λ rest. length rest.now ≤ length input.now) }
+        ensures reply { IfOk result (λ rest. HappensAt self.old self.new rest.now (λ b r s d i. FirstReply self.old.budget b (Ok (Some (command_of command.entry))) input.now r s d i)) }
+    {
+        match command {
+            Command::Birth { name, lines } => {
+                let script = take_script(self.alloc, input, lines)?;
+                self.birth(name, &script.text)?;
+                Ok(script.rest)
+            }
+            Command::Ask { name, text } => {
+                self.ask(name, text)?;
+                Ok(input)
+            }
+            Command::Turn(message) => {
+                self.turn(message)?;
+                Ok(input)
+            }
+            Command::Show => {
+                self.show()?;
+                Ok(input)
+            }
+            Command::Journal => {
+                self.journal()?;
+                Ok(input)
+            }
+            Command::Cone(event) => {
+                self.cone(event)?;
+                Ok(input)
+            }
+            Command::Undo(events) => {
+                self.undo(&events)?;
+                Ok(input)
+            }
+            Command::UndoCone(event) => {
+                self.undo_cone(event)?;
+                Ok(input)
+            }
+            Command::Redo(events) => {
+                self.redo(&events)?;
+                Ok(input)
+            }
+        }
+    }
+
+    /// Answers what a line says, and gives what is left of the input behind it.
+    fn answer_said<'a>(
+        &mut self,
+        says: Result<Option<Command>, LineFault>,
+        input: &'a [u8],
+    ) -> Result<&'a [u8], AllocError>
+        ensures shorter { IfOk result (λ rest. length rest.now ≤ length input.now) }
+        ensures reply { IfOk result (λ rest. HappensAt self.old self.new rest.now (λ b r s d i. FirstReply self.old.budget b (reading_of says.entry) input.now r s d i)) }
+    {
+        match says {
+            Ok(spelled) => match spelled {
+                Some(command) => self.answer(command, input),
+                None => Ok(input),
+            },
+            Err(fault) => {
+                self.written.refuse_line(fault)?;
+                Ok(input)
+            }
+        }
+    }
+
+    /// Answers the first line of an input, and gives what is left of it.
+    fn answer_first<'a>(&mut self, input: &'a [u8]) -> Result<&'a [u8], AllocError>
+        requires { 0 < length input.now }
+        ensures reply { IfOk result (λ rest. HappensAt self.old self.new rest.now (λ b r s d i. FirstReply self.old.budget b (said input.now) (behind_line input.now) r s d i)) }
+        ensures shorter { IfOk result (λ rest. length rest.now < length input.now) }
+    {
+        let cut = cut_line(input);
+        match text_of(cut.line, cut.is_long) {
+            Ok(text) => {
+                let says = command_of(self.alloc, text)?;
+                self.answer_said(says, cut.rest)
+            }
+            Err(fault) => self.answer_said(Err(fault), cut.rest),
+        }
+    }
+}
+
+/// The replies to a text of commands.
+///
+/// # Errors
+/// `Memory` where there is no memory for the replies or for a command's text.
+pub fn replies(alloc: Global, input: &[u8], limits: Limits) -> Result<(Vec<u8>, Summary), Fault>
+    ensures ok { IfOk result (λ r. (b : BookModel) × Replies limits.budget blank input.now r.0.items r.1.refused b) }
+    ensures err { IfErr result (λ f. f ≡ Memory) }
+{
+    let mut engine = Engine {
+        alloc,
+        budget: limits.budget,
+        book: Book::new(alloc),
+        written: Written::new(alloc),
+    };
+    let mut rest = input;
+    'lines: while !rest.is_empty() {
+        rest = engine.answer_first(rest)?;
+    }
+    let Written { text, refused } = engine.written;
+    Ok((text.into_bytes(), Summary { refused }))
+}

@@ -1,0 +1,144 @@
+// Replies, as they are written.
+ghost use Rattle.std.specs.Prelude.{◌≡◌, ◌++◌, [], true, false, OnOk, string_bytes};
+ghost use Rattle.ereader.specs.Shown.{shown};
+ghost use Rattle.book.specs.Fault as book_fault;
+ghost use Rattle.world.specs.View.{world_of};
+ghost use Rattle.turn.specs.View.{ended_of};
+ghost use Rattle.stepper.specs.Commands.{fault_text};
+ghost use Rattle.stepper.specs.Replies.{refused, queued_text, turned_text, end_text, undone_text, redone_text};
+ghost use Rattle.stepper.specs.Listing.{journal_text, cone_text};
+ghost use Rattle.book.specs.EntryView.{lines_of};
+ghost use Rattle.stepper.specs.Show.{Shows};
+
+use crate::command::LineFault;
+use crate::listing::{write_cone, write_journal};
+use crate::show::write_world;
+use book::fault::BookFault;
+use book::journal::Entry;
+use ereader::fault::ReadFault;
+use ids::names::{EventName, MsgId};
+use ids::quote::write_quoted;
+use std::alloc::{AllocError, Global};
+use turn::delivery::Ended;
+use values::showing::write_value;
+use world::world::World;
+
+/// The replies so far, and whether one is a refusal.
+#[derive(Drop)]
+pub struct Written {
+    pub text: String,
+    pub refused: bool,
+}
+
+fn write_end(ended: &Ended, out: &mut String) -> Result<(), AllocError>
+    ensures { OnOk result (string_bytes out.new ≡ string_bytes out.old ++ end_text (ended_of ended.now)) }
+{
+    match ended {
+        Ended::Value(value) => {
+            out.push_str("value ")?;
+            write_value(value, out)
+        }
+        Ended::Problem(problem) => {
+            out.push_str("problem ")?;
+            write_quoted(problem.as_str(), out)
+        }
+        Ended::Abandoned(why) => {
+            out.push_str("abandoned ")?;
+            write_quoted(why.reason(), out)
+        }
+    }
+}
+
+impl Written {
+    ghost use Rattle.stepper.specs.Written.{Adds, AddsText};
+
+    pub fn new(alloc: Global) -> Written
+        ensures text { string_bytes result.text ≡ [] }
+        ensures refused { result.refused ≡ false }
+    {
+        Written {
+            text: String::new(alloc),
+            refused: false,
+        }
+    }
+
+    /// An event happened that made one message.
+    pub fn queued(&mut self, event: EventName) -> Result<(), AllocError>
+        ensures { OnOk result (Adds self.old self.new (queued_text event) false) }
+    {
+        let message = MsgId { event, index: 0 };
+        let out = &mut self.text;
+        write!(out, "ok {event} {message}\n")
+    }
+
+    /// A turn was run.
+    pub fn turned(&mut self, event: EventName, ended: &Ended) -> Result<(), AllocError>
+        ensures { OnOk result (Adds self.old self.new (turned_text event (ended_of ended.now)) false) }
+    {
+        let out = &mut self.text;
+        write!(out, "ok {event} ")?;
+        write_end(ended, out)?;
+        out.push_str("\n")
+    }
+
+    /// The world is shown.
+    pub fn world(&mut self, world: &World) -> Result<(), AllocError>
+        ensures { OnOk result (AddsText self.old self.new (Shows (world_of world.now))) }
+    {
+        write_world(world, &mut self.text)
+    }
+
+    /// The journal is listed.
+    pub fn journal(&mut self, entries: &[Entry]) -> Result<(), AllocError>
+        ensures { OnOk result (Adds self.old self.new (journal_text (lines_of entries.now)) false) }
+    {
+        write_journal(entries, &mut self.text)
+    }
+
+    /// The events of a cone are named.
+    pub fn cone(&mut self, events: &[EventName]) -> Result<(), AllocError>
+        ensures { OnOk result (Adds self.old self.new (cone_text events.now) false) }
+    {
+        write_cone(events, &mut self.text)
+    }
+
+    /// So many entries were undone.
+    pub fn undone(&mut self, count: usize) -> Result<(), AllocError>
+        ensures { OnOk result (Adds self.old self.new (undone_text count) false) }
+    {
+        let out = &mut self.text;
+        write!(out, "ok undone {count}\n")
+    }
+
+    /// So many entries are live again.
+    pub fn redone(&mut self, count: usize) -> Result<(), AllocError>
+        ensures { OnOk result (Adds self.old self.new (redone_text count) false) }
+    {
+        let out = &mut self.text;
+        write!(out, "ok redone {count}\n")
+    }
+
+    pub fn refuse_line(&mut self, fault: LineFault) -> Result<(), AllocError>
+        ensures { OnOk result (Adds self.old self.new (refused (fault_text fault)) true) }
+    {
+        self.refused = true;
+        let out = &mut self.text;
+        write!(out, "no {fault}\n")
+    }
+
+    pub fn refuse_text(&mut self, fault: &ReadFault) -> Result<(), AllocError>
+        ensures { OnOk result (Adds self.old self.new (refused (shown fault.now)) true) }
+    {
+        self.refused = true;
+        let out = &mut self.text;
+        write!(out, "no {fault}\n")
+    }
+
+    pub fn refuse_call(&mut self, fault: &BookFault) -> Result<(), AllocError>
+        ensures { OnOk result (Adds self.old self.new (refused (book_fault.fault_text fault.now)) true) }
+    {
+        self.refused = true;
+        let out = &mut self.text;
+        write!(out, "no {fault}\n")
+    }
+}
