@@ -12,9 +12,9 @@ use Rattle.heap.specs.State.{Nouns}
 use Rattle.eval.specs.At.{At}
 use Rattle.eval.specs.Outcomes.{End, value, Gather}
 use Rattle.eval.specs.Rules.{Target, inside, leaving, enters, target_of, next_ejector, escaping, escape_end, Ends, Runs, run_call_enters, run_escape, Args, Items, Taking}
-use Rattle.heap.specs.View.{nouns_of}
+use Rattle.eval.specs.Locals.{locals_of}
 use Rattle.eval.specs.View.{at, opened_of}
-use Rattle.heap.specs.declared.state.Noun.{Noun}
+use Rattle.eval.specs.declared.local.Local.{Local}
 use Rattle.eval.specs.declared.working.Working.{Working}
 use Rattle.eval.proofs.Opened.{taking_opened}
 use Rattle.eval.proofs.Ejectors.{opened_truncated}
@@ -23,9 +23,9 @@ use Rattle.eval.proofs.Ejectors.{opened_truncated}
 abbrev pub Enters : ℕ → Trees → Nouns → At → End → At → Type 0
 Enters k ts ns a o z = (d : At) × Items k null ts (inside ns a) o d × (z ≡ leaving a d)
 
-pub entered : {k : ℕ} {ts bodies : Trees} {o : End} → bodies ≡ ts → (ns : Nouns) (w u : Working) {b z : At} {names : List Noun} {own : Bool} → names ≡ w.nouns.items → own ≡ w.own_scope → b ≡ inside ns (at w) → Items k null bodies b o (at u)
-    → z ≡ record (at u) { nouns = nouns_of names; own_scope = own } → Enters k ts ns (at w) o z
-entered {k = k} {ts = ts} {o = o} d ns w u {b = b} e f q r h = (at u, subst (λ x. Items k null ts x o (at u)) q (subst (λ us. Items k null us b o (at u)) d r), h ∙ (λ i. record (at u) { nouns = nouns_of (e i); own_scope = f i }))
+pub entered : {k : ℕ} {ts bodies : Trees} {o : End} → bodies ≡ ts → (ns : Nouns) (w u : Working) {b z : At} {names : List Local} {own : Bool} → names ≡ w.nouns.items → own ≡ w.own_scope → b ≡ inside ns (at w) → Items k null bodies b o (at u)
+    → z ≡ record (at u) { nouns = locals_of names; own_scope = own } → Enters k ts ns (at w) o z
+entered {k = k} {ts = ts} {o = o} d ns w u {b = b} e f q r h = (at u, subst (λ x. Items k null ts x o (at u)) q (subst (λ us. Items k null us b o (at u)) d r), h ∙ (λ i. record (at u) { nouns = locals_of (e i); own_scope = f i }))
 
 -- a call that enters a method
 pub call_entered : {k : ℕ} {r : Tree} {verb : Name} {args : Trees} {a b c z : At} {v : Val} {g : Gather} {ns : Nouns} {body : Trees} {o : End} → Ends (k + 1) r a (value v) b → Args (k + 1) args b g c → target_of v verb g c ≡ enters ns body
@@ -48,9 +48,9 @@ escape_over {k = k} {ts = ts} {o = o} x xs w u {q = q} {j = j} {b = b} {z = z} {
 abbrev pub Leads : ℕ → Trees → Val → Name → At → Target → At → Type 0
 Leads k ts v verb a m b = (g : Gather) × Args k ts a g b × (m ≡ target_of v verb g b)
 
-pub call_leads : {X E : Type 0} {k : ℕ} {ts : Trees} {a b : At} {g : Gather} (r : Result X E) (view : X → Target) (v : Val) (verb : Name) → Args k ts a g b → IfOk r (λ x. view x ≡ target_of v verb g b) → IfOk r (λ x. Leads k ts v verb a (view x) b)
-call_leads {g = g} (Ok x) view v verb u h = (g, u, h)
-call_leads (Err e) view v verb u h = tt
+pub call_leads : {X E : Type 0} {k : ℕ} {ts : Trees} {a b z : At} {g : Gather} (r : Result X E) (view : X → Target) (v : Val) (verb : Name) → Args k ts a g b → IfOk r (λ x. view x ≡ target_of v verb g b) → z ≡ b → IfOk r (λ x. Leads k ts v verb a (view x) z)
+call_leads {k = k} {ts = ts} {a = a} {g = g} (Ok x) view v verb u h p = subst (λ z. Leads k ts v verb a (view x) z) (sym p) (g, u, h)
+call_leads (Err e) view v verb u h p = tt
 
 -- the same, where the arguments are known otherwise
 pub leads_as : {X E : Type 0} {ts us : Trees} (r : Result X E) (view : X → Target) (k : ℕ) (v : Val) (verb : Name) (a b : At) → ts ≡ us → IfOk r (λ x. Leads k ts v verb a (view x) b) → IfOk r (λ x. Leads k us v verb a (view x) b)

@@ -19,6 +19,9 @@ use Rattle.heap.specs.State.{Nouns, frame_of}
 use Rattle.heap.specs.Names.{names_of}
 use Rattle.heap.specs.View.{nouns_of}
 use Rattle.heap.proofs.Names.{frame_of_nouns}
+use Rattle.eval.specs.Locals.{local_names, locals_of}
+use Rattle.eval.proofs.Locals.{frame_of_locals}
+use Rattle.eval.specs.declared.local.Local.{Local}
 use Rattle.heap.specs.declared.state.Noun.{Noun}
 use Rattle.eval.specs.At.{At}
 use Rattle.eval.specs.Outcomes.{End, value}
@@ -58,8 +61,8 @@ pub block_fits : {f g : Frame} {ds es : List Code} → ds ≡ es → g ≡ f →
 block_fits {g = g} {es = es} same e h = subst (fits_all false g) (sym same) (subst (λ f. fits_all false f es) (sym e) h)
 
 -- a method's block fits the names that it begins with
-pub entry_fits : (ns : List Noun) (a b : At) {ds es : List Code} → b ≡ inside (nouns_of ns) a → ds ≡ es → fits_all false (names_of ns) es → all_fit_at b ds
-entry_fits ns a b {ds = ds} e same h = subst (λ b. all_fit_at b ds) (sym e) (block_fits same (frame_of_nouns ns) h)
+pub entry_fits : (ns : List Local) (a b : At) {ds es : List Code} → b ≡ inside (locals_of ns) a → ds ≡ es → fits_all false (local_names ns) es → all_fit_at b ds
+entry_fits ns a b {ds = ds} e same h = subst (λ b. all_fit_at b ds) (sym e) (block_fits same (frame_of_locals ns) h)
 
 -- the parts of a While fit at its next round
 pub round_fits : (a b : At) (e : Code) (es : List Code) → b.nouns ≡ a.nouns → b.own_scope ≡ a.own_scope → fits_at a e × fits_all false (frame_behind a e) es → fits_at b e × fits_all false (frame_behind b e) es
@@ -100,13 +103,13 @@ all_named_frame (p ∷ ps) (and_val v vs) ns e =
     ∙ ap (λ xs. frame_of ns ++ xs) (sym (map-append (λ (t : TopName). t.name) (name_of p) (names_of_all ps)))
 
 -- the names that a method begins with
-method_frame : (xs ys : List Noun) (own : Pattern) (i : Val) (ps : List Pattern) (vs : List Value) → nouns_of xs ≡ named_all ps (vals_of vs) (named own i (nouns_of ys)) → length vs ≡ length ps
-    → names_of xs ≡ (names_of ys ++ only_names (name_of own)) ++ only_names (names_of_all ps)
+method_frame : (xs : List Local) (ys : List Noun) (own : Pattern) (i : Val) (ps : List Pattern) (vs : List Value) → locals_of xs ≡ named_all ps (vals_of vs) (named own i (nouns_of ys)) → length vs ≡ length ps
+    → local_names xs ≡ (names_of ys ++ only_names (name_of own)) ++ only_names (names_of_all ps)
 method_frame xs ys own i ps vs e l =
-    sym (frame_of_nouns xs) ∙ ap frame_of e ∙ all_named_frame ps (vals_of vs) (named own i (nouns_of ys)) (as_many-true ps vs l)
+    sym (frame_of_locals xs) ∙ ap frame_of e ∙ all_named_frame ps (vals_of vs) (named own i (nouns_of ys)) (as_many-true ps vs l)
     ∙ ap (λ f. f ++ only_names (names_of_all ps)) (named_frame own i (nouns_of ys) ∙ ap (λ f. f ++ only_names (name_of own)) (frame_of_nouns ys))
 
 -- a method's block fits them
-pub method_fits : {ps qs : List Pattern} {ds es : List Code} (xs ys : List Noun) (own : Pattern) (i : Val) (vs : List Value) → nouns_of xs ≡ named_all qs (vals_of vs) (named own i (nouns_of ys)) → qs ≡ ps → length vs ≡ length ps → ds ≡ es
-    → fits_all false ((names_of ys ++ only_names (name_of own)) ++ only_names (names_of_all ps)) es → fits_all false (names_of xs) ds
+pub method_fits : {ps qs : List Pattern} {ds es : List Code} (xs : List Local) (ys : List Noun) (own : Pattern) (i : Val) (vs : List Value) → locals_of xs ≡ named_all qs (vals_of vs) (named own i (nouns_of ys)) → qs ≡ ps → length vs ≡ length ps → ds ≡ es
+    → fits_all false ((names_of ys ++ only_names (name_of own)) ++ only_names (names_of_all ps)) es → fits_all false (local_names xs) ds
 method_fits {ps = ps} xs ys own i vs e q l same h = block_fits same (method_frame xs ys own i ps vs (e ∙ ap (λ ps. named_all ps (vals_of vs) (named own i (nouns_of ys))) q) l) h

@@ -16,3 +16,4 @@ pub mod Spent
 pub mod Steps
 pub mod Unwritten
 pub mod Drafted
+pub mod Locals

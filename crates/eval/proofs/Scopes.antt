@@ -1,38 +1,34 @@
 -- On the names of scopes, of which the program pushes the newest at the end.
-use Rattle.std.proofs.Common.{◌≡◌, ℕ, ◌+◌, ◌<◌, ltb, arith, List, [], ◌∷◌, ◌++◌, length, take, drop, length-append, length-drop, append_assoc, Option, Some, None, true, false, cond, refl, sym, ap, ◌∙◌}
+use Rattle.std.proofs.Common.{◌≡◌, ℕ, ◌+◌, ◌<◌, ltb, arith, List, [], ◌∷◌, ◌++◌, length, take, drop, length-append, length-drop, append_assoc, Option, Some, None, true, false, refl, sym, ap, ◌∙◌}
 use Rattle.std.specs.Prelude.{Result, Ok, Err, IfOk}
 use Rattle.std.proofs.lemmas.List.{take-append-drop, length-take-le}
 use Rattle.std.proofs.lemmas.Bool.Decides.{nat_tests}
-use Rattle.std.specs.Str.{bytes_eq}
 use Rattle.ids.specs.declared.names.SlotId.{SlotId}
 use Rattle.kernele.specs.Tree.{Name}
 use Rattle.values.specs.Data.{Val}
-use Rattle.heap.specs.State.{Bind, slot, Nouns, lookup, top, slot_cell, bound, held, State, write}
+use Rattle.heap.specs.State.{Bind, slot, Nouns, top, slot_cell, bound, held, State, write}
 use Rattle.eval.specs.At.{At}
 use Rattle.eval.specs.Outcomes.{value}
 use Rattle.eval.specs.Rules.{binding, bound_in, next_slot, slot_made, with_slot, variable_made, declared, assigned}
-use Rattle.heap.specs.View.{bind_of, nouns_of, nouns_after}
-use Rattle.heap.specs.declared.state.Noun.{Noun}
+use Rattle.heap.specs.View.{bind_of}
+use Rattle.eval.specs.Locals.{locals_after, locals_of}
+use Rattle.eval.specs.declared.local.Local.{Local}
 
-nouns_after-append : (ns : Nouns) (xs ys : List Noun) → nouns_after ns (xs ++ ys) ≡ nouns_after (nouns_after ns xs) ys
-nouns_after-append ns [] ys = refl
-nouns_after-append ns (x ∷ xs) ys = nouns_after-append ((x.name, bind_of x.binding) ∷ ns) xs ys
+locals_after-append : (ns : Nouns) (xs ys : List Local) → locals_after ns (xs ++ ys) ≡ locals_after (locals_after ns xs) ys
+locals_after-append ns [] ys = refl
+locals_after-append ns (x ∷ xs) ys = locals_after-append ((x.name.value, bind_of x.binding) ∷ ns) xs ys
 
 -- the newest name is the last one pushed
-pub nouns_of-push : (xs : List Noun) (n : Noun) → nouns_of (xs ++ n ∷ []) ≡ ((n.name, bind_of n.binding) ∷ nouns_of xs)
-nouns_of-push xs n = nouns_after-append [] xs (n ∷ [])
-
--- the newest name is the one that is sought
-pub find_here : (xs older : List Noun) (n : Noun) (x : Name) → xs ≡ older ++ n ∷ [] → bytes_eq n.name x ≡ true → Some (bind_of n.binding) ≡ lookup (nouns_of xs) x
-find_here xs older n x e t = sym (ap (λ ys. lookup (nouns_of ys) x) e ∙ ap (λ ns. lookup ns x) (nouns_of-push older n) ∙ ap (λ b. cond b (Some (bind_of n.binding)) (lookup (nouns_of older) x)) t)
-
--- the newest name is another one
-pub find_on : (xs older : List Noun) (n : Noun) (x : Name) → xs ≡ older ++ n ∷ [] → bytes_eq n.name x ≡ false → lookup (nouns_of older) x ≡ lookup (nouns_of xs) x
-find_on xs older n x e t = sym (ap (λ ys. lookup (nouns_of ys) x) e ∙ ap (λ ns. lookup ns x) (nouns_of-push older n) ∙ ap (λ b. cond b (Some (bind_of n.binding)) (lookup (nouns_of older) x)) t)
+pub locals_of-push : (xs : List Local) (n : Local) → locals_of (xs ++ n ∷ []) ≡ ((n.name.value, bind_of n.binding) ∷ locals_of xs)
+locals_of-push xs n = locals_after-append [] xs (n ∷ [])
 
 -- in the script's own scope a name is bound by a write of its cell
 pub bound_on_top : (x : Name) (b : Bind) (a : At) (s : State) → a.own_scope ≡ true → s ≡ write a.state (top x) (bound b) → record a { state = s } ≡ binding x b a
 bound_on_top x b a s h e = ap (λ u. record a { state = u }) e ∙ sym (ap (λ o. bound_in o x b a) h)
+
+-- in any other scope it is the newest name
+pub bound_inside : (x : Name) (b : Bind) (a : At) (ns : Nouns) → a.own_scope ≡ false → ns ≡ ((x, b) ∷ a.nouns) → record a { nouns = ns } ≡ binding x b a
+bound_inside x b a ns h e = ap (λ ms. record a { nouns = ms }) e ∙ sym (ap (λ o. bound_in o x b a) h)
 
 -- what holds anyway holds of what was returned
 pub if_any : {X E P : Type 0} (r : Result X E) → P → IfOk r (λ x. P)
@@ -55,15 +51,15 @@ pub declared_there : (x : Name) (v w : Val) (i : SlotId) (a b c : At) → a.slot
 declared_there x v w i a b c h p q e f =
     f ∙ (λ j. binding x (slot (q j)) (e j)) ∙ ap (λ u. with_slot x u a) p ∙ sym (ap (λ r. variable_made r x v a) (room a.slots h))
 
-nouns_after-split : (ns : Nouns) (xs : List Noun) → nouns_after ns xs ≡ nouns_of xs ++ ns
-nouns_after-split ns [] = refl
-nouns_after-split ns (x ∷ xs) =
-    nouns_after-split ((x.name, bind_of x.binding) ∷ ns) xs
-    ∙ sym (ap (λ ms. ms ++ ns) (nouns_after-split ((x.name, bind_of x.binding) ∷ []) xs) ∙ append_assoc (nouns_of xs) ((x.name, bind_of x.binding) ∷ []) ns)
+locals_after-split : (ns : Nouns) (xs : List Local) → locals_after ns xs ≡ locals_of xs ++ ns
+locals_after-split ns [] = refl
+locals_after-split ns (x ∷ xs) =
+    locals_after-split ((x.name.value, bind_of x.binding) ∷ ns) xs
+    ∙ sym (ap (λ ms. ms ++ ns) (locals_after-split ((x.name.value, bind_of x.binding) ∷ []) xs) ∙ append_assoc (locals_of xs) ((x.name.value, bind_of x.binding) ∷ []) ns)
 
-length-nouns_of : (xs : List Noun) → length (nouns_of xs) ≡ length xs
-length-nouns_of [] = refl
-length-nouns_of (x ∷ xs) = ap length (nouns_after-split ((x.name, bind_of x.binding) ∷ []) xs) ∙ omega (arith, length-append (nouns_of xs) ((x.name, bind_of x.binding) ∷ []), length-nouns_of xs)
+length-locals_of : (xs : List Local) → length (locals_of xs) ≡ length xs
+length-locals_of [] = refl
+length-locals_of (x ∷ xs) = ap length (locals_after-split ((x.name.value, bind_of x.binding) ∷ []) xs) ∙ omega (arith, length-append (locals_of xs) ((x.name.value, bind_of x.binding) ∷ []), length-locals_of xs)
 
 -- lists that end alike, from equal lengths on
 pub same_end : {A : Type 0} (ps qs ss ts : List A) → ps ++ ss ≡ qs ++ ts → length ps ≡ length qs → ss ≡ ts
@@ -73,15 +69,15 @@ same_end (p ∷ ps) [] ss ts e h = absurd (omega arith)
 same_end (p ∷ ps) (q ∷ qs) ss ts e h = same_end ps qs ss ts (cc) (omega arith)
 
 -- the names that were there before others were added
-pub truncated : (xs ys : List Noun) (n : ℕ) → n ≡ length xs → (more : Nouns) × (nouns_of ys ≡ more ++ nouns_of xs) → nouns_of (take n ys) ≡ nouns_of xs
+pub truncated : (xs ys : List Local) (n : ℕ) → n ≡ length xs → (more : Nouns) × (locals_of ys ≡ more ++ locals_of xs) → locals_of (take n ys) ≡ locals_of xs
 truncated xs ys n e g =
-    let whole : nouns_of ys ≡ nouns_of (drop n ys) ++ nouns_of (take n ys) = ap nouns_of (sym (take-append-drop n ys)) ∙ nouns_after-append [] (take n ys) (drop n ys) ∙ nouns_after-split (nouns_of (take n ys)) (drop n ys) in
-    let l1 : length (nouns_of ys) ≡ length g.0 + length (nouns_of xs) = ap length g.1 ∙ length-append g.0 (nouns_of xs) in
-    same_end (nouns_of (drop n ys)) g.0 (nouns_of (take n ys)) (nouns_of xs) (sym whole ∙ g.1)
-    (omega (arith, l1, e, length-nouns_of xs, length-nouns_of ys, length-nouns_of (drop n ys), length-drop n ys))
+    let whole : locals_of ys ≡ locals_of (drop n ys) ++ locals_of (take n ys) = ap locals_of (sym (take-append-drop n ys)) ∙ locals_after-append [] (take n ys) (drop n ys) ∙ locals_after-split (locals_of (take n ys)) (drop n ys) in
+    let l1 : length (locals_of ys) ≡ length g.0 + length (locals_of xs) = ap length g.1 ∙ length-append g.0 (locals_of xs) in
+    same_end (locals_of (drop n ys)) g.0 (locals_of (take n ys)) (locals_of xs) (sym whole ∙ g.1)
+    (omega (arith, l1, e, length-locals_of xs, length-locals_of ys, length-locals_of (drop n ys), length-drop n ys))
 
 -- as many as there were
-pub truncated-length : (xs ys : List Noun) (n : ℕ) → n ≡ length xs → (more : Nouns) × (nouns_of ys ≡ more ++ nouns_of xs) → n ≡ length (take n ys)
+pub truncated-length : (xs ys : List Local) (n : ℕ) → n ≡ length xs → (more : Nouns) × (locals_of ys ≡ more ++ locals_of xs) → n ≡ length (take n ys)
 truncated-length xs ys n e g =
-    let l1 : length (nouns_of ys) ≡ length g.0 + length (nouns_of xs) = ap length g.1 ∙ length-append g.0 (nouns_of xs) in
-    sym (length-take-le n ys (omega (arith, l1, e, length-nouns_of xs, length-nouns_of ys)))
+    let l1 : length (locals_of ys) ≡ length g.0 + length (locals_of xs) = ap length g.1 ∙ length-append g.0 (locals_of xs) in
+    sym (length-take-le n ys (omega (arith, l1, e, length-locals_of xs, length-locals_of ys)))

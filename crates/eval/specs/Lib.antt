@@ -6,3 +6,4 @@ pub mod View
 pub mod Touched
 pub mod Laws
 pub mod Leaves
+pub mod Locals

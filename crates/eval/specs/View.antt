@@ -3,6 +3,7 @@ use Rattle.std.specs.Prelude.{List, [], ◌∷◌}
 use Rattle.ids.specs.declared.names.EjId.{EjId}
 use Rattle.values.specs.View.{val_of, vals_of}
 use Rattle.eval.specs.At.{At}
+use Rattle.eval.specs.Locals.{locals_of}
 use Rattle.heap.specs.View.{nouns_of}
 use Rattle.heap.specs.Drafts.{draft_of, counts_of}
 use Rattle.eval.specs.Outcomes.{Cause, budget_spent, too_deep, too_large, Halt, thrown, ejected, abandoned, End, value, halt, Gather, values, halted}
@@ -56,7 +57,7 @@ opened_of items = ejectors_after [] items
 
 -- where the program stands
 abbrev pub at : Working → At
-at w = record { nouns = nouns_of w.nouns.items; own_scope = w.own_scope; state = draft_of w.draft; left = w.steps; event = (counts_of w.draft).event; vat = (counts_of w.draft).vat; slots = (counts_of w.draft).slots; objects = (counts_of w.draft).objects; ejectors = w.ejectors; opened = opened_of w.opened.items }
+at w = record { nouns = locals_of w.nouns.items; own_scope = w.own_scope; state = draft_of w.draft; left = w.steps; event = (counts_of w.draft).event; vat = (counts_of w.draft).vat; slots = (counts_of w.draft).slots; objects = (counts_of w.draft).objects; ejectors = w.ejectors; opened = opened_of w.opened.items }
 
 -- what a condition leads to, and what stands where a list is wanted
 abbrev pub choice_view : Choosing → Choice
@@ -80,4 +81,4 @@ callee_view code-callees.Datum = on_datum
 
 abbrev pub target_view : code-target.Target → Target
 target_view (code-targets.Gives e) = gives (end_of e)
-target_view (code-targets.Enters e) = enters (nouns_of e.nouns.items) (trees_of_codes e.body.value.items)
+target_view (code-targets.Enters e) = enters (locals_of e.nouns.items) (trees_of_codes e.body.value.items)

@@ -1,7 +1,7 @@
 // Scopes of blocks: their names end with them.
 ghost use Rattle.std.specs.Prelude.{◌≡◌, length, take};
 ghost use Rattle.eval.specs.Rules.{entering};
-ghost use Rattle.heap.specs.View.{nouns_of};
+ghost use Rattle.eval.specs.Locals.{locals_of};
 ghost use Rattle.eval.specs.View.{at};
 
 use crate::working::Working;
@@ -30,7 +30,7 @@ pub fn enter(w: &mut Working) -> Outer
 
 /// Ends a block's scope.
 pub fn leave(w: &mut Working, outer: Outer)
-    ensures { at w.new ≡ record (at w.old) { nouns = nouns_of (take outer.names w.old.nouns.items); own_scope = outer.own_scope } }
+    ensures { at w.new ≡ record (at w.old) { nouns = locals_of (take outer.names w.old.nouns.items); own_scope = outer.own_scope } }
 {
     w.nouns.truncate(outer.names);
     w.own_scope = outer.own_scope;

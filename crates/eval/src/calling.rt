@@ -9,7 +9,7 @@ ghost use Rattle.eval.specs.At.{At};
 ghost use Rattle.eval.specs.Outcomes.{Gather};
 ghost use Rattle.values.specs.View.{val_of};
 ghost use Rattle.eval.specs.Rules.{Runs, Args, Items, inside, leaving, target_of};
-ghost use Rattle.heap.specs.View.{nouns_of};
+ghost use Rattle.eval.specs.Locals.{locals_of};
 ghost use Rattle.eval.specs.View.{at, end_of, target_view};
 
 use crate::calls::{call_target, enter_method, leave_method, value_target};
@@ -126,7 +126,7 @@ fn eval_with_one(
 #[cycle(evaluate)]
 fn eval_method(w: &mut Working, entry: Entry, level: u32) -> Result<End, AllocError>
     requires { level ≤ 1001 }
-    ensures { IfOk result (λ o. (d : At) × Items level null (trees_of_codes entry.body.value.items) (inside (nouns_of entry.nouns.items) (at w.old)) (end_of o) d
+    ensures { IfOk result (λ o. (d : At) × Items level null (trees_of_codes entry.body.value.items) (inside (locals_of entry.nouns.items) (at w.old)) (end_of o) d
         × (at w.new ≡ leaving (at w.old) d)) }
 {
     let Entry { nouns, body } = entry;

@@ -12,6 +12,7 @@ pub mod end;
 pub mod entry;
 pub mod escapes;
 pub mod eval;
+pub mod local;
 pub mod nouns;
 pub mod objects;
 mod quick;

@@ -15,14 +15,16 @@ ghost use Rattle.heap.specs.Drafts.{draft_of};
 ghost use Rattle.eval.specs.View.{at, end_of};
 
 use crate::end::{Abandon, End, Halt};
+use crate::local::Local;
 use crate::wanted::mismatch;
 use crate::working::Working;
 use code::code::Place;
-use heap::state::{Binding, Noun};
+use heap::state::Binding;
 use ids::names::SlotId;
 use ids::text::Text;
 use kernele::tree::Pattern;
 use std::alloc::{AllocError, Global};
+use std::snapshot::Snapshot;
 use values::value::Value;
 
 /// How many slots a turn may make.
@@ -140,11 +142,11 @@ fn match_all(w: &mut Working, patterns: &[Pattern], values: &[Value]) -> Result<
 fn bind(w: &mut Working, name: &Text, binding: Binding) -> Result<(), AllocError>
     ensures { OnOk result (at w.new ≡ binding_of name.now (bind_of binding) (at w.old)) }
 {
-    let name = name.share()?;
     if w.own_scope {
-        w.draft.bind_top(name, binding)
+        w.draft.bind_top(name.share()?, binding)
     } else {
-        w.nouns.push(Noun { name, binding })?;
+        let name = Snapshot::of(name);
+        w.nouns.push(Local { name, binding })?;
         Ok(())
     }
 }

@@ -15,10 +15,13 @@ ghost use Rattle.eval.specs.Rules.{with_object, object_end, named, named_all, me
 ghost use Rattle.eval.specs.Rules.{method_target as method_target_of, object_target as object_target_of};
 ghost use Rattle.heap.specs.View.{bind_of, nouns_of, object_of};
 ghost use Rattle.heap.specs.Drafts.{draft_of};
+ghost use Rattle.eval.specs.Locals.{locals_of};
 ghost use Rattle.eval.specs.View.{at, capture_view, end_of, target_view};
 
+use crate::calls::empty_frame;
 use crate::end::{Abandon, End, Halt};
 use crate::entry::Entry;
+use crate::local::Local;
 use crate::nouns::{match_pattern, seek, undefined};
 use crate::results::no_such_method;
 use crate::working::Working;
@@ -29,6 +32,7 @@ use ids::names::ObjId;
 use ids::text::Text;
 use kernele::tree::Pattern;
 use std::alloc::{AllocError, Global};
+use std::snapshot::Snapshot;
 use std::sync::Arc;
 use values::value::Value;
 use values::verb::Verb;
@@ -90,7 +94,7 @@ fn capture_all(w: &Working, captures: &[CaptureCode]) -> Result<Capture, AllocEr
     Ok(Capture::Captured(nouns))
 }
 
-/// Adds a newer name.
+/// Adds a newer name to those that are captured.
 fn add_noun(nouns: &mut Vec<Noun>, name: &Text, binding: Binding) -> Result<(), AllocError>
     ensures { OnOk result (nouns_of nouns.new.items ≡ (name.now, bind_of binding) ∷ nouns_of nouns.old.items) }
 {
@@ -127,35 +131,39 @@ fn place(
 
 /// What a call on an object leads to.
 pub fn object_target(
-    w: &Working,
+    w: &mut Working,
     id: ObjId,
     verb: &Verb,
     args: &[Value],
 ) -> Result<Target, AllocError>
-    ensures { IfOk result (λ t. target_view t
-        ≡ object_target_of id (read (draft_of w.now.draft) (object_cell id)) verb.now (vals_of args.now)) }
+    ensures target { IfOk result (λ t. target_view t
+        ≡ object_target_of id (read (draft_of w.old.draft) (object_cell id)) verb.now (vals_of args.now)) }
+    ensures place { at w.new ≡ at w.old }
 {
+    let frame = empty_frame(w);
     match w.draft.object(id) {
-        Some(object) => method_target(w.alloc, id, object, verb, args),
+        Some(object) => method_target(w.alloc, frame, id, object, verb, args),
         None => Ok(Target::Gives(no_such_method(w.alloc, verb, args)?)),
     }
 }
 
-/// The method that a call on this object enters, with the names that it begins with.
+/// The method that a call on this object enters, with the names that it begins with, in an empty frame.
 fn method_target(
     alloc: Global,
+    frame: Vec<Local>,
     id: ObjId,
     object: &Made,
     verb: &Verb,
     args: &[Value],
 ) -> Result<Target, AllocError>
+    requires { frame.items ≡ [] }
     ensures { IfOk result (λ t. target_view t
         ≡ method_target_of id (object_of object.now) verb.now (vals_of args.now)
         (method_in (methods_of_codes object.now.methods.value.items) verb.now (vals_of args.now))) }
 {
     match find_method(object.methods.as_slice(), verb, args) {
         Some(method) => {
-            let nouns = method_nouns(alloc, id, object, method.parameters.as_slice(), args)?;
+            let nouns = method_nouns(frame, id, object, method.parameters.as_slice(), args)?;
             let body = Arc::try_clone(&method.body)?;
             Ok(Target::Enters(Entry { nouns, body }))
         }
@@ -183,17 +191,18 @@ fn find_method<'a>(methods: &'a [MethodCode], verb: &Verb, args: &[Value]) -> Op
 
 /// The names that a method begins with: the object's, its own, and the parameters.
 fn method_nouns(
-    alloc: Global,
+    frame: Vec<Local>,
     id: ObjId,
     object: &Made,
     parameters: &[Pattern],
     args: &[Value],
-) -> Result<Vec<Noun>, AllocError>
-    requires { length args.now ≡ length parameters.now }
-    ensures { IfOk result (λ ns. nouns_of ns.items ≡ named_all parameters.now (vals_of args.now)
+) -> Result<Vec<Local>, AllocError>
+    requires empty { frame.items ≡ [] }
+    requires count { length args.now ≡ length parameters.now }
+    ensures { IfOk result (λ ns. locals_of ns.items ≡ named_all parameters.now (vals_of args.now)
         (named object.now.own (object_value id) (nouns_of object.now.captured.value.items))) }
 {
-    let mut nouns = copied(alloc, object.captured.as_slice())?;
+    let mut nouns = copied(frame, object.captured.as_slice())?;
     name_value(&mut nouns, &object.own, &Value::Object(id))?;
     for i in 0..parameters.len() {
         name_value(&mut nouns, &parameters[i], &args[i])?;
@@ -201,23 +210,32 @@ fn method_nouns(
     Ok(nouns)
 }
 
-/// The same names, with what they stand for shared.
-fn copied(alloc: Global, nouns: &[Noun]) -> Result<Vec<Noun>, AllocError>
-    ensures { IfOk result (λ ns. nouns_of ns.items ≡ nouns_of nouns.now) }
+/// The same names in an empty frame, with what they stand for shared.
+fn copied(mut frame: Vec<Local>, nouns: &[Noun]) -> Result<Vec<Local>, AllocError>
+    requires { frame.items ≡ [] }
+    ensures { IfOk result (λ ns. locals_of ns.items ≡ nouns_of nouns.now) }
 {
-    let mut copy = Vec::new(alloc);
     for noun in nouns {
-        add_noun(&mut copy, &noun.name, noun.binding.share()?)?;
+        add_local(&mut frame, &noun.name, noun.binding.share()?)?;
     }
-    Ok(copy)
+    Ok(frame)
 }
 
 /// Adds what a pattern names.
-fn name_value(nouns: &mut Vec<Noun>, pattern: &Pattern, value: &Value) -> Result<(), AllocError>
-    ensures { OnOk result (nouns_of nouns.new.items ≡ named pattern.now (val_of value.now) (nouns_of nouns.old.items)) }
+fn name_value(nouns: &mut Vec<Local>, pattern: &Pattern, value: &Value) -> Result<(), AllocError>
+    ensures { OnOk result (locals_of nouns.new.items ≡ named pattern.now (val_of value.now) (locals_of nouns.old.items)) }
 {
     match pattern {
-        Pattern::Name(name) => add_noun(nouns, name, Binding::Fixed(value.share()?)),
+        Pattern::Name(name) => add_local(nouns, name, Binding::Fixed(value.share()?)),
         Pattern::Ignore => Ok(()),
     }
+}
+
+/// Adds a newer name to a frame.
+fn add_local(nouns: &mut Vec<Local>, name: &Text, binding: Binding) -> Result<(), AllocError>
+    ensures { OnOk result (locals_of nouns.new.items ≡ (name.now, bind_of binding) ∷ locals_of nouns.old.items) }
+{
+    let name = Snapshot::of(name);
+    nouns.push(Local { name, binding })?;
+    Ok(())
 }

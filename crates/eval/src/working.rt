@@ -1,8 +1,8 @@
 // What a turn works on.
 ghost use Rattle.std.specs.Prelude.{◌+◌, ◌≤◌};
 
+use crate::local::Local;
 use heap::draft::Draft;
-use heap::state::Noun;
 use ids::names::EjId;
 use std::alloc::Global;
 
@@ -15,7 +15,9 @@ pub struct Working {
     /// Whether the innermost scope is the script's own.
     pub own_scope: bool,
     /// The names of the scopes entered so far, the newest last.
-    pub nouns: Vec<Noun>,
+    pub nouns: Vec<Local>,
+    /// Emptied frames, which the methods that are entered next can have.
+    pub spare: Vec<Vec<Local>>,
     /// The steps left.
     pub steps: u32,
     /// How many ejectors the turn has made: no more than the steps that it has taken, so that they can be counted.

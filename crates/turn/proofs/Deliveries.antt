@@ -15,14 +15,14 @@ use Rattle.eval.specs.Rules.{Items}
 use Rattle.turn.specs.Turn.{opening, asked, Delivers, opens, asks, Outcome, outcome, settled, start, kept}
 use Rattle.kernele.specs.View.{program_of}
 use Rattle.kernele.specs.declared.tree.Program.{Program}
-use Rattle.heap.specs.View.{nouns_of}
+use Rattle.eval.specs.Locals.{locals_of}
 use Rattle.eval.specs.View.{opened_of}
 use Rattle.turn.specs.View.{delivery_of, ended_of, outcome_of}
 use Rattle.turn.specs.declared.delivery.Ended.{Ended}
 use Rattle.turn.specs.declared.delivery.Ended.TheVariants as ended
 use Rattle.eval.specs.declared.end.Abandon.{Abandon}
 use Rattle.values.specs.declared.value.Value.{Value}
-use Rattle.heap.specs.declared.state.Noun.{Noun}
+use Rattle.eval.specs.declared.local.Local.{Local}
 use Rattle.turn.specs.declared.delivery.Delivery as code
 use Rattle.turn.specs.declared.delivery.Delivery.TheVariants as delivery
 use Rattle.turn.specs.declared.delivery.Outcome as code-outcome
@@ -32,11 +32,11 @@ abbrev pub Completes : Trees → Bool → EventName → VatNo → State → ℕ 
 Completes ts own e v s n r = (o : End) × (b : At) × Items 1 null ts (start own e v s n) o b × (r ≡ outcome s (settled o) b)
 
 -- a program's items, begun where the program stands
-pub program_items : {us ts : Trees} {ns : List Noun} {js : List EjId} {own : Bool} {e : EventName} {v : VatNo} {s t : State} {m : Counts} {n : ℕ} {o : End} {b : At} → us ≡ ts → ns ≡ [] → js ≡ [] → s ≡ t → m ≡ record { event = e; vat = v; slots = 0; objects = 0 }
-    → Items 1 null us (record { nouns = nouns_of ns; own_scope = own; state = s; left = n; event = m.event; vat = m.vat; slots = m.slots; objects = m.objects; ejectors = 0; opened = opened_of js }) o b → Items 1 null ts (start own e v t n) o b
+pub program_items : {us ts : Trees} {ns : List Local} {js : List EjId} {own : Bool} {e : EventName} {v : VatNo} {s t : State} {m : Counts} {n : ℕ} {o : End} {b : At} → us ≡ ts → ns ≡ [] → js ≡ [] → s ≡ t → m ≡ record { event = e; vat = v; slots = 0; objects = 0 }
+    → Items 1 null us (record { nouns = locals_of ns; own_scope = own; state = s; left = n; event = m.event; vat = m.vat; slots = m.slots; objects = m.objects; ejectors = 0; opened = opened_of js }) o b → Items 1 null ts (start own e v t n) o b
 program_items {us = us} {ns = ns} {js = js} {own = own} {s = s} {m = m} {n = n} {o = o} {b = b} p q z r x h =
-    let from : Trees → List Noun → List EjId → State → Counts → Type 0 =
-    λ us ns js s m. Items 1 null us (record { nouns = nouns_of ns; own_scope = own; state = s; left = n; event = m.event; vat = m.vat; slots = m.slots; objects = m.objects; ejectors = 0; opened = opened_of js }) o b in
+    let from : Trees → List Local → List EjId → State → Counts → Type 0 =
+    λ us ns js s m. Items 1 null us (record { nouns = locals_of ns; own_scope = own; state = s; left = n; event = m.event; vat = m.vat; slots = m.slots; objects = m.objects; ejectors = 0; opened = opened_of js }) o b in
     subst (λ (f : Type 0). f) (λ i. from (p i) (q i) (z i) (r i) (x i)) h
 
 pub opened : {d : code.Delivery} {p : Program} {e : EventName} {v : VatNo} {s : State} {n : ℕ} (r : code-outcome.Outcome) → d ≡ delivery.Opening p → Completes (program_of p) true e v s n (outcome_of r) → Delivers (delivery_of d) e v s n (outcome_of r)
@@ -65,6 +65,6 @@ pub keeps_old : (d : Ended) (why : Abandon) (s t u : State) → d ≡ ended.Aban
 keeps_old d why s t u h e = e ∙ sym (ap (λ x. kept (ended_of x) s t) h)
 
 -- a resolved program fits where its turn begins
-pub program_fits : {own was : Bool} {ns : List Noun} {ds es : List Code} → was ≡ own → ns ≡ [] → ds ≡ es → fits_all was [] es → fits_all own (frame_of (nouns_of ns)) ds
+pub program_fits : {own was : Bool} {ns : List Local} {ds es : List Code} → was ≡ own → ns ≡ [] → ds ≡ es → fits_all was [] es → fits_all own (frame_of (locals_of ns)) ds
 program_fits {own = own} {ns = ns} {es = es} e n same h =
-    subst (fits_all own (frame_of (nouns_of ns))) (sym same) (subst (λ ms. fits_all own (frame_of (nouns_of ms)) es) (sym n) (subst (λ own. fits_all own [] es) e h))
+    subst (fits_all own (frame_of (locals_of ns))) (sym same) (subst (λ ms. fits_all own (frame_of (locals_of ms)) es) (sym n) (subst (λ own. fits_all own [] es) e h))

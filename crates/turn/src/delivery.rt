@@ -103,6 +103,7 @@ fn run_program(
         draft: Draft::new(state.try_copy()?, event, vat),
         own_scope,
         nouns: Vec::new(alloc),
+        spare: Vec::new(alloc),
         steps: budget,
         ejectors: 0,
         opened: Vec::new(alloc),

@@ -16,7 +16,7 @@ use Rattle.code.proofs.Fitting.{fits-Call, fits-List, fits-Hide, fits-If, fits-W
 use Rattle.code.specs.Frames.{only_names}
 use Rattle.kernele.specs.Scope.{name_of}
 use Rattle.heap.specs.State.{frame_of}
-use Rattle.heap.specs.View.{nouns_of}
+use Rattle.eval.specs.Locals.{locals_of}
 use Rattle.eval.specs.Fits.{fits_at, all_fit_at}
 use Rattle.eval.proofs.Grown.{round_grow}
 use Rattle.eval.proofs.Spent.{condition_less, block_left}
@@ -194,7 +194,7 @@ control::eval_while-rounds-preserved t c =
     let g = round_grow c.in_ok-tested.ensures c.in_ok-ended.ensures in (
       λ o b h. c.rounds.invariant.0 _ _ (run_while_again (child c.deref.ensures refl c.in_ok-tested.ensures) (sym c.in_ok-choice.ensures ∙ ap choice_view c.in-Goes.is ∙ ap goes c.if-not-truth.false) (block_ending (slice_of c.deref-in-rounds-2.ensures.value c.deref-in-rounds.ensures) c.in_default.ensures.1 c.in_ok-ended.ensures) (next_round c.rounds.w c.eval_block.new.w c.rounds.invariant.1 g c.truncate.ensures.items h)),
       truncated-length c.rounds.w.nouns.items c.eval_block.new.w.nouns.items c.len-names.result c.rounds.invariant.1 g ∙ ap length (sym c.truncate.ensures.items),
-      round_fits (at c.rounds.w) (record (at c.eval_block.new.w) { nouns = nouns_of c.truncate.new.self.items }) c.args.condition.now.value c.args.body.now.value.items (ap nouns_of c.truncate.ensures.items ∙ truncated c.rounds.w.nouns.items c.eval_block.new.w.nouns.items c.len-names.result c.rounds.invariant.1 g)
+      round_fits (at c.rounds.w) (record (at c.eval_block.new.w) { nouns = locals_of c.truncate.new.self.items }) c.args.condition.now.value c.args.body.now.value.items (ap locals_of c.truncate.ensures.items ∙ truncated c.rounds.w.nouns.items c.eval_block.new.w.nouns.items c.len-names.result c.rounds.invariant.1 g)
           ((block_stays c.in_ok-ended.ensures).1 ∙ (goes_add c.in_ok-tested.ensures (sym c.in_ok-choice.ensures ∙ ap choice_view c.in-Goes.is)).1) c.rounds.invariant.2,
     )
 
@@ -311,10 +311,10 @@ calling::eval_target-returns-then-args-eq1 t c =
     leads_as c.eval_with_one.result target_view c.args.level (val_of c.args.receiver) c.args.verb.now (at c.args.w.now) (at c.eval_with_one.new.w) (ap trees_of_codes (only_one c.args.args.now c.index-args-0.result (search rules) c.index-args-0.is)) c.eval_with_one.ensures
 
 pub calling::eval_target-returns : goal.calling::eval_target-returns
-calling::eval_target-returns t c = call_leads c.call_target.result target_view (val_of c.args.receiver) c.args.verb.now c.in_ok-gathered.ensures c.call_target.ensures
+calling::eval_target-returns t c = call_leads c.call_target.result target_view (val_of c.args.receiver) c.args.verb.now c.in_ok-gathered.ensures c.call_target.ensures.target c.call_target.ensures.place
 
 pub calling::eval_with_one-returns-in-Value : goal.calling::eval_with_one-returns-in-Value
-calling::eval_with_one-returns-in-Value t c = call_leads c.value_target.result target_view (val_of c.args.receiver.now) c.args.verb.now (one_arg c.from_ref.ensures.value (child refl c.in-Value.is c.in_ok-value.ensures)) c.value_target.ensures
+calling::eval_with_one-returns-in-Value t c = call_leads c.value_target.result target_view (val_of c.args.receiver.now) c.args.verb.now (one_arg c.from_ref.ensures.value (child refl c.in-Value.is c.in_ok-value.ensures)) c.value_target.ensures.target c.value_target.ensures.place
 
 pub calling::eval_with_one-returns-in-Halt : goal.calling::eval_with_one-returns-in-Halt
 calling::eval_with_one-returns-in-Halt t c = (halted (halt_of c.in-Halt.halt), args_halt (child refl c.in-Halt.is c.in_ok-value.ensures), refl)

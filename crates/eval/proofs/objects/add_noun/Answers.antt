@@ -1,5 +1,5 @@
 use Rattle.std.proofs.Common.{rules}
-use Rattle.eval.proofs.Scopes.{nouns_of-push}
+use Rattle.eval.proofs.Locals.{nouns_of-push}
 use Rattle.eval.proofs.objects.add_noun.Goals as goal
 
 pub returns : goal.returns

@@ -12,4 +12,4 @@ eval_items-requires c = record { level = search rules; fits = program_fits c.in_
 pub returns : goal.returns
 returns c =
     let items = ap trees_of_codes (slice_of c.deref-2.ensures.value c.deref.ensures) ∙ c.in_ok-resolved.ensures.program in
-    IfOk-weaker c.finish.result _ _ (λ r h. completed {r = outcome_of r} (program_items items c.new-2.ensures.items c.new-3.ensures.items (c.new.ensures.state ∙ c.in_ok-try_copy.ensures) c.new.ensures.counts c.in_ok-end.ensures) h) c.finish.ensures
+    IfOk-weaker c.finish.result _ _ (λ r h. completed {r = outcome_of r} (program_items items c.new-2.ensures.items c.new-4.ensures.items (c.new.ensures.state ∙ c.in_ok-try_copy.ensures) c.new.ensures.counts c.in_ok-end.ensures) h) c.finish.ensures
