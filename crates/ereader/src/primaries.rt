@@ -37,7 +37,7 @@ impl<'a> Reader<'a> {
         ensures shorter { OnOk result (Advances self.old self.new) }
     {
         let first = self.expression(left)?;
-        let mut items = vec![in self.alloc; first]?;
+        let mut items = nodes::one(self.alloc, first)?;
         'more: while self.at_comma() {
             self.skip();
             let item = self.expression(left)?;
