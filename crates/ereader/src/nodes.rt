@@ -16,8 +16,8 @@ use kernele::tree::{Expr, Method, Pattern};
 use std::alloc::Global;
 use std::sync::Arc;
 
-/// A vector of one item.
-pub fn one<T: Drop>(alloc: Global, item: T) -> Result<Vec<T>, Stop>
+/// A vector of one expression.
+pub fn one(alloc: Global, item: Expr) -> Result<Vec<Expr>, Stop>
     ensures ok { IfOk result (λ items. items.items ≡ item ∷ []) }
     ensures err { IfErr result (λ e. e ≡ stop.Memory) }
 {
@@ -310,6 +310,6 @@ pub fn function(
     let verb = Text::new(alloc, "run")?;
     let body = returning(alloc, body)?;
     let run = method(alloc, verb, parameters, body)?;
-    let methods = one(alloc, run)?;
+    let methods = vec![in alloc; run]?;
     object(alloc, pattern, methods)
 }

@@ -128,6 +128,7 @@ impl<'a> Reader<'a> {
     {
         let inner = self.expr(left)?;
         if !self.at_close(Bracket::Round) {
+            drop(inner);
             return Err(Stop::Unexpected);
         }
         self.skip();

@@ -5,7 +5,6 @@ ghost use Rattle.ereader.specs.Reading.{rest_of};
 ghost use Rattle.ereader.specs.View.{left_of, Advances, IsNoLonger, GivesPlain, GivesPatterns, GivesPlace};
 
 use crate::fault::Stop;
-use crate::nodes;
 use crate::operator::{Bracket, Target};
 use etoken::token::{Placed, Sign, Token};
 use ids::text::Text;
@@ -76,7 +75,7 @@ impl<'a> Reader<'a> {
         ensures shorter { OnOk result (Advances self.old self.new) }
     {
         let first = self.pattern()?;
-        let mut patterns = nodes::one(self.alloc, first)?;
+        let mut patterns = vec![in self.alloc; first]?;
         'more: while self.at_comma() {
             self.skip();
             let pattern = self.pattern()?;
