@@ -128,6 +128,7 @@ impl<'a> Reader<'a> {
     {
         let inner = self.expr(left)?;
         if !self.at_close(Bracket::Round) {
+            // By a call: to let go of an expression in place takes code for each of its kinds.
             drop(inner);
             return Err(Stop::Unexpected);
         }
