@@ -16,10 +16,9 @@ use Rattle.ereader.specs.Reading.{is_empty, within_at, all_at, program_at}
 use Rattle.ereader.specs.Grammar.{method_tree}
 use Rattle.ereader.specs.View.{plain}
 
-pub tree_of-made : (r : Arc Expr Global) (verb : List ℕ) (args : Arc (Vec Expr Global) Global) (receiver : Expr) (items : Vec Expr Global)
-    → r.value ≡ receiver → args.value ≡ items → tree_of (code.Call r verb args) ≡ call (tree_of receiver) verb (trees_of items.items)
-tree_of-made r verb args receiver items e f =
-    tree_of-Call r verb args ∙ ap (λ x. call (tree_of x) verb (trees_of args.value.items)) e ∙ ap (λ (xs : Vec Expr Global). call (tree_of receiver) verb (trees_of xs.items)) f
+pub tree_of-made : (r : Arc Expr Global) (verb : List ℕ) (args : Arc (Vec Expr Global) Global) (items : Vec Expr Global)
+    → args.value ≡ items → tree_of (code.Call r verb args) ≡ call (tree_of r.value) verb (trees_of items.items)
+tree_of-made r verb args items e = tree_of-Call r verb args ∙ ap (λ (xs : Vec Expr Global). call (tree_of r.value) verb (trees_of xs.items)) e
 
 pub tree_of-listed : (args : Arc (Vec Expr Global) Global) (items : Vec Expr Global) → args.value ≡ items → tree_of (code.List args) ≡ list_tree (trees_of items.items)
 tree_of-listed args items f = tree_of-List args ∙ ap (λ (xs : Vec Expr Global). list_tree (trees_of xs.items)) f
@@ -31,21 +30,19 @@ of_block block items e = ap (λ (xs : Vec Expr Global). trees_of xs.items) e
 pub tree_of-hidden : (block : Arc (Vec Expr Global) Global) (body : Vec Expr Global) → block.value ≡ body → tree_of (code.Hide block) ≡ hide (trees_of body.items)
 tree_of-hidden block body e = tree_of-Hide block ∙ ap hide (of_block block body e)
 
-pub tree_of-chosen : (c : Arc Expr Global) (p q : Arc (Vec Expr Global) Global) (condition : Expr) (first second : Vec Expr Global)
-    → c.value ≡ condition → p.value ≡ first → q.value ≡ second → tree_of (code.If c p q) ≡ if_tree (tree_of condition) (trees_of first.items) (trees_of second.items)
-tree_of-chosen c p q condition first second e f g =
-    tree_of-If c p q ∙ ap (λ x. if_tree (tree_of x) (trees_of p.value.items) (trees_of q.value.items)) e
-    ∙ ap (λ ts. if_tree (tree_of condition) ts (trees_of q.value.items)) (of_block p first f) ∙ ap (if_tree (tree_of condition) (trees_of first.items)) (of_block q second g)
+pub tree_of-chosen : (c : Arc Expr Global) (p q : Arc (Vec Expr Global) Global) (first second : Vec Expr Global)
+    → p.value ≡ first → q.value ≡ second → tree_of (code.If c p q) ≡ if_tree (tree_of c.value) (trees_of first.items) (trees_of second.items)
+tree_of-chosen c p q first second f g =
+    tree_of-If c p q ∙ ap (λ ts. if_tree (tree_of c.value) ts (trees_of q.value.items)) (of_block p first f)
+    ∙ ap (if_tree (tree_of c.value) (trees_of first.items)) (of_block q second g)
 
-pub tree_of-while : (c : Arc Expr Global) (p : Arc (Vec Expr Global) Global) (condition : Expr) (body : Vec Expr Global)
-    → c.value ≡ condition → p.value ≡ body → tree_of (code.While c p) ≡ while_tree (tree_of condition) (trees_of body.items)
-tree_of-while c p condition body e f =
-    tree_of-While c p ∙ ap (λ x. while_tree (tree_of x) (trees_of p.value.items)) e ∙ ap (while_tree (tree_of condition)) (of_block p body f)
+pub tree_of-while : (c : Arc Expr Global) (p : Arc (Vec Expr Global) Global) (body : Vec Expr Global)
+    → p.value ≡ body → tree_of (code.While c p) ≡ while_tree (tree_of c.value) (trees_of body.items)
+tree_of-while c p body f = tree_of-While c p ∙ ap (while_tree (tree_of c.value)) (of_block p body f)
 
-pub tree_of-for : (pattern : Pattern) (c : Arc Expr Global) (p : Arc (Vec Expr Global) Global) (list : Expr) (body : Vec Expr Global)
-    → c.value ≡ list → p.value ≡ body → tree_of (code.For pattern c p) ≡ for_tree pattern (tree_of list) (trees_of body.items)
-tree_of-for pattern c p list body e f =
-    tree_of-For pattern c p ∙ ap (λ x. for_tree pattern (tree_of x) (trees_of p.value.items)) e ∙ ap (for_tree pattern (tree_of list)) (of_block p body f)
+pub tree_of-for : (pattern : Pattern) (c : Arc Expr Global) (p : Arc (Vec Expr Global) Global) (body : Vec Expr Global)
+    → p.value ≡ body → tree_of (code.For pattern c p) ≡ for_tree pattern (tree_of c.value) (trees_of body.items)
+tree_of-for pattern c p body f = tree_of-For pattern c p ∙ ap (for_tree pattern (tree_of c.value)) (of_block p body f)
 
 pub tree_of-try : (p : Arc (Vec Expr Global) Global) (pattern : Pattern) (q : Arc (Vec Expr Global) Global) (body handler : Vec Expr Global)
     → p.value ≡ body → q.value ≡ handler → tree_of (code.Try p pattern q) ≡ try_tree (trees_of body.items) pattern (trees_of handler.items)

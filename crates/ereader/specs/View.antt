@@ -1,5 +1,6 @@
 -- What the reader's values stand for.
 use Rattle.std.specs.Prelude.{◌≡◌, ◌<◌, ◌≤◌, ℕ, length, List, [], ◌∷◌, Option, Some, None, Result, Ok, Err, ◌⊎◌, Any}
+use Rattle.std.specs.declared.sync.Arc.{Arc}
 use Rattle.std.specs.declared.vec.Vec.{Vec}
 use Rattle.std.specs.declared.alloc.Global.{Global}
 use Rattle.etoken.specs.declared.token.Token.{Token}
@@ -38,6 +39,11 @@ left_of r = plain r.rest.now
 abbrev pub Gives : Result Expr Stop → Reader → Reader → (List Token → Read Tree) → Type 0
 Gives (Ok e) old new read = read (left_of old) ≡ Some (tree_of e, left_of new)
 Gives (Err e) old new read = Fails e (read (left_of old))
+
+-- the same, of an expression that is shared
+abbrev pub GivesShared : Result (Arc Expr Global) Stop → Reader → Reader → (List Token → Read Tree) → Type 0
+GivesShared (Ok e) old new read = read (left_of old) ≡ Some (tree_of e.value, left_of new)
+GivesShared (Err e) old new read = Fails e (read (left_of old))
 
 -- the same, of several expressions
 abbrev pub GivesMany : Result (Vec Expr Global) Stop → Reader → Reader → (List Token → Read Trees) → Type 0

@@ -2,7 +2,7 @@
 ghost use Rattle.std.specs.Prelude.{◌≡◌, ◌≤◌, length, OnOk};
 ghost use Rattle.ereader.specs.Reading as reading;
 ghost use Rattle.ereader.specs.Reading.{rest_of, within_at};
-ghost use Rattle.ereader.specs.View.{left_of, Advances, IsNoLonger, Gives, GivesMany, GivesAll, GivesPlain, GoesTo};
+ghost use Rattle.ereader.specs.View.{left_of, Advances, IsNoLonger, Gives, GivesShared, GivesMany, GivesAll, GivesPlain, GoesTo};
 
 use crate::fault::Stop;
 use crate::nodes;
@@ -10,6 +10,7 @@ use crate::operator::Bracket;
 use crate::reader::Reader;
 use etoken::token::Reserved;
 use kernele::tree::{Expr, Pattern};
+use std::sync::Arc;
 
 impl<'a> Reader<'a> {
     /// Goes past semicolons.
@@ -99,8 +100,8 @@ impl<'a> Reader<'a> {
 
     /// An expression in round brackets.
     #[cycle(read)]
-    fn condition(&mut self, left: usize) -> Result<Expr, Stop>
-        ensures gives { Gives result self.old self.new (reading.condition_at (within_at left)) }
+    fn condition(&mut self, left: usize) -> Result<Arc<Expr>, Stop>
+        ensures gives { GivesShared result self.old self.new (reading.condition_at (within_at left)) }
         ensures shorter { OnOk result (Advances self.old self.new) }
     {
         if !self.at_open(Bracket::Round) {
@@ -108,6 +109,7 @@ impl<'a> Reader<'a> {
         }
         self.skip();
         let condition = self.expression(left)?;
+        let condition = Arc::new(self.alloc, condition)?;
         if !self.at_close(Bracket::Round) {
             return Err(Stop::Unexpected);
         }
@@ -190,7 +192,7 @@ impl<'a> Reader<'a> {
         }
         self.skip();
         let inner = self.inner_conditional(left)?;
-        Ok(vec![in self.alloc; inner]?)
+        nodes::one(self.alloc, inner)
     }
 
     /// What stands behind an `if` that stands behind `else`.
@@ -238,6 +240,7 @@ impl<'a> Reader<'a> {
     {
         let pattern = self.each()?;
         let list = self.expression(left)?;
+        let list = Arc::new(self.alloc, list)?;
         let body = self.braced(left)?;
         nodes::repeat_for(self.alloc, pattern, list, body)
     }
@@ -275,6 +278,6 @@ impl<'a> Reader<'a> {
         ensures shorter { OnOk result (IsNoLonger self.old self.new) }
     {
         let problem = self.condition(left)?;
-        nodes::throw(self.alloc, problem)
+        Ok(nodes::throw(problem))
     }
 }

@@ -15,6 +15,7 @@ use crate::operator::{Bracket, Link};
 use crate::reader::Reader;
 use ids::text::Text;
 use kernele::tree::Expr;
+use std::sync::Arc;
 
 impl<'a> Reader<'a> {
     /// The verb of a call, up to its arguments.
@@ -87,8 +88,9 @@ impl<'a> Reader<'a> {
         let mut disjunction = first;
         'more: while let Some(operator) = self.or_operator() {
             self.skip();
+            let whole = Arc::new(self.alloc, disjunction)?;
             let right = self.conjunction(left)?;
-            disjunction = nodes::join(self.alloc, disjunction, operator, right)?;
+            disjunction = nodes::join(self.alloc, whole, operator, right)?;
         }
         Ok(disjunction)
     }
@@ -123,8 +125,9 @@ impl<'a> Reader<'a> {
         let mut conjunction = first;
         'more: while let Some(operator) = self.and_operator() {
             self.skip();
+            let whole = Arc::new(self.alloc, conjunction)?;
             let right = self.comparison(left)?;
-            conjunction = nodes::join(self.alloc, conjunction, operator, right)?;
+            conjunction = nodes::join(self.alloc, whole, operator, right)?;
         }
         Ok(conjunction)
     }
@@ -159,6 +162,7 @@ impl<'a> Reader<'a> {
             return Ok(first);
         };
         self.skip();
+        let first = Arc::new(self.alloc, first)?;
         let second = self.sum(left)?;
         nodes::join(self.alloc, first, operator, second)
     }
@@ -191,8 +195,9 @@ impl<'a> Reader<'a> {
         let mut sum = first;
         'more: while let Some(operator) = self.sum_operator() {
             self.skip();
+            let whole = Arc::new(self.alloc, sum)?;
             let right = self.product(left)?;
-            sum = nodes::join(self.alloc, sum, operator, right)?;
+            sum = nodes::join(self.alloc, whole, operator, right)?;
         }
         Ok(sum)
     }
@@ -215,8 +220,9 @@ impl<'a> Reader<'a> {
         let mut product = first;
         'more: while let Some(operator) = self.product_operator() {
             self.skip();
+            let whole = Arc::new(self.alloc, product)?;
             let right = self.unary(left)?;
-            product = nodes::join(self.alloc, product, operator, right)?;
+            product = nodes::join(self.alloc, whole, operator, right)?;
         }
         Ok(product)
     }
@@ -263,6 +269,7 @@ impl<'a> Reader<'a> {
         ensures gives { Gives result self.old self.new (reading.linked_at (within_at left) link (tree_of receiver)) }
         ensures shorter { OnOk result (IsNoLonger self.old self.new) }
     {
+        let receiver = Arc::new(self.alloc, receiver)?;
         let verb = self.verb(link)?;
         let args = self.args(left, link.bracket())?;
         nodes::call(self.alloc, receiver, verb, args)

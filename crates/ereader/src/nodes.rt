@@ -1,6 +1,7 @@
-// The nodes of trees, and what operators stand for.
-ghost use Rattle.std.specs.Prelude.{◌≡◌, IfOk, IfErr};
-ghost use Rattle.kernele.specs.Tree.{call as call_tree, list_tree, hide as hide_tree, if_tree, while_tree, for_tree, try_tree, throw_tree, object_tree, escape_tree, none};
+// The nodes of trees, and what operators stand for. An expression goes behind an `Arc`, or into a vector, before anything
+// else is done: to let go of one that is owned takes code for each kind of expression, wherever that may happen.
+ghost use Rattle.std.specs.Prelude.{◌≡◌, [], ◌∷◌, IfOk, IfErr};
+ghost use Rattle.kernele.specs.Tree.{noun, call as call_tree, list_tree, hide as hide_tree, if_tree, while_tree, for_tree, try_tree, throw_tree, object_tree, escape_tree, none};
 ghost use Rattle.kernele.specs.View.{tree_of, trees_of, methods_of};
 ghost use Rattle.ereader.specs.Grammar.{binary as binary_tree, given, joined, prefix_verb, method_tree, return_tree, return_name as name_of_return, returning as returning_trees, function_tree};
 ghost use Rattle.ereader.specs.Reading.{literal_of, block_of as block_trees};
@@ -15,11 +16,18 @@ use kernele::tree::{Expr, Method, Pattern};
 use std::alloc::Global;
 use std::sync::Arc;
 
-pub fn call(alloc: Global, receiver: Expr, verb: Text, args: Vec<Expr>) -> Result<Expr, Stop>
-    ensures ok { IfOk result (λ e. tree_of e ≡ call_tree (tree_of receiver) verb (trees_of args.items)) }
+/// A vector of one expression.
+pub fn one(alloc: Global, item: Expr) -> Result<Vec<Expr>, Stop>
+    ensures ok { IfOk result (λ items. items.items ≡ item ∷ []) }
     ensures err { IfErr result (λ e. e ≡ stop.Memory) }
 {
-    let receiver = Arc::new(alloc, receiver)?;
+    Ok(vec![in alloc; item]?)
+}
+
+pub fn call(alloc: Global, receiver: Arc<Expr>, verb: Text, args: Vec<Expr>) -> Result<Expr, Stop>
+    ensures ok { IfOk result (λ e. tree_of e ≡ call_tree (tree_of receiver.value) verb (trees_of args.items)) }
+    ensures err { IfErr result (λ e. e ≡ stop.Memory) }
+{
     let args = Arc::new(alloc, args)?;
     Ok(Expr::Call(receiver, verb, args))
 }
@@ -56,24 +64,22 @@ pub fn hide(alloc: Global, body: Vec<Expr>) -> Result<Expr, Stop>
 /// A condition, and a block for each of its answers.
 pub fn choose(
     alloc: Global,
-    condition: Expr,
+    condition: Arc<Expr>,
     first: Vec<Expr>,
     second: Vec<Expr>,
 ) -> Result<Expr, Stop>
-    ensures ok { IfOk result (λ e. tree_of e ≡ if_tree (tree_of condition) (trees_of first.items) (trees_of second.items)) }
+    ensures ok { IfOk result (λ e. tree_of e ≡ if_tree (tree_of condition.value) (trees_of first.items) (trees_of second.items)) }
     ensures err { IfErr result (λ e. e ≡ stop.Memory) }
 {
-    let condition = Arc::new(alloc, condition)?;
     let first = Arc::new(alloc, first)?;
     let second = Arc::new(alloc, second)?;
     Ok(Expr::If(condition, first, second))
 }
 
-pub fn repeat_while(alloc: Global, condition: Expr, body: Vec<Expr>) -> Result<Expr, Stop>
-    ensures ok { IfOk result (λ e. tree_of e ≡ while_tree (tree_of condition) (trees_of body.items)) }
+pub fn repeat_while(alloc: Global, condition: Arc<Expr>, body: Vec<Expr>) -> Result<Expr, Stop>
+    ensures ok { IfOk result (λ e. tree_of e ≡ while_tree (tree_of condition.value) (trees_of body.items)) }
     ensures err { IfErr result (λ e. e ≡ stop.Memory) }
 {
-    let condition = Arc::new(alloc, condition)?;
     let body = Arc::new(alloc, body)?;
     Ok(Expr::While(condition, body))
 }
@@ -81,13 +87,12 @@ pub fn repeat_while(alloc: Global, condition: Expr, body: Vec<Expr>) -> Result<E
 pub fn repeat_for(
     alloc: Global,
     pattern: Pattern,
-    list: Expr,
+    list: Arc<Expr>,
     body: Vec<Expr>,
 ) -> Result<Expr, Stop>
-    ensures ok { IfOk result (λ e. tree_of e ≡ for_tree pattern (tree_of list) (trees_of body.items)) }
+    ensures ok { IfOk result (λ e. tree_of e ≡ for_tree pattern (tree_of list.value) (trees_of body.items)) }
     ensures err { IfErr result (λ e. e ≡ stop.Memory) }
 {
-    let list = Arc::new(alloc, list)?;
     let body = Arc::new(alloc, body)?;
     Ok(Expr::For(pattern, list, body))
 }
@@ -106,38 +111,37 @@ pub fn try_catch(
     Ok(Expr::Try(body, pattern, handler))
 }
 
-pub fn throw(alloc: Global, problem: Expr) -> Result<Expr, Stop>
-    ensures ok { IfOk result (λ e. tree_of e ≡ throw_tree (tree_of problem)) }
-    ensures err { IfErr result (λ e. e ≡ stop.Memory) }
+pub fn throw(problem: Arc<Expr>) -> Expr
+    ensures { tree_of result ≡ throw_tree (tree_of problem.value) }
 {
-    Ok(Expr::Throw(Arc::new(alloc, problem)?))
+    Expr::Throw(problem)
 }
 
 /// `left && right`
-fn both(alloc: Global, left: Expr, right: Expr) -> Result<Expr, Stop>
-    ensures ok { IfOk result (λ e. tree_of e ≡ joined Operator.And (tree_of left) (tree_of right)) }
+fn both(alloc: Global, left: Arc<Expr>, right: Expr) -> Result<Expr, Stop>
+    ensures ok { IfOk result (λ e. tree_of e ≡ joined Operator.And (tree_of left.value) (tree_of right)) }
     ensures err { IfErr result (λ e. e ≡ stop.Memory) }
 {
-    let first = vec![in alloc; right]?;
-    let second = vec![in alloc; Expr::Bool(false)]?;
+    let first = one(alloc, right)?;
+    let second = one(alloc, Expr::Bool(false))?;
     choose(alloc, left, first, second)
 }
 
 /// `left || right`
-fn either(alloc: Global, left: Expr, right: Expr) -> Result<Expr, Stop>
-    ensures ok { IfOk result (λ e. tree_of e ≡ joined Operator.Or (tree_of left) (tree_of right)) }
+fn either(alloc: Global, left: Arc<Expr>, right: Expr) -> Result<Expr, Stop>
+    ensures ok { IfOk result (λ e. tree_of e ≡ joined Operator.Or (tree_of left.value) (tree_of right)) }
     ensures err { IfErr result (λ e. e ≡ stop.Memory) }
 {
-    let first = vec![in alloc; Expr::Bool(true)]?;
-    let second = vec![in alloc; right]?;
+    let second = one(alloc, right)?;
+    let first = one(alloc, Expr::Bool(true))?;
     choose(alloc, left, first, second)
 }
 
-fn same(alloc: Global, left: Expr, right: Expr) -> Result<Expr, Stop>
-    ensures ok { IfOk result (λ e. tree_of e ≡ joined Operator.Same (tree_of left) (tree_of right)) }
+fn same(alloc: Global, left: Arc<Expr>, right: Expr) -> Result<Expr, Stop>
+    ensures ok { IfOk result (λ e. tree_of e ≡ joined Operator.Same (tree_of left.value) (tree_of right)) }
     ensures err { IfErr result (λ e. e ≡ stop.Memory) }
 {
-    Ok(Expr::Same(Arc::new(alloc, left)?, Arc::new(alloc, right)?))
+    Ok(Expr::Same(left, Arc::new(alloc, right)?))
 }
 
 /// A call with no arguments.
@@ -145,22 +149,24 @@ fn unary(alloc: Global, receiver: Expr, verb: &str) -> Result<Expr, Stop>
     ensures ok { IfOk result (λ e. tree_of e ≡ call_tree (tree_of receiver) verb.now none) }
     ensures err { IfErr result (λ e. e ≡ stop.Memory) }
 {
-    call(alloc, receiver, Text::new(alloc, verb)?, Vec::new(alloc))
+    let receiver = Arc::new(alloc, receiver)?;
+    let verb = Text::new(alloc, verb)?;
+    call(alloc, receiver, verb, Vec::new(alloc))
 }
 
 /// A call with one argument.
-fn binary(alloc: Global, receiver: Expr, verb: &str, argument: Expr) -> Result<Expr, Stop>
-    ensures ok { IfOk result (λ e. tree_of e ≡ binary_tree (tree_of receiver) verb.now (tree_of argument)) }
+fn binary(alloc: Global, receiver: Arc<Expr>, verb: &str, argument: Expr) -> Result<Expr, Stop>
+    ensures ok { IfOk result (λ e. tree_of e ≡ binary_tree (tree_of receiver.value) verb.now (tree_of argument)) }
     ensures err { IfErr result (λ e. e ≡ stop.Memory) }
 {
+    let args = one(alloc, argument)?;
     let verb = Text::new(alloc, verb)?;
-    let args = vec![in alloc; argument]?;
     call(alloc, receiver, verb, args)
 }
 
 /// What an operator between two operands stands for.
-pub fn join(alloc: Global, left: Expr, operator: Operator, right: Expr) -> Result<Expr, Stop>
-    ensures ok { IfOk result (λ e. tree_of e ≡ joined operator (tree_of left) (tree_of right)) }
+pub fn join(alloc: Global, left: Arc<Expr>, operator: Operator, right: Expr) -> Result<Expr, Stop>
+    ensures ok { IfOk result (λ e. tree_of e ≡ joined operator (tree_of left.value) (tree_of right)) }
     ensures err { IfErr result (λ e. e ≡ stop.Memory) }
 {
     match operator {
@@ -221,13 +227,24 @@ fn return_name(alloc: Global) -> Result<Text, Stop>
     Ok(Text::new(alloc, "__return")?)
 }
 
+/// That ejector, as an expression.
+fn return_noun(alloc: Global) -> Result<Arc<Expr>, Stop>
+    ensures ok { IfOk result (λ e. tree_of e.value ≡ noun name_of_return) }
+    ensures err { IfErr result (λ e. e ≡ stop.Memory) }
+{
+    let name = return_name(alloc)?;
+    Ok(Arc::new(alloc, Expr::Noun(name))?)
+}
+
 /// What `return` stands for.
 pub fn returned(alloc: Global, value: Expr) -> Result<Expr, Stop>
     ensures ok { IfOk result (λ e. tree_of e ≡ return_tree (tree_of value)) }
     ensures err { IfErr result (λ e. e ≡ stop.Memory) }
 {
-    let ejector = Expr::Noun(return_name(alloc)?);
-    binary(alloc, ejector, "run", value)
+    let args = one(alloc, value)?;
+    let ejector = return_noun(alloc)?;
+    let run = Text::new(alloc, "run")?;
+    call(alloc, ejector, run, args)
 }
 
 /// The block of a method that may return: null, where it does not.
@@ -239,7 +256,7 @@ fn returning(alloc: Global, body: Vec<Expr>) -> Result<Vec<Expr>, Stop>
     items.push(Expr::Null)?;
     let name = return_name(alloc)?;
     let whole = escape(alloc, name, items)?;
-    Ok(vec![in alloc; whole]?)
+    one(alloc, whole)
 }
 
 /// The block of a method, which may return if `returns`.

@@ -37,7 +37,7 @@ impl<'a> Reader<'a> {
         ensures shorter { OnOk result (Advances self.old self.new) }
     {
         let first = self.expression(left)?;
-        let mut items = vec![in self.alloc; first]?;
+        let mut items = nodes::one(self.alloc, first)?;
         'more: while self.at_comma() {
             self.skip();
             let item = self.expression(left)?;
@@ -128,6 +128,8 @@ impl<'a> Reader<'a> {
     {
         let inner = self.expr(left)?;
         if !self.at_close(Bracket::Round) {
+            // By a call: to let go of an expression in place takes code for each of its kinds.
+            drop(inner);
             return Err(Stop::Unexpected);
         }
         self.skip();

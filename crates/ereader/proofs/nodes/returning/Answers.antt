@@ -1,6 +1,11 @@
-use Rattle.std.proofs.Common.{refl}
+use Rattle.std.proofs.Common.{◌≡◌, [], ◌∷◌, refl}
+use Rattle.std.proofs.lemmas.Result.{IfOk-weaker}
+use Rattle.kernele.specs.View.{trees_of}
+use Rattle.ereader.specs.Grammar.{returning}
 use Rattle.ereader.proofs.Steps.{trees_push}
 use Rattle.ereader.proofs.nodes.returning.Goals as goal
 
 pub returns-clause-ok : goal.returns-clause-ok
-returns-clause-ok c = rw (c.in_ok-vec.ensures.items, c.in_ok-whole.ensures.ok, c.in_ok-name.ensures.ok, c.in_ok-push.ensures.items, trees_push) refl
+returns-clause-ok c =
+    IfOk-weaker c.one.result (λ es. es.items ≡ c.in_ok-whole.whole ∷ []) (λ es. trees_of es.items ≡ returning (trees_of c.args.body.items))
+    (λ es e. rw (e, c.in_ok-whole.ensures.ok, c.in_ok-name.ensures.ok, c.in_ok-push.ensures.items, trees_push) refl) c.one.ensures.ok

@@ -16,14 +16,14 @@ disjunction_from-more-init t c = record {
 
 pub disjunction_from-more-preserved : goal.disjunction_from-more-preserved
 disjunction_from-more-preserved t c = record {
-  comes = rw c.in_ok-disjunction.ensures.ok
+  comes = rw (c.in_ok-disjunction.ensures.ok, c.in_ok-whole.ensures.ok)
       (operand_more or_operator (conjunction_at (within_at c.args.left)) _ (plain c.skip.new.self.rest.now) _ c.more.invariant.comes (sym c.or_operator.ensures ∙ c.in-Some.is) c.skip.ensures c.in_ok-right.ensures.gives c.in_ok-right.ensures.shorter);
   shorter = omega (arith, c.more.invariant.shorter, c.in_ok-right.ensures.shorter, ap length c.skip.ensures, rest_le (plain c.more.self.rest.now));
 }
 
 pub disjunction_from-returns-in_err-right-clause-gives : goal.disjunction_from-returns-in_err-right-clause-gives
 disjunction_from-returns-in_err-right-clause-gives t c =
-    let k = err_from_is_err_and c.from_residual.result c.from_residual.ensures.1 in
+    let k = err_from_is_err_and c.from_residual-in_err-right.result c.from_residual-in_err-right.ensures.1 in
     rw (k.1, k.2) (operand_fails or_operator (conjunction_at (within_at c.args.left)) c.in_err-right.field-0.0 (plain c.skip.new.self.rest.now) c.more.invariant.comes (sym c.or_operator.ensures ∙ c.in-Some.is) c.skip.ensures c.in_err-right.ensures.gives)
 
 pub disjunction_from-returns-clause-gives : goal.disjunction_from-returns-clause-gives
@@ -37,14 +37,14 @@ conjunction_from-more-init t c = record {
 
 pub conjunction_from-more-preserved : goal.conjunction_from-more-preserved
 conjunction_from-more-preserved t c = record {
-  comes = rw c.in_ok-conjunction.ensures.ok
+  comes = rw (c.in_ok-conjunction.ensures.ok, c.in_ok-whole.ensures.ok)
       (operand_more and_operator (comparison_at (within_at c.args.left)) _ (plain c.skip.new.self.rest.now) _ c.more.invariant.comes (sym c.and_operator.ensures ∙ c.in-Some.is) c.skip.ensures c.in_ok-right.ensures.gives c.in_ok-right.ensures.shorter);
   shorter = omega (arith, c.more.invariant.shorter, c.in_ok-right.ensures.shorter, ap length c.skip.ensures, rest_le (plain c.more.self.rest.now));
 }
 
 pub conjunction_from-returns-in_err-right-clause-gives : goal.conjunction_from-returns-in_err-right-clause-gives
 conjunction_from-returns-in_err-right-clause-gives t c =
-    let k = err_from_is_err_and c.from_residual.result c.from_residual.ensures.1 in
+    let k = err_from_is_err_and c.from_residual-in_err-right.result c.from_residual-in_err-right.ensures.1 in
     rw (k.1, k.2) (operand_fails and_operator (comparison_at (within_at c.args.left)) c.in_err-right.field-0.0 (plain c.skip.new.self.rest.now) c.more.invariant.comes (sym c.and_operator.ensures ∙ c.in-Some.is) c.skip.ensures c.in_err-right.ensures.gives)
 
 pub conjunction_from-returns-clause-gives : goal.conjunction_from-returns-clause-gives
@@ -58,14 +58,14 @@ sum_from-more-init t c = record {
 
 pub sum_from-more-preserved : goal.sum_from-more-preserved
 sum_from-more-preserved t c = record {
-  comes = rw c.in_ok-sum.ensures.ok
+  comes = rw (c.in_ok-sum.ensures.ok, c.in_ok-whole.ensures.ok)
       (operand_more sum_operator (product_at (within_at c.args.left)) _ (plain c.skip.new.self.rest.now) _ c.more.invariant.comes (sym c.sum_operator.ensures ∙ c.in-Some.is) c.skip.ensures c.in_ok-right.ensures.gives c.in_ok-right.ensures.shorter);
   shorter = omega (arith, c.more.invariant.shorter, c.in_ok-right.ensures.shorter, ap length c.skip.ensures, rest_le (plain c.more.self.rest.now));
 }
 
 pub sum_from-returns-in_err-right-clause-gives : goal.sum_from-returns-in_err-right-clause-gives
 sum_from-returns-in_err-right-clause-gives t c =
-    let k = err_from_is_err_and c.from_residual.result c.from_residual.ensures.1 in
+    let k = err_from_is_err_and c.from_residual-in_err-right.result c.from_residual-in_err-right.ensures.1 in
     rw (k.1, k.2) (operand_fails sum_operator (product_at (within_at c.args.left)) c.in_err-right.field-0.0 (plain c.skip.new.self.rest.now) c.more.invariant.comes (sym c.sum_operator.ensures ∙ c.in-Some.is) c.skip.ensures c.in_err-right.ensures.gives)
 
 pub sum_from-returns-clause-gives : goal.sum_from-returns-clause-gives
@@ -79,14 +79,14 @@ product_from-more-init t c = record {
 
 pub product_from-more-preserved : goal.product_from-more-preserved
 product_from-more-preserved t c = record {
-  comes = rw c.in_ok-product.ensures.ok
+  comes = rw (c.in_ok-product.ensures.ok, c.in_ok-whole.ensures.ok)
       (operand_more product_operator (unary_at (within_at c.args.left)) _ (plain c.skip.new.self.rest.now) _ c.more.invariant.comes (sym c.product_operator.ensures ∙ c.in-Some.is) c.skip.ensures c.in_ok-right.ensures.gives c.in_ok-right.ensures.shorter);
   shorter = omega (arith, c.more.invariant.shorter, c.in_ok-right.ensures.shorter, ap length c.skip.ensures, rest_le (plain c.more.self.rest.now));
 }
 
 pub product_from-returns-in_err-right-clause-gives : goal.product_from-returns-in_err-right-clause-gives
 product_from-returns-in_err-right-clause-gives t c =
-    let k = err_from_is_err_and c.from_residual.result c.from_residual.ensures.1 in
+    let k = err_from_is_err_and c.from_residual-in_err-right.result c.from_residual-in_err-right.ensures.1 in
     rw (k.1, k.2) (operand_fails product_operator (unary_at (within_at c.args.left)) c.in_err-right.field-0.0 (plain c.skip.new.self.rest.now) c.more.invariant.comes (sym c.product_operator.ensures ∙ c.in-Some.is) c.skip.ensures c.in_err-right.ensures.gives)
 
 pub product_from-returns-clause-gives : goal.product_from-returns-clause-gives
