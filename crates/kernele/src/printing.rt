@@ -1,6 +1,6 @@
 // The canonical spelling of a program.
 ghost use Rattle.std.specs.Prelude.{◌≡◌, ◌++◌, IfOk, OnOk, string_bytes, codes, map, true};
-ghost use Rattle.kernele.specs.Tree.{bool_tree, define, define_list, variable, assign, list_tree, throw_tree, object_tree, escape_tree};
+ghost use Rattle.kernele.specs.Tree.{bool_tree, define, define_list, variable, assign, call, list_tree, same_tree, if_tree, while_tree, for_tree, try_tree, throw_tree, object_tree, escape_tree};
 ghost use Rattle.kernele.specs.View.{tree_of, trees_of, methods_of, program_of};
 ghost use Rattle.kernele.specs.Spelling.{spelling, spelled, spelled_parts, spelled_items, spelled_methods, joined, bracketed, in_braces, methods_in_braces, method_text, bound_name, needs_brackets as brackets_test, is_bare_receiver as bare_receiver_test, as_part, as_receiver, message};
 
@@ -48,41 +48,15 @@ fn write_expr(e: &Expr, out: &mut String) -> Result<(), AllocError>
         Expr::Def(pattern, value) => write_def(pattern, value, out),
         Expr::Var(name, value) => write_var(name, value, out),
         Expr::Assign(name, value) => write_assign(name, value, out),
-        Expr::Call(receiver, verb, args) => {
-            write_receiver(receiver, out)?;
-            out.push_str(".")?;
-            write_message(verb, args, out)
-        }
+        Expr::Call(receiver, verb, args) => write_call(receiver, verb, args, out),
         Expr::List(items) => write_list(items, out),
-        Expr::Same(left, right) => {
-            out.push_str("(")?;
-            write_part(left, out)?;
-            out.push_str(" == ")?;
-            write_part(right, out)?;
-            out.push_str(")")
-        }
+        Expr::Same(left, right) => write_same(left, right, out),
         Expr::DefList(patterns, value) => write_def_list(patterns, value, out),
         Expr::Hide(body) => write_block(body, out),
-        Expr::If(condition, first, second) => {
-            write_condition("if (", condition, out)?;
-            write_block(first, out)?;
-            out.push_str(" else ")?;
-            write_block(second, out)
-        }
-        Expr::While(condition, body) => {
-            write_condition("while (", condition, out)?;
-            write_block(body, out)
-        }
-        Expr::For(pattern, list, body) => {
-            write_source(pattern, list, out)?;
-            write_block(body, out)
-        }
-        Expr::Try(body, pattern, handler) => {
-            out.push_str("try ")?;
-            write_block(body, out)?;
-            write_catch(pattern, out)?;
-            write_block(handler, out)
-        }
+        Expr::If(condition, first, second) => write_if(condition, first, second, out),
+        Expr::While(condition, body) => write_while(condition, body, out),
+        Expr::For(pattern, list, body) => write_for(pattern, list, body, out),
+        Expr::Try(body, pattern, handler) => write_try(body, pattern, handler, out),
         Expr::Throw(problem) => write_throw(problem, out),
         Expr::Object(pattern, methods) => write_object(pattern, methods, out),
         Expr::Escape(name, body) => write_escape(name, body, out),
@@ -124,6 +98,82 @@ fn write_assign(name: &Text, value: &Expr, out: &mut String) -> Result<(), Alloc
     out.push_str(name.as_str())?;
     out.push_str(" := ")?;
     write_part(value, out)
+}
+
+#[cycle(print)]
+fn write_call(
+    receiver: &Expr,
+    verb: &Text,
+    args: &[Expr],
+    out: &mut String,
+) -> Result<(), AllocError>
+    ensures { OnOk result (string_bytes out.new ≡ string_bytes out.old ++ spelled (call (tree_of receiver.now) verb.now (trees_of args.now))) }
+{
+    write_receiver(receiver, out)?;
+    out.push_str(".")?;
+    write_message(verb, args, out)
+}
+
+#[cycle(print)]
+fn write_same(left: &Expr, right: &Expr, out: &mut String) -> Result<(), AllocError>
+    ensures { OnOk result (string_bytes out.new ≡ string_bytes out.old ++ spelled (same_tree (tree_of left.now) (tree_of right.now))) }
+{
+    out.push_str("(")?;
+    write_part(left, out)?;
+    out.push_str(" == ")?;
+    write_part(right, out)?;
+    out.push_str(")")
+}
+
+#[cycle(print)]
+fn write_if(
+    condition: &Expr,
+    first: &[Expr],
+    second: &[Expr],
+    out: &mut String,
+) -> Result<(), AllocError>
+    ensures { OnOk result (string_bytes out.new ≡ string_bytes out.old ++ spelled (if_tree (tree_of condition.now) (trees_of first.now) (trees_of second.now))) }
+{
+    write_condition("if (", condition, out)?;
+    write_block(first, out)?;
+    out.push_str(" else ")?;
+    write_block(second, out)
+}
+
+#[cycle(print)]
+fn write_while(condition: &Expr, body: &[Expr], out: &mut String) -> Result<(), AllocError>
+    ensures { OnOk result (string_bytes out.new ≡ string_bytes out.old ++ spelled (while_tree (tree_of condition.now) (trees_of body.now))) }
+{
+    write_condition("while (", condition, out)?;
+    write_block(body, out)
+}
+
+#[cycle(print)]
+fn write_for(
+    pattern: &Pattern,
+    list: &Expr,
+    body: &[Expr],
+    out: &mut String,
+) -> Result<(), AllocError>
+    ensures { OnOk result (string_bytes out.new ≡ string_bytes out.old ++ spelled (for_tree pattern.now (tree_of list.now) (trees_of body.now))) }
+{
+    write_source(pattern, list, out)?;
+    write_block(body, out)
+}
+
+#[cycle(print)]
+fn write_try(
+    body: &[Expr],
+    pattern: &Pattern,
+    handler: &[Expr],
+    out: &mut String,
+) -> Result<(), AllocError>
+    ensures { OnOk result (string_bytes out.new ≡ string_bytes out.old ++ spelled (try_tree (trees_of body.now) pattern.now (trees_of handler.now))) }
+{
+    out.push_str("try ")?;
+    write_block(body, out)?;
+    write_catch(pattern, out)?;
+    write_block(handler, out)
 }
 
 /// Writes the beginning of an `if` or a `while`, up to its first block.

@@ -5,11 +5,6 @@ use Rattle.kernele.specs.View.{tree_of, trees_of, methods_of}
 use Rattle.kernele.proofs.Walks.{tree_is_call, tree_is_list, tree_is_hide, tree_is_if, tree_is_while, tree_is_for, tree_is_try, tree_is_object, tree_is_escape, braces, append_more, append_end, methods_more, methods_end}
 use Rattle.kernele.proofs.printing.+print.Goals as goal
 
-pub write_expr-returns-in_ok-push_str-in-Call : goal.write_expr-returns-in_ok-push_str-in-Call
-write_expr-returns-in_ok-push_str-in-Call t c =
-    let is = tree_is_call c.in-Call.receiver c.in-Call.verb c.in-Call.args c.in-Call.is c.deref-in-Call.ensures c.deref-in-Call-2.ensures c.deref-in-Call-3.ensures.value in
-    rw is (search (rules, IfOk-equal, append_assoc))
-
 pub write_expr-returns-in-List : goal.write_expr-returns-in-List
 write_expr-returns-in-List t c =
     let is = tree_is_list c.in-List.items c.in-List.is c.deref-in-List.ensures c.deref-in-List-2.ensures.value in
@@ -44,26 +39,6 @@ write_expr-returns-in-Hide t c =
     let is = tree_is_hide c.in-Hide.body c.in-Hide.is c.deref-in-Hide.ensures c.deref-in-Hide-2.ensures.value in
     rw is c.write_block.ensures
 
-pub write_expr-returns-in_ok-push_str-in-If : goal.write_expr-returns-in_ok-push_str-in-If
-write_expr-returns-in_ok-push_str-in-If t c =
-    let is = tree_is_if c.in-If.condition c.in-If.first c.in-If.second c.in-If.is c.deref-in-If.ensures c.deref-in-If-2.ensures c.deref-in-If-3.ensures.value c.deref-in-If-4.ensures c.deref-in-If-5.ensures.value in
-    rw is (search (rules, IfOk-equal, append_assoc))
-
-pub write_expr-returns-in_ok-write_condition-in-While : goal.write_expr-returns-in_ok-write_condition-in-While
-write_expr-returns-in_ok-write_condition-in-While t c =
-    let is = tree_is_while c.in-While.condition c.in-While.body c.in-While.is c.deref-in-While.ensures c.deref-in-While-2.ensures c.deref-in-While-3.ensures.value in
-    rw is (search (rules, IfOk-equal, append_assoc))
-
-pub write_expr-returns-in_ok-write_source-in-For : goal.write_expr-returns-in_ok-write_source-in-For
-write_expr-returns-in_ok-write_source-in-For t c =
-    let is = tree_is_for c.in-For.pattern c.in-For.list c.in-For.body c.in-For.is refl c.deref-in-For.ensures c.deref-in-For-2.ensures c.deref-in-For-3.ensures.value in
-    rw is (search (rules, IfOk-equal, append_assoc))
-
-pub write_expr-returns-in_ok-write_catch-in-Try : goal.write_expr-returns-in_ok-write_catch-in-Try
-write_expr-returns-in_ok-write_catch-in-Try t c =
-    let is = tree_is_try c.in-Try.body c.in-Try.pattern c.in-Try.handler c.in-Try.is c.deref-in-Try.ensures c.deref-in-Try-2.ensures.value refl c.deref-in-Try-3.ensures c.deref-in-Try-4.ensures.value in
-    rw is (search (rules, IfOk-equal, append_assoc))
-
 pub write_block-returns : goal.write_block-returns
 write_block-returns t c =
     rw (braces c.args.items.now c.is_empty.result c.is_empty.ensures c.if-is_empty.false) (search (rules, IfOk-equal, append_assoc))
@@ -87,3 +62,43 @@ pub write_methods-returns : goal.write_methods-returns
 write_methods-returns t c =
     let written = methods_end (λ ms. led_by (codes " ") (spelled_methods ms)) refl c.in-Some.rest.now c.loop-method.method-index c.loop-method-test.false c.loop-method.invariant in
     rw (ap (λ ms. methods_in_braces (spelled_methods (methods_of ms))) c.in-Some.ensures.cases.0) (search (rules, IfOk-equal, append_assoc, written))
+
+pub write_expr-returns-in-Call : goal.write_expr-returns-in-Call
+write_expr-returns-in-Call t c =
+    let is = tree_is_call c.in-Call.receiver c.in-Call.verb c.in-Call.args c.in-Call.is c.deref-in-Call.ensures c.deref-in-Call-2.ensures c.deref-in-Call-3.ensures.value in
+    rw is c.write_call.ensures
+
+pub write_expr-returns-in-If : goal.write_expr-returns-in-If
+write_expr-returns-in-If t c =
+    let is = tree_is_if c.in-If.condition c.in-If.first c.in-If.second c.in-If.is c.deref-in-If.ensures c.deref-in-If-2.ensures c.deref-in-If-3.ensures.value c.deref-in-If-4.ensures c.deref-in-If-5.ensures.value in
+    rw is c.write_if.ensures
+
+pub write_expr-returns-in-While : goal.write_expr-returns-in-While
+write_expr-returns-in-While t c =
+    let is = tree_is_while c.in-While.condition c.in-While.body c.in-While.is c.deref-in-While.ensures c.deref-in-While-2.ensures c.deref-in-While-3.ensures.value in
+    rw is c.write_while.ensures
+
+pub write_expr-returns-in-For : goal.write_expr-returns-in-For
+write_expr-returns-in-For t c =
+    let is = tree_is_for c.in-For.pattern c.in-For.list c.in-For.body c.in-For.is refl c.deref-in-For.ensures c.deref-in-For-2.ensures c.deref-in-For-3.ensures.value in
+    rw is c.write_for.ensures
+
+pub write_expr-returns-in-Try : goal.write_expr-returns-in-Try
+write_expr-returns-in-Try t c =
+    let is = tree_is_try c.in-Try.body c.in-Try.pattern c.in-Try.handler c.in-Try.is c.deref-in-Try.ensures c.deref-in-Try-2.ensures.value refl c.deref-in-Try-3.ensures c.deref-in-Try-4.ensures.value in
+    rw is c.write_try.ensures
+
+pub write_call-returns : goal.write_call-returns
+write_call-returns t c = search (rules, IfOk-equal, append_assoc)
+
+pub write_if-returns : goal.write_if-returns
+write_if-returns t c = search (rules, IfOk-equal, append_assoc)
+
+pub write_while-returns : goal.write_while-returns
+write_while-returns t c = search (rules, IfOk-equal, append_assoc)
+
+pub write_for-returns : goal.write_for-returns
+write_for-returns t c = search (rules, IfOk-equal, append_assoc)
+
+pub write_try-returns : goal.write_try-returns
+write_try-returns t c = search (rules, IfOk-equal, append_assoc)
