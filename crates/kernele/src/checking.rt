@@ -1,8 +1,8 @@
 // The check of a program before it is evaluated.
 ghost use Rattle.std.specs.Prelude.{◌≡◌, [], map, false, Some, Ok, IsOk, IfOk, IfErr, OnOk, MatchResult};
-ghost use Rattle.kernele.specs.Tree.{escape_tree};
+ghost use Rattle.kernele.specs.Tree.{define, variable, assign, same_tree, define_list, if_tree, while_tree, for_tree, try_tree, object_tree, escape_tree};
 ghost use Rattle.kernele.specs.View.{tree_of, trees_of, methods_of, program_of};
-ghost use Rattle.kernele.specs.Scope.{checked, checked_all, checked_program, found, assigned, added, bound, all_bound, entered, in_block, checked_with, checked_taking, checked_methods, same_signature, has_signature, script_scopes, asked_scopes, kind_in, with_name};
+ghost use Rattle.kernele.specs.Scope.{in_turn, checked, checked_all, checked_program, found, assigned, added, bound, all_bound, entered, in_block, checked_with, checked_taking, checked_methods, same_signature, has_signature, script_scopes, asked_scopes, kind_in, with_name};
 ghost use Rattle.kernele.specs.Check.{Gives, Refuses, fault_text, MayRefuse, names_of, scopes_of, scopes_in, scopes_with, signature_of};
 ghost use Rattle.kernele.specs.declared.checking.CheckFault.TheVariants.{Memory};
 
@@ -228,56 +228,130 @@ fn check_expr(e: &Expr, scopes: &mut Scopes) -> Result<(), CheckFault>
     match e {
         Expr::Null | Expr::Bool(_) | Expr::Int(_) | Expr::Text(_) => Ok(()),
         Expr::Noun(name) => check_noun(name, scopes),
-        Expr::Def(pattern, value) => {
-            check_expr(value, scopes)?;
-            check_pattern(pattern, scopes)
-        }
-        Expr::Var(name, value) => {
-            check_expr(value, scopes)?;
-            scopes.add(name, Kind::Variable)
-        }
-        Expr::Assign(name, value) => {
-            check_expr(value, scopes)?;
-            check_assigned(name, scopes)
-        }
-        Expr::Call(receiver, _, args) => {
-            check_expr(receiver, scopes)?;
-            check_all(args, scopes)
-        }
+        Expr::Def(pattern, value) => check_def(pattern, value, scopes),
+        Expr::Var(name, value) => check_var(name, value, scopes),
+        Expr::Assign(name, value) => check_assign(name, value, scopes),
+        Expr::Call(receiver, _, args) => check_call(receiver, args, scopes),
         Expr::List(items) => check_all(items, scopes),
-        Expr::Same(left, right) => {
-            check_expr(left, scopes)?;
-            check_expr(right, scopes)
-        }
-        Expr::DefList(patterns, value) => {
-            check_expr(value, scopes)?;
-            check_patterns(patterns, scopes)
-        }
+        Expr::Same(left, right) => check_same(left, right, scopes),
+        Expr::DefList(patterns, value) => check_def_list(patterns, value, scopes),
         Expr::Hide(body) => check_block(body, scopes),
-        Expr::If(condition, first, second) => {
-            check_expr(condition, scopes)?;
-            check_block(first, scopes)?;
-            check_block(second, scopes)
-        }
-        Expr::While(condition, body) => {
-            check_expr(condition, scopes)?;
-            check_block(body, scopes)
-        }
-        Expr::For(pattern, list, body) => {
-            check_expr(list, scopes)?;
-            check_bound_block(pattern, body, scopes)
-        }
-        Expr::Try(body, pattern, handler) => {
-            check_block(body, scopes)?;
-            check_bound_block(pattern, handler, scopes)
-        }
+        Expr::If(condition, first, second) => check_if(condition, first, second, scopes),
+        Expr::While(condition, body) => check_while(condition, body, scopes),
+        Expr::For(pattern, list, body) => check_for(pattern, list, body, scopes),
+        Expr::Try(body, pattern, handler) => check_try(body, pattern, handler, scopes),
         Expr::Throw(problem) => check_expr(problem, scopes),
-        Expr::Object(pattern, methods) => {
-            check_pattern(pattern, scopes)?;
-            check_methods(methods, scopes)
-        }
+        Expr::Object(pattern, methods) => check_object(pattern, methods, scopes),
         Expr::Escape(name, body) => check_escape(name, body, scopes),
     }
+}
+
+#[cycle(check)]
+fn check_def(pattern: &Pattern, value: &Expr, scopes: &mut Scopes) -> Result<(), CheckFault>
+    ensures { Gives result (scopes_in scopes.new) (checked (define pattern.now (tree_of value.now)) (scopes_in scopes.old)) }
+{
+    check_expr(value, scopes)?;
+    check_pattern(pattern, scopes)
+}
+
+#[cycle(check)]
+fn check_var(name: &Text, value: &Expr, scopes: &mut Scopes) -> Result<(), CheckFault>
+    ensures { Gives result (scopes_in scopes.new) (checked (variable name.now (tree_of value.now)) (scopes_in scopes.old)) }
+{
+    check_expr(value, scopes)?;
+    scopes.add(name, Kind::Variable)
+}
+
+#[cycle(check)]
+fn check_assign(name: &Text, right: &Expr, scopes: &mut Scopes) -> Result<(), CheckFault>
+    ensures { Gives result (scopes_in scopes.new) (checked (assign name.now (tree_of right.now)) (scopes_in scopes.old)) }
+{
+    check_expr(right, scopes)?;
+    check_assigned(name, scopes)
+}
+
+#[cycle(check)]
+fn check_def_list(patterns: &[Pattern], value: &Expr, scopes: &mut Scopes) -> Result<(), CheckFault>
+    ensures { Gives result (scopes_in scopes.new) (checked (define_list patterns.now (tree_of value.now)) (scopes_in scopes.old)) }
+{
+    check_expr(value, scopes)?;
+    check_patterns(patterns, scopes)
+}
+
+#[cycle(check)]
+fn check_call(receiver: &Expr, args: &[Expr], scopes: &mut Scopes) -> Result<(), CheckFault>
+    ensures { Gives result (scopes_in scopes.new) (in_turn (checked (tree_of receiver.now) (scopes_in scopes.old)) (checked_all (trees_of args.now))) }
+{
+    check_expr(receiver, scopes)?;
+    check_all(args, scopes)
+}
+
+#[cycle(check)]
+fn check_same(left: &Expr, right: &Expr, scopes: &mut Scopes) -> Result<(), CheckFault>
+    ensures { Gives result (scopes_in scopes.new) (checked (same_tree (tree_of left.now) (tree_of right.now)) (scopes_in scopes.old)) }
+{
+    check_expr(left, scopes)?;
+    check_expr(right, scopes)
+}
+
+#[cycle(check)]
+fn check_if(
+    condition: &Expr,
+    first: &[Expr],
+    second: &[Expr],
+    scopes: &mut Scopes,
+) -> Result<(), CheckFault>
+    ensures { Gives result (scopes_in scopes.new) (checked (if_tree (tree_of condition.now) (trees_of first.now) (trees_of second.now)) (scopes_in scopes.old)) }
+{
+    check_expr(condition, scopes)?;
+    check_block(first, scopes)?;
+    check_block(second, scopes)
+}
+
+#[cycle(check)]
+fn check_while(condition: &Expr, body: &[Expr], scopes: &mut Scopes) -> Result<(), CheckFault>
+    ensures { Gives result (scopes_in scopes.new) (checked (while_tree (tree_of condition.now) (trees_of body.now)) (scopes_in scopes.old)) }
+{
+    check_expr(condition, scopes)?;
+    check_block(body, scopes)
+}
+
+#[cycle(check)]
+fn check_for(
+    pattern: &Pattern,
+    list: &Expr,
+    body: &[Expr],
+    scopes: &mut Scopes,
+) -> Result<(), CheckFault>
+    ensures { Gives result (scopes_in scopes.new) (checked (for_tree pattern.now (tree_of list.now) (trees_of body.now)) (scopes_in scopes.old)) }
+{
+    check_expr(list, scopes)?;
+    check_bound_block(pattern, body, scopes)
+}
+
+#[cycle(check)]
+fn check_try(
+    body: &[Expr],
+    pattern: &Pattern,
+    handler: &[Expr],
+    scopes: &mut Scopes,
+) -> Result<(), CheckFault>
+    ensures { Gives result (scopes_in scopes.new) (checked (try_tree (trees_of body.now) pattern.now (trees_of handler.now)) (scopes_in scopes.old)) }
+{
+    check_block(body, scopes)?;
+    check_bound_block(pattern, handler, scopes)
+}
+
+#[cycle(check)]
+fn check_object(
+    pattern: &Pattern,
+    methods: &[Method],
+    scopes: &mut Scopes,
+) -> Result<(), CheckFault>
+    ensures { Gives result (scopes_in scopes.new) (checked (object_tree pattern.now (methods_of methods.now)) (scopes_in scopes.old)) }
+{
+    check_pattern(pattern, scopes)?;
+    check_methods(methods, scopes)
 }
 
 /// Checks the methods of an object, each in a scope of its own.
