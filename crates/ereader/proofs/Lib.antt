@@ -1,15 +1,6 @@
 pub mod Views
-pub mod Turns
 pub mod Steps
 pub mod Nesting
-pub mod Uses
-pub mod Complete
-pub mod Sound
 pub mod Programs
-pub mod Spelled
 pub mod Answered
-pub mod Plainly
-pub mod Retold
-pub mod Spellable
 pub mod Limits
-pub mod Once

@@ -7,16 +7,16 @@ use Rattle.etoken.specs.Tokens.{Tokens, tokens_all}
 use Rattle.kernele.specs.Tree.{Trees}
 use Rattle.kernele.specs.Spelling.{spelling}
 use Rattle.ereader.specs.Brackets.{IsTooDeep}
-use Rattle.ereader.specs.Grammar.{Program}
-use Rattle.ereader.specs.Spelled.{CutInto, cut_into, SpelledBy, AreSpellable}
-use Rattle.ereader.specs.Returns.{IsWithinLimits}
+use Rattle.egrammar.specs.Grammar.{Program}
+use Rattle.egrammar.specs.Spelled.{CutInto, cut_into, SpelledBy, AreSpellable}
+use Rattle.ereader.specs.Laws.{IsWithinLimits}
 use Rattle.ereader.specs.Texts.{ReadAs, read_program}
-use Rattle.ereader.specs.View.{plain}
-use Rattle.ereader.specs.Written.{program_tokens}
+use Rattle.egrammar.specs.View.{plain}
+use Rattle.egrammar.specs.Written.{program_tokens}
 use Rattle.ereader.proofs.Views.{length-plain}
-use Rattle.ereader.proofs.Spelled.{spelled}
-use Rattle.ereader.proofs.Retold.{cuts_itself}
-use Rattle.ereader.proofs.Spellable.{spellable}
+use Rattle.egrammar.proofs.Spelled.{spelled}
+use Rattle.egrammar.proofs.Retold.{cuts_itself}
+use Rattle.egrammar.proofs.Spellable.{spellable}
 
 -- the tokens of a text, without their places
 tokens_cut : {text : List ℕ} {tokens : List Placed} → Tokens text (Ok tokens) → CutInto text (plain tokens)

@@ -1,20 +1,38 @@
--- Laws of the grammar.
-use Rattle.std.specs.Prelude.{◌≡◌, ℕ, List, Result, Ok}
+-- Laws of what is read.
+use Rattle.std.specs.Prelude.{ℕ, ◌≡◌, ◌≤◌, List, length, Result, Ok}
 use Rattle.etoken.specs.declared.token.Token.{Token}
 use Rattle.kernele.specs.Tree.{Trees}
-use Rattle.ereader.specs.Grammar.{Program}
+use Rattle.kernele.specs.Spelling.{spelling}
+use Rattle.egrammar.specs.Grammar.{Program}
+use Rattle.egrammar.specs.Spelled.{CutInto, SpelledBy, AreSpellable}
+use Rattle.egrammar.specs.Written.{program_tokens}
+use Rattle.ereader.specs.Brackets.{IsTooDeep}
 use Rattle.ereader.specs.declared.fault.ReadFault.{ReadFault}
 use Rattle.ereader.specs.Texts.{ReadAs}
-use Rattle.ereader.specs.Written.{program_tokens}
-
--- no tokens have two programs
-abbrev pub Unambiguous : Type 0
-Unambiguous = (a : List Token) (ts us : Trees) → Program a ts → Program a us → ts ≡ us
-
--- the tokens of the canonical spelling spell what they were made from
-abbrev pub SpellsAgain : Type 0
-SpellsAgain = (ts : Trees) → Program (program_tokens ts) ts
 
 -- a text that is read as a program is read as nothing else
 abbrev pub OneReading : Type 0
 OneReading = (text : List ℕ) (ts : Trees) (x : Result Trees ReadFault) → ReadAs text (Ok ts) → ReadAs text x → x ≡ Ok ts
+
+-- what reading gives is what the text spells
+abbrev pub ReadIsSpelled : Type 0
+ReadIsSpelled = (text : List ℕ) (ts : Trees) → ReadAs text (Ok ts) → SpelledBy text ts
+
+-- what a text spells is what reading gives: of at most 65,536 bytes and 16,384 tokens, of which no more than 100 brackets are open at once
+abbrev pub ReadsWithinLimits : Type 0
+ReadsWithinLimits = (text : List ℕ) (tokens : List Token) (ts : Trees) → CutInto text tokens → Program tokens ts
+    → length text ≤ 65536 → length tokens ≤ 16384 → ¬ IsTooDeep tokens → ReadAs text (Ok ts)
+
+-- the canonical spelling of a program keeps within the same limits
+pub record IsWithinLimits (ts : Trees) : Type 0 where
+  pub short : length (spelling ts) ≤ 65536
+  pub few : length (program_tokens ts) ≤ 16384
+  pub shallow : ¬ IsTooDeep (program_tokens ts)
+
+-- such a spelling is read as the program
+abbrev pub ReadsItself : Type 0
+ReadsItself = (ts : Trees) → AreSpellable ts → IsWithinLimits ts → ReadAs (spelling ts) (Ok ts)
+
+-- so a program that was read is read again
+abbrev pub ReadsAgain : Type 0
+ReadsAgain = (text : List ℕ) (ts : Trees) → ReadAs text (Ok ts) → IsWithinLimits ts → ReadAs (spelling ts) (Ok ts)

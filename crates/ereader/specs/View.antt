@@ -15,16 +15,11 @@ use Rattle.ereader.specs.declared.fault.ReadFault.{ReadFault}
 use Rattle.ereader.specs.declared.fault.ReadFault.TheVariants as fault
 use Rattle.ereader.specs.declared.fault.Stop.{Stop}
 use Rattle.ereader.specs.declared.fault.Stop.TheVariants as stop
-use Rattle.ereader.specs.declared.operator.Target.{Target}
-use Rattle.ereader.specs.declared.operator.Target.TheVariants as target
+use Rattle.egrammar.specs.declared.operator.Target.{Target}
 use Rattle.ereader.specs.declared.reader.Reader.{Reader}
-use Rattle.ereader.specs.Grammar.{Place, definition, definitions, new_variable, assignment, MethodTree, method_tree}
-use Rattle.ereader.specs.Reading.{Read}
-
--- the tokens, without their places
-abbrev pub plain : List Placed → List Token
-plain [] = []
-plain (p ∷ ps) = p.token ∷ plain ps
+use Rattle.egrammar.specs.Grammar.{Place, MethodTree}
+use Rattle.egrammar.specs.Reading.{Read}
+use Rattle.egrammar.specs.View.{plain, method_of, place_of}
 
 -- the reader stops at a token that can't follow, or where memory runs out
 abbrev pub Fails : {A : Type 0} → Stop → Option A → Type 0
@@ -55,10 +50,6 @@ abbrev pub GivesPatterns : Result (Vec Pattern Global) Stop → Reader → Reade
 GivesPatterns (Ok ps) old new read = read (left_of old) ≡ Some (ps.items, left_of new)
 GivesPatterns (Err e) old new read = Fails e (read (left_of old))
 
--- the method that a method stands for
-abbrev pub method_of : Method → MethodTree
-method_of m = method_tree m.verb m.parameters.value.items (trees_of m.body.value.items)
-
 -- the same, of a method
 abbrev pub GivesMethod : Result Method Stop → Reader → Reader → (List Token → Read MethodTree) → Type 0
 GivesMethod (Ok m) old new read = read (left_of old) ≡ Some (method_of m, left_of new)
@@ -68,13 +59,6 @@ GivesMethod (Err e) old new read = Fails e (read (left_of old))
 abbrev pub GivesMethods : Result (Vec Method Global) Stop → Reader → Reader → (List Token → Read Methods) → Type 0
 GivesMethods (Ok ms) old new read = read (left_of old) ≡ Some (methods_of ms.items, left_of new)
 GivesMethods (Err e) old new read = Fails e (read (left_of old))
-
--- what a value is given to
-abbrev pub place_of : Target → Place
-place_of (target.Definition p) = definition p
-place_of (target.Definitions ps) = definitions ps.items
-place_of (target.Variable x) = new_variable x
-place_of (target.Assignment x) = assignment x
 
 -- the same, of what a value is given to, if it is given to anything
 abbrev pub GivesPlace : Result (Option Target) Stop → Reader → Reader → (List Token → Read (Option Place)) → Type 0
@@ -104,11 +88,6 @@ Advances old new = length (left_of new) < length (left_of old)
 -- no more tokens are left
 abbrev pub IsNoLonger : Reader → Reader → Type 0
 IsNoLonger old new = length (left_of new) ≤ length (left_of old)
-
--- a literal stands for a tree, or none is there
-abbrev pub GivesTree : Option Expr → Option Tree → Type 0
-GivesTree (Some e) tree = tree ≡ Some (tree_of e)
-GivesTree None tree = tree ≡ None
 
 -- a place of a text of n bytes: where one of its tokens stands, or its end
 abbrev pub IsPlace : List Placed → ℕ → ℕ → Type 0

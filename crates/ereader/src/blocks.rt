@@ -1,13 +1,13 @@
 // Blocks, and what begins with a word and has blocks.
 ghost use Rattle.std.specs.Prelude.{◌≡◌, ◌≤◌, length, OnOk};
-ghost use Rattle.ereader.specs.Reading as reading;
-ghost use Rattle.ereader.specs.Reading.{rest_of, within_at};
+ghost use Rattle.egrammar.specs.Reading as reading;
+ghost use Rattle.egrammar.specs.Reading.{rest_of, within_at};
 ghost use Rattle.ereader.specs.View.{left_of, Advances, IsNoLonger, Gives, GivesShared, GivesMany, GivesAll, GivesPlain, GoesTo};
 
 use crate::fault::Stop;
-use crate::nodes;
-use crate::operator::Bracket;
 use crate::reader::Reader;
+use egrammar::nodes;
+use egrammar::operator::Bracket;
 use etoken::token::Reserved;
 use kernele::tree::{Expr, Pattern};
 use std::sync::Arc;
@@ -82,7 +82,7 @@ impl<'a> Reader<'a> {
         ensures shorter { OnOk result (IsNoLonger self.old self.new) }
     {
         let body = self.block_past(left)?;
-        nodes::hide(self.alloc, body)
+        Ok(nodes::hide(self.alloc, body)?)
     }
 
     /// A block in its braces.
@@ -165,7 +165,7 @@ impl<'a> Reader<'a> {
         let condition = self.condition(left)?;
         let first = self.braced(left)?;
         let second = self.second(left)?;
-        nodes::choose(self.alloc, condition, first, second)
+        Ok(nodes::choose(self.alloc, condition, first, second)?)
     }
 
     /// The second block, if there is one.
@@ -192,7 +192,7 @@ impl<'a> Reader<'a> {
         }
         self.skip();
         let inner = self.inner_conditional(left)?;
-        nodes::one(self.alloc, inner)
+        Ok(nodes::one(self.alloc, inner)?)
     }
 
     /// What stands behind an `if` that stands behind `else`.
@@ -216,7 +216,7 @@ impl<'a> Reader<'a> {
     {
         let condition = self.condition(left)?;
         let body = self.braced(left)?;
-        nodes::repeat_while(self.alloc, condition, body)
+        Ok(nodes::repeat_while(self.alloc, condition, body)?)
     }
 
     /// A pattern and the `in` behind it.
@@ -242,7 +242,7 @@ impl<'a> Reader<'a> {
         let list = self.expression(left)?;
         let list = Arc::new(self.alloc, list)?;
         let body = self.braced(left)?;
-        nodes::repeat_for(self.alloc, pattern, list, body)
+        Ok(nodes::repeat_for(self.alloc, pattern, list, body)?)
     }
 
     /// A block and the `catch` behind it.
@@ -268,7 +268,7 @@ impl<'a> Reader<'a> {
         let body = self.tried(left)?;
         let pattern = self.pattern()?;
         let handler = self.braced(left)?;
-        nodes::try_catch(self.alloc, body, pattern, handler)
+        Ok(nodes::try_catch(self.alloc, body, pattern, handler)?)
     }
 
     /// What stands behind `throw`.

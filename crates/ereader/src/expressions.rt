@@ -4,15 +4,15 @@
 // nests without brackets.
 ghost use Rattle.std.specs.Prelude.{◌≡◌, OnOk};
 ghost use Rattle.kernele.specs.View.{tree_of};
-ghost use Rattle.ereader.specs.Grammar as grammar;
-ghost use Rattle.ereader.specs.Reading as reading;
-ghost use Rattle.ereader.specs.Reading.{within_at};
+ghost use Rattle.egrammar.specs.Grammar as grammar;
+ghost use Rattle.egrammar.specs.Reading as reading;
+ghost use Rattle.egrammar.specs.Reading.{within_at};
 ghost use Rattle.ereader.specs.View.{Advances, IsNoLonger, Gives, GivesPlain};
 
 use crate::fault::Stop;
-use crate::nodes;
-use crate::operator::{Bracket, Link};
 use crate::reader::Reader;
+use egrammar::nodes;
+use egrammar::operator::{Bracket, Link};
 use ids::text::Text;
 use kernele::tree::Expr;
 use std::sync::Arc;
@@ -164,7 +164,7 @@ impl<'a> Reader<'a> {
         self.skip();
         let first = Arc::new(self.alloc, first)?;
         let second = self.sum(left)?;
-        nodes::join(self.alloc, first, operator, second)
+        Ok(nodes::join(self.alloc, first, operator, second)?)
     }
 
     #[cycle(read)]
@@ -237,7 +237,7 @@ impl<'a> Reader<'a> {
         };
         self.skip();
         let operand = self.postfix(left)?;
-        nodes::prefixed(self.alloc, operator, operand)
+        Ok(nodes::prefixed(self.alloc, operator, operand)?)
     }
 
     #[cycle(read)]
@@ -272,6 +272,6 @@ impl<'a> Reader<'a> {
         let receiver = Arc::new(self.alloc, receiver)?;
         let verb = self.verb(link)?;
         let args = self.args(left, link.bracket())?;
-        nodes::call(self.alloc, receiver, verb, args)
+        Ok(nodes::call(self.alloc, receiver, verb, args)?)
     }
 }

@@ -5,10 +5,11 @@ ghost use Rattle.std.specs.Prelude.{◌≡◌, ◌↔◌, [], IfOk, IfErr, Some}
 ghost use Rattle.kernele.specs.Tree.{Trees};
 ghost use Rattle.kernele.specs.View.{trees_of, program_of};
 ghost use Rattle.ereader.specs.Brackets.{IsTooDeep};
-ghost use Rattle.ereader.specs.Grammar as grammar;
-ghost use Rattle.ereader.specs.Reading.{program_at};
+ghost use Rattle.egrammar.specs.Grammar as grammar;
+ghost use Rattle.egrammar.specs.Reading.{program_at};
 ghost use Rattle.ereader.specs.Texts.{Answers};
-ghost use Rattle.ereader.specs.View.{plain, IsPlace, Stops, Accepts, IsRefusal};
+ghost use Rattle.egrammar.specs.View.{plain};
+ghost use Rattle.ereader.specs.View.{IsPlace, Stops, Accepts, IsRefusal};
 
 mod blocks;
 mod depth;

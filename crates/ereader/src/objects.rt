@@ -1,13 +1,13 @@
 // Escapes, objects and their methods.
 ghost use Rattle.std.specs.Prelude.{OnOk};
-ghost use Rattle.ereader.specs.Reading as reading;
-ghost use Rattle.ereader.specs.Reading.{within_at};
+ghost use Rattle.egrammar.specs.Reading as reading;
+ghost use Rattle.egrammar.specs.Reading.{within_at};
 ghost use Rattle.ereader.specs.View.{Advances, IsNoLonger, Gives, GivesMethod, GivesMethods};
 
 use crate::fault::Stop;
-use crate::nodes;
-use crate::operator::Bracket;
 use crate::reader::Reader;
+use egrammar::nodes;
+use egrammar::operator::Bracket;
 use kernele::tree::{Expr, Method, Pattern};
 
 impl<'a> Reader<'a> {
@@ -20,7 +20,7 @@ impl<'a> Reader<'a> {
     {
         let name = self.name()?;
         let body = self.braced(left)?;
-        nodes::escape(self.alloc, name, body)
+        Ok(nodes::escape(self.alloc, name, body)?)
     }
 
     /// What stands behind the `def` of an object.
@@ -59,7 +59,7 @@ impl<'a> Reader<'a> {
     {
         let parameters = self.pattern_list(Bracket::Round)?;
         let body = self.braced(left)?;
-        nodes::function(self.alloc, pattern, parameters, body)
+        Ok(nodes::function(self.alloc, pattern, parameters, body)?)
     }
 
     /// An object that the pattern is bound to, behind its opening brace.
@@ -69,7 +69,7 @@ impl<'a> Reader<'a> {
         ensures shorter { OnOk result (IsNoLonger self.old self.new) }
     {
         let methods = self.methods_past(left)?;
-        nodes::object(self.alloc, pattern, methods)
+        Ok(nodes::object(self.alloc, pattern, methods)?)
     }
 
     /// Methods and the brace behind them.
@@ -121,6 +121,6 @@ impl<'a> Reader<'a> {
         let parameters = self.pattern_list(Bracket::Round)?;
         let body = self.braced(left)?;
         let body = nodes::block_of(self.alloc, returns, body)?;
-        nodes::method(self.alloc, verb, parameters, body)
+        Ok(nodes::method(self.alloc, verb, parameters, body)?)
     }
 }

@@ -1,12 +1,13 @@
 // What stands in front of a reader.
 ghost use Rattle.std.specs.Prelude.{◌≡◌};
-ghost use Rattle.ereader.specs.Grammar as grammar;
-ghost use Rattle.ereader.specs.Reading as reading;
-ghost use Rattle.ereader.specs.Reading.{front, sign_in};
-ghost use Rattle.ereader.specs.View.{plain, left_of};
+ghost use Rattle.egrammar.specs.Grammar as grammar;
+ghost use Rattle.egrammar.specs.Reading as reading;
+ghost use Rattle.egrammar.specs.Reading.{front, sign_in};
+ghost use Rattle.egrammar.specs.View.{plain};
+ghost use Rattle.ereader.specs.View.{left_of};
 
-use crate::operator::{Bracket, Link, Operator, Prefix};
 use crate::reader::Reader;
+use egrammar::operator::{Bracket, Link, Operator, Prefix};
 use etoken::token::{Placed, Reserved, Sign, Token};
 
 /// The sign that the first token is.
@@ -86,75 +87,44 @@ impl<'a> Reader<'a> {
     pub fn sum_operator(&self) -> Option<Operator>
         ensures { result ≡ front grammar.sum_operator (left_of self.now) }
     {
-        match self.sign()? {
-            Sign::Plus => Some(Operator::Add),
-            Sign::Minus => Some(Operator::Subtract),
-            _ => None,
-        }
+        Operator::of_sum(self.sign()?)
     }
 
     pub fn product_operator(&self) -> Option<Operator>
         ensures { result ≡ front grammar.product_operator (left_of self.now) }
     {
-        match self.sign()? {
-            Sign::Times => Some(Operator::Multiply),
-            Sign::Divide => Some(Operator::FloorDivide),
-            _ => None,
-        }
+        Operator::of_product(self.sign()?)
     }
 
     pub fn comparison_operator(&self) -> Option<Operator>
         ensures { result ≡ front grammar.comparison_operator (left_of self.now) }
     {
-        match self.sign()? {
-            Sign::Equal => Some(Operator::Same),
-            Sign::NotEqual => Some(Operator::Differ),
-            Sign::Less => Some(Operator::LessThan),
-            Sign::AtMost => Some(Operator::AtMost),
-            Sign::More => Some(Operator::MoreThan),
-            Sign::AtLeast => Some(Operator::AtLeast),
-            _ => None,
-        }
+        Operator::of_comparison(self.sign()?)
     }
 
     pub fn prefix_operator(&self) -> Option<Prefix>
         ensures { result ≡ front grammar.prefix_operator (left_of self.now) }
     {
-        match self.sign()? {
-            Sign::Not => Some(Prefix::Not),
-            Sign::Minus => Some(Prefix::Negate),
-            _ => None,
-        }
+        Prefix::of(self.sign()?)
     }
 
     pub fn and_operator(&self) -> Option<Operator>
         ensures { result ≡ front grammar.and_operator (left_of self.now) }
     {
-        match self.sign()? {
-            Sign::And => Some(Operator::And),
-            _ => None,
-        }
+        Operator::of_conjunction(self.sign()?)
     }
 
     pub fn or_operator(&self) -> Option<Operator>
         ensures { result ≡ front grammar.or_operator (left_of self.now) }
     {
-        match self.sign()? {
-            Sign::Or => Some(Operator::Or),
-            _ => None,
-        }
+        Operator::of_disjunction(self.sign()?)
     }
 
     /// What makes a call of what was read, if that goes on.
     pub fn link(&self) -> Option<Link>
         ensures { result ≡ front reading.link_of (left_of self.now) }
     {
-        match self.sign()? {
-            Sign::Dot => Some(Link::Method),
-            Sign::OpenRound => Some(Link::Run),
-            Sign::OpenSquare => Some(Link::Index),
-            _ => None,
-        }
+        Link::of(self.sign()?)
     }
 
     /// Whether a definition of what a value is given to is in front, and not one of an object.

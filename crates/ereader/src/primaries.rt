@@ -1,13 +1,13 @@
 // Expressions without operators, and what stands in brackets.
 ghost use Rattle.std.specs.Prelude.{◌≡◌, ◌≤◌, length, OnOk};
-ghost use Rattle.ereader.specs.Reading as reading;
-ghost use Rattle.ereader.specs.Reading.{rest_of, within_at};
+ghost use Rattle.egrammar.specs.Reading as reading;
+ghost use Rattle.egrammar.specs.Reading.{rest_of, within_at};
 ghost use Rattle.ereader.specs.View.{left_of, Advances, IsNoLonger, Gives, GivesMany};
 
 use crate::fault::Stop;
-use crate::nodes;
-use crate::operator::Bracket;
 use crate::reader::Reader;
+use egrammar::nodes;
+use egrammar::operator::Bracket;
 use etoken::token::{Reserved, Sign, Token};
 use kernele::tree::Expr;
 
@@ -57,17 +57,17 @@ impl<'a> Reader<'a> {
         match &first.token {
             Token::Int(number) => {
                 self.rest = rest;
-                Ok(Expr::Int(*number))
+                Ok(nodes::integer(*number))
             }
             Token::Text(text) => {
-                let text = text.share()?;
+                let text = nodes::text(text)?;
                 self.rest = rest;
-                Ok(Expr::Text(text))
+                Ok(text)
             }
             Token::Name(name) => {
-                let name = name.share()?;
+                let noun = nodes::noun(name)?;
                 self.rest = rest;
-                Ok(Expr::Noun(name))
+                Ok(noun)
             }
             Token::Word(word) => self.word(left, *word),
             Token::Sign(sign) => self.bracketed(left, *sign),
@@ -117,7 +117,7 @@ impl<'a> Reader<'a> {
         ensures shorter { OnOk result (IsNoLonger self.old self.new) }
     {
         let items = self.args(left, Bracket::Square)?;
-        nodes::list(self.alloc, items)
+        Ok(nodes::list(self.alloc, items)?)
     }
 
     /// An expression in brackets, behind the opening one.
@@ -158,7 +158,7 @@ impl<'a> Reader<'a> {
             return self.expression(left);
         };
         let value = self.expression(left)?;
-        nodes::give(self.alloc, target, value)
+        Ok(nodes::give(self.alloc, target, value)?)
     }
 
     /// What stands behind `return`.
@@ -169,9 +169,9 @@ impl<'a> Reader<'a> {
         ensures shorter { OnOk result (IsNoLonger self.old self.new) }
     {
         if !self.at_operand() {
-            return nodes::returned(self.alloc, Expr::Null);
+            return Ok(nodes::returned(self.alloc, Expr::Null)?);
         }
         let value = self.expression(left)?;
-        nodes::returned(self.alloc, value)
+        Ok(nodes::returned(self.alloc, value)?)
     }
 }

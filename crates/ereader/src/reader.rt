@@ -1,11 +1,11 @@
 // A reader of tokens by recursive descent, and how it reads names, and what a value is given to.
 ghost use Rattle.std.specs.Prelude.{◌≡◌, OnOk};
-ghost use Rattle.ereader.specs.Reading as reading;
-ghost use Rattle.ereader.specs.Reading.{rest_of};
+ghost use Rattle.egrammar.specs.Reading as reading;
+ghost use Rattle.egrammar.specs.Reading.{rest_of};
 ghost use Rattle.ereader.specs.View.{left_of, Advances, IsNoLonger, GivesPlain, GivesPatterns, GivesPlace};
 
 use crate::fault::Stop;
-use crate::operator::{Bracket, Target};
+use egrammar::operator::{Bracket, Target};
 use etoken::token::{Placed, Sign, Token};
 use ids::text::Text;
 use kernele::tree::Pattern;

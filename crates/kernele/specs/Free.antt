@@ -55,15 +55,16 @@ abbrev pub is_among : List Name → Name → Bool
 is_among [] x = false
 is_among (y ∷ ys) x = if bytes_eq y x then true else is_among ys x
 
--- one more name, if it is not among them
-abbrev pub with_new : List Name → Name → List Name
-with_new xs x = if is_among xs x then xs else xs ++ x ∷ []
+-- names without those that are among others
+abbrev pub without : List Name → List Name → List Name
+without xs [] = []
+without xs (y ∷ ys) = if is_among xs y then without xs ys else y ∷ without xs ys
 
--- more names, each once
-abbrev pub with_all_new : List Name → List Name → List Name
-with_all_new xs [] = xs
-with_all_new xs (y ∷ ys) = with_all_new (with_new xs y) ys
+-- each name once, where it first occurs
+abbrev pub distinct : List Name → List Name
+distinct [] = []
+distinct (x ∷ xs) = x ∷ without (x ∷ []) (distinct xs)
 
 -- what an object captures: the names that are free in its methods, each once, in the order in which they first occur; its own name is none
 abbrev pub captures : Pattern → Methods → List Name
-captures p ms = with_all_new [] (free_of ms (name_of p))
+captures p ms = distinct (free_of ms (name_of p))

@@ -3,7 +3,8 @@ ghost use Rattle.std.specs.Prelude.{◌≡◌, [], ◌∷◌, ◌++◌, IfOk, On
 ghost use Rattle.kernele.specs.View.{tree_of, trees_of, methods_of};
 ghost use Rattle.kernele.specs.Tree.{variable, assign, same_tree, if_tree, while_tree, for_tree, try_tree, object_tree, escape_tree};
 ghost use Rattle.kernele.specs.Scope.{own_names, own_names_in, name_of, names_of_all};
-ghost use Rattle.kernele.specs.Free.{captures, free, free_in, free_of, occurring, defines as defined_by, is_among as among_those, with_new, with_all_new};
+ghost use Rattle.kernele.specs.Free.{captures, free, free_in, free_of, occurring, defines as defined_by, is_among as among_those};
+ghost use Rattle.kernele.specs.Found.{with_all_new};
 
 use crate::naming::{Kind, TopName, add_all_bound, add_bound, add_name, add_names};
 use crate::tree::{Expr, Method, Pattern};

@@ -1,7 +1,8 @@
 use Rattle.std.proofs.Common.{refl, ap, sym, ◌∙◌, ◌++◌, ◌+◌, append_assoc, drop}
 use Rattle.std.proofs.lemmas.Result.{IfOk-equal}
 use Rattle.kernele.specs.Scope.{own_names, own_names_in, name_of, names_of_all}
-use Rattle.kernele.specs.Free.{free, free_in, free_of, with_all_new}
+use Rattle.kernele.specs.Free.{free, free_in, free_of}
+use Rattle.kernele.specs.Found.{with_all_new}
 use Rattle.kernele.specs.View.{tree_of, trees_of, methods_of}
 use Rattle.kernele.proofs.Walks.{tree_is_call, tree_is_list, tree_is_hide, tree_is_if, tree_is_while, tree_is_for, tree_is_try, tree_is_object, tree_is_escape, trees_from, methods_from, append_more}
 use Rattle.kernele.proofs.Finding.{then_found}

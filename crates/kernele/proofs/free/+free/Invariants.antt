@@ -2,7 +2,8 @@ use Rattle.std.proofs.Common.{◌≡◌, ◌+◌, ◌*◌, max, ◌++◌, drop}
 use denote.Param.Weighed.{most}
 use Rattle.kernele.specs.View.{trees_of, methods_of}
 use Rattle.kernele.specs.Scope.{own_names_in}
-use Rattle.kernele.specs.Free.{free_in, free_of, with_all_new}
+use Rattle.kernele.specs.Free.{free_in, free_of}
+use Rattle.kernele.specs.Found.{with_all_new}
 use Rattle.kernele.proofs.tree.Expr.TheLaws.{the_size}
 use Rattle.kernele.proofs.free.+free.Given as goal
 

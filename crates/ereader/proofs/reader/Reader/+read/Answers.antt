@@ -1,10 +1,11 @@
 use Rattle.std.proofs.Common.{rules, arith, length, sym, ap, ◌∙◌}
 use Rattle.std.proofs.lemmas.Result.{err_from_is_err_and}
-use Rattle.ereader.proofs.Turns.{turns_here}
-use Rattle.ereader.proofs.Steps.{rest_le, skip-le, trees_push, operand_more, operand_fails, operand_end, postfix_more, postfix_end, commas_more, commas_end, block_begin, block_more, block_part_fails, block_end, methods_push, methods_begin, methods_more, methods_end}
-use Rattle.ereader.specs.Grammar.{sum_operator, product_operator, and_operator, or_operator, snoc}
-use Rattle.ereader.specs.Reading.{conjunction_at, comparison_at, product_at, unary_at, operand_next, postfix_next, within_at}
-use Rattle.ereader.specs.View.{plain}
+use Rattle.egrammar.proofs.Turns.{turns_here}
+use Rattle.egrammar.proofs.Steps.{rest_le, skip-le, trees_push, operand_more, operand_end, postfix_more, postfix_end, commas_more, commas_end, block_begin, block_more, block_end, methods_push, methods_begin, methods_more, methods_end}
+use Rattle.ereader.proofs.Steps.{operand_fails, block_part_fails}
+use Rattle.egrammar.specs.Grammar.{sum_operator, product_operator, and_operator, or_operator, snoc}
+use Rattle.egrammar.specs.Reading.{conjunction_at, comparison_at, product_at, unary_at, operand_next, postfix_next, within_at}
+use Rattle.egrammar.specs.View.{plain}
 use Rattle.kernele.specs.View.{tree_of}
 use Rattle.ereader.proofs.reader.Reader.+read.Goals as goal
 
@@ -16,7 +17,7 @@ disjunction_from-more-init t c = record {
 
 pub disjunction_from-more-preserved : goal.disjunction_from-more-preserved
 disjunction_from-more-preserved t c = record {
-  comes = rw (c.in_ok-disjunction.ensures.ok, c.in_ok-whole.ensures.ok)
+  comes = rw (c.in_ok-disjunction.ensures, c.in_ok-whole.ensures.ok)
       (operand_more or_operator (conjunction_at (within_at c.args.left)) _ (plain c.skip.new.self.rest.now) _ c.more.invariant.comes (sym c.or_operator.ensures ∙ c.in-Some.is) c.skip.ensures c.in_ok-right.ensures.gives c.in_ok-right.ensures.shorter);
   shorter = omega (arith, c.more.invariant.shorter, c.in_ok-right.ensures.shorter, ap length c.skip.ensures, rest_le (plain c.more.self.rest.now));
 }
@@ -37,7 +38,7 @@ conjunction_from-more-init t c = record {
 
 pub conjunction_from-more-preserved : goal.conjunction_from-more-preserved
 conjunction_from-more-preserved t c = record {
-  comes = rw (c.in_ok-conjunction.ensures.ok, c.in_ok-whole.ensures.ok)
+  comes = rw (c.in_ok-conjunction.ensures, c.in_ok-whole.ensures.ok)
       (operand_more and_operator (comparison_at (within_at c.args.left)) _ (plain c.skip.new.self.rest.now) _ c.more.invariant.comes (sym c.and_operator.ensures ∙ c.in-Some.is) c.skip.ensures c.in_ok-right.ensures.gives c.in_ok-right.ensures.shorter);
   shorter = omega (arith, c.more.invariant.shorter, c.in_ok-right.ensures.shorter, ap length c.skip.ensures, rest_le (plain c.more.self.rest.now));
 }
@@ -58,7 +59,7 @@ sum_from-more-init t c = record {
 
 pub sum_from-more-preserved : goal.sum_from-more-preserved
 sum_from-more-preserved t c = record {
-  comes = rw (c.in_ok-sum.ensures.ok, c.in_ok-whole.ensures.ok)
+  comes = rw (c.in_ok-sum.ensures, c.in_ok-whole.ensures.ok)
       (operand_more sum_operator (product_at (within_at c.args.left)) _ (plain c.skip.new.self.rest.now) _ c.more.invariant.comes (sym c.sum_operator.ensures ∙ c.in-Some.is) c.skip.ensures c.in_ok-right.ensures.gives c.in_ok-right.ensures.shorter);
   shorter = omega (arith, c.more.invariant.shorter, c.in_ok-right.ensures.shorter, ap length c.skip.ensures, rest_le (plain c.more.self.rest.now));
 }
@@ -79,7 +80,7 @@ product_from-more-init t c = record {
 
 pub product_from-more-preserved : goal.product_from-more-preserved
 product_from-more-preserved t c = record {
-  comes = rw (c.in_ok-product.ensures.ok, c.in_ok-whole.ensures.ok)
+  comes = rw (c.in_ok-product.ensures, c.in_ok-whole.ensures.ok)
       (operand_more product_operator (unary_at (within_at c.args.left)) _ (plain c.skip.new.self.rest.now) _ c.more.invariant.comes (sym c.product_operator.ensures ∙ c.in-Some.is) c.skip.ensures c.in_ok-right.ensures.gives c.in_ok-right.ensures.shorter);
   shorter = omega (arith, c.more.invariant.shorter, c.in_ok-right.ensures.shorter, ap length c.skip.ensures, rest_le (plain c.more.self.rest.now));
 }

@@ -1,9 +1,9 @@
 use Rattle.std.proofs.Common.{length, ◌*◌, ◌+◌, ◌<◌, ◌≤◌}
-use Rattle.ereader.specs.Grammar.{product_operator, sum_operator, and_operator, or_operator, snoc}
-use Rattle.ereader.specs.Reading.{within_at, operand_next, operands_from, conjunction_at, comparison_at, product_at, unary_at, postfix_from, postfix_next, items_at, commas_next, block_at, block_next, methods_at, methods_next}
-use Rattle.ereader.specs.View.{plain}
+use Rattle.egrammar.specs.Grammar.{product_operator, sum_operator, and_operator, or_operator, snoc}
+use Rattle.egrammar.specs.Reading.{within_at, operand_next, operands_from, conjunction_at, comparison_at, product_at, unary_at, postfix_from, postfix_next, items_at, commas_next, block_at, block_next, methods_at, methods_next}
+use Rattle.egrammar.specs.View.{plain}
 use Rattle.kernele.specs.View.{tree_of, trees_of, methods_of}
-use Rattle.ereader.proofs.Turns.{Turns}
+use Rattle.egrammar.proofs.Turns.{Turns}
 use Rattle.ereader.proofs.reader.Reader.+read.Given as goal
 
 abbrev pub decreases-expression : goal.decreases-expression

@@ -1,6 +1,6 @@
 use Rattle.std.proofs.Common.{ap, length, arith}
-use Rattle.ereader.specs.View.{plain}
-use Rattle.ereader.proofs.Steps.{skip-le}
+use Rattle.egrammar.specs.View.{plain}
+use Rattle.egrammar.proofs.Steps.{skip-le}
 use Rattle.ereader.proofs.reader.Reader.separator.Goals as goal
 
 pub returns-clause-shorter : goal.returns-clause-shorter

@@ -1,7 +1,7 @@
 use Rattle.std.proofs.Common.{◌∙◌, sym, ap, length, arith, refl}
-use Rattle.ereader.specs.Reading.{skip_semicolons, is_semicolon}
-use Rattle.ereader.specs.View.{plain}
-use Rattle.ereader.proofs.Steps.{test_length, skip-more, skip-end}
+use Rattle.egrammar.specs.Reading.{skip_semicolons, is_semicolon}
+use Rattle.egrammar.specs.View.{plain}
+use Rattle.egrammar.proofs.Steps.{test_length, skip-more, skip-end}
 use Rattle.ereader.proofs.reader.Reader.skip_semicolons.Goals as goal
 
 pub more-preserved : goal.more-preserved

@@ -1,6 +1,6 @@
 use Rattle.std.proofs.Common.{◌≡◌, length}
-use Rattle.ereader.specs.Reading.{skip_semicolons}
-use Rattle.ereader.specs.View.{plain}
+use Rattle.egrammar.specs.Reading.{skip_semicolons}
+use Rattle.egrammar.specs.View.{plain}
 use Rattle.ereader.proofs.reader.Reader.skip_semicolons.Given as goal
 
 abbrev pub invariant-more : goal.invariant-more

@@ -1,0 +1,11 @@
+pub mod Views
+pub mod Turns
+pub mod Steps
+pub mod Uses
+pub mod Complete
+pub mod Sound
+pub mod Spelled
+pub mod Plainly
+pub mod Retold
+pub mod Spellable
+pub mod Once

@@ -1,0 +1,160 @@
+// Signs, by what they stand for where they stand, and what stands before a value.
+ghost use Rattle.std.specs.Prelude.{◌≡◌};
+ghost use Rattle.egrammar.specs.Grammar as grammar;
+ghost use Rattle.egrammar.specs.Reading.{closer, link_of};
+
+use etoken::token::Sign;
+use ids::text::Text;
+use kernele::tree::Pattern;
+
+/// A sign between two operands.
+#[derive(Clone, Copy)]
+pub enum Operator {
+    Add,
+    Subtract,
+    Multiply,
+    FloorDivide,
+    LessThan,
+    AtMost,
+    MoreThan,
+    AtLeast,
+    Same,
+    Differ,
+    And,
+    Or,
+}
+
+impl Operator {
+    /// The operator that a sign is between two operands of a product.
+    pub fn of_product(sign: Sign) -> Option<Operator>
+        ensures { result ≡ grammar.product_operator sign }
+    {
+        match sign {
+            Sign::Times => Some(Operator::Multiply),
+            Sign::Divide => Some(Operator::FloorDivide),
+            _ => None,
+        }
+    }
+
+    /// The operator that a sign is between two products.
+    pub fn of_sum(sign: Sign) -> Option<Operator>
+        ensures { result ≡ grammar.sum_operator sign }
+    {
+        match sign {
+            Sign::Plus => Some(Operator::Add),
+            Sign::Minus => Some(Operator::Subtract),
+            _ => None,
+        }
+    }
+
+    /// The operator that a sign is between two sums.
+    pub fn of_comparison(sign: Sign) -> Option<Operator>
+        ensures { result ≡ grammar.comparison_operator sign }
+    {
+        match sign {
+            Sign::Equal => Some(Operator::Same),
+            Sign::NotEqual => Some(Operator::Differ),
+            Sign::Less => Some(Operator::LessThan),
+            Sign::AtMost => Some(Operator::AtMost),
+            Sign::More => Some(Operator::MoreThan),
+            Sign::AtLeast => Some(Operator::AtLeast),
+            _ => None,
+        }
+    }
+
+    /// The operator that a sign is between two comparisons.
+    pub fn of_conjunction(sign: Sign) -> Option<Operator>
+        ensures { result ≡ grammar.and_operator sign }
+    {
+        match sign {
+            Sign::And => Some(Operator::And),
+            _ => None,
+        }
+    }
+
+    /// The operator that a sign is between two conjunctions.
+    pub fn of_disjunction(sign: Sign) -> Option<Operator>
+        ensures { result ≡ grammar.or_operator sign }
+    {
+        match sign {
+            Sign::Or => Some(Operator::Or),
+            _ => None,
+        }
+    }
+}
+
+/// A sign before an operand.
+#[derive(Clone, Copy)]
+pub enum Prefix {
+    Not,
+    Negate,
+}
+
+impl Prefix {
+    /// The operator that a sign is before an operand.
+    pub fn of(sign: Sign) -> Option<Prefix>
+        ensures { result ≡ grammar.prefix_operator sign }
+    {
+        match sign {
+            Sign::Not => Some(Prefix::Not),
+            Sign::Minus => Some(Prefix::Negate),
+            _ => None,
+        }
+    }
+}
+
+/// What makes a call of the receiver before it.
+#[derive(Clone, Copy)]
+pub enum Link {
+    /// `.verb(`
+    Method,
+    /// `(`
+    Run,
+    /// `[`
+    Index,
+}
+
+impl Link {
+    /// What a sign behind a receiver begins, if it makes a call of it.
+    pub fn of(sign: Sign) -> Option<Link>
+        ensures { result ≡ link_of sign }
+    {
+        match sign {
+            Sign::Dot => Some(Link::Method),
+            Sign::OpenRound => Some(Link::Run),
+            Sign::OpenSquare => Some(Link::Index),
+            _ => None,
+        }
+    }
+
+    /// The bracket that its arguments stand in.
+    pub fn bracket(self) -> Bracket
+        ensures { result ≡ closer self }
+    {
+        match self {
+            Link::Method | Link::Run => Bracket::Round,
+            Link::Index => Bracket::Square,
+        }
+    }
+}
+
+/// A kind of bracket.
+#[derive(Clone, Copy)]
+pub enum Bracket {
+    Round,
+    Square,
+    Curly,
+}
+
+/// What a value is given to.
+#[derive(Drop)]
+pub enum Target {
+    /// What a definition binds.
+    Definition(Pattern),
+    /// What a definition binds to the items of a list.
+    Definitions(Vec<Pattern>),
+    /// The name of a new variable.
+    Variable(Text),
+    /// The name that is assigned.
+    Assignment(Text),
+}
