@@ -197,7 +197,7 @@ impl<'a> Reader<'a> {
 
     /// What stands behind an `if` that stands behind `else`.
     #[cycle(read)]
-    #[tactic(auto, unfolding(crate::specs::Reading::within_at))]
+    #[tactic(auto, unfolding(egrammar::specs::Reading::within_at))]
     fn inner_conditional(&mut self, left: usize) -> Result<Expr, Stop>
         ensures gives { Gives result self.old self.new (within_at left).conditional }
         ensures shorter { OnOk result (IsNoLonger self.old self.new) }

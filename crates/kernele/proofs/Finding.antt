@@ -1,5 +1,5 @@
 -- Finding the free names of an object, part by part: they are its distinct free names.
-use Rattle.std.proofs.Common.{◌≡◌, List, [], ◌∷◌, ◌++◌, Bool, true, false, append_assoc, append-nil, ap, sym, refl, ◌∙◌, rules}
+use Rattle.std.proofs.Common.{◌≡◌, List, [], ◌∷◌, ◌++◌, Bool, true, false, if◌then◌else◌, append_assoc, append-nil, ap, sym, refl, ◌∙◌, rules}
 use Rattle.std.proofs.lemmas.Slice.Eq.{bytes_eq-Decides}
 use Rattle.std.specs.Str.{bytes_eq}
 use Rattle.kernele.specs.Tree.{Name}
@@ -21,13 +21,13 @@ same_name : (y x : Name) → bytes_eq y x ≡ true → y ≡ x
 same_name y x e = search (rules, bytes_eq-Decides)
 
 -- a name is among two lists where it is among one
-among_more : (here : Bool) {there other both : Bool} → both ≡ (if there then true else other) → (if here then true else both) ≡ (if (if here then true else there) then true else other)
-among_more true e = refl
-among_more false e = e
+among_more : (here there other : Bool) {both : Bool} → both ≡ (if there then true else other) → (if here then true else both) ≡ (if (if here then true else there) then true else other)
+among_more true there other e = refl
+among_more false there other e = e
 
 among_two : (xs ys : List Name) (z : Name) → is_among (xs ++ ys) z ≡ (if is_among xs z then true else is_among ys z)
 among_two [] ys z = refl
-among_two (x ∷ xs) ys z = among_more (bytes_eq x z) (among_two xs ys z)
+among_two (x ∷ xs) ys z = among_more (bytes_eq x z) (is_among xs z) (is_among ys z) (among_two xs ys z)
 
 -- a name before others, unless it is left out
 abbrev unless : Bool → Name → List Name → List Name
