@@ -11,7 +11,7 @@ use Rattle.kernele.specs.declared.tree.Pattern.{Pattern}
 use Rattle.kernele.specs.declared.naming.TopName.{TopName}
 use Rattle.kernele.proofs.Walks.{trees_from, no_trees_from, methods_from, no_methods_from}
 use Rattle.code.specs.View.{tree_of_code, methods_of_codes}
-use Rattle.code.specs.Index.{index_fits}
+use Rattle.code.specs.Index.{index_in, index_fits}
 use Rattle.code.specs.Frames.{Frame, only_names, behind, after, place_in, all_placed, captured_names_of, fits, fits_all, fits_methods}
 use Rattle.code.specs.Resolves.{Resolves, ResolvesAll, ResolvesBlock, ResolvesMethods, ResolvesMethod}
 use Rattle.code.specs.declared.code.Place.{Place}
@@ -127,7 +127,7 @@ resolved_escape {own = own} {f = f} {y = y} body named entered a same =
 
 -- an object, from what it captures in the frame, and its methods in the frame of the captured names and its own
 pub resolved_object : {own : Bool} {f h k : Frame} {p q : Pattern} {ms : Methods} {names : List Name} (captured : Arc (Vec Capture Global) Global) (codes : Arc (Vec MethodCode Global) Global) (index : Option (Arc MethodIndex Global)) → q ≡ p → names ≡ captures p ms → captured_names_of captured.value.items ≡ names
-    → all_placed f captured.value.items → k ≡ names ++ only_names (name_of p) → ResolvesMethods k ms codes.value.items → index_fits index (methods_of_codes codes.value.items) → h ≡ behind own (only_names (name_of p)) f → Resolves own f (object_tree p ms) (code.Object q captured codes index) h
+    → all_placed f captured.value.items → k ≡ names ++ only_names (name_of p) → ResolvesMethods k ms codes.value.items → index_fits (index_in index) (methods_of_codes codes.value.items) → h ≡ behind own (only_names (name_of p)) f → Resolves own f (object_tree p ms) (code.Object q captured codes index) h
 resolved_object {own = own} {f = f} {p = p} {q = q} captured codes index bound found named placed inside a indexed grown = record {
   tree = tree_of_code-Object q captured codes index ∙ λ i. object_tree (bound i) (a.methods i);
   fitting = transport (sym (fits-Object own f q captured codes index)) (

@@ -32,7 +32,11 @@ found_at index verb count = get key_cmp index.positions (key_of verb count)
 abbrev pub Indexes : MethodIndex → Methods → Type 0
 Indexes index ms = (verb : Name) (count : ℕ) → found_at index verb count ≡ position_in ms verb count
 
--- an object's index, if it has one, is that of its methods
-abbrev pub index_fits : Option (Arc MethodIndex Global) → Methods → Type 0
+-- the index of an object, if it has one
+abbrev pub index_in : Option (Arc MethodIndex Global) → Option MethodIndex
+index_in index = option_map (λ i. i.value) index
+
+-- it is that of the object's methods
+abbrev pub index_fits : Option MethodIndex → Methods → Type 0
 index_fits None ms = Unit {0}
-index_fits (Some index) ms = Indexes index.value ms
+index_fits (Some index) ms = Indexes index ms

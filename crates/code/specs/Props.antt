@@ -2,8 +2,6 @@
 use Rattle.std.specs.Prelude.{ℕ, Bool, false, List, [], ◌∷◌, ◌++◌, Option, Some, None}
 use Rattle.std.proofs.Common.{refl}
 use Rattle.std.proofs.Props.{props}
-use Rattle.std.specs.declared.sync.Arc.{Arc}
-use Rattle.std.specs.declared.alloc.Global.{Global}
 use Rattle.kernele.specs.Tree.{Methods}
 use Rattle.kernele.specs.Scope.{name_of, names_of_all}
 use Rattle.kernele.specs.Free.{captures}
@@ -14,7 +12,7 @@ use Rattle.code.specs.declared.code.Code.{Code}
 use Rattle.code.specs.declared.code.MethodCode.{MethodCode}
 use Rattle.code.specs.declared.index.MethodIndex.{MethodIndex}
 use Rattle.code.specs.View.{tree_of_code, methods_of_code_row}
-use Rattle.code.specs.Index.{position_in, found_at, index_fits}
+use Rattle.code.specs.Index.{position_in, found_at, index_in, index_fits}
 use Rattle.code.specs.Frames.{Frame, only_names, after, place_in, all_placed, captured_names_of, fits, fits_row, fits_methods_row, fits_all, fits_methods}
 
 Place-set : IsSet Place
@@ -27,9 +25,9 @@ Position-set : IsSet (Option ℕ)
 Position-set = hlevel props
 
 -- that an object's index is that of its methods
-pub index_fits-prop : (index : Option (Arc MethodIndex Global)) (ms : Methods) → IsProp (index_fits index ms)
+pub index_fits-prop : (index : Option MethodIndex) (ms : Methods) → IsProp (index_fits index ms)
 index_fits-prop None ms a b = refl
-index_fits-prop (Some index) ms a b = λ i verb count. Position-set (found_at index.value verb count) (position_in ms verb count) (a verb count) (b verb count) i
+index_fits-prop (Some index) ms a b = λ i verb count. Position-set (found_at index verb count) (position_in ms verb count) (a verb count) (b verb count) i
 
 all_placed-prop : (frame : Frame) (cs : List Capture) → IsProp (all_placed frame cs)
 all_placed-prop frame [] a b = refl
@@ -63,7 +61,7 @@ mutual
         Frame-set (captured_names_of captured.value.items) (captures pattern (methods_of_code_row ms)) a.0 b.0 i,
         all_placed-prop frame captured.value.items a.1 b.1 i,
         methods-prop (captured_names_of captured.value.items ++ only_names (name_of pattern)) ms a.2 b.2 i,
-        index_fits-prop index (methods_of_code_row ms) a.3 b.3 i,
+        index_fits-prop (index_in index) (methods_of_code_row ms) a.3 b.3 i,
       )
   fits-prop own frame (code.Escape' x p shape body) a b = row-prop false (frame ++ x ∷ []) body a b
 

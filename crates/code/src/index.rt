@@ -1,9 +1,8 @@
 // Where the methods of an object stand, so that a call finds one without a scan of all.
 ghost use Rattle.std.specs.Prelude.{◌≡◌, IfOk, OnOk, Some, length};
 ghost use Rattle.std.specs.BTreeMap.{Updates};
-ghost use Rattle.kernele.specs.Tree.{Methods};
 ghost use Rattle.code.specs.View.{methods_of_codes};
-ghost use Rattle.code.specs.Index.{key_cmp, key_of, found_at, Indexes, index_fits};
+ghost use Rattle.code.specs.Index.{key_cmp, key_of, found_at, Indexes, index_in, index_fits};
 
 use crate::code::MethodCode;
 use ids::text::Text;
@@ -32,7 +31,7 @@ pub(crate) fn index_many(
     alloc: Global,
     methods: &[MethodCode],
 ) -> Result<Option<Arc<MethodIndex>>, AllocError>
-    ensures { IfOk result (λ index. index_fits index (methods_of_codes methods.now)) }
+    ensures { IfOk result (λ index. index_fits (index_in index) (methods_of_codes methods.now)) }
 {
     if methods.len() <= FEW_METHODS {
         return Ok(None);
@@ -82,7 +81,7 @@ impl MethodIndex {
 
 /// The same index, shared. Fails only for want of memory.
 pub fn share_index(index: &Option<Arc<MethodIndex>>) -> Result<Option<Arc<MethodIndex>>, AllocError>
-    ensures { IfOk result (λ shared. (ms : Methods) → index_fits index.now ms → index_fits shared ms) }
+    ensures { IfOk result (λ shared. index_in shared ≡ index_in index.now) }
 {
     match index {
         Some(index) => Ok(Some(Arc::try_clone(index)?)),

@@ -2,7 +2,7 @@
 ghost use Rattle.std.specs.Prelude.{◌≡◌, [], ◌∷◌, ◌++◌, IfOk, OnOk, length};
 ghost use Rattle.std.specs.Option.{option_copied};
 ghost use Rattle.code.specs.Frames.{only_names, captured_names_of, all_placed, fits_methods};
-ghost use Rattle.code.specs.Index.{Indexes, index_fits};
+ghost use Rattle.code.specs.Index.{Indexes, index_in, index_fits};
 ghost use Rattle.heap.specs.Names.{names_of};
 ghost use Rattle.eval.specs.Fits.{frame_at, FindsMethod};
 ghost use Rattle.kernele.specs.Free.{captures as captures_of};
@@ -67,7 +67,7 @@ pub fn define_object(
     requires fits { (captured_names_of captures.now.value.items ≡ captures_of pattern.now (methods_of_codes methods.now.value.items))
         × all_placed (frame_at (at w.old)) captures.now.value.items
         × fits_methods (captured_names_of captures.now.value.items ++ only_names (name_of pattern.now)) methods.now.value.items
-        × index_fits index.now (methods_of_codes methods.now.value.items) }
+        × index_fits (index_in index.now) (methods_of_codes methods.now.value.items) }
     ensures ends { IfOk result (λ o. end_of o
         ≡ object_end (capture_of pattern.now (methods_of_codes methods.now.value.items) (at w.old)) (at w.old)) }
     ensures makes { IfOk result (λ o. at w.new
@@ -116,7 +116,7 @@ fn place(
     index: &Option<Arc<MethodIndex>>,
 ) -> Result<End, AllocError>
     requires fits { fits_methods (names_of nouns.items ++ only_names (name_of pattern.now)) methods.now.value.items }
-    requires indexed { index_fits index.now (methods_of_codes methods.now.value.items) }
+    requires indexed { index_fits (index_in index.now) (methods_of_codes methods.now.value.items) }
     ensures ends { IfOk result (λ o. end_of o ≡ placed_end (has_object_room (at w.old)) (at w.old)) }
     ensures makes { IfOk result (λ o. at w.new ≡ placed (has_object_room (at w.old)) pattern.now
         (record { own = pattern.now; captured = nouns_of nouns.items; methods = methods_of_codes methods.now.value.items })

@@ -2,7 +2,7 @@
 ghost use Rattle.std.specs.Prelude.{◌++◌};
 ghost use Rattle.code.specs.View.{methods_of_codes};
 ghost use Rattle.code.specs.Frames.{only_names, fits_methods};
-ghost use Rattle.code.specs.Index.{index_fits};
+ghost use Rattle.code.specs.Index.{index_in, index_fits};
 ghost use Rattle.code.specs.Props.{fits_methods-prop, index_fits-prop};
 ghost use Rattle.heap.specs.Names.{names_of};
 ghost use Rattle.kernele.specs.Scope.{name_of};
@@ -24,5 +24,5 @@ pub struct Made {
     /// Where its methods stand, if they are many: one for all objects that a definition makes.
     pub index: Option<Arc<MethodIndex>>,
     pub ghost fits: { fits_methods (names_of captured.value.items ++ only_names (name_of own)) methods.value.items } by { fits_methods-prop (names_of captured.value.items ++ only_names (name_of own)) methods.value.items },
-    pub ghost indexed: { index_fits index (methods_of_codes methods.value.items) } by { index_fits-prop index (methods_of_codes methods.value.items) },
+    pub ghost indexed: { index_fits (index_in index) (methods_of_codes methods.value.items) } by { index_fits-prop (index_in index) (methods_of_codes methods.value.items) },
 }
