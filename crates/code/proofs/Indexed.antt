@@ -65,5 +65,6 @@ pub put_none : (ms : List MethodCode) (m : BTreeMap MethodKey ℕ) (verb : Name)
 put_none ms m verb count e = ap (λ es. option_or (position_in (methods_of_codes ms) verb count) (lookup (is_at (key_cmp (key_of verb count))) es)) e ∙ or_none (position_in (methods_of_codes ms) verb count)
 
 -- in the end none is left
-pub put_all : (rest : List MethodCode) (m : BTreeMap MethodKey ℕ) (verb : Name) (count : ℕ) (all : Option ℕ) → rest ≡ [] → option_or (position_in (methods_of_codes rest) verb count) (get key_cmp m (key_of verb count)) ≡ all → get key_cmp m (key_of verb count) ≡ all
-put_all rest m verb count all is h = sym (ap (λ ms. option_or (position_in (methods_of_codes ms) verb count) (get key_cmp m (key_of verb count))) is) ∙ h
+pub put_all : (rest : List MethodCode) (m : BTreeMap MethodKey ℕ) (verb : Name) (count : ℕ) (all : Option ℕ) → length rest ≡ 0 → option_or (position_in (methods_of_codes rest) verb count) (get key_cmp m (key_of verb count)) ≡ all → get key_cmp m (key_of verb count) ≡ all
+put_all [] m verb count all is h = h
+put_all (k ∷ ks) m verb count all is h = absurd (omega (arith, is))
