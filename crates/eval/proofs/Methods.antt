@@ -86,3 +86,8 @@ found_nowhere (k ∷ ks) verb vs e =
 
 pub finds_none : (ms : List MethodCode) (verb : Name) (vs : List Value) → None ≡ method_in (methods_of_codes ms) verb (vals_of vs) → FindsMethod ms verb vs None
 finds_none ms verb vs e = record { method = e; count = tt; fits = tt }
+
+-- a scan that has none left finds none
+pub none_left : (rest ms : List MethodCode) (verb : Name) (vs : List Value) → length rest ≡ 0 → method_in (methods_of_codes rest) verb (vals_of vs) ≡ method_in (methods_of_codes ms) verb (vals_of vs) → FindsMethod ms verb vs None
+none_left [] ms verb vs is h = finds_none ms verb vs h
+none_left (k ∷ ks) ms verb vs is h = absurd (omega (arith, is))

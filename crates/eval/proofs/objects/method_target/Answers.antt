@@ -12,9 +12,9 @@ use Rattle.eval.proofs.objects.method_target.Goals as goal
 pub invariant_of-result : goal.invariant_of-result
 invariant_of-result c =
     let frame = names_of c.args.object.now.captured.value.items ++ only_names (name_of c.args.object.now.own) in
-    let found = subst (λ o. FindsMethod c.args.object.now.methods.value.items c.args.verb.now c.args.args.now (option_copied o)) c.in-Some.is c.in_ok-find_method.ensures in
+    let found = subst (λ o. FindsMethod c.args.object.now.methods.value.items c.args.verb.now c.args.args.now (option_copied o)) c.in-Some.is c.in_ok-method.ensures in
     let fit = found.fits frame c.args.object.now.fits in
     record {
       fits = method_fits c.in_ok-nouns-in-Some.nouns.items c.args.object.now.captured.value.items c.args.object.now.own (object c.args.id) c.args.args.now
-          c.in_ok-nouns-in-Some.ensures (slice_of c.as_slice-in-Some.ensures.value c.deref-in-Some.ensures) found.count (ap (λ v. v.items) c.in_ok-body-in-Some.ensures) fit;
+          c.in_ok-nouns-in-Some.ensures (slice_of c.as_slice.ensures.value c.deref.ensures) found.count (ap (λ v. v.items) c.in_ok-body-in-Some.ensures) fit;
     }

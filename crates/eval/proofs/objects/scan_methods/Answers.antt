@@ -1,7 +1,7 @@
-use Rattle.std.proofs.Common.{rules, ◌∙◌, sym}
+use Rattle.std.proofs.Common.{rules, ◌∙◌}
 use Rattle.eval.proofs.Fitting.{first_fits, others_fit}
 use Rattle.eval.proofs.Captures.{method_here, method_not, method_other}
-use Rattle.eval.proofs.Methods.{finds_none}
+use Rattle.eval.proofs.Methods.{none_left}
 use Rattle.eval.proofs.objects.scan_methods.Goals as goal
 use Rattle.eval.proofs.objects.scan_methods.Goals.{else-eq-via-then-eq+else-args-len, else-eq-via-else-eq}
 
@@ -20,4 +20,4 @@ loop-method-preserved c =
     ]
 
 pub returns : goal.returns
-returns c = finds_none _ _ _ (search rules)
+returns c = none_left _ c.args.methods.now c.args.verb.now c.args.args.now c.in_default.ensures.cases c.loop-method.invariant.0
