@@ -1,15 +1,17 @@
 -- Code that holds vectors fits where its parts and the vectors' code do.
-use Rattle.std.proofs.Common.{◌≡◌, List, [], ◌∷◌, ◌++◌, ℕ, Bool, false, refl, ap, sym, ◌∙◌}
+use Rattle.std.proofs.Common.{◌≡◌, List, [], ◌∷◌, ◌++◌, ℕ, Option, Bool, false, refl, ap, sym, ◌∙◌}
 use Rattle.kernele.specs.Scope.{name_of, names_of_all}
 use Rattle.kernele.specs.Free.{captures}
 use Rattle.kernele.specs.declared.tree.Pattern.{Pattern}
 use Rattle.code.specs.View.{tree_of_code, methods_of_codes}
 use Rattle.code.specs.Frames.{Frame, only_names, after, all_placed, captured_names_of, fits, fits_row, fits_methods_row, fits_all, fits_methods}
+use Rattle.code.specs.Index.{index_in, index_fits}
 use Rattle.code.proofs.Views.{methods_row}
 use Rattle.code.specs.declared.code.Capture.{Capture}
 use Rattle.code.specs.declared.code.Code as code
 use Rattle.code.specs.declared.code.Code.{Code}
 use Rattle.code.specs.declared.code.MethodCode.{MethodCode}
+use Rattle.code.specs.declared.index.MethodIndex.{MethodIndex}
 use Rattle.std.specs.declared.sync.Arc.{Arc}
 use Rattle.std.specs.declared.vec.Vec.{Vec}
 use Rattle.std.specs.declared.alloc.Global.{Global}
@@ -56,11 +58,11 @@ pub fits-Try : (own : Bool) (frame : Frame) (body : Arc (Vec Code Global) Global
     → fits own frame (code.Try body p handler) ≡ (fits_all false frame body.value.items × fits_all false (frame ++ only_names (name_of p)) handler.value.items)
 fits-Try own frame body p handler = λ i. fits_of_row false frame body.value i × fits_of_row false (frame ++ only_names (name_of p)) handler.value i
 
-pub fits-Object : (own : Bool) (frame : Frame) (p : Pattern) (captured : Arc (Vec Capture Global) Global) (ms : Arc (Vec MethodCode Global) Global)
-    → fits own frame (code.Object p captured ms)
-    ≡ ((captured_names_of captured.value.items ≡ captures p (methods_of_codes ms.value.items)) × all_placed frame captured.value.items × fits_methods (captured_names_of captured.value.items ++ only_names (name_of p)) ms.value.items)
-fits-Object own frame p captured ms =
-    λ i. (captured_names_of captured.value.items ≡ captures p (methods_row ms.value i)) × all_placed frame captured.value.items × fits_of_method_row (captured_names_of captured.value.items ++ only_names (name_of p)) ms.value i
+pub fits-Object : (own : Bool) (frame : Frame) (p : Pattern) (captured : Arc (Vec Capture Global) Global) (ms : Arc (Vec MethodCode Global) Global) (index : Option (Arc MethodIndex Global))
+    → fits own frame (code.Object p captured ms index)
+    ≡ ((captured_names_of captured.value.items ≡ captures p (methods_of_codes ms.value.items)) × all_placed frame captured.value.items × fits_methods (captured_names_of captured.value.items ++ only_names (name_of p)) ms.value.items × index_fits (index_in index) (methods_of_codes ms.value.items))
+fits-Object own frame p captured ms index =
+    λ i. (captured_names_of captured.value.items ≡ captures p (methods_row ms.value i)) × all_placed frame captured.value.items × fits_of_method_row (captured_names_of captured.value.items ++ only_names (name_of p)) ms.value i × index_fits (index_in index) (methods_row ms.value i)
 
 pub fits-Escape : (own : Bool) (frame : Frame) (x : List ℕ) (body : Arc (Vec Code Global) Global) → fits own frame (code.Escape x body) ≡ fits_all false (frame ++ x ∷ []) body.value.items
 fits-Escape own frame x body = fits_of_row false (frame ++ x ∷ []) body.value

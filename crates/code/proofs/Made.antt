@@ -1,5 +1,5 @@
 -- What is resolved of a construct, from what is resolved of its parts.
-use Rattle.std.proofs.Common.{◌≡◌, ℕ, ◌+◌, ◌<◌, ◌≤◌, Bool, false, List, [], ◌∷◌, ◌++◌, length, ap, sym, subst, refl, ◌∙◌, drop, get_or, append_assoc, append-nil}
+use Rattle.std.proofs.Common.{◌≡◌, ℕ, Option, ◌+◌, ◌<◌, ◌≤◌, Bool, false, List, [], ◌∷◌, ◌++◌, length, ap, sym, subst, refl, ◌∙◌, drop, get_or, append_assoc, append-nil}
 use Rattle.std.proofs.Math.Path.{transport}
 use Rattle.kernele.specs.Tree.{Name, Tree, noun, define, variable, assign, call, list_tree, same_tree, define_list, hide, if_tree, while_tree, for_tree, try_tree, throw_tree, object_tree, escape_tree, Trees, none, and_then, Methods, and_method}
 use Rattle.kernele.specs.View.{tree_of, trees_of, methods_of}
@@ -10,7 +10,8 @@ use Rattle.kernele.specs.declared.tree.Method.{Method}
 use Rattle.kernele.specs.declared.tree.Pattern.{Pattern}
 use Rattle.kernele.specs.declared.naming.TopName.{TopName}
 use Rattle.kernele.proofs.Walks.{trees_from, no_trees_from, methods_from, no_methods_from}
-use Rattle.code.specs.View.{tree_of_code}
+use Rattle.code.specs.View.{tree_of_code, methods_of_codes}
+use Rattle.code.specs.Index.{index_in, index_fits}
 use Rattle.code.specs.Frames.{Frame, only_names, behind, after, place_in, all_placed, captured_names_of, fits, fits_all, fits_methods}
 use Rattle.code.specs.Resolves.{Resolves, ResolvesAll, ResolvesBlock, ResolvesMethods, ResolvesMethod}
 use Rattle.code.specs.declared.code.Place.{Place}
@@ -18,6 +19,7 @@ use Rattle.code.specs.declared.code.Capture.{Capture}
 use Rattle.code.specs.declared.code.Code as code
 use Rattle.code.specs.declared.code.Code.{Code}
 use Rattle.code.specs.declared.code.MethodCode.{MethodCode}
+use Rattle.code.specs.declared.index.MethodIndex.{MethodIndex}
 use Rattle.code.proofs.Views.{tree_of_code-Call, tree_of_code-List, tree_of_code-Hide, tree_of_code-If, tree_of_code-While, tree_of_code-For, tree_of_code-Try, tree_of_code-Object, tree_of_code-Escape}
 use Rattle.code.proofs.Fitting.{fits-Call, fits-List, fits-Hide, fits-If, fits-While, fits-For, fits-Try, fits-Object, fits-Escape}
 use Rattle.code.proofs.Growing.{behind-nothing, behind-both}
@@ -124,14 +126,15 @@ resolved_escape {own = own} {f = f} {y = y} body named entered a same =
     (transport (sym (fits-Escape own f y body)) (subst (λ (e : Frame). fits_all false e body.value.items) (entered ∙ ap (λ z. f ++ z ∷ []) (sym named)) a.fitting)) same
 
 -- an object, from what it captures in the frame, and its methods in the frame of the captured names and its own
-pub resolved_object : {own : Bool} {f h k : Frame} {p q : Pattern} {ms : Methods} {names : List Name} (captured : Arc (Vec Capture Global) Global) (codes : Arc (Vec MethodCode Global) Global) → q ≡ p → names ≡ captures p ms → captured_names_of captured.value.items ≡ names
-    → all_placed f captured.value.items → k ≡ names ++ only_names (name_of p) → ResolvesMethods k ms codes.value.items → h ≡ behind own (only_names (name_of p)) f → Resolves own f (object_tree p ms) (code.Object q captured codes) h
-resolved_object {own = own} {f = f} {p = p} {q = q} captured codes bound found named placed inside a grown = record {
-  tree = tree_of_code-Object q captured codes ∙ λ i. object_tree (bound i) (a.methods i);
-  fitting = transport (sym (fits-Object own f q captured codes)) (
+pub resolved_object : {own : Bool} {f h k : Frame} {p q : Pattern} {ms : Methods} {names : List Name} (captured : Arc (Vec Capture Global) Global) (codes : Arc (Vec MethodCode Global) Global) (index : Option (Arc MethodIndex Global)) → q ≡ p → names ≡ captures p ms → captured_names_of captured.value.items ≡ names
+    → all_placed f captured.value.items → k ≡ names ++ only_names (name_of p) → ResolvesMethods k ms codes.value.items → index_fits (index_in index) (methods_of_codes codes.value.items) → h ≡ behind own (only_names (name_of p)) f → Resolves own f (object_tree p ms) (code.Object q captured codes index) h
+resolved_object {own = own} {f = f} {p = p} {q = q} captured codes index bound found named placed inside a indexed grown = record {
+  tree = tree_of_code-Object q captured codes index ∙ λ i. object_tree (bound i) (a.methods i);
+  fitting = transport (sym (fits-Object own f q captured codes index)) (
     named ∙ found ∙ (λ i. captures (sym bound i) (sym a.methods i)),
     placed,
     subst (λ (e : Frame). fits_methods e codes.value.items) (inside ∙ λ i. sym named i ++ only_names (name_of (sym bound i))) a.fitting,
+    indexed,
   );
   grown = grown;
 }

@@ -1,5 +1,5 @@
 -- Code that holds a vector stands for a tree of the trees of the vector's code.
-use Rattle.std.proofs.Common.{◌≡◌, List, ℕ, refl, ap, sym, ◌∙◌}
+use Rattle.std.proofs.Common.{◌≡◌, List, ℕ, Option, refl, ap, sym, ◌∙◌}
 use Rattle.kernele.specs.Tree.{call, list_tree, hide, if_tree, while_tree, for_tree, try_tree, object_tree, escape_tree, Trees, Methods, and_then, and_method}
 use Rattle.kernele.specs.declared.tree.Pattern.{Pattern}
 use Rattle.code.specs.View.{tree_of_code, trees_of_codes, trees_of_code_row, methods_of_codes, methods_of_code_row}
@@ -7,6 +7,7 @@ use Rattle.code.specs.declared.code.Capture.{Capture}
 use Rattle.code.specs.declared.code.Code as code
 use Rattle.code.specs.declared.code.Code.{Code}
 use Rattle.code.specs.declared.code.MethodCode.{MethodCode}
+use Rattle.code.specs.declared.index.MethodIndex.{MethodIndex}
 use Rattle.std.specs.declared.sync.Arc.{Arc}
 use Rattle.std.specs.declared.vec.Vec.{Vec}
 use Rattle.std.specs.declared.alloc.Global.{Global}
@@ -53,5 +54,5 @@ method_items (code.more_of-MethodCode verb ps p shape body rest) =
 pub methods_row : (xs : Vec MethodCode Global) → methods_of_code_row (code.TheBlock.hidden-the_row-MethodCode-1 xs) ≡ methods_of_codes xs.items
 methods_row xs = method_items (code.TheBlock.hidden-the_row-MethodCode-1 xs) ∙ ap methods_of_codes (code.items_hidden-the_row-MethodCode-1 xs)
 
-pub tree_of_code-Object : (p : Pattern) (captured : Arc (Vec Capture Global) Global) (ms : Arc (Vec MethodCode Global) Global) → tree_of_code (code.Object p captured ms) ≡ object_tree p (methods_of_codes ms.value.items)
-tree_of_code-Object p captured ms = ap (object_tree p) (methods_row ms.value)
+pub tree_of_code-Object : (p : Pattern) (captured : Arc (Vec Capture Global) Global) (ms : Arc (Vec MethodCode Global) Global) (index : Option (Arc MethodIndex Global)) → tree_of_code (code.Object p captured ms index) ≡ object_tree p (methods_of_codes ms.value.items)
+tree_of_code-Object p captured ms index = ap (object_tree p) (methods_row ms.value)

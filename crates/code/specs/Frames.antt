@@ -12,6 +12,7 @@ use Rattle.code.specs.declared.code.Code as code
 use Rattle.code.specs.declared.code.Code.{Code}
 use Rattle.code.specs.declared.code.MethodCode.{MethodCode}
 use Rattle.code.specs.View.{tree_of_code, methods_of_code_row}
+use Rattle.code.specs.Index.{index_in, index_fits}
 
 -- the names of a frame, the oldest first
 abbrev pub Frame : Type 0
@@ -87,10 +88,10 @@ abbrev mutual
   fits own frame (code.For' pattern p e q shape body) = fits own frame e × fits_row false (after own (tree_of_code e) frame ++ only_names (name_of pattern)) body
   fits own frame (code.Try' p shape body pattern q shape2 handler) = fits_row false frame body × fits_row false (frame ++ only_names (name_of pattern)) handler
   fits own frame (code.Throw' p e) = fits own frame e
-  -- a method begins with the names that the object captured, the object's own name, and its parameters
-  fits own frame (code.Object' pattern captured p shape ms) =
+  -- a method begins with the names that the object captured, the object's own name, and its parameters; an index is that of the methods
+  fits own frame (code.Object' pattern captured p shape ms index) =
       (captured_names_of captured.value.items ≡ captures pattern (methods_of_code_row ms)) × all_placed frame captured.value.items
-      × fits_methods_row (captured_names_of captured.value.items ++ only_names (name_of pattern)) ms
+      × fits_methods_row (captured_names_of captured.value.items ++ only_names (name_of pattern)) ms × index_fits (index_in index) (methods_of_code_row ms)
   fits own frame (code.Escape' x p shape body) = fits_row false (frame ++ x ∷ []) body
 
   pub fits_row : {n : _} → Bool → Frame → code.Row_of-Code n → Type 0

@@ -1,7 +1,8 @@
 -- That code fits a frame has one proof at most.
-use Rattle.std.specs.Prelude.{Bool, false, List, [], ◌∷◌, ◌++◌}
+use Rattle.std.specs.Prelude.{ℕ, Bool, false, List, [], ◌∷◌, ◌++◌, Option, Some, None}
 use Rattle.std.proofs.Common.{refl}
 use Rattle.std.proofs.Props.{props}
+use Rattle.kernele.specs.Tree.{Methods}
 use Rattle.kernele.specs.Scope.{name_of, names_of_all}
 use Rattle.kernele.specs.Free.{captures}
 use Rattle.code.specs.declared.code.Place.{Place}
@@ -9,7 +10,9 @@ use Rattle.code.specs.declared.code.Capture.{Capture}
 use Rattle.code.specs.declared.code.Code as code
 use Rattle.code.specs.declared.code.Code.{Code}
 use Rattle.code.specs.declared.code.MethodCode.{MethodCode}
+use Rattle.code.specs.declared.index.MethodIndex.{MethodIndex}
 use Rattle.code.specs.View.{tree_of_code, methods_of_code_row}
+use Rattle.code.specs.Index.{position_in, found_at, index_in, index_fits}
 use Rattle.code.specs.Frames.{Frame, only_names, after, place_in, all_placed, captured_names_of, fits, fits_row, fits_methods_row, fits_all, fits_methods}
 
 Place-set : IsSet Place
@@ -17,6 +20,14 @@ Place-set = hlevel props
 
 Frame-set : IsSet Frame
 Frame-set = hlevel props
+
+Position-set : IsSet (Option ℕ)
+Position-set = hlevel props
+
+-- that an object's index is that of its methods
+pub index_fits-prop : (index : Option MethodIndex) (ms : Methods) → IsProp (index_fits index ms)
+index_fits-prop None ms a b = refl
+index_fits-prop (Some index) ms a b = λ i verb count. Position-set (found_at index verb count) (position_in ms verb count) (a verb count) (b verb count) i
 
 all_placed-prop : (frame : Frame) (cs : List Capture) → IsProp (all_placed frame cs)
 all_placed-prop frame [] a b = refl
@@ -45,11 +56,12 @@ mutual
   fits-prop own frame (code.Try' p shape body pattern q shape2 handler) a b =
       λ i. (row-prop false frame body a.0 b.0 i, row-prop false (frame ++ only_names (name_of pattern)) handler a.1 b.1 i)
   fits-prop own frame (code.Throw' p e) a b = fits-prop own frame e a b
-  fits-prop own frame (code.Object' pattern captured p shape ms) a b =
+  fits-prop own frame (code.Object' pattern captured p shape ms index) a b =
       λ i. (
         Frame-set (captured_names_of captured.value.items) (captures pattern (methods_of_code_row ms)) a.0 b.0 i,
         all_placed-prop frame captured.value.items a.1 b.1 i,
         methods-prop (captured_names_of captured.value.items ++ only_names (name_of pattern)) ms a.2 b.2 i,
+        index_fits-prop (index_in index) (methods_of_code_row ms) a.3 b.3 i,
       )
   fits-prop own frame (code.Escape' x p shape body) a b = row-prop false (frame ++ x ∷ []) body a b
 

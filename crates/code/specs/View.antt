@@ -25,7 +25,7 @@ abbrev mutual
   tree_of_code (code.For' pattern p e q shape body) = for_tree pattern (tree_of_code e) (trees_of_code_row body)
   tree_of_code (code.Try' p shape body pattern q shape2 handler) = try_tree (trees_of_code_row body) pattern (trees_of_code_row handler)
   tree_of_code (code.Throw' p e) = throw_tree (tree_of_code e)
-  tree_of_code (code.Object' pattern captured p shape ms) = object_tree pattern (methods_of_code_row ms)
+  tree_of_code (code.Object' pattern captured p shape ms index) = object_tree pattern (methods_of_code_row ms)
   tree_of_code (code.Escape' x p shape body) = escape_tree x (trees_of_code_row body)
 
   pub trees_of_code_row : {n : _} → code.Row_of-Code n → Trees

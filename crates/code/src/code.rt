@@ -1,5 +1,6 @@
 // Trees of the language whose names are resolved.
 
+use crate::index::MethodIndex;
 use ids::text::Text;
 use kernele::tree::Pattern;
 use std::sync::Arc;
@@ -49,8 +50,8 @@ pub enum Code {
     /// A body, what its problem is bound to, and the handler.
     Try(Arc<Vec<Code>>, Pattern, Arc<Vec<Code>>),
     Throw(Arc<Code>),
-    /// What the object is bound to, what it captures, and its methods.
-    Object(Pattern, Arc<Vec<Capture>>, Arc<Vec<MethodCode>>),
+    /// What the object is bound to, what it captures, its methods, and their index if they are many.
+    Object(Pattern, Arc<Vec<Capture>>, Arc<Vec<MethodCode>>, Option<Arc<MethodIndex>>),
     /// The name of the ejector, and the block that it ends.
     Escape(Text, Arc<Vec<Code>>),
 }

@@ -3,6 +3,7 @@
 
 pub mod code;
 mod frame;
+pub mod index;
 mod resolving;
 
 pub use frame::places_are_newest;

@@ -10,6 +10,7 @@ ghost use Rattle.code.specs.Resolves.{Resolves, ResolvesAll, ResolvesBlock, Reso
 
 use crate::code::{Code, MethodCode};
 use crate::frame::{add_all_bound, add_bound, add_name, find_place, place_all, share_pattern};
+use crate::index::index_many;
 use ids::text::Text;
 use kernele::captured_names;
 use kernele::tree::{Expr, Method, Pattern, Program};
@@ -344,11 +345,13 @@ fn resolve_object(
     let captures = place_all(alloc, &inside, frame)?;
     add_bound(pattern, false, &mut inside)?;
     let methods = resolve_methods(alloc, methods, &mut inside)?;
+    let index = index_many(alloc, &methods)?;
     add_bound(pattern, own_scope, frame)?;
     Ok(Code::Object(
         share_pattern(pattern)?,
         Arc::new(alloc, captures)?,
         Arc::new(alloc, methods)?,
+        index,
     ))
 }
 

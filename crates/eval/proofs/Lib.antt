@@ -8,6 +8,7 @@ pub mod Fitting
 pub mod Framed
 pub mod Grown
 pub mod Leaves
+pub mod Methods
 pub mod Opened
 pub mod Patterns
 pub mod Places

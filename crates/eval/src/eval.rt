@@ -69,7 +69,9 @@ pub fn eval(w: &mut Working, e: &Code, level: u32) -> Result<End, AllocError>
         Code::For(pattern, list, body) => eval_for(w, pattern, list, body, level),
         Code::Try(body, pattern, handler) => eval_try(w, body, pattern, handler, level),
         Code::Throw(problem) => eval_throw(w, problem, level),
-        Code::Object(pattern, captures, methods) => define_object(w, pattern, captures, methods),
+        Code::Object(pattern, captures, methods, index) => {
+            define_object(w, pattern, captures, methods, index)
+        }
         Code::Escape(name, body) => eval_escape(w, name, body, level),
     }
 }

@@ -1,12 +1,13 @@
 // Objects: what they capture, how they are made, and how a call finds a method.
-ghost use Rattle.std.specs.Prelude.{◌≡◌, [], ◌∷◌, ◌++◌, false, IfOk, IfSome, OnOk, length};
-ghost use Rattle.std.specs.Option.{option_map};
-ghost use Rattle.code.specs.Frames.{Frame, only_names, captured_names_of, all_placed, fits_all, fits_methods};
+ghost use Rattle.std.specs.Prelude.{◌≡◌, [], ◌∷◌, ◌++◌, IfOk, OnOk, length};
+ghost use Rattle.std.specs.Option.{option_copied};
+ghost use Rattle.code.specs.Frames.{only_names, captured_names_of, all_placed, fits_methods};
+ghost use Rattle.code.specs.Index.{Indexes, index_in, index_fits};
 ghost use Rattle.heap.specs.Names.{names_of};
-ghost use Rattle.eval.specs.Fits.{frame_at};
+ghost use Rattle.eval.specs.Fits.{frame_at, FindsMethod};
 ghost use Rattle.kernele.specs.Free.{captures as captures_of};
-ghost use Rattle.kernele.specs.Scope.{name_of, names_of_all};
-ghost use Rattle.code.specs.View.{trees_of_codes, methods_of_codes};
+ghost use Rattle.kernele.specs.Scope.{name_of};
+ghost use Rattle.code.specs.View.{methods_of_codes};
 ghost use Rattle.values.specs.Data.{object as object_value};
 ghost use Rattle.values.specs.View.{val_of, vals_of};
 ghost use Rattle.heap.specs.State.{object_cell, read};
@@ -26,6 +27,7 @@ use crate::nouns::{match_pattern, seek, undefined};
 use crate::results::no_such_method;
 use crate::working::Working;
 use code::code::{Capture as CaptureCode, MethodCode};
+use code::index::{MethodIndex, share_index};
 use heap::made::Made;
 use heap::state::{Binding, Noun};
 use ids::names::ObjId;
@@ -60,10 +62,12 @@ pub fn define_object(
     pattern: &Pattern,
     captures: &Arc<Vec<CaptureCode>>,
     methods: &Arc<Vec<MethodCode>>,
+    index: &Option<Arc<MethodIndex>>,
 ) -> Result<End, AllocError>
     requires fits { (captured_names_of captures.now.value.items ≡ captures_of pattern.now (methods_of_codes methods.now.value.items))
         × all_placed (frame_at (at w.old)) captures.now.value.items
-        × fits_methods (captured_names_of captures.now.value.items ++ only_names (name_of pattern.now)) methods.now.value.items }
+        × fits_methods (captured_names_of captures.now.value.items ++ only_names (name_of pattern.now)) methods.now.value.items
+        × index_fits (index_in index.now) (methods_of_codes methods.now.value.items) }
     ensures ends { IfOk result (λ o. end_of o
         ≡ object_end (capture_of pattern.now (methods_of_codes methods.now.value.items) (at w.old)) (at w.old)) }
     ensures makes { IfOk result (λ o. at w.new
@@ -72,7 +76,7 @@ pub fn define_object(
 {
     let capture = capture_all(w, captures.as_slice())?;
     match capture {
-        Capture::Captured(nouns) => place(w, pattern, nouns, methods),
+        Capture::Captured(nouns) => place(w, pattern, nouns, methods, index),
         Capture::Missing(name) => undefined(w.alloc, &name),
     }
 }
@@ -109,8 +113,10 @@ fn place(
     pattern: &Pattern,
     nouns: Vec<Noun>,
     methods: &Arc<Vec<MethodCode>>,
+    index: &Option<Arc<MethodIndex>>,
 ) -> Result<End, AllocError>
-    requires { fits_methods (names_of nouns.items ++ only_names (name_of pattern.now)) methods.now.value.items }
+    requires fits { fits_methods (names_of nouns.items ++ only_names (name_of pattern.now)) methods.now.value.items }
+    requires indexed { index_fits (index_in index.now) (methods_of_codes methods.now.value.items) }
     ensures ends { IfOk result (λ o. end_of o ≡ placed_end (has_object_room (at w.old)) (at w.old)) }
     ensures makes { IfOk result (λ o. at w.new ≡ placed (has_object_room (at w.old)) pattern.now
         (record { own = pattern.now; captured = nouns_of nouns.items; methods = methods_of_codes methods.now.value.items })
@@ -123,6 +129,7 @@ fn place(
         own: pattern.share()?,
         captured: Arc::new(w.alloc, nouns)?,
         methods: Arc::try_clone(methods)?,
+        index: share_index(index)?,
     };
     let object = Value::Object(w.draft.new_object(made)?);
     match_pattern(w, pattern, &object)?;
@@ -161,7 +168,7 @@ fn method_target(
         ≡ method_target_of id (object_of object.now) verb.now (vals_of args.now)
         (method_in (methods_of_codes object.now.methods.value.items) verb.now (vals_of args.now))) }
 {
-    match find_method(object.methods.as_slice(), verb, args) {
+    match find_method(object, verb, args)? {
         Some(method) => {
             let nouns = method_nouns(frame, id, object, method.parameters.as_slice(), args)?;
             let body = Arc::try_clone(&method.body)?;
@@ -171,13 +178,44 @@ fn method_target(
     }
 }
 
-/// The method with this verb and as many parameters as there are arguments.
-fn find_method<'a>(methods: &'a [MethodCode], verb: &Verb, args: &[Value]) -> Option<&'a MethodCode>
-    ensures found { option_map (λ m. (m.now.parameters.value.items, trees_of_codes m.now.body.value.items)) result
-        ≡ method_in (methods_of_codes methods.now) verb.now (vals_of args.now) }
-    ensures count { IfSome result (λ m. length args.now ≡ length m.now.parameters.value.items) }
-    ensures fits { IfSome result (λ m. (frame : Frame) → fits_methods frame methods.now
-        → fits_all false (frame ++ only_names (names_of_all m.now.parameters.value.items)) m.now.body.value.items) }
+/// The method with this verb and as many parameters as there are arguments: among many it is looked up, among few sought.
+fn find_method<'a>(
+    object: &'a Made,
+    verb: &Verb,
+    args: &[Value],
+) -> Result<Option<&'a MethodCode>, AllocError>
+    ensures { IfOk result (λ method. FindsMethod object.now.methods.value.items verb.now args.now (option_copied method)) }
+{
+    let methods = object.methods.as_slice();
+    match &object.index {
+        Some(index) => look_up_method(methods, index, verb, args),
+        None => Ok(scan_methods(methods, verb, args)),
+    }
+}
+
+/// The method that an index finds.
+fn look_up_method<'a>(
+    methods: &'a [MethodCode],
+    index: &MethodIndex,
+    verb: &Verb,
+    args: &[Value],
+) -> Result<Option<&'a MethodCode>, AllocError>
+    requires { Indexes index.now (methods_of_codes methods.now) }
+    ensures { IfOk result (λ method. FindsMethod methods.now verb.now args.now (option_copied method)) }
+{
+    match index.find(verb.text(), args.len())? {
+        Some(position) => Ok(Some(&methods[position])),
+        None => Ok(None),
+    }
+}
+
+/// The method that is found by looking at one after another.
+fn scan_methods<'a>(
+    methods: &'a [MethodCode],
+    verb: &Verb,
+    args: &[Value],
+) -> Option<&'a MethodCode>
+    ensures { FindsMethod methods.now verb.now args.now (option_copied result) }
 {
     let mut rest = methods;
     while let Some((method, others)) = rest.split_first() {

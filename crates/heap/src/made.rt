@@ -1,12 +1,15 @@
 // What an object is made of.
 ghost use Rattle.std.specs.Prelude.{◌++◌};
+ghost use Rattle.code.specs.View.{methods_of_codes};
 ghost use Rattle.code.specs.Frames.{only_names, fits_methods};
-ghost use Rattle.code.specs.Props.{fits_methods-prop};
+ghost use Rattle.code.specs.Index.{index_in, index_fits};
+ghost use Rattle.code.specs.Props.{fits_methods-prop, index_fits-prop};
 ghost use Rattle.heap.specs.Names.{names_of};
 ghost use Rattle.kernele.specs.Scope.{name_of};
 
 use crate::state::Noun;
 use code::code::MethodCode;
+use code::index::MethodIndex;
 use kernele::tree::Pattern;
 use std::sync::Arc;
 
@@ -18,5 +21,8 @@ pub struct Made {
     /// The names that it captured, the newest last.
     pub captured: Arc<Vec<Noun>>,
     pub methods: Arc<Vec<MethodCode>>,
+    /// Where its methods stand, if they are many: one for all objects that a definition makes.
+    pub index: Option<Arc<MethodIndex>>,
     pub ghost fits: { fits_methods (names_of captured.value.items ++ only_names (name_of own)) methods.value.items } by { fits_methods-prop (names_of captured.value.items ++ only_names (name_of own)) methods.value.items },
+    pub ghost indexed: { index_fits (index_in index) (methods_of_codes methods.value.items) } by { index_fits-prop (index_in index) (methods_of_codes methods.value.items) },
 }

@@ -8,6 +8,7 @@ ghost use Rattle.heap.specs.View.{bind_of, object_of, tops_of, slots_of, objects
 ghost use Rattle.values.specs.View.{val_of};
 
 use crate::made::Made;
+use code::index::share_index;
 use ids::names::{ObjId, SlotId};
 use ids::text::Text;
 use std::alloc::{AllocError, Global};
@@ -42,7 +43,7 @@ pub struct Noun {
 }
 
 impl Made {
-    /// The same object, whose names and methods are shared. Fails only for want of memory.
+    /// The same object, whose names, methods and index are shared. Fails only for want of memory.
     pub fn share(&self) -> Result<Made, AllocError>
         ensures { IfOk result (λ m. object_of m ≡ object_of self.now) }
     {
@@ -50,6 +51,7 @@ impl Made {
             own: self.own.share()?,
             captured: Arc::try_clone(&self.captured)?,
             methods: Arc::try_clone(&self.methods)?,
+            index: share_index(&self.index)?,
         })
     }
 }

@@ -36,6 +36,36 @@ fn methods(rt: HostRuntime) -> Result<(), Fail> {
     )
 }
 
+/// Objects with so many methods that these have an index, which the objects of one definition share.
+#[test]
+fn many_methods(rt: HostRuntime) -> Result<(), Fail> {
+    expect_turns(
+        &rt,
+        &[
+            (
+                "def o { method a() { 1 } method a(x) { x + 1 } method a(x, y) { x * y } method b() { 4 } method c() { 5 } method d() { 6 } method f() { 7 } method g() { 8 } method h() { 9 } method i() { 10 } method b(x) { [x] } method z(x) { x } }; [o.a(), o.a(4), o.a(4, 5), o.b(), o.c(), o.i(), o.b(7), o.z(12)]",
+                "value [1, 5, 20, 4, 5, 10, [7], 12]",
+            ),
+            (
+                "def o { method a() { 1 } method a(x) { 2 } method b() { 3 } method c() { 4 } method d() { 5 } method f() { 6 } method g() { 7 } method h() { 8 } method z(x) { 9 } }; o.a(1, 2)",
+                "problem \"no method a/2\"",
+            ),
+            (
+                "def o { method a() { 1 } method a(x) { 2 } method b() { 3 } method c() { 4 } method d() { 5 } method f() { 6 } method g() { 7 } method h() { 8 } method z(x) { 9 } }; o.z()",
+                "problem \"no method z/0\"",
+            ),
+            (
+                "def o { method a() { 1 } method a(x) { 2 } method b() { 3 } method c() { 4 } method d() { 5 } method f() { 6 } method g() { 7 } method h() { 8 } method z(x) { 9 } }; o.y(1)",
+                "problem \"no method y/1\"",
+            ),
+            (
+                "def make(k) { return def _ { method a() { 1 } method b() { 2 } method c() { 3 } method d() { 4 } method f() { 5 } method g() { 6 } method h() { 7 } method i() { 8 } method z(x) { k + x } } }; def p := make(10); def q := make(20); [p.z(1), q.z(2), p.i()]",
+                "value [11, 22, 8]",
+            ),
+        ],
+    )
+}
+
 #[test]
 fn returns(rt: HostRuntime) -> Result<(), Fail> {
     expect_turns(

@@ -109,7 +109,7 @@ calling::eval_escape-returns t c =
     (ap trees_of_codes (slice_of c.deref-2.ensures.value c.deref.ensures)) c.in_ok-ended.ensures c.close_escape.ensures h) c.escape_end.ensures
 
 pub eval::eval-returns-in-Object : goal.eval::eval-returns-in-Object
-eval::eval-returns-in-Object t c = if_both _ _ _ _ (λ o h g. node _ {a = at c.args.w.now} (ap tree_of_code c.in-Object.is ∙ tree_of_code-Object c.in-Object.pattern c.in-Object.captures c.in-Object.methods) (runs_to run_object h g) (omega arith) c.if-level-gt-DEEPEST.false) c.define_object.ensures.ends c.define_object.ensures.makes
+eval::eval-returns-in-Object t c = if_both _ _ _ _ (λ o h g. node _ {a = at c.args.w.now} (ap tree_of_code c.in-Object.is ∙ tree_of_code-Object c.in-Object.pattern c.in-Object.captures c.in-Object.methods c.in-Object.index) (runs_to run_object h g) (omega arith) c.if-level-gt-DEEPEST.false) c.define_object.ensures.ends c.define_object.ensures.makes
 
 pub eval::eval-returns-in-Escape : goal.eval::eval-returns-in-Escape
 eval::eval-returns-in-Escape t c = IfOk-weaker _ _ _ (λ o h. node _ (ap tree_of_code c.in-Escape.is ∙ tree_of_code-Escape c.in-Escape.name c.in-Escape.body) h (omega arith) c.if-level-gt-DEEPEST.false) c.eval_escape.ensures
@@ -274,7 +274,7 @@ pub eval::eval-eval_try-requires : goal.eval::eval-eval_try-requires
 eval::eval-eval_try-requires t c = (search rules, (search rules, parts_fit (at c.args.w.now) c.in-Try.is (fits-Try c.args.w.now.own_scope (frame_of (at c.args.w.now).nouns) c.in-Try.body c.in-Try.pattern c.in-Try.handler) c.requires.fits))
 
 pub eval::eval-define_object-requires : goal.eval::eval-define_object-requires
-eval::eval-define_object-requires t c = record { fits = parts_fit (at c.args.w.now) c.in-Object.is (fits-Object c.args.w.now.own_scope (frame_of (at c.args.w.now).nouns) c.in-Object.pattern c.in-Object.captures c.in-Object.methods) c.requires.fits }
+eval::eval-define_object-requires t c = record { fits = parts_fit (at c.args.w.now) c.in-Object.is (fits-Object c.args.w.now.own_scope (frame_of (at c.args.w.now).nouns) c.in-Object.pattern c.in-Object.captures c.in-Object.methods c.in-Object.index) c.requires.fits }
 
 pub eval::eval-eval_escape-requires : goal.eval::eval-eval_escape-requires
 eval::eval-eval_escape-requires t c = (search rules, (search rules, (parts_fit (at c.args.w.now) c.in-Escape.is (fits-Escape c.args.w.now.own_scope (frame_of (at c.args.w.now).nouns) c.in-Escape.name c.in-Escape.body) c.requires.fits, search rules)))

@@ -5,6 +5,8 @@ use Rattle.kernele.specs.View.{tree_of, methods_of}
 use Rattle.kernele.specs.Scope.{nodes}
 use Rattle.kernele.proofs.Views.{tree_of-Call, tree_of-List, tree_of-Hide, tree_of-If, tree_of-While, tree_of-For, tree_of-Try, tree_of-Object, tree_of-Escape}
 use Rattle.kernele.specs.Free.{captures}
+use Rattle.code.specs.View.{methods_of_codes}
+use Rattle.code.specs.Index.{index_in, index_fits}
 use Rattle.code.specs.Frames.{all_placed, captured_names_of}
 use Rattle.code.specs.Resolves.{ResolvesMethod, ResolvesMethods}
 use Rattle.code.proofs.Growing.{truncated}
@@ -115,7 +117,9 @@ pub resolve_object-returns : goal.resolve_object-returns
 resolve_object-returns t c =
     let all = c.deref-2.ensures.value ∙ ap (λ v. v.items) c.deref.ensures in
     let same = c.deref-6.ensures.value ∙ ap (λ v. v.items) c.deref-5.ensures in
-    resolved_object _ _ c.in_ok-share_pattern.ensures (c.in_ok-inside.ensures ∙ ap (λ ms. captures c.args.pattern.now (methods_of ms)) all)
+    let codes = c.deref-7.ensures.value in
+    resolved_object _ _ _ c.in_ok-share_pattern.ensures (c.in_ok-inside.ensures ∙ ap (λ ms. captures c.args.pattern.now (methods_of ms)) all)
     (ap (λ v. captured_names_of v.items) c.in_ok-new.ensures.ok ∙ c.in_ok-captures.ensures.names ∙ c.deref-3.ensures.value)
     (transport (λ i. all_placed (c.deref-4.ensures.value i) (sym c.in_ok-new.ensures.ok i).items) c.in_ok-captures.ensures.places) c.in_ok-add_bound.ensures
-    (transport (λ i. ResolvesMethods c.add_bound.new.frame.items (methods_of (same i)) (sym c.in_ok-new-2.ensures.ok i).items) c.in_ok-methods.ensures) c.in_ok-add_bound-2.ensures
+    (transport (λ i. ResolvesMethods c.add_bound.new.frame.items (methods_of (same i)) (sym c.in_ok-new-2.ensures.ok i).items) c.in_ok-methods.ensures)
+    (transport (λ i. index_fits (index_in c.in_ok-index.index) (methods_of_codes ((codes ∙ ap (λ v. v.items) (sym c.in_ok-new-2.ensures.ok)) i))) c.in_ok-index.ensures) c.in_ok-add_bound-2.ensures

@@ -15,7 +15,7 @@ pub place-requires : goal.place-requires
 place-requires c =
     let found = sym (ap capture_view c.in-Captured.is) ∙ c.in_ok-capture.ensures ∙ ap (λ cs. all_captured (captured []) (captured_names_of cs) (at c.args.w.now)) (slice_of c.as_slice.ensures.value c.deref.ensures) in
     let names = sym (frame_of_nouns c.in-Captured.nouns.items) ∙ captured_frame [] (nouns_of c.in-Captured.nouns.items) (captured_names_of c.args.captures.now.value.items) (at c.args.w.now) found in
-    subst (λ f. fits_methods (f ++ only_names (name_of c.args.pattern.now)) c.args.methods.now.value.items) (sym names) c.requires.fits.2
+    record { fits = subst (λ f. fits_methods (f ++ only_names (name_of c.args.pattern.now)) c.args.methods.now.value.items) (sym names) c.requires.fits.2; indexed = c.requires.fits.3 }
 
 pub returns-in-Captured-clause-makes : goal.returns-in-Captured-clause-makes
 returns-in-Captured-clause-makes c =

@@ -3,7 +3,7 @@ use Rattle.code.specs.Frames.{Frame, fits_methods}
 use Rattle.code.specs.View.{methods_of_codes}
 use Rattle.values.specs.View.{vals_of}
 use Rattle.eval.specs.Rules.{method_in}
-use Rattle.eval.proofs.objects.find_method.Given as goal
+use Rattle.eval.proofs.objects.scan_methods.Given as goal
 
 -- the methods that are left have what all have, and fit where all do
 abbrev pub invariant-loop-method : goal.invariant-loop-method

@@ -1,0 +1,90 @@
+// Where the methods of an object stand, so that a call finds one without a scan of all.
+ghost use Rattle.std.specs.Prelude.{◌≡◌, IfOk, OnOk, Some, length};
+ghost use Rattle.std.specs.BTreeMap.{Updates};
+ghost use Rattle.code.specs.View.{methods_of_codes};
+ghost use Rattle.code.specs.Index.{key_cmp, key_of, found_at, Indexes, index_in, index_fits};
+
+use crate::code::MethodCode;
+use ids::text::Text;
+use std::alloc::{AllocError, Global};
+use std::collections::BTreeMap;
+use std::sync::Arc;
+
+/// What a method is found by: its verb, and how many parameters it has.
+#[derive(PartialEq, Eq, PartialOrd, Ord, Drop)]
+pub struct MethodKey {
+    pub verb: Text,
+    pub count: usize,
+}
+
+/// Where the first method with each key stands.
+#[derive(Drop)]
+pub struct MethodIndex {
+    positions: BTreeMap<MethodKey, usize>,
+}
+
+/// How many methods are scanned: of so few a scan is quicker than an index.
+const FEW_METHODS: usize = 8;
+
+/// The index of these methods, if they are many.
+pub(crate) fn index_many(
+    alloc: Global,
+    methods: &[MethodCode],
+) -> Result<Option<Arc<MethodIndex>>, AllocError>
+    ensures { IfOk result (λ index. index_fits (index_in index) (methods_of_codes methods.now)) }
+{
+    if methods.len() <= FEW_METHODS {
+        return Ok(None);
+    }
+    let index = index_all(alloc, methods)?;
+    Ok(Some(Arc::new(alloc, index)?))
+}
+
+/// The index of these methods.
+fn index_all(alloc: Global, methods: &[MethodCode]) -> Result<MethodIndex, AllocError>
+    ensures { IfOk result (λ index. Indexes index (methods_of_codes methods.now)) }
+{
+    let mut positions = BTreeMap::new(alloc);
+    let mut rest = methods;
+    // From the last one on, so that of methods with the same key the first stays.
+    while let Some((method, before)) = rest.split_last() {
+        put(&mut positions, method, before.len())?;
+        rest = before;
+    }
+    Ok(MethodIndex { positions })
+}
+
+/// Lets the key of a method stand for a position.
+fn put(
+    positions: &mut BTreeMap<MethodKey, usize>,
+    method: &MethodCode,
+    position: usize,
+) -> Result<(), AllocError>
+    ensures { OnOk result (Updates key_cmp positions.old positions.new
+        (key_of method.now.verb (length method.now.parameters.value.items)) (Some position)) }
+{
+    let verb = method.verb.share()?;
+    let count = method.parameters.len();
+    positions.insert(MethodKey { verb, count }, position)?;
+    Ok(())
+}
+
+impl MethodIndex {
+    /// Where the first method with this verb and so many parameters stands.
+    pub fn find(&self, verb: &Text, count: usize) -> Result<Option<usize>, AllocError>
+        ensures { IfOk result (λ position. position ≡ found_at self.now verb.now count) }
+    {
+        let verb = verb.share()?;
+        Ok(self.positions.get(&MethodKey { verb, count }).copied())
+    }
+}
+
+/// The same index, shared. Fails only for want of memory.
+pub fn share_index(index: &Option<Arc<MethodIndex>>) -> Result<Option<Arc<MethodIndex>>, AllocError>
+    ensures { IfOk result (λ shared. index_in shared ≡ index_in index.now) }
+{
+    match index {
+        Some(index) => Ok(Some(Arc::try_clone(index)?)),
+        None => Ok(None),
+    }
+}
