@@ -1,5 +1,5 @@
 -- Leaves, and calls on them.
-use Rattle.std.proofs.Common.{arith, ◌≡◌, ℕ, ◌+◌, ◌-◌, ◌<◌, ◌≤◌, ℤ, List, [], ◌∷◌, refl, sym, ap, ◌∙◌, subst}
+use Rattle.std.proofs.Common.{arith, ◌≡◌, ℕ, ◌+◌, ◌-◌, ◌<◌, ◌≤◌, ℤ, List, refl, sym, ap, ◌∙◌, subst}
 use Rattle.kernele.specs.Tree.{Name, Tree, int_tree, noun, call, none, and_then}
 use Rattle.code.specs.Frames.{after, fits_all}
 use Rattle.code.specs.View.{tree_of_code, trees_of_codes}

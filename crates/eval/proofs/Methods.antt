@@ -1,5 +1,5 @@
 -- How a call finds a method: at the position where an index has it, or nowhere.
-use Rattle.std.proofs.Common.{◌≡◌, ℕ, ◌+◌, ◌<◌, arith, zero, suc, add-one, Bool, true, false, ◌&&◌, cond, List, [], ◌∷◌, Option, Some, None, length, get_or, refl, ap, sym, subst, ◌∙◌}
+use Rattle.std.proofs.Common.{◌≡◌, ℕ, ◌+◌, ◌<◌, arith, add-one, Bool, true, false, ◌&&◌, cond, List, [], ◌∷◌, Option, Some, None, length, get_or, refl, ap, sym, subst, ◌∙◌}
 use Rattle.std.specs.Prelude.{nat_eq}
 use Rattle.std.specs.Option.{option_map}
 use Rattle.std.specs.Str.{bytes_eq}
@@ -7,7 +7,8 @@ use Rattle.std.proofs.lemmas.Bool.{eqb-true, eqb-false, and_parts}
 use Rattle.kernele.specs.Tree.{Name}
 use Rattle.kernele.specs.declared.tree.Pattern.{Pattern}
 use Rattle.code.specs.View.{trees_of_codes, methods_of_codes}
-use Rattle.code.specs.Index.{position_in}
+use Rattle.code.specs.Index.{position_in, found_at, Indexes}
+use Rattle.code.specs.declared.index.MethodIndex.{MethodIndex}
 use Rattle.code.specs.declared.code.MethodCode.{MethodCode}
 use Rattle.values.specs.View.{vals_of}
 use Rattle.values.specs.declared.value.Value.{Value}
@@ -71,6 +72,10 @@ found_case k ks verb vs i m false h e is later = next_case k ks verb vs i m (pos
 pub found_there : (ms : List MethodCode) (verb : Name) (vs : List Value) (i : ℕ) (m : MethodCode) → position_in (methods_of_codes ms) verb (length vs) ≡ Some i → m ≡ get_or ms i m → FindsMethod ms verb vs (Some m)
 found_there [] verb vs i m e is = absurd (cc)
 found_there (k ∷ ks) verb vs i m e is = found_case k ks verb vs i m (has k verb vs) refl e is (λ j p q. found_there ks verb vs j m p q)
+
+-- what an index of these methods gives is the position
+pub index_gives : (ms : List MethodCode) (index : MethodIndex) (verb v : Name) (count : ℕ) (given o : Option ℕ) → Indexes index (methods_of_codes ms) → v ≡ verb → given ≡ found_at index v count → given ≡ o → position_in (methods_of_codes ms) verb count ≡ o
+index_gives ms index verb v count given o indexed same is e = sym (indexed verb count) ∙ ap (λ x. found_at index x count) (sym same) ∙ sym is ∙ e
 
 neither : (b : Bool) (o : Option ℕ) → cond b (Some 0) (option_map (λ j. j + 1) o) ≡ None → (b ≡ false) × (o ≡ None)
 neither true o e = absurd (cc)

@@ -5,7 +5,6 @@ use Rattle.heap.specs.View.{bind_of}
 use Rattle.heap.specs.Drafts.{draft_of, counts_of}
 use Rattle.eval.specs.Locals.{locals_of}
 use Rattle.eval.specs.View.{at}
-use Rattle.eval.specs.Rules.{bound_in}
 use Rattle.eval.proofs.Drafted.{drafted_same}
 use Rattle.eval.proofs.Scopes.{locals_of-push, bound_on_top, bound_inside}
 use Rattle.eval.proofs.nouns.bind.Goals as goal

@@ -1,6 +1,6 @@
 use Rattle.std.proofs.Common.{arith}
 use Rattle.code.specs.View.{methods_of_codes}
-use Rattle.heap.specs.View.{nouns_of, object_of}
+use Rattle.heap.specs.View.{nouns_of}
 use Rattle.heap.specs.Drafts.{draft_of, counts_of}
 use Rattle.eval.specs.View.{at}
 use Rattle.eval.proofs.Captures.{placed_there}

@@ -1,9 +1,6 @@
-use Rattle.std.proofs.Common.{rules, w64, refl, sym, ap, ◌∙◌, subst}
+use Rattle.std.proofs.Common.{rules, w64, refl, sym, subst}
 use Rattle.std.proofs.lemmas.Int.{to_z-of_z}
 use Rattle.std.proofs.lemmas.Option.{IfSome_then}
-use Rattle.values.specs.Data.{int, and_val, no_vals}
-use Rattle.values.specs.Replies.{data_reply}
-use Rattle.values.proofs.VerbTexts.{spelled}
 use Rattle.eval.specs.Fits.{all_fit_at}
 use Rattle.eval.specs.View.{at}
 use Rattle.eval.proofs.Leaves.{leaf_fits, leaf_call, call_as}
