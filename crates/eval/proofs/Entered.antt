@@ -9,15 +9,15 @@ use Rattle.kernele.specs.declared.tree.Pattern.{Pattern}
 use Rattle.kernele.specs.declared.tree.Pattern.TheVariants as pattern
 use Rattle.values.specs.Data.{Val, null, ejector}
 use Rattle.heap.specs.State.{Nouns}
-use Rattle.eval.specs.At.{At}
-use Rattle.eval.specs.Outcomes.{End, value, Gather}
-use Rattle.eval.specs.Rules.{Target, inside, leaving, enters, target_of, next_ejector, escaping, escape_end, Ends, Runs, run_call_enters, run_escape, Args, Items, Taking}
-use Rattle.eval.specs.Locals.{locals_of}
-use Rattle.eval.specs.View.{at, opened_of}
-use Rattle.eval.specs.declared.local.Local.{Local}
-use Rattle.eval.specs.declared.working.Working.{Working}
-use Rattle.eval.proofs.Opened.{taking_opened}
-use Rattle.eval.proofs.Ejectors.{opened_truncated}
+use Rattle.erules.specs.At.{At}
+use Rattle.erules.specs.Outcomes.{End, value, Gather}
+use Rattle.erules.specs.Rules.{Target, inside, leaving, enters, target_of, next_ejector, escaping, escape_end, Ends, Runs, run_call_enters, run_escape, Args, Items, Taking}
+use Rattle.erules.specs.Locals.{locals_of}
+use Rattle.erules.specs.View.{at, opened_of}
+use Rattle.erules.specs.declared.local.Local.{Local}
+use Rattle.erules.specs.declared.working.Working.{Working}
+use Rattle.erules.proofs.Opened.{taking_opened}
+use Rattle.erules.proofs.Ejectors.{opened_truncated}
 
 -- what a method's block does, where the caller's names come back behind it
 abbrev pub Enters : ℕ → Trees → Nouns → At → End → At → Type 0

@@ -2,19 +2,19 @@
 ghost use Rattle.std.specs.Prelude.{◌≡◌, ◌≤◌, ◌++◌, false, IfOk};
 ghost use Rattle.kernele.specs.Tree.{hide, if_tree, while_tree, for_tree, try_tree};
 ghost use Rattle.code.specs.Frames.{fits_all, only_names};
-ghost use Rattle.eval.specs.Fits.{fits_at, frame_at, frame_behind};
+ghost use Rattle.erules.specs.Fits.{fits_at, frame_at, frame_behind};
 ghost use Rattle.kernele.specs.Scope.{name_of};
 ghost use Rattle.code.specs.View.{tree_of_code, trees_of_codes};
 ghost use Rattle.values.specs.View.{val_of, vals_of};
-ghost use Rattle.eval.specs.Rules.{Runs, Block, Taking, Each};
-ghost use Rattle.eval.specs.View.{at, end_of};
+ghost use Rattle.erules.specs.Rules.{Runs, Block, Taking, Each};
+ghost use Rattle.erules.specs.View.{at, end_of};
 
-use crate::blocks::{enter, leave};
-use crate::end::End;
+use erules::blocks::{enter, leave};
+use erules::end::End;
 use crate::eval::{eval, eval_items};
-use crate::nouns::match_pattern;
-use crate::wanted::{Choosing, Listing, caught, choose, halt_in, items_of};
-use crate::working::Working;
+use erules::nouns::match_pattern;
+use erules::wanted::{Choosing, Listing, caught, choose, halt_in, items_of};
+use erules::working::Working;
 use code::code::Code;
 use kernele::tree::Pattern;
 use std::alloc::AllocError;

@@ -3,19 +3,19 @@ ghost use Rattle.std.specs.Prelude.{◌≡◌, ◌≤◌, IfOk};
 ghost use Rattle.kernele.specs.Tree.{define, define_list, variable, assign as assign_tree, list_tree, same_tree, throw_tree};
 ghost use Rattle.code.specs.Frames.{fits, place_in};
 ghost use Rattle.code.specs.View.{tree_of_code, trees_of_codes};
-ghost use Rattle.eval.specs.Fits.{fits_at, all_fit_at, frame_behind};
+ghost use Rattle.erules.specs.Fits.{fits_at, all_fit_at, frame_behind};
 ghost use Rattle.values.specs.Data.{null};
-ghost use Rattle.eval.specs.Rules.{Ends, Runs, Args, Items};
-ghost use Rattle.eval.specs.View.{at, end_of, gather_of};
+ghost use Rattle.erules.specs.Rules.{Ends, Runs, Args, Items};
+ghost use Rattle.erules.specs.View.{at, end_of, gather_of};
 
 use crate::calling::{eval_call, eval_escape};
 use crate::control::{eval_for, eval_hide, eval_if, eval_try, eval_while};
-use crate::end::{Abandon, End, Gathered, Halt};
-use crate::nouns::{assign, bind_parts, declare, match_pattern, noun_end};
-use crate::objects::define_object;
-use crate::results::{int_end, list_end, text_end};
-use crate::wanted::thrown;
-use crate::working::Working;
+use erules::end::{Abandon, End, Gathered, Halt};
+use erules::nouns::{assign, bind_parts, declare, match_pattern, noun_end};
+use erules::objects::define_object;
+use erules::results::{int_end, list_end, text_end};
+use erules::wanted::thrown;
+use erules::working::{DEEPEST, Working};
 use code::code::{Code, Place};
 use ids::text::Text;
 use kernele::tree::Pattern;
@@ -23,9 +23,6 @@ use std::alloc::AllocError;
 use std::sync::Arc;
 use values::sameness::same;
 use values::value::Value;
-
-/// The deepest level at which a node may begin.
-pub(crate) const DEEPEST: u32 = 1000;
 
 /// The value of an end, or an early return of what halted it.
 macro_rules! value {

@@ -18,7 +18,7 @@ use Rattle.book.specs.Books.{Book, blank}
 use Rattle.book.specs.Calls.{Enters, Undoes, Redoes}
 use Rattle.ids.specs.declared.names.EventName.{EventName}
 use Rattle.ids.specs.declared.names.MsgId.{MsgId}
-use Rattle.eval.specs.Outcomes.{End}
+use Rattle.erules.specs.Outcomes.{End}
 use Rattle.ids.specs.declared.names.VatNo.{VatNo}
 use Rattle.book.specs.Fault as book
 use Rattle.book.specs.Fault.{Tells, check_tells}

@@ -9,7 +9,7 @@ use Rattle.ids.specs.declared.names.VatNo.{VatNo}
 use Rattle.kernele.specs.Tree.{Trees}
 use Rattle.kernele.specs.Scope as scope
 use Rattle.values.specs.Shown as values
-use Rattle.eval.specs.Outcomes.{End, value, halt, thrown, ejected, abandoned, reason}
+use Rattle.erules.specs.Outcomes.{End, value, halt, thrown, ejected, abandoned, reason}
 use Rattle.ereader.specs.Texts.{ReadAs}
 use Rattle.ereader.specs.Shown as reading
 use Rattle.ereader.specs.declared.fault.ReadFault.{ReadFault}

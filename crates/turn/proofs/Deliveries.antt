@@ -9,20 +9,20 @@ use Rattle.code.specs.declared.code.Code.{Code}
 use Rattle.values.specs.Data.{Val, null}
 use Rattle.heap.specs.State.{State, frame_of}
 use Rattle.heap.specs.Drafts.{Counts}
-use Rattle.eval.specs.At.{At}
-use Rattle.eval.specs.Outcomes.{End}
-use Rattle.eval.specs.Rules.{Items}
+use Rattle.erules.specs.At.{At}
+use Rattle.erules.specs.Outcomes.{End}
+use Rattle.erules.specs.Rules.{Items}
 use Rattle.turn.specs.Turn.{opening, asked, Delivers, opens, asks, Outcome, outcome, settled, start, kept}
 use Rattle.kernele.specs.View.{program_of}
 use Rattle.kernele.specs.declared.tree.Program.{Program}
-use Rattle.eval.specs.Locals.{locals_of}
-use Rattle.eval.specs.View.{opened_of}
+use Rattle.erules.specs.Locals.{locals_of}
+use Rattle.erules.specs.View.{opened_of}
 use Rattle.turn.specs.View.{delivery_of, ended_of, outcome_of}
 use Rattle.turn.specs.declared.delivery.Ended.{Ended}
 use Rattle.turn.specs.declared.delivery.Ended.TheVariants as ended
-use Rattle.eval.specs.declared.end.Abandon.{Abandon}
+use Rattle.erules.specs.declared.end.Abandon.{Abandon}
 use Rattle.values.specs.declared.value.Value.{Value}
-use Rattle.eval.specs.declared.local.Local.{Local}
+use Rattle.erules.specs.declared.local.Local.{Local}
 use Rattle.turn.specs.declared.delivery.Delivery as code
 use Rattle.turn.specs.declared.delivery.Delivery.TheVariants as delivery
 use Rattle.turn.specs.declared.delivery.Outcome as code-outcome

@@ -6,17 +6,17 @@ use Rattle.ids.specs.declared.names.EjId.{EjId}
 use Rattle.kernele.specs.Tree.{Trees}
 use Rattle.values.specs.Data.{Val, null}
 use Rattle.heap.specs.State.{Cell, State}
-use Rattle.eval.specs.At.{At}
-use Rattle.eval.specs.Outcomes.{End, value, halt, thrown, ejected, abandoned}
-use Rattle.eval.specs.Rules.{Items}
+use Rattle.erules.specs.At.{At}
+use Rattle.erules.specs.Outcomes.{End, value, halt, thrown, ejected, abandoned}
+use Rattle.erules.specs.Rules.{Items}
 use Rattle.turn.specs.Turn.{Delivery, Outcome, outcome, settled, kept, start, Delivers, opens, asks}
-use Rattle.eval.specs.Touched.{Touch, Agree, NotPut}
+use Rattle.erules.specs.Touched.{Touch, Agree, NotPut}
 use Rattle.turn.specs.Touched.{delivery_touched}
-use Rattle.eval.proofs.Determined.{Same, items_same}
-use Rattle.eval.proofs.Ejections.{items_inside}
-use Rattle.eval.proofs.Framed.{Framed, items_framed}
-use Rattle.eval.proofs.Spent.{items_left}
-use Rattle.eval.proofs.Unwritten.{items_un}
+use Rattle.erules.proofs.Determined.{Same, items_same}
+use Rattle.erules.proofs.Ejections.{items_inside}
+use Rattle.erules.proofs.Framed.{Framed, items_framed}
+use Rattle.erules.proofs.Spent.{items_left}
+use Rattle.erules.proofs.Unwritten.{items_un}
 
 outcome_same : (s : State) {o p : End} {b c : At} → Same o p b c → outcome s (settled o) b ≡ outcome s (settled p) c
 outcome_same s t = λ i. outcome s (settled (t.end i)) (t.place i)

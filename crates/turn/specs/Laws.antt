@@ -6,11 +6,11 @@ use Rattle.ids.specs.declared.names.EjId.{EjId}
 use Rattle.kernele.specs.Tree.{Trees}
 use Rattle.values.specs.Data.{Val, null}
 use Rattle.heap.specs.State.{Cell, State}
-use Rattle.eval.specs.At.{At}
-use Rattle.eval.specs.Outcomes.{ejected, halt}
-use Rattle.eval.specs.Rules.{Items}
+use Rattle.erules.specs.At.{At}
+use Rattle.erules.specs.Outcomes.{ejected, halt}
+use Rattle.erules.specs.Rules.{Items}
 use Rattle.turn.specs.Turn.{Delivery, Outcome, Delivers, start}
-use Rattle.eval.specs.Touched.{Agree, NotPut}
+use Rattle.erules.specs.Touched.{Agree, NotPut}
 use Rattle.turn.specs.Touched.{delivery_touched}
 
 -- a delivery has at most one outcome

@@ -6,9 +6,9 @@ use Rattle.kernele.specs.Tree.{Trees}
 use Rattle.values.specs.Data.{Val, null, broken}
 use Rattle.values.specs.Replies.{limited}
 use Rattle.heap.specs.State.{State}
-use Rattle.eval.specs.At.{At}
-use Rattle.eval.specs.Outcomes.{thrown, ejected, abandoned, reason, End, value, halt, reply_end}
-use Rattle.eval.specs.Rules.{Items}
+use Rattle.erules.specs.At.{At}
+use Rattle.erules.specs.Outcomes.{thrown, ejected, abandoned, reason, End, value, halt, reply_end}
+use Rattle.erules.specs.Rules.{Items}
 
 -- what is delivered: the vat's script, or a program that is asked of it
 pub data Delivery : Type 0 where

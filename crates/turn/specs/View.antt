@@ -1,9 +1,9 @@
 -- What the program's deliveries and outcomes stand for.
 use Rattle.kernele.specs.View.{program_of}
 use Rattle.values.specs.View.{val_of}
-use Rattle.eval.specs.Outcomes.{thrown, abandoned, End, value, halt}
+use Rattle.erules.specs.Outcomes.{thrown, abandoned, End, value, halt}
 use Rattle.heap.specs.View.{state_of}
-use Rattle.eval.specs.View.{cause_of}
+use Rattle.erules.specs.View.{cause_of}
 use Rattle.turn.specs.Turn.{Delivery, opening, asked, Outcome}
 use Rattle.turn.specs.declared.delivery.Delivery as code-delivery
 use Rattle.turn.specs.declared.delivery.Delivery.TheVariants as code-deliveries

@@ -10,7 +10,7 @@ use Rattle.ids.specs.declared.names.CellKey.TheVariants as key
 use Rattle.ids.proofs.Keys.{same_key_exact, same_key_self}
 use Rattle.kernele.specs.Tree.{Name}
 use Rattle.heap.specs.State.{State}
-use Rattle.eval.specs.Outcomes.{End, value, halt, thrown, ejected, abandoned}
+use Rattle.erules.specs.Outcomes.{End, value, halt, thrown, ejected, abandoned}
 use Rattle.turn.specs.Turn.{Outcome, Delivers}
 use Rattle.turn.proofs.Laws.{delivery_same}
 use Rattle.world.specs.World.{Vat, Place, at_vat, done, Message, Content, home, World, vat_in, message_in, done_in}

@@ -7,7 +7,7 @@ use Rattle.ids.specs.declared.names.VatNo.{VatNo}
 use Rattle.ids.specs.declared.names.MsgId.{MsgId}
 use Rattle.ids.specs.declared.names.CellKey.TheVariants as key
 use Rattle.heap.specs.State.{State}
-use Rattle.eval.specs.Outcomes.{End, value, halt, thrown, ejected, abandoned}
+use Rattle.erules.specs.Outcomes.{End, value, halt, thrown, ejected, abandoned}
 use Rattle.turn.specs.Turn.{Outcome, Delivers}
 use Rattle.history.specs.Subject.{written}
 use Rattle.ids.specs.declared.names.PromId.{PromId}

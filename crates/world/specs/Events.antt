@@ -3,7 +3,7 @@ use Rattle.std.specs.Prelude.{◌≡◌, ℕ, cond, List, [], ◌∷◌, ◌++�
 use Rattle.kernele.specs.Tree.{Name, Trees}
 use Rattle.kernele.specs.Scope.{own_names_in}
 use Rattle.heap.specs.State.{State, nothing}
-use Rattle.eval.specs.Outcomes.{End, value, halt, thrown, ejected, abandoned}
+use Rattle.erules.specs.Outcomes.{End, value, halt, thrown, ejected, abandoned}
 use Rattle.turn.specs.Turn.{opening, asked, Outcome, Delivers}
 use Rattle.history.specs.Subject.{Footprint, Subject}
 use Rattle.ids.specs.Cells.{same_key}

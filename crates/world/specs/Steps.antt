@@ -1,7 +1,7 @@
 -- What the parts of a step find and leave.
 use Rattle.std.specs.Prelude.{cond, List, [], ◌∷◌, ◌++◌, Option}
 use Rattle.kernele.specs.Tree.{Name}
-use Rattle.eval.specs.Outcomes.{End}
+use Rattle.erules.specs.Outcomes.{End}
 use Rattle.ids.specs.declared.names.EventName.{EventName}
 use Rattle.ids.specs.declared.names.VatNo.{VatNo}
 use Rattle.ids.specs.declared.names.MsgId.{MsgId}

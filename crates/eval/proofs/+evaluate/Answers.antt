@@ -4,22 +4,22 @@ use Rattle.code.specs.View.{tree_of_code, trees_of_codes}
 use Rattle.code.proofs.Views.{tree_of_code-Call, tree_of_code-List, tree_of_code-Hide, tree_of_code-If, tree_of_code-While, tree_of_code-For, tree_of_code-Try, tree_of_code-Object, tree_of_code-Escape}
 use Rattle.kernele.specs.declared.tree.Pattern.TheVariants as pattern
 use Rattle.values.specs.View.{val_of}
-use Rattle.eval.specs.Outcomes.{halted}
-use Rattle.eval.specs.View.{at, end_of, halt_of, choice_view, listing_view, target_view}
-use Rattle.eval.specs.Rules.{at_budget, at_depth, run_null, run_bool, run_int, run_text, run_noun, run_define, run_variable, run_assign, run_call_receiver, run_call_gives, run_list, run_same_left, run_same, goes, run_define_list, run_hide, run_throw, run_if_goes, run_if_ends, run_while_again, run_while_halts, run_while_done, run_while_ends, run_for, run_for_ends, run_try, run_try_caught, run_object, args_halt}
-use Rattle.eval.proofs.Steps.{node, child, children, slice_of, if_both, runs_as, runs_to, parts_run, args_begin, args_pushed, args_more, args_no_more, args_end, args_done, args_as, only_one, one_arg, items_more, items_no_more, items_end, blocks, block_ending, taking, taking_ending, each, block_end, taking_end, each_more, each_no_more, each_end, next_round}
+use Rattle.erules.specs.Outcomes.{halted}
+use Rattle.erules.specs.View.{at, end_of, halt_of, choice_view, listing_view, target_view}
+use Rattle.erules.specs.Rules.{at_budget, at_depth, run_null, run_bool, run_int, run_text, run_noun, run_define, run_variable, run_assign, run_call_receiver, run_call_gives, run_list, run_same_left, run_same, goes, run_define_list, run_hide, run_throw, run_if_goes, run_if_ends, run_while_again, run_while_halts, run_while_done, run_while_ends, run_for, run_for_ends, run_try, run_try_caught, run_object, args_halt}
+use Rattle.erules.proofs.Steps.{node, child, children, slice_of, if_both, runs_as, runs_to, parts_run, args_begin, args_pushed, args_more, args_no_more, args_end, args_done, args_as, only_one, one_arg, items_more, items_no_more, items_end, blocks, block_ending, taking, taking_ending, each, block_end, taking_end, each_more, each_no_more, each_end, next_round}
 use Rattle.eval.proofs.Entered.{call_leads, leads_as, entered, call_entered, escape_over}
-use Rattle.eval.proofs.Scopes.{truncated, truncated-length}
-use Rattle.eval.proofs.Added.{goes_add, block_stays, taking_stays}
-use Rattle.eval.proofs.Fitting.{fits_then, all_fit_then, chosen_fits, repeated_fits, placed_then, parts_fit, block_fits, entry_fits, round_fits, fits_from}
+use Rattle.erules.proofs.Scopes.{truncated, truncated-length}
+use Rattle.erules.proofs.Added.{goes_add, block_stays, taking_stays}
+use Rattle.erules.proofs.Fitting.{fits_then, all_fit_then, chosen_fits, repeated_fits, placed_then, parts_fit, block_fits, entry_fits, round_fits, fits_from}
 use Rattle.code.proofs.Fitting.{fits-Call, fits-List, fits-Hide, fits-If, fits-While, fits-For, fits-Try, fits-Object, fits-Escape}
 use Rattle.code.specs.Frames.{only_names}
 use Rattle.kernele.specs.Scope.{name_of}
 use Rattle.heap.specs.State.{frame_of}
-use Rattle.eval.specs.Locals.{locals_of}
-use Rattle.eval.specs.Fits.{fits_at, all_fit_at}
-use Rattle.eval.proofs.Grown.{round_grow}
-use Rattle.eval.proofs.Spent.{condition_less, block_left}
+use Rattle.erules.specs.Locals.{locals_of}
+use Rattle.erules.specs.Fits.{fits_at, all_fit_at}
+use Rattle.erules.proofs.Grown.{round_grow}
+use Rattle.erules.proofs.Spent.{condition_less, block_left}
 use Rattle.eval.proofs.+evaluate.Goals as goal
 
 pub eval::eval-returns-then-w-eq0 : goal.eval::eval-returns-then-w-eq0

@@ -2,15 +2,15 @@ use Rattle.std.proofs.Common.{drop, ◌-◌, ◌*◌, ◌+◌, ◌≡◌, ◌++�
 use Rattle.kernele.specs.Tree.{while_tree}
 use Rattle.code.specs.Frames.{fits_all, only_names}
 use Rattle.kernele.specs.Scope.{name_of}
-use Rattle.eval.specs.Fits.{fits_at, all_fit_at, frame_at, frame_behind}
+use Rattle.erules.specs.Fits.{fits_at, all_fit_at, frame_at, frame_behind}
 use Rattle.code.specs.View.{tree_of_code, trees_of_codes}
 use Rattle.values.specs.Data.{null}
 use Rattle.values.specs.View.{val_of, vals_of}
-use Rattle.eval.specs.At.{At}
-use Rattle.eval.specs.Outcomes.{End, Gather}
-use Rattle.eval.specs.Rules.{Args, Each, Items, Runs}
-use Rattle.eval.specs.View.{at}
-use Rattle.eval.proofs.Steps.{after_values}
+use Rattle.erules.specs.At.{At}
+use Rattle.erules.specs.Outcomes.{End, Gather}
+use Rattle.erules.specs.Rules.{Args, Each, Items, Runs}
+use Rattle.erules.specs.View.{at}
+use Rattle.erules.proofs.Steps.{after_values}
 use Rattle.eval.proofs.+evaluate.Given as goal
 
 -- a level's rank: a node, its parts in order, a block of them, a block for each value, and the construct one level above

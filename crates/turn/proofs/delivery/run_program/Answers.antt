@@ -2,7 +2,7 @@ use Rattle.std.proofs.Common.{rules, ap, ◌∙◌}
 use Rattle.std.proofs.lemmas.Result.{IfOk-weaker}
 use Rattle.code.specs.View.{trees_of_codes}
 use Rattle.turn.specs.View.{outcome_of}
-use Rattle.eval.proofs.Steps.{slice_of}
+use Rattle.erules.proofs.Steps.{slice_of}
 use Rattle.turn.proofs.Deliveries.{program_items, program_fits, completed}
 use Rattle.turn.proofs.delivery.run_program.Goals as goal
 

@@ -1,0 +1,139 @@
+-- On what objects capture, and on the names that a method begins with.
+use Rattle.std.proofs.Common.{◌≡◌, ℕ, ◌+◌, ◌<◌, ◌≤◌, List, [], ◌∷◌, ◌++◌, length, drop, get_or, Option, Some, None, true, false, ◌&&◌, cond, refl, sym, ap, ◌∙◌, subst, suc, add-one, append_assoc, append-nil}
+use Rattle.std.specs.Prelude.{Result, IfOk}
+use Rattle.std.proofs.Math.Seq.{drop-cons}
+use Rattle.std.proofs.lemmas.List.{drop_all}
+use Rattle.std.specs.Str.{bytes_eq}
+use Rattle.kernele.specs.Tree.{Name, Methods}
+use Rattle.kernele.specs.Free.{captures}
+use Rattle.code.specs.View.{trees_of_codes, methods_of_codes}
+use Rattle.code.specs.declared.code.MethodCode.{MethodCode}
+use Rattle.kernele.specs.declared.tree.Pattern.{Pattern}
+use Rattle.ids.specs.declared.names.ObjId.{ObjId}
+use Rattle.values.specs.Data.{Vals, object}
+use Rattle.values.specs.View.{val_of, vals_of}
+use Rattle.values.specs.declared.value.Value.{Value}
+use Rattle.heap.specs.State.{Bind, Nouns, Object, frame_of}
+use Rattle.erules.specs.At.{At}
+use Rattle.heap.specs.View.{bind_of, nouns_after}
+use Rattle.heap.specs.declared.state.Noun.{Noun}
+use Rattle.erules.proofs.Patterns.{as_many-true, as_many-false}
+use Rattle.erules.specs.Rules.{sought, Capture, captured, missing, and_captured, all_captured, capture_of, named, named_all, method_in, as_many, next_object, has_object_room, object_made, placed, with_object, matched, given}
+use Rattle.erules.proofs.Scopes.{room}
+
+-- behind a name that stands for nothing, nothing is captured
+pub missing_stays : (y : Name) (xs : List Name) (a : At) → all_captured (missing y) xs a ≡ missing y
+missing_stays y [] a = refl
+missing_stays y (x ∷ xs) a = missing_stays y xs a
+
+-- one more name is captured
+pub captured_more : (ns : Nouns) (xs : List Name) (i : ℕ) (x : Name) (b : Bind) (a : At) → i < length xs → x ≡ get_or xs i x → sought x a ≡ Some b
+    → all_captured (captured ns) (drop i xs) a ≡ all_captured (captured ((x, b) ∷ ns)) (drop (i + 1) xs) a
+captured_more ns xs i x b a h e f =
+    rw add-one (ap (λ ys. all_captured (captured ns) ys a) (drop-cons xs i x h ∙ ap (λ y. y ∷ drop (suc i) xs) (sym e))
+    ∙ ap (λ m. all_captured (and_captured (captured ns) x m) (drop (suc i) xs) a) f)
+
+-- a name stands for nothing
+pub captured_not : (ns : Nouns) (xs : List Name) (i : ℕ) (x : Name) (a : At) → i < length xs → x ≡ get_or xs i x → sought x a ≡ None
+    → all_captured (captured ns) (drop i xs) a ≡ missing x
+captured_not ns xs i x a h e f =
+    ap (λ ys. all_captured (captured ns) ys a) (drop-cons xs i x h ∙ ap (λ y. y ∷ drop (suc i) xs) (sym e))
+    ∙ ap (λ m. all_captured (and_captured (captured ns) x m) (drop (suc i) xs) a) f
+    ∙ missing_stays x (drop (suc i) xs) a
+
+-- no name is left
+pub captured_end : (c : Capture) (xs : List Name) (i : ℕ) (a : At) → length xs ≤ i → all_captured c (drop i xs) a ≡ c
+captured_end c xs i a h = ap (λ ys. all_captured c ys a) (drop_all i xs h)
+
+-- one more pattern takes its value
+pub named_more : (ps : List Pattern) (vs : List Value) (i : ℕ) (p : Pattern) (v : Value) (ns : Nouns) → i < length ps → i < length vs → p ≡ get_or ps i p → v ≡ get_or vs i v
+    → named_all (drop i ps) (vals_of (drop i vs)) ns ≡ named_all (drop (i + 1) ps) (vals_of (drop (i + 1) vs)) (named p (val_of v) ns)
+named_more ps vs i p v ns h g e f =
+    rw add-one ((λ j. named_all (drop-cons ps i p h j) (vals_of (drop-cons vs i v g j)) ns)
+    ∙ (λ j. named_all (drop (suc i) ps) (vals_of (drop (suc i) vs)) (named (sym e j) (val_of (sym f j)) ns)))
+
+-- no pattern is left
+pub named_end : (ps : List Pattern) (vs : Vals) (i : ℕ) (ns : Nouns) → length ps ≤ i → named_all (drop i ps) vs ns ≡ ns
+named_end ps vs i ns h = ap (λ qs. named_all qs vs ns) (drop_all i ps h)
+
+-- one more name is copied
+pub copied_more : (ns : Nouns) (xs : List Noun) (i : ℕ) (n : Noun) → i < length xs → n ≡ get_or xs i n → nouns_after ns (drop i xs) ≡ nouns_after ((n.name, bind_of n.binding) ∷ ns) (drop (i + 1) xs)
+copied_more ns xs i n h e = rw add-one (ap (nouns_after ns) (drop-cons xs i n h) ∙ ap (λ m. nouns_after ((m.name, bind_of m.binding) ∷ ns) (drop (suc i) xs)) (sym e))
+
+-- no name is left
+pub copied_end : (ns : Nouns) (xs : List Noun) (i : ℕ) → length xs ≤ i → nouns_after ns (drop i xs) ≡ ns
+copied_end ns xs i h = ap (nouns_after ns) (drop_all i xs h)
+
+-- the next method is the one that is sought
+pub method_here : (rest others : List MethodCode) (m : MethodCode) (verb : Name) (vs : List Value) → rest ≡ m ∷ others → bytes_eq m.verb verb ≡ true → length vs ≡ length m.parameters.value.items
+    → Some (m.parameters.value.items, trees_of_codes m.body.value.items) ≡ method_in (methods_of_codes rest) verb (vals_of vs)
+method_here rest others m verb vs e p q =
+    sym (ap (λ ms. method_in (methods_of_codes ms) verb (vals_of vs)) e
+    ∙ (λ i. cond (p i && as_many-true m.parameters.value.items vs q i) (Some (m.parameters.value.items, trees_of_codes m.body.value.items)) (method_in (methods_of_codes others) verb (vals_of vs))))
+
+-- it has another verb
+pub method_not : (rest others : List MethodCode) (m : MethodCode) (verb : Name) (vs : List Value) → rest ≡ m ∷ others → bytes_eq m.verb verb ≡ false → method_in (methods_of_codes others) verb (vals_of vs) ≡ method_in (methods_of_codes rest) verb (vals_of vs)
+method_not rest others m verb vs e p =
+    sym (ap (λ ms. method_in (methods_of_codes ms) verb (vals_of vs)) e
+    ∙ ap (λ b. cond (b && as_many m.parameters.value.items (vals_of vs)) (Some (m.parameters.value.items, trees_of_codes m.body.value.items)) (method_in (methods_of_codes others) verb (vals_of vs))) p)
+
+-- it has another number of parameters
+pub method_other : (rest others : List MethodCode) (m : MethodCode) (verb : Name) (vs : List Value) → rest ≡ m ∷ others → bytes_eq m.verb verb ≡ true → (length vs ≡ length m.parameters.value.items → ⊥) → method_in (methods_of_codes others) verb (vals_of vs) ≡ method_in (methods_of_codes rest) verb (vals_of vs)
+method_other rest others m verb vs e p q =
+    sym (ap (λ ms. method_in (methods_of_codes ms) verb (vals_of vs)) e
+    ∙ (λ i. cond (p i && as_many-false m.parameters.value.items vs q i) (Some (m.parameters.value.items, trees_of_codes m.body.value.items)) (method_in (methods_of_codes others) verb (vals_of vs))))
+
+-- what is captured of the names that were found free
+pub captures_all : (p : Pattern) {xs ys : List Name} {ss ts : List MethodCode} (a : At) → xs ≡ ys → ys ≡ captures p (methods_of_codes ss) → ss ≡ ts → all_captured (captured []) xs a ≡ capture_of p (methods_of_codes ts) a
+captures_all p a e f g = ap (λ zs. all_captured (captured []) zs a) (e ∙ f ∙ ap (λ ms. captures p (methods_of_codes ms)) g)
+
+-- what is made of what is captured
+pub object_by : {X E : Type 0} (r : Result X E) (p : Pattern) (ms : Methods) (c d : Capture) (a z : At) → c ≡ d → IfOk r (λ x. z ≡ with_object p ms c a) → IfOk r (λ x. z ≡ with_object p ms d a)
+object_by r p ms c d a z q h = subst (λ m. IfOk r (λ x. z ≡ with_object p ms m a)) q h
+
+-- ---- the loops
+
+pub capture_step : (ns ms : Nouns) (xs : List Name) (i : ℕ) (x : Name) (b c : Bind) (a : At) (all : Capture) → i < length xs → x ≡ get_or xs i x → Some b ≡ sought x a → c ≡ b → ms ≡ ((x, c) ∷ ns)
+    → all_captured (captured ns) (drop i xs) a ≡ all → all_captured (captured ms) (drop (i + 1) xs) a ≡ all
+capture_step ns ms xs i x b c a all h e f g m p =
+    ap (λ ks. all_captured (captured ks) (drop (i + 1) xs) a) (m ∙ ap (λ d. (x, d) ∷ ns) g)
+    ∙ sym (captured_more ns xs i x b a h e (sym f)) ∙ p
+
+pub capture_stops : (ns : Nouns) (xs : List Name) (i : ℕ) (x y : Name) (a : At) (all : Capture) → i < length xs → x ≡ get_or xs i x → None ≡ sought x a → y ≡ x → all_captured (captured ns) (drop i xs) a ≡ all → missing y ≡ all
+capture_stops ns xs i x y a all h e f g p = ap missing g ∙ sym (captured_not ns xs i x a h e (sym f)) ∙ p
+
+pub copy_step : (ns ms : Nouns) (xs : List Noun) (i : ℕ) (n : Noun) (c : Bind) (all : Nouns) → i < length xs → n ≡ get_or xs i n → c ≡ bind_of n.binding → ms ≡ ((n.name, c) ∷ ns)
+    → nouns_after ns (drop i xs) ≡ all → nouns_after ms (drop (i + 1) xs) ≡ all
+copy_step ns ms xs i n c all h e g m p = ap (λ ks. nouns_after ks (drop (i + 1) xs)) (m ∙ ap (λ d. (n.name, d) ∷ ns) g) ∙ sym (copied_more ns xs i n h e) ∙ p
+
+-- an object for which there is room
+pub placed_there : (p : Pattern) (o q : Object) (i : ObjId) (a b c : At) → a.objects < 4096 → q ≡ o → i ≡ next_object a → b ≡ object_made q a → c ≡ matched p (object i) b → c ≡ placed (has_object_room a) p o a
+placed_there p o q i a b c h e f g m =
+    m ∙ (λ j. matched p (object (f j)) (g j)) ∙ ap (λ r. matched p (object (next_object a)) (object_made r a)) e ∙ sym (ap (λ r. placed r p o a) (room a.objects h))
+
+-- two values or more are no argument of an ejector
+pub given_none : (vs : List Value) → (length vs ≡ 0 → ⊥) → (length vs ≡ 1 → ⊥) → None ≡ given (vals_of vs)
+given_none [] h g = absurd (h refl)
+given_none (v ∷ []) h g = absurd (g refl)
+given_none (v ∷ w ∷ vs) h g = refl
+
+-- the next name stands for nothing
+pub capture_ends : (ns : Nouns) (x y : Name) (xs : List Name) (a : At) (all : Capture) → None ≡ sought x a → y ≡ x → all_captured (captured ns) (x ∷ xs) a ≡ all → missing y ≡ all
+capture_ends ns x y xs a all n e h = ap missing e ∙ sym (missing_stays x xs a) ∙ ap (λ m. all_captured (and_captured (captured ns) x m) xs a) n ∙ h
+
+not_missing : (ms : Nouns) (x : Name) → captured ms ≡ missing x → ⊥
+not_missing ms x e = cc
+
+abbrev nouns_in : Nouns → Capture → Nouns
+nouns_in ns (captured ms) = ms
+nouns_in ns (missing x) = ns
+
+captured_more_frame : (ns ms : Nouns) (x : Name) (xs : List Name) (a : At) (m : Option Bind) → ((b : Bind) → captured ms ≡ all_captured (captured ((x, b) ∷ ns)) xs a → frame_of ms ≡ (frame_of ns ++ x ∷ []) ++ xs)
+    → captured ms ≡ all_captured (and_captured (captured ns) x m) xs a → frame_of ms ≡ frame_of ns ++ x ∷ xs
+captured_more_frame ns ms x xs a (Some b) more h = more b h ∙ append_assoc (frame_of ns) (x ∷ []) xs
+captured_more_frame ns ms x xs a None more h = absurd (not_missing ms x (h ∙ missing_stays x xs a))
+
+-- what is captured has the names that are wanted
+pub captured_frame : (ns ms : Nouns) (xs : List Name) (a : At) → captured ms ≡ all_captured (captured ns) xs a → frame_of ms ≡ frame_of ns ++ xs
+captured_frame ns ms [] a h = ap (λ c. frame_of (nouns_in ns c)) h ∙ sym (append-nil (frame_of ns))
+captured_frame ns ms (x ∷ xs) a h = captured_more_frame ns ms x xs a (sought x a) (λ b. captured_frame ((x, b) ∷ ns) ms xs a) h

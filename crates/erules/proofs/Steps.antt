@@ -1,0 +1,187 @@
+-- From the rules to what the program's functions ensure.
+use Rattle.std.proofs.Common.{arith, ◌≡◌, ℕ, ◌+◌, ◌<◌, ◌≤◌, Bool, List, [], ◌∷◌, ◌++◌, subst, sym, ap, refl, length, take, drop, get_or, add-one, ◌∙◌, suc}
+use Rattle.std.specs.Prelude.{Result, Ok, Err, IfOk}
+use Rattle.std.proofs.Math.Seq.{drop-cons}
+use Rattle.std.proofs.lemmas.List.{drop_all}
+use Rattle.kernele.specs.Tree.{Tree, define_list, Trees, none, and_then}
+use Rattle.code.specs.View.{tree_of_code, trees_of_codes}
+use Rattle.code.specs.declared.code.Code.{Code}
+use Rattle.values.specs.Data.{Val, null, Vals, and_val, no_vals}
+use Rattle.values.specs.View.{val_of, vals_of}
+use Rattle.values.specs.declared.value.Value.{Value}
+use Rattle.erules.specs.At.{At}
+use Rattle.erules.specs.Outcomes.{End, Halt, value, halt, Gather, values, halted}
+use Rattle.erules.specs.Rules.{parts_of, parts_bound, parts_end, run_define_list, entering, leaving, again, matched, Ends, at_node, Runs, begun, Args, args_none, args_next, args_halt, Items, items_none, items_next, items_halt, Block, in_block, Taking, in_taking, Each, each_none, each_next, each_halt}
+use Rattle.erules.specs.Locals.{locals_of}
+use Rattle.erules.specs.View.{at, end_of, gather_of}
+use Rattle.erules.proofs.Scopes.{truncated}
+use Rattle.erules.proofs.Grown.{Grown, items_grow, taken_grow}
+use Rattle.erules.specs.declared.local.Local.{Local}
+use Rattle.erules.specs.declared.working.Working.{Working}
+use Rattle.kernele.specs.declared.tree.Pattern.{Pattern}
+use Rattle.erules.specs.declared.end.End as code
+use Rattle.erules.specs.declared.end.Gathered.{Gathered}
+use Rattle.std.specs.declared.vec.Vec.{Vec}
+use Rattle.std.specs.declared.alloc.Global.{Global}
+
+-- values and then more
+abbrev pub appended : Vals → Vals → Vals
+appended no_vals ws = ws
+appended (and_val v vs) ws = and_val v (appended vs ws)
+
+appended-none : (vs : Vals) → appended vs no_vals ≡ vs
+appended-none no_vals = refl
+appended-none (and_val v vs) = ap (and_val v) (appended-none vs)
+
+appended-appended : (us vs ws : Vals) → appended (appended us vs) ws ≡ appended us (appended vs ws)
+appended-appended no_vals vs ws = refl
+appended-appended (and_val u us) vs ws = ap (and_val u) (appended-appended us vs ws)
+
+-- the values of a longer list
+vals_of-push : (xs : List Value) (v : Value) → vals_of (xs ++ v ∷ []) ≡ appended (vals_of xs) (and_val (val_of v) no_vals)
+vals_of-push [] v = refl
+vals_of-push (x ∷ xs) v = ap (and_val (val_of x)) (vals_of-push xs v)
+
+-- a node, by the rule for its construct
+pub node : (e : Code) {t : Tree} {k : ℕ} {a b : At} {o : End} → tree_of_code e ≡ t → Runs k t (begun a) o b → 0 < a.left → k ≤ 1000 → Ends k (tree_of_code e) a o b
+node e {k = k} {a = a} {b = b} {o = o} is r has fits = subst (λ u. Ends k u a o b) (sym is) (at_node has fits r)
+
+-- what a call for a child gave, at the child and the arm that are known
+pub child : {e d : Code} {o p : code.End} {k : ℕ} {a b : At} → e ≡ d → o ≡ p → Ends k (tree_of_code e) a (end_of o) b → Ends k (tree_of_code d) a (end_of p) b
+child {d = d} {o = o} {k = k} {a = a} {b = b} same is h = subst (λ q. Ends k (tree_of_code d) a (end_of q) b) is (subst (λ x. Ends k (tree_of_code x) a (end_of o) b) same h)
+
+pub children : {xs ys : List Code} {g h : Gathered} {k : ℕ} {a b : At} → xs ≡ ys → g ≡ h → Args k (trees_of_codes xs) a (gather_of g) b → Args k (trees_of_codes ys) a (gather_of h) b
+children {ys = ys} {g = g} {k = k} {a = a} {b = b} same is r = subst (λ q. Args k (trees_of_codes ys) a (gather_of q) b) is (subst (λ x. Args k (trees_of_codes x) a (gather_of g) b) same r)
+
+-- values, and then how the rest ends
+abbrev pub after_values : Vals → Gather → Gather
+after_values vs (values ws) = values (appended vs ws)
+after_values vs (halted s) = halted s
+
+-- the trees from an index on
+pub trees_from : (xs : List Code) (i : ℕ) (x : Code) → i < length xs → x ≡ get_or xs i x → trees_of_codes (drop i xs) ≡ and_then (tree_of_code x) (trees_of_codes (drop (i + 1) xs))
+trees_from xs i x h e = rw add-one (ap trees_of_codes (drop-cons xs i x h) ∙ ap (λ y. and_then (tree_of_code y) (trees_of_codes (drop (suc i) xs))) (sym e))
+
+-- one more argument
+pub args_more : {k : ℕ} (xs : List Code) {i : ℕ} {x : Code} {a b c : At} {v : Val} (g : Gather) → i < length xs → x ≡ get_or xs i x → Ends k (tree_of_code x) a (value v) b → Args k (trees_of_codes (drop (i + 1) xs)) b g c → Args k (trees_of_codes (drop i xs)) a (after_values (and_val v no_vals) g) c
+args_more {k = k} xs {i = i} {x = x} {a = a} {b = b} {c = c} {v = v} (values vs) h e f r = subst (λ ts. Args k ts a (values (and_val v vs)) c) (sym (trees_from xs i x h e)) (args_next f r)
+args_more {k = k} xs {i = i} {x = x} {a = a} {b = b} {c = c} {v = v} (halted s) h e f r = subst (λ ts. Args k ts a (halted s) c) (sym (trees_from xs i x h e)) (args_next f r)
+
+pub args_no_more : {k : ℕ} (xs : List Code) {i : ℕ} {x : Code} {a b : At} {s : Halt} → i < length xs → x ≡ get_or xs i x → Ends k (tree_of_code x) a (halt s) b → Args k (trees_of_codes (drop i xs)) a (halted s) b
+args_no_more {k = k} xs {i = i} {x = x} {a = a} {b = b} {s = s} h e f = subst (λ ts. Args k ts a (halted s) b) (sym (trees_from xs i x h e)) (args_halt f)
+
+pub args_end : {k : ℕ} (xs : List Code) {i : ℕ} {a : At} → length xs ≤ i → Args k (trees_of_codes (drop i xs)) a (values no_vals) a
+args_end {k = k} xs {i = i} {a = a} h = subst (λ ys. Args k (trees_of_codes ys) a (values no_vals) a) (sym (drop_all i xs h)) args_none
+
+pub after_values-push : (xs : List Value) (v : Value) (g : Gather) → after_values (vals_of xs) (after_values (and_val (val_of v) no_vals) g) ≡ after_values (vals_of (xs ++ v ∷ [])) g
+after_values-push xs v (values ws) = ap values (sym (ap (λ us. appended us ws) (vals_of-push xs v) ∙ appended-appended (vals_of xs) (and_val (val_of v) no_vals) ws))
+after_values-push xs v (halted s) = refl
+
+-- the values so far, in the program's vector
+pub args_begin : {k : ℕ} {ts : Trees} {a b : At} {g : Gather} {xs : List Value} → xs ≡ [] → Args k ts a g b → Args k ts a (after_values (vals_of xs) g) b
+args_begin {k = k} {ts = ts} {a = a} {b = b} {g = values ws} e r = subst (λ xs. Args k ts a (after_values (vals_of xs) (values ws)) b) (sym e) r
+args_begin {k = k} {ts = ts} {a = a} {b = b} {g = halted s} e r = r
+
+pub args_pushed : {k : ℕ} {ts : Trees} {a b : At} (g : Gather) {ys : List Value} (xs : List Value) (v : Value) → ys ≡ xs ++ v ∷ [] → Args k ts a (after_values (vals_of xs) (after_values (and_val (val_of v) no_vals) g)) b → Args k ts a (after_values (vals_of ys) g) b
+args_pushed {k = k} {ts = ts} {a = a} {b = b} g xs v e r = subst (λ zs. Args k ts a (after_values (vals_of zs) g) b) (sym e) (subst (λ h. Args k ts a h b) (after_values-push xs v g) r)
+
+pub args_done : {k : ℕ} {ts : Trees} {a b : At} (xs : List Value) → Args k ts a (after_values (vals_of xs) (values no_vals)) b → Args k ts a (values (vals_of xs)) b
+args_done {k = k} {ts = ts} {a = a} {b = b} xs r = subst (λ vs. Args k ts a (values vs) b) (appended-none (vals_of xs)) r
+
+-- one more tree of a block
+pub items_more : {k : ℕ} (xs : List Code) {i : ℕ} {x : Code} {a b c : At} {u v : Val} {o : End} → i < length xs → x ≡ get_or xs i x → Ends k (tree_of_code x) a (value v) b → Items k v (trees_of_codes (drop (i + 1) xs)) b o c → Items k u (trees_of_codes (drop i xs)) a o c
+items_more {k = k} xs {i = i} {x = x} {a = a} {c = c} {u = u} {o = o} h e f r = subst (λ ts. Items k u ts a o c) (sym (trees_from xs i x h e)) (items_next f r)
+
+pub items_no_more : {k : ℕ} (xs : List Code) {i : ℕ} {x : Code} {a b : At} {u : Val} {s : Halt} → i < length xs → x ≡ get_or xs i x → Ends k (tree_of_code x) a (halt s) b → Items k u (trees_of_codes (drop i xs)) a (halt s) b
+items_no_more {k = k} xs {i = i} {x = x} {a = a} {b = b} {u = u} {s = s} h e f = subst (λ ts. Items k u ts a (halt s) b) (sym (trees_from xs i x h e)) (items_halt f)
+
+pub items_end : {k : ℕ} (xs : List Code) {i : ℕ} {a : At} {u : Val} → length xs ≤ i → Items k u (trees_of_codes (drop i xs)) a (value u) a
+items_end {k = k} xs {i = i} {a = a} {u = u} h = subst (λ ys. Items k u (trees_of_codes ys) a (value u) a) (sym (drop_all i xs h)) items_none
+
+-- an outcome that is known only by an equation
+pub runs_as : {k : ℕ} {t : Tree} {a b : At} {o p : End} → Runs k t a p b → o ≡ p → Runs k t a o b
+runs_as {k = k} {t = t} {a = a} {b = b} r e = subst (λ o. Runs k t a o b) (sym e) r
+
+-- the same of where it ends
+pub runs_to : {k : ℕ} {t : Tree} {a b c : At} {o p : End} → Runs k t a p b → o ≡ p → c ≡ b → Runs k t a o c
+runs_to {k = k} {t = t} {a = a} {c = c} {p = p} r e f = subst (λ o. Runs k t a o c) (sym e) (subst (λ d. Runs k t a p d) (sym f) r)
+
+-- a definition with a list of patterns, of which the program has a slice
+pub parts_run : {k : ℕ} {ps qs : List Pattern} {e : Tree} {a b c : At} {o p : End} → ps ≡ qs → Ends (k + 1) e a o b → p ≡ parts_end o (parts_of ps o) → c ≡ parts_bound ps (parts_of ps o) b → Runs k (define_list qs e) a p c
+parts_run {b = b} {o = o} q r f g = runs_to (run_define_list r) (f ∙ ap (λ ps. parts_end o (parts_of ps o)) q) (g ∙ ap (λ ps. parts_bound ps (parts_of ps o) b) q)
+
+-- a slice of what an `Arc` holds
+pub slice_of : {X : Type 0} {s : List X} {v u : Vec X Global} → s ≡ v.items → v ≡ u → s ≡ u.items
+slice_of e f = e ∙ ap (λ v. v.items) f
+
+-- two facts on what a call returned give a third
+pub if_both : {X E : Type 0} (r : Result X E) (P Q R : X → Type 0) → ((x : X) → P x → Q x → R x) → IfOk r P → IfOk r Q → IfOk r R
+if_both (Ok x) P Q R h p q = h x p q
+if_both (Err e) P Q R h p q = tt
+
+-- a block's items, where its block is known
+pub blocks : {xs ys : List Code} {o p : code.End} {k : ℕ} {a b : At} → xs ≡ ys → o ≡ p → Block k (trees_of_codes xs) a (end_of o) b → Block k (trees_of_codes ys) a (end_of p) b
+blocks {ys = ys} {o = o} {k = k} {a = a} {b = b} same is r = subst (λ q. Block k (trees_of_codes ys) a (end_of q) b) is (subst (λ x. Block k (trees_of_codes x) a (end_of o) b) same r)
+
+-- the same, where its end is known by an equation
+pub block_ending : {xs ys : List Code} {o p : End} {k : ℕ} {a b : At} → xs ≡ ys → o ≡ p → Block k (trees_of_codes xs) a o b → Block k (trees_of_codes ys) a p b
+block_ending {ys = ys} {o = o} {k = k} {a = a} {b = b} same is r = subst (λ q. Block k (trees_of_codes ys) a q b) is (subst (λ x. Block k (trees_of_codes x) a o b) same r)
+
+pub taking : {xs ys : List Code} {k : ℕ} {p : Pattern} {v w : Val} {a b : At} {o : End} → xs ≡ ys → v ≡ w → Taking k p v (trees_of_codes xs) a o b → Taking k p w (trees_of_codes ys) a o b
+taking {ys = ys} {k = k} {p = p} {v = v} {a = a} {b = b} {o = o} same is r = subst (λ w. Taking k p w (trees_of_codes ys) a o b) is (subst (λ x. Taking k p v (trees_of_codes x) a o b) same r)
+
+pub taking_ending : {k : ℕ} {p : Pattern} {v : Val} {ts : Trees} {a b : At} {o q : End} → o ≡ q → Taking k p v ts a o b → Taking k p v ts a q b
+taking_ending {k = k} {p = p} {v = v} {ts = ts} {a = a} {b = b} e r = subst (λ q. Taking k p v ts a q b) e r
+
+pub each : {xs ys : List Code} {k : ℕ} {p : Pattern} {vs ws : List Value} {a b : At} {o : End} → xs ≡ ys → vs ≡ ws → Each k p (trees_of_codes xs) (vals_of vs) a o b → Each k p (trees_of_codes ys) (vals_of ws) a o b
+each {ys = ys} {k = k} {p = p} {vs = vs} {a = a} {b = b} {o = o} same is r = subst (λ ws. Each k p (trees_of_codes ys) (vals_of ws) a o b) is (subst (λ x. Each k p (trees_of_codes x) (vals_of vs) a o b) same r)
+
+-- the names of a scope are truncated to those from before it
+place_after : (w u : Working) (z : At) (n : ℕ) (own : Bool) → n ≡ length w.nouns.items → own ≡ w.own_scope → Grown (at w) (at u) → z ≡ record (at u) { nouns = locals_of (take n u.nouns.items); own_scope = own } → z ≡ leaving (at w) (at u)
+place_after w u z n own e f g h = h ∙ (λ i. record (at u) { nouns = truncated w.nouns.items u.nouns.items n e g i; own_scope = f i })
+
+-- a block's scope ends
+pub block_end : {k : ℕ} {ts : Trees} (w u : Working) {b z : At} {n : ℕ} {own : Bool} {o : End} → n ≡ length w.nouns.items → own ≡ w.own_scope → b ≡ entering (at w) → Items k null ts b o (at u) → z ≡ record (at u) { nouns = locals_of (take n u.nouns.items); own_scope = own } → Block k ts (at w) o z
+block_end {k = k} {ts = ts} w u {z = z} {n = n} {own = own} {o = o} e f q r h =
+    let s : Items k null ts (entering (at w)) o (at u) = subst (λ x. Items k null ts x o (at u)) q r in
+    subst (λ x. Block k ts (at w) o x) (sym (place_after w u z n own e f (items_grow s) h)) (in_block s)
+
+-- the same of a block that takes a value
+pub taking_end : {k : ℕ} {ts : Trees} (p : Pattern) (v : Val) (w u : Working) {b c z : At} {n : ℕ} {own : Bool} {o : End} → n ≡ length w.nouns.items → own ≡ w.own_scope → b ≡ entering (at w) → c ≡ matched p v b → Items k null ts c o (at u) → z ≡ record (at u) { nouns = locals_of (take n u.nouns.items); own_scope = own } → Taking k p v ts (at w) o z
+taking_end {k = k} {ts = ts} p v w u {z = z} {n = n} {own = own} {o = o} e f q m r h =
+    let s : Items k null ts (matched p v (entering (at w))) o (at u) = subst (λ x. Items k null ts x o (at u)) (m ∙ ap (matched p v) q) r in
+    subst (λ x. Taking k p v ts (at w) o x) (sym (place_after w u z n own e f (taken_grow p v (entering (at w)) s) h)) (in_taking s)
+
+-- the values from an index on
+pub vals_from : (xs : List Value) (i : ℕ) (x : Value) → i < length xs → x ≡ get_or xs i x → vals_of (drop i xs) ≡ and_val (val_of x) (vals_of (drop (i + 1) xs))
+vals_from xs i x h e = rw add-one (ap vals_of (drop-cons xs i x h) ∙ ap (λ y. and_val (val_of y) (vals_of (drop (suc i) xs))) (sym e))
+
+-- a block for one more value
+pub each_more : {k : ℕ} {p : Pattern} {ts : Trees} (xs : List Value) {i : ℕ} {x : Value} {a b c : At} {v : Val} {o : End} → i < length xs → x ≡ get_or xs i x → Taking k p (val_of x) ts a (value v) b → Each k p ts (vals_of (drop (i + 1) xs)) b o c → Each k p ts (vals_of (drop i xs)) a o c
+each_more {k = k} {p = p} {ts = ts} xs {i = i} {x = x} {a = a} {c = c} {o = o} h e f r = subst (λ vs. Each k p ts vs a o c) (sym (vals_from xs i x h e)) (each_next f r)
+
+pub each_no_more : {k : ℕ} {p : Pattern} {ts : Trees} (xs : List Value) {i : ℕ} {x : Value} {a b : At} {s : Halt} → i < length xs → x ≡ get_or xs i x → Taking k p (val_of x) ts a (halt s) b → Each k p ts (vals_of (drop i xs)) a (halt s) b
+each_no_more {k = k} {p = p} {ts = ts} xs {i = i} {x = x} {a = a} {b = b} {s = s} h e f = subst (λ vs. Each k p ts vs a (halt s) b) (sym (vals_from xs i x h e)) (each_halt f)
+
+pub each_end : {k : ℕ} {p : Pattern} {ts : Trees} (xs : List Value) {i : ℕ} {a : At} → length xs ≤ i → Each k p ts (vals_of (drop i xs)) a (value null) a
+each_end {k = k} {p = p} {ts = ts} xs {i = i} {a = a} h = subst (λ ys. Each k p ts (vals_of ys) a (value null) a) (sym (drop_all i xs h)) each_none
+
+-- what the next rounds of a While give, where the names are those of this round's beginning
+pub next_round : {k : ℕ} {t : Tree} (w u : Working) {zs : List Local} {n : ℕ} {p : End} {e : At} → n ≡ length w.nouns.items → Grown (at w) (at u) → zs ≡ take n u.nouns.items → Runs k t (record (at u) { nouns = locals_of zs }) p e → Runs k t (again (at w) (at u)) p e
+next_round {k = k} {t = t} w u {n = n} {p = p} {e = e} l g h r =
+    subst (λ ns. Runs k t (record (at u) { nouns = ns }) p e) (truncated w.nouns.items u.nouns.items n l g)
+    (subst (λ zs. Runs k t (record (at u) { nouns = locals_of zs }) p e) h r)
+
+-- arguments, where their slice is known otherwise
+pub args_as : {xs ys : List Code} {k : ℕ} {a b : At} {g : Gather} → xs ≡ ys → Args k (trees_of_codes xs) a g b → Args k (trees_of_codes ys) a g b
+args_as {k = k} {a = a} {b = b} {g = g} same r = subst (λ xs. Args k (trees_of_codes xs) a g b) same r
+
+-- the only one of a list
+pub only_one : (xs : List Code) (x : Code) → length xs ≡ 1 → x ≡ get_or xs 0 x → (x ∷ []) ≡ xs
+only_one [] x l e = absurd (cc)
+only_one (y ∷ []) x l e = ap (λ y. y ∷ []) e
+only_one (y ∷ z ∷ zs) x l e = absurd (omega (arith, l))
+
+-- a call's only argument
+pub one_arg : {k : ℕ} {t : Tree} {a b : At} {v : Value} {vs : List Value} → vs ≡ v ∷ [] → Ends k t a (value (val_of v)) b → Args k (and_then t none) a (values (vals_of vs)) b
+one_arg {k = k} {t = t} {a = a} {b = b} e r = subst (λ us. Args k (and_then t none) a (values (vals_of us)) b) (sym e) (args_next r args_none)

@@ -1,0 +1,13 @@
+use Rattle.std.proofs.Common.{ap, sym, ◌∙◌}
+use Rattle.code.specs.Frames.{captured_names_of}
+use Rattle.heap.specs.View.{nouns_of}
+use Rattle.erules.specs.Rules.{captured, all_captured}
+use Rattle.erules.specs.View.{at}
+use Rattle.erules.proofs.Captures.{capture_ends}
+use Rattle.erules.proofs.objects.capture_all.Goals as goal
+
+pub returns-in-None : goal.returns-in-None
+returns-in-None c =
+    let found = captured (nouns_of c.loop-first.nouns.items) in
+    capture_ends (nouns_of c.loop-first.nouns.items) c.in-Some.first.now.name _ (captured_names_of c.in-Some.others.now) (at c.args.w.now) _ c.in-None.ensures c.in_ok-share-in-None.ensures
+    (ap (λ cs. all_captured found (captured_names_of cs) (at c.args.w.now)) (sym c.in-Some.ensures.cases.0) ∙ c.loop-first.invariant.0)

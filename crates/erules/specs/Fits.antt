@@ -1,0 +1,37 @@
+-- Code fits the place where it is evaluated.
+use Rattle.std.specs.Prelude.{◌≡◌, List, ◌++◌, length, false, Option, IfSome}
+use Rattle.std.specs.Option.{option_map}
+use Rattle.kernele.specs.Tree.{Name}
+use Rattle.kernele.specs.Scope.{names_of_all}
+use Rattle.code.specs.Frames.{Frame, only_names, after, fits, fits_all, fits_methods}
+use Rattle.code.specs.View.{tree_of_code, trees_of_codes, methods_of_codes}
+use Rattle.code.specs.declared.code.Code.{Code}
+use Rattle.code.specs.declared.code.MethodCode.{MethodCode}
+use Rattle.values.specs.View.{vals_of}
+use Rattle.values.specs.declared.value.Value.{Value}
+use Rattle.heap.specs.State.{frame_of}
+use Rattle.erules.specs.At.{At}
+use Rattle.erules.specs.Rules.{method_in}
+
+-- the names in scope, the oldest first
+abbrev pub frame_at : At → Frame
+frame_at a = frame_of a.nouns
+
+-- the names in scope behind code that gave a value
+abbrev pub frame_behind : At → Code → Frame
+frame_behind a e = after a.own_scope (tree_of_code e) (frame_at a)
+
+-- code fits the names that are in scope
+abbrev pub fits_at : At → Code → Type 0
+fits_at a e = fits a.own_scope (frame_at a) e
+
+-- the same of code in order
+abbrev pub all_fit_at : At → List Code → Type 0
+all_fit_at a es = fits_all a.own_scope (frame_at a) es
+
+-- what is found among methods for a verb and arguments: the method that the rules say, if any; it has as many parameters, and its
+-- block fits behind them wherever the methods fit
+pub record FindsMethod (ms : List MethodCode) (verb : Name) (vs : List Value) (found : Option MethodCode) : Type 0 where
+  pub method : option_map (λ m. (m.parameters.value.items, trees_of_codes m.body.value.items)) found ≡ method_in (methods_of_codes ms) verb (vals_of vs)
+  pub count : IfSome found (λ m. length vs ≡ length m.parameters.value.items)
+  pub fits : IfSome found (λ m. (frame : Frame) → fits_methods frame ms → fits_all false (frame ++ only_names (names_of_all m.parameters.value.items)) m.body.value.items)

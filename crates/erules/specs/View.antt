@@ -1,0 +1,84 @@
+-- What the program's ends, choices and places stand for.
+use Rattle.std.specs.Prelude.{List, [], ◌∷◌}
+use Rattle.ids.specs.declared.names.EjId.{EjId}
+use Rattle.values.specs.View.{val_of, vals_of}
+use Rattle.erules.specs.At.{At}
+use Rattle.erules.specs.Locals.{locals_of}
+use Rattle.heap.specs.View.{nouns_of}
+use Rattle.heap.specs.Drafts.{draft_of, counts_of}
+use Rattle.erules.specs.Outcomes.{Cause, budget_spent, too_deep, too_large, Halt, thrown, ejected, abandoned, End, value, halt, Gather, values, halted}
+use Rattle.erules.specs.Rules.{Choice, goes, ends, Listing, listed, unlisted, Capture, captured, missing, Callee, on_object, on_ejector, on_datum, Target, gives, enters}
+use Rattle.code.specs.View.{trees_of_codes}
+use Rattle.erules.specs.declared.wanted.Choosing.{Choosing}
+use Rattle.erules.specs.declared.wanted.Choosing.TheVariants as code-choosing
+use Rattle.erules.specs.declared.wanted.Listing as code-list
+use Rattle.erules.specs.declared.wanted.Listing.TheVariants as code-listing
+use Rattle.erules.specs.declared.objects.Capture as code-capture
+use Rattle.erules.specs.declared.objects.Capture.TheVariants as code-captures
+use Rattle.erules.specs.declared.objects.Target as code-target
+use Rattle.erules.specs.declared.objects.Target.TheVariants as code-targets
+use Rattle.erules.specs.declared.calls.Callee as code-callee
+use Rattle.erules.specs.declared.calls.Callee.TheVariants as code-callees
+use Rattle.erules.specs.declared.working.Working.{Working}
+use Rattle.erules.specs.declared.end.Abandon.{Abandon}
+use Rattle.erules.specs.declared.end.Abandon.TheVariants as code-abandon
+use Rattle.erules.specs.declared.end.Halt as code
+use Rattle.erules.specs.declared.end.Halt.TheVariants as code-halt
+use Rattle.erules.specs.declared.end.End as code-ends
+use Rattle.erules.specs.declared.end.End.TheVariants as code-end
+use Rattle.erules.specs.declared.end.Gathered.{Gathered}
+use Rattle.erules.specs.declared.end.Gathered.TheVariants as code-gathered
+
+abbrev pub cause_of : Abandon → Cause
+cause_of code-abandon.Budget = budget_spent
+cause_of code-abandon.Depth = too_deep
+cause_of code-abandon.Size = too_large
+
+abbrev pub halt_of : code.Halt → Halt
+halt_of (code-halt.Thrown problem) = thrown problem
+halt_of (code-halt.Ejected e) = ejected e.value.ejector (val_of e.value.value)
+halt_of (code-halt.Abandoned why) = abandoned (cause_of why)
+
+abbrev pub end_of : code-ends.End → End
+end_of (code-end.Value v) = value (val_of v)
+end_of (code-end.Halt h) = halt (halt_of h)
+
+abbrev pub gather_of : Gathered → Gather
+gather_of (code-gathered.Values vs) = values (vals_of vs.items)
+gather_of (code-gathered.Halt h) = halted (halt_of h)
+
+-- ejectors, the newest first: the program pushes the newest at the end
+abbrev pub ejectors_after : List EjId → List EjId → List EjId
+ejectors_after js [] = js
+ejectors_after js (i ∷ rest) = ejectors_after (i ∷ js) rest
+
+abbrev pub opened_of : List EjId → List EjId
+opened_of items = ejectors_after [] items
+
+-- where the program stands
+abbrev pub at : Working → At
+at w = record { nouns = locals_of w.nouns.items; own_scope = w.own_scope; state = draft_of w.draft; left = w.steps; event = (counts_of w.draft).event; vat = (counts_of w.draft).vat; slots = (counts_of w.draft).slots; objects = (counts_of w.draft).objects; ejectors = w.ejectors; opened = opened_of w.opened.items }
+
+-- what a condition leads to, and what stands where a list is wanted
+abbrev pub choice_view : Choosing → Choice
+choice_view (code-choosing.Goes q) = goes q
+choice_view (code-choosing.Ends e) = ends (end_of e)
+
+abbrev pub listing_view : code-list.Listing → Listing
+listing_view (code-listing.Listed items) = listed (vals_of items.value.items)
+listing_view (code-listing.Ends e) = unlisted (end_of e)
+
+-- what an object captures
+abbrev pub capture_view : code-capture.Capture → Capture
+capture_view (code-captures.Captured nouns) = captured (nouns_of nouns.items)
+capture_view (code-captures.Missing x) = missing x
+
+-- what a call is made on, and what it leads to
+abbrev pub callee_view : code-callee.Callee → Callee
+callee_view (code-callees.Object i) = on_object i
+callee_view (code-callees.Ejector j) = on_ejector j
+callee_view code-callees.Datum = on_datum
+
+abbrev pub target_view : code-target.Target → Target
+target_view (code-targets.Gives e) = gives (end_of e)
+target_view (code-targets.Enters e) = enters (locals_of e.nouns.items) (trees_of_codes e.body.value.items)

@@ -1,0 +1,17 @@
+// What a method's block begins with.
+ghost use Rattle.std.specs.Prelude.{false};
+ghost use Rattle.code.specs.Frames.{fits_all};
+ghost use Rattle.code.specs.Props.{fits_all-prop};
+ghost use Rattle.erules.specs.Locals.{local_names};
+
+use crate::local::Local;
+use code::code::Code;
+use std::sync::Arc;
+
+/// A method's block and the names that it begins with, the newest last. The block fits just these.
+#[derive(Drop)]
+pub struct Entry {
+    pub nouns: Vec<Local>,
+    pub body: Arc<Vec<Code>>,
+    pub ghost fits: { fits_all false (local_names nouns.items) body.value.items } by { fits_all-prop false (local_names nouns.items) body.value.items },
+}

@@ -1,0 +1,125 @@
+// Escapes: ejectors are made, end their Escape, and are spent behind it.
+ghost use Rattle.std.specs.Prelude.{◌≡◌, ◌<◌, ◌+◌, IfOk, length, take};
+ghost use Rattle.std.specs.Option.{option_map};
+ghost use Rattle.values.specs.View.{val_of, vals_of};
+ghost use Rattle.erules.specs.Rules.{next_ejector, escaping, escape_end as escape_end_of, is_open as is_open_of, ejects, given as given_of, ejector_end as ejector_end_of};
+ghost use Rattle.erules.specs.View.{at, end_of, opened_of};
+
+use crate::end::{Ejection, End, Halt};
+use crate::results::no_such_method;
+use crate::working::Working;
+use ids::names::EjId;
+use ids::text::Text;
+use std::alloc::AllocError;
+use std::sync::Arc;
+use values::value::Value;
+use values::verb::Verb;
+
+/// Makes the turn's next ejector and begins its Escape.
+pub fn open_escape(w: &mut Working) -> Result<EjId, AllocError>
+    requires { w.old.ejectors + w.old.steps < 4294967295 }
+    ensures named { IfOk result (λ j. j ≡ next_ejector (at w.old)) }
+    ensures place { IfOk result (λ j. at w.new ≡ escaping (at w.old)) }
+{
+    let ejector = EjId {
+        event: w.draft.event(),
+        index: w.ejectors,
+        vat: w.draft.vat(),
+    };
+    w.opened.push(ejector)?;
+    w.ejectors += 1;
+    Ok(ejector)
+}
+
+/// How many Escapes are being evaluated.
+pub fn count_open(w: &Working) -> usize
+    ensures { result ≡ length w.now.opened.items }
+{
+    w.opened.len()
+}
+
+/// Ends the Escapes that were begun since there were so many: their ejectors are spent.
+pub fn close_escape(w: &mut Working, outer: usize)
+    ensures { at w.new ≡ record (at w.old) { opened = opened_of (take outer w.old.opened.items) } }
+{
+    w.opened.truncate(outer);
+}
+
+/// How an Escape ends whose block ended so: a value that its own ejector was given is its value.
+pub fn escape_end(ejector: EjId, ended: End) -> Result<End, AllocError>
+    ensures { IfOk result (λ o. end_of o ≡ escape_end_of ejector (end_of ended)) }
+{
+    match ended {
+        End::Value(value) => Ok(End::Value(value)),
+        End::Halt(halt) => match halt {
+            Halt::Thrown(problem) => Ok(End::Halt(Halt::Thrown(problem))),
+            Halt::Ejected(ejection) => {
+                if ejector.cmp(&ejection.ejector).is_eq() {
+                    Ok(End::Value(ejection.value.share()?))
+                } else {
+                    Ok(End::Halt(Halt::Ejected(ejection)))
+                }
+            }
+            Halt::Abandoned(why) => Ok(End::Halt(Halt::Abandoned(why))),
+        },
+    }
+}
+
+/// What a call on an ejector gives.
+pub fn ejector_end(
+    w: &Working,
+    ejector: EjId,
+    verb: &Verb,
+    args: &[Value],
+) -> Result<End, AllocError>
+    ensures { IfOk result (λ o. end_of o
+        ≡ ejector_end_of ejector (opened_of w.now.opened.items) verb.now (vals_of args.now)) }
+{
+    if verb.as_str() != "run" {
+        return no_such_method(w.alloc, verb, args);
+    }
+    match given(args)? {
+        Some(value) => eject(w, ejector, value),
+        None => no_such_method(w.alloc, verb, args),
+    }
+}
+
+/// What an ejector is given: one value, or null.
+fn given(args: &[Value]) -> Result<Option<Value>, AllocError>
+    ensures { IfOk result (λ v. option_map val_of v ≡ given_of (vals_of args.now)) }
+{
+    if args.is_empty() {
+        Ok(Some(Value::Null))
+    } else if args.len() == 1 {
+        Ok(Some(args[0].share()?))
+    } else {
+        Ok(None)
+    }
+}
+
+/// Sends a value to the Escape of an ejector, if that is being evaluated.
+fn eject(w: &Working, ejector: EjId, value: Value) -> Result<End, AllocError>
+    ensures { IfOk result (λ o. end_of o
+        ≡ ejects (is_open_of ejector (opened_of w.now.opened.items)) ejector (val_of value)) }
+{
+    if is_open(&w.opened, ejector) {
+        let ejection = Ejection { ejector, value };
+        Ok(End::Halt(Halt::Ejected(Arc::new(w.alloc, ejection)?)))
+    } else {
+        Ok(End::Halt(Halt::Thrown(Text::new(w.alloc, "ejector is spent")?)))
+    }
+}
+
+/// Whether an ejector's Escape is being evaluated.
+fn is_open(opened: &Vec<EjId>, ejector: EjId) -> bool
+    ensures { result ≡ is_open_of ejector (opened_of opened.now.items) }
+{
+    let mut rest = opened.as_slice();
+    while let Some((newest, older)) = rest.split_last() {
+        if newest.cmp(&ejector).is_eq() {
+            return true;
+        }
+        rest = older;
+    }
+    false
+}

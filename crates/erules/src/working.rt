@@ -1,0 +1,31 @@
+// What a turn works on.
+ghost use Rattle.std.specs.Prelude.{◌+◌, ◌≤◌};
+
+use crate::local::Local;
+use heap::draft::Draft;
+use ids::names::EjId;
+use std::alloc::Global;
+
+/// The deepest level at which a node may begin.
+pub const DEEPEST: u32 = 1000;
+
+/// A turn under way, on a copy of its vat's state that it changes in place.
+#[derive(Drop)]
+pub struct Working {
+    pub alloc: Global,
+    /// The vat's state, with what the turn has made.
+    pub draft: Draft,
+    /// Whether the innermost scope is the script's own.
+    pub own_scope: bool,
+    /// The names of the scopes entered so far, the newest last.
+    pub nouns: Vec<Local>,
+    /// Emptied frames, which the methods that are entered next can have.
+    pub spare: Vec<Vec<Local>>,
+    /// The steps left.
+    pub steps: u32,
+    /// How many ejectors the turn has made: no more than the steps that it has taken, so that they can be counted.
+    pub ejectors: u32,
+    /// The ejectors whose Escape is being evaluated, the newest last.
+    pub opened: Vec<EjId>,
+    pub ghost counted: { ejectors + steps ≤ 4294967295 },
+}

@@ -1,5 +1,0 @@
-use Rattle.eval.proofs.Ejections.{ends_inside}
-use Rattle.eval.proofs.theorems.ejections_are_open.Goals as goal
-
-pub returns : goal.returns
-returns c = λ k t a b j v r. ends_inside r
