@@ -21,6 +21,7 @@ position_in (and_method m ps body ms) verb count = cond (bytes_eq m verb && nat_
 abbrev pub key_cmp : MethodKey → MethodKey → Ordering
 key_cmp j k = ordering_then (slice_cmp nat_cmp j.verb k.verb) (nat_cmp j.count k.count)
 
+-- what a verb and a number of parameters are looked up by
 abbrev pub key_of : Name → ℕ → MethodKey
 key_of verb count = record { verb = verb; count = count }
 

@@ -50,6 +50,10 @@ node e {k = k} {a = a} {b = b} {o = o} is r has fits = subst (λ u. Ends k u a o
 pub child : {e d : Code} {o p : code.End} {k : ℕ} {a b : At} → e ≡ d → o ≡ p → Ends k (tree_of_code e) a (end_of o) b → Ends k (tree_of_code d) a (end_of p) b
 child {d = d} {o = o} {k = k} {a = a} {b = b} same is h = subst (λ q. Ends k (tree_of_code d) a (end_of q) b) is (subst (λ x. Ends k (tree_of_code x) a (end_of o) b) same h)
 
+-- the same where the end is not one of the program's
+pub tested : {d e : Code} {k : ℕ} {a b : At} {o : End} → d ≡ e → Ends k (tree_of_code d) a o b → Ends k (tree_of_code e) a o b
+tested {k = k} {a = a} {b = b} {o = o} same r = subst (λ x. Ends k (tree_of_code x) a o b) same r
+
 pub children : {xs ys : List Code} {g h : Gathered} {k : ℕ} {a b : At} → xs ≡ ys → g ≡ h → Args k (trees_of_codes xs) a (gather_of g) b → Args k (trees_of_codes ys) a (gather_of h) b
 children {ys = ys} {g = g} {k = k} {a = a} {b = b} same is r = subst (λ q. Args k (trees_of_codes ys) a (gather_of q) b) is (subst (λ x. Args k (trees_of_codes x) a (gather_of g) b) same r)
 
@@ -103,6 +107,9 @@ pub runs_as : {k : ℕ} {t : Tree} {a b : At} {o p : End} → Runs k t a p b →
 runs_as {k = k} {t = t} {a = a} {b = b} r e = subst (λ o. Runs k t a o b) (sym e) r
 
 -- the same of where it ends
+pub ends_to : {k : ℕ} {t : Tree} {a b c : At} {o p : End} → Ends k t a p b → o ≡ p → c ≡ b → Ends k t a o c
+ends_to {k = k} {t = t} {a = a} {c = c} {p = p} r e f = subst (λ o. Ends k t a o c) (sym e) (subst (λ d. Ends k t a p d) (sym f) r)
+
 pub runs_to : {k : ℕ} {t : Tree} {a b c : At} {o p : End} → Runs k t a p b → o ≡ p → c ≡ b → Runs k t a o c
 runs_to {k = k} {t = t} {a = a} {c = c} {p = p} r e f = subst (λ o. Runs k t a o c) (sym e) (subst (λ d. Runs k t a p d) (sym f) r)
 

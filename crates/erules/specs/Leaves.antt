@@ -1,11 +1,19 @@
--- Leaves: what is evaluated without evaluating parts of it.
-use Rattle.std.specs.Prelude.{ℕ}
-use Rattle.kernele.specs.Tree.{Tree}
-use Rattle.values.specs.Data.{Val}
+-- What is evaluated without an end: leaves, and calls on them.
+use Rattle.std.specs.Prelude.{◌≡◌, ◌≤◌, ◌<◌, ◌-◌, ℕ, ℤ}
+use Rattle.kernele.specs.Tree.{Tree, Trees, none, and_then}
+use Rattle.values.specs.Data.{Val, int}
 use Rattle.erules.specs.At.{At}
 use Rattle.erules.specs.Outcomes.{value}
-use Rattle.erules.specs.Rules.{Runs}
+use Rattle.erules.specs.Rules.{Ends, Runs}
 
 -- a tree gives this value at every level and with any steps left, and changes nothing
 abbrev pub Leaf : At → Tree → Val → Type 0
 Leaf a t v = (k n : ℕ) → Runs k t (record a { left = n }) (value v) (record a { left = n })
+
+-- a call is made on one integer that is at hand, and another one is its only argument
+abbrev pub Operands : At → Tree → Trees → ℤ → ℤ → Type 0
+Operands a receiver args x y = Leaf a receiver (int x) × (arg : Tree) × (args ≡ and_then arg none) × Leaf a arg (int y)
+
+-- a tree gives this value above the deepest level where so many steps are left; it takes these, and changes nothing else
+abbrev pub AtHand : At → Tree → ℕ → Val → Type 0
+AtHand a t steps v = (k n : ℕ) → k < 1000 → steps ≤ n → Ends k t (record a { left = n }) (value v) (record a { left = n - steps })

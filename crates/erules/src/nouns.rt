@@ -74,7 +74,7 @@ pub fn seek<'a>(w: &'a Working, name: &Text, place: Place) -> Option<&'a Binding
 }
 
 /// The slot that a name stands for.
-fn seek_slot(w: &Working, name: &Text, place: Place) -> Option<SlotId>
+pub(crate) fn seek_slot(w: &Working, name: &Text, place: Place) -> Option<SlotId>
     requires { place ≡ place_in (frame_at (at w.now)) name.now }
     ensures { result ≡ sought_slot name.now (at w.now) }
 {

@@ -12,16 +12,16 @@ ghost use Rattle.erules.specs.Rules.{Runs, Args, Items, inside, leaving, target_
 ghost use Rattle.erules.specs.Locals.{locals_of};
 ghost use Rattle.erules.specs.View.{at, end_of, target_view};
 
-use erules::calls::{call_target, enter_method, leave_method, value_target};
 use crate::control::eval_taking;
+use crate::eval::{eval, eval_args, eval_items};
+use code::code::Code;
+use erules::calls::{call_target, enter_method, leave_method, value_target};
 use erules::end::End;
 use erules::entry::Entry;
 use erules::escapes::{close_escape, count_open, escape_end, open_escape};
-use crate::eval::{eval, eval_args, eval_items};
 use erules::objects::Target;
 use erules::quick::quick_value;
 use erules::working::Working;
-use code::code::Code;
 use ids::text::Text;
 use kernele::tree::Pattern;
 use std::alloc::AllocError;

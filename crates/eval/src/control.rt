@@ -6,16 +6,18 @@ ghost use Rattle.erules.specs.Fits.{fits_at, frame_at, frame_behind};
 ghost use Rattle.kernele.specs.Scope.{name_of};
 ghost use Rattle.code.specs.View.{tree_of_code, trees_of_codes};
 ghost use Rattle.values.specs.View.{val_of, vals_of};
-ghost use Rattle.erules.specs.Rules.{Runs, Block, Taking, Each};
-ghost use Rattle.erules.specs.View.{at, end_of};
+ghost use Rattle.erules.specs.Outcomes.{End as Ending};
+ghost use Rattle.erules.specs.Rules.{Ends, Runs, Block, Taking, Each, choice_of};
+ghost use Rattle.erules.specs.View.{at, choice_view, end_of};
 
+use crate::eval::{eval, eval_items};
+use code::code::Code;
 use erules::blocks::{enter, leave};
 use erules::end::End;
-use crate::eval::{eval, eval_items};
 use erules::nouns::match_pattern;
+use erules::quick::quick_truth;
 use erules::wanted::{Choosing, Listing, caught, choose, halt_in, items_of};
 use erules::working::Working;
-use code::code::Code;
 use kernele::tree::Pattern;
 use std::alloc::AllocError;
 use std::sync::Arc;
@@ -49,8 +51,7 @@ pub(crate) fn eval_if(
         (trees_of_codes first.now.value.items) (trees_of_codes second.now.value.items))
         (at w.old) (end_of o) (at w.new)) }
 {
-    let tested = eval(w, condition, level + 1)?;
-    let choice = choose(w.alloc, tested)?;
+    let choice = eval_condition(w, condition, level + 1)?;
     match choice {
         Choosing::Ends(end) => Ok(end),
         Choosing::Goes(truth) => {
@@ -78,8 +79,7 @@ pub(crate) fn eval_while(
 {
     let names = w.nouns.len();
     'rounds: loop {
-        let tested = eval(w, condition, level + 1)?;
-        let choice = choose(w.alloc, tested)?;
+        let choice = eval_condition(w, condition, level + 1)?;
         match choice {
             Choosing::Ends(end) => return Ok(end),
             Choosing::Goes(truth) => {
@@ -143,6 +143,26 @@ pub(crate) fn eval_try(
             Ok(end)
         }
         Err(end) => Ok(end),
+    }
+}
+
+/// Evaluates a condition. One that compares integers at hand needs no end.
+#[cycle(evaluate)]
+fn eval_condition(w: &mut Working, condition: &Code, level: u32) -> Result<Choosing, AllocError>
+    requires level { level ≤ 1001 }
+    requires fits { fits_at (at w.old) condition.now }
+    ensures { IfOk result (λ c. (o : Ending) × Ends level (tree_of_code condition.now) (at w.old) o (at w.new)
+        × (choice_of o ≡ choice_view c)) }
+{
+    match quick_truth(w, condition, level) {
+        Some(truth) => {
+            w.steps -= 3;
+            Ok(Choosing::Goes(truth))
+        }
+        None => {
+            let tested = eval(w, condition, level)?;
+            choose(w.alloc, tested)
+        }
     }
 }
 

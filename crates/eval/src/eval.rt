@@ -10,13 +10,14 @@ ghost use Rattle.erules.specs.View.{at, end_of, gather_of};
 
 use crate::calling::{eval_call, eval_escape};
 use crate::control::{eval_for, eval_hide, eval_if, eval_try, eval_while};
+use code::code::{Code, Place};
 use erules::end::{Abandon, End, Gathered, Halt};
 use erules::nouns::{assign, bind_parts, declare, match_pattern, noun_end};
 use erules::objects::define_object;
+use erules::quick::{quick_setting, set};
 use erules::results::{int_end, list_end, text_end};
 use erules::wanted::thrown;
 use erules::working::{DEEPEST, Working};
-use code::code::{Code, Place};
 use ids::text::Text;
 use kernele::tree::Pattern;
 use std::alloc::AllocError;
@@ -199,10 +200,23 @@ pub fn eval_items(w: &mut Working, items: &[Code], level: u32) -> Result<End, Al
 {
     let mut last = Value::Null;
     for item in items {
-        match eval(w, item, level)? {
+        match eval_item(w, item, level)? {
             End::Value(v) => last = v,
             End::Halt(halt) => return Ok(End::Halt(halt)),
         }
     }
     Ok(End::Value(last))
+}
+
+/// Evaluates an item of a block. One that assigns what integers at hand give needs no end for its right side.
+#[cycle(evaluate)]
+#[inline(always)]
+fn eval_item(w: &mut Working, item: &Code, level: u32) -> Result<End, AllocError>
+    requires { fits_at (at w.old) item.now }
+    ensures { IfOk result (λ o. Ends level (tree_of_code item.now) (at w.old) (end_of o) (at w.new)) }
+{
+    match quick_setting(w, item, level) {
+        Some(setting) => Ok(End::Value(set(w, setting)?)),
+        None => eval(w, item, level),
+    }
 }

@@ -14,8 +14,8 @@ ghost use Rattle.turn.specs.View.{ended_of, delivery_of, outcome_of};
 
 use code::resolve;
 use erules::end::{Abandon, End, Halt};
-use eval::eval::eval_items;
 use erules::working::Working;
+use eval::eval::eval_items;
 use heap::draft::Draft;
 use heap::state::VatState;
 use ids::names::{EventName, VatNo};

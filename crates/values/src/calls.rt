@@ -1,6 +1,6 @@
 // The verbs of data. Calls on integers are inlined where they are made, and no others, so that a sum costs little.
 ghost use Rattle.std.specs.Prelude.{◌≡◌, IfOk, IfSome};
-ghost use Rattle.values.specs.Data.{int, and_val, no_vals, gives};
+ghost use Rattle.values.specs.Data.{bool, int, and_val, no_vals, gives};
 ghost use Rattle.values.specs.Replies.{bool_table, data_reply};
 ghost use Rattle.values.specs.View.{val_of, vals_of, reply_of};
 
@@ -61,6 +61,36 @@ pub fn call_integers(x: i64, verb: &Verb, y: i64) -> Option<Value>
         IntReply::Integer(integer) => Some(Value::Int(integer)),
         IntReply::Truth(holds) => Some(Value::Bool(holds)),
         IntReply::TooLarge
+        | IntReply::DivisionByZero
+        | IntReply::WrongArgument
+        | IntReply::NoMethod => None,
+    }
+}
+
+/// The integer that a verb makes of two integers, if it makes one.
+#[inline(always)]
+pub fn combine_integers(x: i64, verb: &Verb, y: i64) -> Option<i64>
+    ensures { IfSome result (λ n. data_reply (int x) verb.now (and_val (int y) no_vals) ≡ gives (int n)) }
+{
+    match int_with(x, verb, &Value::Int(y)) {
+        IntReply::Integer(integer) => Some(integer),
+        IntReply::Truth(_)
+        | IntReply::TooLarge
+        | IntReply::DivisionByZero
+        | IntReply::WrongArgument
+        | IntReply::NoMethod => None,
+    }
+}
+
+/// What a verb says of two integers, if it says whether something holds.
+#[inline(always)]
+pub fn compare_integers(x: i64, verb: &Verb, y: i64) -> Option<bool>
+    ensures { IfSome result (λ holds. data_reply (int x) verb.now (and_val (int y) no_vals) ≡ gives (bool holds)) }
+{
+    match int_with(x, verb, &Value::Int(y)) {
+        IntReply::Truth(holds) => Some(holds),
+        IntReply::Integer(_)
+        | IntReply::TooLarge
         | IntReply::DivisionByZero
         | IntReply::WrongArgument
         | IntReply::NoMethod => None,

@@ -3,11 +3,12 @@ use Rattle.std.proofs.lemmas.Result.{IfOk-weaker}
 use Rattle.code.specs.View.{tree_of_code, trees_of_codes}
 use Rattle.code.proofs.Views.{tree_of_code-Call, tree_of_code-List, tree_of_code-Hide, tree_of_code-If, tree_of_code-While, tree_of_code-For, tree_of_code-Try, tree_of_code-Object, tree_of_code-Escape}
 use Rattle.kernele.specs.declared.tree.Pattern.TheVariants as pattern
+use Rattle.values.specs.Data.{bool}
 use Rattle.values.specs.View.{val_of}
-use Rattle.erules.specs.Outcomes.{halted}
+use Rattle.erules.specs.Outcomes.{halted, value}
 use Rattle.erules.specs.View.{at, end_of, halt_of, choice_view, listing_view, target_view}
 use Rattle.erules.specs.Rules.{at_budget, at_depth, run_null, run_bool, run_int, run_text, run_noun, run_define, run_variable, run_assign, run_call_receiver, run_call_gives, run_list, run_same_left, run_same, goes, run_define_list, run_hide, run_throw, run_if_goes, run_if_ends, run_while_again, run_while_halts, run_while_done, run_while_ends, run_for, run_for_ends, run_try, run_try_caught, run_object, args_halt}
-use Rattle.erules.proofs.Steps.{node, child, children, slice_of, if_both, runs_as, runs_to, parts_run, args_begin, args_pushed, args_more, args_no_more, args_end, args_done, args_as, only_one, one_arg, items_more, items_no_more, items_end, blocks, block_ending, taking, taking_ending, each, block_end, taking_end, each_more, each_no_more, each_end, next_round}
+use Rattle.erules.proofs.Steps.{node, child, tested, children, slice_of, if_both, runs_as, runs_to, ends_to, parts_run, args_begin, args_pushed, args_more, args_no_more, args_end, args_done, args_as, only_one, one_arg, items_more, items_no_more, items_end, blocks, block_ending, taking, taking_ending, each, block_end, taking_end, each_more, each_no_more, each_end, next_round}
 use Rattle.eval.proofs.Entered.{call_leads, leads_as, entered, call_entered, escape_over}
 use Rattle.erules.proofs.Scopes.{truncated, truncated-length}
 use Rattle.erules.proofs.Added.{goes_add, block_stays, taking_stays}
@@ -168,38 +169,41 @@ eval::eval_items-returns-in-Halt t c = c.loop-item.invariant.0 _ _ (items_no_mor
 pub eval::eval_items-returns : goal.eval::eval_items-returns
 eval::eval_items-returns t c = c.loop-item.invariant.0 _ _ (items_end _ c.loop-item-test.false)
 
+pub eval::eval_item-returns-in_ok-set-in-Some : goal.eval::eval_item-returns-in_ok-set-in-Some
+eval::eval_item-returns-in_ok-set-in-Some t c = ends_to c.in-Some.ensures.ends (ap value c.in_ok-set-in-Some.ensures.value) c.in_ok-set-in-Some.ensures.place
+
 pub control::eval_hide-returns : goal.control::eval_hide-returns
 control::eval_hide-returns t c = IfOk-weaker _ _ _ (λ o h. run_hide (blocks (slice_of c.deref-2.ensures.value c.deref.ensures) refl h)) c.eval_block.ensures
 
 pub control::eval_if-returns-in-Ends : goal.control::eval_if-returns-in-Ends
-control::eval_if-returns-in-Ends t c = run_if_ends (child c.deref.ensures refl c.in_ok-tested.ensures) (sym c.in_ok-choice.ensures ∙ ap choice_view c.in-Ends.is)
+control::eval_if-returns-in-Ends t c = run_if_ends (tested c.deref.ensures c.in_ok-choice.ensures.1) (c.in_ok-choice.ensures.2 ∙ ap choice_view c.in-Ends.is)
 
 pub control::eval_if-returns-then-truth : goal.control::eval_if-returns-then-truth
-control::eval_if-returns-then-truth t c = IfOk-weaker _ _ _ (λ o h. run_if_goes (child c.deref.ensures refl c.in_ok-tested.ensures) (sym c.in_ok-choice.ensures ∙ ap choice_view c.in-Goes.is ∙ ap goes c.if-truth.true) (blocks (slice_of c.deref-then-truth-2.ensures.value c.deref-then-truth.ensures) refl h)) c.eval_block.ensures
+control::eval_if-returns-then-truth t c = IfOk-weaker _ _ _ (λ o h. run_if_goes (tested c.deref.ensures c.in_ok-choice.ensures.1) (c.in_ok-choice.ensures.2 ∙ ap choice_view c.in-Goes.is ∙ ap goes c.if-truth.true) (blocks (slice_of c.deref-then-truth-2.ensures.value c.deref-then-truth.ensures) refl h)) c.eval_block.ensures
 
 pub control::eval_if-returns-else-truth : goal.control::eval_if-returns-else-truth
-control::eval_if-returns-else-truth t c = IfOk-weaker _ _ _ (λ o h. run_if_goes (child c.deref.ensures refl c.in_ok-tested.ensures) (sym c.in_ok-choice.ensures ∙ ap choice_view c.in-Goes.is ∙ ap goes c.if-truth.false) (blocks (slice_of c.deref-else-truth-2.ensures.value c.deref-else-truth.ensures) refl h)) c.eval_block-else-truth.ensures
+control::eval_if-returns-else-truth t c = IfOk-weaker _ _ _ (λ o h. run_if_goes (tested c.deref.ensures c.in_ok-choice.ensures.1) (c.in_ok-choice.ensures.2 ∙ ap choice_view c.in-Goes.is ∙ ap goes c.if-truth.false) (blocks (slice_of c.deref-else-truth-2.ensures.value c.deref-else-truth.ensures) refl h)) c.eval_block-else-truth.ensures
 
 pub control::eval_while-returns-in-Ends : goal.control::eval_while-returns-in-Ends
-control::eval_while-returns-in-Ends t c = c.rounds.invariant.0 _ _ (run_while_ends (child c.deref.ensures refl c.in_ok-tested.ensures) (sym c.in_ok-choice.ensures ∙ ap choice_view c.in-Ends.is))
+control::eval_while-returns-in-Ends t c = c.rounds.invariant.0 _ _ (run_while_ends (tested c.deref.ensures c.in_ok-choice.ensures.1) (c.in_ok-choice.ensures.2 ∙ ap choice_view c.in-Ends.is))
 
 pub control::eval_while-returns-then-not-truth : goal.control::eval_while-returns-then-not-truth
-control::eval_while-returns-then-not-truth t c = c.rounds.invariant.0 _ _ (run_while_done (child c.deref.ensures refl c.in_ok-tested.ensures) (sym c.in_ok-choice.ensures ∙ ap choice_view c.in-Goes.is ∙ ap goes c.if-not-truth.true))
+control::eval_while-returns-then-not-truth t c = c.rounds.invariant.0 _ _ (run_while_done (tested c.deref.ensures c.in_ok-choice.ensures.1) (c.in_ok-choice.ensures.2 ∙ ap choice_view c.in-Goes.is ∙ ap goes c.if-not-truth.true))
 
 pub control::eval_while-returns-in-Some : goal.control::eval_while-returns-in-Some
-control::eval_while-returns-in-Some t c = c.rounds.invariant.0 _ _ (run_while_halts (child c.deref.ensures refl c.in_ok-tested.ensures) (sym c.in_ok-choice.ensures ∙ ap choice_view c.in-Goes.is ∙ ap goes c.if-not-truth.false) (block_ending (slice_of c.deref-in-rounds-2.ensures.value c.deref-in-rounds.ensures) c.in-Some.ensures c.in_ok-ended.ensures))
+control::eval_while-returns-in-Some t c = c.rounds.invariant.0 _ _ (run_while_halts (tested c.deref.ensures c.in_ok-choice.ensures.1) (c.in_ok-choice.ensures.2 ∙ ap choice_view c.in-Goes.is ∙ ap goes c.if-not-truth.false) (block_ending (slice_of c.deref-in-rounds-2.ensures.value c.deref-in-rounds.ensures) c.in-Some.ensures c.in_ok-ended.ensures))
 
 pub control::eval_while-rounds-preserved : goal.control::eval_while-rounds-preserved
 control::eval_while-rounds-preserved t c =
-    let g = round_grow c.in_ok-tested.ensures c.in_ok-ended.ensures in (
-      λ o b h. c.rounds.invariant.0 _ _ (run_while_again (child c.deref.ensures refl c.in_ok-tested.ensures) (sym c.in_ok-choice.ensures ∙ ap choice_view c.in-Goes.is ∙ ap goes c.if-not-truth.false) (block_ending (slice_of c.deref-in-rounds-2.ensures.value c.deref-in-rounds.ensures) c.in_default.ensures.1 c.in_ok-ended.ensures) (next_round c.rounds.w c.eval_block.new.w c.rounds.invariant.1 g c.truncate.ensures.items h)),
+    let g = round_grow c.in_ok-choice.ensures.1 c.in_ok-ended.ensures in (
+      λ o b h. c.rounds.invariant.0 _ _ (run_while_again (tested c.deref.ensures c.in_ok-choice.ensures.1) (c.in_ok-choice.ensures.2 ∙ ap choice_view c.in-Goes.is ∙ ap goes c.if-not-truth.false) (block_ending (slice_of c.deref-in-rounds-2.ensures.value c.deref-in-rounds.ensures) c.in_default.ensures.1 c.in_ok-ended.ensures) (next_round c.rounds.w c.eval_block.new.w c.rounds.invariant.1 g c.truncate.ensures.items h)),
       truncated-length c.rounds.w.nouns.items c.eval_block.new.w.nouns.items c.len-names.result c.rounds.invariant.1 g ∙ ap length (sym c.truncate.ensures.items),
       round_fits (at c.rounds.w) (record (at c.eval_block.new.w) { nouns = locals_of c.truncate.new.self.items }) c.args.condition.now.value c.args.body.now.value.items (ap locals_of c.truncate.ensures.items ∙ truncated c.rounds.w.nouns.items c.eval_block.new.w.nouns.items c.len-names.result c.rounds.invariant.1 g)
-          ((block_stays c.in_ok-ended.ensures).1 ∙ (goes_add c.in_ok-tested.ensures (sym c.in_ok-choice.ensures ∙ ap choice_view c.in-Goes.is)).1) c.rounds.invariant.2,
+          ((block_stays c.in_ok-ended.ensures).1 ∙ (goes_add c.in_ok-choice.ensures.1 (c.in_ok-choice.ensures.2 ∙ ap choice_view c.in-Goes.is)).1) c.rounds.invariant.2,
     )
 
 pub control::eval_while-rounds-smaller : goal.control::eval_while-rounds-smaller
-control::eval_while-rounds-smaller t c = omega (arith, condition_less c.in_ok-tested.ensures (sym c.in_ok-choice.ensures ∙ ap choice_view c.in-Goes.is ∙ ap goes c.if-not-truth.false), block_left c.in_ok-ended.ensures)
+control::eval_while-rounds-smaller t c = omega (arith, condition_less c.in_ok-choice.ensures.1 (c.in_ok-choice.ensures.2 ∙ ap choice_view c.in-Goes.is ∙ ap goes c.if-not-truth.false), block_left c.in_ok-ended.ensures)
 
 pub control::eval_for-returns-in-Ends : goal.control::eval_for-returns-in-Ends
 control::eval_for-returns-in-Ends t c = run_for_ends (child c.deref.ensures refl c.in_ok-ended.ensures) (sym c.in_ok-gone_over.ensures ∙ ap listing_view c.in-Ends.is)
@@ -212,6 +216,9 @@ control::eval_try-returns-in-Err t c = runs_as (run_try (blocks (slice_of c.dere
 
 pub control::eval_try-returns-in_ok-end-in-Ok : goal.control::eval_try-returns-in_ok-end-in-Ok
 control::eval_try-returns-in_ok-end-in-Ok t c = run_try_caught (blocks (slice_of c.deref-2.ensures.value c.deref.ensures) refl c.in_ok-tried.ensures) c.in-Ok.ensures (taking (slice_of c.deref-in-Ok-2.ensures.value c.deref-in-Ok.ensures) refl c.in_ok-end-in-Ok.ensures)
+
+pub control::eval_condition-returns-in-Some : goal.control::eval_condition-returns-in-Some
+control::eval_condition-returns-in-Some t c = (value (bool c.in-Some.truth), c.in-Some.ensures.ends, refl)
 
 pub control::eval_block-returns : goal.control::eval_block-returns
 control::eval_block-returns t c = block_end c.args.w.now c.eval_items.new.w c.enter-outer.ensures.names c.enter-outer.ensures.own c.enter-outer.ensures.place c.in_ok-end.ensures c.leave.ensures
@@ -241,16 +248,16 @@ pub control::eval_for-eval_each-requires : goal.control::eval_for-eval_each-requ
 control::eval_for-eval_each-requires t c = (search rules, (search rules, repeated_fits (only_names (name_of c.args.pattern.now)) (slice_of c.deref-in-Listed-4.ensures.value c.deref-in-Listed-3.ensures) (child c.deref.ensures refl c.in_ok-ended.ensures) (sym c.in_ok-gone_over.ensures ∙ ap listing_view c.in-Listed.is) c.requires.fits.1))
 
 pub control::eval_if-eval_block-requires : goal.control::eval_if-eval_block-requires
-control::eval_if-eval_block-requires t c = (search rules, (search rules, chosen_fits (slice_of c.deref-then-truth-2.ensures.value c.deref-then-truth.ensures) (child c.deref.ensures refl c.in_ok-tested.ensures) (sym c.in_ok-choice.ensures ∙ ap choice_view c.in-Goes.is) c.requires.fits.1))
+control::eval_if-eval_block-requires t c = (search rules, (search rules, chosen_fits (slice_of c.deref-then-truth-2.ensures.value c.deref-then-truth.ensures) (tested c.deref.ensures c.in_ok-choice.ensures.1) (c.in_ok-choice.ensures.2 ∙ ap choice_view c.in-Goes.is) c.requires.fits.1))
 
 pub control::eval_if-eval_block-requires-else-truth : goal.control::eval_if-eval_block-requires-else-truth
-control::eval_if-eval_block-requires-else-truth t c = (search rules, (search rules, chosen_fits (slice_of c.deref-else-truth-2.ensures.value c.deref-else-truth.ensures) (child c.deref.ensures refl c.in_ok-tested.ensures) (sym c.in_ok-choice.ensures ∙ ap choice_view c.in-Goes.is) c.requires.fits.2))
+control::eval_if-eval_block-requires-else-truth t c = (search rules, (search rules, chosen_fits (slice_of c.deref-else-truth-2.ensures.value c.deref-else-truth.ensures) (tested c.deref.ensures c.in_ok-choice.ensures.1) (c.in_ok-choice.ensures.2 ∙ ap choice_view c.in-Goes.is) c.requires.fits.2))
 
-pub control::eval_while-eval-requires : goal.control::eval_while-eval-requires
-control::eval_while-eval-requires t c = (search rules, subst (fits_at (at c.rounds.w)) (sym c.deref.ensures) c.rounds.invariant.2.0)
+pub control::eval_while-eval_condition-requires : goal.control::eval_while-eval_condition-requires
+control::eval_while-eval_condition-requires t c = (search rules, (search rules, subst (fits_at (at c.rounds.w)) (sym c.deref.ensures) c.rounds.invariant.2.0))
 
 pub control::eval_while-eval_block-requires : goal.control::eval_while-eval_block-requires
-control::eval_while-eval_block-requires t c = (search rules, (search rules, chosen_fits (slice_of c.deref-in-rounds-2.ensures.value c.deref-in-rounds.ensures) (child c.deref.ensures refl c.in_ok-tested.ensures) (sym c.in_ok-choice.ensures ∙ ap choice_view c.in-Goes.is) c.rounds.invariant.2.1))
+control::eval_while-eval_block-requires t c = (search rules, (search rules, chosen_fits (slice_of c.deref-in-rounds-2.ensures.value c.deref-in-rounds.ensures) (tested c.deref.ensures c.in_ok-choice.ensures.1) (c.in_ok-choice.ensures.2 ∙ ap choice_view c.in-Goes.is) c.rounds.invariant.2.1))
 
 pub eval::eval-eval_call-requires : goal.eval::eval-eval_call-requires
 eval::eval-eval_call-requires t c = (search rules, (search rules, parts_fit (at c.args.w.now) c.in-Call.is (fits-Call c.args.w.now.own_scope (frame_of (at c.args.w.now).nouns) c.in-Call.receiver c.in-Call.verb c.in-Call.args) c.requires.fits))
@@ -282,8 +289,8 @@ eval::eval-eval_escape-requires t c = (search rules, (search rules, (parts_fit (
 pub eval::eval_args-eval-requires : goal.eval::eval_args-eval-requires
 eval::eval_args-eval-requires t c = (search rules, (fits_from _ _ c.args.args.now c.loop-arg.arg-index _ c.loop-arg-test.true c.arg-item.is c.loop-arg.invariant.1).0)
 
-pub eval::eval_items-eval-requires : goal.eval::eval_items-eval-requires
-eval::eval_items-eval-requires t c = (search rules, (fits_from _ _ c.args.items.now c.loop-item.item-index _ c.loop-item-test.true c.item-item.is c.loop-item.invariant.1).0)
+pub eval::eval_items-eval_item-requires : goal.eval::eval_items-eval_item-requires
+eval::eval_items-eval_item-requires t c = (search rules, (fits_from _ _ c.args.items.now c.loop-item.item-index _ c.loop-item-test.true c.item-item.is c.loop-item.invariant.1).0)
 
 pub eval::eval_assign-assign-requires : goal.eval::eval_assign-assign-requires
 eval::eval_assign-assign-requires t c = placed_then c.args.name.now (child c.deref.ensures c.in-Value.is c.in_ok-value.ensures) c.requires.fits.1

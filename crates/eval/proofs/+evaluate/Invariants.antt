@@ -15,76 +15,82 @@ use Rattle.eval.proofs.+evaluate.Given as goal
 
 -- a level's rank: a node, its parts in order, a block of them, a block for each value, and the construct one level above
 abbrev pub decreases-eval::eval : goal.decreases-eval::eval
-decreases-eval::eval l = 5 * (1001 - l.level)
+decreases-eval::eval l = 6 * (1001 - l.level)
 
 abbrev pub decreases-eval::eval_args : goal.decreases-eval::eval_args
-decreases-eval::eval_args l = 5 * (1001 - l.level) + 1
+decreases-eval::eval_args l = 6 * (1001 - l.level) + 1
 
 abbrev pub decreases-eval::eval_items : goal.decreases-eval::eval_items
-decreases-eval::eval_items l = 5 * (1001 - l.level) + 1
+decreases-eval::eval_items l = 6 * (1001 - l.level) + 2
+
+abbrev pub decreases-eval::eval_item : goal.decreases-eval::eval_item
+decreases-eval::eval_item l = 6 * (1001 - l.level) + 1
+
+abbrev pub decreases-control::eval_condition : goal.decreases-control::eval_condition
+decreases-control::eval_condition l = 6 * (1001 - l.level) + 1
 
 abbrev pub decreases-control::eval_block : goal.decreases-control::eval_block
-decreases-control::eval_block l = 5 * (1001 - l.level) + 2
+decreases-control::eval_block l = 6 * (1001 - l.level) + 3
 
 abbrev pub decreases-control::eval_taking : goal.decreases-control::eval_taking
-decreases-control::eval_taking l = 5 * (1001 - l.level) + 2
+decreases-control::eval_taking l = 6 * (1001 - l.level) + 3
 
 abbrev pub decreases-control::eval_each : goal.decreases-control::eval_each
-decreases-control::eval_each l = 5 * (1001 - l.level) + 3
+decreases-control::eval_each l = 6 * (1001 - l.level) + 4
 
 abbrev pub decreases-eval::eval_def : goal.decreases-eval::eval_def
-decreases-eval::eval_def l = 5 * (1000 - l.level) + 4
+decreases-eval::eval_def l = 6 * (1000 - l.level) + 5
 
 abbrev pub decreases-eval::eval_var : goal.decreases-eval::eval_var
-decreases-eval::eval_var l = 5 * (1000 - l.level) + 4
+decreases-eval::eval_var l = 6 * (1000 - l.level) + 5
 
 abbrev pub decreases-eval::eval_assign : goal.decreases-eval::eval_assign
-decreases-eval::eval_assign l = 5 * (1000 - l.level) + 4
+decreases-eval::eval_assign l = 6 * (1000 - l.level) + 5
 
 abbrev pub decreases-calling::eval_call : goal.decreases-calling::eval_call
-decreases-calling::eval_call l = 5 * (1000 - l.level) + 4
+decreases-calling::eval_call l = 6 * (1000 - l.level) + 5
 
 abbrev pub decreases-calling::eval_any_call : goal.decreases-calling::eval_any_call
-decreases-calling::eval_any_call l = 5 * (1000 - l.level) + 3
+decreases-calling::eval_any_call l = 6 * (1000 - l.level) + 4
 
 abbrev pub decreases-calling::eval_escape : goal.decreases-calling::eval_escape
-decreases-calling::eval_escape l = 5 * (1000 - l.level) + 4
+decreases-calling::eval_escape l = 6 * (1000 - l.level) + 5
 
 abbrev pub decreases-calling::eval_method : goal.decreases-calling::eval_method
-decreases-calling::eval_method l = 5 * (1001 - l.level) + 2
+decreases-calling::eval_method l = 6 * (1001 - l.level) + 3
 
 abbrev pub decreases-calling::eval_target : goal.decreases-calling::eval_target
-decreases-calling::eval_target l = 5 * (1001 - l.level) + 2
+decreases-calling::eval_target l = 6 * (1001 - l.level) + 3
 
 abbrev pub decreases-calling::eval_with_one : goal.decreases-calling::eval_with_one
-decreases-calling::eval_with_one l = 5 * (1001 - l.level) + 1
+decreases-calling::eval_with_one l = 6 * (1001 - l.level) + 1
 
 abbrev pub decreases-eval::eval_list : goal.decreases-eval::eval_list
-decreases-eval::eval_list l = 5 * (1000 - l.level) + 4
+decreases-eval::eval_list l = 6 * (1000 - l.level) + 5
 
 abbrev pub decreases-eval::eval_same : goal.decreases-eval::eval_same
-decreases-eval::eval_same l = 5 * (1000 - l.level) + 4
+decreases-eval::eval_same l = 6 * (1000 - l.level) + 5
 
 abbrev pub decreases-eval::eval_def_list : goal.decreases-eval::eval_def_list
-decreases-eval::eval_def_list l = 5 * (1000 - l.level) + 4
+decreases-eval::eval_def_list l = 6 * (1000 - l.level) + 5
 
 abbrev pub decreases-eval::eval_throw : goal.decreases-eval::eval_throw
-decreases-eval::eval_throw l = 5 * (1000 - l.level) + 4
+decreases-eval::eval_throw l = 6 * (1000 - l.level) + 5
 
 abbrev pub decreases-control::eval_hide : goal.decreases-control::eval_hide
-decreases-control::eval_hide l = 5 * (1000 - l.level) + 4
+decreases-control::eval_hide l = 6 * (1000 - l.level) + 5
 
 abbrev pub decreases-control::eval_if : goal.decreases-control::eval_if
-decreases-control::eval_if l = 5 * (1000 - l.level) + 4
+decreases-control::eval_if l = 6 * (1000 - l.level) + 5
 
 abbrev pub decreases-control::eval_while : goal.decreases-control::eval_while
-decreases-control::eval_while l = 5 * (1000 - l.level) + 4
+decreases-control::eval_while l = 6 * (1000 - l.level) + 5
 
 abbrev pub decreases-control::eval_for : goal.decreases-control::eval_for
-decreases-control::eval_for l = 5 * (1000 - l.level) + 4
+decreases-control::eval_for l = 6 * (1000 - l.level) + 5
 
 abbrev pub decreases-control::eval_try : goal.decreases-control::eval_try
-decreases-control::eval_try l = 5 * (1000 - l.level) + 4
+decreases-control::eval_try l = 6 * (1000 - l.level) + 5
 
 -- what the rest gives, after the values so far, is what all give, and it fits
 abbrev pub invariant-eval::eval_args-loop-arg : goal.invariant-eval::eval_args-loop-arg
