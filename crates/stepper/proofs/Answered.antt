@@ -27,13 +27,13 @@ use Rattle.book.specs.declared.fault.BookFault.TheVariants as fault
 use Rattle.kernele.specs.Check as check
 use Rattle.stepper.specs.declared.engine.Engine.{Engine}
 use Rattle.stepper.specs.Engine.{Happens}
-use Rattle.stepper.specs.Commands as commands
-use Rattle.stepper.specs.Commands.{Spelled, spelled_by, fault_text}
-use Rattle.stepper.specs.Scripts.{script_of, behind_lines, fault_of}
-use Rattle.stepper.specs.declared.command.LineFault.{LineFault}
+use Rattle.commands.specs.Commands as commands
+use Rattle.commands.specs.Commands.{Spelled, spelled_by, fault_text}
+use Rattle.commands.specs.Scripts.{script_of, behind_lines, fault_of}
+use Rattle.commands.specs.declared.command.LineFault.{LineFault}
 use Rattle.stepper.specs.Replies.{refused, refusal_text, Answers, ask_without_memory, asked_without_memory, asked_unread, ask_refused, turn_without_memory, turn_refused, count_of, undone_text, redone_text, listed, cone_found, undo_cone_found, cone_without_memory, cone_refused, undo_without_memory, undo_refused, undo_accepted, undo_cone_without_memory, undo_cone_refused, redo_without_memory, redo_refused, redo_accepted, AnswersBirth, birth_without_memory, script_without_memory, script_unread, birth_refused, birth_accepted, ask_accepted, turn_accepted, queued_text, turned_text, FirstReply, born, answered, skipped, script_refused, said, said_by, Replies, first_and_more, no_more}
 use Rattle.stepper.specs.Listing.{journal_text, cone_text}
-use Rattle.stepper.specs.Lines.{line_of, behind_line}
+use Rattle.commands.specs.Lines.{line_of, behind_line}
 
 -- what holds where a call succeeded leads to more
 pub on_ok : {A E P Q : Type 0} (r : Result A E) → (P → Q) → OnOk r P → OnOk r Q

@@ -1,7 +1,2 @@
-pub mod Places
-pub mod Boundaries
-pub mod Numerals
-pub mod Wording
-pub mod ScriptLemmas
-pub mod Listings
 pub mod Answered
+pub mod Listings

@@ -1,13 +1,7 @@
-pub mod Commands
+pub mod Engine
 pub mod Fault
-pub mod Lines
 pub mod Listing
-pub mod Numbers
-pub mod ScriptView
-pub mod Scripts
+pub mod Replies
 pub mod Show
 pub mod ShowView
-pub mod Words
-pub mod Replies
 pub mod Written
-pub mod Engine

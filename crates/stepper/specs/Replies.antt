@@ -19,13 +19,13 @@ use Rattle.book.specs.Refusals.{Refusal, no_vat, name_taken, no_message, not_the
 use Rattle.book.specs.Refusals.{birth_refusal, ask_refusal, turn_refusal, undo_refusal, redo_refusal, cone_refusal}
 use Rattle.book.specs.Books.{Book}
 use Rattle.book.specs.Calls.{Enters, Undoes, Redoes}
-use Rattle.stepper.specs.Lines.{line_of, behind_line}
-use Rattle.stepper.specs.Commands as command
-use Rattle.stepper.specs.Commands.{Spelled, spelled_by, fault_text}
-use Rattle.stepper.specs.Scripts.{fault_of, script_of, behind_lines}
+use Rattle.commands.specs.Lines.{line_of, behind_line}
+use Rattle.commands.specs.Commands as command
+use Rattle.commands.specs.Commands.{Spelled, spelled_by, fault_text}
+use Rattle.commands.specs.Scripts.{fault_of, script_of, behind_lines}
 use Rattle.stepper.specs.Show.{Shows}
 use Rattle.stepper.specs.Listing.{journal_text, cone_text}
-use Rattle.stepper.specs.declared.command.LineFault.{LineFault}
+use Rattle.commands.specs.declared.command.LineFault.{LineFault}
 
 -- no CODE NAME ARGS
 abbrev pub refused : List ℕ → List ℕ

@@ -3,20 +3,20 @@ ghost use Rattle.std.specs.Prelude.{◌≡◌, ◌<◌, ◌≤◌, ℕ, List, Bo
 ghost use Rattle.kernele.specs.View.{program_of};
 ghost use Rattle.ereader.specs.Texts.{ReadAs};
 ghost use Rattle.book.specs.Books.{Book as BookModel, blank};
-ghost use Rattle.stepper.specs.Commands as commands;
-ghost use Rattle.stepper.specs.Commands.{command_of, reading_of};
-ghost use Rattle.stepper.specs.Lines.{behind_line};
+ghost use Rattle.commands.specs.Commands as commands;
+ghost use Rattle.commands.specs.Commands.{command_of, reading_of};
+ghost use Rattle.commands.specs.Lines.{behind_line};
 ghost use Rattle.stepper.specs.Fault.{fault_text};
 ghost use Rattle.stepper.specs.declared.engine.Fault.TheVariants.{Memory};
-ghost use Rattle.stepper.specs.ScriptView.{script_text};
+ghost use Rattle.commands.specs.ScriptView.{script_text};
 ghost use Rattle.stepper.specs.Replies.{Answers, AnswersBirth, FirstReply, Replies, said};
 
-use crate::command::{Command, LineFault, command_of};
-use crate::lines::cut_line;
 use crate::reply::Written;
-use crate::script::{take_script, text_of};
 use book::book::{Book, Turned};
 use book::fault::BookFault;
+use commands::command::{Command, LineFault, command_of};
+use commands::lines::cut_line;
+use commands::script::{take_script, text_of};
 use ereader::read;
 use ids::names::{EventName, MsgId};
 use ids::text::Text;

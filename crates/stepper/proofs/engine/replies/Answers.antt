@@ -2,7 +2,7 @@ use Rattle.std.proofs.Common.{Vec, Global, ap, ◌≡◌, ◌<◌, refl, subst, 
 use Rattle.std.specs.Prelude.{string_bytes}
 use Rattle.book.specs.BookView.{book_of}
 use Rattle.book.specs.Books.{blank}
-use Rattle.stepper.specs.Lines.{behind_line}
+use Rattle.commands.specs.Lines.{behind_line}
 use Rattle.stepper.specs.Replies.{FirstReply, said}
 use Rattle.stepper.proofs.Answered.{replies_begin, replies_more, replies_end}
 use Rattle.stepper.proofs.engine.replies.Goals as goal

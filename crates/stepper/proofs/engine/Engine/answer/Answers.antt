@@ -1,5 +1,5 @@
 use Rattle.std.proofs.Common.{ap, sym, ◌∙◌}
-use Rattle.stepper.specs.Commands.{command_of, undo, redo}
+use Rattle.commands.specs.Commands.{command_of, undo, redo}
 use Rattle.stepper.proofs.Answered.{happens_as, born_at, answered_at}
 use Rattle.stepper.proofs.engine.Engine.answer.Goals as goal
 

@@ -1,6 +1,6 @@
 use Rattle.std.proofs.Common.{ap, sym, ◌∙◌}
-use Rattle.stepper.specs.Lines.{line_of}
-use Rattle.stepper.specs.Scripts.{fault_in}
+use Rattle.commands.specs.Lines.{line_of}
+use Rattle.commands.specs.Scripts.{fault_in}
 use Rattle.stepper.proofs.Answered.{happens_as, if_ok, said_at, said_text, said_fault}
 use Rattle.stepper.proofs.engine.Engine.answer_first.Goals as goal
 

@@ -1,5 +1,5 @@
 use Rattle.std.proofs.Common.{true, refl, sym, ap, ◌∙◌, Ok}
-use Rattle.stepper.specs.Commands.{reading_of}
+use Rattle.commands.specs.Commands.{reading_of}
 use Rattle.stepper.specs.Replies.{no_command}
 use Rattle.stepper.proofs.Answered.{happens_as, if_ok, said_as, nothing_happens}
 use Rattle.stepper.proofs.engine.Engine.answer_said.Goals as goal

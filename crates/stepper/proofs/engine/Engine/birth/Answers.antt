@@ -1,6 +1,6 @@
 use Rattle.std.proofs.Common.{true, refl, subst, sym, ap, ◌∙◌, Ok, List, ℕ}
 use Rattle.book.specs.BookView.{book_of}
-use Rattle.stepper.specs.ScriptView.{script_text}
+use Rattle.commands.specs.ScriptView.{script_text}
 use Rattle.stepper.specs.Replies.{AnswersBirth}
 use Rattle.stepper.proofs.Answered.{on_ok, happens_as, refused_at}
 use Rattle.stepper.proofs.engine.Engine.birth.Goals as goal

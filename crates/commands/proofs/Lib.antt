@@ -1,0 +1,5 @@
+pub mod Boundaries
+pub mod Numerals
+pub mod Places
+pub mod ScriptLemmas
+pub mod Wording

@@ -1,0 +1,9 @@
+use Rattle.std.proofs.Common.{subst, sym, ap, ◌∙◌}
+use Rattle.std.specs.Str.{IsCharBoundary}
+use Rattle.std.specs.List.{position_or_len}
+use Rattle.commands.specs.Words.{is_blank}
+use Rattle.commands.proofs.Boundaries.{word_boundary}
+use Rattle.commands.proofs.words.cut_word.Goals as goal
+
+pub split_at-requires : goal.split_at-requires
+split_at-requires c = subst (IsCharBoundary c.args.text.now) (sym (c.word_end.ensures ∙ ap (position_or_len is_blank) c.as_bytes.ensures.value)) (word_boundary c.args.text.now)

@@ -1,0 +1,112 @@
+-- The commands, and the lines that spell them.
+use Rattle.std.specs.Prelude.{ℕ, List, [], ◌∷◌, Bool, true, ◌&&◌, ◌==◌, length, nat_le, cond, Option, Some, None, Result, Ok, Err, codes}
+use Rattle.std.specs.Option.{option_map, option_and_then}
+use Rattle.std.specs.Str.{bytes_eq}
+use Rattle.etoken.specs.Names.{is_name}
+use Rattle.ids.specs.declared.names.EventName.{EventName}
+use Rattle.ids.specs.declared.names.MsgId.{MsgId}
+use Rattle.commands.specs.Words.{without_blanks, first_word, behind_word, words_in}
+use Rattle.commands.specs.Numbers.{number_of, message_named, event_named, one_or_more}
+use Rattle.commands.specs.declared.command.Command.{Command}
+use Rattle.commands.specs.declared.command.Command.TheVariants as code
+use Rattle.commands.specs.declared.command.LineFault.{LineFault}
+use Rattle.commands.specs.declared.command.LineFault.TheVariants.{UnknownCommand, BadWord, LineTooLong, Truncated}
+
+pub data Spelled : Type 0 where
+  birth : (x : List ℕ) → (lines : ℕ) → Spelled
+  ask : (x : List ℕ) → (text : List ℕ) → Spelled
+  turn : (m : MsgId) → Spelled
+  show : Spelled
+  journal : Spelled
+  cone : (e : EventName) → Spelled
+  undo : (events : List EventName) → Spelled
+  undo_cone : (e : EventName) → Spelled
+  redo : (events : List EventName) → Spelled
+
+-- a name of the language of at most 64 bytes
+abbrev pub is_vat_name : List ℕ → Bool
+is_vat_name w = is_name w && nat_le (length w) 64
+
+abbrev pub at_most : ℕ → ℕ → Option ℕ
+at_most limit n = cond (nat_le n limit) (Some n) None
+
+abbrev pub is_empty : List ℕ → Bool
+is_empty w = length w == 0
+
+-- vat NAME () N
+abbrev pub birth_of : List ℕ → Option Spelled
+birth_of words =
+    let behind_name = behind_word words in
+    let behind_earlier = behind_word behind_name in
+    cond (is_vat_name (first_word words) && bytes_eq (first_word behind_name) (codes "()") && is_empty (behind_word behind_earlier))
+    (option_map (birth (first_word words)) (option_and_then (at_most 4096) (number_of (first_word behind_earlier)))) None
+
+-- ask NAME TEXT: the text is the line's rest, and may be empty
+abbrev pub ask_of : List ℕ → Option Spelled
+ask_of words = cond (is_vat_name (first_word words)) (Some (ask (first_word words) (behind_word words))) None
+
+-- turn M
+abbrev pub turn_of : List ℕ → Option Spelled
+turn_of words = cond (is_empty (behind_word words)) (option_map turn (message_named (first_word words))) None
+
+-- a command without words
+abbrev pub alone : Spelled → List ℕ → Option Spelled
+alone command words = cond (is_empty words) (Some command) None
+
+-- a command of one event
+abbrev pub of_event : (EventName → Spelled) → List ℕ → Option Spelled
+of_event command words = cond (is_empty (behind_word words)) (option_map command (event_named (first_word words))) None
+
+-- a command of one event or more
+abbrev pub of_events : (List EventName → Spelled) → List ℕ → Option Spelled
+of_events command words = option_map command (one_or_more (words_in words))
+
+abbrev pub formed : Option Spelled → Result (Option Spelled) LineFault
+formed (Some command) = Ok (Some command)
+formed None = Err BadWord
+
+-- the command that a word begins
+abbrev pub begun_by : List ℕ → List ℕ → Result (Option Spelled) LineFault
+begun_by word words =
+    cond (bytes_eq word (codes "vat")) (formed (birth_of words))
+    (cond (bytes_eq word (codes "ask")) (formed (ask_of words))
+    (cond (bytes_eq word (codes "turn")) (formed (turn_of words))
+    (cond (bytes_eq word (codes "show")) (formed (alone show words))
+    (cond (bytes_eq word (codes "journal")) (formed (alone journal words))
+    (cond (bytes_eq word (codes "cone")) (formed (of_event cone words))
+    (cond (bytes_eq word (codes "undo")) (formed (of_events undo words))
+    (cond (bytes_eq word (codes "undo-cone")) (formed (of_event undo_cone words))
+    (cond (bytes_eq word (codes "redo")) (formed (of_events redo words)) (Err UnknownCommand)))))))))
+
+-- a blank line or a comment is no command
+abbrev pub is_skipped : List ℕ → Bool
+is_skipped [] = true
+is_skipped (b ∷ bs) = b == 35
+
+-- the command that a line spells, none where the line is skipped, or why it is refused
+abbrev pub spelled_by : List ℕ → Result (Option Spelled) LineFault
+spelled_by line =
+    let text = without_blanks line in
+    cond (is_skipped text) (Ok None) (begun_by (first_word text) (behind_word text))
+
+-- what the program's commands stand for
+abbrev pub command_of : Command → Spelled
+command_of (code.Birth name lines) = birth name.now lines
+command_of (code.Ask name text) = ask name.now text.now
+command_of (code.Turn m) = turn m
+command_of code.Show = show
+command_of code.Journal = journal
+command_of (code.Cone e) = cone e
+command_of (code.Undo events) = undo events.items
+command_of (code.UndoCone e) = undo_cone e
+command_of (code.Redo events) = redo events.items
+
+abbrev pub reading_of : Result (Option Command) LineFault → Result (Option Spelled) LineFault
+reading_of (Ok c) = Ok (option_map command_of c)
+reading_of (Err fault) = Err fault
+
+abbrev pub fault_text : LineFault → List ℕ
+fault_text UnknownCommand = codes "S1 UnknownCommand"
+fault_text BadWord = codes "S2 BadWord"
+fault_text LineTooLong = codes "S3 LineTooLong"
+fault_text Truncated = codes "S4 Truncated"

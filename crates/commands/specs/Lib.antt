@@ -1,0 +1,6 @@
+pub mod Commands
+pub mod Lines
+pub mod Numbers
+pub mod ScriptView
+pub mod Scripts
+pub mod Words

@@ -1,0 +1,8 @@
+//! What is commanded: input is cut into lines, lines into words, and a line and the lines of its script say a command.
+#![tactic(auto)]
+
+pub mod command;
+pub mod lines;
+pub mod numbers;
+pub mod script;
+pub mod words;

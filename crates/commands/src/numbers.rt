@@ -1,0 +1,88 @@
+// Numbers, and names of messages and events, in a command.
+ghost use Rattle.std.specs.Prelude.{◌≡◌, ◌<◌, Some, IfOk};
+ghost use Rattle.std.specs.Char.{is_ascii_digit};
+ghost use Rattle.std.specs.Option.{option_map};
+ghost use Rattle.std.specs.List.{list_all};
+ghost use Rattle.commands.specs.Numbers.{number_of, behind_tag, tagged, message_named, event_named, one_or_more, is_numeral};
+ghost use Rattle.commands.specs.Words.{words_in};
+
+use crate::words::{cut_word, skip_blanks};
+use ids::names::{EventName, MsgId};
+use std::alloc::{AllocError, Global};
+
+fn all_digits(word: &[u8]) -> bool
+    ensures { result ≡ list_all is_ascii_digit word.now }
+{
+    word.iter().all(|b| b.is_ascii_digit())
+}
+
+fn is_numeral(word: &str) -> bool
+    ensures { result ≡ is_numeral word.now }
+{
+    !word.is_empty() && all_digits(word.as_bytes())
+}
+
+/// A number of at most 4,294,967,295, leading zeros allowed.
+pub fn number(word: &str) -> Option<u32>
+    ensures { result ≡ number_of word.now }
+{
+    if is_numeral(word) {
+        word.parse::<u32>().ok()
+    } else {
+        None
+    }
+}
+
+/// What stands behind a tag in front.
+fn behind_tag(tag: char, word: &str) -> Option<&str>
+    requires { tag < 128 }
+    ensures { option_map (λ r. r.now) result ≡ behind_tag tag word.now }
+{
+    word.strip_prefix(tag)
+}
+
+/// The number in a name such as `e7` or `m0`.
+fn tagged(tag: char, word: &str) -> Option<u32>
+    requires { tag < 128 }
+    ensures { result ≡ tagged tag word.now }
+{
+    number(behind_tag(tag, word)?)
+}
+
+/// A message's name, such as `e7.m0`.
+pub fn message_named(word: &str) -> Option<MsgId>
+    ensures { result ≡ message_named word.now }
+{
+    let (event, index) = word.split_once('.')?;
+    let event = tagged('e', event)?;
+    let index = tagged('m', index)?;
+    Some(MsgId {
+        event: EventName(u64::from(event)),
+        index,
+    })
+}
+
+/// An event's name, such as `e7`.
+pub fn event_named(word: &str) -> Option<EventName>
+    ensures { result ≡ event_named word.now }
+{
+    let number = tagged('e', word)?;
+    Some(EventName(u64::from(number)))
+}
+
+/// The events that the words of a text name, where they are one or more and all are names.
+pub fn events_named(alloc: Global, words: &str) -> Result<Option<Vec<EventName>>, AllocError>
+    ensures { IfOk result (λ r. option_map (λ events. events.items) r ≡ one_or_more (words_in words.now)) }
+{
+    let mut events = Vec::new(alloc);
+    let mut rest = skip_blanks(words);
+    'words: while !rest.is_empty() {
+        let (word, behind) = cut_word(rest);
+        let Some(event) = event_named(word) else {
+            return Ok(None);
+        };
+        events.push(event)?;
+        rest = behind;
+    }
+    Ok((!events.is_empty()).then_some(events))
+}

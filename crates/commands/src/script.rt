@@ -1,0 +1,92 @@
+// The script lines of a vat.
+ghost use Rattle.std.specs.Prelude.{◌≡◌, ◌≤◌, ◌++◌, length, [], ◌∷◌, IfOk, OnOk, cond, Some, None, string_bytes};
+ghost use Rattle.commands.specs.Scripts.{fault_in, or_fault, script_of, behind_lines, unless};
+ghost use Rattle.commands.specs.ScriptView.{fault_at, script_text};
+
+use crate::command::LineFault;
+use crate::lines::cut_line;
+use std::alloc::{AllocError, Global};
+
+/// The script that the lines which follow spell, and what is behind them.
+#[derive(Drop)]
+pub struct Script<'a> {
+    pub text: Result<String, LineFault>,
+    pub rest: &'a [u8],
+}
+
+/// A line as a text.
+pub fn text_of(line: &[u8], is_long: bool) -> Result<&str, LineFault>
+    ensures ok { IfOk result (λ text. text.now ≡ line.now) }
+    ensures fault { fault_at result ≡ fault_in line.now is_long }
+{
+    if is_long {
+        return Err(LineFault::LineTooLong);
+    }
+    match str::from_utf8(line) {
+        Ok(text) => Ok(text),
+        Err(_) => Err(LineFault::BadWord),
+    }
+}
+
+/// The lines of a script so far: joined, and the first fault among them.
+#[derive(Drop)]
+struct Joined {
+    text: String,
+    fault: Option<LineFault>,
+}
+
+impl Joined {
+    /// Adds a line; a line feed stands before each but the first.
+    fn add(&mut self, line: Result<&str, LineFault>, is_first: bool) -> Result<(), AllocError>
+        ensures fault { OnOk result (self.new.fault ≡ or_fault self.old.fault (fault_at line.entry)) }
+        ensures text { OnOk result (IfOk line.entry (λ text. string_bytes self.new.text ≡ string_bytes self.old.text ++ (cond is_first [] (10 ∷ []) ++ text.now))) }
+    {
+        match line {
+            Ok(text) => {
+                if !is_first {
+                    self.text.push_str("\n")?;
+                }
+                self.text.push_str(text)?;
+            }
+            Err(found) => self.fault = self.fault.or(Some(found)),
+        }
+        Ok(())
+    }
+
+    fn finish(self) -> Result<String, LineFault>
+        ensures { script_text result ≡ unless self.fault (string_bytes self.text) }
+    {
+        match self.fault {
+            Some(fault) => Err(fault),
+            None => Ok(self.text),
+        }
+    }
+}
+
+/// Takes so many lines, whatever is wrong with them, and joins them by line feeds.
+pub fn take_script<'a>(alloc: Global, input: &'a [u8], lines: u32) -> Result<Script<'a>, AllocError>
+    ensures text { IfOk result (λ script. script_text script.text ≡ script_of lines input.now) }
+    ensures rest { IfOk result (λ script. script.rest.now ≡ behind_lines lines input.now) }
+    ensures shorter { IfOk result (λ script. length script.rest.now ≤ length input.now) }
+{
+    let mut rest = input;
+    let mut joined = Joined {
+        text: String::new(alloc),
+        fault: None,
+    };
+    'lines: for taken in 0..lines {
+        if rest.is_empty() {
+            return Ok(Script {
+                text: Err(LineFault::Truncated),
+                rest,
+            });
+        }
+        let cut = cut_line(rest);
+        rest = cut.rest;
+        joined.add(text_of(cut.line, cut.is_long), taken == 0)?;
+    }
+    Ok(Script {
+        text: joined.finish(),
+        rest,
+    })
+}

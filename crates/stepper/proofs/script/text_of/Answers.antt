@@ -1,9 +1,0 @@
-use Rattle.stepper.proofs.ScriptLemmas.{no_fault, bad_word}
-use Rattle.std.proofs.Common.{sym}
-use Rattle.stepper.proofs.script.text_of.Goals as goal
-
-pub returns-in-Ok-clause-fault : goal.returns-in-Ok-clause-fault
-returns-in-Ok-clause-fault c = sym (no_fault c.args.line.now c.args.is_long c.if-is_long.false c.in-Ok.ensures.cases.1)
-
-pub returns-in-Err-clause-fault : goal.returns-in-Err-clause-fault
-returns-in-Err-clause-fault c = sym (bad_word c.args.line.now c.args.is_long c.if-is_long.false c.in-Err.ensures.cases.0)
