@@ -63,6 +63,7 @@ pub fn undefined(alloc: Global, name: &Text) -> Result<End, AllocError>
 }
 
 /// What a name stands for: its newest meaning in the scopes, which is at its place, else the vat's top noun.
+#[inline(always)]
 pub fn seek<'a>(w: &'a Working, name: &Text, place: Place) -> Option<&'a Binding>
     requires { place ≡ place_in (frame_at (at w.now)) name.now }
     ensures { option_map (λ b. bind_of b.now) result ≡ sought name.now (at w.now) }

@@ -128,6 +128,7 @@ pub fn caught(tried: End) -> Result<Text, End>
 }
 
 /// What halted an evaluation, if it gave no value.
+#[inline(always)]
 pub fn halt_in(ended: End) -> Option<Halt>
     ensures { MatchOption result ((v : Val) × (end_of ended ≡ value_end v)) (λ h. end_of ended ≡ halt_end (halt_of h)) }
 {

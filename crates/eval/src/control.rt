@@ -148,6 +148,7 @@ pub(crate) fn eval_try(
 
 /// Evaluates a condition. One that compares integers at hand needs no end.
 #[cycle(evaluate)]
+#[inline(always)]
 fn eval_condition(w: &mut Working, condition: &Code, level: u32) -> Result<Choosing, AllocError>
     requires level { level ≤ 1001 }
     requires fits { fits_at (at w.old) condition.now }
@@ -159,11 +160,21 @@ fn eval_condition(w: &mut Working, condition: &Code, level: u32) -> Result<Choos
             w.steps -= 3;
             Ok(Choosing::Goes(truth))
         }
-        None => {
-            let tested = eval(w, condition, level)?;
-            choose(w.alloc, tested)
-        }
+        None => eval_any_condition(w, condition, level),
     }
+}
+
+/// A condition of any kind. It stands apart, so that a comparison of integers is small enough to stand in its loop.
+#[cycle(evaluate)]
+#[inline(never)]
+fn eval_any_condition(w: &mut Working, condition: &Code, level: u32) -> Result<Choosing, AllocError>
+    requires level { level ≤ 1001 }
+    requires fits { fits_at (at w.old) condition.now }
+    ensures { IfOk result (λ c. (o : Ending) × Ends level (tree_of_code condition.now) (at w.old) o (at w.new)
+        × (choice_of o ≡ choice_view c)) }
+{
+    let tested = eval(w, condition, level)?;
+    choose(w.alloc, tested)
 }
 
 /// Evaluates a block, in a scope of its own.

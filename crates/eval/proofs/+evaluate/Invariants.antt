@@ -27,7 +27,10 @@ abbrev pub decreases-eval::eval_item : goal.decreases-eval::eval_item
 decreases-eval::eval_item l = 6 * (1001 - l.level) + 1
 
 abbrev pub decreases-control::eval_condition : goal.decreases-control::eval_condition
-decreases-control::eval_condition l = 6 * (1001 - l.level) + 1
+decreases-control::eval_condition l = 6 * (1001 - l.level) + 2
+
+abbrev pub decreases-control::eval_any_condition : goal.decreases-control::eval_any_condition
+decreases-control::eval_any_condition l = 6 * (1001 - l.level) + 1
 
 abbrev pub decreases-control::eval_block : goal.decreases-control::eval_block
 decreases-control::eval_block l = 6 * (1001 - l.level) + 3
