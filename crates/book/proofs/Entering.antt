@@ -12,10 +12,10 @@ use Rattle.ids.specs.declared.names.EventName.{EventName}
 use Rattle.ids.specs.declared.names.CellKey.{CellKey}
 use Rattle.world.specs.World.{World, empty}
 use Rattle.world.specs.Events.{Event, Foot, Does, events}
-use Rattle.book.specs.Journal.{Line, causes_in}
+use Rattle.journal.specs.Journal.{Line, causes_in}
 use Rattle.book.specs.Books.{Book, line_of, Kept, Stands}
 use Rattle.book.specs.Calls.{touched, new_line, Enters}
-use Rattle.book.proofs.Lists.{mapped_twice, mapped_same, reversed}
+use Rattle.journal.proofs.Lists.{mapped_twice, mapped_same, reversed}
 use Rattle.world.proofs.Law.{events_laws}
 use Rattle.book.proofs.Standing.{numbers, told, causes_are}
 

@@ -8,10 +8,10 @@ use Rattle.history.specs.Journal.{Entry, name_of as entry_name, caused, is_in, D
 use Rattle.history.proofs.Lists.{all_both, all_mapped, all_reversed}
 use Rattle.ids.specs.declared.names.EventName.{EventName}
 use Rattle.world.specs.Events.{events}
-use Rattle.book.specs.Journal.{Line, name_of, among}
+use Rattle.journal.specs.Journal.{Line, name_of, among}
 use Rattle.book.specs.Books.{Book, line_of, Stands}
-use Rattle.book.specs.Causes.{ComesFirst, CausesComeFirst}
-use Rattle.book.proofs.Lists.{any_mapped, reversed}
+use Rattle.causality.specs.Causes.{ComesFirst, CausesComeFirst}
+use Rattle.journal.proofs.Lists.{any_mapped, reversed}
 use Rattle.book.proofs.Standing.{told}
 
 all_prop : {A : Type 0} (P : A → Type 0) → ((a : A) → IsProp (P a)) → (xs : List A) → IsProp (AllByRecursion P xs)

@@ -11,11 +11,11 @@ use Rattle.history.proofs.Marks.{named_marked}
 use Rattle.ids.specs.declared.names.EventName.{EventName}
 use Rattle.world.specs.World.{World, empty}
 use Rattle.world.specs.Events.{events}
-use Rattle.book.specs.Journal.{Line, among, chosen, undone_in, redone_in, live_events, rest_of, Closed}
+use Rattle.journal.specs.Journal.{Line, among, chosen, undone_in, redone_in, live_events, rest_of, Closed}
 use Rattle.book.specs.Refusals.{undo_refusal, redo_refusal, same_set}
 use Rattle.book.specs.Books.{Book, PlainRun, line_of, Kept, Stands}
 use Rattle.book.specs.Calls.{Undoes, Redoes, now_redoable, still_redoable}
-use Rattle.book.proofs.Lists.{first_true, second_true}
+use Rattle.journal.proofs.Lists.{first_true, second_true}
 use Rattle.book.proofs.Standing.{numbers, told, among_is, undone_lines, redone_lines, one_world, run_of_good, stands_run}
 use Rattle.book.proofs.Entering.{none_again}
 use Rattle.book.proofs.Refused.{neither}

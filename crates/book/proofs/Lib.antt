@@ -1,16 +1,7 @@
-pub mod Along
-pub mod Lists
 pub mod Standing
 pub mod Entering
 pub mod Refused
 pub mod Marks
-pub mod Cones
-pub mod Least
-pub mod Marking
 pub mod Kept
 pub mod Firsts
 pub mod Runs
-pub mod KeyMaps
-pub mod Places
-pub mod Index
-pub mod NameSets

@@ -5,7 +5,7 @@ use Rattle.std.proofs.lemmas.List.{reverse-append}
 use Rattle.history.specs.Subject.{Run, run_none, run_more, after}
 use Rattle.world.specs.World.{World, empty}
 use Rattle.world.specs.Events.{Event, Foot, Does, events}
-use Rattle.book.specs.Journal.{Line, live_events}
+use Rattle.journal.specs.Journal.{Line, live_events}
 use Rattle.book.specs.Books.{RunFrom}
 use Rattle.world.specs.Steps.{TellsStep}
 use Rattle.book.specs.Rerun.{TellsRun}

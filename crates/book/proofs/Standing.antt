@@ -9,10 +9,10 @@ use Rattle.history.proofs.Changes.{good_run}
 use Rattle.ids.specs.declared.names.EventName.{EventName}
 use Rattle.world.specs.World.{World, empty}
 use Rattle.world.specs.Events.{Event, Foot, events}
-use Rattle.book.specs.Journal.{Line, name_of, among, has_key, wrote_one_of, causes_in, undone_in, redone_in, live_events}
+use Rattle.journal.specs.Journal.{Line, name_of, among, has_key, wrote_one_of, causes_in, undone_in, redone_in, live_events}
 use Rattle.book.specs.Books.{Book, PlainRun, line_of, Stands}
 use Rattle.book.specs.Calls.{touched}
-use Rattle.book.proofs.Lists.{mapped, mapped_twice, mapped_reversed, filtered_map, filtered, filtered_reversed, any_mapped}
+use Rattle.journal.proofs.Lists.{mapped, mapped_twice, mapped_reversed, filtered_map, filtered, filtered_reversed, any_mapped}
 use Rattle.world.proofs.Law.{events_laws}
 use Rattle.world.proofs.Sets.{World-set}
 

@@ -7,7 +7,7 @@ use Rattle.history.specs.Journal.{Entry, live_set, both, named, Good, Named, Sou
 use Rattle.ids.specs.declared.names.EventName.{EventName}
 use Rattle.world.specs.World.{World, empty}
 use Rattle.world.specs.Events.{Event, events}
-use Rattle.book.specs.Journal.{Line}
+use Rattle.journal.specs.Journal.{Line}
 
 -- the world, the journal, the name that the next event is given, and the events that may be redone: those of an undo just now
 pub record Book : Type 0 where

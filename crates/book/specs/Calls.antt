@@ -5,7 +5,7 @@ use Rattle.history.specs.Subject as history
 use Rattle.ids.specs.declared.names.EventName.{EventName}
 use Rattle.ids.specs.declared.names.CellKey.{CellKey}
 use Rattle.world.specs.Events.{Event, Foot, Does, events}
-use Rattle.book.specs.Journal.{Line, causes_in, undone_in, redone_in, live_events, rest_of}
+use Rattle.journal.specs.Journal.{Line, causes_in, undone_in, redone_in, live_events, rest_of}
 use Rattle.book.specs.Refusals.{undo_refusal}
 use Rattle.book.specs.Books.{Book, PlainRun, Stands}
 

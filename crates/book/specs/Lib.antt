@@ -1,11 +1,6 @@
-pub mod Journal
 pub mod Books
 pub mod Refusals
 pub mod Calls
 pub mod Rerun
 pub mod Fault
-pub mod Causes
-pub mod EntryView
 pub mod BookView
-pub mod Writers
-pub mod WritersView

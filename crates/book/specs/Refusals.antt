@@ -1,7 +1,6 @@
 -- When a call of the book is refused.
-use Rattle.std.specs.Prelude.{◌==◌, ◌&&◌, ◌||◌, not, Bool, cond, List, [], ◌∷◌, length, filter, Option, Some, None, Ok, Err, nat_lt, min}
-use Rattle.std.specs.List.{list_any, list_all}
-use Rattle.std.specs.Option.{option_map, option_or}
+use Rattle.std.specs.Prelude.{◌||◌, cond, List, [], ◌∷◌, length, Option, Some, None, Ok, Err, nat_lt}
+use Rattle.std.specs.Option.{option_map}
 use Rattle.kernele.specs.Tree.{Name, Trees}
 use Rattle.kernele.specs.Scope.{Checked, checked_program, script_scopes, asked_scopes}
 use Rattle.kernele.specs.Scope as scope
@@ -11,7 +10,9 @@ use Rattle.world.specs.World.{Vat, World, vat_named}
 use Rattle.world.specs.Ready.{unready}
 use Rattle.world.specs.declared.ready.Unready.{Unready}
 use Rattle.world.specs.declared.ready.Unready.TheVariants as why
-use Rattle.book.specs.Journal.{Line, name_of, among, chosen}
+use Rattle.journal.specs.Journal.{Line}
+use Rattle.causality.specs.declared.selection.Gap.{Gap}
+use Rattle.causality.specs.Selections.{least_missing, first_undone, first_live, first_gap, same_set}
 use Rattle.book.specs.Books.{Book}
 
 -- why a call is refused
@@ -34,11 +35,6 @@ pub data Refusal : Type 0 where
 abbrev pub first : Option Refusal → Option Refusal → Option Refusal
 first None next = next
 first (Some refusal) next = Some refusal
-
--- the first answer along a list
-abbrev pub first_some : {A B : Type 0} → (A → Option B) → List A → Option B
-first_some f [] = None
-first_some f (x ∷ xs) = option_or (f x) (first_some f xs)
 
 -- names are used up, or the journal has no room
 abbrev pub full_refusal : Book → Option Refusal
@@ -78,46 +74,28 @@ ready_refusal w m = option_map (refusal_of m) (unready w m)
 abbrev pub turn_refusal : Book → MsgId → Option Refusal
 turn_refusal b m = first (ready_refusal b.world m) (full_refusal b)
 
-abbrev pub is_entered : List Line → EventName → Bool
-is_entered lines e = list_any (λ l. (name_of l).0 == e.0) lines
-
--- the lesser of a name and what is least of others
-abbrev pub lesser : EventName → Option EventName → Option EventName
-lesser a None = Some a
-lesser a (Some b) = Some (record { 0 = min a.0 b.0 })
-
--- the least name of a list
-abbrev pub least : List EventName → Option EventName
-least [] = None
-least (e ∷ es) = lesser e (least es)
-
--- the least name that the journal does not have
+-- an event that the journal does not have
 abbrev pub missing_refusal : List EventName → List Line → Option Refusal
-missing_refusal names lines = option_map no_event (least (filter (λ e. not (is_entered lines e)) names))
+missing_refusal names lines = option_map no_event (least_missing names lines)
 
--- the first of the set that is undone
+-- an event that is undone
 abbrev pub undone_refusal : List EventName → List Line → Option Refusal
-undone_refusal names lines = first_some (λ l. cond (chosen names l && not l.live) (Some (not_live (name_of l))) None) lines
+undone_refusal names lines = option_map not_live (first_undone names lines)
 
--- the first of the set that is live
+-- an event that is live
 abbrev pub live_refusal : List EventName → List Line → Option Refusal
-live_refusal names lines = first_some (λ l. cond (chosen names l && l.live) (Some (still_live (name_of l))) None) lines
+live_refusal names lines = option_map still_live (first_live names lines)
 
--- the first live line outside the set that has e as a cause
-abbrev pub consequence : List EventName → EventName → List Line → Option EventName
-consequence names e lines = first_some (λ l. cond (l.live && (not (chosen names l) && among l.causes e)) (Some (name_of l)) None) lines
+abbrev pub gap_refusal : Gap → Refusal
+gap_refusal gap = not_closed gap.event gap.consequence
 
--- the first of the set that has such a consequence
+-- an event with a live consequence outside the set
 abbrev pub open_refusal : List EventName → List Line → Option Refusal
-open_refusal names lines = first_some (λ l. cond (chosen names l) (option_map (not_closed (name_of l)) (consequence names (name_of l) lines)) None) lines
+open_refusal names lines = option_map gap_refusal (first_gap names lines)
 
 -- an undo: the events are in the journal, live, and have all their live consequences among them
 abbrev pub undo_refusal : List Line → List EventName → Option Refusal
 undo_refusal lines names = first (missing_refusal names lines) (first (undone_refusal names lines) (open_refusal names lines))
-
--- two lists name the same events
-abbrev pub same_set : List EventName → List EventName → Bool
-same_set names others = list_all (among others) names && list_all (among names) others
 
 -- no event, or just those of the undo before
 abbrev pub next_refusal : List EventName → List EventName → Option Refusal

@@ -8,22 +8,24 @@ ghost use Rattle.kernele.specs.declared.naming.TopName.{TopName};
 ghost use Rattle.turn.specs.View.{ended_of};
 ghost use Rattle.world.specs.World.{vat_named};
 ghost use Rattle.world.specs.Events.{Turn, Turns, birth, ask, turn, birth_foot, ask_foot, turn_foot};
-ghost use Rattle.book.specs.Journal.{Line, live_events, causes_in, chosen, undone_in, redone_in, Cone};
+ghost use Rattle.journal.specs.Journal.{Line, live_events, causes_in, chosen, undone_in, redone_in, Cone};
 ghost use Rattle.book.specs.Refusals.{birth_refusal, ask_refusal, turn_refusal, ready_refusal, full_refusal, check_refusal, taken_refusal, undo_refusal, redo_refusal, cone_refusal};
 ghost use Rattle.book.specs.Books.{blank, PlainRun, Stands};
 ghost use Rattle.book.specs.Calls.{Enters, Undoes, Redoes};
 ghost use Rattle.book.specs.Fault.{Tells};
 ghost use Rattle.world.specs.EventView.{event_of};
-ghost use Rattle.book.specs.EntryView.{lines_of};
+ghost use Rattle.journal.specs.EntryView.{lines_of};
+ghost use Rattle.journal.specs.JournalView.{entries_of};
 ghost use Rattle.book.specs.Refusals.{refusal_of};
 ghost use Rattle.world.specs.View.{world_of};
 
 use crate::fault::BookFault;
-use crate::journal::{Entry, Journal, count_of};
 use crate::rerun::plain_run;
 use crate::undoing::{check_redo, check_undo, cone};
 use ids::names::{EventName, MsgId, VatNo};
 use ids::text::Text;
+use journal::entry::{Entry, count_of};
+use journal::journal::Journal;
 use kernele::tree::Program;
 use kernele::{CheckFault, Outer, check};
 use std::alloc::{AllocError, Global};
@@ -57,7 +59,7 @@ pub struct Book {
     // The events of the last call, if it was an undo.
     redoable: Vec<EventName>,
     ghost in_range: { next ≤ 4294967296 },
-    ghost stands: { Stands (record { world = world_of world; journal = lines_of journal.entries.items; next = next; redoable = redoable.items }) },
+    ghost stands: { Stands (record { world = world_of world; journal = lines_of (entries_of journal); next = next; redoable = redoable.items }) },
 }
 
 fn check_program(alloc: Global, program: &Program, outer: &Outer) -> Result<(), BookFault>

@@ -3,7 +3,5 @@
 
 pub mod book;
 pub mod fault;
-pub mod journal;
 pub mod rerun;
 pub mod undoing;
-mod writers;

@@ -2,11 +2,11 @@
 ghost use Rattle.std.specs.Prelude.{IfOk, IfErr};
 ghost use Rattle.world.specs.View.{world_of};
 ghost use Rattle.book.specs.Books.{PlainRun};
-ghost use Rattle.book.specs.Journal.{live_events};
+ghost use Rattle.journal.specs.Journal.{live_events};
 ghost use Rattle.book.specs.Rerun.{TellsRun};
-ghost use Rattle.book.specs.EntryView.{lines_of};
+ghost use Rattle.journal.specs.EntryView.{lines_of};
 
-use crate::journal::{Entry, Mark};
+use journal::entry::{Entry, Mark};
 use std::alloc::Global;
 use world::step::{StepFault, step};
 use world::world::World;

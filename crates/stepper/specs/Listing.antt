@@ -4,7 +4,7 @@ use Rattle.std.specs.Fmt.{decimal}
 use Rattle.ids.specs.Names.{event_text, message_text}
 use Rattle.ids.specs.declared.names.EventName.{EventName}
 use Rattle.world.specs.Events.{Act, birth, ask, turn}
-use Rattle.book.specs.Journal.{Line, name_of}
+use Rattle.journal.specs.Journal.{Line, name_of}
 
 -- birth NAME, ask NAME, turn M
 abbrev pub act_text : Act → List ℕ

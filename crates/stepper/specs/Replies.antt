@@ -14,7 +14,7 @@ use Rattle.ereader.specs.Texts.{ReadAs}
 use Rattle.ereader.specs.Shown as reading
 use Rattle.ereader.specs.declared.fault.ReadFault.{ReadFault}
 use Rattle.world.specs.Events.{Turn, Turns, birth, ask, turn, birth_foot, ask_foot, turn_foot, first_message}
-use Rattle.book.specs.Journal.{Line, chosen, Cone}
+use Rattle.journal.specs.Journal.{Line, chosen, Cone}
 use Rattle.book.specs.Refusals.{Refusal, no_vat, name_taken, no_message, not_there, before, full, no_event, not_live, still_live, not_closed, not_next, unchecked}
 use Rattle.book.specs.Refusals.{birth_refusal, ask_refusal, turn_refusal, undo_refusal, redo_refusal, cone_refusal}
 use Rattle.book.specs.Books.{Book}

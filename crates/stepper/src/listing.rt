@@ -1,10 +1,10 @@
 // The journal and a cone as texts.
 ghost use Rattle.std.specs.Prelude.{◌≡◌, ◌++◌, OnOk, string_bytes, codes};
 ghost use Rattle.world.specs.EventView.{act_of};
-ghost use Rattle.book.specs.EntryView.{is_live, line_of, lines_of};
+ghost use Rattle.journal.specs.EntryView.{is_live, line_of, lines_of};
 ghost use Rattle.stepper.specs.Listing.{act_text, mark_text, names_text, entry_line, journal_text, cone_text};
 
-use book::journal::{Entry, Mark};
+use journal::entry::{Entry, Mark};
 use ids::names::EventName;
 use std::alloc::AllocError;
 use world::event::Action;

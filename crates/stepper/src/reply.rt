@@ -7,13 +7,13 @@ ghost use Rattle.turn.specs.View.{ended_of};
 ghost use Rattle.commands.specs.Commands.{fault_text};
 ghost use Rattle.stepper.specs.Replies.{refused, queued_text, turned_text, end_text, undone_text, redone_text};
 ghost use Rattle.stepper.specs.Listing.{journal_text, cone_text};
-ghost use Rattle.book.specs.EntryView.{lines_of};
+ghost use Rattle.journal.specs.EntryView.{lines_of};
 ghost use Rattle.stepper.specs.Show.{Shows};
 
 use crate::listing::{write_cone, write_journal};
 use crate::show::write_world;
 use book::fault::BookFault;
-use book::journal::Entry;
+use journal::entry::Entry;
 use commands::command::LineFault;
 use ereader::fault::ReadFault;
 use ids::names::{EventName, MsgId};

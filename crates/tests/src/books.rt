@@ -2,7 +2,7 @@
 
 use book::book::Book;
 use book::fault::BookFault;
-use book::journal::{Entry, Mark};
+use journal::entry::{Entry, Mark};
 use ereader::read;
 use ids::names::{EventName, MsgId};
 use ids::text::Text;

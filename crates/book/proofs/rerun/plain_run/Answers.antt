@@ -2,10 +2,10 @@ use Rattle.std.proofs.Common.{◌≡◌, ◌∙◌, ◌∷◌, ◌+◌, List, []
 use Rattle.std.proofs.Math.Logic.{∥∥₁_elim, ∥∥₁_map, ∥∥₁_prop}
 use Rattle.std.proofs.lemmas.List.{drop_all}
 use Rattle.world.specs.World.{World}
-use Rattle.book.specs.Journal.{Line}
-use Rattle.book.specs.EntryView.{lines_of, line_of, is_live}
+use Rattle.journal.specs.Journal.{Line}
+use Rattle.journal.specs.EntryView.{lines_of, line_of, is_live}
 use Rattle.world.specs.View.{world_of}
-use Rattle.book.proofs.Along.{from_here}
+use Rattle.causality.proofs.Along.{from_here}
 use Rattle.book.proofs.Runs.{Joined, joined_start, joined_step, joined_skip, joined_end, tells_run}
 use Rattle.book.proofs.rerun.plain_run.Goals as goal
 use Rattle.book.proofs.rerun.plain_run.Goals.{in-Live+in-Ok, in-Undone}

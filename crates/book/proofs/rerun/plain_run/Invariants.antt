@@ -1,5 +1,5 @@
 use Rattle.std.proofs.Common.{drop}
-use Rattle.book.specs.EntryView.{lines_of}
+use Rattle.journal.specs.EntryView.{lines_of}
 use Rattle.world.specs.View.{world_of}
 use Rattle.book.proofs.Runs.{Joined}
 use Rattle.book.proofs.rerun.plain_run.Given as goal

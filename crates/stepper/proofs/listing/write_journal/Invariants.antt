@@ -1,5 +1,5 @@
 use Rattle.std.proofs.Common.{◌≡◌, ◌+◌, ◌++◌, drop, string_bytes}
-use Rattle.book.specs.EntryView.{lines_of}
+use Rattle.journal.specs.EntryView.{lines_of}
 use Rattle.stepper.specs.Listing.{entry_lines, journal_text}
 use Rattle.stepper.proofs.listing.write_journal.Given as goal
 

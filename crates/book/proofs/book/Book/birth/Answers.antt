@@ -4,7 +4,8 @@ use Rattle.world.specs.Events.{Event, birth, births, birth_foot}
 use Rattle.book.specs.Books.{Book}
 use Rattle.book.specs.Calls.{Enters}
 use Rattle.book.specs.BookView.{book_of}
-use Rattle.book.specs.EntryView.{lines_of}
+use Rattle.journal.specs.EntryView.{lines_of}
+use Rattle.journal.specs.JournalView.{entries_of}
 use Rattle.world.specs.View.{world_of}
 use Rattle.book.proofs.Entering.{enters, stands_entered, stands_so}
 use Rattle.book.proofs.book.Book.birth.Goals as goal
@@ -16,7 +17,7 @@ pub invariant_of-self-in-Ok-clause-stands : goal.invariant_of-self-in-Ok-clause-
 invariant_of-self-in-Ok-clause-stands c =
     let e = c.in_ok-event.event in
     let old = book_of c.args.self.now in
-    let new : Book = record { world = world_of c.enter_birth.new.world; journal = lines_of c.add.new.self.entries.items; next = c.args.self.now.next + 1; redoable = c.clear.new.self.items } in
+    let new : Book = record { world = world_of c.enter_birth.new.world; journal = lines_of (entries_of c.add.new.self); next = c.args.self.now.next + 1; redoable = c.clear.new.self.items } in
     let ev : Event = record { name = e; act = birth c.args.name.now (program_of c.args.script) } in
     let entered : Event = record { name = e; act = birth c.in_ok-share.field-0 (program_of c.in_ok-share-2.field-0) } in
     let f = birth_foot e c.args.name.now (program_of c.args.script) in
@@ -28,13 +29,13 @@ invariant_of-self-in-Ok-clause-stands c =
 pub invariant_of-self-in-Err-clause-stands : goal.invariant_of-self-in-Err-clause-stands
 invariant_of-self-in-Err-clause-stands c =
     let s = c.in_ok-add.ensures.shorter in
-    stands_so _ _ _ _ _ _ c.in-Err.ensures.err (ap lines_of (c.remove_last.ensures c.args.self.now.journal.entries.items s.0 s.1)) c.args.self.now.stands
+    stands_so _ _ _ _ _ _ c.in-Err.ensures.err (ap lines_of (c.remove_last.ensures (entries_of c.args.self.now.journal) s.0 s.1)) c.args.self.now.stands
 
 pub returns-in-Ok-clause-ok : goal.returns-in-Ok-clause-ok
 returns-in-Ok-clause-ok c =
     let e = c.in_ok-event.event in
     let old = book_of c.args.self.now in
-    let new : Book = record { world = world_of c.enter_birth.new.world; journal = lines_of c.add.new.self.entries.items; next = c.args.self.now.next + 1; redoable = c.clear.new.self.items } in
+    let new : Book = record { world = world_of c.enter_birth.new.world; journal = lines_of (entries_of c.add.new.self); next = c.args.self.now.next + 1; redoable = c.clear.new.self.items } in
     let ev : Event = record { name = e; act = birth c.args.name.now (program_of c.args.script) } in
     let entered : Event = record { name = e; act = birth c.in_ok-share.field-0 (program_of c.in_ok-share-2.field-0) } in
     let f = birth_foot e c.args.name.now (program_of c.args.script) in
@@ -46,4 +47,4 @@ returns-in-Ok-clause-ok c =
 pub returns-in-Err-clause-unchanged : goal.returns-in-Err-clause-unchanged
 returns-in-Err-clause-unchanged c =
     let s = c.in_ok-add.ensures.shorter in
-    λ i. record { world = c.in-Err.ensures.err i; journal = lines_of (c.remove_last.ensures c.args.self.now.journal.entries.items s.0 s.1 i); next = c.args.self.now.next; redoable = c.args.self.now.redoable.items }
+    λ i. record { world = c.in-Err.ensures.err i; journal = lines_of (c.remove_last.ensures (entries_of c.args.self.now.journal) s.0 s.1 i); next = c.args.self.now.next; redoable = c.args.self.now.redoable.items }

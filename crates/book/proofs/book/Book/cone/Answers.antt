@@ -1,7 +1,7 @@
 use Rattle.std.proofs.Common.{sym, ap, subst}
 use Rattle.book.specs.BookView.{book_of}
-use Rattle.book.specs.EntryView.{lines_of}
-use Rattle.book.specs.Causes.{CausesComeFirst}
+use Rattle.journal.specs.EntryView.{lines_of}
+use Rattle.causality.specs.Causes.{CausesComeFirst}
 use Rattle.book.proofs.Firsts.{causes_first}
 use Rattle.book.proofs.book.Book.cone.Goals as goal
 

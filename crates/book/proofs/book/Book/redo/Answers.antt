@@ -1,13 +1,14 @@
 use Rattle.std.proofs.Common.{◌≡◌, ◌∙◌, ◌==◌, false, List, None, length, filter, refl, sym, ap, subst}
-use Rattle.book.specs.Journal.{Line, chosen, undone_in, live_events}
+use Rattle.journal.specs.Journal.{Line, chosen, undone_in, live_events}
 use Rattle.book.specs.Refusals.{first, missing_refusal, live_refusal, next_refusal, redo_refusal}
 use Rattle.book.specs.Books.{Book, PlainRun}
 use Rattle.book.specs.Calls.{Redoes}
 use Rattle.book.specs.Rerun.{TellsRun}
 use Rattle.book.specs.BookView.{book_of}
-use Rattle.book.specs.EntryView.{lines_of}
+use Rattle.journal.specs.EntryView.{lines_of}
+use Rattle.journal.specs.JournalView.{entries_of}
 use Rattle.world.specs.View.{world_of}
-use Rattle.book.specs.declared.journal.Entry.{Entry}
+use Rattle.journal.specs.declared.entry.Entry.{Entry}
 use Rattle.book.proofs.Entering.{stands_so}
 use Rattle.book.proofs.Kept.{former, redo_goes, redoes_none, still_none, stands_after_redo, undone-redone}
 use Rattle.book.proofs.book.Book.redo.Goals as goal
@@ -30,7 +31,7 @@ invariant_of-self-in-Ok-clause-stands c =
     (λ i. first (missing_refusal ev (lines_of (sym c.entries.ensures i))) (first (live_refusal ev (lines_of (sym c.entries.ensures i))) (next_refusal ev (sym c.deref.ensures.value i))))
     ∙ c.in_ok-check_redo.ensures.ok in
     let some : (length ev == 0) ≡ false = sym c.is_empty.ensures ∙ c.if-is_empty.false in
-    let lines = lines_of c.redo.new.self.entries.items in
+    let lines = lines_of (entries_of c.redo.new.self) in
     let run : PlainRun (live_events lines) (world_of c.in-Ok.world) = subst (λ (es : List Entry). PlainRun (live_events (lines_of es)) (world_of c.in-Ok.world)) c.entries-3.ensures c.in-Ok.ensures.ok in
     let new : Book = record { world = world_of c.in-Ok.world; journal = lines; next = c.args.self.now.next; redoable = c.clear.new.self.items } in
     let u : Redoes ev old new = record {
@@ -59,7 +60,7 @@ unreachable-requires c =
     (λ i. first (missing_refusal ev (lines_of (sym c.entries.ensures i))) (first (live_refusal ev (lines_of (sym c.entries.ensures i))) (next_refusal ev (sym c.deref.ensures.value i))))
     ∙ c.in_ok-check_redo.ensures.ok in
     let some : (length ev == 0) ≡ false = sym c.is_empty.ensures ∙ c.if-is_empty.false in
-    let lines = lines_of c.redo.new.self.entries.items in
+    let lines = lines_of (entries_of c.redo.new.self) in
     redo_goes old ev some c.args.self.now.stands ok
     (λ w r. subst (TellsRun (live_events (lines_of c.entries-3.result.now))) c.in-Err-Impossible.field-0-is c.in-Err-Impossible.ensures.err w
     (subst (λ (ls : List Line). PlainRun (live_events ls) w) (sym (ap lines_of c.entries-3.ensures ∙ c.redo.ensures)) r))
@@ -72,7 +73,7 @@ returns-in-Ok-clause-ok c =
     (λ i. first (missing_refusal ev (lines_of (sym c.entries.ensures i))) (first (live_refusal ev (lines_of (sym c.entries.ensures i))) (next_refusal ev (sym c.deref.ensures.value i))))
     ∙ c.in_ok-check_redo.ensures.ok in
     let some : (length ev == 0) ≡ false = sym c.is_empty.ensures ∙ c.if-is_empty.false in
-    let lines = lines_of c.redo.new.self.entries.items in
+    let lines = lines_of (entries_of c.redo.new.self) in
     let run : PlainRun (live_events lines) (world_of c.in-Ok.world) = subst (λ (es : List Entry). PlainRun (live_events (lines_of es)) (world_of c.in-Ok.world)) c.entries-3.ensures c.in-Ok.ensures.ok in
     let new : Book = record { world = world_of c.in-Ok.world; journal = lines; next = c.args.self.now.next; redoable = c.clear.new.self.items } in
     let u : Redoes ev old new = record {

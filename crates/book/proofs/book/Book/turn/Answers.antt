@@ -14,7 +14,8 @@ use Rattle.std.specs.Option.{option_map}
 use Rattle.book.specs.Refusals.{refusal_of, ready_refusal, full_refusal}
 use Rattle.world.specs.Steps.{turn_cells, turn_reads}
 use Rattle.book.specs.BookView.{book_of}
-use Rattle.book.specs.EntryView.{lines_of}
+use Rattle.journal.specs.EntryView.{lines_of}
+use Rattle.journal.specs.JournalView.{entries_of}
 use Rattle.world.specs.View.{world_of, message_of}
 use Rattle.book.proofs.Entering.{enters, stands_entered, stands_so}
 use Rattle.book.proofs.Refused.{next_is}
@@ -34,7 +35,7 @@ invariant_of-self-in-Ok-enter_turn-clause-stands c =
     let same = c.in_ok-delivered.ensures.same in
     let old = book_of c.args.self.now in
     let u : Turn = record { message = g; vat = d.number; name = found.2.now.name; state = state_of found.2.now.state; outcome = outcome_of d.outcome } in
-    let new : Book = record { world = world_of c.enter_turn.new.world; journal = lines_of c.add.new.self.entries.items; next = c.args.self.now.next + 1; redoable = c.clear.new.self.items } in
+    let new : Book = record { world = world_of c.enter_turn.new.world; journal = lines_of (entries_of c.add.new.self); next = c.args.self.now.next + 1; redoable = c.clear.new.self.items } in
     let at_home = ap (λ (v : VatNo). old.world (key.State v)) same.0 ∙ c.in-Ok.ensures.there.1 in
     let t : ∥ Turns e old.world m c.args.budget u ∥₁ =
     is_turn e old.world m c.args.budget u c.in-Ok.ensures.waiting (c.in-Ok.ensures.there.0 ∙ ap at_vat (sym same.0)) c.in-Ok.ensures.in_order at_home
@@ -52,7 +53,7 @@ invariant_of-self-in-Ok-enter_turn-clause-stands c =
 pub invariant_of-self-in-Err-enter_turn-clause-stands : goal.invariant_of-self-in-Err-enter_turn-clause-stands
 invariant_of-self-in-Err-enter_turn-clause-stands c =
     let s = c.in_ok-add.ensures.shorter in
-    stands_so _ _ _ _ _ _ c.in-Err-enter_turn.ensures.err (ap lines_of (c.remove_last.ensures c.args.self.now.journal.entries.items s.0 s.1)) c.args.self.now.stands
+    stands_so _ _ _ _ _ _ c.in-Err-enter_turn.ensures.err (ap lines_of (c.remove_last.ensures (entries_of c.args.self.now.journal) s.0 s.1)) c.args.self.now.stands
 
 pub returns-in-Ok-enter_turn-clause-ok : goal.returns-in-Ok-enter_turn-clause-ok
 returns-in-Ok-enter_turn-clause-ok c =
@@ -64,7 +65,7 @@ returns-in-Ok-enter_turn-clause-ok c =
     let same = c.in_ok-delivered.ensures.same in
     let old = book_of c.args.self.now in
     let u : Turn = record { message = g; vat = d.number; name = found.2.now.name; state = state_of found.2.now.state; outcome = outcome_of d.outcome } in
-    let new : Book = record { world = world_of c.enter_turn.new.world; journal = lines_of c.add.new.self.entries.items; next = c.args.self.now.next + 1; redoable = c.clear.new.self.items } in
+    let new : Book = record { world = world_of c.enter_turn.new.world; journal = lines_of (entries_of c.add.new.self); next = c.args.self.now.next + 1; redoable = c.clear.new.self.items } in
     let at_home = ap (λ (v : VatNo). old.world (key.State v)) same.0 ∙ c.in-Ok.ensures.there.1 in
     let t : ∥ Turns e old.world m c.args.budget u ∥₁ =
     is_turn e old.world m c.args.budget u c.in-Ok.ensures.waiting (c.in-Ok.ensures.there.0 ∙ ap at_vat (sym same.0)) c.in-Ok.ensures.in_order at_home
@@ -82,4 +83,4 @@ returns-in-Ok-enter_turn-clause-ok c =
 pub returns-in-Err-enter_turn-clause-unchanged : goal.returns-in-Err-enter_turn-clause-unchanged
 returns-in-Err-enter_turn-clause-unchanged c =
     let s = c.in_ok-add.ensures.shorter in
-    λ i. record { world = c.in-Err-enter_turn.ensures.err i; journal = lines_of (c.remove_last.ensures c.args.self.now.journal.entries.items s.0 s.1 i); next = c.args.self.now.next; redoable = c.args.self.now.redoable.items }
+    λ i. record { world = c.in-Err-enter_turn.ensures.err i; journal = lines_of (c.remove_last.ensures (entries_of c.args.self.now.journal) s.0 s.1 i); next = c.args.self.now.next; redoable = c.args.self.now.redoable.items }

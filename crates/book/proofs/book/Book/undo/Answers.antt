@@ -1,13 +1,14 @@
 use Rattle.std.proofs.Common.{◌≡◌, ◌∙◌, ◌==◌, false, List, None, length, filter, refl, sym, ap, subst}
-use Rattle.book.specs.Journal.{chosen, redone_in, live_events, rest_of}
+use Rattle.journal.specs.Journal.{chosen, redone_in, live_events, rest_of}
 use Rattle.book.specs.Refusals.{undo_refusal}
 use Rattle.book.specs.Books.{Book, PlainRun}
 use Rattle.book.specs.Calls.{Undoes}
 use Rattle.book.specs.Rerun.{TellsRun}
 use Rattle.book.specs.BookView.{book_of}
-use Rattle.book.specs.EntryView.{lines_of}
+use Rattle.journal.specs.EntryView.{lines_of}
+use Rattle.journal.specs.JournalView.{entries_of}
 use Rattle.world.specs.View.{world_of}
-use Rattle.book.specs.declared.journal.Entry.{Entry}
+use Rattle.journal.specs.declared.entry.Entry.{Entry}
 use Rattle.book.proofs.Entering.{stands_so}
 use Rattle.book.proofs.Marks.{redone-undone, live_events-undone}
 use Rattle.book.proofs.Kept.{undo_runs, undoes_none, now_those, stands_after_undo}
@@ -43,7 +44,7 @@ returns-in-Ok-clause-ok c =
     let ev = c.args.events.now in
     let ok : undo_refusal old.journal ev ≡ None = ap (λ (es : List Entry). undo_refusal (lines_of es) ev) (sym c.entries.ensures) ∙ c.in_ok-check_undo.ensures.ok in
     let some : (length ev == 0) ≡ false = sym c.is_empty.ensures ∙ c.if-is_empty.false in
-    let lines = lines_of c.undo.new.self.entries.items in
+    let lines = lines_of (entries_of c.undo.new.self) in
     let new : Book = record { world = world_of c.in-Ok.world; journal = lines; next = c.args.self.now.next; redoable = c.in_ok-redoable.redoable.items } in
     let rest : live_events (lines_of c.entries-3.result.now) ≡ rest_of ev old.journal = ap live_events (ap lines_of c.entries-3.ensures ∙ c.undo.ensures) ∙ live_events-undone ev old.journal in
     let u : Undoes ev old new = record {
@@ -68,7 +69,7 @@ invariant_of-self c =
     let ev = c.args.events.now in
     let ok : undo_refusal old.journal ev ≡ None = ap (λ (es : List Entry). undo_refusal (lines_of es) ev) (sym c.entries.ensures) ∙ c.in_ok-check_undo.ensures.ok in
     let some : (length ev == 0) ≡ false = sym c.is_empty.ensures ∙ c.if-is_empty.false in
-    let lines = lines_of c.undo.new.self.entries.items in
+    let lines = lines_of (entries_of c.undo.new.self) in
     let new : Book = record { world = world_of c.in-Ok.world; journal = lines; next = c.args.self.now.next; redoable = c.in_ok-redoable.redoable.items } in
     let rest : live_events (lines_of c.entries-3.result.now) ≡ rest_of ev old.journal = ap live_events (ap lines_of c.entries-3.ensures ∙ c.undo.ensures) ∙ live_events-undone ev old.journal in
     let u : Undoes ev old new = record {

@@ -1,0 +1,5 @@
+pub mod Along
+pub mod Least
+pub mod Sets
+pub mod NameSets
+pub mod Cones
