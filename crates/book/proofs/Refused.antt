@@ -1,7 +1,7 @@
 -- On refusals, one after the other.
 use Rattle.std.proofs.Common.{◌≡◌, Option, Some, None, refl, ap}
-use Rattle.kernele.specs.declared.checking.CheckFault.{CheckFault}
-use Rattle.kernele.specs.declared.checking.CheckFault.TheVariants as check-fault
+use Rattle.scopes.specs.declared.checking.CheckFault.{CheckFault}
+use Rattle.scopes.specs.declared.checking.CheckFault.TheVariants as check-fault
 use Rattle.book.specs.Refusals.{Refusal, first}
 use Rattle.book.specs.Fault.{check_tells, Tells}
 use Rattle.book.specs.declared.fault.BookFault.{BookFault}

@@ -1,10 +1,10 @@
 -- Refusals of the book, in words, and what they stand for.
 use Rattle.std.specs.Prelude.{◌≡◌, List, ℕ, ◌++◌, codes, Option, Some}
 use Rattle.ids.specs.Names.{event_text, message_text}
-use Rattle.kernele.specs.Check as check
-use Rattle.kernele.specs.Scope as scope
-use Rattle.kernele.specs.declared.checking.CheckFault.{CheckFault}
-use Rattle.kernele.specs.declared.checking.CheckFault.TheVariants as check-fault
+use Rattle.scopes.specs.Check as check
+use Rattle.scopes.specs.Scope as scope
+use Rattle.scopes.specs.declared.checking.CheckFault.{CheckFault}
+use Rattle.scopes.specs.declared.checking.CheckFault.TheVariants as check-fault
 use Rattle.book.specs.Refusals.{Refusal, no_vat, name_taken, no_message, not_there, before, full, no_event, not_live, still_live, not_closed, not_next, unchecked}
 use Rattle.book.specs.declared.fault.BookFault.{BookFault}
 use Rattle.book.specs.declared.fault.BookFault.TheVariants as fault

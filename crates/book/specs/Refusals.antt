@@ -2,8 +2,8 @@
 use Rattle.std.specs.Prelude.{◌||◌, cond, List, [], ◌∷◌, length, Option, Some, None, Ok, Err, nat_lt}
 use Rattle.std.specs.Option.{option_map}
 use Rattle.kernele.specs.Tree.{Name, Trees}
-use Rattle.kernele.specs.Scope.{Checked, checked_program, script_scopes, asked_scopes}
-use Rattle.kernele.specs.Scope as scope
+use Rattle.scopes.specs.Scope.{Checked, checked_program, script_scopes, asked_scopes}
+use Rattle.scopes.specs.Scope as scope
 use Rattle.ids.specs.declared.names.EventName.{EventName}
 use Rattle.ids.specs.declared.names.MsgId.{MsgId}
 use Rattle.world.specs.World.{Vat, World, vat_named}

@@ -5,7 +5,7 @@ ghost use Rattle.book.specs.Fault.{fault_text};
 
 use ids::names::{EventName, MsgId};
 use ids::text::Text;
-use kernele::CheckFault;
+use scopes::CheckFault;
 use std::alloc::{AllocError, AllocFailed};
 use std::error::Error;
 use std::fmt;

@@ -1,7 +1,7 @@
 -- Code that holds vectors fits where its parts and the vectors' code do.
 use Rattle.std.proofs.Common.{◌≡◌, List, [], ◌∷◌, ◌++◌, ℕ, Option, Bool, false, refl, ap, sym, ◌∙◌}
-use Rattle.kernele.specs.Scope.{name_of, names_of_all}
-use Rattle.kernele.specs.Free.{captures}
+use Rattle.scopes.specs.Scope.{name_of, names_of_all}
+use Rattle.scopes.specs.Free.{captures}
 use Rattle.kernele.specs.declared.tree.Pattern.{Pattern}
 use Rattle.code.specs.View.{tree_of_code, methods_of_codes}
 use Rattle.code.specs.Frames.{Frame, only_names, after, all_placed, captured_names_of, fits, fits_row, fits_methods_row, fits_all, fits_methods}

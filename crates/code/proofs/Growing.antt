@@ -3,7 +3,7 @@ use Rattle.std.proofs.Common.{◌≡◌, ℕ, Bool, true, false, List, [], ◌++
 use Rattle.std.proofs.Math.Seq.{take-append_seam}
 use Rattle.std.proofs.lemmas.List.{map-append}
 use Rattle.kernele.specs.Tree.{Name}
-use Rattle.kernele.specs.declared.naming.TopName.{TopName}
+use Rattle.scopes.specs.declared.naming.TopName.{TopName}
 use Rattle.code.specs.Frames.{Frame, only_names, behind}
 
 behind-behind : (own : Bool) (xs ys : List Name) (frame : Frame) → behind own ys (behind own xs frame) ≡ behind own (xs ++ ys) frame

@@ -3,12 +3,12 @@ use Rattle.std.proofs.Common.{◌≡◌, ℕ, Option, ◌+◌, ◌<◌, ◌≤�
 use Rattle.std.proofs.Math.Path.{transport}
 use Rattle.kernele.specs.Tree.{Name, Tree, noun, define, variable, assign, call, list_tree, same_tree, define_list, hide, if_tree, while_tree, for_tree, try_tree, throw_tree, object_tree, escape_tree, Trees, none, and_then, Methods, and_method}
 use Rattle.kernele.specs.View.{tree_of, trees_of, methods_of}
-use Rattle.kernele.specs.Scope.{own_names, own_names_in, name_of, names_of_all, variable_name}
-use Rattle.kernele.specs.Free.{captures}
+use Rattle.scopes.specs.Scope.{own_names, own_names_in, name_of, names_of_all, variable_name}
+use Rattle.scopes.specs.Free.{captures}
 use Rattle.kernele.specs.declared.tree.Expr.{Expr}
 use Rattle.kernele.specs.declared.tree.Method.{Method}
 use Rattle.kernele.specs.declared.tree.Pattern.{Pattern}
-use Rattle.kernele.specs.declared.naming.TopName.{TopName}
+use Rattle.scopes.specs.declared.naming.TopName.{TopName}
 use Rattle.kernele.proofs.Walks.{trees_from, no_trees_from, methods_from, no_methods_from}
 use Rattle.code.specs.View.{tree_of_code, methods_of_codes}
 use Rattle.code.specs.Index.{index_in, index_fits}

@@ -1,7 +1,7 @@
 -- A part has no more nodes than all parts have.
 use Rattle.std.proofs.Common.{◌≡◌, ℕ, ◌<◌, ◌≤◌, zero, suc, arith, List, [], ◌∷◌, length, get_or, ap}
 use Rattle.kernele.specs.View.{tree_of, trees_of, methods_of}
-use Rattle.kernele.specs.Scope.{nodes, nodes_in, nodes_of}
+use Rattle.scopes.specs.Scope.{nodes, nodes_in, nodes_of}
 use Rattle.kernele.specs.declared.tree.Expr.{Expr}
 use Rattle.kernele.specs.declared.tree.Method.{Method}
 

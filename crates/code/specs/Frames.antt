@@ -2,9 +2,9 @@
 use Rattle.std.specs.Prelude.{◌≡◌, ℕ, ◌+◌, Bool, true, false, Option, Some, None, List, [], ◌∷◌, ◌++◌, map}
 use Rattle.std.specs.Str.{bytes_eq}
 use Rattle.kernele.specs.Tree.{Name, Tree, Trees}
-use Rattle.kernele.specs.Scope.{name_of, names_of_all, own_names, own_names_in}
-use Rattle.kernele.specs.Free.{captures}
-use Rattle.kernele.specs.declared.naming.TopName.{TopName}
+use Rattle.scopes.specs.Scope.{name_of, names_of_all, own_names, own_names_in}
+use Rattle.scopes.specs.Free.{captures}
+use Rattle.scopes.specs.declared.naming.TopName.{TopName}
 use Rattle.code.specs.declared.code.Place.{Place}
 use Rattle.code.specs.declared.code.Place.TheVariants as place
 use Rattle.code.specs.declared.code.Capture.{Capture}

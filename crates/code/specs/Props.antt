@@ -3,8 +3,8 @@ use Rattle.std.specs.Prelude.{ℕ, Bool, false, List, [], ◌∷◌, ◌++◌, O
 use Rattle.std.proofs.Common.{refl}
 use Rattle.std.proofs.Props.{props}
 use Rattle.kernele.specs.Tree.{Methods}
-use Rattle.kernele.specs.Scope.{name_of, names_of_all}
-use Rattle.kernele.specs.Free.{captures}
+use Rattle.scopes.specs.Scope.{name_of, names_of_all}
+use Rattle.scopes.specs.Free.{captures}
 use Rattle.code.specs.declared.code.Place.{Place}
 use Rattle.code.specs.declared.code.Capture.{Capture}
 use Rattle.code.specs.declared.code.Code as code

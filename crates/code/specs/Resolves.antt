@@ -2,7 +2,7 @@
 use Rattle.std.specs.Prelude.{◌≡◌, ◌++◌, Bool, false, List}
 use Rattle.kernele.specs.Tree.{Tree, Trees, Methods}
 use Rattle.kernele.specs.View.{trees_of}
-use Rattle.kernele.specs.Scope.{names_of_all}
+use Rattle.scopes.specs.Scope.{names_of_all}
 use Rattle.kernele.specs.declared.tree.Method.{Method}
 use Rattle.code.specs.declared.code.Code.{Code}
 use Rattle.code.specs.declared.code.MethodCode.{MethodCode}

@@ -2,7 +2,7 @@
 ghost use Rattle.std.specs.Prelude.{◌≡◌, [], ◌∷◌, ◌++◌, Bool, IfOk, OnOk};
 ghost use Rattle.kernele.specs.Tree.{define, variable, assign, call, list_tree, same_tree, define_list, hide, if_tree, while_tree, for_tree, try_tree, throw_tree, object_tree, escape_tree};
 ghost use Rattle.kernele.specs.View.{tree_of, trees_of, methods_of, program_of};
-ghost use Rattle.kernele.specs.Scope.{name_of};
+ghost use Rattle.scopes.specs.Scope.{name_of};
 ghost use Rattle.code.specs.View.{trees_of_codes};
 ghost use Rattle.code.specs.Frames.{fits_all, only_names};
 ghost use Rattle.code.specs.Props.{fits_all-prop};
@@ -12,7 +12,7 @@ use crate::code::{Code, MethodCode};
 use crate::frame::{add_all_bound, add_bound, add_name, find_place, place_all, share_pattern};
 use crate::index::index_many;
 use ids::text::Text;
-use kernele::captured_names;
+use scopes::captured_names;
 use kernele::tree::{Expr, Method, Pattern, Program};
 use std::alloc::{AllocError, Global};
 use std::sync::Arc;

@@ -3,8 +3,8 @@ use Rattle.std.proofs.Common.{◌≡◌, ℕ, List, [], ◌∷◌, ◌++◌, Boo
 use Rattle.std.proofs.lemmas.List.{map-append}
 use Rattle.ids.specs.declared.names.SlotId.{SlotId}
 use Rattle.kernele.specs.Tree.{Name, Tree, Trees, Methods}
-use Rattle.kernele.specs.Scope.{defined_name, variable_name, name_of, names_of_all, own_names, own_names_in}
-use Rattle.kernele.specs.declared.naming.TopName.{TopName}
+use Rattle.scopes.specs.Scope.{defined_name, variable_name, name_of, names_of_all, own_names, own_names_in}
+use Rattle.scopes.specs.declared.naming.TopName.{TopName}
 use Rattle.kernele.specs.declared.tree.Pattern.{Pattern}
 use Rattle.kernele.specs.declared.tree.Pattern.TheVariants as pattern
 use Rattle.code.specs.Frames.{Frame, only_names, behind}

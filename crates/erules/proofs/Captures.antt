@@ -5,7 +5,7 @@ use Rattle.std.proofs.Math.Seq.{drop-cons}
 use Rattle.std.proofs.lemmas.List.{drop_all}
 use Rattle.std.specs.Str.{bytes_eq}
 use Rattle.kernele.specs.Tree.{Name, Methods}
-use Rattle.kernele.specs.Free.{captures}
+use Rattle.scopes.specs.Free.{captures}
 use Rattle.code.specs.View.{trees_of_codes, methods_of_codes}
 use Rattle.code.specs.declared.code.MethodCode.{MethodCode}
 use Rattle.kernele.specs.declared.tree.Pattern.{Pattern}

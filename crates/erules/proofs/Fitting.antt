@@ -3,7 +3,7 @@ use Rattle.std.proofs.Common.{◌≡◌, ℕ, ◌+◌, ◌<◌, List, [], ◌∷
 use Rattle.std.proofs.Math.Seq.{drop-cons}
 use Rattle.std.proofs.lemmas.List.{map-append}
 use Rattle.kernele.specs.Tree.{Name, Tree}
-use Rattle.kernele.specs.Scope.{name_of, names_of_all, own_names}
+use Rattle.scopes.specs.Scope.{name_of, names_of_all, own_names}
 use Rattle.kernele.specs.declared.tree.Pattern.{Pattern}
 use Rattle.kernele.specs.declared.tree.Pattern.TheVariants as pattern
 use Rattle.code.specs.Frames.{Frame, only_names, after, place_in, fits, fits_all, fits_methods}
@@ -11,7 +11,7 @@ use Rattle.code.specs.View.{tree_of_code}
 use Rattle.code.specs.declared.code.Code.{Code}
 use Rattle.code.specs.declared.code.Place.{Place}
 use Rattle.code.specs.declared.code.MethodCode.{MethodCode}
-use Rattle.kernele.specs.declared.naming.TopName.{TopName}
+use Rattle.scopes.specs.declared.naming.TopName.{TopName}
 use Rattle.values.specs.Data.{Val, Vals, no_vals, and_val}
 use Rattle.values.specs.View.{vals_of}
 use Rattle.values.specs.declared.value.Value.{Value}

@@ -2,7 +2,7 @@
 use Rattle.std.specs.Prelude.{◌≡◌, List, ◌++◌, length, false, Option, IfSome}
 use Rattle.std.specs.Option.{option_map}
 use Rattle.kernele.specs.Tree.{Name}
-use Rattle.kernele.specs.Scope.{names_of_all}
+use Rattle.scopes.specs.Scope.{names_of_all}
 use Rattle.code.specs.Frames.{Frame, only_names, after, fits, fits_all, fits_methods}
 use Rattle.code.specs.View.{tree_of_code, trees_of_codes, methods_of_codes}
 use Rattle.code.specs.declared.code.Code.{Code}

@@ -7,7 +7,7 @@ use Rattle.ids.specs.declared.names.SlotId.{SlotId}
 use Rattle.ids.specs.declared.names.ObjId.{ObjId}
 use Rattle.ids.specs.declared.names.EjId.{EjId}
 use Rattle.kernele.specs.Tree.{Name, Tree, null_tree, bool_tree, int_tree, text_tree, noun, define, variable, assign, call, list_tree, same_tree, define_list, hide, if_tree, while_tree, for_tree, try_tree, throw_tree, object_tree, escape_tree, Trees, none, and_then, Methods, no_methods, and_method}
-use Rattle.kernele.specs.Free.{captures}
+use Rattle.scopes.specs.Free.{captures}
 use Rattle.kernele.specs.declared.tree.Pattern.{Pattern}
 use Rattle.kernele.specs.declared.tree.Pattern.TheVariants as pattern
 use Rattle.values.specs.Data.{Val, null, bool, int, text, broken, object, ejector, Vals, no_vals, and_val}

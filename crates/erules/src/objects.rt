@@ -5,8 +5,8 @@ ghost use Rattle.code.specs.Frames.{only_names, captured_names_of, all_placed, f
 ghost use Rattle.code.specs.Index.{Indexes, index_in, index_fits};
 ghost use Rattle.heap.specs.Names.{names_of};
 ghost use Rattle.erules.specs.Fits.{frame_at, FindsMethod};
-ghost use Rattle.kernele.specs.Free.{captures as captures_of};
-ghost use Rattle.kernele.specs.Scope.{name_of};
+ghost use Rattle.scopes.specs.Free.{captures as captures_of};
+ghost use Rattle.scopes.specs.Scope.{name_of};
 ghost use Rattle.code.specs.View.{methods_of_codes};
 ghost use Rattle.values.specs.Data.{object as object_value};
 ghost use Rattle.values.specs.View.{val_of, vals_of};

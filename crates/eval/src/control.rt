@@ -3,7 +3,7 @@ ghost use Rattle.std.specs.Prelude.{◌≡◌, ◌≤◌, ◌++◌, false, IfOk}
 ghost use Rattle.kernele.specs.Tree.{hide, if_tree, while_tree, for_tree, try_tree};
 ghost use Rattle.code.specs.Frames.{fits_all, only_names};
 ghost use Rattle.erules.specs.Fits.{fits_at, frame_at, frame_behind};
-ghost use Rattle.kernele.specs.Scope.{name_of};
+ghost use Rattle.scopes.specs.Scope.{name_of};
 ghost use Rattle.code.specs.View.{tree_of_code, trees_of_codes};
 ghost use Rattle.values.specs.View.{val_of, vals_of};
 ghost use Rattle.erules.specs.Outcomes.{End as Ending};

@@ -2,9 +2,9 @@
 use Rattle.std.proofs.Common.{◌≡◌, ℕ, List, Option, Some, None, Result, Ok, Err, true, false, ◌||◌, refl, subst, sym, ap, ◌∙◌, [], ◌++◌, append_assoc, append-nil, ◌<◌, length, ◌∷◌, arith}
 use Rattle.std.specs.Prelude.{codes, OnOk, IfOk, Bool, string_bytes}
 use Rattle.kernele.specs.Tree.{Trees}
-use Rattle.kernele.specs.Scope as scope
-use Rattle.kernele.specs.declared.checking.CheckFault.{CheckFault}
-use Rattle.kernele.specs.declared.checking.CheckFault.TheVariants as check_fault
+use Rattle.scopes.specs.Scope as scope
+use Rattle.scopes.specs.declared.checking.CheckFault.{CheckFault}
+use Rattle.scopes.specs.declared.checking.CheckFault.TheVariants as check_fault
 use Rattle.ereader.specs.Texts.{ReadAs}
 use Rattle.ereader.specs.Texts as texts
 use Rattle.ereader.specs.Shown as reading
@@ -24,7 +24,7 @@ use Rattle.book.specs.Fault as book
 use Rattle.book.specs.Fault.{Tells, check_tells}
 use Rattle.book.specs.declared.fault.BookFault.{BookFault}
 use Rattle.book.specs.declared.fault.BookFault.TheVariants as fault
-use Rattle.kernele.specs.Check as check
+use Rattle.scopes.specs.Check as check
 use Rattle.stepper.specs.declared.engine.Engine.{Engine}
 use Rattle.stepper.specs.Engine.{Happens}
 use Rattle.commands.specs.Commands as commands

@@ -7,7 +7,7 @@ use Rattle.ids.specs.declared.names.EventName.{EventName}
 use Rattle.ids.specs.declared.names.MsgId.{MsgId}
 use Rattle.ids.specs.declared.names.VatNo.{VatNo}
 use Rattle.kernele.specs.Tree.{Trees}
-use Rattle.kernele.specs.Scope as scope
+use Rattle.scopes.specs.Scope as scope
 use Rattle.values.specs.Shown as values
 use Rattle.erules.specs.Outcomes.{End, value, halt, thrown, ejected, abandoned, reason}
 use Rattle.ereader.specs.Texts.{ReadAs}

@@ -7,7 +7,8 @@ use etoken::token::{Placed, Token};
 use etoken::tokens::tokens;
 use ids::text::Text;
 use kernele::tree::{Expr, Program};
-use kernele::{CheckFault, Kind, Outer, captured_names, check, print, top_names};
+use kernele::print;
+use scopes::{CheckFault, Kind, Outer, captured_names, check, top_names};
 use std::alloc::{AllocError, Global};
 
 /// What is asked of a text.

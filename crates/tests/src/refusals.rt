@@ -4,7 +4,7 @@ use crate::answers::Asked;
 use crate::tables::{expect, repeated};
 use ereader::fault::ReadFault;
 use etoken::fault::TokenFault;
-use kernele::CheckFault;
+use scopes::CheckFault;
 use std::test::Fail;
 
 #[test]

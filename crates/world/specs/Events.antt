@@ -1,7 +1,7 @@
 -- The events: what each touches, and what it does to the world.
 use Rattle.std.specs.Prelude.{◌≡◌, ℕ, cond, List, [], ◌∷◌, ◌++◌, Bool, true, false, Option, Some, None}
 use Rattle.kernele.specs.Tree.{Name, Trees}
-use Rattle.kernele.specs.Scope.{own_names_in}
+use Rattle.scopes.specs.Scope.{own_names_in}
 use Rattle.heap.specs.State.{State, nothing}
 use Rattle.erules.specs.Outcomes.{End, value, halt, thrown, ejected, abandoned}
 use Rattle.turn.specs.Turn.{opening, asked, Outcome, Delivers}

@@ -1,7 +1,7 @@
 -- The world: a finite map from keys to contents. That a key has none is a fact about the world.
 use Rattle.std.specs.Prelude.{List, Bool, true, false, cond, Option, Some, None}
 use Rattle.kernele.specs.Tree.{Name}
-use Rattle.kernele.specs.declared.naming.TopName.{TopName}
+use Rattle.scopes.specs.declared.naming.TopName.{TopName}
 use Rattle.values.specs.Data.{Val}
 use Rattle.heap.specs.State.{State}
 use Rattle.turn.specs.Turn.{Delivery}

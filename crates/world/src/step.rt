@@ -21,7 +21,7 @@ use crate::world::{Home, Message, Place, Vat, World};
 use heap::state::VatState;
 use ids::names::{CellKey, EventName, MsgId, PromId, VatNo};
 use ids::text::Text;
-use kernele::top_names;
+use scopes::top_names;
 use kernele::tree::Program;
 use std::alloc::{AllocError, AllocFailed, Global};
 use turn::delivery::{Delivery, Ended, Outcome};

@@ -18,7 +18,7 @@ ghost use Rattle.world.specs.View.{world_of, vat_of, home_of, message_of};
 use heap::state::VatState;
 use ids::names::{EventName, MsgId, PromId, VatNo};
 use ids::text::Text;
-use kernele::TopName;
+use scopes::TopName;
 use std::alloc::{AllocError, Global};
 use std::collections::BTreeMap;
 use turn::delivery::Delivery;

@@ -15,7 +15,7 @@ use Rattle.erules.proofs.Added.{goes_add, block_stays, taking_stays}
 use Rattle.erules.proofs.Fitting.{fits_then, all_fit_then, chosen_fits, repeated_fits, placed_then, parts_fit, block_fits, entry_fits, round_fits, fits_from}
 use Rattle.code.proofs.Fitting.{fits-Call, fits-List, fits-Hide, fits-If, fits-While, fits-For, fits-Try, fits-Object, fits-Escape}
 use Rattle.code.specs.Frames.{only_names}
-use Rattle.kernele.specs.Scope.{name_of}
+use Rattle.scopes.specs.Scope.{name_of}
 use Rattle.heap.specs.State.{frame_of}
 use Rattle.erules.specs.Locals.{locals_of}
 use Rattle.erules.specs.Fits.{fits_at, all_fit_at}

@@ -1,7 +1,7 @@
 use Rattle.std.proofs.Common.{drop, ◌-◌, ◌*◌, ◌+◌, ◌≡◌, ◌++◌, length, false}
 use Rattle.kernele.specs.Tree.{while_tree}
 use Rattle.code.specs.Frames.{fits_all, only_names}
-use Rattle.kernele.specs.Scope.{name_of}
+use Rattle.scopes.specs.Scope.{name_of}
 use Rattle.erules.specs.Fits.{fits_at, all_fit_at, frame_at, frame_behind}
 use Rattle.code.specs.View.{tree_of_code, trees_of_codes}
 use Rattle.values.specs.Data.{null}

@@ -1,5 +1,5 @@
 use Rattle.std.proofs.Common.{◌≡◌, drop}
-use Rattle.kernele.specs.Scope.{names_of_all}
+use Rattle.scopes.specs.Scope.{names_of_all}
 use Rattle.code.specs.Frames.{behind, only_names}
 use Rattle.code.proofs.frame.add_all_bound.Given as goal
 

@@ -2,9 +2,9 @@ use Rattle.std.proofs.Common.{◌∙◌, ap, sym, subst, refl, arith, rules, [],
 use Rattle.std.proofs.Math.Path.{transport}
 use Rattle.std.proofs.lemmas.Result.{IfOk-weaker}
 use Rattle.kernele.specs.View.{tree_of, methods_of}
-use Rattle.kernele.specs.Scope.{nodes}
+use Rattle.scopes.specs.Scope.{nodes}
 use Rattle.kernele.proofs.Views.{tree_of-Call, tree_of-List, tree_of-Hide, tree_of-If, tree_of-While, tree_of-For, tree_of-Try, tree_of-Object, tree_of-Escape}
-use Rattle.kernele.specs.Free.{captures}
+use Rattle.scopes.specs.Free.{captures}
 use Rattle.code.specs.View.{methods_of_codes}
 use Rattle.code.specs.Index.{index_in, index_fits}
 use Rattle.code.specs.Frames.{all_placed, captured_names_of}

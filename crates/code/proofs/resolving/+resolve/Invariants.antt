@@ -1,6 +1,6 @@
 use Rattle.std.proofs.Common.{◌≡◌, ◌*◌, ◌+◌, ◌++◌, List, drop}
 use Rattle.kernele.specs.View.{tree_of, trees_of, methods_of}
-use Rattle.kernele.specs.Scope.{nodes, nodes_in, nodes_of}
+use Rattle.scopes.specs.Scope.{nodes, nodes_in, nodes_of}
 use Rattle.code.specs.Frames.{Frame}
 use Rattle.code.specs.Resolves.{ResolvesAll, ResolvesMethods}
 use Rattle.code.specs.declared.code.Code.{Code}

@@ -1,7 +1,7 @@
 use Rattle.std.proofs.Common.{ap, sym, subst, ◌++◌, ◌∙◌, []}
 use Rattle.code.specs.Frames.{captured_names_of, only_names, fits_methods}
 use Rattle.code.specs.View.{methods_of_codes}
-use Rattle.kernele.specs.Scope.{name_of}
+use Rattle.scopes.specs.Scope.{name_of}
 use Rattle.erules.specs.Rules.{captured, all_captured, with_object}
 use Rattle.heap.specs.View.{nouns_of}
 use Rattle.heap.proofs.Names.{frame_of_nouns}

@@ -1,7 +1,7 @@
 use Rattle.std.proofs.Common.{ap, subst, ◌++◌}
 use Rattle.std.specs.Option.{option_copied}
 use Rattle.code.specs.Frames.{only_names}
-use Rattle.kernele.specs.Scope.{name_of}
+use Rattle.scopes.specs.Scope.{name_of}
 use Rattle.values.specs.Data.{object}
 use Rattle.heap.specs.Names.{names_of}
 use Rattle.erules.specs.Fits.{FindsMethod}

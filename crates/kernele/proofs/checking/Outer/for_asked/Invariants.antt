@@ -1,8 +1,0 @@
-use Rattle.std.proofs.Common.{◌≡◌, drop}
-use Rattle.kernele.specs.Scope.{names_in, with_names}
-use Rattle.kernele.specs.Check.{names_of}
-use Rattle.kernele.proofs.checking.Outer.for_asked.Given as goal
-
--- the map's names and those that are left
-abbrev pub invariant-loop-top : goal.invariant-loop-top
-invariant-loop-top l = with_names (drop l.top-index l.known) (names_of l.around) ≡ names_in l.known

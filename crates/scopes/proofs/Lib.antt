@@ -1,0 +1,5 @@
+pub mod Refusals
+pub mod Names
+pub mod Counts
+pub mod Growth
+pub mod Finding

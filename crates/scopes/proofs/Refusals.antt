@@ -1,0 +1,19 @@
+-- On what a fault tells.
+use Rattle.std.proofs.Common.{◌≡◌, ap, sym, subst}
+use Rattle.scopes.specs.Scope.{Scopes, Checked, in_turn}
+use Rattle.scopes.specs.Check.{Refuses}
+use Rattle.scopes.specs.declared.checking.CheckFault.{CheckFault}
+use Rattle.scopes.specs.declared.checking.CheckFault.TheVariants as fault
+
+-- what refuses the first of two refuses both
+pub refuses_in_turn : (f : CheckFault) (first : Checked) (next : Scopes → Checked) → Refuses f first → Refuses f (in_turn first next)
+refuses_in_turn (fault.Unbound x) first next h = ap (λ r. in_turn r next) h
+refuses_in_turn (fault.AssignToDef x) first next h = ap (λ r. in_turn r next) h
+refuses_in_turn (fault.DuplicateName x) first next h = ap (λ r. in_turn r next) h
+refuses_in_turn fault.TooDeep first next h = ap (λ r. in_turn r next) h
+refuses_in_turn fault.TooLong first next h = ap (λ r. in_turn r next) h
+refuses_in_turn fault.Memory first next h = tt
+
+-- a fault refuses what is the same
+pub refuses_same : (f : CheckFault) (r s : Checked) → s ≡ r → Refuses f r → Refuses f s
+refuses_same f r s e h = subst (Refuses f) (sym e) h

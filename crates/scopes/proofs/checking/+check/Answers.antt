@@ -1,0 +1,99 @@
+use Rattle.std.proofs.Common.{ap, refl, ◌∙◌, ◌+◌, drop}
+use Rattle.std.proofs.lemmas.Result.{err_from_is_err_and}
+use Rattle.scopes.specs.Scope.{in_turn, in_block, checked_all, checked_with}
+use Rattle.kernele.specs.View.{trees_of}
+use Rattle.scopes.specs.Check.{scopes_in}
+use Rattle.kernele.proofs.Walks.{tree_is_call, tree_is_list, tree_is_hide, tree_is_if, tree_is_while, tree_is_for, tree_is_try, tree_is_object, tree_is_escape, trees_from, no_trees_from}
+use Rattle.scopes.proofs.Refusals.{refuses_in_turn, refuses_same}
+use Rattle.scopes.proofs.checking.+check.Goals as goal
+
+pub check_all-returns-in_err-check_expr : goal.check_all-returns-in_err-check_expr
+check_all-returns-in_err-check_expr t c =
+    let p = err_from_is_err_and c.from_residual.result c.from_residual.ensures.1 in
+    let walk = c.loop-tree.invariant ∙ ap (λ ts. checked_all ts (scopes_in c.loop-tree.scopes)) (trees_from c.args.trees.now c.loop-tree.tree-index c.tree-item.result c.loop-tree-test.true c.tree-item.is) in
+    rw (p.1, p.2) (refuses_same _ _ _ walk (refuses_in_turn _ _ _ c.in_err-check_expr.ensures))
+
+pub check_all-loop-tree-preserved : goal.check_all-loop-tree-preserved
+check_all-loop-tree-preserved t c =
+    c.loop-tree.invariant
+    ∙ ap (λ ts. checked_all ts (scopes_in c.loop-tree.scopes)) (trees_from c.args.trees.now c.loop-tree.tree-index c.tree-item.result c.loop-tree-test.true c.tree-item.is)
+    ∙ ap (λ r. in_turn r (checked_all (trees_of (drop (c.loop-tree.tree-index + 1) c.args.trees.now)))) c.in_ok-check_expr.ensures
+
+pub check_all-returns : goal.check_all-returns
+check_all-returns t c = c.loop-tree.invariant ∙ ap (λ ts. checked_all ts (scopes_in c.loop-tree.scopes)) (no_trees_from c.args.trees.now c.loop-tree.tree-index c.loop-tree-test.false)
+
+pub check_expr-returns-in-List : goal.check_expr-returns-in-List
+check_expr-returns-in-List t c =
+    let is = tree_is_list c.in-List.items c.in-List.is c.deref-in-List.ensures c.deref-in-List-2.ensures.value in
+    rw is c.check_all.ensures
+
+pub check_expr-returns-in-Hide : goal.check_expr-returns-in-Hide
+check_expr-returns-in-Hide t c =
+    let is = tree_is_hide c.in-Hide.body c.in-Hide.is c.deref-in-Hide.ensures c.deref-in-Hide-2.ensures.value in
+    rw is c.check_block.ensures
+
+pub check_expr-returns-in-Escape : goal.check_expr-returns-in-Escape
+check_expr-returns-in-Escape t c =
+    let is = tree_is_escape c.in-Escape.name c.in-Escape.body c.in-Escape.is refl c.deref-in-Escape.ensures c.deref-in-Escape-2.ensures.value in
+    rw is c.check_escape.ensures
+
+pub check_expr-returns-in-Call : goal.check_expr-returns-in-Call
+check_expr-returns-in-Call t c =
+    let is = tree_is_call c.in-Call.receiver c.in-Call.field-1 c.in-Call.args c.in-Call.is c.deref-in-Call.ensures c.deref-in-Call-2.ensures c.deref-in-Call-3.ensures.value in
+    rw is c.check_call.ensures
+
+pub check_expr-returns-in-If : goal.check_expr-returns-in-If
+check_expr-returns-in-If t c =
+    let is = tree_is_if c.in-If.condition c.in-If.first c.in-If.second c.in-If.is c.deref-in-If.ensures c.deref-in-If-2.ensures c.deref-in-If-3.ensures.value c.deref-in-If-4.ensures c.deref-in-If-5.ensures.value in
+    rw is c.check_if.ensures
+
+pub check_expr-returns-in-While : goal.check_expr-returns-in-While
+check_expr-returns-in-While t c =
+    let is = tree_is_while c.in-While.condition c.in-While.body c.in-While.is c.deref-in-While.ensures c.deref-in-While-2.ensures c.deref-in-While-3.ensures.value in
+    rw is c.check_while.ensures
+
+pub check_expr-returns-in-For : goal.check_expr-returns-in-For
+check_expr-returns-in-For t c =
+    let is = tree_is_for c.in-For.pattern c.in-For.list c.in-For.body c.in-For.is refl c.deref-in-For.ensures c.deref-in-For-2.ensures c.deref-in-For-3.ensures.value in
+    rw is c.check_for.ensures
+
+pub check_expr-returns-in-Try : goal.check_expr-returns-in-Try
+check_expr-returns-in-Try t c =
+    let is = tree_is_try c.in-Try.body c.in-Try.pattern c.in-Try.handler c.in-Try.is c.deref-in-Try.ensures c.deref-in-Try-2.ensures.value refl c.deref-in-Try-3.ensures c.deref-in-Try-4.ensures.value in
+    rw is c.check_try.ensures
+
+pub check_expr-returns-in-Object : goal.check_expr-returns-in-Object
+check_expr-returns-in-Object t c =
+    let is = tree_is_object c.in-Object.pattern c.in-Object.methods c.in-Object.is refl c.deref-in-Object.ensures c.deref-in-Object-2.ensures.value in
+    rw is c.check_object.ensures
+
+pub check_call-returns : goal.check_call-returns
+check_call-returns t c = rw c.in_ok-check_expr.ensures c.check_all.ensures
+
+pub check_if-returns-in_err-check_block : goal.check_if-returns-in_err-check_block
+check_if-returns-in_err-check_block t c =
+    let first = in_block (checked_all (trees_of c.args.first.now)) in
+    let second = in_block (checked_all (trees_of c.args.second.now)) in
+    let p = err_from_is_err_and c.from_residual-in_err-check_block.result c.from_residual-in_err-check_block.ensures.1 in
+    rw (p.1, p.2) (refuses_same _ _ _ (ap (λ r. in_turn (in_turn r first) second) c.in_ok-check_expr.ensures) (refuses_in_turn _ _ second c.in_err-check_block.ensures))
+
+pub check_if-returns : goal.check_if-returns
+check_if-returns t c = rw (c.in_ok-check_expr.ensures, c.in_ok-check_block.ensures) c.check_block-2.ensures
+
+pub check_while-returns : goal.check_while-returns
+check_while-returns t c = rw c.in_ok-check_expr.ensures c.check_block.ensures
+
+pub check_for-returns : goal.check_for-returns
+check_for-returns t c = rw c.in_ok-check_expr.ensures c.check_bound_block.ensures
+
+pub check_try-returns-in_err-check_block : goal.check_try-returns-in_err-check_block
+check_try-returns-in_err-check_block t c =
+    let handler = in_block (checked_with c.args.pattern.now (checked_all (trees_of c.args.handler.now))) in
+    let p = err_from_is_err_and c.from_residual.result c.from_residual.ensures.1 in
+    rw (p.1, p.2) (refuses_in_turn _ _ handler c.in_err-check_block.ensures)
+
+pub check_try-returns : goal.check_try-returns
+check_try-returns t c = rw c.in_ok-check_block.ensures c.check_bound_block.ensures
+
+pub check_object-returns : goal.check_object-returns
+check_object-returns t c = rw c.in_ok-check_pattern.ensures c.check_methods.ensures

@@ -1,0 +1,22 @@
+use Rattle.std.proofs.Common.{refl, ap, sym, ◌∙◌, ◌++◌, append_assoc}
+use Rattle.std.proofs.lemmas.Result.{IfOk-equal}
+use Rattle.scopes.specs.Scope.{own_names, own_names_in}
+use Rattle.kernele.specs.View.{tree_of, trees_of}
+use Rattle.kernele.proofs.Walks.{tree_is_call, tree_is_list, append_more, append_end}
+use Rattle.scopes.proofs.naming.+names.Goals as goal
+
+pub add_all_names-loop-tree-preserved : goal.add_all_names-loop-tree-preserved
+add_all_names-loop-tree-preserved t c = append_more own_names_in own_names (λ t ts. refl) c.loop-tree.names.items c.args.trees.now c.loop-tree.tree-index c.tree-item.result c.loop-tree-test.true c.tree-item.is c.in_ok-add_names.ensures ∙ c.loop-tree.invariant
+
+pub add_all_names-returns : goal.add_all_names-returns
+add_all_names-returns t c = append_end own_names_in refl c.args.trees.now c.loop-tree.tree-index c.loop-tree-test.false c.loop-tree.invariant
+
+pub add_names-returns-in_ok-add_names-in-Call : goal.add_names-returns-in_ok-add_names-in-Call
+add_names-returns-in_ok-add_names-in-Call t c =
+    IfOk-equal c.add_all_names.result _ _ _ c.add_all_names.ensures
+    (ap (λ names. names ++ own_names_in (trees_of c.deref-in-Call-3.result.now)) c.in_ok-add_names-in-Call.ensures ∙ append_assoc c.args.names.now.items (own_names (tree_of c.deref-in-Call.result.now)) (own_names_in (trees_of c.deref-in-Call-3.result.now)) ∙ ap (λ t. c.args.names.now.items ++ own_names t) (sym (tree_is_call c.in-Call.receiver c.in-Call.field-1 c.in-Call.args c.in-Call.is c.deref-in-Call.ensures c.deref-in-Call-2.ensures c.deref-in-Call-3.ensures.value)))
+
+pub add_names-returns-in-List : goal.add_names-returns-in-List
+add_names-returns-in-List t c =
+    IfOk-equal c.add_all_names-in-List.result _ _ _ c.add_all_names-in-List.ensures
+    (ap (λ t. c.args.names.now.items ++ own_names t) (sym (tree_is_list c.in-List.items c.in-List.is c.deref-in-List.ensures c.deref-in-List-2.ensures.value)))

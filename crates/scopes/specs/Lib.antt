@@ -1,0 +1,4 @@
+pub mod Scope
+pub mod Check
+pub mod Free
+pub mod Found

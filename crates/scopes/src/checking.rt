@@ -1,0 +1,470 @@
+// The check of a program before it is evaluated.
+ghost use Rattle.std.specs.Prelude.{◌≡◌, [], map, false, Some, Ok, IsOk, IfOk, IfErr, OnOk, MatchResult};
+ghost use Rattle.kernele.specs.Tree.{define, variable, assign, same_tree, define_list, if_tree, while_tree, for_tree, try_tree, object_tree, escape_tree};
+ghost use Rattle.kernele.specs.View.{tree_of, trees_of, methods_of, program_of};
+ghost use Rattle.scopes.specs.Scope.{in_turn, checked, checked_all, checked_program, found, assigned, added, bound, all_bound, entered, in_block, checked_with, checked_taking, checked_methods, same_signature, has_signature, script_scopes, asked_scopes, kind_in, with_name};
+ghost use Rattle.scopes.specs.Check.{Gives, Refuses, fault_text, MayRefuse, names_of, scopes_of, scopes_in, scopes_with, signature_of};
+ghost use Rattle.scopes.specs.declared.checking.CheckFault.TheVariants.{Memory};
+
+use crate::count::{are_within_depth, nodes_left_by_all};
+use crate::naming::{Kind, TopName};
+use kernele::tree::{Expr, Method, Pattern, Program};
+use ids::text::Text;
+use std::alloc::{AllocError, AllocFailed, Global};
+use std::collections::BTreeMap;
+use std::error::Error;
+use std::fmt;
+use std::fmt::{Display, Formatter, Write};
+
+/// The most nodes that a program may have.
+const MOST_NODES: u32 = 16_384;
+
+/// The greatest depth that a program may have.
+const GREATEST_DEPTH: u32 = 200;
+
+/// Why a program is not evaluated.
+#[derive(Debug, Drop)]
+pub enum CheckFault {
+    /// A noun that no scope has.
+    Unbound(Text),
+    /// The name that is assigned was made by no `var`.
+    AssignToDef(Text),
+    /// A second definition of a name in one scope.
+    DuplicateName(Text),
+    /// Trees deeper than 200.
+    TooDeep,
+    /// More than 16,384 nodes.
+    TooLong,
+    /// No memory was left for the check.
+    Memory,
+}
+
+impl Display for CheckFault {
+    ghost output = { λ fault. Some (fault_text fault) };
+
+    fn fmt<W: Write>(&self, f: &mut Formatter<W>) -> fmt::Result {
+        match self {
+            CheckFault::Unbound(name) => write!(f, "K1 Unbound {name}"),
+            CheckFault::AssignToDef(name) => write!(f, "K2 AssignToDef {name}"),
+            CheckFault::DuplicateName(name) => write!(f, "K3 DuplicateName {name}"),
+            CheckFault::TooDeep => write!(f, "K4 TooDeep"),
+            CheckFault::TooLong => write!(f, "K5 TooLong"),
+            CheckFault::Memory => write!(f, "B20 Memory"),
+        }
+    }
+}
+
+impl Error for CheckFault {}
+
+impl From<AllocError> for CheckFault {
+    ghost from_gives = { λ _ e. e ≡ Memory };
+
+    fn from(_error: AllocError) -> Self {
+        CheckFault::Memory
+    }
+}
+
+impl<T: Drop> From<AllocFailed<T>> for CheckFault {
+    ghost from_gives = { λ _ e. e ≡ Memory };
+
+    fn from(_error: AllocFailed<T>) -> Self {
+        CheckFault::Memory
+    }
+}
+
+/// The names that a program finds in scope.
+#[derive(Drop)]
+pub struct Outer {
+    /// Those of its own scope, which it may not define again.
+    own: BTreeMap<Text, Kind>,
+    /// Those of the scope around it, which it may hide.
+    around: BTreeMap<Text, Kind>,
+}
+
+impl Outer {
+    /// For a script, which may not define the names of earlier vats again.
+    pub fn for_script(alloc: Global, earlier: &[Text]) -> Result<Outer, AllocError>
+        ensures { IfOk result (λ outer. scopes_of outer ≡ script_scopes earlier.now) }
+    {
+        let mut own = BTreeMap::new(alloc);
+        for name in earlier {
+            own.insert(name.share()?, Kind::Definition)?;
+        }
+        let around = BTreeMap::new(alloc);
+        Ok(Outer { own, around })
+    }
+
+    /// For an asked program, which may hide the names that its vat knows.
+    pub fn for_asked(alloc: Global, known: &[TopName]) -> Result<Outer, AllocError>
+        ensures { IfOk result (λ outer. scopes_of outer ≡ asked_scopes known.now) }
+    {
+        let mut around = BTreeMap::new(alloc);
+        for top in known {
+            around.insert(top.name.share()?, top.kind)?;
+        }
+        let own = BTreeMap::new(alloc);
+        Ok(Outer { own, around })
+    }
+}
+
+/// Checks that a program may be evaluated: first its size, then its depth, then that each noun is
+/// in scope where it stands, that what is assigned is a variable and that no scope has a name twice.
+pub fn check(alloc: Global, program: &Program, outer: &Outer) -> Result<(), CheckFault>
+    ensures ok { OnOk result (IsOk (checked_program (program_of program.now) (scopes_of outer.now))) }
+    ensures refused { IfErr result (λ fault. Refuses fault (checked_program (program_of program.now) (scopes_of outer.now))) }
+{
+    let trees = program.0.0.as_slice();
+    if nodes_left_by_all(trees, MOST_NODES).is_none() {
+        return Err(CheckFault::TooLong);
+    }
+    if !are_within_depth(trees, GREATEST_DEPTH) {
+        return Err(CheckFault::TooDeep);
+    }
+    let mut scopes = Scopes {
+        alloc,
+        around: Around::Program(outer),
+        defined: BTreeMap::new(alloc),
+    };
+    check_all(trees, &mut scopes)
+}
+
+/// What lies around the definitions of the innermost scope.
+#[derive(Drop)]
+enum Around<'a> {
+    /// The scope is the program's own.
+    Program(&'a Outer),
+    /// The scope is a block's: the definitions of the scope where the block stands, and what lies
+    /// around those.
+    Block(&'a BTreeMap<Text, Kind>, &'a Around<'a>),
+}
+
+/// The scopes where an expression stands.
+#[derive(Drop)]
+struct Scopes<'a> {
+    alloc: Global,
+    around: Around<'a>,
+    /// The names that the innermost scope has defined so far.
+    defined: BTreeMap<Text, Kind>,
+}
+
+impl<'a> Around<'a> {
+    /// What a name is in the scope with these definitions.
+    fn kind_in_own(&self, defined: &BTreeMap<Text, Kind>, name: &Text) -> Option<Kind>
+        ensures { result ≡ (scopes_with self.now (names_of defined.now)).own name.now }
+    {
+        let found = defined.get(name).copied();
+        match self {
+            Around::Program(outer) => found.or(outer.own.get(name).copied()),
+            Around::Block(_, _) => found,
+        }
+    }
+
+    /// What a name is: one of an inner scope hides one of an outer scope.
+    fn kind(&self, defined: &BTreeMap<Text, Kind>, name: &Text) -> Option<Kind>
+        ensures { result ≡ kind_in (scopes_with self.now (names_of defined.now)) name.now }
+    {
+        if let Some(kind) = self.kind_in_own(defined, name) {
+            return Some(kind);
+        }
+        match self {
+            Around::Program(outer) => outer.around.get(name).copied(),
+            Around::Block(names, around) => around.kind(names, name),
+        }
+    }
+}
+
+impl<'a> Scopes<'a> {
+    /// What a name is in the innermost scope.
+    fn kind_in_own(&self, name: &Text) -> Option<Kind>
+        ensures { result ≡ (scopes_in self.now).own name.now }
+    {
+        self.around.kind_in_own(&self.defined, name)
+    }
+
+    /// What a name is: one of an inner scope hides one of an outer scope.
+    fn kind(&self, name: &Text) -> Option<Kind>
+        ensures { result ≡ kind_in (scopes_in self.now) name.now }
+    {
+        self.around.kind(&self.defined, name)
+    }
+
+    /// The scopes where a block begins.
+    fn enter(&self) -> Scopes<'_>
+        ensures { scopes_in result ≡ entered (scopes_in self.now) }
+    {
+        Scopes {
+            alloc: self.alloc,
+            around: Around::Block(&self.defined, &self.around),
+            defined: BTreeMap::new(self.alloc),
+        }
+    }
+
+    /// Adds a name to the innermost scope, which must not have it.
+    fn add(&mut self, name: &Text, kind: Kind) -> Result<(), CheckFault>
+        ensures { Gives result (scopes_in self.new) (added (record { name = name.now; kind = kind }) (scopes_in self.old)) }
+    {
+        if self.kind_in_own(name).is_some() {
+            return Err(CheckFault::DuplicateName(name.share()?));
+        }
+        self.defined.insert(name.share()?, kind)?;
+        Ok(())
+    }
+}
+
+#[cycle(check)]
+fn check_all(trees: &[Expr], scopes: &mut Scopes) -> Result<(), CheckFault>
+    ensures { Gives result (scopes_in scopes.new) (checked_all (trees_of trees.now) (scopes_in scopes.old)) }
+{
+    for tree in trees {
+        check_expr(tree, scopes)?;
+    }
+    Ok(())
+}
+
+#[cycle(check)]
+fn check_expr(e: &Expr, scopes: &mut Scopes) -> Result<(), CheckFault>
+    ensures { Gives result (scopes_in scopes.new) (checked (tree_of e.now) (scopes_in scopes.old)) }
+{
+    match e {
+        Expr::Null | Expr::Bool(_) | Expr::Int(_) | Expr::Text(_) => Ok(()),
+        Expr::Noun(name) => check_noun(name, scopes),
+        Expr::Def(pattern, value) => check_def(pattern, value, scopes),
+        Expr::Var(name, value) => check_var(name, value, scopes),
+        Expr::Assign(name, value) => check_assign(name, value, scopes),
+        Expr::Call(receiver, _, args) => check_call(receiver, args, scopes),
+        Expr::List(items) => check_all(items, scopes),
+        Expr::Same(left, right) => check_same(left, right, scopes),
+        Expr::DefList(patterns, value) => check_def_list(patterns, value, scopes),
+        Expr::Hide(body) => check_block(body, scopes),
+        Expr::If(condition, first, second) => check_if(condition, first, second, scopes),
+        Expr::While(condition, body) => check_while(condition, body, scopes),
+        Expr::For(pattern, list, body) => check_for(pattern, list, body, scopes),
+        Expr::Try(body, pattern, handler) => check_try(body, pattern, handler, scopes),
+        Expr::Throw(problem) => check_expr(problem, scopes),
+        Expr::Object(pattern, methods) => check_object(pattern, methods, scopes),
+        Expr::Escape(name, body) => check_escape(name, body, scopes),
+    }
+}
+
+#[cycle(check)]
+fn check_def(pattern: &Pattern, value: &Expr, scopes: &mut Scopes) -> Result<(), CheckFault>
+    ensures { Gives result (scopes_in scopes.new) (checked (define pattern.now (tree_of value.now)) (scopes_in scopes.old)) }
+{
+    check_expr(value, scopes)?;
+    check_pattern(pattern, scopes)
+}
+
+#[cycle(check)]
+fn check_var(name: &Text, value: &Expr, scopes: &mut Scopes) -> Result<(), CheckFault>
+    ensures { Gives result (scopes_in scopes.new) (checked (variable name.now (tree_of value.now)) (scopes_in scopes.old)) }
+{
+    check_expr(value, scopes)?;
+    scopes.add(name, Kind::Variable)
+}
+
+#[cycle(check)]
+fn check_assign(name: &Text, right: &Expr, scopes: &mut Scopes) -> Result<(), CheckFault>
+    ensures { Gives result (scopes_in scopes.new) (checked (assign name.now (tree_of right.now)) (scopes_in scopes.old)) }
+{
+    check_expr(right, scopes)?;
+    check_assigned(name, scopes)
+}
+
+#[cycle(check)]
+fn check_def_list(patterns: &[Pattern], value: &Expr, scopes: &mut Scopes) -> Result<(), CheckFault>
+    ensures { Gives result (scopes_in scopes.new) (checked (define_list patterns.now (tree_of value.now)) (scopes_in scopes.old)) }
+{
+    check_expr(value, scopes)?;
+    check_patterns(patterns, scopes)
+}
+
+#[cycle(check)]
+fn check_call(receiver: &Expr, args: &[Expr], scopes: &mut Scopes) -> Result<(), CheckFault>
+    ensures { Gives result (scopes_in scopes.new) (in_turn (checked (tree_of receiver.now) (scopes_in scopes.old)) (checked_all (trees_of args.now))) }
+{
+    check_expr(receiver, scopes)?;
+    check_all(args, scopes)
+}
+
+#[cycle(check)]
+fn check_same(left: &Expr, right: &Expr, scopes: &mut Scopes) -> Result<(), CheckFault>
+    ensures { Gives result (scopes_in scopes.new) (checked (same_tree (tree_of left.now) (tree_of right.now)) (scopes_in scopes.old)) }
+{
+    check_expr(left, scopes)?;
+    check_expr(right, scopes)
+}
+
+#[cycle(check)]
+fn check_if(
+    condition: &Expr,
+    first: &[Expr],
+    second: &[Expr],
+    scopes: &mut Scopes,
+) -> Result<(), CheckFault>
+    ensures { Gives result (scopes_in scopes.new) (checked (if_tree (tree_of condition.now) (trees_of first.now) (trees_of second.now)) (scopes_in scopes.old)) }
+{
+    check_expr(condition, scopes)?;
+    check_block(first, scopes)?;
+    check_block(second, scopes)
+}
+
+#[cycle(check)]
+fn check_while(condition: &Expr, body: &[Expr], scopes: &mut Scopes) -> Result<(), CheckFault>
+    ensures { Gives result (scopes_in scopes.new) (checked (while_tree (tree_of condition.now) (trees_of body.now)) (scopes_in scopes.old)) }
+{
+    check_expr(condition, scopes)?;
+    check_block(body, scopes)
+}
+
+#[cycle(check)]
+fn check_for(
+    pattern: &Pattern,
+    list: &Expr,
+    body: &[Expr],
+    scopes: &mut Scopes,
+) -> Result<(), CheckFault>
+    ensures { Gives result (scopes_in scopes.new) (checked (for_tree pattern.now (tree_of list.now) (trees_of body.now)) (scopes_in scopes.old)) }
+{
+    check_expr(list, scopes)?;
+    check_bound_block(pattern, body, scopes)
+}
+
+#[cycle(check)]
+fn check_try(
+    body: &[Expr],
+    pattern: &Pattern,
+    handler: &[Expr],
+    scopes: &mut Scopes,
+) -> Result<(), CheckFault>
+    ensures { Gives result (scopes_in scopes.new) (checked (try_tree (trees_of body.now) pattern.now (trees_of handler.now)) (scopes_in scopes.old)) }
+{
+    check_block(body, scopes)?;
+    check_bound_block(pattern, handler, scopes)
+}
+
+#[cycle(check)]
+fn check_object(
+    pattern: &Pattern,
+    methods: &[Method],
+    scopes: &mut Scopes,
+) -> Result<(), CheckFault>
+    ensures { Gives result (scopes_in scopes.new) (checked (object_tree pattern.now (methods_of methods.now)) (scopes_in scopes.old)) }
+{
+    check_pattern(pattern, scopes)?;
+    check_methods(methods, scopes)
+}
+
+/// Checks the methods of an object, each in a scope of its own.
+#[cycle(check)]
+fn check_methods(methods: &[Method], scopes: &Scopes<'_>) -> Result<(), CheckFault>
+    ensures { Gives result (scopes_in scopes.now) (checked_methods [] (methods_of methods.now) (scopes_in scopes.now)) }
+{
+    let mut index = 0;
+    while index < methods.len() {
+        let method = &methods[index];
+        check_is_new(&methods[..index], method)?;
+        check_method(method, scopes)?;
+        index += 1;
+    }
+    Ok(())
+}
+
+/// Checks the block of a method in a scope of its own, which begins with the names of the parameters.
+#[cycle(check)]
+fn check_method(method: &Method, scopes: &Scopes<'_>) -> Result<(), CheckFault>
+    ensures { Gives result (scopes_in scopes.now) (in_block (checked_taking method.now.parameters.value.items (checked_all (trees_of method.now.body.value.items))) (scopes_in scopes.now)) }
+{
+    let mut inner = scopes.enter();
+    check_patterns(&method.parameters, &mut inner)?;
+    check_all(&method.body, &mut inner)
+}
+
+/// Checks a block in a scope of its own, which begins with the name of an ejector.
+#[cycle(check)]
+fn check_escape(name: &Text, body: &[Expr], scopes: &Scopes<'_>) -> Result<(), CheckFault>
+    ensures { Gives result (scopes_in scopes.now) (checked (escape_tree name.now (trees_of body.now)) (scopes_in scopes.now)) }
+{
+    let mut inner = scopes.enter();
+    inner.add(name, Kind::Definition)?;
+    check_all(body, &mut inner)
+}
+
+/// Checks a block in a scope of its own.
+#[cycle(check)]
+fn check_block(body: &[Expr], scopes: &Scopes<'_>) -> Result<(), CheckFault>
+    ensures { Gives result (scopes_in scopes.now) (in_block (checked_all (trees_of body.now)) (scopes_in scopes.now)) }
+{
+    check_all(body, &mut scopes.enter())
+}
+
+/// Checks a block in a scope of its own, which begins with the name of a pattern.
+#[cycle(check)]
+fn check_bound_block(
+    pattern: &Pattern,
+    body: &[Expr],
+    scopes: &Scopes<'_>,
+) -> Result<(), CheckFault>
+    ensures { Gives result (scopes_in scopes.now) (in_block (checked_with pattern.now (checked_all (trees_of body.now))) (scopes_in scopes.now)) }
+{
+    let mut inner = scopes.enter();
+    check_pattern(pattern, &mut inner)?;
+    check_all(body, &mut inner)
+}
+
+fn check_noun(name: &Text, scopes: &mut Scopes) -> Result<(), CheckFault>
+    ensures { Gives result (scopes_in scopes.new) (found name.now (scopes_in scopes.old)) }
+{
+    if scopes.kind(name).is_some() {
+        Ok(())
+    } else {
+        Err(CheckFault::Unbound(name.share()?))
+    }
+}
+
+fn check_assigned(name: &Text, scopes: &mut Scopes) -> Result<(), CheckFault>
+    ensures { Gives result (scopes_in scopes.new) (assigned name.now (scopes_in scopes.old)) }
+{
+    match scopes.kind(name) {
+        Some(Kind::Variable) => Ok(()),
+        Some(Kind::Definition) => Err(CheckFault::AssignToDef(name.share()?)),
+        None => Err(CheckFault::Unbound(name.share()?)),
+    }
+}
+
+/// Checks that no earlier method of the object is found by the verb and the number of arguments of this one.
+fn check_is_new(earlier: &[Method], method: &Method) -> Result<(), CheckFault>
+    ensures ok { OnOk result (has_signature (map signature_of earlier.now) (signature_of method.now) ≡ false) }
+    ensures refused { IfErr result (λ fault. MayRefuse fault (has_signature (map signature_of earlier.now) (signature_of method.now)) method.now.verb) }
+{
+    for other in earlier {
+        if is_found_as(other, method) {
+            return Err(CheckFault::DuplicateName(method.verb.share()?));
+        }
+    }
+    Ok(())
+}
+
+/// Whether two methods are found by the same verb and number of arguments.
+fn is_found_as(one: &Method, other: &Method) -> bool
+    ensures { result ≡ same_signature (signature_of one.now) (signature_of other.now) }
+{
+    one.verb == other.verb && one.parameters.len() == other.parameters.len()
+}
+
+fn check_patterns(patterns: &[Pattern], scopes: &mut Scopes) -> Result<(), CheckFault>
+    ensures { Gives result (scopes_in scopes.new) (all_bound patterns.now (scopes_in scopes.old)) }
+{
+    for pattern in patterns {
+        check_pattern(pattern, scopes)?;
+    }
+    Ok(())
+}
+
+fn check_pattern(pattern: &Pattern, scopes: &mut Scopes) -> Result<(), CheckFault>
+    ensures { Gives result (scopes_in scopes.new) (bound pattern.now (scopes_in scopes.old)) }
+{
+    match pattern {
+        Pattern::Name(name) => scopes.add(name, Kind::Definition),
+        Pattern::Ignore => Ok(()),
+    }
+}

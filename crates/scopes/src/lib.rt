@@ -1,0 +1,11 @@
+//! What a program may name: its own names, the check of its scopes, size and depth, and what objects capture.
+#![tactic(auto)]
+
+mod checking;
+mod count;
+mod free;
+mod naming;
+
+pub use checking::{CheckFault, Outer, check};
+pub use free::captured_names;
+pub use naming::{Kind, TopName, adds_own_names, top_names};
