@@ -1,7 +1,7 @@
 // What is no program, and where reading stops.
 
 use crate::answers::Asked;
-use crate::tables::{expect, repeated};
+use crate::tables::expect;
 use ereader::fault::ReadFault;
 use etoken::fault::TokenFault;
 use scopes::CheckFault;
@@ -154,7 +154,7 @@ fn refuses_too_many_brackets(rt: HostRuntime) -> Result<(), Fail> {
         (") { ", 101, "L5 Unexpected 0"),
         ("1;", 8193, "L8 TooLong"),
     ] {
-        let text = repeated(rt.alloc(), before, times)?;
+        let text = before.repeat(rt.alloc(), times)?;
         let text = format!(in rt.alloc(); "{text}1")?;
         expect(&rt, Asked::Spelling, &[(text.as_str(), wanted)])?;
     }
@@ -171,7 +171,7 @@ fn refuses_deep_programs(rt: HostRuntime) -> Result<(), Fail> {
         ("a == for b in ", "L5 Unexpected 4206"),
         ("a || for b in ", "L5 Unexpected 4206"),
     ] {
-        let text = repeated(rt.alloc(), part, 300)?;
+        let text = part.repeat(rt.alloc(), 300)?;
         let text = format!(in rt.alloc(); "{text}x {{ }} ")?;
         expect(&rt, Asked::Spelling, &[(text.as_str(), wanted)])?;
     }

@@ -1,7 +1,6 @@
 // What nests deepest, on a stack as large as that on which the program answers commands, and budgets at their ends.
 
 use crate::sessions::{expect, limits};
-use crate::tables::repeated;
 use std::process::Abort;
 use std::rt::Runtime;
 use std::test::Fail;
@@ -31,9 +30,9 @@ fn expect_on_its_stack(
 /// are read, and the trees are too deep.
 #[test]
 fn nests_without_brackets(rt: HostRuntime) -> Result<(), Fail> {
-    let loops = repeated(rt.alloc(), "for a in ", 3276)?;
-    let bodies = repeated(rt.alloc(), "{}", 3276)?;
-    let choices = repeated(rt.alloc(), "if (true) {} else ", 2300)?;
+    let loops = "for a in ".repeat(rt.alloc(), 3276)?;
+    let bodies = "{}".repeat(rt.alloc(), 3276)?;
+    let choices = "if (true) {} else ".repeat(rt.alloc(), 2300)?;
     let commands = format!(in rt.alloc();
         "vat a () 0\nask a {loops}[]{bodies}\nask a {loops}\nask a {choices}{{}}\n"
     )?;
@@ -67,7 +66,7 @@ fn the_deepest_level(rt: HostRuntime) -> Result<(), Fail> {
 /// A sum of 198 ones is 198 levels deep, so the call of it may stand at level 801.
 #[test]
 fn the_deepest_tree_at_the_deepest_level(rt: HostRuntime) -> Result<(), Fail> {
-    let sum = repeated(rt.alloc(), "1 + ", 197)?;
+    let sum = "1 + ".repeat(rt.alloc(), 197)?;
     let commands = format!(in rt.alloc();
         "vat a () 2\ndef g {{ method run() {{ {sum}1 }} }}\ndef f {{ method run(n) {{ if (n > 0) {{ f(n - 1) }} else {{ g() }} }} }}\nturn e1.m0\nask a f(399)\nturn e3.m0\nask a f(400)\nturn e5.m0\n"
     )?;

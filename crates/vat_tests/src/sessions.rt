@@ -1,6 +1,5 @@
 // Whole texts of commands with the replies that their authors are promised.
 
-use crate::tables::repeated;
 use std::process::Abort;
 use std::test::Fail;
 use stepper::{Limits, replies};
@@ -211,7 +210,7 @@ fn behind_copies(
     count: usize,
     rest: &str,
 ) -> Result<String, Fail> {
-    let mut out = repeated(rt.alloc(), text, count)?;
+    let mut out = text.repeat(rt.alloc(), count)?;
     out.push_str(rest)?;
     Ok(out)
 }
@@ -230,7 +229,7 @@ fn texts_at_their_limits(rt: HostRuntime) -> Result<(), Fail> {
 
 #[test]
 fn brackets_at_their_limit(rt: HostRuntime) -> Result<(), Fail> {
-    let closed = behind_copies(&rt, "1", 1, repeated(rt.alloc(), ")", 100)?.as_str())?;
+    let closed = behind_copies(&rt, "1", 1, ")".repeat(rt.alloc(), 100)?.as_str())?;
     let asked = behind_copies(&rt, "(", 100, closed.as_str())?;
     expect_turn(&rt, asked.as_str(), "value 1")
 }
@@ -250,9 +249,9 @@ fn texts_past_their_limits(rt: HostRuntime) -> Result<(), Fail> {
 
 #[test]
 fn lines_at_their_limits(rt: HostRuntime) -> Result<(), Fail> {
-    let endless = repeated(rt.alloc(), "x", 70_000)?;
+    let endless = "x".repeat(rt.alloc(), 70_000)?;
     expect(&rt, 10_000, endless.as_bytes(), "no S3 LineTooLong\n", true);
-    let longest = repeated(rt.alloc(), "x", 65_536)?;
+    let longest = "x".repeat(rt.alloc(), 65_536)?;
     expect(
         &rt,
         10_000,
@@ -260,7 +259,7 @@ fn lines_at_their_limits(rt: HostRuntime) -> Result<(), Fail> {
         "no S1 UnknownCommand\n",
         true,
     );
-    let half = repeated(rt.alloc(), " ", 32_768)?;
+    let half = " ".repeat(rt.alloc(), 32_768)?;
     let script = format!(in rt.alloc(); "vat a () 2\n{half}\n{half}\nshow\n")?;
     expect(&rt, 10_000, script.as_bytes(), "no L8 TooLong\n", true);
     expect(&rt, 10_000, b"ask a \xff\nshow", "no S2 BadWord\n", true);

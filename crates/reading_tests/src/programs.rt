@@ -1,7 +1,7 @@
 // What programs are read as: the canonical spelling of the tree.
 
 use crate::answers::Asked;
-use crate::tables::{expect, repeated};
+use crate::tables::expect;
 use std::test::Fail;
 
 #[test]
@@ -232,8 +232,8 @@ fn reads_given_tokens(rt: HostRuntime) -> Result<(), Fail> {
 
 #[test]
 fn reads_long_programs(rt: HostRuntime) -> Result<(), Fail> {
-    let text = repeated(rt.alloc(), "1 + 2 ; f ( x ) . y ( ) ; ", 1200)?;
-    let wanted = repeated(rt.alloc(), "1.add(2); f.run(x).y(); ", 1200)?;
+    let text = "1 + 2 ; f ( x ) . y ( ) ; ".repeat(rt.alloc(), 1200)?;
+    let wanted = "1.add(2); f.run(x).y(); ".repeat(rt.alloc(), 1200)?;
     let text = format!(in rt.alloc(); "{text}3")?;
     let wanted = format!(in rt.alloc(); "{wanted}3")?;
     expect(&rt, Asked::Spelling, &[(text.as_str(), wanted.as_str())])
@@ -242,8 +242,8 @@ fn reads_long_programs(rt: HostRuntime) -> Result<(), Fail> {
 /// No bracket is open where one `for` stands in the list of another; the program reads the deepest of them.
 #[test]
 fn reads_deep_programs(rt: HostRuntime) -> Result<(), Fail> {
-    let lists = repeated(rt.alloc(), "for a in ", 500)?;
-    let bodies = repeated(rt.alloc(), " { }", 500)?;
+    let lists = "for a in ".repeat(rt.alloc(), 500)?;
+    let bodies = " { }".repeat(rt.alloc(), 500)?;
     let text = format!(in rt.alloc(); "{lists}x{bodies}")?;
     expect(&rt, Asked::Spelling, &[(text.as_str(), text.as_str())])
 }

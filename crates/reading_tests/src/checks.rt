@@ -1,7 +1,7 @@
 // What the check says of a program, the names that it defines, and what an object captures.
 
 use crate::answers::Asked;
-use crate::tables::{expect, repeated};
+use crate::tables::expect;
 use std::test::Fail;
 
 #[test]
@@ -41,7 +41,7 @@ fn scripts(rt: HostRuntime) -> Result<(), Fail> {
 #[test]
 fn depths(rt: HostRuntime) -> Result<(), Fail> {
     for (count, wanted) in [(199, "fits"), (200, "K4 TooDeep"), (2_000, "K4 TooDeep")] {
-        let sums = repeated(rt.alloc(), "1+", count)?;
+        let sums = "1+".repeat(rt.alloc(), count)?;
         let text = format!(in rt.alloc(); "{sums}1")?;
         expect(&rt, Asked::CheckAsked, &[(text.as_str(), wanted)])?;
     }
@@ -52,7 +52,7 @@ fn depths(rt: HostRuntime) -> Result<(), Fail> {
 #[test]
 fn lengths(rt: HostRuntime) -> Result<(), Fail> {
     for (count, rest, wanted) in [(4_095, "1!=1", "fits"), (4_095, "1!=!1", "K5 TooLong")] {
-        let items = repeated(rt.alloc(), "1!=1;", count)?;
+        let items = "1!=1;".repeat(rt.alloc(), count)?;
         let text = format!(in rt.alloc(); "{items}{rest}")?;
         expect(&rt, Asked::CheckAsked, &[(text.as_str(), wanted)])?;
     }

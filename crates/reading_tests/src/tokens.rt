@@ -1,7 +1,7 @@
 // What tokens a text has: each behind its offset.
 
 use crate::answers::Asked;
-use crate::tables::{expect, repeated};
+use crate::tables::expect;
 use std::test::Fail;
 
 #[test]
@@ -116,7 +116,7 @@ fn limits(rt: HostRuntime) -> Result<(), Fail> {
         // A bad token in the place of the first token too many answers its own fault.
         ("a ", 16_384, "\n&", "L1 BadCharacter 32769"),
     ] {
-        let text = repeated(rt.alloc(), part, times)?;
+        let text = part.repeat(rt.alloc(), times)?;
         let text = format!(in rt.alloc(); "{text}{end}")?;
         expect(&rt, Asked::Tokens, &[(text.as_str(), wanted)])?;
     }

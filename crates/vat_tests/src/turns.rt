@@ -1,12 +1,12 @@
 // Turns: what a text gives that is asked of a vat.
 
-use crate::tables::expect_turns;
 use ereader::read;
 use heap::state::{Binding, VatState};
 use ids::names::{EventName, MsgId, VatNo};
 use ids::text::Text;
 use kernele::tree::Program;
 use std::alloc::{AllocError, Global};
+use std::process::Abort;
 use std::test::Fail;
 use turn::delivery::{Delivery, Ended, Outcome};
 use turn::ticket::{Out, Ticket};
@@ -17,12 +17,12 @@ const ALICE: VatNo = VatNo(EventName(1));
 
 /// A vat whose opening turn is over.
 #[derive(Drop)]
-pub struct Opened {
+struct Opened {
     state: VatState,
 }
 
-/// What is read of a text, or an empty program.
-fn program(alloc: Global, text: &str) -> Result<Program, AllocError> {
+/// The program that a text spells.
+pub fn program(alloc: Global, text: &str) -> Result<Program, AllocError> {
     match read(alloc, text) {
         Ok(program) => Ok(program),
         Err(_) => Err(AllocError),
@@ -62,7 +62,7 @@ fn after_script(alloc: Global, script: &str) -> Result<Opened, AllocError> {
 }
 
 /// The value that a text gives, or `!` and its problem.
-pub fn shown(alloc: Global, opened: &Opened, text: &str) -> Result<String, AllocError> {
+fn shown(alloc: Global, opened: &Opened, text: &str) -> Result<String, AllocError> {
     let delivery = Delivery::Asked(program(alloc, text)?);
     let outcome = run(opened.state.try_copy()?, 4, delivery.share()?)?;
     match &outcome.ended {
@@ -70,6 +70,19 @@ pub fn shown(alloc: Global, opened: &Opened, text: &str) -> Result<String, Alloc
         Ended::Problem(problem) => format!(in alloc; "!{problem}"),
         Ended::Abandoned(why) => String::from_str(alloc, why.reason()),
     }
+}
+
+/// Compares what each text gives with what stands beside it, where it is asked of a vat that was opened so.
+fn expect_turns(
+    rt: &(impl Abort + AllocGlobal),
+    opened: &Opened,
+    rows: &[(&str, &str)],
+) -> Result<(), Fail> {
+    for (text, wanted) in rows {
+        let answered = shown(rt.alloc(), opened, text)?;
+        assert_eq!(rt; answered.as_str(), *wanted, "at {text}");
+    }
+    Ok(())
 }
 
 #[test]

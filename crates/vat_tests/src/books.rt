@@ -1,12 +1,11 @@
 // Calls of a book, one after the other.
 
+use crate::turns::program;
 use book::book::Book;
 use book::fault::BookFault;
-use journal::entry::{Entry, Mark};
-use ereader::read;
 use ids::names::{EventName, MsgId};
 use ids::text::Text;
-use kernele::tree::Program;
+use journal::entry::{Entry, Mark};
 use std::alloc::{AllocError, Global};
 use std::process::Abort;
 use std::test::Fail;
@@ -25,13 +24,6 @@ pub enum Call<'a> {
     Cone(u64),
     /// The causes of the journal's last entry, and whether it is live.
     Last,
-}
-
-fn program(alloc: Global, text: &str) -> Result<Program, AllocError> {
-    match read(alloc, text) {
-        Ok(program) => Ok(program),
-        Err(_) => Err(AllocError),
-    }
 }
 
 fn events(alloc: Global, names: &[EventName]) -> Result<String, AllocError> {

@@ -1,0 +1,19 @@
+//! What vats, books and commands answer where memory is ample: tables of texts, calls and commands, each with the answer that is wanted.
+#![tactic(auto)]
+
+#[cfg(test)]
+mod books;
+#[cfg(test)]
+mod control;
+#[cfg(test)]
+mod depth;
+#[cfg(test)]
+mod objects;
+#[cfg(test)]
+mod scopes;
+#[cfg(test)]
+mod sessions;
+#[cfg(test)]
+mod steps;
+#[cfg(test)]
+mod turns;
