@@ -12,7 +12,8 @@ use Rattle.ids.specs.declared.names.EventName.{EventName}
 use Rattle.world.specs.World.{World, empty}
 use Rattle.world.specs.Events.{events}
 use Rattle.journal.specs.Journal.{Line, among, chosen, undone_in, redone_in, live_events, rest_of, Closed}
-use Rattle.book.specs.Refusals.{undo_refusal, redo_refusal, same_set}
+use Rattle.causality.specs.Selections.{same_set}
+use Rattle.book.specs.Refusals.{undo_refusal, redo_refusal}
 use Rattle.book.specs.Books.{Book, PlainRun, line_of, Kept, Stands}
 use Rattle.book.specs.Calls.{Undoes, Redoes, now_redoable, still_redoable}
 use Rattle.journal.proofs.Lists.{first_true, second_true}

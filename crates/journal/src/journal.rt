@@ -2,7 +2,6 @@
 ghost use Rattle.std.specs.Prelude.{◌≡◌, ◌++◌, ◌∷◌, List, [], true, IfOk, OnOk, OnErr};
 ghost use Rattle.journal.specs.EntryView.{lines_of};
 ghost use Rattle.journal.specs.Journal.{causes_in, undone_in, redone_in};
-ghost use Rattle.journal.specs.JournalView.{entries_of};
 ghost use Rattle.journal.specs.WritersView.{Indexed};
 ghost use Rattle.world.specs.EventView.{event_of};
 
@@ -23,6 +22,8 @@ pub struct Journal {
 }
 
 impl Journal {
+    ghost use Rattle.journal.specs.JournalView.{entries_of};
+
     /// No event has been entered.
     pub fn new(alloc: Global) -> Journal
         ensures { lines_of (entries_of result) ≡ [] }

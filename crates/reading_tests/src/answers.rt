@@ -6,8 +6,8 @@ use etoken::fault::TokenFault;
 use etoken::token::{Placed, Token};
 use etoken::tokens::tokens;
 use ids::text::Text;
-use kernele::tree::{Expr, Program};
 use kernele::print;
+use kernele::tree::{Expr, Program};
 use scopes::{CheckFault, Kind, Outer, captured_names, check, top_names};
 use std::alloc::{AllocError, Global};
 

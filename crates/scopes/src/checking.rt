@@ -8,8 +8,8 @@ ghost use Rattle.scopes.specs.declared.checking.CheckFault.TheVariants.{Memory};
 
 use crate::count::{are_within_depth, nodes_left_by_all};
 use crate::naming::{Kind, TopName};
-use kernele::tree::{Expr, Method, Pattern, Program};
 use ids::text::Text;
+use kernele::tree::{Expr, Method, Pattern, Program};
 use std::alloc::{AllocError, AllocFailed, Global};
 use std::collections::BTreeMap;
 use std::error::Error;

@@ -7,8 +7,8 @@ ghost use Rattle.scopes.specs.Free.{captures, free, free_in, free_of, occurring,
 ghost use Rattle.scopes.specs.Found.{with_all_new};
 
 use crate::naming::{Kind, TopName, add_all_bound, add_bound, add_name, add_names};
-use kernele::tree::{Expr, Method, Pattern};
 use ids::text::Text;
+use kernele::tree::{Expr, Method, Pattern};
 use std::alloc::{AllocError, Global};
 
 /// The names that an object with these methods captures, each once, in the order in which they first occur in its text.

@@ -3,8 +3,8 @@ ghost use Rattle.std.specs.Prelude.{◌≡◌, [], ◌∷◌, ◌++◌, IfOk, On
 ghost use Rattle.kernele.specs.View.{tree_of, trees_of, program_of};
 ghost use Rattle.scopes.specs.Scope.{own_names, own_names_in, name_of, names_of_all, AddsOwnNames};
 
-use kernele::tree::{Expr, Pattern, Program};
 use ids::text::Text;
+use kernele::tree::{Expr, Pattern, Program};
 use std::alloc::{AllocError, Global};
 
 /// What a name in scope is.

@@ -4,8 +4,8 @@ ghost use Rattle.world.specs.EventView.{act_of};
 ghost use Rattle.journal.specs.EntryView.{is_live, line_of, lines_of};
 ghost use Rattle.stepper.specs.Listing.{act_text, mark_text, names_text, entry_line, journal_text, cone_text};
 
-use journal::entry::{Entry, Mark};
 use ids::names::EventName;
+use journal::entry::{Entry, Mark};
 use std::alloc::AllocError;
 use world::event::Action;
 
