@@ -1,21 +1,21 @@
 -- Leaves, calls on them, and assignments of these.
-use Rattle.std.proofs.Common.{arith, ◌≡◌, ℕ, ◌+◌, ◌-◌, ◌<◌, ◌≤◌, ℤ, List, [], ◌∷◌, Some, refl, sym, ap, ◌∙◌, subst}
+use Rattle.std.proofs.Common.{arith, ◌≡◌, ℕ, ◌+◌, ◌-◌, ◌<◌, ◌≤◌, ℤ, List, [], ◌∷◌, length, get_or, Some, refl, sym, ap, ◌∙◌, subst}
 use Rattle.ids.specs.declared.names.SlotId.{SlotId}
 use Rattle.kernele.specs.Tree.{Name, Tree, Trees, int_tree, noun, call, assign, none, and_then}
 use Rattle.code.specs.Frames.{after, fits_all, place_in}
 use Rattle.code.specs.View.{tree_of_code, trees_of_codes}
 use Rattle.code.specs.declared.code.Code.{Code}
 use Rattle.code.specs.declared.code.Place.{Place}
-use Rattle.values.specs.Data.{Val, int, no_vals, and_val, gives}
+use Rattle.values.specs.Data.{Val, int, null, no_vals, and_val, gives}
 use Rattle.values.specs.Replies.{data_reply}
 use Rattle.heap.specs.State.{frame_of, slot_cell, held, write}
 use Rattle.erules.specs.At.{At}
 use Rattle.erules.specs.Fits.{all_fit_at, fits_at, frame_at, frame_behind}
-use Rattle.erules.specs.Leaves.{Leaf, Operands, AtHand}
+use Rattle.erules.specs.Leaves.{Leaf, Operands, AtHand, GoesOn}
 use Rattle.erules.specs.Outcomes.{End, value, reply_end}
 use Rattle.erules.specs.Rules as rules
 use Rattle.erules.specs.Rules.{assigned, assigned_end, noun_end, sought, sought_slot, begun, Ends, at_node, Runs, run_int, run_noun, run_assign, run_call_gives, args_none, args_next}
-use Rattle.erules.proofs.Steps.{runs_as, runs_to}
+use Rattle.erules.proofs.Steps.{runs_as, runs_to, items_more}
 use Rattle.erules.proofs.Fitting.{all_fit_then, placed_then}
 
 -- an integer and a noun that has a value are leaves
@@ -101,3 +101,11 @@ set_at_hand a e c d {x = x} {k = k} {y = y} {z = z} {i = i} is same at_hand f en
     (runs_to (run_assign (right (k + 1) (a.left - 1) (omega (arith, deep)) (omega (arith, enough))))
     (sym (ap (assigned_end x (value (int y))) there))
     (ap (λ n. record a { state = write a.state (slot_cell i) (held (int y)); left = n }) (fourth a.left) ∙ sym (ap (λ j. assigned (value (int y)) j b) there))))
+
+-- no item is done yet
+pub none_done : {k : ℕ} (items : List Code) (a : At) → GoesOn k items 0 a a
+none_done items a = (null, λ o c h. h)
+
+-- one more item gave a value
+pub setting_done : {k : ℕ} (items : List Code) {i : ℕ} {x : Code} {a b c : At} {v : Val} → i < length items → x ≡ get_or items i x → Ends k (tree_of_code x) b (value v) c → GoesOn k items i a b → GoesOn k items (i + 1) a c
+setting_done items {v = v} h e ended goes = (v, λ o d rest. goes.1 o d (items_more items h e ended rest))

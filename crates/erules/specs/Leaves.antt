@@ -1,10 +1,12 @@
 -- What is evaluated without an end: leaves, and calls on them.
-use Rattle.std.specs.Prelude.{◌≡◌, ◌≤◌, ◌<◌, ◌-◌, ℕ, ℤ}
+use Rattle.std.specs.Prelude.{◌≡◌, ◌≤◌, ◌<◌, ◌-◌, ℕ, ℤ, List, drop}
 use Rattle.kernele.specs.Tree.{Tree, Trees, none, and_then}
-use Rattle.values.specs.Data.{Val, int}
+use Rattle.code.specs.View.{trees_of_codes}
+use Rattle.code.specs.declared.code.Code.{Code}
+use Rattle.values.specs.Data.{Val, int, null}
 use Rattle.erules.specs.At.{At}
-use Rattle.erules.specs.Outcomes.{value}
-use Rattle.erules.specs.Rules.{Ends, Runs}
+use Rattle.erules.specs.Outcomes.{End, value}
+use Rattle.erules.specs.Rules.{Ends, Items, Runs}
 
 -- a tree gives this value at every level and with any steps left, and changes nothing
 abbrev pub Leaf : At → Tree → Val → Type 0
@@ -17,3 +19,7 @@ Operands a receiver args x y = Leaf a receiver (int x) × (arg : Tree) × (args 
 -- a tree gives this value above the deepest level where so many steps are left; it takes these, and changes nothing else
 abbrev pub AtHand : At → Tree → ℕ → Val → Type 0
 AtHand a t steps v = (k n : ℕ) → k < 1000 → steps ≤ n → Ends k t (record a { left = n }) (value v) (record a { left = n - steps })
+
+-- the first n items of a block gave values: what those behind them do, after the last of these values, is what all do
+abbrev pub GoesOn : ℕ → List Code → ℕ → At → At → Type 0
+GoesOn k items n a b = (v : Val) × ((o : End) (c : At) → Items k v (trees_of_codes (drop n items)) b o c → Items k null (trees_of_codes items) a o c)

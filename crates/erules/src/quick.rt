@@ -1,5 +1,5 @@
 // What integers at hand, in literals and nouns, make possible without an end: they share, make and leave nothing.
-ghost use Rattle.std.specs.Prelude.{◌≡◌, ◌≤◌, ◌-◌, IfOk, IfSome};
+ghost use Rattle.std.specs.Prelude.{◌≡◌, ◌≤◌, ◌-◌, IfOk, IfSome, drop, length};
 ghost use Rattle.kernele.specs.Tree.{call};
 ghost use Rattle.code.specs.View.{tree_of_code, trees_of_codes};
 ghost use Rattle.code.specs.Frames.{fits_all, place_in};
@@ -7,8 +7,8 @@ ghost use Rattle.values.specs.Data.{bool, int};
 ghost use Rattle.values.specs.View.{val_of};
 ghost use Rattle.heap.specs.Drafts.{draft_of};
 ghost use Rattle.heap.specs.State.{held, slot_cell, write};
-ghost use Rattle.erules.specs.Fits.{fits_at, frame_at, frame_behind};
-ghost use Rattle.erules.specs.Leaves.{AtHand, Leaf, Operands};
+ghost use Rattle.erules.specs.Fits.{all_fit_at, fits_at, frame_at, frame_behind};
+ghost use Rattle.erules.specs.Leaves.{AtHand, GoesOn, Leaf, Operands};
 ghost use Rattle.erules.specs.Outcomes.{value as value_end};
 ghost use Rattle.erules.specs.Rules.{Ends, Runs, noun_end, sought};
 ghost use Rattle.erules.specs.View.{at};
@@ -96,6 +96,24 @@ pub fn set(w: &mut Working, setting: Setting) -> Result<Value, AllocError>
         .write_slot(setting.slot, Value::Int(setting.integer))?;
     w.steps -= 4;
     Ok(Value::Int(setting.integer))
+}
+
+/// Runs the items at the head of a block that assign what integers at hand give. Answers how many they are.
+pub fn run_settings(w: &mut Working, items: &[Code], level: u32) -> Result<usize, AllocError>
+    requires { all_fit_at (at w.old) items.now }
+    ensures within { IfOk result (λ n. n ≤ length items.now) }
+    ensures runs { IfOk result (λ n. GoesOn level items.now n (at w.old) (at w.new)) }
+    ensures fits { IfOk result (λ n. all_fit_at (at w.new) (drop n items.now)) }
+{
+    let mut done = 0;
+    for item in items {
+        let Some(setting) = quick_setting(w, item, level) else {
+            return Ok(done);
+        };
+        set(w, setting)?;
+        done += 1;
+    }
+    Ok(done)
 }
 
 /// What a call on integers at hand says, if it says whether something holds.

@@ -2,20 +2,21 @@
 ghost use Rattle.std.specs.Prelude.{◌≡◌, ◌≤◌, ◌++◌, false, IfOk};
 ghost use Rattle.kernele.specs.Tree.{hide, if_tree, while_tree, for_tree, try_tree};
 ghost use Rattle.code.specs.Frames.{fits_all, only_names};
-ghost use Rattle.erules.specs.Fits.{fits_at, frame_at, frame_behind};
+ghost use Rattle.erules.specs.Fits.{all_fit_at, fits_at, frame_at, frame_behind};
 ghost use Rattle.scopes.specs.Scope.{name_of};
 ghost use Rattle.code.specs.View.{tree_of_code, trees_of_codes};
 ghost use Rattle.values.specs.View.{val_of, vals_of};
 ghost use Rattle.erules.specs.Outcomes.{End as Ending};
 ghost use Rattle.erules.specs.Rules.{Ends, Runs, Block, Taking, Each, choice_of};
 ghost use Rattle.erules.specs.View.{at, choice_view, end_of};
+ghost use Rattle.eval.specs.Halting.{BlockHalts, ItemsHalt};
 
 use crate::eval::{eval, eval_items};
 use code::code::Code;
 use erules::blocks::{enter, leave};
-use erules::end::End;
+use erules::end::{End, Halt};
 use erules::nouns::match_pattern;
-use erules::quick::quick_truth;
+use erules::quick::{quick_truth, run_settings};
 use erules::wanted::{Choosing, Listing, caught, choose, halt_in, items_of};
 use erules::working::Working;
 use kernele::tree::Pattern;
@@ -88,8 +89,7 @@ pub(crate) fn eval_while(
                 }
             }
         }
-        let ended = eval_block(w, body, level + 1)?;
-        if let Some(halt) = halt_in(ended) {
+        if let Some(halt) = run_block(w, body, level + 1)? {
             return Ok(End::Halt(halt));
         }
         // Names that the condition defined are not in scope at its next time.
@@ -175,6 +175,37 @@ fn eval_any_condition(w: &mut Working, condition: &Code, level: u32) -> Result<C
 {
     let tested = eval(w, condition, level)?;
     choose(w.alloc, tested)
+}
+
+/// Evaluates a block whose value nobody wants, in a scope of its own. Assignments of integers at hand at its head need
+/// no end.
+#[cycle(evaluate)]
+#[inline(always)]
+fn run_block(w: &mut Working, items: &[Code], level: u32) -> Result<Option<Halt>, AllocError>
+    requires level { level ≤ 1001 }
+    requires fits { fits_all false (frame_at (at w.old)) items.now }
+    ensures { IfOk result (λ h. BlockHalts level (trees_of_codes items.now) (at w.old) h (at w.new)) }
+{
+    let outer = enter(w);
+    let done = run_settings(w, items, level)?;
+    let halt = run_items(w, &items[done..], level)?;
+    leave(w, outer);
+    Ok(halt)
+}
+
+/// Evaluates items whose value nobody wants, if there are any.
+#[cycle(evaluate)]
+#[inline(always)]
+fn run_items(w: &mut Working, items: &[Code], level: u32) -> Result<Option<Halt>, AllocError>
+    requires level { level ≤ 1001 }
+    requires fits { all_fit_at (at w.old) items.now }
+    ensures { IfOk result (λ h. ItemsHalt level (trees_of_codes items.now) (at w.old) h (at w.new)) }
+{
+    if items.is_empty() {
+        return Ok(None);
+    }
+    let ended = eval_items(w, items, level)?;
+    Ok(halt_in(ended))
 }
 
 /// Evaluates a block, in a scope of its own.

@@ -9,6 +9,7 @@ use Rattle.erules.specs.Outcomes.{halted, value}
 use Rattle.erules.specs.View.{at, end_of, halt_of, choice_view, listing_view, target_view}
 use Rattle.erules.specs.Rules.{at_budget, at_depth, run_null, run_bool, run_int, run_text, run_noun, run_define, run_variable, run_assign, run_call_receiver, run_call_gives, run_list, run_same_left, run_same, goes, run_define_list, run_hide, run_throw, run_if_goes, run_if_ends, run_while_again, run_while_halts, run_while_done, run_while_ends, run_for, run_for_ends, run_try, run_try_caught, run_object, args_halt}
 use Rattle.erules.proofs.Steps.{node, child, tested, children, slice_of, if_both, runs_as, runs_to, ends_to, parts_run, args_begin, args_pushed, args_more, args_no_more, args_end, args_done, args_as, only_one, one_arg, items_more, items_no_more, items_end, blocks, block_ending, taking, taking_ending, each, block_end, taking_end, each_more, each_no_more, each_end, next_round}
+use Rattle.eval.proofs.Halted.{none_halt, items_halted, both_halt, block_halts, halting}
 use Rattle.eval.proofs.Entered.{call_leads, leads_as, entered, call_entered, escape_over}
 use Rattle.erules.proofs.Scopes.{truncated, truncated-length}
 use Rattle.erules.proofs.Added.{goes_add, block_stays, taking_stays}
@@ -191,19 +192,31 @@ pub control::eval_while-returns-then-not-truth : goal.control::eval_while-return
 control::eval_while-returns-then-not-truth t c = c.rounds.invariant.0 _ _ (run_while_done (tested c.deref.ensures c.in_ok-choice.ensures.1) (c.in_ok-choice.ensures.2 ∙ ap choice_view c.in-Goes.is ∙ ap goes c.if-not-truth.true))
 
 pub control::eval_while-returns-in-Some : goal.control::eval_while-returns-in-Some
-control::eval_while-returns-in-Some t c = c.rounds.invariant.0 _ _ (run_while_halts (tested c.deref.ensures c.in_ok-choice.ensures.1) (c.in_ok-choice.ensures.2 ∙ ap choice_view c.in-Goes.is ∙ ap goes c.if-not-truth.false) (block_ending (slice_of c.deref-in-rounds-2.ensures.value c.deref-in-rounds.ensures) c.in-Some.ensures c.in_ok-ended.ensures))
+control::eval_while-returns-in-Some t c = c.rounds.invariant.0 _ _ (run_while_halts (tested c.deref.ensures c.in_ok-choice.ensures.1) (c.in_ok-choice.ensures.2 ∙ ap choice_view c.in-Goes.is ∙ ap goes c.if-not-truth.false) (halting (slice_of c.deref-in-rounds-2.ensures.value c.deref-in-rounds.ensures) c.in-Some.is c.in_ok-run_block.ensures))
 
 pub control::eval_while-rounds-preserved : goal.control::eval_while-rounds-preserved
 control::eval_while-rounds-preserved t c =
-    let g = round_grow c.in_ok-choice.ensures.1 c.in_ok-ended.ensures in (
-      λ o b h. c.rounds.invariant.0 _ _ (run_while_again (tested c.deref.ensures c.in_ok-choice.ensures.1) (c.in_ok-choice.ensures.2 ∙ ap choice_view c.in-Goes.is ∙ ap goes c.if-not-truth.false) (block_ending (slice_of c.deref-in-rounds-2.ensures.value c.deref-in-rounds.ensures) c.in_default.ensures.1 c.in_ok-ended.ensures) (next_round c.rounds.w c.eval_block.new.w c.rounds.invariant.1 g c.truncate.ensures.items h)),
-      truncated-length c.rounds.w.nouns.items c.eval_block.new.w.nouns.items c.len-names.result c.rounds.invariant.1 g ∙ ap length (sym c.truncate.ensures.items),
-      round_fits (at c.rounds.w) (record (at c.eval_block.new.w) { nouns = locals_of c.truncate.new.self.items }) c.args.condition.now.value c.args.body.now.value.items (ap locals_of c.truncate.ensures.items ∙ truncated c.rounds.w.nouns.items c.eval_block.new.w.nouns.items c.len-names.result c.rounds.invariant.1 g)
-          ((block_stays c.in_ok-ended.ensures).1 ∙ (goes_add c.in_ok-choice.ensures.1 (c.in_ok-choice.ensures.2 ∙ ap choice_view c.in-Goes.is)).1) c.rounds.invariant.2,
+    let ended = halting (slice_of c.deref-in-rounds-2.ensures.value c.deref-in-rounds.ensures) c.in_default.is c.in_ok-run_block.ensures in
+    let g = round_grow c.in_ok-choice.ensures.1 ended.1 in (
+      λ o b h. c.rounds.invariant.0 _ _ (run_while_again (tested c.deref.ensures c.in_ok-choice.ensures.1) (c.in_ok-choice.ensures.2 ∙ ap choice_view c.in-Goes.is ∙ ap goes c.if-not-truth.false) ended.1 (next_round c.rounds.w c.run_block.new.w c.rounds.invariant.1 g c.truncate.ensures.items h)),
+      truncated-length c.rounds.w.nouns.items c.run_block.new.w.nouns.items c.len-names.result c.rounds.invariant.1 g ∙ ap length (sym c.truncate.ensures.items),
+      round_fits (at c.rounds.w) (record (at c.run_block.new.w) { nouns = locals_of c.truncate.new.self.items }) c.args.condition.now.value c.args.body.now.value.items (ap locals_of c.truncate.ensures.items ∙ truncated c.rounds.w.nouns.items c.run_block.new.w.nouns.items c.len-names.result c.rounds.invariant.1 g)
+          ((block_stays ended.1).1 ∙ (goes_add c.in_ok-choice.ensures.1 (c.in_ok-choice.ensures.2 ∙ ap choice_view c.in-Goes.is)).1) c.rounds.invariant.2,
     )
 
 pub control::eval_while-rounds-smaller : goal.control::eval_while-rounds-smaller
-control::eval_while-rounds-smaller t c = omega (arith, condition_less c.in_ok-choice.ensures.1 (c.in_ok-choice.ensures.2 ∙ ap choice_view c.in-Goes.is ∙ ap goes c.if-not-truth.false), block_left c.in_ok-ended.ensures)
+control::eval_while-rounds-smaller t c =
+    let ended = halting (slice_of c.deref-in-rounds-2.ensures.value c.deref-in-rounds.ensures) c.in_default.is c.in_ok-run_block.ensures in
+    omega (arith, condition_less c.in_ok-choice.ensures.1 (c.in_ok-choice.ensures.2 ∙ ap choice_view c.in-Goes.is ∙ ap goes c.if-not-truth.false), block_left ended.1)
+
+pub control::run_block-returns : goal.control::run_block-returns
+control::run_block-returns t c = block_halts c.in_ok-halt.halt c.args.w.now c.run_items.new.w c.enter-outer.ensures.names c.enter-outer.ensures.own c.enter-outer.ensures.place (both_halt c.args.items.now c.in_ok-halt.halt c.slice.ensures c.in_ok-done.ensures.runs c.in_ok-halt.ensures) c.leave.ensures
+
+pub control::run_items-returns-then-is_empty : goal.control::run_items-returns-then-is_empty
+control::run_items-returns-then-is_empty t c = none_halt c.args.items.now (search rules)
+
+pub control::run_items-returns : goal.control::run_items-returns
+control::run_items-returns t c = items_halted c.halt_in.result c.in_ok-ended.ensures c.halt_in.ensures
 
 pub control::eval_for-returns-in-Ends : goal.control::eval_for-returns-in-Ends
 control::eval_for-returns-in-Ends t c = run_for_ends (child c.deref.ensures refl c.in_ok-ended.ensures) (sym c.in_ok-gone_over.ensures ∙ ap listing_view c.in-Ends.is)
@@ -256,8 +269,8 @@ control::eval_if-eval_block-requires-else-truth t c = (search rules, (search rul
 pub control::eval_while-eval_condition-requires : goal.control::eval_while-eval_condition-requires
 control::eval_while-eval_condition-requires t c = (search rules, (search rules, subst (fits_at (at c.rounds.w)) (sym c.deref.ensures) c.rounds.invariant.2.0))
 
-pub control::eval_while-eval_block-requires : goal.control::eval_while-eval_block-requires
-control::eval_while-eval_block-requires t c = (search rules, (search rules, chosen_fits (slice_of c.deref-in-rounds-2.ensures.value c.deref-in-rounds.ensures) (tested c.deref.ensures c.in_ok-choice.ensures.1) (c.in_ok-choice.ensures.2 ∙ ap choice_view c.in-Goes.is) c.rounds.invariant.2.1))
+pub control::eval_while-run_block-requires : goal.control::eval_while-run_block-requires
+control::eval_while-run_block-requires t c = (search rules, (search rules, chosen_fits (slice_of c.deref-in-rounds-2.ensures.value c.deref-in-rounds.ensures) (tested c.deref.ensures c.in_ok-choice.ensures.1) (c.in_ok-choice.ensures.2 ∙ ap choice_view c.in-Goes.is) c.rounds.invariant.2.1))
 
 pub eval::eval-eval_call-requires : goal.eval::eval-eval_call-requires
 eval::eval-eval_call-requires t c = (search rules, (search rules, parts_fit (at c.args.w.now) c.in-Call.is (fits-Call c.args.w.now.own_scope (frame_of (at c.args.w.now).nouns) c.in-Call.receiver c.in-Call.verb c.in-Call.args) c.requires.fits))

@@ -32,6 +32,12 @@ decreases-control::eval_condition l = 6 * (1001 - l.level) + 2
 abbrev pub decreases-control::eval_any_condition : goal.decreases-control::eval_any_condition
 decreases-control::eval_any_condition l = 6 * (1001 - l.level) + 1
 
+abbrev pub decreases-control::run_items : goal.decreases-control::run_items
+decreases-control::run_items l = 6 * (1001 - l.level) + 3
+
+abbrev pub decreases-control::run_block : goal.decreases-control::run_block
+decreases-control::run_block l = 6 * (1001 - l.level) + 4
+
 abbrev pub decreases-control::eval_block : goal.decreases-control::eval_block
 decreases-control::eval_block l = 6 * (1001 - l.level) + 3
 

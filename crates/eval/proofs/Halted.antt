@@ -1,0 +1,54 @@
+-- Items and blocks whose value nobody wants.
+use Rattle.std.proofs.Common.{◌≡◌, ℕ, Bool, List, [], ◌∷◌, drop, take, length, Option, Some, None, refl, subst}
+use Rattle.std.specs.Option.{MatchOption}
+use Rattle.kernele.specs.Tree.{Trees, none}
+use Rattle.code.specs.View.{trees_of_codes}
+use Rattle.code.specs.declared.code.Code.{Code}
+use Rattle.values.specs.Data.{Val, null}
+use Rattle.erules.specs.At.{At}
+use Rattle.erules.specs.Leaves.{GoesOn}
+use Rattle.erules.specs.Locals.{locals_of}
+use Rattle.erules.specs.Outcomes.{End, value, halt}
+use Rattle.erules.specs.Rules.{Items, items_none, items_next, items_halt, Block, entering}
+use Rattle.erules.specs.View.{at, halt_of}
+use Rattle.erules.specs.declared.end.Halt.{Halt}
+use Rattle.erules.specs.declared.working.Working.{Working}
+use Rattle.erules.proofs.Steps.{block_end}
+use Rattle.eval.specs.Halting.{ItemsHalt, BlockHalts}
+
+-- no items give null
+pub none_halt : {k : ℕ} (xs : List Code) {a : At} → length xs ≡ 0 → ItemsHalt k (trees_of_codes xs) a None a
+none_halt [] h = (null, items_none)
+none_halt (x ∷ xs) h = cc
+
+-- what the end of items says of their halt
+pub items_halted : {k : ℕ} {ts : Trees} {a b : At} {o : End} (h : Option Halt) → Items k null ts a o b → MatchOption h ((v : Val) × (o ≡ value v)) (λ s. o ≡ halt (halt_of s)) → ItemsHalt k ts a h b
+items_halted {k = k} {ts = ts} {a = a} {b = b} None r m = (m.0, subst (λ o. Items k null ts a o b) m.1 r)
+items_halted {k = k} {ts = ts} {a = a} {b = b} (Some s) r m = subst (λ o. Items k null ts a o b) m r
+
+-- after other values items end alike
+values_after : {k : ℕ} {u w : Val} (v : Val) {ts : Trees} {a b : At} → Items k u ts a (value w) b → (x : Val) × Items k v ts a (value x) b
+values_after v items_none = (v, items_none)
+values_after v (items_next {o = o} f r) = (_, items_next f r)
+
+halts_after : {k : ℕ} {u v : Val} {ts : Trees} {a b : At} {o : End} (s : Halt) → o ≡ halt (halt_of s) → Items k u ts a o b → Items k v ts a o b
+halts_after s e items_none = cc
+halts_after s e (items_next f r) = items_next f r
+halts_after s e (items_halt f) = items_halt f
+
+-- items whose head is done, and then those behind it
+pub both_halt : {k : ℕ} (xs : List Code) {n : ℕ} {ys : List Code} {a b c : At} (h : Option Halt) → ys ≡ drop n xs → GoesOn k xs n a b → ItemsHalt k (trees_of_codes ys) b h c → ItemsHalt k (trees_of_codes xs) a h c
+both_halt {k = k} xs {b = b} {c = c} None same goes r =
+    let after = values_after goes.0 (subst (λ ys. Items k null (trees_of_codes ys) b (value r.0) c) same r.1) in
+    (after.0, goes.1 (value after.0) c after.1)
+both_halt {k = k} xs {b = b} {c = c} (Some s) same goes r = goes.1 (halt (halt_of s)) c (halts_after s refl (subst (λ ys. Items k null (trees_of_codes ys) b (halt (halt_of s)) c) same r))
+
+-- a block's scope ends
+pub block_halts : {k : ℕ} {ts : Trees} (h : Option Halt) (w u : Working) {b z : At} {n : ℕ} {own : Bool} → n ≡ length w.nouns.items → own ≡ w.own_scope → b ≡ entering (at w) → ItemsHalt k ts b h (at u)
+    → z ≡ record (at u) { nouns = locals_of (take n u.nouns.items); own_scope = own } → BlockHalts k ts (at w) h z
+block_halts None w u e f q r g = (r.0, block_end w u e f q r.1 g)
+block_halts (Some s) w u e f q r g = block_end w u e f q r g
+
+-- a block, where its items and its halt are known otherwise
+pub halting : {k : ℕ} {xs ys : List Code} {g h : Option Halt} {a b : At} → xs ≡ ys → g ≡ h → BlockHalts k (trees_of_codes xs) a g b → BlockHalts k (trees_of_codes ys) a h b
+halting {k = k} {ys = ys} {g = g} {a = a} {b = b} same is r = subst (λ o. BlockHalts k (trees_of_codes ys) a o b) is (subst (λ xs. BlockHalts k (trees_of_codes xs) a g b) same r)
