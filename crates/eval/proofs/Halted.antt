@@ -1,5 +1,6 @@
 -- Items and blocks whose value nobody wants.
-use Rattle.std.proofs.Common.{◌≡◌, ℕ, Bool, List, [], ◌∷◌, drop, take, length, Option, Some, None, refl, subst}
+use Rattle.std.proofs.Common.{arith, ◌≡◌, ℕ, ◌-◌, Bool, List, [], ◌∷◌, drop, take, length, Option, Some, None, refl, subst}
+use Rattle.std.proofs.lemmas.List.{take_all, length-drop}
 use Rattle.std.specs.Option.{MatchOption}
 use Rattle.kernele.specs.Tree.{Trees, none}
 use Rattle.code.specs.View.{trees_of_codes}
@@ -36,19 +37,23 @@ halts_after s e items_none = cc
 halts_after s e (items_next f r) = items_next f r
 halts_after s e (items_halt f) = items_halt f
 
+-- the items from a position on to the end
+pub to_the_end : (n : ℕ) (xs : List Code) → take (length xs - n) (drop n xs) ≡ drop n xs
+to_the_end n xs = take_all (length xs - n) (drop n xs) (omega (arith, length-drop n xs))
+
 -- items whose head is done, and then those behind it
-pub both_halt : {k : ℕ} (xs : List Code) {n : ℕ} {ys : List Code} {a b c : At} (h : Option Halt) → ys ≡ drop n xs → GoesOn k xs n a b → ItemsHalt k (trees_of_codes ys) b h c → ItemsHalt k (trees_of_codes xs) a h c
-both_halt {k = k} xs {b = b} {c = c} None same goes r =
+pub both_halt : {k : ℕ} (xs : List Code) (n : ℕ) {ys : List Code} {a b : At} (c : At) (h : Option Halt) → ys ≡ drop n xs → GoesOn k xs n a b → ItemsHalt k (trees_of_codes ys) b h c → ItemsHalt k (trees_of_codes xs) a h c
+both_halt {k = k} xs n {b = b} c None same goes r =
     let after = values_after goes.0 (subst (λ ys. Items k null (trees_of_codes ys) b (value r.0) c) same r.1) in
     (after.0, goes.1 (value after.0) c after.1)
-both_halt {k = k} xs {b = b} {c = c} (Some s) same goes r = goes.1 (halt (halt_of s)) c (halts_after s refl (subst (λ ys. Items k null (trees_of_codes ys) b (halt (halt_of s)) c) same r))
+both_halt {k = k} xs n {b = b} c (Some s) same goes r = goes.1 (halt (halt_of s)) c (halts_after s refl (subst (λ ys. Items k null (trees_of_codes ys) b (halt (halt_of s)) c) same r))
 
 -- a block's scope ends
-pub block_halts : {k : ℕ} {ts : Trees} (h : Option Halt) (w u : Working) {b z : At} {n : ℕ} {own : Bool} → n ≡ length w.nouns.items → own ≡ w.own_scope → b ≡ entering (at w) → ItemsHalt k ts b h (at u)
+pub block_halts : (k : ℕ) (ts : Trees) (h : Option Halt) (w u : Working) {b z : At} {n : ℕ} {own : Bool} → n ≡ length w.nouns.items → own ≡ w.own_scope → b ≡ entering (at w) → ItemsHalt k ts b h (at u)
     → z ≡ record (at u) { nouns = locals_of (take n u.nouns.items); own_scope = own } → BlockHalts k ts (at w) h z
-block_halts None w u e f q r g = (r.0, block_end w u e f q r.1 g)
-block_halts (Some s) w u e f q r g = block_end w u e f q r g
+block_halts k ts None w u e f q r g = (r.0, block_end w u e f q r.1 g)
+block_halts k ts (Some s) w u e f q r g = block_end w u e f q r g
 
 -- a block, where its items and its halt are known otherwise
-pub halting : {k : ℕ} {xs ys : List Code} {g h : Option Halt} {a b : At} → xs ≡ ys → g ≡ h → BlockHalts k (trees_of_codes xs) a g b → BlockHalts k (trees_of_codes ys) a h b
-halting {k = k} {ys = ys} {g = g} {a = a} {b = b} same is r = subst (λ o. BlockHalts k (trees_of_codes ys) a o b) is (subst (λ xs. BlockHalts k (trees_of_codes xs) a g b) same r)
+pub halting : (k : ℕ) {xs ys : List Code} {g h : Option Halt} (a b : At) → xs ≡ ys → g ≡ h → BlockHalts k (trees_of_codes xs) a g b → BlockHalts k (trees_of_codes ys) a h b
+halting k {ys = ys} {g = g} a b same is r = subst (λ o. BlockHalts k (trees_of_codes ys) a o b) is (subst (λ xs. BlockHalts k (trees_of_codes xs) a g b) same r)

@@ -1,4 +1,4 @@
-use Rattle.std.proofs.Common.{rules, arith, ap, ◌∙◌, refl, sym, subst, length, ◌++◌}
+use Rattle.std.proofs.Common.{rules, arith, ap, ◌∙◌, ◌+◌, refl, sym, subst, length, ◌++◌}
 use Rattle.std.proofs.lemmas.Result.{IfOk-weaker}
 use Rattle.code.specs.View.{tree_of_code, trees_of_codes}
 use Rattle.code.proofs.Views.{tree_of_code-Call, tree_of_code-List, tree_of_code-Hide, tree_of_code-If, tree_of_code-While, tree_of_code-For, tree_of_code-Try, tree_of_code-Object, tree_of_code-Escape}
@@ -9,7 +9,7 @@ use Rattle.erules.specs.Outcomes.{halted, value}
 use Rattle.erules.specs.View.{at, end_of, halt_of, choice_view, listing_view, target_view}
 use Rattle.erules.specs.Rules.{at_budget, at_depth, run_null, run_bool, run_int, run_text, run_noun, run_define, run_variable, run_assign, run_call_receiver, run_call_gives, run_list, run_same_left, run_same, goes, run_define_list, run_hide, run_throw, run_if_goes, run_if_ends, run_while_again, run_while_halts, run_while_done, run_while_ends, run_for, run_for_ends, run_try, run_try_caught, run_object, args_halt}
 use Rattle.erules.proofs.Steps.{node, child, tested, children, slice_of, if_both, runs_as, runs_to, ends_to, parts_run, args_begin, args_pushed, args_more, args_no_more, args_end, args_done, args_as, only_one, one_arg, items_more, items_no_more, items_end, blocks, block_ending, taking, taking_ending, each, block_end, taking_end, each_more, each_no_more, each_end, next_round}
-use Rattle.eval.proofs.Halted.{none_halt, items_halted, both_halt, block_halts, halting}
+use Rattle.eval.proofs.Halted.{none_halt, items_halted, both_halt, block_halts, halting, to_the_end}
 use Rattle.eval.proofs.Entered.{call_leads, leads_as, entered, call_entered, escape_over}
 use Rattle.erules.proofs.Scopes.{truncated, truncated-length}
 use Rattle.erules.proofs.Added.{goes_add, block_stays, taking_stays}
@@ -192,11 +192,11 @@ pub control::eval_while-returns-then-not-truth : goal.control::eval_while-return
 control::eval_while-returns-then-not-truth t c = c.rounds.invariant.0 _ _ (run_while_done (tested c.deref.ensures c.in_ok-choice.ensures.1) (c.in_ok-choice.ensures.2 ∙ ap choice_view c.in-Goes.is ∙ ap goes c.if-not-truth.true))
 
 pub control::eval_while-returns-in-Some : goal.control::eval_while-returns-in-Some
-control::eval_while-returns-in-Some t c = c.rounds.invariant.0 _ _ (run_while_halts (tested c.deref.ensures c.in_ok-choice.ensures.1) (c.in_ok-choice.ensures.2 ∙ ap choice_view c.in-Goes.is ∙ ap goes c.if-not-truth.false) (halting (slice_of c.deref-in-rounds-2.ensures.value c.deref-in-rounds.ensures) c.in-Some.is c.in_ok-run_block.ensures))
+control::eval_while-returns-in-Some t c = c.rounds.invariant.0 _ _ (run_while_halts (tested c.deref.ensures c.in_ok-choice.ensures.1) (c.in_ok-choice.ensures.2 ∙ ap choice_view c.in-Goes.is ∙ ap goes c.if-not-truth.false) (halting (c.args.level + 1) (at c.eval_condition.new.w) (at c.run_block.new.w) (slice_of c.deref-in-rounds-2.ensures.value c.deref-in-rounds.ensures) c.in-Some.is c.in_ok-halt.ensures))
 
 pub control::eval_while-rounds-preserved : goal.control::eval_while-rounds-preserved
 control::eval_while-rounds-preserved t c =
-    let ended = halting (slice_of c.deref-in-rounds-2.ensures.value c.deref-in-rounds.ensures) c.in_default.is c.in_ok-run_block.ensures in
+    let ended = halting (c.args.level + 1) (at c.eval_condition.new.w) (at c.run_block.new.w) (slice_of c.deref-in-rounds-2.ensures.value c.deref-in-rounds.ensures) c.in_default.is c.in_ok-halt.ensures in
     let g = round_grow c.in_ok-choice.ensures.1 ended.1 in (
       λ o b h. c.rounds.invariant.0 _ _ (run_while_again (tested c.deref.ensures c.in_ok-choice.ensures.1) (c.in_ok-choice.ensures.2 ∙ ap choice_view c.in-Goes.is ∙ ap goes c.if-not-truth.false) ended.1 (next_round c.rounds.w c.run_block.new.w c.rounds.invariant.1 g c.truncate.ensures.items h)),
       truncated-length c.rounds.w.nouns.items c.run_block.new.w.nouns.items c.len-names.result c.rounds.invariant.1 g ∙ ap length (sym c.truncate.ensures.items),
@@ -206,11 +206,11 @@ control::eval_while-rounds-preserved t c =
 
 pub control::eval_while-rounds-smaller : goal.control::eval_while-rounds-smaller
 control::eval_while-rounds-smaller t c =
-    let ended = halting (slice_of c.deref-in-rounds-2.ensures.value c.deref-in-rounds.ensures) c.in_default.is c.in_ok-run_block.ensures in
+    let ended = halting (c.args.level + 1) (at c.eval_condition.new.w) (at c.run_block.new.w) (slice_of c.deref-in-rounds-2.ensures.value c.deref-in-rounds.ensures) c.in_default.is c.in_ok-halt.ensures in
     omega (arith, condition_less c.in_ok-choice.ensures.1 (c.in_ok-choice.ensures.2 ∙ ap choice_view c.in-Goes.is ∙ ap goes c.if-not-truth.false), block_left ended.1)
 
 pub control::run_block-returns : goal.control::run_block-returns
-control::run_block-returns t c = block_halts c.in_ok-halt.halt c.args.w.now c.run_items.new.w c.enter-outer.ensures.names c.enter-outer.ensures.own c.enter-outer.ensures.place (both_halt c.args.items.now c.in_ok-halt.halt c.slice.ensures c.in_ok-done.ensures.runs c.in_ok-halt.ensures) c.leave.ensures
+control::run_block-returns t c = block_halts c.args.level (trees_of_codes c.args.items.now) c.in_ok-halt.halt c.args.w.now c.run_items.new.w c.enter-outer.ensures.names c.enter-outer.ensures.own c.enter-outer.ensures.place (both_halt c.args.items.now c.in_ok-done.done (at c.run_items.new.w) c.in_ok-halt.halt (to_the_end c.in_ok-done.done c.args.items.now) c.in_ok-done.ensures.runs c.in_ok-halt.ensures) c.leave.ensures
 
 pub control::run_items-returns-then-is_empty : goal.control::run_items-returns-then-is_empty
 control::run_items-returns-then-is_empty t c = none_halt c.args.items.now (search rules)
