@@ -1,5 +1,3 @@
-pub mod Views
-pub mod Steps
 pub mod Nesting
 pub mod Programs
 pub mod Answered

@@ -13,7 +13,7 @@ use Rattle.ereader.specs.Laws.{IsWithinLimits}
 use Rattle.ereader.specs.Texts.{ReadAs, read_program}
 use Rattle.egrammar.specs.View.{plain}
 use Rattle.egrammar.specs.Written.{program_tokens}
-use Rattle.ereader.proofs.Views.{length-plain}
+use Rattle.eparser.proofs.Views.{length-plain}
 use Rattle.egrammar.proofs.Spelled.{spelled}
 use Rattle.egrammar.proofs.Retold.{cuts_itself}
 use Rattle.egrammar.proofs.Spellable.{spellable}

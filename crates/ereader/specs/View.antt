@@ -1,93 +1,11 @@
--- What the reader's values stand for.
-use Rattle.std.specs.Prelude.{◌≡◌, ◌<◌, ◌≤◌, ℕ, length, List, [], ◌∷◌, Option, Some, None, Result, Ok, Err, ◌⊎◌, Any}
-use Rattle.std.specs.declared.sync.Arc.{Arc}
-use Rattle.std.specs.declared.vec.Vec.{Vec}
-use Rattle.std.specs.declared.alloc.Global.{Global}
-use Rattle.etoken.specs.declared.token.Token.{Token}
+-- What the reader's refusals stand for.
+use Rattle.std.specs.Prelude.{◌≡◌, ◌≤◌, ℕ, List, Option, None, Result, Ok, Err, ◌⊎◌, Any}
 use Rattle.etoken.specs.declared.token.Placed.{Placed}
-use Rattle.kernele.specs.declared.tree.Expr.{Expr}
-use Rattle.kernele.specs.declared.tree.Pattern.{Pattern}
-use Rattle.kernele.specs.declared.tree.Method.{Method}
 use Rattle.kernele.specs.declared.tree.Program.{Program}
-use Rattle.kernele.specs.Tree.{Tree, Trees, Methods}
-use Rattle.kernele.specs.View.{tree_of, trees_of, methods_of, program_of}
+use Rattle.kernele.specs.Tree.{Trees}
+use Rattle.kernele.specs.View.{program_of}
 use Rattle.ereader.specs.declared.fault.ReadFault.{ReadFault}
 use Rattle.ereader.specs.declared.fault.ReadFault.TheVariants as fault
-use Rattle.ereader.specs.declared.fault.Stop.{Stop}
-use Rattle.ereader.specs.declared.fault.Stop.TheVariants as stop
-use Rattle.egrammar.specs.declared.operator.Target.{Target}
-use Rattle.ereader.specs.declared.reader.Reader.{Reader}
-use Rattle.egrammar.specs.Grammar.{Place, MethodTree}
-use Rattle.egrammar.specs.Reading.{Read}
-use Rattle.egrammar.specs.View.{plain, method_of, place_of}
-
--- the reader stops at a token that can't follow, or where memory runs out
-abbrev pub Fails : {A : Type 0} → Stop → Option A → Type 0
-Fails stop.Unexpected read = read ≡ None
-Fails stop.Memory read = Unit {0}
-
--- the tokens that a reader has left
-abbrev pub left_of : Reader → List Token
-left_of r = plain r.rest.now
-
--- a method of a reader returned, and left to read, what reading gives, unless memory ran out
-abbrev pub Gives : Result Expr Stop → Reader → Reader → (List Token → Read Tree) → Type 0
-Gives (Ok e) old new read = read (left_of old) ≡ Some (tree_of e, left_of new)
-Gives (Err e) old new read = Fails e (read (left_of old))
-
--- the same, of an expression that is shared
-abbrev pub GivesShared : Result (Arc Expr Global) Stop → Reader → Reader → (List Token → Read Tree) → Type 0
-GivesShared (Ok e) old new read = read (left_of old) ≡ Some (tree_of e.value, left_of new)
-GivesShared (Err e) old new read = Fails e (read (left_of old))
-
--- the same, of several expressions
-abbrev pub GivesMany : Result (Vec Expr Global) Stop → Reader → Reader → (List Token → Read Trees) → Type 0
-GivesMany (Ok es) old new read = read (left_of old) ≡ Some (trees_of es.items, left_of new)
-GivesMany (Err e) old new read = Fails e (read (left_of old))
-
--- the same, of several patterns
-abbrev pub GivesPatterns : Result (Vec Pattern Global) Stop → Reader → Reader → (List Token → Read (List Pattern)) → Type 0
-GivesPatterns (Ok ps) old new read = read (left_of old) ≡ Some (ps.items, left_of new)
-GivesPatterns (Err e) old new read = Fails e (read (left_of old))
-
--- the same, of a method
-abbrev pub GivesMethod : Result Method Stop → Reader → Reader → (List Token → Read MethodTree) → Type 0
-GivesMethod (Ok m) old new read = read (left_of old) ≡ Some (method_of m, left_of new)
-GivesMethod (Err e) old new read = Fails e (read (left_of old))
-
--- the same, of several methods
-abbrev pub GivesMethods : Result (Vec Method Global) Stop → Reader → Reader → (List Token → Read Methods) → Type 0
-GivesMethods (Ok ms) old new read = read (left_of old) ≡ Some (methods_of ms.items, left_of new)
-GivesMethods (Err e) old new read = Fails e (read (left_of old))
-
--- the same, of what a value is given to, if it is given to anything
-abbrev pub GivesPlace : Result (Option Target) Stop → Reader → Reader → (List Token → Read (Option Place)) → Type 0
-GivesPlace (Ok None) old new read = read (left_of old) ≡ Some (None, left_of new)
-GivesPlace (Ok (Some g)) old new read = read (left_of old) ≡ Some (Some (place_of g), left_of new)
-GivesPlace (Err e) old new read = Fails e (read (left_of old))
-
--- the same, of several expressions and no token behind them
-abbrev pub GivesAll : Result (Vec Expr Global) Stop → Option (Trees × List Token) → Type 0
-GivesAll (Ok es) read = read ≡ Some (trees_of es.items, [])
-GivesAll (Err e) read = Fails e read
-
--- the same, of a name or one pattern
-abbrev pub GivesPlain : {A : Type 0} → Result A Stop → Reader → Reader → (List Token → Read A) → Type 0
-GivesPlain (Ok x) old new read = read (left_of old) ≡ Some (x, left_of new)
-GivesPlain (Err e) old new read = Fails e (read (left_of old))
-
--- the same, where nothing is returned
-abbrev pub GoesTo : Result Unit Stop → Reader → Reader → (List Token → Option (List Token)) → Type 0
-GoesTo (Ok x) old new read = read (left_of old) ≡ Some (left_of new)
-GoesTo (Err e) old new read = Fails e (read (left_of old))
-
--- fewer tokens are left
-abbrev pub Advances : Reader → Reader → Type 0
-Advances old new = length (left_of new) < length (left_of old)
-
--- no more tokens are left
-abbrev pub IsNoLonger : Reader → Reader → Type 0
-IsNoLonger old new = length (left_of new) ≤ length (left_of old)
 
 -- a place of a text of n bytes: where one of its tokens stands, or its end
 abbrev pub IsPlace : List Placed → ℕ → ℕ → Type 0

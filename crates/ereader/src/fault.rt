@@ -75,30 +75,3 @@ impl<T: Drop> From<AllocFailed<T>> for ReadFault {
         ReadFault::Memory
     }
 }
-
-/// Why reading stopped, at the reader's place.
-#[derive(Clone, Copy)]
-pub(crate) enum Stop {
-    Unexpected,
-    Memory,
-}
-
-impl From<AllocError> for Stop {
-    ghost use Rattle.ereader.specs.declared.fault.Stop.TheVariants as stop;
-
-    ghost from_gives = { λ _ e. e ≡ stop.Memory };
-
-    fn from(_error: AllocError) -> Self {
-        Stop::Memory
-    }
-}
-
-impl<T: Drop> From<AllocFailed<T>> for Stop {
-    ghost use Rattle.ereader.specs.declared.fault.Stop.TheVariants as stop;
-
-    ghost from_gives = { λ _ e. e ≡ stop.Memory };
-
-    fn from(_error: AllocFailed<T>) -> Self {
-        Stop::Memory
-    }
-}

@@ -11,18 +11,12 @@ ghost use Rattle.ereader.specs.Texts.{Answers};
 ghost use Rattle.egrammar.specs.View.{plain};
 ghost use Rattle.ereader.specs.View.{IsPlace, Stops, Accepts, IsRefusal};
 
-mod blocks;
 mod depth;
-mod expressions;
 pub mod fault;
-mod objects;
-mod peek;
-mod primaries;
-mod reader;
 pub mod theorems;
 
-use crate::fault::{ReadFault, Stop};
-use crate::reader::Reader;
+use crate::fault::ReadFault;
+use eparser::{Reader, Stop};
 use etoken::token::Placed;
 use etoken::tokens::tokens;
 use kernele::tree::{Block, Expr, Program};

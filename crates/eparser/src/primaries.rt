@@ -2,10 +2,10 @@
 ghost use Rattle.std.specs.Prelude.{◌≡◌, ◌≤◌, length, OnOk};
 ghost use Rattle.egrammar.specs.Reading as reading;
 ghost use Rattle.egrammar.specs.Reading.{rest_of, within_at};
-ghost use Rattle.ereader.specs.View.{left_of, Advances, IsNoLonger, Gives, GivesMany};
+ghost use Rattle.eparser.specs.View.{left_of, Advances, IsNoLonger, Gives, GivesMany};
 
-use crate::fault::Stop;
 use crate::reader::Reader;
+use crate::stop::Stop;
 use egrammar::nodes;
 use egrammar::operator::Bracket;
 use etoken::token::{Reserved, Sign, Token};
@@ -14,7 +14,7 @@ use kernele::tree::Expr;
 impl<'a> Reader<'a> {
     /// Arguments, and the closing bracket.
     #[cycle(read)]
-    pub fn args(&mut self, left: usize, bracket: Bracket) -> Result<Vec<Expr>, Stop>
+    pub(crate) fn args(&mut self, left: usize, bracket: Bracket) -> Result<Vec<Expr>, Stop>
         ensures gives { GivesMany result self.old self.new (reading.args_at (within_at left) bracket) }
         ensures shorter { OnOk result (IsNoLonger self.old self.new) }
     {
@@ -47,7 +47,7 @@ impl<'a> Reader<'a> {
     }
 
     #[cycle(read)]
-    pub fn primary(&mut self, left: usize) -> Result<Expr, Stop>
+    pub(crate) fn primary(&mut self, left: usize) -> Result<Expr, Stop>
         ensures gives { Gives result self.old self.new (reading.primary_at (within_at left)) }
         ensures shorter { OnOk result (Advances self.old self.new) }
     {
@@ -137,7 +137,7 @@ impl<'a> Reader<'a> {
     }
 
     #[cycle(read)]
-    pub fn expr(&mut self, left: usize) -> Result<Expr, Stop>
+    pub(crate) fn expr(&mut self, left: usize) -> Result<Expr, Stop>
         ensures gives { Gives result self.old self.new (reading.expr_at (within_at left)) }
         ensures shorter { OnOk result (Advances self.old self.new) }
     {

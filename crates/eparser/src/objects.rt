@@ -2,9 +2,9 @@
 ghost use Rattle.std.specs.Prelude.{OnOk};
 ghost use Rattle.egrammar.specs.Reading as reading;
 ghost use Rattle.egrammar.specs.Reading.{within_at};
-ghost use Rattle.ereader.specs.View.{Advances, IsNoLonger, Gives, GivesMethod, GivesMethods};
+ghost use Rattle.eparser.specs.View.{Advances, IsNoLonger, Gives, GivesMethod, GivesMethods};
 
-use crate::fault::Stop;
+use crate::stop::Stop;
 use crate::reader::Reader;
 use egrammar::nodes;
 use egrammar::operator::Bracket;
@@ -14,7 +14,7 @@ impl<'a> Reader<'a> {
     /// What stands behind `escape`.
     #[cycle(read)]
     #[inline(never)]
-    pub fn escape(&mut self, left: usize) -> Result<Expr, Stop>
+    pub(crate) fn escape(&mut self, left: usize) -> Result<Expr, Stop>
         ensures gives { Gives result self.old self.new (reading.escape_at (within_at left)) }
         ensures shorter { OnOk result (IsNoLonger self.old self.new) }
     {
@@ -26,7 +26,7 @@ impl<'a> Reader<'a> {
     /// What stands behind the `def` of an object.
     #[cycle(read)]
     #[inline(never)]
-    pub fn object(&mut self, left: usize) -> Result<Expr, Stop>
+    pub(crate) fn object(&mut self, left: usize) -> Result<Expr, Stop>
         ensures gives { Gives result self.old self.new (reading.object_at (within_at left)) }
         ensures shorter { OnOk result (IsNoLonger self.old self.new) }
     {

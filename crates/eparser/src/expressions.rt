@@ -7,9 +7,9 @@ ghost use Rattle.kernele.specs.View.{tree_of};
 ghost use Rattle.egrammar.specs.Grammar as grammar;
 ghost use Rattle.egrammar.specs.Reading as reading;
 ghost use Rattle.egrammar.specs.Reading.{within_at};
-ghost use Rattle.ereader.specs.View.{Advances, IsNoLonger, Gives, GivesPlain};
+ghost use Rattle.eparser.specs.View.{Advances, IsNoLonger, Gives, GivesPlain};
 
-use crate::fault::Stop;
+use crate::stop::Stop;
 use crate::reader::Reader;
 use egrammar::nodes;
 use egrammar::operator::{Bracket, Link};
@@ -31,7 +31,7 @@ impl<'a> Reader<'a> {
     }
 
     /// A verb and the bracket behind it.
-    pub fn method_verb(&mut self) -> Result<Text, Stop>
+    pub(crate) fn method_verb(&mut self) -> Result<Text, Stop>
         ensures gives { GivesPlain result self.old self.new reading.method_verb_at }
         ensures shorter { OnOk result (IsNoLonger self.old self.new) }
     {
@@ -47,7 +47,7 @@ impl<'a> Reader<'a> {
     /// such part is behind at least one token of the one around it, so the number of tokens is always enough.
     #[cycle(read)]
     #[tactic(auto, unfolding(egrammar::specs::Reading::within_at))]
-    pub fn expression(&mut self, left: usize) -> Result<Expr, Stop>
+    pub(crate) fn expression(&mut self, left: usize) -> Result<Expr, Stop>
         ensures gives { Gives result self.old self.new (within_at left).expression }
         ensures shorter { OnOk result (Advances self.old self.new) }
     {

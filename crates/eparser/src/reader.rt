@@ -2,9 +2,9 @@
 ghost use Rattle.std.specs.Prelude.{◌≡◌, OnOk};
 ghost use Rattle.egrammar.specs.Reading as reading;
 ghost use Rattle.egrammar.specs.Reading.{rest_of};
-ghost use Rattle.ereader.specs.View.{left_of, Advances, IsNoLonger, GivesPlain, GivesPatterns, GivesPlace};
+ghost use Rattle.eparser.specs.View.{left_of, Advances, IsNoLonger, GivesPlain, GivesPatterns, GivesPlace};
 
-use crate::fault::Stop;
+use crate::stop::Stop;
 use egrammar::operator::{Bracket, Target};
 use etoken::token::{Placed, Sign, Token};
 use ids::text::Text;
@@ -21,7 +21,7 @@ pub struct Reader<'a> {
 
 impl<'a> Reader<'a> {
     /// Goes past a token, if there is one.
-    pub fn skip(&mut self)
+    pub(crate) fn skip(&mut self)
         ensures { left_of self.new ≡ rest_of (left_of self.old) }
     {
         if let Some((_, rest)) = self.rest.split_first() {
@@ -30,7 +30,7 @@ impl<'a> Reader<'a> {
     }
 
     /// A name, such as a verb.
-    pub fn name(&mut self) -> Result<Text, Stop>
+    pub(crate) fn name(&mut self) -> Result<Text, Stop>
         ensures gives { GivesPlain result self.old self.new reading.name_at }
         ensures shorter { OnOk result (Advances self.old self.new) }
     {
@@ -48,7 +48,7 @@ impl<'a> Reader<'a> {
     }
 
     /// What a definition binds.
-    pub fn pattern(&mut self) -> Result<Pattern, Stop>
+    pub(crate) fn pattern(&mut self) -> Result<Pattern, Stop>
         ensures gives { GivesPlain result self.old self.new reading.pattern_at }
         ensures shorter { OnOk result (Advances self.old self.new) }
     {
@@ -85,7 +85,7 @@ impl<'a> Reader<'a> {
     }
 
     /// A list of patterns, behind its opening bracket.
-    pub fn pattern_list(&mut self, bracket: Bracket) -> Result<Vec<Pattern>, Stop>
+    pub(crate) fn pattern_list(&mut self, bracket: Bracket) -> Result<Vec<Pattern>, Stop>
         ensures gives { GivesPatterns result self.old self.new (reading.pattern_list_at bracket) }
         ensures shorter { OnOk result (Advances self.old self.new) }
     {
@@ -153,7 +153,7 @@ impl<'a> Reader<'a> {
     }
 
     /// What the value behind it is given to, if there is a `:=`.
-    pub fn target(&mut self) -> Result<Option<Target>, Stop>
+    pub(crate) fn target(&mut self) -> Result<Option<Target>, Stop>
         ensures gives { GivesPlace result self.old self.new reading.target_at }
         ensures shorter { OnOk result (IsNoLonger self.old self.new) }
     {

@@ -7,9 +7,9 @@ use Rattle.egrammar.specs.declared.operator.Operator.{Operator}
 use Rattle.egrammar.specs.Reading.{Read, rest_of, front, operand_next, Within, is_block_end, separator_at, expr_at, block_next}
 use Rattle.egrammar.proofs.Turns.{Turns}
 use Rattle.egrammar.proofs.Steps.{operand_fail, block_part_fail}
-use Rattle.ereader.specs.declared.fault.Stop.{Stop}
-use Rattle.ereader.specs.declared.fault.Stop.TheVariants as stop
-use Rattle.ereader.specs.View.{Fails}
+use Rattle.eparser.specs.declared.stop.Stop.{Stop}
+use Rattle.eparser.specs.declared.stop.Stop.TheVariants as stop
+use Rattle.eparser.specs.View.{Fails}
 
 module _ (of : signs.Sign → Option Operator) (part : List Token → Read Tree) where
   pub operand_fails : (e : Stop) {read : Read Tree} {t : Tree} {a : List Token} (b : List Token) {o : Operator}

@@ -1,7 +1,7 @@
 use Rattle.std.proofs.Common.{◌≡◌, length}
 use Rattle.egrammar.specs.Reading.{skip_semicolons}
 use Rattle.egrammar.specs.View.{plain}
-use Rattle.ereader.proofs.reader.Reader.skip_semicolons.Given as goal
+use Rattle.eparser.proofs.reader.Reader.skip_semicolons.Given as goal
 
 abbrev pub invariant-more : goal.invariant-more
 invariant-more l = skip_semicolons (plain l.self.rest.now) ≡ skip_semicolons (plain l.fn.self.rest.now)

@@ -2,7 +2,7 @@ use Rattle.std.proofs.Common.{arith, length, sym, ap, ◌∙◌}
 use Rattle.egrammar.specs.Reading.{push_pattern, pattern_at}
 use Rattle.egrammar.specs.View.{plain}
 use Rattle.egrammar.proofs.Steps.{rest_le, commas_more, commas_end}
-use Rattle.ereader.proofs.reader.Reader.patterns.Goals as goal
+use Rattle.eparser.proofs.reader.Reader.patterns.Goals as goal
 
 pub more-preserved : goal.more-preserved
 more-preserved c = record {

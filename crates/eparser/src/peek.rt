@@ -4,7 +4,7 @@ ghost use Rattle.egrammar.specs.Grammar as grammar;
 ghost use Rattle.egrammar.specs.Reading as reading;
 ghost use Rattle.egrammar.specs.Reading.{front, sign_in};
 ghost use Rattle.egrammar.specs.View.{plain};
-ghost use Rattle.ereader.specs.View.{left_of};
+ghost use Rattle.eparser.specs.View.{left_of};
 
 use crate::reader::Reader;
 use egrammar::operator::{Bracket, Link, Operator, Prefix};
@@ -78,57 +78,57 @@ impl<'a> Reader<'a> {
         front_sign(self.rest)
     }
 
-    pub fn at_end(&self) -> bool
+    pub(crate) fn at_end(&self) -> bool
         ensures { result ≡ reading.is_empty (left_of self.now) }
     {
         self.rest.is_empty()
     }
 
-    pub fn sum_operator(&self) -> Option<Operator>
+    pub(crate) fn sum_operator(&self) -> Option<Operator>
         ensures { result ≡ front grammar.sum_operator (left_of self.now) }
     {
         Operator::of_sum(self.sign()?)
     }
 
-    pub fn product_operator(&self) -> Option<Operator>
+    pub(crate) fn product_operator(&self) -> Option<Operator>
         ensures { result ≡ front grammar.product_operator (left_of self.now) }
     {
         Operator::of_product(self.sign()?)
     }
 
-    pub fn comparison_operator(&self) -> Option<Operator>
+    pub(crate) fn comparison_operator(&self) -> Option<Operator>
         ensures { result ≡ front grammar.comparison_operator (left_of self.now) }
     {
         Operator::of_comparison(self.sign()?)
     }
 
-    pub fn prefix_operator(&self) -> Option<Prefix>
+    pub(crate) fn prefix_operator(&self) -> Option<Prefix>
         ensures { result ≡ front grammar.prefix_operator (left_of self.now) }
     {
         Prefix::of(self.sign()?)
     }
 
-    pub fn and_operator(&self) -> Option<Operator>
+    pub(crate) fn and_operator(&self) -> Option<Operator>
         ensures { result ≡ front grammar.and_operator (left_of self.now) }
     {
         Operator::of_conjunction(self.sign()?)
     }
 
-    pub fn or_operator(&self) -> Option<Operator>
+    pub(crate) fn or_operator(&self) -> Option<Operator>
         ensures { result ≡ front grammar.or_operator (left_of self.now) }
     {
         Operator::of_disjunction(self.sign()?)
     }
 
     /// What makes a call of what was read, if that goes on.
-    pub fn link(&self) -> Option<Link>
+    pub(crate) fn link(&self) -> Option<Link>
         ensures { result ≡ front reading.link_of (left_of self.now) }
     {
         Link::of(self.sign()?)
     }
 
     /// Whether a definition of what a value is given to is in front, and not one of an object.
-    pub fn at_definition(&self) -> bool
+    pub(crate) fn at_definition(&self) -> bool
         ensures { result ≡ reading.is_definition (left_of self.now) }
     {
         let Some((first, rest)) = self.rest.split_first() else {
@@ -137,7 +137,7 @@ impl<'a> Reader<'a> {
         matches!(first.token, Token::Word(Reserved::Def)) && is_bound(rest)
     }
 
-    pub fn at_variable(&self) -> bool
+    pub(crate) fn at_variable(&self) -> bool
         ensures { result ≡ reading.is_at_word reading.is_var_word (left_of self.now) }
     {
         match self.rest.first() {
@@ -146,7 +146,7 @@ impl<'a> Reader<'a> {
         }
     }
 
-    pub fn at_if(&self) -> bool
+    pub(crate) fn at_if(&self) -> bool
         ensures { result ≡ reading.is_at_word reading.is_if_word (left_of self.now) }
     {
         match self.rest.first() {
@@ -155,7 +155,7 @@ impl<'a> Reader<'a> {
         }
     }
 
-    pub fn at_else(&self) -> bool
+    pub(crate) fn at_else(&self) -> bool
         ensures { result ≡ reading.is_at_word reading.is_else_word (left_of self.now) }
     {
         match self.rest.first() {
@@ -164,7 +164,7 @@ impl<'a> Reader<'a> {
         }
     }
 
-    pub fn at_in(&self) -> bool
+    pub(crate) fn at_in(&self) -> bool
         ensures { result ≡ reading.is_at_word reading.is_in_word (left_of self.now) }
     {
         match self.rest.first() {
@@ -173,7 +173,7 @@ impl<'a> Reader<'a> {
         }
     }
 
-    pub fn at_catch(&self) -> bool
+    pub(crate) fn at_catch(&self) -> bool
         ensures { result ≡ reading.is_at_word reading.is_catch_word (left_of self.now) }
     {
         match self.rest.first() {
@@ -182,7 +182,7 @@ impl<'a> Reader<'a> {
         }
     }
 
-    pub fn at_return(&self) -> bool
+    pub(crate) fn at_return(&self) -> bool
         ensures { result ≡ reading.is_at_word reading.is_return_word (left_of self.now) }
     {
         match self.rest.first() {
@@ -191,7 +191,7 @@ impl<'a> Reader<'a> {
         }
     }
 
-    pub fn at_to(&self) -> bool
+    pub(crate) fn at_to(&self) -> bool
         ensures { result ≡ reading.is_at_word reading.is_to_word (left_of self.now) }
     {
         match self.rest.first() {
@@ -201,7 +201,7 @@ impl<'a> Reader<'a> {
     }
 
     /// Whether a method begins here.
-    pub fn at_method(&self) -> bool
+    pub(crate) fn at_method(&self) -> bool
         ensures { result ≡ reading.is_at_word reading.is_method_word (left_of self.now) }
     {
         match self.rest.first() {
@@ -211,7 +211,7 @@ impl<'a> Reader<'a> {
     }
 
     /// Whether an expression that may stand in any place can begin here.
-    pub fn at_operand(&self) -> bool
+    pub(crate) fn at_operand(&self) -> bool
         ensures { result ≡ reading.begins (left_of self.now) }
     {
         match self.rest.first() {
@@ -221,7 +221,7 @@ impl<'a> Reader<'a> {
     }
 
     /// Whether a name is in front, and `:=` behind it.
-    pub fn at_assignment(&self) -> bool
+    pub(crate) fn at_assignment(&self) -> bool
         ensures { result ≡ reading.is_assignment (left_of self.now) }
     {
         let Some((first, rest)) = self.rest.split_first() else {
@@ -230,25 +230,25 @@ impl<'a> Reader<'a> {
         matches!(first.token, Token::Name(_)) && matches!(front_sign(rest), Some(Sign::Becomes))
     }
 
-    pub fn at_comma(&self) -> bool
+    pub(crate) fn at_comma(&self) -> bool
         ensures { result ≡ reading.is_comma (sign_in (left_of self.now)) }
     {
         matches!(self.sign(), Some(Sign::Comma))
     }
 
-    pub fn at_semicolon(&self) -> bool
+    pub(crate) fn at_semicolon(&self) -> bool
         ensures { result ≡ reading.is_semicolon (sign_in (left_of self.now)) }
     {
         matches!(self.sign(), Some(Sign::Semicolon))
     }
 
-    pub fn at_becomes(&self) -> bool
+    pub(crate) fn at_becomes(&self) -> bool
         ensures { result ≡ reading.is_becomes (sign_in (left_of self.now)) }
     {
         matches!(self.sign(), Some(Sign::Becomes))
     }
 
-    pub fn at_open(&self, bracket: Bracket) -> bool
+    pub(crate) fn at_open(&self, bracket: Bracket) -> bool
         ensures { result ≡ reading.is_open bracket (sign_in (left_of self.now)) }
     {
         match bracket {
@@ -258,7 +258,7 @@ impl<'a> Reader<'a> {
         }
     }
 
-    pub fn at_close(&self, bracket: Bracket) -> bool
+    pub(crate) fn at_close(&self, bracket: Bracket) -> bool
         ensures { result ≡ reading.is_close bracket (sign_in (left_of self.now)) }
     {
         match bracket {
@@ -269,7 +269,7 @@ impl<'a> Reader<'a> {
     }
 
     /// Whether a block ends here: at the end, or before its closing brace.
-    pub fn at_block_end(&self) -> bool
+    pub(crate) fn at_block_end(&self) -> bool
         ensures { result ≡ reading.is_block_end (left_of self.now) }
     {
         self.at_end() || self.at_close(Bracket::Curly)

@@ -2,7 +2,7 @@ use Rattle.std.proofs.Common.{length, ◌<◌}
 use Rattle.egrammar.specs.Reading.{commas_next, push_pattern, pattern_at, patterns_at}
 use Rattle.egrammar.specs.View.{plain}
 use Rattle.egrammar.proofs.Turns.{Turns}
-use Rattle.ereader.proofs.reader.Reader.patterns.Given as goal
+use Rattle.eparser.proofs.reader.Reader.patterns.Given as goal
 
 abbrev pub invariant-more : goal.invariant-more
 invariant-more l = record {

@@ -4,7 +4,7 @@ use Rattle.egrammar.specs.Reading.{within_at, operand_next, operands_from, conju
 use Rattle.egrammar.specs.View.{plain}
 use Rattle.kernele.specs.View.{tree_of, trees_of, methods_of}
 use Rattle.egrammar.proofs.Turns.{Turns}
-use Rattle.ereader.proofs.reader.Reader.+read.Given as goal
+use Rattle.eparser.proofs.reader.Reader.+read.Given as goal
 
 abbrev pub decreases-expression : goal.decreases-expression
 decreases-expression l = 32 * l.left + 0

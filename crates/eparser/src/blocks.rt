@@ -2,9 +2,9 @@
 ghost use Rattle.std.specs.Prelude.{◌≡◌, ◌≤◌, length, OnOk};
 ghost use Rattle.egrammar.specs.Reading as reading;
 ghost use Rattle.egrammar.specs.Reading.{rest_of, within_at};
-ghost use Rattle.ereader.specs.View.{left_of, Advances, IsNoLonger, Gives, GivesShared, GivesMany, GivesAll, GivesPlain, GoesTo};
+ghost use Rattle.eparser.specs.View.{left_of, Advances, IsNoLonger, Gives, GivesShared, GivesMany, GivesAll, GivesPlain, GoesTo};
 
-use crate::fault::Stop;
+use crate::stop::Stop;
 use crate::reader::Reader;
 use egrammar::nodes;
 use egrammar::operator::Bracket;
@@ -77,7 +77,7 @@ impl<'a> Reader<'a> {
 
     /// A hidden block, behind its opening brace.
     #[cycle(read)]
-    pub fn hidden(&mut self, left: usize) -> Result<Expr, Stop>
+    pub(crate) fn hidden(&mut self, left: usize) -> Result<Expr, Stop>
         ensures gives { Gives result self.old self.new (reading.hide_at (within_at left)) }
         ensures shorter { OnOk result (IsNoLonger self.old self.new) }
     {
@@ -87,7 +87,7 @@ impl<'a> Reader<'a> {
 
     /// A block in its braces.
     #[cycle(read)]
-    pub fn braced(&mut self, left: usize) -> Result<Vec<Expr>, Stop>
+    pub(crate) fn braced(&mut self, left: usize) -> Result<Vec<Expr>, Stop>
         ensures gives { GivesMany result self.old self.new (reading.braced_at (within_at left)) }
         ensures shorter { OnOk result (Advances self.old self.new) }
     {
@@ -119,7 +119,7 @@ impl<'a> Reader<'a> {
 
     /// What begins with the word in front and is no literal, if an expression may.
     #[cycle(read)]
-    pub fn control(&mut self, left: usize, word: Reserved) -> Result<Expr, Stop>
+    pub(crate) fn control(&mut self, left: usize, word: Reserved) -> Result<Expr, Stop>
         ensures gives { Gives result self.old self.new (λ a. reading.control_at (within_at left) word (rest_of a)) }
         ensures shorter { OnOk result (length (left_of self.new) ≤ length (rest_of (left_of self.old))) }
     {

@@ -1,0 +1,13 @@
+//! Reads the items of a program from tokens, by recursive descent.
+#![tactic(auto)]
+
+mod blocks;
+mod expressions;
+mod objects;
+mod peek;
+mod primaries;
+mod reader;
+mod stop;
+
+pub use reader::Reader;
+pub use stop::Stop;
