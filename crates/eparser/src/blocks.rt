@@ -4,8 +4,8 @@ ghost use Rattle.egrammar.specs.Reading as reading;
 ghost use Rattle.egrammar.specs.Reading.{rest_of, within_at};
 ghost use Rattle.eparser.specs.View.{left_of, Advances, IsNoLonger, Gives, GivesShared, GivesMany, GivesAll, GivesPlain, GoesTo};
 
-use crate::stop::Stop;
 use crate::reader::Reader;
+use crate::stop::Stop;
 use egrammar::nodes;
 use egrammar::operator::Bracket;
 use etoken::token::Reserved;

@@ -9,8 +9,8 @@ ghost use Rattle.egrammar.specs.Reading as reading;
 ghost use Rattle.egrammar.specs.Reading.{within_at};
 ghost use Rattle.eparser.specs.View.{Advances, IsNoLonger, Gives, GivesPlain};
 
-use crate::stop::Stop;
 use crate::reader::Reader;
+use crate::stop::Stop;
 use egrammar::nodes;
 use egrammar::operator::{Bracket, Link};
 use ids::text::Text;
