@@ -10,10 +10,10 @@ mod depth;
 #[cfg(test)]
 mod objects;
 #[cfg(test)]
-mod scopes;
-#[cfg(test)]
 mod sessions;
 #[cfg(test)]
 mod steps;
 #[cfg(test)]
 mod turns;
+#[cfg(test)]
+mod visibility;
