@@ -7,11 +7,12 @@ use Rattle.etoken.specs.declared.token.Sign as signs
 use Rattle.etoken.specs.declared.token.Sign.TheVariants as sign
 use Rattle.kernele.specs.declared.tree.Pattern.{Pattern}
 use Rattle.kernele.specs.Tree.{Name, Tree, null_tree, define, define_list, variable, assign, call, list_tree, hide, if_tree, while_tree, for_tree, try_tree, throw_tree, object_tree, escape_tree, Trees, none, and_then, Methods}
-use Rattle.egrammar.specs.declared.operator.Link.TheVariants as link
-use Rattle.egrammar.specs.declared.operator.Bracket.{Bracket}
-use Rattle.egrammar.specs.declared.operator.Bracket.TheVariants as bracket
-use Rattle.egrammar.specs.Grammar.{product_operator, sum_operator, comparison_operator, and_operator, or_operator, joined, prefix_verb, given, snoc, alone, MethodTree, method_tree, return_tree, function_tree, Place, definition, definitions, Pat, pat_name, pat_ignore, Pats, pats_one, pats_and, PatList, pat_list_none, pat_list_some, Semicolons, semicolons_none, semicolons_more, Expr, expr_define, expr_define_list, expr_variable, expr_assign, expr_return, expr_return_null, expr_disjunction, Disjunction, disjunction_conjunction, disjunction_more, Conjunction, conjunction_comparison, conjunction_more, Comparison, comparison_sum, comparison_two, Sum, sum_product, sum_more, Product, product_unary, product_more, Unary, unary_postfix, unary_prefix, Postfix, postfix_primary, postfix_method, postfix_run, postfix_get, Primary, primary_int, primary_text, primary_true, primary_false, primary_null, primary_name, primary_list, primary_group, primary_hide, primary_if, primary_while, primary_for, primary_try, primary_throw, primary_escape, primary_object, primary_function, Method, method_to, method_plain, MethodList, methods_none, methods_and, Conditional, conditional_alone, conditional_else, conditional_else_if, Condition, condition, Braced, braced, Args, args_none, args_some, Items, items_one, items_and, Sequence, sequence_one, sequence_and, Block, block_empty, block_items, Program}
-use Rattle.egrammar.specs.Reading.{Read, ◌>>=◌, or_else, rest_of, sign_in, front, is_comma, is_semicolon, is_becomes, is_close, past, past_word, operand_next, commas_next, push_pattern, Within, items_at, args_at, is_at_word, is_var_word, is_if_word, is_in_word, is_catch_word, is_assignment, pattern_at, patterns_at, pattern_list_at, define_list_at, define_one_at, define_at, target_at, is_definition, begins, block_of, taking_at, method_at, methods_next, methods_at, methods_past_at, body_at, return_at, given_at, expr_at, primary_at, link_of, linked_at, postfix_next, postfix_at, unary_at, product_at, sum_at, comparison_at, conjunction_at, disjunction_at, if_at, within_at, skip_semicolons, is_block_end, separator_at, block_next, block_at, block_past_at, braced_at, condition_at, branch_at, else_at, ended, program_at}
+use Rattle.enodes.specs.declared.operator.Link.TheVariants as link
+use Rattle.enodes.specs.declared.operator.Bracket.{Bracket}
+use Rattle.enodes.specs.declared.operator.Bracket.TheVariants as bracket
+use Rattle.enodes.specs.Nodes.{product_operator, sum_operator, comparison_operator, and_operator, or_operator, joined, prefix_verb, given, snoc, alone, MethodTree, method_tree, return_tree, function_tree, Place, definition, definitions, block_of, link_of}
+use Rattle.egrammar.specs.Grammar.{Pat, pat_name, pat_ignore, Pats, pats_one, pats_and, PatList, pat_list_none, pat_list_some, Semicolons, semicolons_none, semicolons_more, Expr, expr_define, expr_define_list, expr_variable, expr_assign, expr_return, expr_return_null, expr_disjunction, Disjunction, disjunction_conjunction, disjunction_more, Conjunction, conjunction_comparison, conjunction_more, Comparison, comparison_sum, comparison_two, Sum, sum_product, sum_more, Product, product_unary, product_more, Unary, unary_postfix, unary_prefix, Postfix, postfix_primary, postfix_method, postfix_run, postfix_get, Primary, primary_int, primary_text, primary_true, primary_false, primary_null, primary_name, primary_list, primary_group, primary_hide, primary_if, primary_while, primary_for, primary_try, primary_throw, primary_escape, primary_object, primary_function, Method, method_to, method_plain, MethodList, methods_none, methods_and, Conditional, conditional_alone, conditional_else, conditional_else_if, Condition, condition, Braced, braced, Args, args_none, args_some, Items, items_one, items_and, Sequence, sequence_one, sequence_and, Block, block_empty, block_items, Program}
+use Rattle.egrammar.specs.Reading.{Read, ◌>>=◌, or_else, rest_of, sign_in, front, is_comma, is_semicolon, is_becomes, is_close, past, past_word, operand_next, commas_next, push_pattern, Within, items_at, args_at, is_at_word, is_var_word, is_if_word, is_in_word, is_catch_word, is_assignment, pattern_at, patterns_at, pattern_list_at, define_list_at, define_one_at, define_at, target_at, is_definition, begins, taking_at, method_at, methods_next, methods_at, methods_past_at, body_at, return_at, given_at, expr_at, primary_at, linked_at, postfix_next, postfix_at, unary_at, product_at, sum_at, comparison_at, conjunction_at, disjunction_at, if_at, within_at, skip_semicolons, is_block_end, separator_at, block_next, block_at, block_past_at, braced_at, condition_at, branch_at, else_at, ended, program_at}
 use Rattle.egrammar.proofs.Turns.{Turns, turns_begin, turns_more, if_is, some_same, none_some}
 use Rattle.egrammar.proofs.Steps.{methods_begin, methods_more, methods_end, operand_more, operand_end, postfix_end, commas_end, skip-end, block_begin, block_more, block_end}
 use Rattle.egrammar.proofs.Uses.{less_expr, less_pat, less_pat_list, less_disjunction, less_conjunction, less_comparison, less_sum, less_product, less_unary, less_postfix, less_conditional, less_condition, less_braced, less_args, less_items, le_semicolons, less_sequence, sign_strength, Below, product_none, sum_none, comparison_none, and_none, or_none, link_none, front_none, no_else, product_strength, sum_strength, comparison_strength, and_strength, or_strength, no_prefix, no_close, no_def, no_var, no_return, begins_start, method_begins, less_method, less_methods, no_assignment, start_postfix, start_disjunction, start_items, expr_begins, expr_goes, sequence_begins, pat_begins, pats_begin, braced_begins}

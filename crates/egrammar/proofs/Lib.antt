@@ -1,4 +1,3 @@
-pub mod Views
 pub mod Turns
 pub mod Steps
 pub mod Uses

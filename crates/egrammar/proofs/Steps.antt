@@ -5,25 +5,20 @@ use Rattle.etoken.specs.declared.token.Token.TheVariants as token
 use Rattle.etoken.specs.declared.token.Reserved as words
 use Rattle.etoken.specs.declared.token.Sign as signs
 use Rattle.etoken.specs.declared.token.Sign.TheVariants as sign
-use Rattle.kernele.specs.declared.tree.Expr.{Expr}
-use Rattle.kernele.specs.Tree.{Tree, Trees, none, and_then, Methods, no_methods, and_method}
+use Rattle.kernele.specs.Tree.{Tree, Trees, none, Methods, no_methods, and_method}
 use Rattle.kernele.specs.declared.tree.Method.{Method}
-use Rattle.kernele.specs.View.{tree_of, trees_of, methods_of}
-use Rattle.egrammar.specs.declared.operator.Operator.{Operator}
-use Rattle.egrammar.specs.declared.operator.Link.{Link}
-use Rattle.egrammar.specs.Grammar.{joined, snoc, MethodTree, put_method}
-use Rattle.egrammar.specs.Reading.{Read, ◌>>=◌, or_else, rest_of, is_empty, sign_in, front, is_comma, is_semicolon, Within, link_of, linked_at, postfix_next, commas_next, operand_next, skip_semicolons, skip_semicolons_sign, repeat, is_block_end, separator_at, separated, expr_at, block_next, block_at, is_at_word, is_method_word, method_at, methods_next, methods_at}
-use Rattle.egrammar.specs.View.{method_of}
+use Rattle.kernele.specs.View.{trees_of, methods_of}
+use Rattle.enodes.specs.declared.operator.Operator.{Operator}
+use Rattle.enodes.specs.declared.operator.Link.{Link}
+use Rattle.enodes.specs.Nodes.{joined, snoc, MethodTree, link_of}
+use Rattle.egrammar.specs.Grammar.{put_method}
+use Rattle.egrammar.specs.Reading.{Read, ◌>>=◌, or_else, rest_of, is_empty, sign_in, front, is_comma, is_semicolon, Within, linked_at, postfix_next, commas_next, operand_next, skip_semicolons, skip_semicolons_sign, repeat, is_block_end, separator_at, separated, expr_at, block_next, block_at, is_at_word, is_method_word, method_at, methods_next, methods_at}
+use Rattle.enodes.specs.View.{method_of}
 use Rattle.egrammar.proofs.Turns.{Turns, turns_here, turns_more, turns_fail, turns_end, if_is, some_same, none_some}
 
 pub rest_le : (a : List Token) → length (rest_of a) ≤ length a
 rest_le [] = omega arith
 rest_le (x ∷ a) = omega arith
-
--- a list that grows at its end
-pub trees_push : (es : List Expr) (e : Expr) → trees_of (es ++ e ∷ []) ≡ snoc (trees_of es) (tree_of e)
-trees_push [] e = refl
-trees_push (d ∷ es) e = ap (and_then (tree_of d)) (trees_push es e)
 
 -- methods that grow at their end
 pub methods_push : (ms : List Method) (m : Method) → methods_of (ms ++ m ∷ []) ≡ put_method (methods_of ms) (method_of m)

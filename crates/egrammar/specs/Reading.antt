@@ -8,13 +8,14 @@ use Rattle.etoken.specs.declared.token.Sign as signs
 use Rattle.etoken.specs.declared.token.Sign.TheVariants as sign
 use Rattle.kernele.specs.declared.tree.Pattern.{Pattern}
 use Rattle.kernele.specs.declared.tree.Pattern.TheVariants as pattern
-use Rattle.kernele.specs.Tree.{Name, Tree, null_tree, bool_tree, int_tree, text_tree, noun, call, list_tree, hide, if_tree, while_tree, for_tree, try_tree, throw_tree, object_tree, escape_tree, Trees, none, and_then, Methods, no_methods}
-use Rattle.egrammar.specs.declared.operator.Operator.{Operator}
-use Rattle.egrammar.specs.declared.operator.Link.{Link}
-use Rattle.egrammar.specs.declared.operator.Link.TheVariants as link
-use Rattle.egrammar.specs.declared.operator.Bracket.{Bracket}
-use Rattle.egrammar.specs.declared.operator.Bracket.TheVariants as bracket
-use Rattle.egrammar.specs.Grammar.{product_operator, sum_operator, comparison_operator, and_operator, or_operator, prefix_operator, joined, prefix_verb, Place, definition, definitions, new_variable, assignment, given, snoc, alone, MethodTree, method_tree, put_method, return_tree, returning, function_tree}
+use Rattle.kernele.specs.Tree.{Name, Tree, null_tree, int_tree, text_tree, noun, call, list_tree, hide, if_tree, while_tree, for_tree, try_tree, throw_tree, object_tree, escape_tree, Trees, none, and_then, Methods, no_methods}
+use Rattle.enodes.specs.declared.operator.Operator.{Operator}
+use Rattle.enodes.specs.declared.operator.Link.{Link}
+use Rattle.enodes.specs.declared.operator.Link.TheVariants as link
+use Rattle.enodes.specs.declared.operator.Bracket.{Bracket}
+use Rattle.enodes.specs.declared.operator.Bracket.TheVariants as bracket
+use Rattle.enodes.specs.Nodes.{product_operator, sum_operator, comparison_operator, and_operator, or_operator, prefix_operator, joined, prefix_verb, Place, definition, definitions, new_variable, assignment, given, snoc, alone, MethodTree, method_tree, return_tree, function_tree, literal_of, block_of, link_of, closer}
+use Rattle.egrammar.specs.Grammar.{put_method}
 
 -- what is read, and the tokens after it
 abbrev pub Read : Type 0 → Type 0
@@ -391,10 +392,6 @@ function_at within p a = pattern_list_at bracket.Round a >>= λ ps. braced_at wi
 abbrev pub method_verb_at : List Token → Read Name
 method_verb_at a = name_at a >>= past (is_open bracket.Round)
 
--- the block of a method, of those that may return or of the others
-abbrev pub block_of : Bool → Trees → Trees
-block_of returns ts = cond returns (returning ts) ts
-
 -- a method, behind its first word
 abbrev pub taking_at : Within → Bool → List Token → Read MethodTree
 taking_at within returns a = method_verb_at a >>= λ v. pattern_list_at bracket.Round v.1 >>= λ ps. braced_at within ps.1 >>= λ b. Some (method_tree v.0 ps.0 (block_of returns b.0), b.1)
@@ -429,13 +426,6 @@ body_at within p a =
 abbrev pub object_at : Within → List Token → Read Tree
 object_at within a = pattern_at a >>= λ p. body_at within p.0 p.1
 
--- the literal that a word is
-abbrev pub literal_of : words.Reserved → Option Tree
-literal_of word.True = Some (bool_tree true)
-literal_of word.False = Some (bool_tree false)
-literal_of word.Null = Some null_tree
-literal_of _ = None
-
 -- what begins with a word that is no literal, behind that word
 abbrev pub control_at : Within → words.Reserved → List Token → Read Tree
 control_at within word.If a = if_at within a
@@ -463,18 +453,6 @@ primary_at within (token.Text s ∷ a) = Some (text_tree s, a)
 primary_at within (token.Name x ∷ a) = Some (noun x, a)
 primary_at within (token.Word w ∷ a) = word_at within w a
 primary_at within (token.Sign s ∷ a) = bracket_at within s a
-
--- what makes a call of what stands before it
-abbrev pub link_of : signs.Sign → Option Link
-link_of sign.Dot = Some link.Method
-link_of sign.OpenRound = Some link.Run
-link_of sign.OpenSquare = Some link.Index
-link_of _ = None
-
-abbrev pub closer : Link → Bracket
-closer link.Method = bracket.Round
-closer link.Run = bracket.Round
-closer link.Index = bracket.Square
 
 -- the verb, up to the arguments
 abbrev pub verb_at : Link → List Token → Read Name

@@ -1,6 +1,4 @@
-//! The grammar of the language: which trees tokens spell, what its operators stand for, and the nodes of those trees.
+//! The grammar of the language: which trees tokens spell, and its laws.
 #![tactic(auto)]
 
-pub mod nodes;
-pub mod operator;
 pub mod theorems;

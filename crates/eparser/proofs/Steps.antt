@@ -3,12 +3,12 @@ use Rattle.std.proofs.Common.{◌≡◌, List, Bool, false, Option, Some}
 use Rattle.etoken.specs.declared.token.Token.{Token}
 use Rattle.etoken.specs.declared.token.Sign as signs
 use Rattle.kernele.specs.Tree.{Tree, Trees}
-use Rattle.egrammar.specs.declared.operator.Operator.{Operator}
+use Rattle.enodes.specs.declared.operator.Operator.{Operator}
 use Rattle.egrammar.specs.Reading.{Read, rest_of, front, operand_next, Within, is_block_end, separator_at, expr_at, block_next}
 use Rattle.egrammar.proofs.Turns.{Turns}
 use Rattle.egrammar.proofs.Steps.{operand_fail, block_part_fail}
-use Rattle.eparser.specs.declared.stop.Stop.{Stop}
-use Rattle.eparser.specs.declared.stop.Stop.TheVariants as stop
+use Rattle.enodes.specs.declared.stop.Stop.{Stop}
+use Rattle.enodes.specs.declared.stop.Stop.TheVariants as stop
 use Rattle.eparser.specs.View.{Fails}
 
 module _ (of : signs.Sign → Option Operator) (part : List Token → Read Tree) where

@@ -9,13 +9,14 @@ use Rattle.kernele.specs.declared.tree.Pattern.{Pattern}
 use Rattle.kernele.specs.declared.tree.Method.{Method}
 use Rattle.kernele.specs.Tree.{Tree, Trees, Methods}
 use Rattle.kernele.specs.View.{tree_of, trees_of, methods_of}
-use Rattle.eparser.specs.declared.stop.Stop.{Stop}
-use Rattle.eparser.specs.declared.stop.Stop.TheVariants as stop
+use Rattle.enodes.specs.declared.stop.Stop.{Stop}
+use Rattle.enodes.specs.declared.stop.Stop.TheVariants as stop
 use Rattle.eparser.specs.declared.reader.Reader.{Reader}
-use Rattle.egrammar.specs.declared.operator.Target.{Target}
-use Rattle.egrammar.specs.Grammar.{Place, MethodTree}
+use Rattle.enodes.specs.declared.operator.Target.{Target}
+use Rattle.enodes.specs.Nodes.{Place, MethodTree}
 use Rattle.egrammar.specs.Reading.{Read}
-use Rattle.egrammar.specs.View.{plain, method_of, place_of}
+use Rattle.enodes.specs.View.{method_of, place_of}
+use Rattle.egrammar.specs.View.{plain}
 
 -- the reader stops at a token that can't follow, or where memory runs out
 abbrev pub Fails : {A : Type 0} → Stop → Option A → Type 0

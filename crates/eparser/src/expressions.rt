@@ -4,15 +4,15 @@
 // nests without brackets.
 ghost use Rattle.std.specs.Prelude.{◌≡◌, OnOk};
 ghost use Rattle.kernele.specs.View.{tree_of};
-ghost use Rattle.egrammar.specs.Grammar as grammar;
+ghost use Rattle.enodes.specs.Nodes.{and_operator, or_operator, product_operator, sum_operator};
 ghost use Rattle.egrammar.specs.Reading as reading;
 ghost use Rattle.egrammar.specs.Reading.{within_at};
 ghost use Rattle.eparser.specs.View.{Advances, IsNoLonger, Gives, GivesPlain};
 
 use crate::reader::Reader;
-use crate::stop::Stop;
-use egrammar::nodes;
-use egrammar::operator::{Bracket, Link};
+use enodes::nodes;
+use enodes::operator::{Bracket, Link};
+use enodes::stop::Stop;
 use ids::text::Text;
 use kernele::tree::Expr;
 use std::sync::Arc;
@@ -82,7 +82,7 @@ impl<'a> Reader<'a> {
     #[cycle(read)]
     #[inline(never)]
     fn disjunction_from(&mut self, left: usize, first: Expr) -> Result<Expr, Stop>
-        ensures gives { Gives result self.old self.new (reading.operands_from grammar.or_operator (reading.conjunction_at (within_at left)) (tree_of first)) }
+        ensures gives { Gives result self.old self.new (reading.operands_from or_operator (reading.conjunction_at (within_at left)) (tree_of first)) }
         ensures shorter { OnOk result (IsNoLonger self.old self.new) }
     {
         let mut disjunction = first;
@@ -119,7 +119,7 @@ impl<'a> Reader<'a> {
     #[cycle(read)]
     #[inline(never)]
     fn conjunction_from(&mut self, left: usize, first: Expr) -> Result<Expr, Stop>
-        ensures gives { Gives result self.old self.new (reading.operands_from grammar.and_operator (reading.comparison_at (within_at left)) (tree_of first)) }
+        ensures gives { Gives result self.old self.new (reading.operands_from and_operator (reading.comparison_at (within_at left)) (tree_of first)) }
         ensures shorter { OnOk result (IsNoLonger self.old self.new) }
     {
         let mut conjunction = first;
@@ -189,7 +189,7 @@ impl<'a> Reader<'a> {
     #[cycle(read)]
     #[inline(never)]
     fn sum_from(&mut self, left: usize, first: Expr) -> Result<Expr, Stop>
-        ensures gives { Gives result self.old self.new (reading.operands_from grammar.sum_operator (reading.product_at (within_at left)) (tree_of first)) }
+        ensures gives { Gives result self.old self.new (reading.operands_from sum_operator (reading.product_at (within_at left)) (tree_of first)) }
         ensures shorter { OnOk result (IsNoLonger self.old self.new) }
     {
         let mut sum = first;
@@ -214,7 +214,7 @@ impl<'a> Reader<'a> {
     #[cycle(read)]
     #[inline(never)]
     fn product_from(&mut self, left: usize, first: Expr) -> Result<Expr, Stop>
-        ensures gives { Gives result self.old self.new (reading.operands_from grammar.product_operator (reading.unary_at (within_at left)) (tree_of first)) }
+        ensures gives { Gives result self.old self.new (reading.operands_from product_operator (reading.unary_at (within_at left)) (tree_of first)) }
         ensures shorter { OnOk result (IsNoLonger self.old self.new) }
     {
         let mut product = first;

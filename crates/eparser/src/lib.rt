@@ -7,7 +7,5 @@ mod objects;
 mod peek;
 mod primaries;
 mod reader;
-mod stop;
 
 pub use reader::Reader;
-pub use stop::Stop;

@@ -5,9 +5,9 @@ ghost use Rattle.egrammar.specs.Reading.{within_at};
 ghost use Rattle.eparser.specs.View.{Advances, IsNoLonger, Gives, GivesMethod, GivesMethods};
 
 use crate::reader::Reader;
-use crate::stop::Stop;
-use egrammar::nodes;
-use egrammar::operator::Bracket;
+use enodes::nodes;
+use enodes::operator::Bracket;
+use enodes::stop::Stop;
 use kernele::tree::{Expr, Method, Pattern};
 
 impl<'a> Reader<'a> {

@@ -5,9 +5,9 @@ ghost use Rattle.egrammar.specs.Reading.{rest_of, within_at};
 ghost use Rattle.eparser.specs.View.{left_of, Advances, IsNoLonger, Gives, GivesMany};
 
 use crate::reader::Reader;
-use crate::stop::Stop;
-use egrammar::nodes;
-use egrammar::operator::Bracket;
+use enodes::nodes;
+use enodes::operator::Bracket;
+use enodes::stop::Stop;
 use etoken::token::{Reserved, Sign, Token};
 use kernele::tree::Expr;
 

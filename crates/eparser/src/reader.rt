@@ -4,8 +4,8 @@ ghost use Rattle.egrammar.specs.Reading as reading;
 ghost use Rattle.egrammar.specs.Reading.{rest_of};
 ghost use Rattle.eparser.specs.View.{left_of, Advances, IsNoLonger, GivesPlain, GivesPatterns, GivesPlace};
 
-use crate::stop::Stop;
-use egrammar::operator::{Bracket, Target};
+use enodes::operator::{Bracket, Target};
+use enodes::stop::Stop;
 use etoken::token::{Placed, Sign, Token};
 use ids::text::Text;
 use kernele::tree::Pattern;

@@ -16,7 +16,8 @@ pub mod fault;
 pub mod theorems;
 
 use crate::fault::ReadFault;
-use eparser::{Reader, Stop};
+use enodes::stop::Stop;
+use eparser::Reader;
 use etoken::token::Placed;
 use etoken::tokens::tokens;
 use kernele::tree::{Block, Expr, Program};

@@ -1,9 +1,10 @@
 use Rattle.std.proofs.Common.{rules, arith, length, sym, ap, ◌∙◌}
 use Rattle.std.proofs.lemmas.Result.{err_from_is_err_and}
 use Rattle.egrammar.proofs.Turns.{turns_here}
-use Rattle.egrammar.proofs.Steps.{rest_le, skip-le, trees_push, operand_more, operand_end, postfix_more, postfix_end, commas_more, commas_end, block_begin, block_more, block_end, methods_push, methods_begin, methods_more, methods_end}
+use Rattle.enodes.proofs.Views.{trees_push}
+use Rattle.egrammar.proofs.Steps.{rest_le, skip-le, operand_more, operand_end, postfix_more, postfix_end, commas_more, commas_end, block_begin, block_more, block_end, methods_push, methods_begin, methods_more, methods_end}
 use Rattle.eparser.proofs.Steps.{operand_fails, block_part_fails}
-use Rattle.egrammar.specs.Grammar.{sum_operator, product_operator, and_operator, or_operator, snoc}
+use Rattle.enodes.specs.Nodes.{sum_operator, product_operator, and_operator, or_operator, snoc}
 use Rattle.egrammar.specs.Reading.{conjunction_at, comparison_at, product_at, unary_at, operand_next, postfix_next, within_at}
 use Rattle.egrammar.specs.View.{plain}
 use Rattle.kernele.specs.View.{tree_of}

@@ -1,5 +1,5 @@
 use Rattle.std.proofs.Common.{length, ◌*◌, ◌+◌, ◌<◌, ◌≤◌}
-use Rattle.egrammar.specs.Grammar.{product_operator, sum_operator, and_operator, or_operator, snoc}
+use Rattle.enodes.specs.Nodes.{product_operator, sum_operator, and_operator, or_operator, snoc}
 use Rattle.egrammar.specs.Reading.{within_at, operand_next, operands_from, conjunction_at, comparison_at, product_at, unary_at, postfix_from, postfix_next, items_at, commas_next, block_at, block_next, methods_at, methods_next}
 use Rattle.egrammar.specs.View.{plain}
 use Rattle.kernele.specs.View.{tree_of, trees_of, methods_of}

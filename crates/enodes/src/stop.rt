@@ -1,6 +1,6 @@
-// Why nothing more is read.
+// Why reading stops.
 ghost use Rattle.std.specs.Prelude.{◌≡◌};
-ghost use Rattle.eparser.specs.declared.stop.Stop.TheVariants as stop;
+ghost use Rattle.enodes.specs.declared.stop.Stop.TheVariants as stop;
 
 use std::alloc::{AllocError, AllocFailed};
 

@@ -3,9 +3,8 @@
 ghost use Rattle.std.specs.Prelude.{◌≡◌, [], ◌∷◌, IfOk};
 ghost use Rattle.kernele.specs.Tree.{int_tree, text_tree, noun as noun_tree, call as call_tree, list_tree, hide as hide_tree, if_tree, while_tree, for_tree, try_tree, throw_tree, object_tree, escape_tree, none};
 ghost use Rattle.kernele.specs.View.{tree_of, trees_of, methods_of};
-ghost use Rattle.egrammar.specs.Grammar.{binary as binary_tree, given, joined, prefix_verb, method_tree, return_tree, return_name as name_of_return, returning as returning_trees, function_tree};
-ghost use Rattle.egrammar.specs.Reading.{literal_of, block_of as block_trees};
-ghost use Rattle.egrammar.specs.View.{GivesTree, place_of, method_of};
+ghost use Rattle.enodes.specs.Nodes.{binary as binary_tree, given, joined, prefix_verb, method_tree, return_tree, return_name as name_of_return, returning as returning_trees, function_tree, literal_of, block_of as block_trees};
+ghost use Rattle.enodes.specs.View.{GivesTree, place_of, method_of};
 
 use crate::operator::{Operator, Prefix, Target};
 use etoken::token::Reserved;

@@ -1,7 +1,6 @@
 // Signs, by what they stand for where they stand, and what stands before a value.
 ghost use Rattle.std.specs.Prelude.{◌≡◌};
-ghost use Rattle.egrammar.specs.Grammar as grammar;
-ghost use Rattle.egrammar.specs.Reading.{closer, link_of};
+ghost use Rattle.enodes.specs.Nodes.{and_operator, comparison_operator, or_operator, prefix_operator, product_operator, sum_operator, closer, link_of};
 
 use etoken::token::Sign;
 use ids::text::Text;
@@ -27,7 +26,7 @@ pub enum Operator {
 impl Operator {
     /// The operator that a sign is between two operands of a product.
     pub fn of_product(sign: Sign) -> Option<Operator>
-        ensures { result ≡ grammar.product_operator sign }
+        ensures { result ≡ product_operator sign }
     {
         match sign {
             Sign::Times => Some(Operator::Multiply),
@@ -38,7 +37,7 @@ impl Operator {
 
     /// The operator that a sign is between two products.
     pub fn of_sum(sign: Sign) -> Option<Operator>
-        ensures { result ≡ grammar.sum_operator sign }
+        ensures { result ≡ sum_operator sign }
     {
         match sign {
             Sign::Plus => Some(Operator::Add),
@@ -49,7 +48,7 @@ impl Operator {
 
     /// The operator that a sign is between two sums.
     pub fn of_comparison(sign: Sign) -> Option<Operator>
-        ensures { result ≡ grammar.comparison_operator sign }
+        ensures { result ≡ comparison_operator sign }
     {
         match sign {
             Sign::Equal => Some(Operator::Same),
@@ -64,7 +63,7 @@ impl Operator {
 
     /// The operator that a sign is between two comparisons.
     pub fn of_conjunction(sign: Sign) -> Option<Operator>
-        ensures { result ≡ grammar.and_operator sign }
+        ensures { result ≡ and_operator sign }
     {
         match sign {
             Sign::And => Some(Operator::And),
@@ -74,7 +73,7 @@ impl Operator {
 
     /// The operator that a sign is between two conjunctions.
     pub fn of_disjunction(sign: Sign) -> Option<Operator>
-        ensures { result ≡ grammar.or_operator sign }
+        ensures { result ≡ or_operator sign }
     {
         match sign {
             Sign::Or => Some(Operator::Or),
@@ -93,7 +92,7 @@ pub enum Prefix {
 impl Prefix {
     /// The operator that a sign is before an operand.
     pub fn of(sign: Sign) -> Option<Prefix>
-        ensures { result ≡ grammar.prefix_operator sign }
+        ensures { result ≡ prefix_operator sign }
     {
         match sign {
             Sign::Not => Some(Prefix::Not),

@@ -1,9 +1,9 @@
 use Rattle.std.proofs.Common.{◌≡◌, [], ◌∷◌, refl}
 use Rattle.std.proofs.lemmas.Result.{IfOk-weaker}
 use Rattle.kernele.specs.View.{trees_of}
-use Rattle.egrammar.specs.Grammar.{returning}
-use Rattle.egrammar.proofs.Steps.{trees_push}
-use Rattle.egrammar.proofs.nodes.returning.Goals as goal
+use Rattle.enodes.specs.Nodes.{returning}
+use Rattle.enodes.proofs.Views.{trees_push}
+use Rattle.enodes.proofs.nodes.returning.Goals as goal
 
 pub returns : goal.returns
 returns c =

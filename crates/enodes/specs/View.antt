@@ -1,0 +1,25 @@
+-- What methods, literals and what a value is given to stand for.
+use Rattle.std.specs.Prelude.{◌≡◌, Option, Some, None}
+use Rattle.kernele.specs.declared.tree.Expr.{Expr}
+use Rattle.kernele.specs.declared.tree.Method.{Method}
+use Rattle.kernele.specs.Tree.{Tree}
+use Rattle.kernele.specs.View.{tree_of, trees_of}
+use Rattle.enodes.specs.declared.operator.Target.{Target}
+use Rattle.enodes.specs.declared.operator.Target.TheVariants as target
+use Rattle.enodes.specs.Nodes.{Place, definition, definitions, new_variable, assignment, MethodTree, method_tree}
+
+-- the method that a method stands for
+abbrev pub method_of : Method → MethodTree
+method_of m = method_tree m.verb m.parameters.value.items (trees_of m.body.value.items)
+
+-- what a value is given to
+abbrev pub place_of : Target → Place
+place_of (target.Definition p) = definition p
+place_of (target.Definitions ps) = definitions ps.items
+place_of (target.Variable x) = new_variable x
+place_of (target.Assignment x) = assignment x
+
+-- a literal stands for a tree, or none is there
+abbrev pub GivesTree : Option Expr → Option Tree → Type 0
+GivesTree (Some e) tree = tree ≡ Some (tree_of e)
+GivesTree None tree = tree ≡ None
