@@ -14,7 +14,7 @@ use Rattle.enodes.specs.declared.operator.Link.{Link}
 use Rattle.enodes.specs.declared.operator.Link.TheVariants as link
 use Rattle.enodes.specs.declared.operator.Bracket.{Bracket}
 use Rattle.enodes.specs.declared.operator.Bracket.TheVariants as bracket
-use Rattle.enodes.specs.Nodes.{product_operator, sum_operator, comparison_operator, and_operator, or_operator, prefix_operator, joined, prefix_verb, Place, definition, definitions, new_variable, assignment, given, snoc, alone, MethodTree, method_tree, return_tree, function_tree, literal_of, block_of, link_of, closer}
+use Rattle.enodes.specs.Nodes.{product_operator, sum_operator, comparison_operator, and_operator, or_operator, prefix_operator, joined, prefix_verb, Place, definition, definitions, new_variable, assignment, given, snoc, alone, MethodTree, method_tree, return_tree, function_tree, literal_of, block_of, link_of, verb_of, closer}
 use Rattle.egrammar.specs.Grammar.{put_method}
 
 -- what is read, and the tokens after it
@@ -456,9 +456,7 @@ primary_at within (token.Sign s ∷ a) = bracket_at within s a
 
 -- the verb, up to the arguments
 abbrev pub verb_at : Link → List Token → Read Name
-verb_at link.Method a = method_verb_at a
-verb_at link.Run a = Some (codes "run", a)
-verb_at link.Index a = Some (codes "get", a)
+verb_at l a = or_else (verb_of l) (method_verb_at a) (λ v. Some (v, a))
 
 -- a call of t, behind what makes it one
 abbrev pub linked_at : Within → Link → Tree → List Token → Read Tree

@@ -139,6 +139,13 @@ link_of sign.OpenRound = Some link.Run
 link_of sign.OpenSquare = Some link.Index
 link_of _ = None
 
+-- the verb of such a call, where no name stands for it
+abbrev pub verb_of : Link → Option Name
+verb_of link.Method = None
+verb_of link.Run = Some (codes "run")
+verb_of link.Index = Some (codes "get")
+
+-- the bracket that its arguments stand in
 abbrev pub closer : Link → Bracket
 closer link.Method = bracket.Round
 closer link.Run = bracket.Round

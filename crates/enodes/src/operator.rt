@@ -1,10 +1,11 @@
 // Signs, by what they stand for where they stand, and what stands before a value.
-ghost use Rattle.std.specs.Prelude.{◌≡◌};
-ghost use Rattle.enodes.specs.Nodes.{and_operator, comparison_operator, or_operator, prefix_operator, product_operator, sum_operator, closer, link_of};
+ghost use Rattle.std.specs.Prelude.{◌≡◌, IfOk};
+ghost use Rattle.enodes.specs.Nodes.{and_operator, comparison_operator, or_operator, prefix_operator, product_operator, sum_operator, closer, link_of, verb_of};
 
 use etoken::token::Sign;
 use ids::text::Text;
 use kernele::tree::Pattern;
+use std::alloc::{AllocError, Global};
 
 /// A sign between two operands.
 #[derive(Clone, Copy)]
@@ -124,6 +125,17 @@ impl Link {
             Sign::OpenSquare => Some(Link::Index),
             _ => None,
         }
+    }
+
+    /// The verb of the call, where no name stands for it.
+    pub fn verb(self, alloc: Global) -> Result<Option<Text>, AllocError>
+        ensures { IfOk result (λ verb. verb ≡ verb_of self) }
+    {
+        Ok(match self {
+            Link::Method => None,
+            Link::Run => Some(Text::new(alloc, "run")?),
+            Link::Index => Some(Text::new(alloc, "get")?),
+        })
     }
 
     /// The bracket that its arguments stand in.

@@ -1,5 +1,5 @@
 -- Where a turn of a loop of the reader stops.
-use Rattle.std.proofs.Common.{◌≡◌, List, Bool, false, Option, Some}
+use Rattle.std.proofs.Common.{◌≡◌, List, false, Option, Some}
 use Rattle.etoken.specs.declared.token.Token.{Token}
 use Rattle.etoken.specs.declared.token.Sign as signs
 use Rattle.kernele.specs.Tree.{Tree, Trees}

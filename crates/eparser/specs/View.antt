@@ -1,5 +1,5 @@
 -- What the reader's answers stand for.
-use Rattle.std.specs.Prelude.{◌≡◌, ◌<◌, ◌≤◌, length, List, [], Option, Some, None, Result, Ok, Err}
+use Rattle.std.specs.Prelude.{◌≡◌, ◌<◌, ◌≤◌, length, List, Option, Some, None, Result, Ok, Err}
 use Rattle.std.specs.declared.sync.Arc.{Arc}
 use Rattle.std.specs.declared.vec.Vec.{Vec}
 use Rattle.std.specs.declared.alloc.Global.{Global}
@@ -62,11 +62,6 @@ abbrev pub GivesPlace : Result (Option Target) Stop → Reader → Reader → (L
 GivesPlace (Ok None) old new read = read (left_of old) ≡ Some (None, left_of new)
 GivesPlace (Ok (Some g)) old new read = read (left_of old) ≡ Some (Some (place_of g), left_of new)
 GivesPlace (Err e) old new read = Fails e (read (left_of old))
-
--- the same, of several expressions and no token behind them
-abbrev pub GivesAll : Result (Vec Expr Global) Stop → Option (Trees × List Token) → Type 0
-GivesAll (Ok es) read = read ≡ Some (trees_of es.items, [])
-GivesAll (Err e) read = Fails e read
 
 -- the same, of a name or one pattern
 abbrev pub GivesPlain : {A : Type 0} → Result A Stop → Reader → Reader → (List Token → Read A) → Type 0

@@ -2,7 +2,7 @@
 ghost use Rattle.std.specs.Prelude.{◌≡◌, ◌≤◌, length, OnOk};
 ghost use Rattle.egrammar.specs.Reading as reading;
 ghost use Rattle.egrammar.specs.Reading.{rest_of, within_at};
-ghost use Rattle.eparser.specs.View.{left_of, Advances, IsNoLonger, Gives, GivesShared, GivesMany, GivesAll, GivesPlain, GoesTo};
+ghost use Rattle.eparser.specs.View.{left_of, Advances, IsNoLonger, Gives, GivesShared, GivesMany, GivesPlain, GoesTo};
 
 use crate::reader::Reader;
 use enodes::nodes;
@@ -34,20 +34,13 @@ impl<'a> Reader<'a> {
         Ok(())
     }
 
-    /// All the tokens, where parts lie within one another at most `left` deep.
-    pub fn program(&mut self, left: usize) -> Result<Vec<Expr>, Stop>
-        ensures { GivesAll result (reading.all_at (within_at left) (left_of self.old)) }
-    {
-        let items = self.block(left)?;
-        if !self.at_end() {
-            return Err(Stop::Unexpected);
-        }
-        Ok(items)
-    }
-
-    /// The items of a block, up to its end.
+    /// The items of a block, up to its end, where parts lie within one another at most `left` deep.
+    ///
+    /// # Errors
+    ///
+    /// `Unexpected` before the first token that can't follow those before it; `Memory` where memory runs out.
     #[cycle(read)]
-    fn block(&mut self, left: usize) -> Result<Vec<Expr>, Stop>
+    pub fn block(&mut self, left: usize) -> Result<Vec<Expr>, Stop>
         ensures gives { GivesMany result self.old self.new (reading.block_at (within_at left)) }
         ensures shorter { OnOk result (IsNoLonger self.old self.new) }
     {

@@ -23,10 +23,9 @@ impl<'a> Reader<'a> {
         ensures gives { GivesPlain result self.old self.new (reading.verb_at link) }
         ensures shorter { OnOk result (IsNoLonger self.old self.new) }
     {
-        match link {
-            Link::Method => self.method_verb(),
-            Link::Run => Ok(Text::new(self.alloc, "run")?),
-            Link::Index => Ok(Text::new(self.alloc, "get")?),
+        match link.verb(self.alloc)? {
+            Some(verb) => Ok(verb),
+            None => self.method_verb(),
         }
     }
 

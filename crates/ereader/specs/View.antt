@@ -1,11 +1,22 @@
 -- What the reader's refusals stand for.
-use Rattle.std.specs.Prelude.{◌≡◌, ◌≤◌, ℕ, List, Option, None, Result, Ok, Err, ◌⊎◌, Any}
+use Rattle.std.specs.Prelude.{◌≡◌, ◌≤◌, ℕ, List, [], Option, Some, None, Result, Ok, Err, ◌⊎◌, Any}
+use Rattle.std.specs.declared.vec.Vec.{Vec}
+use Rattle.std.specs.declared.alloc.Global.{Global}
+use Rattle.etoken.specs.declared.token.Token.{Token}
+use Rattle.kernele.specs.declared.tree.Expr.{Expr}
+use Rattle.enodes.specs.declared.stop.Stop.{Stop}
+use Rattle.eparser.specs.View.{Fails}
 use Rattle.etoken.specs.declared.token.Placed.{Placed}
 use Rattle.kernele.specs.declared.tree.Program.{Program}
 use Rattle.kernele.specs.Tree.{Trees}
-use Rattle.kernele.specs.View.{program_of}
+use Rattle.kernele.specs.View.{program_of, trees_of}
 use Rattle.ereader.specs.declared.fault.ReadFault.{ReadFault}
 use Rattle.ereader.specs.declared.fault.ReadFault.TheVariants as fault
+
+-- the items that all tokens spell are what reading gives, unless memory ran out
+abbrev pub GivesAll : Result (Vec Expr Global) Stop → Option (Trees × List Token) → Type 0
+GivesAll (Ok es) read = read ≡ Some (trees_of es.items, [])
+GivesAll (Err e) read = Fails e read
 
 -- a place of a text of n bytes: where one of its tokens stands, or its end
 abbrev pub IsPlace : List Placed → ℕ → ℕ → Type 0

@@ -6,10 +6,11 @@ ghost use Rattle.kernele.specs.Tree.{Trees};
 ghost use Rattle.kernele.specs.View.{trees_of, program_of};
 ghost use Rattle.ereader.specs.Brackets.{IsTooDeep};
 ghost use Rattle.egrammar.specs.Grammar as grammar;
-ghost use Rattle.egrammar.specs.Reading.{program_at};
+ghost use Rattle.egrammar.specs.Reading.{program_at, all_at, within_at};
+ghost use Rattle.eparser.specs.View.{left_of};
 ghost use Rattle.ereader.specs.Texts.{Answers};
 ghost use Rattle.egrammar.specs.View.{plain};
-ghost use Rattle.ereader.specs.View.{IsPlace, Stops, Accepts, IsRefusal};
+ghost use Rattle.ereader.specs.View.{GivesAll, IsPlace, Stops, Accepts, IsRefusal};
 
 mod depth;
 pub mod fault;
@@ -67,7 +68,7 @@ fn read_items(alloc: Global, tokens: &[Placed], length: usize) -> Result<Vec<Exp
         alloc,
         rest: tokens,
     };
-    match reader.program(tokens.len()) {
+    match all_items(&mut reader, tokens.len()) {
         Ok(items) => Ok(items),
         Err(Stop::Memory) => Err(ReadFault::Memory),
         Err(Stop::Unexpected) => {
@@ -75,6 +76,17 @@ fn read_items(alloc: Global, tokens: &[Placed], length: usize) -> Result<Vec<Exp
             Err(ReadFault::Unexpected(place_at(tokens, index, length)))
         }
     }
+}
+
+/// The items that all the tokens of a reader spell, where parts lie within one another at most `left` deep.
+fn all_items(reader: &mut Reader, left: usize) -> Result<Vec<Expr>, Stop>
+    ensures { GivesAll result (all_at (within_at left) (left_of reader.old)) }
+{
+    let items = reader.block(left)?;
+    if !reader.rest.is_empty() {
+        return Err(Stop::Unexpected);
+    }
+    Ok(items)
 }
 
 /// Where the token with this index stands, or the text's end.
