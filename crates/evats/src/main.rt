@@ -1,19 +1,15 @@
 //! Runs a text of commands on vats, and writes one reply for each.
 #![tactic(auto)]
 
-mod ended;
 mod options;
-#[cfg(test)]
-mod tests;
 
-pub use ended::{Ended, status};
 use options::{Options, Parsed, parse};
 use std::io::{Read, Write};
 use std::process::ExitCode;
 use std::rt::Runtime;
 use std::thread::{Builder, Threads};
 use std::{fs, io};
-use stepper::{Fault, Limits, STACK, Summary, replies};
+use stepper::{Ended, Fault, Limits, STACK, Summary, replies, status};
 
 /// What is read: a file, or standard input.
 fn input<R: Runtime + AllocGlobal>(rt: &R, file: Option<&str>) -> Result<Vec<u8>, Ended> {

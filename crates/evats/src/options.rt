@@ -1,11 +1,10 @@
 // The words of the command line.
 
-use crate::ended::Ended;
-use clap::{Arg, ArgAction, ArgMatches, Command, value_parser};
+use clap::{Arg, ArgMatches, Command, Error, value_parser};
 use std::alloc::{AllocError, Global};
 use std::io;
 use std::rt::Runtime;
-use stepper::Limits;
+use stepper::{Ended, Limits};
 
 /// The options of a run.
 #[derive(Drop)]
@@ -23,52 +22,68 @@ pub enum Parsed<'a> {
     Stop(Ended),
 }
 
-fn command<'a>(alloc: Global) -> Result<Command<'a>, AllocError> {
-    let budget = Arg::new(alloc, "budget")
+fn budget<'a>(alloc: Global) -> Arg<'a> {
+    Arg::new(alloc, "budget")
         .long("budget")
         .value_name("N")
         .value_parser(value_parser!(u32).range(1..=1_000_000))
         .default_value("10000")
-        .help("The most steps of a turn, 1 to 1,000,000");
-    let workers = Arg::new(alloc, "workers")
+        .help("The most steps of a turn, 1 to 1,000,000")
+}
+
+fn workers<'a>(alloc: Global) -> Arg<'a> {
+    Arg::new(alloc, "workers")
         .long("workers")
         .value_name("N")
         .value_parser(value_parser!(u32).range(1..=64))
         .default_value("8")
-        .help("The most workers that a command may start, 1 to 64");
-    let file = Arg::new(alloc, "file")
+        .help("The most workers that a command may start, 1 to 64")
+}
+
+fn file<'a>(alloc: Global) -> Arg<'a> {
+    Arg::new(alloc, "file")
         .value_name("FILE")
-        .help("The commands; without FILE standard input is read");
+        .help("The commands; without FILE standard input is read")
+}
+
+fn command<'a>(alloc: Global) -> Result<Command<'a>, AllocError> {
     Command::new(alloc, "evats")
         .about("Runs programs of communicating event-loop vats: one reply for each command")
-        .arg(budget)?
-        .arg(workers)?
-        .arg(file)
+        .arg(budget(alloc))?
+        .arg(workers(alloc))?
+        .arg(file(alloc))
 }
 
 fn number(matches: &ArgMatches, name: &str, otherwise: u32) -> u32 {
     matches.get_one::<u32>(name).unwrap_or(otherwise)
 }
 
-/// Reads the words, the program's own name first, and prints the help or what is wrong.
-pub fn parse<'a, R: Runtime + AllocGlobal>(rt: &R, words: &'a [String]) -> io::Result<Parsed<'a>> {
-    let command = command(rt.alloc())?;
-    match command.try_get_matches_from(words) {
-        Ok(matches) => Ok(Parsed::Options(Options {
+impl<'a> Options<'a> {
+    fn from_matches(matches: &ArgMatches<'a>) -> Self {
+        Options {
             limits: Limits {
-                budget: number(&matches, "budget", 10_000),
-                workers: number(&matches, "workers", 8),
+                budget: number(matches, "budget", 10_000),
+                workers: number(matches, "workers", 8),
             },
             file: matches.get_str("file"),
-        })),
-        Err(error) => {
-            error.print(rt)?;
-            let ended = if error.exit_code() == 0 {
-                Ended::Help
-            } else {
-                Ended::Usage
-            };
-            Ok(Parsed::Stop(ended))
         }
+    }
+}
+
+/// Prints the help, or what is wrong with the words.
+fn stop<R: Runtime>(rt: &R, error: &Error) -> io::Result<Ended> {
+    error.print(rt)?;
+    if error.exit_code() == 0 {
+        Ok(Ended::Help)
+    } else {
+        Ok(Ended::Usage)
+    }
+}
+
+/// Reads the words, the program's own name first, and prints the help or what is wrong.
+pub fn parse<'a, R: Runtime + AllocGlobal>(rt: &R, words: &'a [String]) -> io::Result<Parsed<'a>> {
+    match command(rt.alloc())?.try_get_matches_from(words) {
+        Ok(matches) => Ok(Parsed::Options(Options::from_matches(&matches))),
+        Err(error) => Ok(Parsed::Stop(stop(rt, &error)?)),
     }
 }

@@ -1,3 +1,4 @@
+pub mod Ended
 pub mod Engine
 pub mod Fault
 pub mod Listing

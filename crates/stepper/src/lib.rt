@@ -1,9 +1,11 @@
 //! Answers commands on vats: one reply for each.
 #![tactic(auto)]
 
+mod ended;
 mod engine;
 mod listing;
 mod reply;
 mod show;
 
+pub use ended::{Ended, status};
 pub use engine::{Fault, Limits, STACK, Summary, replies};

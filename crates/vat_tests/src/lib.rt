@@ -8,6 +8,8 @@ mod control;
 #[cfg(test)]
 mod depth;
 #[cfg(test)]
+mod endings;
+#[cfg(test)]
 mod objects;
 #[cfg(test)]
 mod sessions;

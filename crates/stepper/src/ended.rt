@@ -1,8 +1,8 @@
 // How the program ends.
 ghost use Rattle.std.specs.Prelude.{◌≡◌};
-ghost use Rattle.evats.specs.Ended.{status_of};
+ghost use Rattle.stepper.specs.Ended.{status_of};
 
-use stepper::{Fault, Summary};
+use crate::engine::{Fault, Summary};
 
 /// How a run of the program ends.
 #[derive(Clone, Copy, Debug, PartialEq, Eq)]

@@ -1,7 +1,6 @@
 // The exit status of each ending.
 
-use crate::ended::{Ended, status};
-use stepper::{Fault, Summary};
+use stepper::{Ended, Fault, Summary, status};
 
 #[test]
 fn statuses(rt: HostRuntime) {

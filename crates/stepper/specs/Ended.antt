@@ -1,7 +1,7 @@
 -- What the program ends with: its exit status.
 use Rattle.std.specs.Prelude.{ℕ, cond, Ok, Err}
-use Rattle.evats.specs.declared.ended.Ended.{Ended}
-use Rattle.evats.specs.declared.ended.Ended.TheVariants.{Help, Usage, NoFile, Ran}
+use Rattle.stepper.specs.declared.ended.Ended.{Ended}
+use Rattle.stepper.specs.declared.ended.Ended.TheVariants.{Help, Usage, NoFile, Ran}
 
 -- 1 where a command was refused, 2 where not all commands were answered
 abbrev pub status_of : Ended → ℕ
