@@ -6,6 +6,7 @@ use Rattle.scopes.specs.Found.{with_all_new}
 use Rattle.kernele.specs.View.{tree_of, trees_of, methods_of}
 use Rattle.kernele.proofs.Walks.{tree_is_call, tree_is_list, tree_is_hide, tree_is_if, tree_is_while, tree_is_for, tree_is_try, tree_is_object, tree_is_escape, trees_from, methods_from, append_more}
 use Rattle.scopes.proofs.Finding.{then_found}
+use Rattle.scopes.proofs.Failing.{claims_nothing}
 use Rattle.scopes.proofs.free.+free.Goals as goal
 
 pub find_in-returns-in-List-clause-inside : goal.find_in-returns-in-List-clause-inside
@@ -127,3 +128,135 @@ find_in_if-returns-clause-found t c =
 pub find_in_object-returns-clause-found : goal.find_in_object-returns-clause-found
 find_in_object-returns-clause-found t c =
     IfOk-equal c.find_in_methods.result _ _ _ c.find_in_methods.ensures.found (ap (λ bs. with_all_new c.args.found.now.items (free_of (methods_of c.args.methods.now) bs)) c.in_ok-add_bound.ensures)
+
+pub find_in_all-returns-in_err-find_in-clause-inside : goal.find_in_all-returns-in_err-find_in-clause-inside
+find_in_all-returns-in_err-find_in-clause-inside t c = claims_nothing c.from_residual.result _ c.from_residual.ensures.0
+
+pub find_in_all-returns-in_err-find_in-clause-found : goal.find_in_all-returns-in_err-find_in-clause-found
+find_in_all-returns-in_err-find_in-clause-found t c = claims_nothing c.from_residual.result _ c.from_residual.ensures.0
+
+pub find_in_assigned-returns-in_err-add_names-clause-inside : goal.find_in_assigned-returns-in_err-add_names-clause-inside
+find_in_assigned-returns-in_err-add_names-clause-inside t c = claims_nothing c.from_residual.result _ c.from_residual.ensures.0
+
+pub find_in_assigned-returns-in_err-add_names-clause-found : goal.find_in_assigned-returns-in_err-add_names-clause-found
+find_in_assigned-returns-in_err-add_names-clause-found t c = claims_nothing c.from_residual.result _ c.from_residual.ensures.0
+
+pub find_in_assigned-returns-in_err-add_occurring-clause-inside : goal.find_in_assigned-returns-in_err-add_occurring-clause-inside
+find_in_assigned-returns-in_err-add_occurring-clause-inside t c = claims_nothing c.from_residual-in_err-add_occurring.result _ c.from_residual-in_err-add_occurring.ensures.0
+
+pub find_in_assigned-returns-in_err-add_occurring-clause-found : goal.find_in_assigned-returns-in_err-add_occurring-clause-found
+find_in_assigned-returns-in_err-add_occurring-clause-found t c = claims_nothing c.from_residual-in_err-add_occurring.result _ c.from_residual-in_err-add_occurring.ensures.0
+
+pub find_in_block-returns-in_err-find_in_all-clause-inside : goal.find_in_block-returns-in_err-find_in_all-clause-inside
+find_in_block-returns-in_err-find_in_all-clause-inside t c = claims_nothing c.from_residual.result _ c.from_residual.ensures.0
+
+pub find_in_block-returns-in_err-find_in_all-clause-found : goal.find_in_block-returns-in_err-find_in_all-clause-found
+find_in_block-returns-in_err-find_in_all-clause-found t c = claims_nothing c.from_residual.result _ c.from_residual.ensures.0
+
+pub find_in_bound_block-returns-in_err-add_bound-clause-inside : goal.find_in_bound_block-returns-in_err-add_bound-clause-inside
+find_in_bound_block-returns-in_err-add_bound-clause-inside t c = claims_nothing c.from_residual.result _ c.from_residual.ensures.0
+
+pub find_in_bound_block-returns-in_err-add_bound-clause-found : goal.find_in_bound_block-returns-in_err-add_bound-clause-found
+find_in_bound_block-returns-in_err-add_bound-clause-found t c = claims_nothing c.from_residual.result _ c.from_residual.ensures.0
+
+pub find_in_bound_block-returns-in_err-find_in_all-clause-inside : goal.find_in_bound_block-returns-in_err-find_in_all-clause-inside
+find_in_bound_block-returns-in_err-find_in_all-clause-inside t c = claims_nothing c.from_residual-in_err-find_in_all.result _ c.from_residual-in_err-find_in_all.ensures.0
+
+pub find_in_bound_block-returns-in_err-find_in_all-clause-found : goal.find_in_bound_block-returns-in_err-find_in_all-clause-found
+find_in_bound_block-returns-in_err-find_in_all-clause-found t c = claims_nothing c.from_residual-in_err-find_in_all.result _ c.from_residual-in_err-find_in_all.ensures.0
+
+pub find_in_call-returns-in_err-find_in-clause-inside : goal.find_in_call-returns-in_err-find_in-clause-inside
+find_in_call-returns-in_err-find_in-clause-inside t c = claims_nothing c.from_residual.result _ c.from_residual.ensures.0
+
+pub find_in_call-returns-in_err-find_in-clause-found : goal.find_in_call-returns-in_err-find_in-clause-found
+find_in_call-returns-in_err-find_in-clause-found t c = claims_nothing c.from_residual.result _ c.from_residual.ensures.0
+
+pub find_in_def-returns-in_err-find_in-clause-inside : goal.find_in_def-returns-in_err-find_in-clause-inside
+find_in_def-returns-in_err-find_in-clause-inside t c = claims_nothing c.from_residual.result _ c.from_residual.ensures.0
+
+pub find_in_def-returns-in_err-find_in-clause-found : goal.find_in_def-returns-in_err-find_in-clause-found
+find_in_def-returns-in_err-find_in-clause-found t c = claims_nothing c.from_residual.result _ c.from_residual.ensures.0
+
+pub find_in_def_list-returns-in_err-find_in-clause-inside : goal.find_in_def_list-returns-in_err-find_in-clause-inside
+find_in_def_list-returns-in_err-find_in-clause-inside t c = claims_nothing c.from_residual.result _ c.from_residual.ensures.0
+
+pub find_in_def_list-returns-in_err-find_in-clause-found : goal.find_in_def_list-returns-in_err-find_in-clause-found
+find_in_def_list-returns-in_err-find_in-clause-found t c = claims_nothing c.from_residual.result _ c.from_residual.ensures.0
+
+pub find_in_escape-returns-in_err-add_name-clause-inside : goal.find_in_escape-returns-in_err-add_name-clause-inside
+find_in_escape-returns-in_err-add_name-clause-inside t c = claims_nothing c.from_residual.result _ c.from_residual.ensures.0
+
+pub find_in_escape-returns-in_err-add_name-clause-found : goal.find_in_escape-returns-in_err-add_name-clause-found
+find_in_escape-returns-in_err-add_name-clause-found t c = claims_nothing c.from_residual.result _ c.from_residual.ensures.0
+
+pub find_in_escape-returns-in_err-find_in_all-clause-inside : goal.find_in_escape-returns-in_err-find_in_all-clause-inside
+find_in_escape-returns-in_err-find_in_all-clause-inside t c = claims_nothing c.from_residual-in_err-find_in_all.result _ c.from_residual-in_err-find_in_all.ensures.0
+
+pub find_in_escape-returns-in_err-find_in_all-clause-found : goal.find_in_escape-returns-in_err-find_in_all-clause-found
+find_in_escape-returns-in_err-find_in_all-clause-found t c = claims_nothing c.from_residual-in_err-find_in_all.result _ c.from_residual-in_err-find_in_all.ensures.0
+
+pub find_in_for-returns-in_err-find_in-clause-inside : goal.find_in_for-returns-in_err-find_in-clause-inside
+find_in_for-returns-in_err-find_in-clause-inside t c = claims_nothing c.from_residual.result _ c.from_residual.ensures.0
+
+pub find_in_for-returns-in_err-find_in-clause-found : goal.find_in_for-returns-in_err-find_in-clause-found
+find_in_for-returns-in_err-find_in-clause-found t c = claims_nothing c.from_residual.result _ c.from_residual.ensures.0
+
+pub find_in_if-returns-in_err-find_in-clause-inside : goal.find_in_if-returns-in_err-find_in-clause-inside
+find_in_if-returns-in_err-find_in-clause-inside t c = claims_nothing c.from_residual.result _ c.from_residual.ensures.0
+
+pub find_in_if-returns-in_err-find_in-clause-found : goal.find_in_if-returns-in_err-find_in-clause-found
+find_in_if-returns-in_err-find_in-clause-found t c = claims_nothing c.from_residual.result _ c.from_residual.ensures.0
+
+pub find_in_if-returns-in_err-find_in_block-clause-inside : goal.find_in_if-returns-in_err-find_in_block-clause-inside
+find_in_if-returns-in_err-find_in_block-clause-inside t c = claims_nothing c.from_residual-in_err-find_in_block.result _ c.from_residual-in_err-find_in_block.ensures.0
+
+pub find_in_if-returns-in_err-find_in_block-clause-found : goal.find_in_if-returns-in_err-find_in_block-clause-found
+find_in_if-returns-in_err-find_in_block-clause-found t c = claims_nothing c.from_residual-in_err-find_in_block.result _ c.from_residual-in_err-find_in_block.ensures.0
+
+pub find_in_method-returns-in_err-add_all_bound-clause-inside : goal.find_in_method-returns-in_err-add_all_bound-clause-inside
+find_in_method-returns-in_err-add_all_bound-clause-inside t c = claims_nothing c.from_residual.result _ c.from_residual.ensures.0
+
+pub find_in_method-returns-in_err-add_all_bound-clause-found : goal.find_in_method-returns-in_err-add_all_bound-clause-found
+find_in_method-returns-in_err-add_all_bound-clause-found t c = claims_nothing c.from_residual.result _ c.from_residual.ensures.0
+
+pub find_in_method-returns-in_err-find_in_all-clause-inside : goal.find_in_method-returns-in_err-find_in_all-clause-inside
+find_in_method-returns-in_err-find_in_all-clause-inside t c = claims_nothing c.from_residual-in_err-find_in_all.result _ c.from_residual-in_err-find_in_all.ensures.0
+
+pub find_in_method-returns-in_err-find_in_all-clause-found : goal.find_in_method-returns-in_err-find_in_all-clause-found
+find_in_method-returns-in_err-find_in_all-clause-found t c = claims_nothing c.from_residual-in_err-find_in_all.result _ c.from_residual-in_err-find_in_all.ensures.0
+
+pub find_in_methods-returns-in_err-find_in_method-clause-inside : goal.find_in_methods-returns-in_err-find_in_method-clause-inside
+find_in_methods-returns-in_err-find_in_method-clause-inside t c = claims_nothing c.from_residual.result _ c.from_residual.ensures.0
+
+pub find_in_methods-returns-in_err-find_in_method-clause-found : goal.find_in_methods-returns-in_err-find_in_method-clause-found
+find_in_methods-returns-in_err-find_in_method-clause-found t c = claims_nothing c.from_residual.result _ c.from_residual.ensures.0
+
+pub find_in_object-returns-in_err-add_bound-clause-inside : goal.find_in_object-returns-in_err-add_bound-clause-inside
+find_in_object-returns-in_err-add_bound-clause-inside t c = claims_nothing c.from_residual.result _ c.from_residual.ensures.0
+
+pub find_in_object-returns-in_err-add_bound-clause-found : goal.find_in_object-returns-in_err-add_bound-clause-found
+find_in_object-returns-in_err-add_bound-clause-found t c = claims_nothing c.from_residual.result _ c.from_residual.ensures.0
+
+pub find_in_same-returns-in_err-find_in-clause-inside : goal.find_in_same-returns-in_err-find_in-clause-inside
+find_in_same-returns-in_err-find_in-clause-inside t c = claims_nothing c.from_residual.result _ c.from_residual.ensures.0
+
+pub find_in_same-returns-in_err-find_in-clause-found : goal.find_in_same-returns-in_err-find_in-clause-found
+find_in_same-returns-in_err-find_in-clause-found t c = claims_nothing c.from_residual.result _ c.from_residual.ensures.0
+
+pub find_in_try-returns-in_err-find_in_block-clause-inside : goal.find_in_try-returns-in_err-find_in_block-clause-inside
+find_in_try-returns-in_err-find_in_block-clause-inside t c = claims_nothing c.from_residual.result _ c.from_residual.ensures.0
+
+pub find_in_try-returns-in_err-find_in_block-clause-found : goal.find_in_try-returns-in_err-find_in_block-clause-found
+find_in_try-returns-in_err-find_in_block-clause-found t c = claims_nothing c.from_residual.result _ c.from_residual.ensures.0
+
+pub find_in_var-returns-in_err-find_in-clause-inside : goal.find_in_var-returns-in_err-find_in-clause-inside
+find_in_var-returns-in_err-find_in-clause-inside t c = claims_nothing c.from_residual.result _ c.from_residual.ensures.0
+
+pub find_in_var-returns-in_err-find_in-clause-found : goal.find_in_var-returns-in_err-find_in-clause-found
+find_in_var-returns-in_err-find_in-clause-found t c = claims_nothing c.from_residual.result _ c.from_residual.ensures.0
+
+pub find_in_while-returns-in_err-find_in-clause-inside : goal.find_in_while-returns-in_err-find_in-clause-inside
+find_in_while-returns-in_err-find_in-clause-inside t c = claims_nothing c.from_residual.result _ c.from_residual.ensures.0
+
+pub find_in_while-returns-in_err-find_in-clause-found : goal.find_in_while-returns-in_err-find_in-clause-found
+find_in_while-returns-in_err-find_in-clause-found t c = claims_nothing c.from_residual.result _ c.from_residual.ensures.0
