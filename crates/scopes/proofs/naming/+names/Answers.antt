@@ -3,6 +3,7 @@ use Rattle.std.proofs.lemmas.Result.{IfOk-equal}
 use Rattle.scopes.specs.Scope.{own_names, own_names_in}
 use Rattle.kernele.specs.View.{tree_of, trees_of}
 use Rattle.kernele.proofs.Walks.{tree_is_call, tree_is_list, append_more, append_end}
+use Rattle.scopes.proofs.Failing.{claims_nothing}
 use Rattle.scopes.proofs.naming.+names.Goals as goal
 
 pub add_all_names-loop-tree-preserved : goal.add_all_names-loop-tree-preserved
@@ -20,3 +21,21 @@ pub add_names-returns-in-List : goal.add_names-returns-in-List
 add_names-returns-in-List t c =
     IfOk-equal c.add_all_names-in-List.result _ _ _ c.add_all_names-in-List.ensures
     (ap (λ t. c.args.names.now.items ++ own_names t) (sym (tree_is_list c.in-List.items c.in-List.is c.deref-in-List.ensures c.deref-in-List-2.ensures.value)))
+
+pub add_all_names-returns-in_err-add_names : goal.add_all_names-returns-in_err-add_names
+add_all_names-returns-in_err-add_names t c = claims_nothing c.from_residual.result _ c.from_residual.ensures.0
+
+pub add_names-returns-in_err-add_names-in-Def : goal.add_names-returns-in_err-add_names-in-Def
+add_names-returns-in_err-add_names-in-Def t c = claims_nothing c.from_residual.result _ c.from_residual.ensures.0
+
+pub add_names-returns-in_err-add_names-in-Var : goal.add_names-returns-in_err-add_names-in-Var
+add_names-returns-in_err-add_names-in-Var t c = claims_nothing c.from_residual-in_err-add_names-in-Var.result _ c.from_residual-in_err-add_names-in-Var.ensures.0
+
+pub add_names-returns-in_err-add_names-in-DefList : goal.add_names-returns-in_err-add_names-in-DefList
+add_names-returns-in_err-add_names-in-DefList t c = claims_nothing c.from_residual-in_err-add_names-in-DefList.result _ c.from_residual-in_err-add_names-in-DefList.ensures.0
+
+pub add_names-returns-in_err-add_names-in-Call : goal.add_names-returns-in_err-add_names-in-Call
+add_names-returns-in_err-add_names-in-Call t c = claims_nothing c.from_residual-in_err-add_names-in-Call.result _ c.from_residual-in_err-add_names-in-Call.ensures.0
+
+pub add_names-returns-in_err-add_names-in-Same : goal.add_names-returns-in_err-add_names-in-Same
+add_names-returns-in_err-add_names-in-Same t c = claims_nothing c.from_residual-in_err-add_names-in-Same.result _ c.from_residual-in_err-add_names-in-Same.ensures.0
