@@ -1,6 +1,6 @@
 -- On what a fault tells.
 use Rattle.std.proofs.Common.{◌≡◌, ap, sym, subst}
-use Rattle.scopes.specs.Scope.{Scopes, Checked, in_turn}
+use Rattle.scopes.specs.Scope.{Scopes, Checked, in_turn, entered, in_block, left_for}
 use Rattle.scopes.specs.Check.{Refuses}
 use Rattle.scopes.specs.declared.checking.CheckFault.{CheckFault}
 use Rattle.scopes.specs.declared.checking.CheckFault.TheVariants as fault
@@ -13,6 +13,15 @@ refuses_in_turn (fault.DuplicateName x) first next h = ap (λ r. in_turn r next)
 refuses_in_turn fault.TooDeep first next h = ap (λ r. in_turn r next) h
 refuses_in_turn fault.TooLong first next h = ap (λ r. in_turn r next) h
 refuses_in_turn fault.Memory first next h = tt
+
+-- what refuses a block's inside refuses the block
+pub refuses_in_block : (f : CheckFault) (inside : Scopes → Checked) (s : Scopes) → Refuses f (inside (entered s)) → Refuses f (in_block inside s)
+refuses_in_block (fault.Unbound x) inside s h = ap (left_for s) h
+refuses_in_block (fault.AssignToDef x) inside s h = ap (left_for s) h
+refuses_in_block (fault.DuplicateName x) inside s h = ap (left_for s) h
+refuses_in_block fault.TooDeep inside s h = ap (left_for s) h
+refuses_in_block fault.TooLong inside s h = ap (left_for s) h
+refuses_in_block fault.Memory inside s h = tt
 
 -- a fault refuses what is the same
 pub refuses_same : (f : CheckFault) (r s : Checked) → s ≡ r → Refuses f r → Refuses f s

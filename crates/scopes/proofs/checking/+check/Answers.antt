@@ -4,7 +4,8 @@ use Rattle.scopes.specs.Scope.{in_turn, in_block, checked_all, checked_with}
 use Rattle.kernele.specs.View.{trees_of}
 use Rattle.scopes.specs.Check.{scopes_in}
 use Rattle.kernele.proofs.Walks.{tree_is_call, tree_is_list, tree_is_hide, tree_is_if, tree_is_while, tree_is_for, tree_is_try, tree_is_object, tree_is_escape, trees_from, no_trees_from}
-use Rattle.scopes.proofs.Refusals.{refuses_in_turn, refuses_same}
+use Rattle.kernele.specs.declared.tree.Pattern.TheVariants as pattern
+use Rattle.scopes.proofs.Refusals.{refuses_in_turn, refuses_in_block, refuses_same}
 use Rattle.scopes.proofs.checking.+check.Goals as goal
 
 pub check_all-returns-in_err-check_expr : goal.check_all-returns-in_err-check_expr
@@ -97,3 +98,65 @@ check_try-returns t c = rw c.in_ok-check_block.ensures c.check_bound_block.ensur
 
 pub check_object-returns : goal.check_object-returns
 check_object-returns t c = rw c.in_ok-check_pattern.ensures c.check_methods.ensures
+
+pub check_assign-returns-in_err-check_expr : goal.check_assign-returns-in_err-check_expr
+check_assign-returns-in_err-check_expr t c =
+    let p = err_from_is_err_and c.from_residual.result c.from_residual.ensures.1 in
+    rw (p.1, p.2) (refuses_in_turn _ _ _ c.in_err-check_expr.ensures)
+
+pub check_bound_block-returns-in_err-check_pattern : goal.check_bound_block-returns-in_err-check_pattern
+check_bound_block-returns-in_err-check_pattern t c =
+    let p = err_from_is_err_and c.from_residual.result c.from_residual.ensures.1 in
+    let body = checked_all (trees_of c.args.body.now) in
+    rw (p.1, p.2) (refuses_in_block _ (checked_with c.args.pattern.now body) (scopes_in c.args.scopes.now) (refuses_in_turn _ _ body (rw c.enter-inner.ensures at c.in_err-check_pattern.ensures)))
+
+pub check_call-returns-in_err-check_expr : goal.check_call-returns-in_err-check_expr
+check_call-returns-in_err-check_expr t c =
+    let p = err_from_is_err_and c.from_residual.result c.from_residual.ensures.1 in
+    rw (p.1, p.2) (refuses_in_turn _ _ _ c.in_err-check_expr.ensures)
+
+pub check_def-returns-in_err-check_expr : goal.check_def-returns-in_err-check_expr
+check_def-returns-in_err-check_expr t c =
+    let p = err_from_is_err_and c.from_residual.result c.from_residual.ensures.1 in
+    rw (p.1, p.2) (refuses_in_turn _ _ _ c.in_err-check_expr.ensures)
+
+pub check_def_list-returns-in_err-check_expr : goal.check_def_list-returns-in_err-check_expr
+check_def_list-returns-in_err-check_expr t c =
+    let p = err_from_is_err_and c.from_residual.result c.from_residual.ensures.1 in
+    rw (p.1, p.2) (refuses_in_turn _ _ _ c.in_err-check_expr.ensures)
+
+pub check_escape-returns-in_err-add : goal.check_escape-returns-in_err-add
+check_escape-returns-in_err-add t c =
+    let p = err_from_is_err_and c.from_residual.result c.from_residual.ensures.1 in
+    let body = checked_all (trees_of c.args.body.now) in
+    rw (p.1, p.2) (refuses_in_block _ (checked_with (pattern.Name c.args.name.now) body) (scopes_in c.args.scopes.now) (refuses_in_turn _ _ body (rw c.enter-inner.ensures at c.in_err-add.ensures)))
+
+pub check_for-returns-in_err-check_expr : goal.check_for-returns-in_err-check_expr
+check_for-returns-in_err-check_expr t c =
+    let p = err_from_is_err_and c.from_residual.result c.from_residual.ensures.1 in
+    rw (p.1, p.2) (refuses_in_turn _ _ _ c.in_err-check_expr.ensures)
+
+pub check_if-returns-in_err-check_expr : goal.check_if-returns-in_err-check_expr
+check_if-returns-in_err-check_expr t c =
+    let p = err_from_is_err_and c.from_residual.result c.from_residual.ensures.1 in
+    rw (p.1, p.2) (refuses_in_turn _ _ _ (refuses_in_turn _ _ _ c.in_err-check_expr.ensures))
+
+pub check_object-returns-in_err-check_pattern : goal.check_object-returns-in_err-check_pattern
+check_object-returns-in_err-check_pattern t c =
+    let p = err_from_is_err_and c.from_residual.result c.from_residual.ensures.1 in
+    rw (p.1, p.2) (refuses_in_turn _ _ _ c.in_err-check_pattern.ensures)
+
+pub check_same-returns-in_err-check_expr : goal.check_same-returns-in_err-check_expr
+check_same-returns-in_err-check_expr t c =
+    let p = err_from_is_err_and c.from_residual.result c.from_residual.ensures.1 in
+    rw (p.1, p.2) (refuses_in_turn _ _ _ c.in_err-check_expr.ensures)
+
+pub check_var-returns-in_err-check_expr : goal.check_var-returns-in_err-check_expr
+check_var-returns-in_err-check_expr t c =
+    let p = err_from_is_err_and c.from_residual.result c.from_residual.ensures.1 in
+    rw (p.1, p.2) (refuses_in_turn _ _ _ c.in_err-check_expr.ensures)
+
+pub check_while-returns-in_err-check_expr : goal.check_while-returns-in_err-check_expr
+check_while-returns-in_err-check_expr t c =
+    let p = err_from_is_err_and c.from_residual.result c.from_residual.ensures.1 in
+    rw (p.1, p.2) (refuses_in_turn _ _ _ c.in_err-check_expr.ensures)
