@@ -5,3 +5,4 @@ pub mod Differing
 pub mod ShownItems
 pub mod Equivalence
 pub mod VerbTexts
+pub mod Rows
