@@ -3,4 +3,3 @@ pub mod Names
 pub mod Counts
 pub mod Growth
 pub mod Finding
-pub mod Failing

@@ -1,5 +1,6 @@
 use Rattle.std.proofs.Common.{rules, arith, ap, ◌∙◌, ◌+◌, refl, sym, subst, length, ◌++◌}
 use Rattle.std.proofs.lemmas.Result.{IfOk-weaker}
+use Rattle.ids.proofs.Failing.{claims_nothing}
 use Rattle.code.specs.View.{tree_of_code, trees_of_codes}
 use Rattle.code.proofs.Views.{tree_of_code-Call, tree_of_code-List, tree_of_code-Hide, tree_of_code-If, tree_of_code-While, tree_of_code-For, tree_of_code-Try, tree_of_code-Object, tree_of_code-Escape}
 use Rattle.kernele.specs.declared.tree.Pattern.TheVariants as pattern
@@ -338,3 +339,119 @@ calling::eval_with_one-returns-in-Value t c = call_leads c.value_target.result t
 
 pub calling::eval_with_one-returns-in-Halt : goal.calling::eval_with_one-returns-in-Halt
 calling::eval_with_one-returns-in-Halt t c = (halted (halt_of c.in-Halt.halt), args_halt (child refl c.in-Halt.is c.in_ok-value.ensures), refl)
+
+-- A step that fails claims nothing of what it leaves.
+
+pub calling::eval_any_call-returns-in_err-end-in-Enters : goal.calling::eval_any_call-returns-in_err-end-in-Enters
+calling::eval_any_call-returns-in_err-end-in-Enters t c = claims_nothing c.from_residual-in_err-end-in-Enters.result _ c.from_residual-in_err-end-in-Enters.ensures.0
+
+pub calling::eval_any_call-returns-in_err-target : goal.calling::eval_any_call-returns-in_err-target
+calling::eval_any_call-returns-in_err-target t c = claims_nothing c.from_residual-in_err-target.result _ c.from_residual-in_err-target.ensures.0
+
+pub calling::eval_any_call-returns-in_err-value : goal.calling::eval_any_call-returns-in_err-value
+calling::eval_any_call-returns-in_err-value t c = claims_nothing c.from_residual.result _ c.from_residual.ensures.0
+
+pub calling::eval_escape-returns-in_err-ejector : goal.calling::eval_escape-returns-in_err-ejector
+calling::eval_escape-returns-in_err-ejector t c = claims_nothing c.from_residual.result _ c.from_residual.ensures.0
+
+pub calling::eval_escape-returns-in_err-ended : goal.calling::eval_escape-returns-in_err-ended
+calling::eval_escape-returns-in_err-ended t c = claims_nothing c.from_residual-in_err-ended.result _ c.from_residual-in_err-ended.ensures.0
+
+pub calling::eval_escape-returns-in_err-share : goal.calling::eval_escape-returns-in_err-share
+calling::eval_escape-returns-in_err-share t c = claims_nothing c.from_residual-in_err-share.result _ c.from_residual-in_err-share.ensures.0
+
+pub calling::eval_method-returns-in_err-end : goal.calling::eval_method-returns-in_err-end
+calling::eval_method-returns-in_err-end t c = claims_nothing c.from_residual.result _ c.from_residual.ensures.0
+
+pub calling::eval_target-returns-in_err-gathered : goal.calling::eval_target-returns-in_err-gathered
+calling::eval_target-returns-in_err-gathered t c = claims_nothing c.from_residual.result _ c.from_residual.ensures.0
+
+pub calling::eval_with_one-returns-in_err-value : goal.calling::eval_with_one-returns-in_err-value
+calling::eval_with_one-returns-in_err-value t c = claims_nothing c.from_residual.result _ c.from_residual.ensures.0
+
+pub control::eval_any_condition-returns-in_err-tested : goal.control::eval_any_condition-returns-in_err-tested
+control::eval_any_condition-returns-in_err-tested t c = claims_nothing c.from_residual.result _ c.from_residual.ensures.0
+
+pub control::eval_block-returns-in_err-end : goal.control::eval_block-returns-in_err-end
+control::eval_block-returns-in_err-end t c = claims_nothing c.from_residual.result _ c.from_residual.ensures.0
+
+pub control::eval_each-returns-in_err-ended : goal.control::eval_each-returns-in_err-ended
+control::eval_each-returns-in_err-ended t c = claims_nothing c.from_residual.result _ c.from_residual.ensures.0
+
+pub control::eval_for-returns-in_err-end-in-Listed : goal.control::eval_for-returns-in_err-end-in-Listed
+control::eval_for-returns-in_err-end-in-Listed t c = claims_nothing c.from_residual-in_err-end-in-Listed.result _ c.from_residual-in_err-end-in-Listed.ensures.0
+
+pub control::eval_for-returns-in_err-ended : goal.control::eval_for-returns-in_err-ended
+control::eval_for-returns-in_err-ended t c = claims_nothing c.from_residual.result _ c.from_residual.ensures.0
+
+pub control::eval_for-returns-in_err-gone_over : goal.control::eval_for-returns-in_err-gone_over
+control::eval_for-returns-in_err-gone_over t c = claims_nothing c.from_residual-in_err-gone_over.result _ c.from_residual-in_err-gone_over.ensures.0
+
+pub control::eval_if-returns-in_err-choice : goal.control::eval_if-returns-in_err-choice
+control::eval_if-returns-in_err-choice t c = claims_nothing c.from_residual.result _ c.from_residual.ensures.0
+
+pub control::eval_taking-returns-in_err-end : goal.control::eval_taking-returns-in_err-end
+control::eval_taking-returns-in_err-end t c = claims_nothing c.from_residual-in_err-end.result _ c.from_residual-in_err-end.ensures.0
+
+pub control::eval_taking-returns-in_err-match_pattern : goal.control::eval_taking-returns-in_err-match_pattern
+control::eval_taking-returns-in_err-match_pattern t c = claims_nothing c.from_residual.result _ c.from_residual.ensures.0
+
+pub control::eval_try-returns-in_err-end-in-Ok : goal.control::eval_try-returns-in_err-end-in-Ok
+control::eval_try-returns-in_err-end-in-Ok t c = claims_nothing c.from_residual-in_err-end-in-Ok.result _ c.from_residual-in_err-end-in-Ok.ensures.0
+
+pub control::eval_try-returns-in_err-tried : goal.control::eval_try-returns-in_err-tried
+control::eval_try-returns-in_err-tried t c = claims_nothing c.from_residual.result _ c.from_residual.ensures.0
+
+pub control::eval_while-returns-in_err-choice : goal.control::eval_while-returns-in_err-choice
+control::eval_while-returns-in_err-choice t c = claims_nothing c.from_residual.result _ c.from_residual.ensures.0
+
+pub control::eval_while-returns-in_err-halt : goal.control::eval_while-returns-in_err-halt
+control::eval_while-returns-in_err-halt t c = claims_nothing c.from_residual-in_err-halt.result _ c.from_residual-in_err-halt.ensures.0
+
+pub control::run_block-returns-in_err-done : goal.control::run_block-returns-in_err-done
+control::run_block-returns-in_err-done t c = claims_nothing c.from_residual.result _ c.from_residual.ensures.0
+
+pub control::run_block-returns-in_err-halt : goal.control::run_block-returns-in_err-halt
+control::run_block-returns-in_err-halt t c = claims_nothing c.from_residual-in_err-halt.result _ c.from_residual-in_err-halt.ensures.0
+
+pub control::run_items-returns-in_err-ended : goal.control::run_items-returns-in_err-ended
+control::run_items-returns-in_err-ended t c = claims_nothing c.from_residual.result _ c.from_residual.ensures.0
+
+pub eval::eval_args-returns-in_err-push-in-Value : goal.eval::eval_args-returns-in_err-push-in-Value
+eval::eval_args-returns-in_err-push-in-Value t c = claims_nothing c.from_residual-in_err-push-in-Value.result _ c.from_residual-in_err-push-in-Value.ensures.0
+
+pub eval::eval_args-returns-in_err-v : goal.eval::eval_args-returns-in_err-v
+eval::eval_args-returns-in_err-v t c = claims_nothing c.from_residual.result _ c.from_residual.ensures.0
+
+pub eval::eval_assign-returns-in_err-value : goal.eval::eval_assign-returns-in_err-value
+eval::eval_assign-returns-in_err-value t c = claims_nothing c.from_residual.result _ c.from_residual.ensures.0
+
+pub eval::eval_def-returns-in_err-match_pattern : goal.eval::eval_def-returns-in_err-match_pattern
+eval::eval_def-returns-in_err-match_pattern t c = claims_nothing c.from_residual-in_err-match_pattern.result _ c.from_residual-in_err-match_pattern.ensures.0
+
+pub eval::eval_def-returns-in_err-value : goal.eval::eval_def-returns-in_err-value
+eval::eval_def-returns-in_err-value t c = claims_nothing c.from_residual.result _ c.from_residual.ensures.0
+
+pub eval::eval_def_list-returns-in_err-value : goal.eval::eval_def_list-returns-in_err-value
+eval::eval_def_list-returns-in_err-value t c = claims_nothing c.from_residual.result _ c.from_residual.ensures.0
+
+pub eval::eval_item-returns-in_err-set-in-Some : goal.eval::eval_item-returns-in_err-set-in-Some
+eval::eval_item-returns-in_err-set-in-Some t c = claims_nothing c.from_residual.result _ c.from_residual.ensures.0
+
+pub eval::eval_items-returns-in_err-v : goal.eval::eval_items-returns-in_err-v
+eval::eval_items-returns-in_err-v t c = claims_nothing c.from_residual.result _ c.from_residual.ensures.0
+
+pub eval::eval_list-returns-in_err-gathered : goal.eval::eval_list-returns-in_err-gathered
+eval::eval_list-returns-in_err-gathered t c = claims_nothing c.from_residual.result _ c.from_residual.ensures.0
+
+pub eval::eval_same-returns-in_err-value : goal.eval::eval_same-returns-in_err-value
+eval::eval_same-returns-in_err-value t c = claims_nothing c.from_residual.result _ c.from_residual.ensures.0
+
+pub eval::eval_same-returns-in_err-value-2 : goal.eval::eval_same-returns-in_err-value-2
+eval::eval_same-returns-in_err-value-2 t c = claims_nothing c.from_residual-in_err-value-2.result _ c.from_residual-in_err-value-2.ensures.0
+
+pub eval::eval_throw-returns-in_err-value : goal.eval::eval_throw-returns-in_err-value
+eval::eval_throw-returns-in_err-value t c = claims_nothing c.from_residual.result _ c.from_residual.ensures.0
+
+pub eval::eval_var-returns-in_err-value : goal.eval::eval_var-returns-in_err-value
+eval::eval_var-returns-in_err-value t c = claims_nothing c.from_residual.result _ c.from_residual.ensures.0

@@ -33,3 +33,6 @@ returns-in_default c =
     let rest = c.words.rest.now in
     let more : (length rest == 0) ≡ false = grind (arith, c.is_empty.ensures, c.words-test.true) in
     named_not c.args.words.now rest _ c.words.events.items c.words.invariant.begins more c.cut_word.ensures.word c.in_default.ensures c.words.invariant.named
+
+pub returns : goal.returns
+returns c = search rules

@@ -1,5 +1,5 @@
 use Rattle.commands.proofs.ScriptLemmas.{no_fault, bad_word}
-use Rattle.std.proofs.Common.{sym}
+use Rattle.std.proofs.Common.{sym, rules}
 use Rattle.commands.proofs.script.text_of.Goals as goal
 
 pub returns-in-Ok-clause-fault : goal.returns-in-Ok-clause-fault
@@ -7,3 +7,6 @@ returns-in-Ok-clause-fault c = sym (no_fault c.args.line.now c.args.is_long c.if
 
 pub returns-in-Err-clause-fault : goal.returns-in-Err-clause-fault
 returns-in-Err-clause-fault c = sym (bad_word c.args.line.now c.args.is_long c.if-is_long.false c.in-Err.ensures.cases.0)
+
+pub returns-then-is_long-clause-fault : goal.returns-then-is_long-clause-fault
+returns-then-is_long-clause-fault c = search rules

@@ -6,7 +6,7 @@ use Rattle.scopes.specs.Found.{with_all_new}
 use Rattle.kernele.specs.View.{tree_of, trees_of, methods_of}
 use Rattle.kernele.proofs.Walks.{tree_is_call, tree_is_list, tree_is_hide, tree_is_if, tree_is_while, tree_is_for, tree_is_try, tree_is_object, tree_is_escape, trees_from, methods_from, append_more}
 use Rattle.scopes.proofs.Finding.{then_found}
-use Rattle.scopes.proofs.Failing.{claims_nothing}
+use Rattle.ids.proofs.Failing.{claims_nothing}
 use Rattle.scopes.proofs.free.+free.Goals as goal
 
 pub find_in-returns-in-List-clause-inside : goal.find_in-returns-in-List-clause-inside

@@ -3,7 +3,7 @@ use Rattle.std.proofs.lemmas.Result.{IfOk-equal}
 use Rattle.scopes.specs.Scope.{own_names, own_names_in}
 use Rattle.kernele.specs.View.{tree_of, trees_of}
 use Rattle.kernele.proofs.Walks.{tree_is_call, tree_is_list, append_more, append_end}
-use Rattle.scopes.proofs.Failing.{claims_nothing}
+use Rattle.ids.proofs.Failing.{claims_nothing}
 use Rattle.scopes.proofs.naming.+names.Goals as goal
 
 pub add_all_names-loop-tree-preserved : goal.add_all_names-loop-tree-preserved

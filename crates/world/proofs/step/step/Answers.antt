@@ -1,5 +1,6 @@
-use Rattle.std.proofs.Common.{◌≡◌, sym, subst}
+use Rattle.std.proofs.Common.{◌≡◌, sym, subst, arith}
 use Rattle.std.specs.Prelude.{OnOk, IfErr, Result, Ok, Err}
+use Rattle.std.proofs.lemmas.Grind.{common_steps}
 use Rattle.history.specs.Subject.{after}
 use Rattle.world.specs.World.{World}
 use Rattle.world.specs.Events.{Event, Foot, Does, events}
@@ -32,3 +33,6 @@ returns-in-Ask-clause-err c =
 pub returns-in-Turn-clause-err : goal.returns-in-Turn-clause-err
 returns-in-Turn-clause-err c =
     subst (λ (a : Action). IfErr c.step_turn.result (λ fault. TellsStep (record { name = c.args.event.now.name; act = act_of a }) (world_of c.args.world.now) fault)) (sym c.in-Turn.is) c.step_turn.ensures.err
+
+pub returns-in-Ask-clause-ok : goal.returns-in-Ask-clause-ok
+returns-in-Ask-clause-ok c = grind (arith, common_steps)

@@ -1,0 +1,5 @@
+use Rattle.std.proofs.Common.{rules}
+use Rattle.code.proofs.resolving.resolve.Goals as goal
+
+pub returns-clause-program : goal.returns-clause-program
+returns-clause-program c = search rules
