@@ -1,6 +1,6 @@
 // Calls of a book, one after the other.
 
-use crate::turns::program;
+use crate::turns::{ended, program};
 use book::book::Book;
 use book::fault::BookFault;
 use ids::names::{EventName, MsgId};
@@ -9,8 +9,6 @@ use journal::entry::{Entry, Mark};
 use std::alloc::{AllocError, Global};
 use std::process::Abort;
 use std::test::Fail;
-use turn::delivery::Ended;
-use values::showing::show;
 
 /// A call of a book.
 #[derive(Clone, Copy)]
@@ -48,29 +46,30 @@ fn last(alloc: Global, entries: &[Entry]) -> Result<String, AllocError> {
     }
 }
 
-fn ended(alloc: Global, ended: &Ended) -> Result<String, AllocError> {
-    match ended {
-        Ended::Value(value) => show(alloc, value),
-        Ended::Problem(problem) => format!(in alloc; "!{problem}"),
-        Ended::Abandoned(why) => String::from_str(alloc, why.reason()),
-    }
+fn born(alloc: Global, book: &mut Book, name: &str, script: &str) -> Result<String, BookFault> {
+    let event = book.birth(&Text::new(alloc, name)?, program(alloc, script)?)?;
+    Ok(event.to_string(alloc)?)
+}
+
+fn asked(alloc: Global, book: &mut Book, name: &str, text: &str) -> Result<String, BookFault> {
+    let event = book.ask(&Text::new(alloc, name)?, program(alloc, text)?)?;
+    Ok(event.to_string(alloc)?)
+}
+
+fn turned(alloc: Global, book: &mut Book, event: EventName) -> Result<String, BookFault> {
+    let turned = book.turn(MsgId { event, index: 0 }, 100)?;
+    Ok(ended(alloc, &turned.ended)?)
+}
+
+fn cone(alloc: Global, book: &Book, event: EventName) -> Result<String, BookFault> {
+    Ok(events(alloc, &book.cone(event)?)?)
 }
 
 fn called(alloc: Global, book: &mut Book, call: Call) -> Result<String, BookFault> {
     match call {
-        Call::Birth(name, script) => {
-            let event = book.birth(&Text::new(alloc, name)?, program(alloc, script)?)?;
-            Ok(event.to_string(alloc)?)
-        }
-        Call::Ask(name, text) => {
-            let event = book.ask(&Text::new(alloc, name)?, program(alloc, text)?)?;
-            Ok(event.to_string(alloc)?)
-        }
-        Call::Turn(number) => {
-            let event = EventName(number);
-            let turned = book.turn(MsgId { event, index: 0 }, 100)?;
-            Ok(ended(alloc, &turned.ended)?)
-        }
+        Call::Birth(name, script) => born(alloc, book, name, script),
+        Call::Ask(name, text) => asked(alloc, book, name, text),
+        Call::Turn(number) => turned(alloc, book, EventName(number)),
         Call::Undo(names) => {
             let count = book.undo(names)?;
             Ok(format!(in alloc; "{count}")?)
@@ -79,10 +78,7 @@ fn called(alloc: Global, book: &mut Book, call: Call) -> Result<String, BookFaul
             let count = book.redo(names)?;
             Ok(format!(in alloc; "{count}")?)
         }
-        Call::Cone(number) => {
-            let cone = book.cone(EventName(number))?;
-            Ok(events(alloc, &cone)?)
-        }
+        Call::Cone(number) => cone(alloc, book, EventName(number)),
         Call::Last => Ok(last(alloc, book.journal())?),
     }
 }

@@ -61,15 +61,20 @@ fn after_script(alloc: Global, script: &str) -> Result<Opened, AllocError> {
     Ok(Opened { state })
 }
 
-/// The value that a text gives, or `!` and its problem.
-fn shown(alloc: Global, opened: &Opened, text: &str) -> Result<String, AllocError> {
-    let delivery = Delivery::Asked(program(alloc, text)?);
-    let outcome = run(opened.state.try_copy()?, 4, delivery.share()?)?;
-    match &outcome.ended {
+/// How a turn ended: its value, its problem behind `!`, or why it was abandoned.
+pub fn ended(alloc: Global, ended: &Ended) -> Result<String, AllocError> {
+    match ended {
         Ended::Value(value) => show(alloc, value),
         Ended::Problem(problem) => format!(in alloc; "!{problem}"),
         Ended::Abandoned(why) => String::from_str(alloc, why.reason()),
     }
+}
+
+/// How the turn ends that a text is asked in.
+fn shown(alloc: Global, opened: &Opened, text: &str) -> Result<String, AllocError> {
+    let delivery = Delivery::Asked(program(alloc, text)?);
+    let outcome = run(opened.state.try_copy()?, 4, delivery.share()?)?;
+    ended(alloc, &outcome.ended)
 }
 
 /// Compares what each text gives with what stands beside it, where it is asked of a vat that was opened so.

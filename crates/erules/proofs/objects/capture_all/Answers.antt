@@ -1,4 +1,5 @@
-use Rattle.std.proofs.Common.{ap, sym, ◌∙◌}
+use Rattle.std.proofs.Common.{ap, sym, ◌∙◌, arith}
+use Rattle.std.proofs.lemmas.Grind.{common_steps}
 use Rattle.code.specs.Frames.{captured_names_of}
 use Rattle.heap.specs.View.{nouns_of}
 use Rattle.erules.specs.Rules.{captured, all_captured}
@@ -11,3 +12,6 @@ returns-in-None c =
     let found = captured (nouns_of c.loop-first.nouns.items) in
     capture_ends (nouns_of c.loop-first.nouns.items) c.in-Some.first.now.name _ (captured_names_of c.in-Some.others.now) (at c.args.w.now) _ c.in-None.ensures c.in_ok-share-in-None.ensures
     (ap (λ cs. all_captured found (captured_names_of cs) (at c.args.w.now)) (sym c.in-Some.ensures.cases.0) ∙ c.loop-first.invariant.0)
+
+pub loop-first-preserved : goal.loop-first-preserved
+loop-first-preserved c = grind (arith, common_steps)
