@@ -24,7 +24,6 @@ pub struct Capture {
 
 /// An expression whose names are resolved.
 #[cycle(code)]
-#[derive(Drop)]
 pub enum Code {
     Null,
     Bool(bool),
@@ -54,6 +53,35 @@ pub enum Code {
     Object(Pattern, Arc<Vec<Capture>>, Arc<Vec<MethodCode>>, Option<Arc<MethodIndex>>),
     /// The name of the ejector, and the block that it ends.
     Escape(Text, Arc<Vec<Code>>),
+}
+
+// By hand, so that what drops one elsewhere calls this and is not proved anew for all that it holds.
+impl Drop for Code {
+    #[cycle(drop)]
+    fn drop(self) {
+        match self {
+            Code::Null
+            | Code::Bool(_)
+            | Code::Int(_)
+            | Code::Text(_)
+            | Code::Noun(_, _)
+            | Code::Def(_, _)
+            | Code::Var(_, _)
+            | Code::Assign(_, _, _)
+            | Code::Call(_, _, _)
+            | Code::List(_)
+            | Code::Same(_, _)
+            | Code::DefList(_, _)
+            | Code::Hide(_)
+            | Code::If(_, _, _)
+            | Code::While(_, _)
+            | Code::For(_, _, _)
+            | Code::Try(_, _, _)
+            | Code::Throw(_)
+            | Code::Object(_, _, _, _)
+            | Code::Escape(_, _) => {}
+        }
+    }
 }
 
 /// What an object does when it is called by this verb with as many arguments as there are parameters.

@@ -27,7 +27,6 @@ impl Pattern {
 
 /// An expression.
 #[cycle(tree)]
-#[derive(Drop)]
 pub enum Expr {
     Null,
     Bool(bool),
@@ -58,6 +57,35 @@ pub enum Expr {
     Escape(Text, Arc<Vec<Expr>>),
 }
 
+// By hand, so that what drops one elsewhere calls this and is not proved anew for all that it holds.
+impl Drop for Expr {
+    #[cycle(drop)]
+    fn drop(self) {
+        match self {
+            Expr::Null
+            | Expr::Bool(_)
+            | Expr::Int(_)
+            | Expr::Text(_)
+            | Expr::Noun(_)
+            | Expr::Def(_, _)
+            | Expr::Var(_, _)
+            | Expr::Assign(_, _)
+            | Expr::Call(_, _, _)
+            | Expr::List(_)
+            | Expr::Same(_, _)
+            | Expr::DefList(_, _)
+            | Expr::Hide(_)
+            | Expr::If(_, _, _)
+            | Expr::While(_, _)
+            | Expr::For(_, _, _)
+            | Expr::Try(_, _, _)
+            | Expr::Throw(_)
+            | Expr::Object(_, _)
+            | Expr::Escape(_, _) => {}
+        }
+    }
+}
+
 /// What an object does when it is called by this verb with as many arguments as there are parameters.
 #[cycle(tree)]
 #[derive(Drop)]
@@ -72,8 +100,14 @@ pub struct Method {
 pub struct Block(pub Arc<Vec<Expr>>);
 
 /// A whole script or asked text.
-#[derive(Drop)]
 pub struct Program(pub Block);
+
+// By hand, so that what drops one elsewhere calls this and is not proved anew for all that it holds.
+impl Drop for Program {
+    fn drop(self) {
+        let Program(_) = self;
+    }
+}
 
 impl Program {
     /// The same program, shared. Fails only for want of memory.
