@@ -1,4 +1,5 @@
-use Rattle.std.proofs.Common.{refl, ap, sym, ◌∙◌, ◌++◌, append_assoc, rules, string_bytes, codes}
+use Rattle.std.proofs.lemmas.Grind.{common_steps}
+use Rattle.std.proofs.Common.{arith, refl, ap, sym, ◌∙◌, ◌++◌, append_assoc, rules, string_bytes, codes}
 use Rattle.std.proofs.lemmas.Result.{IfOk-equal}
 use Rattle.kernele.specs.Spelling.{led_by, joined, spelled, spelled_parts, spelled_items, spelled_methods, methods_in_braces, method_text, as_part}
 use Rattle.kernele.specs.View.{tree_of, trees_of, methods_of}
@@ -102,3 +103,6 @@ write_for-returns t c = search (rules, IfOk-equal, append_assoc)
 
 pub write_try-returns : goal.write_try-returns
 write_try-returns t c = search (rules, IfOk-equal, append_assoc)
+
+pub write_same-returns : goal.write_same-returns
+write_same-returns t c = grind (arith, common_steps)

@@ -1,4 +1,4 @@
-use Rattle.std.proofs.Common.{sym}
+use Rattle.std.proofs.Common.{rules, sym}
 use Rattle.values.proofs.Views.{list_is}
 use Rattle.values.proofs.Tables.{no_row, no_verbs, replied}
 use Rattle.values.proofs.calls.call_verb.Goals as goal
@@ -8,3 +8,6 @@ returns-in-Null c = rw (no_verbs c.args.receiver.now c.in-Null.is) (replied c.no
 
 pub returns-in-List : goal.returns-in-List
 returns-in-List c = rw (list_is c.args.receiver.now c.in-List.items c.deref.result.now c.as_slice.result.now c.in-List.is c.deref.ensures c.as_slice.ensures.value) c.list_call.ensures
+
+pub returns-in-Bool : goal.returns-in-Bool
+returns-in-Bool c = search rules
