@@ -1,7 +1,8 @@
--- Where a turn of a loop of the reader stops.
-use Rattle.std.proofs.Common.{◌≡◌, List, false, Option, Some}
+-- What the reader gives by what it gives behind a first part, and where a turn of a loop stops.
+use Rattle.std.proofs.Common.{◌≡◌, List, false, Option, Some, Result, Ok, Err, ◌∙◌}
 use Rattle.etoken.specs.declared.token.Token.{Token}
 use Rattle.etoken.specs.declared.token.Sign as signs
+use Rattle.kernele.specs.declared.tree.Expr.{Expr}
 use Rattle.kernele.specs.Tree.{Tree, Trees}
 use Rattle.enodes.specs.declared.operator.Operator.{Operator}
 use Rattle.egrammar.specs.Reading.{Read, rest_of, front, operand_next, Within, is_block_end, separator_at, expr_at, block_next}
@@ -9,7 +10,14 @@ use Rattle.egrammar.proofs.Turns.{Turns}
 use Rattle.egrammar.proofs.Steps.{operand_fail, block_part_fail}
 use Rattle.enodes.specs.declared.stop.Stop.{Stop}
 use Rattle.enodes.specs.declared.stop.Stop.TheVariants as stop
-use Rattle.eparser.specs.View.{Fails}
+use Rattle.eparser.specs.declared.reader.Reader.{Reader}
+use Rattle.eparser.specs.View.{left_of, Fails, Gives}
+
+-- what is read behind a first part is what is read of the whole
+pub gives_behind : (r : Result Expr Stop) (old between new : Reader) (whole part : List Token → Read Tree) → whole (left_of old) ≡ part (left_of between) → Gives r between new part → Gives r old new whole
+gives_behind (Ok e) old between new whole part h g = h ∙ g
+gives_behind (Err stop.Unexpected) old between new whole part h g = h ∙ g
+gives_behind (Err stop.Memory) old between new whole part h g = tt
 
 module _ (of : signs.Sign → Option Operator) (part : List Token → Read Tree) where
   pub operand_fails : (e : Stop) {read : Read Tree} {t : Tree} {a : List Token} (b : List Token) {o : Operator}

@@ -1,14 +1,13 @@
-// Expressions by how tightly their operators bind: a method for each row of the grammar, and two for what goes on behind
-// an operand: `.._from` where the operand is a whole one of the row below, `..s_from` where it may be the first part of
-// one. They are apart so that few and small frames lie on the stack below an operand, as in `for a in for b in ..`, which
-// nests without brackets.
+// Expressions by how tightly their operators bind. What goes on behind an operand is read apart from the operand, so that
+// few and small frames lie on the stack below one, as in `for a in for b in ..`, which nests without brackets.
 ghost use Rattle.std.specs.Prelude.{◌≡◌, OnOk};
 ghost use Rattle.kernele.specs.View.{tree_of};
-ghost use Rattle.enodes.specs.Nodes.{and_operator, or_operator, product_operator, sum_operator};
 ghost use Rattle.egrammar.specs.Reading as reading;
 ghost use Rattle.egrammar.specs.Reading.{within_at};
+ghost use Rattle.eparser.specs.Levels.{operator_of, level_at, level_from};
 ghost use Rattle.eparser.specs.View.{Advances, IsNoLonger, Gives, GivesPlain};
 
+use crate::level::Level;
 use crate::reader::Reader;
 use enodes::nodes;
 use enodes::operator::{Bracket, Link};
@@ -53,102 +52,57 @@ impl<'a> Reader<'a> {
         if left == 0 {
             return Err(Stop::Unexpected);
         }
-        self.disjunction(left - 1)
+        self.operands(left - 1, Level::Disjunction)
     }
 
+    /// Operands and the operators of a level between them.
     #[cycle(read)]
-    fn disjunction(&mut self, left: usize) -> Result<Expr, Stop>
-        ensures gives { Gives result self.old self.new (reading.disjunction_at (within_at left)) }
+    fn operands(&mut self, left: usize, level: Level) -> Result<Expr, Stop>
+        ensures gives { Gives result self.old self.new (level_at level (within_at left)) }
         ensures shorter { OnOk result (Advances self.old self.new) }
     {
         let first = self.unary(left)?;
-        self.disjunctions_from(left, first)
+        self.operands_from(left, level, first)
     }
 
+    /// The same behind the first operand: what binds more tightly goes first.
     #[cycle(read)]
     #[inline(never)]
-    fn disjunctions_from(&mut self, left: usize, first: Expr) -> Result<Expr, Stop>
-        ensures gives { Gives result self.old self.new (reading.disjunctions_from (within_at left) (tree_of first)) }
+    fn operands_from(&mut self, left: usize, level: Level, first: Expr) -> Result<Expr, Stop>
+        ensures gives { Gives result self.old self.new (level_from level (within_at left) (tree_of first)) }
         ensures shorter { OnOk result (IsNoLonger self.old self.new) }
     {
-        let product = self.product_from(left, first)?;
-        let sum = self.sum_from(left, product)?;
-        let comparison = self.comparison_from(left, sum)?;
-        let conjunction = self.conjunction_from(left, comparison)?;
-        self.disjunction_from(left, conjunction)
-    }
-
-    #[cycle(read)]
-    #[inline(never)]
-    fn disjunction_from(&mut self, left: usize, first: Expr) -> Result<Expr, Stop>
-        ensures gives { Gives result self.old self.new (reading.operands_from or_operator (reading.conjunction_at (within_at left)) (tree_of first)) }
-        ensures shorter { OnOk result (IsNoLonger self.old self.new) }
-    {
-        let mut disjunction = first;
-        'more: while let Some(operator) = self.or_operator() {
-            self.skip();
-            let whole = Arc::new(self.alloc, disjunction)?;
-            let right = self.conjunction(left)?;
-            disjunction = nodes::join(self.alloc, whole, operator, right)?;
+        let Some(tighter) = level.tighter() else {
+            return Ok(first);
+        };
+        let operand = self.operands_from(left, tighter, first)?;
+        if level.joins_two() {
+            return self.comparison_from(left, operand);
         }
-        Ok(disjunction)
+        self.joined_from(left, level, tighter, operand)
     }
 
-    #[cycle(read)]
-    fn conjunction(&mut self, left: usize) -> Result<Expr, Stop>
-        ensures gives { Gives result self.old self.new (reading.conjunction_at (within_at left)) }
-        ensures shorter { OnOk result (Advances self.old self.new) }
-    {
-        let first = self.unary(left)?;
-        self.conjunctions_from(left, first)
-    }
-
+    /// What the operators of a level join to its first operand, where all operands are `tighter`.
     #[cycle(read)]
     #[inline(never)]
-    fn conjunctions_from(&mut self, left: usize, first: Expr) -> Result<Expr, Stop>
-        ensures gives { Gives result self.old self.new (reading.conjunctions_from (within_at left) (tree_of first)) }
+    fn joined_from(
+        &mut self,
+        left: usize,
+        level: Level,
+        tighter: Level,
+        first: Expr,
+    ) -> Result<Expr, Stop>
+        ensures gives { Gives result self.old self.new (reading.operands_from (operator_of level) (level_at tighter (within_at left)) (tree_of first)) }
         ensures shorter { OnOk result (IsNoLonger self.old self.new) }
     {
-        let product = self.product_from(left, first)?;
-        let sum = self.sum_from(left, product)?;
-        let comparison = self.comparison_from(left, sum)?;
-        self.conjunction_from(left, comparison)
-    }
-
-    #[cycle(read)]
-    #[inline(never)]
-    fn conjunction_from(&mut self, left: usize, first: Expr) -> Result<Expr, Stop>
-        ensures gives { Gives result self.old self.new (reading.operands_from and_operator (reading.comparison_at (within_at left)) (tree_of first)) }
-        ensures shorter { OnOk result (IsNoLonger self.old self.new) }
-    {
-        let mut conjunction = first;
-        'more: while let Some(operator) = self.and_operator() {
+        let mut joined = first;
+        'more: while let Some(operator) = self.operator(level) {
             self.skip();
-            let whole = Arc::new(self.alloc, conjunction)?;
-            let right = self.comparison(left)?;
-            conjunction = nodes::join(self.alloc, whole, operator, right)?;
+            let whole = Arc::new(self.alloc, joined)?;
+            let right = self.operands(left, tighter)?;
+            joined = nodes::join(self.alloc, whole, operator, right)?;
         }
-        Ok(conjunction)
-    }
-
-    #[cycle(read)]
-    fn comparison(&mut self, left: usize) -> Result<Expr, Stop>
-        ensures gives { Gives result self.old self.new (reading.comparison_at (within_at left)) }
-        ensures shorter { OnOk result (Advances self.old self.new) }
-    {
-        let first = self.unary(left)?;
-        self.comparisons_from(left, first)
-    }
-
-    #[cycle(read)]
-    #[inline(never)]
-    fn comparisons_from(&mut self, left: usize, first: Expr) -> Result<Expr, Stop>
-        ensures gives { Gives result self.old self.new (reading.comparisons_from (within_at left) (tree_of first)) }
-        ensures shorter { OnOk result (IsNoLonger self.old self.new) }
-    {
-        let product = self.product_from(left, first)?;
-        let sum = self.sum_from(left, product)?;
-        self.comparison_from(left, sum)
+        Ok(joined)
     }
 
     #[cycle(read)]
@@ -157,73 +111,13 @@ impl<'a> Reader<'a> {
         ensures gives { Gives result self.old self.new (reading.comparison_from (within_at left) (tree_of first)) }
         ensures shorter { OnOk result (IsNoLonger self.old self.new) }
     {
-        let Some(operator) = self.comparison_operator() else {
+        let Some(operator) = self.operator(Level::Comparison) else {
             return Ok(first);
         };
         self.skip();
         let first = Arc::new(self.alloc, first)?;
-        let second = self.sum(left)?;
+        let second = self.operands(left, Level::Sum)?;
         Ok(nodes::join(self.alloc, first, operator, second)?)
-    }
-
-    #[cycle(read)]
-    fn sum(&mut self, left: usize) -> Result<Expr, Stop>
-        ensures gives { Gives result self.old self.new (reading.sum_at (within_at left)) }
-        ensures shorter { OnOk result (Advances self.old self.new) }
-    {
-        let first = self.unary(left)?;
-        self.sums_from(left, first)
-    }
-
-    #[cycle(read)]
-    #[inline(never)]
-    fn sums_from(&mut self, left: usize, first: Expr) -> Result<Expr, Stop>
-        ensures gives { Gives result self.old self.new (reading.sums_from (within_at left) (tree_of first)) }
-        ensures shorter { OnOk result (IsNoLonger self.old self.new) }
-    {
-        let product = self.product_from(left, first)?;
-        self.sum_from(left, product)
-    }
-
-    #[cycle(read)]
-    #[inline(never)]
-    fn sum_from(&mut self, left: usize, first: Expr) -> Result<Expr, Stop>
-        ensures gives { Gives result self.old self.new (reading.operands_from sum_operator (reading.product_at (within_at left)) (tree_of first)) }
-        ensures shorter { OnOk result (IsNoLonger self.old self.new) }
-    {
-        let mut sum = first;
-        'more: while let Some(operator) = self.sum_operator() {
-            self.skip();
-            let whole = Arc::new(self.alloc, sum)?;
-            let right = self.product(left)?;
-            sum = nodes::join(self.alloc, whole, operator, right)?;
-        }
-        Ok(sum)
-    }
-
-    #[cycle(read)]
-    fn product(&mut self, left: usize) -> Result<Expr, Stop>
-        ensures gives { Gives result self.old self.new (reading.product_at (within_at left)) }
-        ensures shorter { OnOk result (Advances self.old self.new) }
-    {
-        let first = self.unary(left)?;
-        self.product_from(left, first)
-    }
-
-    #[cycle(read)]
-    #[inline(never)]
-    fn product_from(&mut self, left: usize, first: Expr) -> Result<Expr, Stop>
-        ensures gives { Gives result self.old self.new (reading.operands_from product_operator (reading.unary_at (within_at left)) (tree_of first)) }
-        ensures shorter { OnOk result (IsNoLonger self.old self.new) }
-    {
-        let mut product = first;
-        'more: while let Some(operator) = self.product_operator() {
-            self.skip();
-            let whole = Arc::new(self.alloc, product)?;
-            let right = self.unary(left)?;
-            product = nodes::join(self.alloc, whole, operator, right)?;
-        }
-        Ok(product)
     }
 
     #[cycle(read)]

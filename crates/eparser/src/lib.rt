@@ -3,6 +3,7 @@
 
 mod blocks;
 mod expressions;
+mod level;
 mod objects;
 mod peek;
 mod primaries;

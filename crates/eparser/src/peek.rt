@@ -1,11 +1,13 @@
 // What stands in front of a reader.
 ghost use Rattle.std.specs.Prelude.{◌≡◌};
-ghost use Rattle.enodes.specs.Nodes.{and_operator, comparison_operator, or_operator, prefix_operator, product_operator, sum_operator, link_of};
+ghost use Rattle.enodes.specs.Nodes.{prefix_operator, link_of};
 ghost use Rattle.egrammar.specs.Reading as reading;
 ghost use Rattle.egrammar.specs.Reading.{front, sign_in};
 ghost use Rattle.egrammar.specs.View.{plain};
+ghost use Rattle.eparser.specs.Levels.{operator_of};
 ghost use Rattle.eparser.specs.View.{left_of};
 
+use crate::level::Level;
 use crate::reader::Reader;
 use enodes::operator::{Bracket, Link, Operator, Prefix};
 use etoken::token::{Placed, Reserved, Sign, Token};
@@ -84,40 +86,17 @@ impl<'a> Reader<'a> {
         self.rest.is_empty()
     }
 
-    pub(crate) fn sum_operator(&self) -> Option<Operator>
-        ensures { result ≡ front sum_operator (left_of self.now) }
+    /// The operator of a level in front.
+    pub(crate) fn operator(&self, level: Level) -> Option<Operator>
+        ensures { result ≡ front (operator_of level) (left_of self.now) }
     {
-        Operator::of_sum(self.sign()?)
-    }
-
-    pub(crate) fn product_operator(&self) -> Option<Operator>
-        ensures { result ≡ front product_operator (left_of self.now) }
-    {
-        Operator::of_product(self.sign()?)
-    }
-
-    pub(crate) fn comparison_operator(&self) -> Option<Operator>
-        ensures { result ≡ front comparison_operator (left_of self.now) }
-    {
-        Operator::of_comparison(self.sign()?)
+        level.operator(self.sign()?)
     }
 
     pub(crate) fn prefix_operator(&self) -> Option<Prefix>
         ensures { result ≡ front prefix_operator (left_of self.now) }
     {
         Prefix::of(self.sign()?)
-    }
-
-    pub(crate) fn and_operator(&self) -> Option<Operator>
-        ensures { result ≡ front and_operator (left_of self.now) }
-    {
-        Operator::of_conjunction(self.sign()?)
-    }
-
-    pub(crate) fn or_operator(&self) -> Option<Operator>
-        ensures { result ≡ front or_operator (left_of self.now) }
-    {
-        Operator::of_disjunction(self.sign()?)
     }
 
     /// What makes a call of what was read, if that goes on.

@@ -4,96 +4,59 @@ use Rattle.egrammar.proofs.Turns.{turns_here}
 use Rattle.enodes.proofs.Views.{trees_push}
 use Rattle.egrammar.proofs.Steps.{rest_le, skip-le, operand_more, operand_end, postfix_more, postfix_end, commas_more, commas_end, block_begin, block_more, block_end, methods_push, methods_begin, methods_more, methods_end}
 use Rattle.ids.proofs.Failing.{claims_nothing}
-use Rattle.eparser.proofs.Steps.{operand_fails, block_part_fails}
-use Rattle.enodes.specs.Nodes.{sum_operator, product_operator, and_operator, or_operator, snoc}
-use Rattle.egrammar.specs.Reading.{conjunction_at, comparison_at, product_at, unary_at, operand_next, postfix_next, within_at}
+use Rattle.eparser.proofs.Levels.{first_read, behind_here, behind_read, behind_compared, behind_fails}
+use Rattle.eparser.proofs.Steps.{gives_behind, operand_fails, block_part_fails}
+use Rattle.eparser.specs.Levels.{operator_of, level_at, level_from}
+use Rattle.enodes.specs.Nodes.{snoc}
+use Rattle.egrammar.specs.Reading.{comparison_from, operand_next, operands_from, postfix_next, within_at}
 use Rattle.egrammar.specs.View.{plain}
 use Rattle.kernele.specs.View.{tree_of}
 use Rattle.eparser.proofs.reader.Reader.+read.Goals as goal
 
-pub disjunction_from-more-init : goal.disjunction_from-more-init
-disjunction_from-more-init t c = record {
-  comes = turns_here (operand_next or_operator (conjunction_at (within_at c.args.left))) (tree_of c.args.first) (plain c.args.self.now.rest.now);
+pub operands-returns-clause-gives : goal.operands-returns-clause-gives
+operands-returns-clause-gives t c =
+    gives_behind c.operands_from.result c.args.self.now c.unary.new.self c.operands_from.new.self (level_at c.args.level (within_at c.args.left)) (level_from c.args.level (within_at c.args.left) (tree_of c.in_ok-first.first))
+      (first_read (within_at c.args.left) c.args.level (plain c.args.self.now.rest.now) c.in_ok-first.ensures.gives) c.operands_from.ensures.gives
+
+pub operands_from-returns-in_default-clause-gives : goal.operands_from-returns-in_default-clause-gives
+operands_from-returns-in_default-clause-gives t c =
+    behind_here (within_at c.args.left) (tree_of c.args.first) (plain c.args.self.now.rest.now) c.args.level (sym c.tighter.ensures ∙ c.in_default.is)
+
+pub operands_from-returns-in_err-operand-clause-gives : goal.operands_from-returns-in_err-operand-clause-gives
+operands_from-returns-in_err-operand-clause-gives t c =
+    let k = err_from_is_err_and c.from_residual.result c.from_residual.ensures.1 in
+    rw (k.1, k.2) (behind_fails (within_at c.args.left) (tree_of c.args.first) (plain c.args.self.now.rest.now) c.in_err-operand.field-0.0 c.args.level _ (sym c.tighter.ensures ∙ c.in-Some.is) c.in_err-operand.ensures.gives)
+
+pub operands_from-returns-then-joins_two-clause-gives : goal.operands_from-returns-then-joins_two-clause-gives
+operands_from-returns-then-joins_two-clause-gives t c =
+    gives_behind c.comparison_from.result c.args.self.now c.operands_from.new.self c.comparison_from.new.self (level_from c.args.level (within_at c.args.left) (tree_of c.args.first)) (comparison_from (within_at c.args.left) (tree_of c.in_ok-operand.operand))
+      (behind_compared (within_at c.args.left) (tree_of c.args.first) (plain c.args.self.now.rest.now) c.args.level c.in-Some.tighter (sym c.tighter.ensures ∙ c.in-Some.is) (sym c.joins_two.ensures ∙ c.if-joins_two.true) c.in_ok-operand.ensures.gives) c.comparison_from.ensures.gives
+
+pub operands_from-returns-clause-gives : goal.operands_from-returns-clause-gives
+operands_from-returns-clause-gives t c =
+    gives_behind c.joined_from.result c.args.self.now c.operands_from.new.self c.joined_from.new.self (level_from c.args.level (within_at c.args.left) (tree_of c.args.first)) (operands_from (operator_of c.args.level) (level_at c.in-Some.tighter (within_at c.args.left)) (tree_of c.in_ok-operand.operand))
+      (behind_read (within_at c.args.left) (tree_of c.args.first) (plain c.args.self.now.rest.now) c.args.level c.in-Some.tighter (sym c.tighter.ensures ∙ c.in-Some.is) (sym c.joins_two.ensures ∙ c.if-joins_two.false) c.in_ok-operand.ensures.gives) c.joined_from.ensures.gives
+
+pub joined_from-more-init : goal.joined_from-more-init
+joined_from-more-init t c = record {
+  comes = turns_here (operand_next (operator_of c.args.level) (level_at c.args.tighter (within_at c.args.left))) (tree_of c.args.first) (plain c.args.self.now.rest.now);
   shorter = omega arith;
 }
 
-pub disjunction_from-more-preserved : goal.disjunction_from-more-preserved
-disjunction_from-more-preserved t c = record {
-  comes = rw (c.in_ok-disjunction.ensures, c.in_ok-whole.ensures.ok)
-      (operand_more or_operator (conjunction_at (within_at c.args.left)) _ (plain c.skip.new.self.rest.now) _ c.more.invariant.comes (sym c.or_operator.ensures ∙ c.in-Some.is) c.skip.ensures c.in_ok-right.ensures.gives c.in_ok-right.ensures.shorter);
+pub joined_from-more-preserved : goal.joined_from-more-preserved
+joined_from-more-preserved t c = record {
+  comes = rw (c.in_ok-joined.ensures, c.in_ok-whole.ensures.ok)
+      (operand_more (operator_of c.args.level) (level_at c.args.tighter (within_at c.args.left)) _ (plain c.skip.new.self.rest.now) _ c.more.invariant.comes (sym c.operator.ensures ∙ c.in-Some.is) c.skip.ensures c.in_ok-right.ensures.gives c.in_ok-right.ensures.shorter);
   shorter = omega (arith, c.more.invariant.shorter, c.in_ok-right.ensures.shorter, ap length c.skip.ensures, rest_le (plain c.more.self.rest.now));
 }
 
-pub disjunction_from-returns-in_err-right-clause-gives : goal.disjunction_from-returns-in_err-right-clause-gives
-disjunction_from-returns-in_err-right-clause-gives t c =
+pub joined_from-returns-in_err-right-clause-gives : goal.joined_from-returns-in_err-right-clause-gives
+joined_from-returns-in_err-right-clause-gives t c =
     let k = err_from_is_err_and c.from_residual-in_err-right.result c.from_residual-in_err-right.ensures.1 in
-    rw (k.1, k.2) (operand_fails or_operator (conjunction_at (within_at c.args.left)) c.in_err-right.field-0.0 (plain c.skip.new.self.rest.now) c.more.invariant.comes (sym c.or_operator.ensures ∙ c.in-Some.is) c.skip.ensures c.in_err-right.ensures.gives)
+    rw (k.1, k.2) (operand_fails (operator_of c.args.level) (level_at c.args.tighter (within_at c.args.left)) c.in_err-right.field-0.0 (plain c.skip.new.self.rest.now) c.more.invariant.comes (sym c.operator.ensures ∙ c.in-Some.is) c.skip.ensures c.in_err-right.ensures.gives)
 
-pub disjunction_from-returns-clause-gives : goal.disjunction_from-returns-clause-gives
-disjunction_from-returns-clause-gives t c = operand_end or_operator (conjunction_at (within_at c.args.left)) c.more.invariant.comes (search rules)
-
-pub conjunction_from-more-init : goal.conjunction_from-more-init
-conjunction_from-more-init t c = record {
-  comes = turns_here (operand_next and_operator (comparison_at (within_at c.args.left))) (tree_of c.args.first) (plain c.args.self.now.rest.now);
-  shorter = omega arith;
-}
-
-pub conjunction_from-more-preserved : goal.conjunction_from-more-preserved
-conjunction_from-more-preserved t c = record {
-  comes = rw (c.in_ok-conjunction.ensures, c.in_ok-whole.ensures.ok)
-      (operand_more and_operator (comparison_at (within_at c.args.left)) _ (plain c.skip.new.self.rest.now) _ c.more.invariant.comes (sym c.and_operator.ensures ∙ c.in-Some.is) c.skip.ensures c.in_ok-right.ensures.gives c.in_ok-right.ensures.shorter);
-  shorter = omega (arith, c.more.invariant.shorter, c.in_ok-right.ensures.shorter, ap length c.skip.ensures, rest_le (plain c.more.self.rest.now));
-}
-
-pub conjunction_from-returns-in_err-right-clause-gives : goal.conjunction_from-returns-in_err-right-clause-gives
-conjunction_from-returns-in_err-right-clause-gives t c =
-    let k = err_from_is_err_and c.from_residual-in_err-right.result c.from_residual-in_err-right.ensures.1 in
-    rw (k.1, k.2) (operand_fails and_operator (comparison_at (within_at c.args.left)) c.in_err-right.field-0.0 (plain c.skip.new.self.rest.now) c.more.invariant.comes (sym c.and_operator.ensures ∙ c.in-Some.is) c.skip.ensures c.in_err-right.ensures.gives)
-
-pub conjunction_from-returns-clause-gives : goal.conjunction_from-returns-clause-gives
-conjunction_from-returns-clause-gives t c = operand_end and_operator (comparison_at (within_at c.args.left)) c.more.invariant.comes (search rules)
-
-pub sum_from-more-init : goal.sum_from-more-init
-sum_from-more-init t c = record {
-  comes = turns_here (operand_next sum_operator (product_at (within_at c.args.left))) (tree_of c.args.first) (plain c.args.self.now.rest.now);
-  shorter = omega arith;
-}
-
-pub sum_from-more-preserved : goal.sum_from-more-preserved
-sum_from-more-preserved t c = record {
-  comes = rw (c.in_ok-sum.ensures, c.in_ok-whole.ensures.ok)
-      (operand_more sum_operator (product_at (within_at c.args.left)) _ (plain c.skip.new.self.rest.now) _ c.more.invariant.comes (sym c.sum_operator.ensures ∙ c.in-Some.is) c.skip.ensures c.in_ok-right.ensures.gives c.in_ok-right.ensures.shorter);
-  shorter = omega (arith, c.more.invariant.shorter, c.in_ok-right.ensures.shorter, ap length c.skip.ensures, rest_le (plain c.more.self.rest.now));
-}
-
-pub sum_from-returns-in_err-right-clause-gives : goal.sum_from-returns-in_err-right-clause-gives
-sum_from-returns-in_err-right-clause-gives t c =
-    let k = err_from_is_err_and c.from_residual-in_err-right.result c.from_residual-in_err-right.ensures.1 in
-    rw (k.1, k.2) (operand_fails sum_operator (product_at (within_at c.args.left)) c.in_err-right.field-0.0 (plain c.skip.new.self.rest.now) c.more.invariant.comes (sym c.sum_operator.ensures ∙ c.in-Some.is) c.skip.ensures c.in_err-right.ensures.gives)
-
-pub sum_from-returns-clause-gives : goal.sum_from-returns-clause-gives
-sum_from-returns-clause-gives t c = operand_end sum_operator (product_at (within_at c.args.left)) c.more.invariant.comes (search rules)
-
-pub product_from-more-init : goal.product_from-more-init
-product_from-more-init t c = record {
-  comes = turns_here (operand_next product_operator (unary_at (within_at c.args.left))) (tree_of c.args.first) (plain c.args.self.now.rest.now);
-  shorter = omega arith;
-}
-
-pub product_from-more-preserved : goal.product_from-more-preserved
-product_from-more-preserved t c = record {
-  comes = rw (c.in_ok-product.ensures, c.in_ok-whole.ensures.ok)
-      (operand_more product_operator (unary_at (within_at c.args.left)) _ (plain c.skip.new.self.rest.now) _ c.more.invariant.comes (sym c.product_operator.ensures ∙ c.in-Some.is) c.skip.ensures c.in_ok-right.ensures.gives c.in_ok-right.ensures.shorter);
-  shorter = omega (arith, c.more.invariant.shorter, c.in_ok-right.ensures.shorter, ap length c.skip.ensures, rest_le (plain c.more.self.rest.now));
-}
-
-pub product_from-returns-in_err-right-clause-gives : goal.product_from-returns-in_err-right-clause-gives
-product_from-returns-in_err-right-clause-gives t c =
-    let k = err_from_is_err_and c.from_residual-in_err-right.result c.from_residual-in_err-right.ensures.1 in
-    rw (k.1, k.2) (operand_fails product_operator (unary_at (within_at c.args.left)) c.in_err-right.field-0.0 (plain c.skip.new.self.rest.now) c.more.invariant.comes (sym c.product_operator.ensures ∙ c.in-Some.is) c.skip.ensures c.in_err-right.ensures.gives)
-
-pub product_from-returns-clause-gives : goal.product_from-returns-clause-gives
-product_from-returns-clause-gives t c = operand_end product_operator (unary_at (within_at c.args.left)) c.more.invariant.comes (search rules)
+pub joined_from-returns-clause-gives : goal.joined_from-returns-clause-gives
+joined_from-returns-clause-gives t c = operand_end (operator_of c.args.level) (level_at c.args.tighter (within_at c.args.left)) c.more.invariant.comes (search rules)
 
 pub postfix_from-more-init : goal.postfix_from-more-init
 postfix_from-more-init t c = record {
@@ -183,9 +146,6 @@ branch-returns-in_err-inner-clause-shorter t c = claims_nothing c.from_residual.
 pub branch-returns-in_err-one-clause-shorter : goal.branch-returns-in_err-one-clause-shorter
 branch-returns-in_err-one-clause-shorter t c = claims_nothing c.from_residual-in_err-one.result _ c.from_residual-in_err-one.ensures.0
 
-pub comparison-returns-in_err-first-clause-shorter : goal.comparison-returns-in_err-first-clause-shorter
-comparison-returns-in_err-first-clause-shorter t c = claims_nothing c.from_residual.result _ c.from_residual.ensures.0
-
 pub comparison_from-returns-in_err-first-clause-shorter : goal.comparison_from-returns-in_err-first-clause-shorter
 comparison_from-returns-in_err-first-clause-shorter t c = claims_nothing c.from_residual.result _ c.from_residual.ensures.0
 
@@ -194,12 +154,6 @@ comparison_from-returns-in_err-join-clause-shorter t c = claims_nothing c.from_r
 
 pub comparison_from-returns-in_err-second-clause-shorter : goal.comparison_from-returns-in_err-second-clause-shorter
 comparison_from-returns-in_err-second-clause-shorter t c = claims_nothing c.from_residual-in_err-second.result _ c.from_residual-in_err-second.ensures.0
-
-pub comparisons_from-returns-in_err-product-clause-shorter : goal.comparisons_from-returns-in_err-product-clause-shorter
-comparisons_from-returns-in_err-product-clause-shorter t c = claims_nothing c.from_residual.result _ c.from_residual.ensures.0
-
-pub comparisons_from-returns-in_err-sum-clause-shorter : goal.comparisons_from-returns-in_err-sum-clause-shorter
-comparisons_from-returns-in_err-sum-clause-shorter t c = claims_nothing c.from_residual-in_err-sum.result _ c.from_residual-in_err-sum.ensures.0
 
 pub condition-returns-in_err-condition-2-clause-shorter : goal.condition-returns-in_err-condition-2-clause-shorter
 condition-returns-in_err-condition-2-clause-shorter t c = claims_nothing c.from_residual-in_err-condition-2.result _ c.from_residual-in_err-condition-2.ensures.0
@@ -218,51 +172,6 @@ conditional-returns-in_err-first-clause-shorter t c = claims_nothing c.from_resi
 
 pub conditional-returns-in_err-second-clause-shorter : goal.conditional-returns-in_err-second-clause-shorter
 conditional-returns-in_err-second-clause-shorter t c = claims_nothing c.from_residual-in_err-second.result _ c.from_residual-in_err-second.ensures.0
-
-pub conjunction-returns-in_err-first-clause-shorter : goal.conjunction-returns-in_err-first-clause-shorter
-conjunction-returns-in_err-first-clause-shorter t c = claims_nothing c.from_residual.result _ c.from_residual.ensures.0
-
-pub conjunction_from-returns-in_err-conjunction-clause-shorter : goal.conjunction_from-returns-in_err-conjunction-clause-shorter
-conjunction_from-returns-in_err-conjunction-clause-shorter t c = claims_nothing c.from_residual-in_err-conjunction.result _ c.from_residual-in_err-conjunction.ensures.0
-
-pub conjunction_from-returns-in_err-right-clause-shorter : goal.conjunction_from-returns-in_err-right-clause-shorter
-conjunction_from-returns-in_err-right-clause-shorter t c = claims_nothing c.from_residual-in_err-right.result _ c.from_residual-in_err-right.ensures.0
-
-pub conjunction_from-returns-in_err-whole-clause-shorter : goal.conjunction_from-returns-in_err-whole-clause-shorter
-conjunction_from-returns-in_err-whole-clause-shorter t c = claims_nothing c.from_residual.result _ c.from_residual.ensures.0
-
-pub conjunctions_from-returns-in_err-comparison-clause-shorter : goal.conjunctions_from-returns-in_err-comparison-clause-shorter
-conjunctions_from-returns-in_err-comparison-clause-shorter t c = claims_nothing c.from_residual-in_err-comparison.result _ c.from_residual-in_err-comparison.ensures.0
-
-pub conjunctions_from-returns-in_err-product-clause-shorter : goal.conjunctions_from-returns-in_err-product-clause-shorter
-conjunctions_from-returns-in_err-product-clause-shorter t c = claims_nothing c.from_residual.result _ c.from_residual.ensures.0
-
-pub conjunctions_from-returns-in_err-sum-clause-shorter : goal.conjunctions_from-returns-in_err-sum-clause-shorter
-conjunctions_from-returns-in_err-sum-clause-shorter t c = claims_nothing c.from_residual-in_err-sum.result _ c.from_residual-in_err-sum.ensures.0
-
-pub disjunction-returns-in_err-first-clause-shorter : goal.disjunction-returns-in_err-first-clause-shorter
-disjunction-returns-in_err-first-clause-shorter t c = claims_nothing c.from_residual.result _ c.from_residual.ensures.0
-
-pub disjunction_from-returns-in_err-disjunction-clause-shorter : goal.disjunction_from-returns-in_err-disjunction-clause-shorter
-disjunction_from-returns-in_err-disjunction-clause-shorter t c = claims_nothing c.from_residual-in_err-disjunction.result _ c.from_residual-in_err-disjunction.ensures.0
-
-pub disjunction_from-returns-in_err-right-clause-shorter : goal.disjunction_from-returns-in_err-right-clause-shorter
-disjunction_from-returns-in_err-right-clause-shorter t c = claims_nothing c.from_residual-in_err-right.result _ c.from_residual-in_err-right.ensures.0
-
-pub disjunction_from-returns-in_err-whole-clause-shorter : goal.disjunction_from-returns-in_err-whole-clause-shorter
-disjunction_from-returns-in_err-whole-clause-shorter t c = claims_nothing c.from_residual.result _ c.from_residual.ensures.0
-
-pub disjunctions_from-returns-in_err-comparison-clause-shorter : goal.disjunctions_from-returns-in_err-comparison-clause-shorter
-disjunctions_from-returns-in_err-comparison-clause-shorter t c = claims_nothing c.from_residual-in_err-comparison.result _ c.from_residual-in_err-comparison.ensures.0
-
-pub disjunctions_from-returns-in_err-conjunction-clause-shorter : goal.disjunctions_from-returns-in_err-conjunction-clause-shorter
-disjunctions_from-returns-in_err-conjunction-clause-shorter t c = claims_nothing c.from_residual-in_err-conjunction.result _ c.from_residual-in_err-conjunction.ensures.0
-
-pub disjunctions_from-returns-in_err-product-clause-shorter : goal.disjunctions_from-returns-in_err-product-clause-shorter
-disjunctions_from-returns-in_err-product-clause-shorter t c = claims_nothing c.from_residual.result _ c.from_residual.ensures.0
-
-pub disjunctions_from-returns-in_err-sum-clause-shorter : goal.disjunctions_from-returns-in_err-sum-clause-shorter
-disjunctions_from-returns-in_err-sum-clause-shorter t c = claims_nothing c.from_residual-in_err-sum.result _ c.from_residual-in_err-sum.ensures.0
 
 pub escape-returns-in_err-body-clause-shorter : goal.escape-returns-in_err-body-clause-shorter
 escape-returns-in_err-body-clause-shorter t c = claims_nothing c.from_residual-in_err-body.result _ c.from_residual-in_err-body.ensures.0
@@ -375,18 +284,6 @@ primary-returns-in_err-noun-in-Name-clause-shorter t c = claims_nothing c.from_r
 pub primary-returns-in_err-text-in-Text-clause-shorter : goal.primary-returns-in_err-text-in-Text-clause-shorter
 primary-returns-in_err-text-in-Text-clause-shorter t c = claims_nothing c.from_residual.result _ c.from_residual.ensures.0
 
-pub product-returns-in_err-first-clause-shorter : goal.product-returns-in_err-first-clause-shorter
-product-returns-in_err-first-clause-shorter t c = claims_nothing c.from_residual.result _ c.from_residual.ensures.0
-
-pub product_from-returns-in_err-product-clause-shorter : goal.product_from-returns-in_err-product-clause-shorter
-product_from-returns-in_err-product-clause-shorter t c = claims_nothing c.from_residual-in_err-product.result _ c.from_residual-in_err-product.ensures.0
-
-pub product_from-returns-in_err-right-clause-shorter : goal.product_from-returns-in_err-right-clause-shorter
-product_from-returns-in_err-right-clause-shorter t c = claims_nothing c.from_residual-in_err-right.result _ c.from_residual-in_err-right.ensures.0
-
-pub product_from-returns-in_err-whole-clause-shorter : goal.product_from-returns-in_err-whole-clause-shorter
-product_from-returns-in_err-whole-clause-shorter t c = claims_nothing c.from_residual.result _ c.from_residual.ensures.0
-
 pub returned-returns-in_err-returned-2-clause-shorter : goal.returned-returns-in_err-returned-2-clause-shorter
 returned-returns-in_err-returned-2-clause-shorter t c = claims_nothing c.from_residual-in_err-returned-2.result _ c.from_residual-in_err-returned-2.ensures.0
 
@@ -395,21 +292,6 @@ returned-returns-in_err-returned-clause-shorter t c = claims_nothing c.from_resi
 
 pub returned-returns-in_err-value-clause-shorter : goal.returned-returns-in_err-value-clause-shorter
 returned-returns-in_err-value-clause-shorter t c = claims_nothing c.from_residual-in_err-value.result _ c.from_residual-in_err-value.ensures.0
-
-pub sum-returns-in_err-first-clause-shorter : goal.sum-returns-in_err-first-clause-shorter
-sum-returns-in_err-first-clause-shorter t c = claims_nothing c.from_residual.result _ c.from_residual.ensures.0
-
-pub sum_from-returns-in_err-right-clause-shorter : goal.sum_from-returns-in_err-right-clause-shorter
-sum_from-returns-in_err-right-clause-shorter t c = claims_nothing c.from_residual-in_err-right.result _ c.from_residual-in_err-right.ensures.0
-
-pub sum_from-returns-in_err-sum-clause-shorter : goal.sum_from-returns-in_err-sum-clause-shorter
-sum_from-returns-in_err-sum-clause-shorter t c = claims_nothing c.from_residual-in_err-sum.result _ c.from_residual-in_err-sum.ensures.0
-
-pub sum_from-returns-in_err-whole-clause-shorter : goal.sum_from-returns-in_err-whole-clause-shorter
-sum_from-returns-in_err-whole-clause-shorter t c = claims_nothing c.from_residual.result _ c.from_residual.ensures.0
-
-pub sums_from-returns-in_err-product-clause-shorter : goal.sums_from-returns-in_err-product-clause-shorter
-sums_from-returns-in_err-product-clause-shorter t c = claims_nothing c.from_residual.result _ c.from_residual.ensures.0
 
 pub taking-returns-in_err-body-2-clause-shorter : goal.taking-returns-in_err-body-2-clause-shorter
 taking-returns-in_err-body-2-clause-shorter t c = claims_nothing c.from_residual-in_err-body-2.result _ c.from_residual-in_err-body-2.ensures.0

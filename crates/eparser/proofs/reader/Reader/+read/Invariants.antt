@@ -1,205 +1,140 @@
 use Rattle.std.proofs.Common.{length, ◌*◌, ◌+◌, ◌<◌, ◌≤◌}
-use Rattle.enodes.specs.Nodes.{product_operator, sum_operator, and_operator, or_operator, snoc}
-use Rattle.egrammar.specs.Reading.{within_at, operand_next, operands_from, conjunction_at, comparison_at, product_at, unary_at, postfix_from, postfix_next, items_at, commas_next, block_at, block_next, methods_at, methods_next}
+use Rattle.enodes.specs.Nodes.{snoc}
+use Rattle.egrammar.specs.Reading.{within_at, operand_next, operands_from, postfix_from, postfix_next, items_at, commas_next, block_at, block_next, methods_at, methods_next}
 use Rattle.egrammar.specs.View.{plain}
 use Rattle.kernele.specs.View.{tree_of, trees_of, methods_of}
 use Rattle.egrammar.proofs.Turns.{Turns}
+use Rattle.eparser.specs.Levels.{rank, operator_of, level_at}
 use Rattle.eparser.proofs.reader.Reader.+read.Given as goal
 
 abbrev pub decreases-expression : goal.decreases-expression
-decreases-expression l = 32 * l.left + 0
+decreases-expression l = 64 * l.left + 0
 
 abbrev pub decreases-inner_conditional : goal.decreases-inner_conditional
-decreases-inner_conditional l = 32 * l.left + 0
+decreases-inner_conditional l = 64 * l.left + 0
 
 abbrev pub decreases-items : goal.decreases-items
-decreases-items l = 32 * l.left + 1
+decreases-items l = 64 * l.left + 1
 
 abbrev pub decreases-given : goal.decreases-given
-decreases-given l = 32 * l.left + 1
+decreases-given l = 64 * l.left + 1
 
 abbrev pub decreases-returned : goal.decreases-returned
-decreases-returned l = 32 * l.left + 1
+decreases-returned l = 64 * l.left + 1
 
 abbrev pub decreases-condition : goal.decreases-condition
-decreases-condition l = 32 * l.left + 1
+decreases-condition l = 64 * l.left + 1
 
 abbrev pub decreases-expr : goal.decreases-expr
-decreases-expr l = 32 * l.left + 2
+decreases-expr l = 64 * l.left + 2
 
 abbrev pub decreases-args : goal.decreases-args
-decreases-args l = 32 * l.left + 2
+decreases-args l = 64 * l.left + 2
 
 abbrev pub decreases-throw : goal.decreases-throw
-decreases-throw l = 32 * l.left + 2
+decreases-throw l = 64 * l.left + 2
 
 abbrev pub decreases-group : goal.decreases-group
-decreases-group l = 32 * l.left + 3
+decreases-group l = 64 * l.left + 3
 
 abbrev pub decreases-block : goal.decreases-block
-decreases-block l = 32 * l.left + 3
+decreases-block l = 64 * l.left + 3
 
 abbrev pub decreases-list : goal.decreases-list
-decreases-list l = 32 * l.left + 3
+decreases-list l = 64 * l.left + 3
 
 abbrev pub decreases-linked : goal.decreases-linked
-decreases-linked l = 32 * l.left + 3
+decreases-linked l = 64 * l.left + 3
 
 abbrev pub decreases-block_past : goal.decreases-block_past
-decreases-block_past l = 32 * l.left + 4
+decreases-block_past l = 64 * l.left + 4
 
 abbrev pub decreases-hidden : goal.decreases-hidden
-decreases-hidden l = 32 * l.left + 5
+decreases-hidden l = 64 * l.left + 5
 
 abbrev pub decreases-braced : goal.decreases-braced
-decreases-braced l = 32 * l.left + 5
+decreases-braced l = 64 * l.left + 5
 
 abbrev pub decreases-branch : goal.decreases-branch
-decreases-branch l = 32 * l.left + 6
+decreases-branch l = 64 * l.left + 6
 
 abbrev pub decreases-while_loop : goal.decreases-while_loop
-decreases-while_loop l = 32 * l.left + 6
+decreases-while_loop l = 64 * l.left + 6
 
 abbrev pub decreases-for_loop : goal.decreases-for_loop
-decreases-for_loop l = 32 * l.left + 6
+decreases-for_loop l = 64 * l.left + 6
 
 abbrev pub decreases-tried : goal.decreases-tried
-decreases-tried l = 32 * l.left + 6
+decreases-tried l = 64 * l.left + 6
 
 abbrev pub decreases-escape : goal.decreases-escape
-decreases-escape l = 32 * l.left + 6
+decreases-escape l = 64 * l.left + 6
 
 abbrev pub decreases-function : goal.decreases-function
-decreases-function l = 32 * l.left + 6
+decreases-function l = 64 * l.left + 6
 
 abbrev pub decreases-taking : goal.decreases-taking
-decreases-taking l = 32 * l.left + 6
+decreases-taking l = 64 * l.left + 6
 
 abbrev pub decreases-second : goal.decreases-second
-decreases-second l = 32 * l.left + 7
+decreases-second l = 64 * l.left + 7
 
 abbrev pub decreases-try_catch : goal.decreases-try_catch
-decreases-try_catch l = 32 * l.left + 7
+decreases-try_catch l = 64 * l.left + 7
 
 abbrev pub decreases-method : goal.decreases-method
-decreases-method l = 32 * l.left + 7
+decreases-method l = 64 * l.left + 7
 
 abbrev pub decreases-conditional : goal.decreases-conditional
-decreases-conditional l = 32 * l.left + 8
+decreases-conditional l = 64 * l.left + 8
 
 abbrev pub decreases-methods : goal.decreases-methods
-decreases-methods l = 32 * l.left + 8
+decreases-methods l = 64 * l.left + 8
 
 abbrev pub decreases-methods_past : goal.decreases-methods_past
-decreases-methods_past l = 32 * l.left + 9
+decreases-methods_past l = 64 * l.left + 9
 
 abbrev pub decreases-members : goal.decreases-members
-decreases-members l = 32 * l.left + 10
+decreases-members l = 64 * l.left + 10
 
 abbrev pub decreases-object_body : goal.decreases-object_body
-decreases-object_body l = 32 * l.left + 11
+decreases-object_body l = 64 * l.left + 11
 
 abbrev pub decreases-object : goal.decreases-object
-decreases-object l = 32 * l.left + 12
+decreases-object l = 64 * l.left + 12
 
 abbrev pub decreases-control : goal.decreases-control
-decreases-control l = 32 * l.left + 13
+decreases-control l = 64 * l.left + 13
 
 abbrev pub decreases-word : goal.decreases-word
-decreases-word l = 32 * l.left + 14
+decreases-word l = 64 * l.left + 14
 
 abbrev pub decreases-bracketed : goal.decreases-bracketed
-decreases-bracketed l = 32 * l.left + 14
+decreases-bracketed l = 64 * l.left + 14
 
 abbrev pub decreases-primary : goal.decreases-primary
-decreases-primary l = 32 * l.left + 15
+decreases-primary l = 64 * l.left + 15
 
 abbrev pub decreases-postfix_from : goal.decreases-postfix_from
-decreases-postfix_from l = 32 * l.left + 15
+decreases-postfix_from l = 64 * l.left + 15
 
 abbrev pub decreases-postfix : goal.decreases-postfix
-decreases-postfix l = 32 * l.left + 16
+decreases-postfix l = 64 * l.left + 16
 
 abbrev pub decreases-unary : goal.decreases-unary
-decreases-unary l = 32 * l.left + 17
+decreases-unary l = 64 * l.left + 17
 
-abbrev pub decreases-product_from : goal.decreases-product_from
-decreases-product_from l = 32 * l.left + 18
+abbrev pub decreases-operands : goal.decreases-operands
+decreases-operands l = 64 * l.left + 4 * rank l.level + 21
 
-abbrev pub decreases-product : goal.decreases-product
-decreases-product l = 32 * l.left + 19
+abbrev pub decreases-operands_from : goal.decreases-operands_from
+decreases-operands_from l = 64 * l.left + 4 * rank l.level + 20
 
-abbrev pub decreases-sum_from : goal.decreases-sum_from
-decreases-sum_from l = 32 * l.left + 20
-
-abbrev pub decreases-sums_from : goal.decreases-sums_from
-decreases-sums_from l = 32 * l.left + 21
-
-abbrev pub decreases-sum : goal.decreases-sum
-decreases-sum l = 32 * l.left + 22
+abbrev pub decreases-joined_from : goal.decreases-joined_from
+decreases-joined_from l = 64 * l.left + 4 * rank l.tighter + 22
 
 abbrev pub decreases-comparison_from : goal.decreases-comparison_from
-decreases-comparison_from l = 32 * l.left + 23
-
-abbrev pub decreases-comparisons_from : goal.decreases-comparisons_from
-decreases-comparisons_from l = 32 * l.left + 24
-
-abbrev pub decreases-comparison : goal.decreases-comparison
-decreases-comparison l = 32 * l.left + 25
-
-abbrev pub decreases-conjunction_from : goal.decreases-conjunction_from
-decreases-conjunction_from l = 32 * l.left + 26
-
-abbrev pub decreases-conjunctions_from : goal.decreases-conjunctions_from
-decreases-conjunctions_from l = 32 * l.left + 27
-
-abbrev pub decreases-conjunction : goal.decreases-conjunction
-decreases-conjunction l = 32 * l.left + 28
-
-abbrev pub decreases-disjunction_from : goal.decreases-disjunction_from
-decreases-disjunction_from l = 32 * l.left + 29
-
-abbrev pub decreases-disjunctions_from : goal.decreases-disjunctions_from
-decreases-disjunctions_from l = 32 * l.left + 30
-
-abbrev pub decreases-disjunction : goal.decreases-disjunction
-decreases-disjunction l = 32 * l.left + 31
-
-abbrev pub invariant-disjunction_from-more : goal.invariant-disjunction_from-more
-invariant-disjunction_from-more l = record {
-  comes : Turns (operand_next or_operator (conjunction_at (within_at l.left))) (operands_from or_operator (conjunction_at (within_at l.left)) (tree_of l.fn.first) (plain l.fn.self.rest.now)) (tree_of l.disjunction) (plain l.self.rest.now);
-  shorter : length (plain l.self.rest.now) ≤ length (plain l.fn.self.rest.now);
-}
-
-abbrev pub decreases-disjunction_from-more : goal.decreases-disjunction_from-more
-decreases-disjunction_from-more l = length (plain l.self.rest.now)
-
-abbrev pub invariant-conjunction_from-more : goal.invariant-conjunction_from-more
-invariant-conjunction_from-more l = record {
-  comes : Turns (operand_next and_operator (comparison_at (within_at l.left))) (operands_from and_operator (comparison_at (within_at l.left)) (tree_of l.fn.first) (plain l.fn.self.rest.now)) (tree_of l.conjunction) (plain l.self.rest.now);
-  shorter : length (plain l.self.rest.now) ≤ length (plain l.fn.self.rest.now);
-}
-
-abbrev pub decreases-conjunction_from-more : goal.decreases-conjunction_from-more
-decreases-conjunction_from-more l = length (plain l.self.rest.now)
-
-abbrev pub invariant-sum_from-more : goal.invariant-sum_from-more
-invariant-sum_from-more l = record {
-  comes : Turns (operand_next sum_operator (product_at (within_at l.left))) (operands_from sum_operator (product_at (within_at l.left)) (tree_of l.fn.first) (plain l.fn.self.rest.now)) (tree_of l.sum) (plain l.self.rest.now);
-  shorter : length (plain l.self.rest.now) ≤ length (plain l.fn.self.rest.now);
-}
-
-abbrev pub decreases-sum_from-more : goal.decreases-sum_from-more
-decreases-sum_from-more l = length (plain l.self.rest.now)
-
-abbrev pub invariant-product_from-more : goal.invariant-product_from-more
-invariant-product_from-more l = record {
-  comes : Turns (operand_next product_operator (unary_at (within_at l.left))) (operands_from product_operator (unary_at (within_at l.left)) (tree_of l.fn.first) (plain l.fn.self.rest.now)) (tree_of l.product) (plain l.self.rest.now);
-  shorter : length (plain l.self.rest.now) ≤ length (plain l.fn.self.rest.now);
-}
-
-abbrev pub decreases-product_from-more : goal.decreases-product_from-more
-decreases-product_from-more l = length (plain l.self.rest.now)
+decreases-comparison_from l = 64 * l.left + 30
 
 abbrev pub invariant-postfix_from-more : goal.invariant-postfix_from-more
 invariant-postfix_from-more l = record {
@@ -236,3 +171,12 @@ invariant-methods-more l = record {
 
 abbrev pub decreases-methods-more : goal.decreases-methods-more
 decreases-methods-more l = length (plain l.self.rest.now)
+
+abbrev pub invariant-joined_from-more : goal.invariant-joined_from-more
+invariant-joined_from-more l = record {
+  comes : Turns (operand_next (operator_of l.level) (level_at l.tighter (within_at l.left))) (operands_from (operator_of l.level) (level_at l.tighter (within_at l.left)) (tree_of l.fn.first) (plain l.fn.self.rest.now)) (tree_of l.joined) (plain l.self.rest.now);
+  shorter : length (plain l.self.rest.now) ≤ length (plain l.fn.self.rest.now);
+}
+
+abbrev pub decreases-joined_from-more : goal.decreases-joined_from-more
+decreases-joined_from-more l = length (plain l.self.rest.now)

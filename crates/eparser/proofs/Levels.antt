@@ -1,0 +1,98 @@
+-- Each level of operators, from the level of its operands.
+use Rattle.std.proofs.Common.{◌≡◌, List, true, false, Some, None, refl, ap, subst}
+use Rattle.etoken.specs.declared.token.Token.{Token}
+use Rattle.kernele.specs.Tree.{Tree}
+use Rattle.enodes.specs.Nodes.{product_operator}
+use Rattle.egrammar.specs.Reading.{or_else, Within, unary_at, operands_from, comparison_from}
+use Rattle.enodes.specs.declared.stop.Stop.{Stop}
+use Rattle.enodes.specs.declared.stop.Stop.TheVariants as stop
+use Rattle.eparser.specs.declared.level.Level.{Level}
+use Rattle.eparser.specs.declared.level.Level.TheVariants as level
+use Rattle.eparser.specs.Levels.{tighter, joins_two, operator_of, level_at, level_from}
+use Rattle.eparser.specs.View.{Fails}
+
+-- the level of its operands, where there is one
+abbrev below : Level → Level
+below level.Disjunction = level.Conjunction
+below level.Conjunction = level.Comparison
+below level.Comparison = level.Sum
+below level.Sum = level.Product
+below level.Product = level.Unary
+below level.Unary = level.Unary
+
+tighter_is : (l k : Level) → tighter l ≡ Some k → below l ≡ k
+tighter_is level.Disjunction k e = cc
+tighter_is level.Conjunction k e = cc
+tighter_is level.Comparison k e = cc
+tighter_is level.Sum k e = cc
+tighter_is level.Product k e = cc
+tighter_is level.Unary k e = cc
+
+module _ (within : Within) where
+  pub first_read : (l : Level) (a : List Token) {t : Tree} {b : List Token} → unary_at within a ≡ Some (t, b) → level_at l within a ≡ level_from l within t b
+  first_read level.Disjunction a e = rw e refl
+  first_read level.Conjunction a e = rw e refl
+  first_read level.Comparison a e = rw e refl
+  first_read level.Sum a e = rw e refl
+  first_read level.Product a e = rw e refl
+  first_read level.Unary a e = e
+
+  first_none : (l : Level) (a : List Token) → unary_at within a ≡ None → level_at l within a ≡ None
+  first_none level.Disjunction a e = rw e refl
+  first_none level.Conjunction a e = rw e refl
+  first_none level.Comparison a e = rw e refl
+  first_none level.Sum a e = rw e refl
+  first_none level.Product a e = rw e refl
+  first_none level.Unary a e = e
+
+  pub first_fails : (e : Stop) (l : Level) (a : List Token) → Fails e (unary_at within a) → Fails e (level_at l within a)
+  first_fails stop.Unexpected l a f = first_none l a f
+  first_fails stop.Memory l a f = tt
+
+  module _ (t : Tree) (a : List Token) where
+    pub behind_here : (l : Level) → tighter l ≡ None → level_from l within t a ≡ Some (t, a)
+    behind_here level.Disjunction e = cc
+    behind_here level.Conjunction e = cc
+    behind_here level.Comparison e = cc
+    behind_here level.Sum e = cc
+    behind_here level.Product e = cc
+    behind_here level.Unary e = refl
+
+    read_below : (l k : Level) {u : Tree} {b : List Token} → tighter l ≡ Some k → joins_two l ≡ false → level_from (below l) within t a ≡ Some (u, b) → level_from l within t a ≡ operands_from (operator_of l) (level_at (below l) within) u b
+    read_below level.Disjunction k e j f = rw f refl
+    read_below level.Conjunction k e j f = rw f refl
+    read_below level.Comparison k e j f = cc
+    read_below level.Sum k e j f = rw f refl
+    read_below level.Product k e j f = ap (λ x. or_else x None (λ p. operands_from product_operator (unary_at within) p.0 p.1)) f
+    read_below level.Unary k e j f = cc
+
+    pub behind_read : (l k : Level) {u : Tree} {b : List Token} → tighter l ≡ Some k → joins_two l ≡ false → level_from k within t a ≡ Some (u, b) → level_from l within t a ≡ operands_from (operator_of l) (level_at k within) u b
+    behind_read l k {u} {b} e j =
+        subst (λ k. level_from k within t a ≡ Some (u, b) → level_from l within t a ≡ operands_from (operator_of l) (level_at k within) u b) (tighter_is l k e) (read_below l k e j)
+
+    compared_below : (l k : Level) {u : Tree} {b : List Token} → tighter l ≡ Some k → joins_two l ≡ true → level_from (below l) within t a ≡ Some (u, b) → level_from l within t a ≡ comparison_from within u b
+    compared_below level.Disjunction k e j f = cc
+    compared_below level.Conjunction k e j f = cc
+    compared_below level.Comparison k e j f = rw f refl
+    compared_below level.Sum k e j f = cc
+    compared_below level.Product k e j f = cc
+    compared_below level.Unary k e j f = cc
+
+    pub behind_compared : (l k : Level) {u : Tree} {b : List Token} → tighter l ≡ Some k → joins_two l ≡ true → level_from k within t a ≡ Some (u, b) → level_from l within t a ≡ comparison_from within u b
+    behind_compared l k {u} {b} e j =
+        subst (λ k. level_from k within t a ≡ Some (u, b) → level_from l within t a ≡ comparison_from within u b) (tighter_is l k e) (compared_below l k e j)
+
+    none_below : (l k : Level) → tighter l ≡ Some k → level_from (below l) within t a ≡ None → level_from l within t a ≡ None
+    none_below level.Disjunction k e f = rw f refl
+    none_below level.Conjunction k e f = rw f refl
+    none_below level.Comparison k e f = rw f refl
+    none_below level.Sum k e f = rw f refl
+    none_below level.Product k e f = cc
+    none_below level.Unary k e f = cc
+
+    behind_none : (l k : Level) → tighter l ≡ Some k → level_from k within t a ≡ None → level_from l within t a ≡ None
+    behind_none l k e = subst (λ k. level_from k within t a ≡ None → level_from l within t a ≡ None) (tighter_is l k e) (none_below l k e)
+
+    pub behind_fails : (e : Stop) (l k : Level) → tighter l ≡ Some k → Fails e (level_from k within t a) → Fails e (level_from l within t a)
+    behind_fails stop.Unexpected l k e f = behind_none l k e f
+    behind_fails stop.Memory l k e f = tt
