@@ -69,7 +69,7 @@ pub struct Breaks {
 }
 
 impl Breaks {
-    pub fn new(alloc: Global) -> Breaks
+    pub(crate) fn new(alloc: Global) -> Breaks
         ensures brackets { result.brackets.items ≡ [] }
         ensures ended { result.ended ≡ false }
     {
@@ -80,7 +80,7 @@ impl Breaks {
     }
 
     /// Whether a line break before the token gives a semicolon.
-    pub fn part(&self, broken: bool, token: &Token) -> bool
+    pub(crate) fn part(&self, broken: bool, token: &Token) -> bool
         ensures { result ≡ (broken && in_items (reverse self.now.brackets.items) && self.now.ended && may_begin token.now) }
     {
         let in_items = matches!(self.brackets.last(), None | Some(Bracket::Curly));
@@ -88,7 +88,7 @@ impl Breaks {
     }
 
     /// Goes past the token.
-    pub fn pass(&mut self, token: &Token) -> Result<(), TokenFault>
+    pub(crate) fn pass(&mut self, token: &Token) -> Result<(), TokenFault>
         ensures brackets { OnOk result (reverse self.new.brackets.items ≡ behind token.now (reverse self.old.brackets.items)) }
         ensures ended { OnOk result (self.new.ended ≡ may_end token.now) }
         // The one error is of memory.

@@ -6,7 +6,7 @@ ghost use Rattle.etoken.specs.Bytes.{is_word_byte, is_plain, is_in_line, Longest
 ghost use Rattle.etoken.specs.Cutting.{Blanks};
 
 /// The first byte and the text behind it, where that byte is an ASCII character.
-pub fn split_ascii(text: &str) -> Option<(u8, &str)>
+pub(crate) fn split_ascii(text: &str) -> Option<(u8, &str)>
     ensures { MatchOption result (begins_with is_ascii_byte text.now ≡ false) (λ x. (text.now ≡ x.0 ∷ x.1.now) × (x.0 < 128)) }
 {
     let first = text.as_bytes().first().copied()?;
@@ -18,7 +18,7 @@ pub fn split_ascii(text: &str) -> Option<(u8, &str)>
 }
 
 /// A letter, `_` or a digit.
-pub fn is_word_byte(byte: u8) -> bool
+pub(crate) fn is_word_byte(byte: u8) -> bool
     ensures { result ≡ is_word_byte byte }
 {
     byte.is_ascii_alphabetic() || byte == b'_' || byte.is_ascii_digit()
@@ -34,7 +34,7 @@ fn digit_count(text: &str) -> usize
 }
 
 /// The digits in front, and the text behind them.
-pub fn digits(text: &str) -> (&str, &str)
+pub(crate) fn digits(text: &str) -> (&str, &str)
     ensures { Longest is_ascii_digit text.now result.0.now result.1.now }
 {
     text.split_at(digit_count(text))
@@ -48,14 +48,14 @@ fn word_len(text: &str) -> usize
 }
 
 /// The letters, digits and `_` in front, and the text behind them.
-pub fn word(text: &str) -> (&str, &str)
+pub(crate) fn word(text: &str) -> (&str, &str)
     ensures { Longest is_word_byte text.now result.0.now result.1.now }
 {
     text.split_at(word_len(text))
 }
 
 /// What stands before the first `"` or `\`, and the text from there on.
-pub fn plain(text: &str) -> (&str, &str)
+pub(crate) fn plain(text: &str) -> (&str, &str)
     ensures { Longest is_plain text.now result.0.now result.1.now }
 {
     let end = text.bytes().position(|byte| byte == b'"' || byte == b'\\');
@@ -71,7 +71,7 @@ fn line(text: &str) -> (&str, &str)
 }
 
 /// Goes past spaces, line breaks and comments: whether there is a line break, and the text behind them.
-pub fn blanks(text: &str) -> (bool, &str)
+pub(crate) fn blanks(text: &str) -> (bool, &str)
     ensures { Blanks text.now result.0 result.1.now }
 {
     let mut rest = text;

@@ -24,14 +24,14 @@ pub struct Lexer {
 
 impl Lexer {
     /// Where the rest of the text begins.
-    pub fn offset(&self, rest: &str) -> usize
+    pub(crate) fn offset(&self, rest: &str) -> usize
         ensures { result ≡ offset_of self.now.length rest.now }
     {
         self.length.saturating_sub(rest.len())
     }
 
     /// The token in front of a text that is not empty, and the text behind it.
-    pub fn token<'a>(&self, rest: &'a str) -> Result<(Token, &'a str), TokenFault>
+    pub(crate) fn token<'a>(&self, rest: &'a str) -> Result<(Token, &'a str), TokenFault>
         requires some { 0 < length rest.now }
         ensures { MatchResult result (λ x. Spells rest.now x.0 x.1.now) (Blames self.now.length rest.now) }
     {

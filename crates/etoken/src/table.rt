@@ -5,7 +5,7 @@ ghost use Rattle.etoken.specs.Table.{sign_of, reserved_of, escape_of};
 use crate::token::{Reserved, Sign};
 
 /// The sign of these two characters.
-pub fn long_sign(first: u8, second: u8) -> Option<Sign>
+pub(crate) fn long_sign(first: u8, second: u8) -> Option<Sign>
     ensures { result ≡ sign_of (first ∷ second ∷ []) }
 {
     match first {
@@ -27,7 +27,7 @@ pub fn long_sign(first: u8, second: u8) -> Option<Sign>
 }
 
 /// The sign of this one character.
-pub fn short_sign(byte: u8) -> Option<Sign>
+pub(crate) fn short_sign(byte: u8) -> Option<Sign>
     ensures { result ≡ sign_of (byte ∷ []) }
 {
     match byte {
@@ -51,7 +51,7 @@ pub fn short_sign(byte: u8) -> Option<Sign>
 }
 
 /// The word of the language that is spelled so.
-pub fn reserved(word: &str) -> Option<Reserved>
+pub(crate) fn reserved(word: &str) -> Option<Reserved>
     ensures { result ≡ reserved_of word.now }
 {
     match word {
@@ -79,7 +79,7 @@ pub fn reserved(word: &str) -> Option<Reserved>
 }
 
 /// The byte that stands for itself behind a `\`, or that this letter names there.
-pub fn escape(letter: u8) -> Option<u8>
+pub(crate) fn escape(letter: u8) -> Option<u8>
     ensures value { result ≡ escape_of letter }
     ensures ascii { IfSome result (λ b. b < 128) }
 {

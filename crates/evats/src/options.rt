@@ -81,7 +81,10 @@ fn stop<R: Runtime>(rt: &R, error: &Error) -> io::Result<Ended> {
 }
 
 /// Reads the words, the program's own name first, and prints the help or what is wrong.
-pub fn parse<'a, R: Runtime + AllocGlobal>(rt: &R, words: &'a [String]) -> io::Result<Parsed<'a>> {
+pub(crate) fn parse<'a, R: Runtime + AllocGlobal>(
+    rt: &R,
+    words: &'a [String],
+) -> io::Result<Parsed<'a>> {
     match command(rt.alloc())?.try_get_matches_from(words) {
         Ok(matches) => Ok(Parsed::Options(Options::from_matches(&matches))),
         Err(error) => Ok(Parsed::Stop(stop(rt, &error)?)),

@@ -31,7 +31,7 @@ pub enum Asked {
 }
 
 /// The answer, or the refusal.
-pub fn answer(alloc: Global, asked: Asked, text: &str) -> Result<String, AllocError> {
+pub(crate) fn answer(alloc: Global, asked: Asked, text: &str) -> Result<String, AllocError> {
     match asked {
         Asked::Tokens => shown_tokens(alloc, tokens(alloc, text)),
         Asked::Spelling => spelling(alloc, read(alloc, text)),

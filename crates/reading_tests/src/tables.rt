@@ -5,7 +5,7 @@ use std::process::Abort;
 use std::test::Fail;
 
 /// Compares what each text is answered with what stands beside it.
-pub fn expect(
+pub(crate) fn expect(
     rt: &(impl Abort + AllocGlobal),
     asked: Asked,
     rows: &[(&str, &str)],

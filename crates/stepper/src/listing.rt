@@ -51,7 +51,7 @@ fn write_entry(position: usize, entry: &Entry, out: &mut String) -> Result<(), A
 }
 
 /// Writes a journal, a line for each entry, with its position from 1.
-pub fn write_journal(entries: &[Entry], out: &mut String) -> Result<(), AllocError>
+pub(crate) fn write_journal(entries: &[Entry], out: &mut String) -> Result<(), AllocError>
     ensures { OnOk result (string_bytes out.new ≡ string_bytes out.old ++ journal_text (lines_of entries.now)) }
 {
     for (index, entry) in entries.iter().enumerate() {
@@ -61,7 +61,7 @@ pub fn write_journal(entries: &[Entry], out: &mut String) -> Result<(), AllocErr
 }
 
 /// Writes the events of a cone.
-pub fn write_cone(events: &[EventName], out: &mut String) -> Result<(), AllocError>
+pub(crate) fn write_cone(events: &[EventName], out: &mut String) -> Result<(), AllocError>
     ensures { OnOk result (string_bytes out.new ≡ string_bytes out.old ++ cone_text events.now) }
 {
     out.push_str("cone")?;

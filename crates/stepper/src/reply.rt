@@ -52,7 +52,7 @@ fn write_end(ended: &Ended, out: &mut String) -> Result<(), AllocError>
 impl Written {
     ghost use Rattle.stepper.specs.Written.{Adds, AddsText};
 
-    pub fn new(alloc: Global) -> Written
+    pub(crate) fn new(alloc: Global) -> Written
         ensures text { string_bytes result.text ≡ [] }
         ensures refused { result.refused ≡ false }
     {
@@ -63,7 +63,7 @@ impl Written {
     }
 
     /// An event happened that made one message.
-    pub fn queued(&mut self, event: EventName) -> Result<(), AllocError>
+    pub(crate) fn queued(&mut self, event: EventName) -> Result<(), AllocError>
         ensures { OnOk result (Adds self.old self.new (queued_text event) false) }
     {
         let message = MsgId { event, index: 0 };
@@ -72,7 +72,7 @@ impl Written {
     }
 
     /// A turn was run.
-    pub fn turned(&mut self, event: EventName, ended: &Ended) -> Result<(), AllocError>
+    pub(crate) fn turned(&mut self, event: EventName, ended: &Ended) -> Result<(), AllocError>
         ensures { OnOk result (Adds self.old self.new (turned_text event (ended_of ended.now)) false) }
     {
         let out = &mut self.text;
@@ -82,28 +82,28 @@ impl Written {
     }
 
     /// The world is shown.
-    pub fn world(&mut self, world: &World) -> Result<(), AllocError>
+    pub(crate) fn world(&mut self, world: &World) -> Result<(), AllocError>
         ensures { OnOk result (AddsText self.old self.new (Shows (world_of world.now))) }
     {
         write_world(world, &mut self.text)
     }
 
     /// The journal is listed.
-    pub fn journal(&mut self, entries: &[Entry]) -> Result<(), AllocError>
+    pub(crate) fn journal(&mut self, entries: &[Entry]) -> Result<(), AllocError>
         ensures { OnOk result (Adds self.old self.new (journal_text (lines_of entries.now)) false) }
     {
         write_journal(entries, &mut self.text)
     }
 
     /// The events of a cone are named.
-    pub fn cone(&mut self, events: &[EventName]) -> Result<(), AllocError>
+    pub(crate) fn cone(&mut self, events: &[EventName]) -> Result<(), AllocError>
         ensures { OnOk result (Adds self.old self.new (cone_text events.now) false) }
     {
         write_cone(events, &mut self.text)
     }
 
     /// So many entries were undone.
-    pub fn undone(&mut self, count: usize) -> Result<(), AllocError>
+    pub(crate) fn undone(&mut self, count: usize) -> Result<(), AllocError>
         ensures { OnOk result (Adds self.old self.new (undone_text count) false) }
     {
         let out = &mut self.text;
@@ -111,14 +111,14 @@ impl Written {
     }
 
     /// So many entries are live again.
-    pub fn redone(&mut self, count: usize) -> Result<(), AllocError>
+    pub(crate) fn redone(&mut self, count: usize) -> Result<(), AllocError>
         ensures { OnOk result (Adds self.old self.new (redone_text count) false) }
     {
         let out = &mut self.text;
         write!(out, "ok redone {count}\n")
     }
 
-    pub fn refuse_line(&mut self, fault: LineFault) -> Result<(), AllocError>
+    pub(crate) fn refuse_line(&mut self, fault: LineFault) -> Result<(), AllocError>
         ensures { OnOk result (Adds self.old self.new (refused (fault_text fault)) true) }
     {
         self.refused = true;
@@ -126,7 +126,7 @@ impl Written {
         write!(out, "no {fault}\n")
     }
 
-    pub fn refuse_text(&mut self, fault: &ReadFault) -> Result<(), AllocError>
+    pub(crate) fn refuse_text(&mut self, fault: &ReadFault) -> Result<(), AllocError>
         ensures { OnOk result (Adds self.old self.new (refused (shown fault.now)) true) }
     {
         self.refused = true;
@@ -134,7 +134,7 @@ impl Written {
         write!(out, "no {fault}\n")
     }
 
-    pub fn refuse_call(&mut self, fault: &BookFault) -> Result<(), AllocError>
+    pub(crate) fn refuse_call(&mut self, fault: &BookFault) -> Result<(), AllocError>
         ensures { OnOk result (Adds self.old self.new (refused (book_fault.fault_text fault.now)) true) }
     {
         self.refused = true;

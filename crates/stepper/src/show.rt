@@ -193,7 +193,7 @@ fn write_board(board: &BTreeMap<PromId, Value>, out: &mut String) -> Result<(), 
 }
 
 /// Writes the world: its vats by birth, its messages and what was published in order of their names.
-pub fn write_world(world: &World, out: &mut String) -> Result<(), AllocError>
+pub(crate) fn write_world(world: &World, out: &mut String) -> Result<(), AllocError>
     ensures { OnOk result ((text : List ℕ) × Shows (world_of world.now) text × (string_bytes out.new ≡ string_bytes out.old ++ text)) }
 {
     write_homes(world.homes(), out)?;

@@ -8,12 +8,12 @@ const OPENED: &str = "vat a () 0\nturn e1.m0\n";
 
 const BORN: &str = "ok e1 e1.m0\nok e2 value null\n";
 
-pub fn limits(budget: u32) -> Limits {
+pub(crate) fn limits(budget: u32) -> Limits {
     Limits { budget, workers: 8 }
 }
 
 /// Runs commands and compares the replies, and whether one is a refusal.
-pub fn expect(
+pub(crate) fn expect(
     rt: &(impl Abort + AllocGlobal),
     budget: u32,
     input: &[u8],
@@ -30,7 +30,7 @@ pub fn expect(
 }
 
 /// Runs one asked text in a vat that was opened, and compares the replies behind the vat's own.
-pub fn expect_asked(
+pub(crate) fn expect_asked(
     rt: &(impl Abort + AllocGlobal),
     text: &str,
     wanted: &str,
@@ -43,7 +43,11 @@ pub fn expect_asked(
 }
 
 /// The same with the turn of the asked text.
-pub fn expect_turn(rt: &(impl Abort + AllocGlobal), text: &str, wanted: &str) -> Result<(), Fail> {
+pub(crate) fn expect_turn(
+    rt: &(impl Abort + AllocGlobal),
+    text: &str,
+    wanted: &str,
+) -> Result<(), Fail> {
     let commands = format!(in rt.alloc(); "{OPENED}ask a {text}\nturn e3.m0\n")?;
     let wanted = format!(in rt.alloc(); "{BORN}ok e3 e3.m0\nok e4 {wanted}\n")?;
     expect(rt, 10_000, commands.as_bytes(), wanted.as_str(), false);
@@ -51,7 +55,10 @@ pub fn expect_turn(rt: &(impl Abort + AllocGlobal), text: &str, wanted: &str) ->
 }
 
 /// Runs asked texts with their turns, each in a vat of its own.
-pub fn expect_turns(rt: &(impl Abort + AllocGlobal), rows: &[(&str, &str)]) -> Result<(), Fail> {
+pub(crate) fn expect_turns(
+    rt: &(impl Abort + AllocGlobal),
+    rows: &[(&str, &str)],
+) -> Result<(), Fail> {
     for (text, wanted) in rows {
         expect_turn(rt, text, wanted)?;
     }
@@ -59,7 +66,10 @@ pub fn expect_turns(rt: &(impl Abort + AllocGlobal), rows: &[(&str, &str)]) -> R
 }
 
 /// Runs asked texts that are refused, each in a vat of its own.
-pub fn expect_refusals(rt: &(impl Abort + AllocGlobal), rows: &[(&str, &str)]) -> Result<(), Fail> {
+pub(crate) fn expect_refusals(
+    rt: &(impl Abort + AllocGlobal),
+    rows: &[(&str, &str)],
+) -> Result<(), Fail> {
     for (text, wanted) in rows {
         expect_asked(rt, text, wanted, true)?;
     }

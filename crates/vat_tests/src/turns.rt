@@ -22,7 +22,7 @@ struct Opened {
 }
 
 /// The program that a text spells.
-pub fn program(alloc: Global, text: &str) -> Result<Program, AllocError> {
+pub(crate) fn program(alloc: Global, text: &str) -> Result<Program, AllocError> {
     match read(alloc, text) {
         Ok(program) => Ok(program),
         Err(_) => Err(AllocError),
@@ -62,7 +62,7 @@ fn after_script(alloc: Global, script: &str) -> Result<Opened, AllocError> {
 }
 
 /// How a turn ended: its value, its problem behind `!`, or why it was abandoned.
-pub fn ended(alloc: Global, ended: &Ended) -> Result<String, AllocError> {
+pub(crate) fn ended(alloc: Global, ended: &Ended) -> Result<String, AllocError> {
     match ended {
         Ended::Value(value) => show(alloc, value),
         Ended::Problem(problem) => format!(in alloc; "!{problem}"),
