@@ -16,7 +16,7 @@ use Rattle.eparser.proofs.reader.Reader.+read.Goals as goal
 pub operands-returns-clause-gives : goal.operands-returns-clause-gives
 operands-returns-clause-gives t c =
     gives_behind c.operands_from.result c.args.self.now c.unary.new.self c.operands_from.new.self (level_at c.args.level (within_at c.args.left)) (level_from c.args.level (within_at c.args.left) (tree_of c.in_ok-first.first))
-      (first_read (within_at c.args.left) c.args.level (plain c.args.self.now.rest.now) c.in_ok-first.ensures.gives) c.operands_from.ensures.gives
+    (first_read (within_at c.args.left) c.args.level (plain c.args.self.now.rest.now) c.in_ok-first.ensures.gives) c.operands_from.ensures.gives
 
 pub operands_from-returns-in_default-clause-gives : goal.operands_from-returns-in_default-clause-gives
 operands_from-returns-in_default-clause-gives t c =
@@ -30,12 +30,12 @@ operands_from-returns-in_err-operand-clause-gives t c =
 pub operands_from-returns-then-joins_two-clause-gives : goal.operands_from-returns-then-joins_two-clause-gives
 operands_from-returns-then-joins_two-clause-gives t c =
     gives_behind c.comparison_from.result c.args.self.now c.operands_from.new.self c.comparison_from.new.self (level_from c.args.level (within_at c.args.left) (tree_of c.args.first)) (comparison_from (within_at c.args.left) (tree_of c.in_ok-operand.operand))
-      (behind_compared (within_at c.args.left) (tree_of c.args.first) (plain c.args.self.now.rest.now) c.args.level c.in-Some.tighter (sym c.tighter.ensures ∙ c.in-Some.is) (sym c.joins_two.ensures ∙ c.if-joins_two.true) c.in_ok-operand.ensures.gives) c.comparison_from.ensures.gives
+    (behind_compared (within_at c.args.left) (tree_of c.args.first) (plain c.args.self.now.rest.now) c.args.level c.in-Some.tighter (sym c.tighter.ensures ∙ c.in-Some.is) (sym c.joins_two.ensures ∙ c.if-joins_two.true) c.in_ok-operand.ensures.gives) c.comparison_from.ensures.gives
 
 pub operands_from-returns-clause-gives : goal.operands_from-returns-clause-gives
 operands_from-returns-clause-gives t c =
     gives_behind c.joined_from.result c.args.self.now c.operands_from.new.self c.joined_from.new.self (level_from c.args.level (within_at c.args.left) (tree_of c.args.first)) (operands_from (operator_of c.args.level) (level_at c.in-Some.tighter (within_at c.args.left)) (tree_of c.in_ok-operand.operand))
-      (behind_read (within_at c.args.left) (tree_of c.args.first) (plain c.args.self.now.rest.now) c.args.level c.in-Some.tighter (sym c.tighter.ensures ∙ c.in-Some.is) (sym c.joins_two.ensures ∙ c.if-joins_two.false) c.in_ok-operand.ensures.gives) c.joined_from.ensures.gives
+    (behind_read (within_at c.args.left) (tree_of c.args.first) (plain c.args.self.now.rest.now) c.args.level c.in-Some.tighter (sym c.tighter.ensures ∙ c.in-Some.is) (sym c.joins_two.ensures ∙ c.if-joins_two.false) c.in_ok-operand.ensures.gives) c.joined_from.ensures.gives
 
 pub joined_from-more-init : goal.joined_from-more-init
 joined_from-more-init t c = record {
