@@ -10,6 +10,7 @@ use kernele::print;
 use kernele::tree::{Expr, Program};
 use scopes::{CheckFault, Kind, Outer, captured_names, check, top_names};
 use std::alloc::{AllocError, Global};
+use std::fmt::Write;
 
 /// What is asked of a text.
 #[derive(Clone, Copy)]
@@ -69,20 +70,21 @@ fn shown_tokens(
     };
     let mut words = String::new(alloc);
     for placed in &list {
-        words.push_str(word_of(alloc, placed)?.as_str())?;
+        write!(words, "{}:", placed.offset)?;
+        write_token(&placed.token, &mut words)?;
+        words.push(' ')?;
     }
     Ok(words)
 }
 
-/// A token and its offset, as a short word.
-fn word_of(alloc: Global, placed: &Placed) -> Result<String, AllocError> {
-    let offset = placed.offset;
-    match &placed.token {
-        Token::Int(number) => format!(in alloc; "{offset}:{number} "),
-        Token::Text(text) => format!(in alloc; "{offset}:\"{text}\" "),
-        Token::Name(name) => format!(in alloc; "{offset}:{name} "),
-        Token::Word(word) => format!(in alloc; "{offset}:{word:?} "),
-        Token::Sign(sign) => format!(in alloc; "{offset}:{sign:?} "),
+/// Writes a token as a short word.
+fn write_token(token: &Token, out: &mut String) -> Result<(), AllocError> {
+    match token {
+        Token::Int(number) => write!(out, "{number}"),
+        Token::Text(text) => write!(out, "\"{text}\""),
+        Token::Name(name) => out.push_str(name.as_str()),
+        Token::Word(word) => write!(out, "{word:?}"),
+        Token::Sign(sign) => write!(out, "{sign:?}"),
     }
 }
 

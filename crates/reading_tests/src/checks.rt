@@ -1,7 +1,7 @@
 // What the check says of a program, the names that it defines, and what an object captures.
 
 use crate::answers::Asked;
-use crate::tables::expect;
+use crate::tables::{expect, expect_repeated};
 use std::test::Fail;
 
 #[test]
@@ -40,23 +40,28 @@ fn scripts(rt: HostRuntime) -> Result<(), Fail> {
 /// A sum of n ones is n nodes deep.
 #[test]
 fn depths(rt: HostRuntime) -> Result<(), Fail> {
-    for (count, wanted) in [(199, "fits"), (200, "K4 TooDeep"), (2_000, "K4 TooDeep")] {
-        let sums = "1+".repeat(rt.alloc(), count)?;
-        let text = format!(in rt.alloc(); "{sums}1")?;
-        expect(&rt, Asked::CheckAsked, &[(text.as_str(), wanted)])?;
-    }
-    Ok(())
+    expect_repeated(
+        &rt,
+        Asked::CheckAsked,
+        &[
+            ("1+", 199, "1", "fits"),
+            ("1+", 200, "1", "K4 TooDeep"),
+            ("1+", 2_000, "1", "K4 TooDeep"),
+        ],
+    )
 }
 
 /// `1 != 1` is four nodes, and `1 != !1` five.
 #[test]
 fn lengths(rt: HostRuntime) -> Result<(), Fail> {
-    for (count, rest, wanted) in [(4_095, "1!=1", "fits"), (4_095, "1!=!1", "K5 TooLong")] {
-        let items = "1!=1;".repeat(rt.alloc(), count)?;
-        let text = format!(in rt.alloc(); "{items}{rest}")?;
-        expect(&rt, Asked::CheckAsked, &[(text.as_str(), wanted)])?;
-    }
-    Ok(())
+    expect_repeated(
+        &rt,
+        Asked::CheckAsked,
+        &[
+            ("1!=1;", 4_095, "1!=1", "fits"),
+            ("1!=1;", 4_095, "1!=!1", "K5 TooLong"),
+        ],
+    )
 }
 
 #[test]

@@ -1,5 +1,6 @@
 // What names and texts are written as.
 
+use crate::tables::expect_text;
 use ids::names::{EjId, EventName, MsgId, ObjId, PromId, SlotId, VatNo};
 use ids::quote::write_quoted;
 use ids::text::Text;
@@ -11,8 +12,7 @@ const BOB: VatNo = VatNo(EventName(3));
 fn quotes(rt: HostRuntime) -> Result<(), Fail> {
     let mut out = String::new(rt.alloc());
     write_quoted("a\"\\\n\t\ré", &mut out)?;
-    assert_eq!(rt; out.as_str(), "\"a\\\"\\\\\\n\\t\\ré\"");
-    Ok(())
+    expect_text(&rt, &out, "\"a\\\"\\\\\\n\\t\\ré\"")
 }
 
 #[test]
@@ -41,8 +41,7 @@ fn names(rt: HostRuntime) -> Result<(), Fail> {
         vat,
     };
     let text = format!(in rt.alloc(); "{event} {message} {promise} {slot} {object} {ejector}")?;
-    assert_eq!(rt; text.as_str(), "e8 e8.m1 e8.p0 e8.s12 e8.o0 e8.j10");
-    Ok(())
+    expect_text(&rt, &text, "e8 e8.m1 e8.p0 e8.s12 e8.o0 e8.j10")
 }
 
 #[test]

@@ -1,7 +1,7 @@
 // What programs are read as: the canonical spelling of the tree.
 
 use crate::answers::Asked;
-use crate::tables::expect;
+use crate::tables::{expect, expect_repeated};
 use std::test::Fail;
 
 #[test]
@@ -232,11 +232,10 @@ fn reads_given_tokens(rt: HostRuntime) -> Result<(), Fail> {
 
 #[test]
 fn reads_long_programs(rt: HostRuntime) -> Result<(), Fail> {
-    let text = "1 + 2 ; f ( x ) . y ( ) ; ".repeat(rt.alloc(), 1200)?;
-    let wanted = "1.add(2); f.run(x).y(); ".repeat(rt.alloc(), 1200)?;
-    let text = format!(in rt.alloc(); "{text}3")?;
-    let wanted = format!(in rt.alloc(); "{wanted}3")?;
-    expect(&rt, Asked::Spelling, &[(text.as_str(), wanted.as_str())])
+    let text = "1 + 2 ; f ( x ) . y ( ) ; ";
+    let mut wanted = "1.add(2); f.run(x).y(); ".repeat(rt.alloc(), 1_200)?;
+    wanted.push('3')?;
+    expect_repeated(&rt, Asked::Spelling, &[(text, 1_200, "3", wanted.as_str())])
 }
 
 /// No bracket is open where one `for` stands in the list of another; the program reads the deepest of them.

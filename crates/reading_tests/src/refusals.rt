@@ -1,7 +1,7 @@
 // What is no program, and where reading stops.
 
 use crate::answers::Asked;
-use crate::tables::expect;
+use crate::tables::{expect, expect_repeated, expect_text};
 use ereader::fault::ReadFault;
 use etoken::fault::TokenFault;
 use scopes::CheckFault;
@@ -144,45 +144,42 @@ fn refuses_what_is_no_block(rt: HostRuntime) -> Result<(), Fail> {
 
 #[test]
 fn refuses_too_many_brackets(rt: HostRuntime) -> Result<(), Fail> {
-    for (before, times, wanted) in [
-        ("( ", 100, "L5 Unexpected 201"),
-        ("( ", 101, "L6 TooDeep"),
-        ("{ ", 101, "L6 TooDeep"),
-        // Any bracket closes the one before it, and one that closes nothing does not count.
-        ("( } ] ", 101, "L5 Unexpected 2"),
-        // Too many brackets are refused before what is no program.
-        (") { ", 101, "L5 Unexpected 0"),
-        ("1;", 8193, "L8 TooLong"),
-    ] {
-        let text = before.repeat(rt.alloc(), times)?;
-        let text = format!(in rt.alloc(); "{text}1")?;
-        expect(&rt, Asked::Spelling, &[(text.as_str(), wanted)])?;
-    }
-    Ok(())
+    expect_repeated(
+        &rt,
+        Asked::Spelling,
+        &[
+            ("( ", 100, "1", "L5 Unexpected 201"),
+            ("( ", 101, "1", "L6 TooDeep"),
+            ("{ ", 101, "1", "L6 TooDeep"),
+            // Any bracket closes the one before it, and one that closes nothing does not count.
+            ("( } ] ", 101, "1", "L5 Unexpected 2"),
+            // Too many brackets are refused before what is no program.
+            (") { ", 101, "1", "L5 Unexpected 0"),
+            ("1;", 8_193, "1", "L8 TooLong"),
+        ],
+    )
 }
 
 /// Where the last of many texts in one another lacks a body.
 #[test]
 fn refuses_deep_programs(rt: HostRuntime) -> Result<(), Fail> {
-    for (part, wanted) in [
-        ("for a in ", "L5 Unexpected 2706"),
-        ("- for a in ", "L5 Unexpected 3306"),
-        ("a * for b in ", "L5 Unexpected 3906"),
-        ("a == for b in ", "L5 Unexpected 4206"),
-        ("a || for b in ", "L5 Unexpected 4206"),
-    ] {
-        let text = part.repeat(rt.alloc(), 300)?;
-        let text = format!(in rt.alloc(); "{text}x {{ }} ")?;
-        expect(&rt, Asked::Spelling, &[(text.as_str(), wanted)])?;
-    }
-    Ok(())
+    expect_repeated(
+        &rt,
+        Asked::Spelling,
+        &[
+            ("for a in ", 300, "x { } ", "L5 Unexpected 2706"),
+            ("- for a in ", 300, "x { } ", "L5 Unexpected 3306"),
+            ("a * for b in ", 300, "x { } ", "L5 Unexpected 3906"),
+            ("a == for b in ", 300, "x { } ", "L5 Unexpected 4206"),
+            ("a || for b in ", 300, "x { } ", "L5 Unexpected 4206"),
+        ],
+    )
 }
 
 #[test]
 fn says_that_memory_ran_out(rt: HostRuntime) -> Result<(), Fail> {
     let alloc = rt.alloc();
-    assert_eq!(rt; TokenFault::Memory.to_string(alloc)?.as_str(), "L7 Memory");
-    assert_eq!(rt; ReadFault::Memory.to_string(alloc)?.as_str(), "L7 Memory");
-    assert_eq!(rt; CheckFault::Memory.to_string(alloc)?.as_str(), "B20 Memory");
-    Ok(())
+    expect_text(&rt, &TokenFault::Memory.to_string(alloc)?, "L7 Memory")?;
+    expect_text(&rt, &ReadFault::Memory.to_string(alloc)?, "L7 Memory")?;
+    expect_text(&rt, &CheckFault::Memory.to_string(alloc)?, "B20 Memory")
 }

@@ -1,7 +1,7 @@
 // What tokens a text has: each behind its offset.
 
 use crate::answers::Asked;
-use crate::tables::expect;
+use crate::tables::{expect, expect_repeated};
 use std::test::Fail;
 
 #[test]
@@ -105,20 +105,19 @@ fn line_breaks(rt: HostRuntime) -> Result<(), Fail> {
 
 #[test]
 fn limits(rt: HostRuntime) -> Result<(), Fail> {
-    for (part, times, end, wanted) in [
-        ("a ", 16_384, "&", "L1 BadCharacter 32768"),
-        ("a ", 16_385, "", "L8 TooLong"),
-        ("a\n", 8_193, "", "L8 TooLong"),
-        (" ", 65_536, "", ""),
-        (" ", 65_537, "", "L8 TooLong"),
-        ("&", 65_537, "", "L8 TooLong"),
-        ("a&", 2, "", "L1 BadCharacter 1"),
-        // A bad token in the place of the first token too many answers its own fault.
-        ("a ", 16_384, "\n&", "L1 BadCharacter 32769"),
-    ] {
-        let text = part.repeat(rt.alloc(), times)?;
-        let text = format!(in rt.alloc(); "{text}{end}")?;
-        expect(&rt, Asked::Tokens, &[(text.as_str(), wanted)])?;
-    }
-    Ok(())
+    expect_repeated(
+        &rt,
+        Asked::Tokens,
+        &[
+            ("a ", 16_384, "&", "L1 BadCharacter 32768"),
+            ("a ", 16_385, "", "L8 TooLong"),
+            ("a\n", 8_193, "", "L8 TooLong"),
+            (" ", 65_536, "", ""),
+            (" ", 65_537, "", "L8 TooLong"),
+            ("&", 65_537, "", "L8 TooLong"),
+            ("a&", 2, "", "L1 BadCharacter 1"),
+            // A bad token in the place of the first token too many answers its own fault.
+            ("a ", 16_384, "\n&", "L1 BadCharacter 32769"),
+        ],
+    )
 }
