@@ -227,11 +227,11 @@ fn behind_copies(
 
 #[test]
 fn texts_at_their_limits(rt: HostRuntime) -> Result<(), Fail> {
-    for (text, count, rest, wanted) in [
+    for (text, count, rest, wanted) in &[
         ("1 + ", 199, "1", "value 200"),
         (";", 16_384, "", "value null"),
     ] {
-        let asked = behind_copies(&rt, text, count, rest)?;
+        let asked = behind_copies(&rt, text, *count, rest)?;
         expect_turn(&rt, asked.as_str(), wanted)?;
     }
     Ok(())
@@ -246,12 +246,12 @@ fn brackets_at_their_limit(rt: HostRuntime) -> Result<(), Fail> {
 
 #[test]
 fn texts_past_their_limits(rt: HostRuntime) -> Result<(), Fail> {
-    for (text, count, rest, wanted) in [
+    for (text, count, rest, wanted) in &[
         ("1 + ", 200, "1", "no K4 TooDeep"),
         (";", 16_385, "", "no L8 TooLong"),
         ("(", 101, "", "no L6 TooDeep"),
     ] {
-        let asked = behind_copies(&rt, text, count, rest)?;
+        let asked = behind_copies(&rt, text, *count, rest)?;
         expect_asked(&rt, asked.as_str(), wanted, true)?;
     }
     Ok(())
