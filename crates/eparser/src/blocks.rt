@@ -56,7 +56,7 @@ impl<'a> Reader<'a> {
 
     /// A block and the brace behind it.
     #[cycle(read)]
-    fn block_past(&mut self, left: usize) -> Result<Vec<Expr>, Stop>
+    pub(crate) fn block_past(&mut self, left: usize) -> Result<Vec<Expr>, Stop>
         ensures gives { GivesMany result self.old self.new (reading.block_past_at (within_at left)) }
         ensures shorter { OnOk result (IsNoLonger self.old self.new) }
     {
@@ -66,16 +66,6 @@ impl<'a> Reader<'a> {
         }
         self.skip();
         Ok(items)
-    }
-
-    /// A hidden block, behind its opening brace.
-    #[cycle(read)]
-    pub(crate) fn hidden(&mut self, left: usize) -> Result<Expr, Stop>
-        ensures gives { Gives result self.old self.new (reading.hide_at (within_at left)) }
-        ensures shorter { OnOk result (IsNoLonger self.old self.new) }
-    {
-        let body = self.block_past(left)?;
-        Ok(nodes::hide(self.alloc, body)?)
     }
 
     /// A block in its braces.
@@ -135,7 +125,8 @@ impl<'a> Reader<'a> {
             }
             Reserved::Throw => {
                 self.skip();
-                self.throw(left)
+                let problem = self.condition(left)?;
+                Ok(nodes::throw(problem))
             }
             Reserved::Escape => {
                 self.skip();
@@ -161,7 +152,7 @@ impl<'a> Reader<'a> {
         Ok(nodes::choose(self.alloc, condition, first, second)?)
     }
 
-    /// The second block, if there is one.
+    /// The second block, if there is one: an `if` behind `else` is all of it.
     #[cycle(read)]
     fn second(&mut self, left: usize) -> Result<Vec<Expr>, Stop>
         ensures gives { GivesMany result self.old self.new (reading.else_at (within_at left)) }
@@ -171,15 +162,6 @@ impl<'a> Reader<'a> {
             return Ok(Vec::new(self.alloc));
         }
         self.skip();
-        self.branch(left)
-    }
-
-    /// What stands behind `else`.
-    #[cycle(read)]
-    fn branch(&mut self, left: usize) -> Result<Vec<Expr>, Stop>
-        ensures gives { GivesMany result self.old self.new (reading.branch_at (within_at left)) }
-        ensures shorter { OnOk result (IsNoLonger self.old self.new) }
-    {
         if !self.at_if() {
             return self.braced(left);
         }
@@ -238,10 +220,10 @@ impl<'a> Reader<'a> {
         Ok(nodes::repeat_for(self.alloc, pattern, list, body)?)
     }
 
-    /// A block and the `catch` behind it.
+    /// What stands behind `try`.
     #[cycle(read)]
-    fn tried(&mut self, left: usize) -> Result<Vec<Expr>, Stop>
-        ensures gives { GivesMany result self.old self.new (reading.tried_at (within_at left)) }
+    fn try_catch(&mut self, left: usize) -> Result<Expr, Stop>
+        ensures gives { Gives result self.old self.new (reading.try_at (within_at left)) }
         ensures shorter { OnOk result (IsNoLonger self.old self.new) }
     {
         let body = self.braced(left)?;
@@ -249,28 +231,8 @@ impl<'a> Reader<'a> {
             return Err(Stop::Unexpected);
         }
         self.skip();
-        Ok(body)
-    }
-
-    /// What stands behind `try`.
-    #[cycle(read)]
-    fn try_catch(&mut self, left: usize) -> Result<Expr, Stop>
-        ensures gives { Gives result self.old self.new (reading.try_at (within_at left)) }
-        ensures shorter { OnOk result (IsNoLonger self.old self.new) }
-    {
-        let body = self.tried(left)?;
         let pattern = self.pattern()?;
         let handler = self.braced(left)?;
         Ok(nodes::try_catch(self.alloc, body, pattern, handler)?)
-    }
-
-    /// What stands behind `throw`.
-    #[cycle(read)]
-    fn throw(&mut self, left: usize) -> Result<Expr, Stop>
-        ensures gives { Gives result self.old self.new (reading.throw_at (within_at left)) }
-        ensures shorter { OnOk result (IsNoLonger self.old self.new) }
-    {
-        let problem = self.condition(left)?;
-        Ok(nodes::throw(problem))
     }
 }

@@ -31,15 +31,6 @@ impl<'a> Reader<'a> {
         ensures shorter { OnOk result (IsNoLonger self.old self.new) }
     {
         let pattern = self.pattern()?;
-        self.object_body(left, pattern)
-    }
-
-    /// What stands behind what an object is bound to.
-    #[cycle(read)]
-    fn object_body(&mut self, left: usize, pattern: Pattern) -> Result<Expr, Stop>
-        ensures gives { Gives result self.old self.new (reading.body_at (within_at left) pattern) }
-        ensures shorter { OnOk result (IsNoLonger self.old self.new) }
-    {
         if self.at_open(Bracket::Curly) {
             self.skip();
             return self.members(left, pattern);
@@ -68,22 +59,12 @@ impl<'a> Reader<'a> {
         ensures gives { Gives result self.old self.new (reading.members_at (within_at left) pattern) }
         ensures shorter { OnOk result (IsNoLonger self.old self.new) }
     {
-        let methods = self.methods_past(left)?;
-        Ok(nodes::object(self.alloc, pattern, methods)?)
-    }
-
-    /// Methods and the brace behind them.
-    #[cycle(read)]
-    fn methods_past(&mut self, left: usize) -> Result<Vec<Method>, Stop>
-        ensures gives { GivesMethods result self.old self.new (reading.methods_past_at (within_at left)) }
-        ensures shorter { OnOk result (IsNoLonger self.old self.new) }
-    {
         let methods = self.methods(left)?;
         if !self.at_close(Bracket::Curly) {
             return Err(Stop::Unexpected);
         }
         self.skip();
-        Ok(methods)
+        Ok(nodes::object(self.alloc, pattern, methods)?)
     }
 
     /// Methods, one behind the other.
@@ -108,15 +89,6 @@ impl<'a> Reader<'a> {
     {
         let returns = self.at_to();
         self.skip();
-        self.taking(left, returns)
-    }
-
-    /// A method, behind its first word.
-    #[cycle(read)]
-    fn taking(&mut self, left: usize, returns: bool) -> Result<Method, Stop>
-        ensures gives { GivesMethod result self.old self.new (reading.taking_at (within_at left) returns) }
-        ensures shorter { OnOk result (Advances self.old self.new) }
-    {
         let verb = self.method_verb()?;
         let parameters = self.pattern_list(Bracket::Round)?;
         let body = self.braced(left)?;

@@ -8,7 +8,7 @@ use crate::reader::Reader;
 use enodes::nodes;
 use enodes::operator::Bracket;
 use enodes::stop::Stop;
-use etoken::token::{Reserved, Sign, Token};
+use etoken::token::{Sign, Token};
 use kernele::tree::Expr;
 
 impl<'a> Reader<'a> {
@@ -69,22 +69,15 @@ impl<'a> Reader<'a> {
                 self.rest = rest;
                 Ok(noun)
             }
-            Token::Word(word) => self.word(left, *word),
+            Token::Word(word) => {
+                let Some(literal) = nodes::literal(*word) else {
+                    return self.control(left, *word);
+                };
+                self.rest = rest;
+                Ok(literal)
+            }
             Token::Sign(sign) => self.bracketed(left, *sign),
         }
-    }
-
-    /// What begins with the word in front, if an expression may.
-    #[cycle(read)]
-    fn word(&mut self, left: usize, word: Reserved) -> Result<Expr, Stop>
-        ensures gives { Gives result self.old self.new (λ a. reading.word_at (within_at left) word (rest_of a)) }
-        ensures shorter { OnOk result (length (left_of self.new) ≤ length (rest_of (left_of self.old))) }
-    {
-        let Some(literal) = nodes::literal(word) else {
-            return self.control(left, word);
-        };
-        self.skip();
-        Ok(literal)
     }
 
     /// What begins with the sign in front, if an expression may.
@@ -100,24 +93,16 @@ impl<'a> Reader<'a> {
             }
             Sign::OpenSquare => {
                 self.skip();
-                self.list(left)
+                let items = self.args(left, Bracket::Square)?;
+                Ok(nodes::list(self.alloc, items)?)
             }
             Sign::OpenCurly => {
                 self.skip();
-                self.hidden(left)
+                let body = self.block_past(left)?;
+                Ok(nodes::hide(self.alloc, body)?)
             }
             _ => Err(Stop::Unexpected),
         }
-    }
-
-    /// A list, behind its opening bracket.
-    #[cycle(read)]
-    fn list(&mut self, left: usize) -> Result<Expr, Stop>
-        ensures gives { Gives result self.old self.new (reading.list_at (within_at left)) }
-        ensures shorter { OnOk result (IsNoLonger self.old self.new) }
-    {
-        let items = self.args(left, Bracket::Square)?;
-        Ok(nodes::list(self.alloc, items)?)
     }
 
     /// An expression in brackets, behind the opening one.
@@ -136,24 +121,16 @@ impl<'a> Reader<'a> {
         Ok(inner)
     }
 
+    /// An expression, and what it is given to, if it is given to anything.
     #[cycle(read)]
     pub(crate) fn expr(&mut self, left: usize) -> Result<Expr, Stop>
         ensures gives { Gives result self.old self.new (reading.expr_at (within_at left)) }
         ensures shorter { OnOk result (Advances self.old self.new) }
     {
-        if !self.at_return() {
-            return self.given(left);
+        if self.at_return() {
+            self.skip();
+            return self.returned(left);
         }
-        self.skip();
-        self.returned(left)
-    }
-
-    /// A value, and what it is given to, if it is given to anything.
-    #[cycle(read)]
-    fn given(&mut self, left: usize) -> Result<Expr, Stop>
-        ensures gives { Gives result self.old self.new (reading.given_at (within_at left)) }
-        ensures shorter { OnOk result (Advances self.old self.new) }
-    {
         let Some(target) = self.target()? else {
             return self.expression(left);
         };

@@ -123,6 +123,10 @@ methods-more-preserved t c = record {
 pub methods-returns-clause-gives : goal.methods-returns-clause-gives
 methods-returns-clause-gives t c = methods_end (within_at c.args.left) c.more.invariant.comes (sym c.at_method.ensures ∙ c.more-test.false)
 
+pub method-returns-clause-shorter : goal.method-returns-clause-shorter
+method-returns-clause-shorter t c =
+    omega (arith, c.in_ok-body.ensures.shorter, c.in_ok-parameters.ensures.shorter, c.in_ok-verb.ensures.shorter, ap length c.skip.ensures, rest_le (plain c.args.self.now.rest.now))
+
 -- A step that fails claims nothing of what is left.
 
 pub args-returns-in_err-items-clause-shorter : goal.args-returns-in_err-items-clause-shorter
@@ -140,11 +144,17 @@ block-returns-in_err-separator-clause-shorter t c = claims_nothing c.from_residu
 pub block_past-returns-in_err-items-clause-shorter : goal.block_past-returns-in_err-items-clause-shorter
 block_past-returns-in_err-items-clause-shorter t c = claims_nothing c.from_residual.result _ c.from_residual.ensures.0
 
-pub branch-returns-in_err-inner-clause-shorter : goal.branch-returns-in_err-inner-clause-shorter
-branch-returns-in_err-inner-clause-shorter t c = claims_nothing c.from_residual.result _ c.from_residual.ensures.0
+pub bracketed-returns-in_err-body-in-OpenCurly-clause-shorter : goal.bracketed-returns-in_err-body-in-OpenCurly-clause-shorter
+bracketed-returns-in_err-body-in-OpenCurly-clause-shorter t c = claims_nothing c.from_residual-in_err-body-in-OpenCurly.result _ c.from_residual-in_err-body-in-OpenCurly.ensures.0
 
-pub branch-returns-in_err-one-clause-shorter : goal.branch-returns-in_err-one-clause-shorter
-branch-returns-in_err-one-clause-shorter t c = claims_nothing c.from_residual-in_err-one.result _ c.from_residual-in_err-one.ensures.0
+pub bracketed-returns-in_err-hide-in-OpenCurly-clause-shorter : goal.bracketed-returns-in_err-hide-in-OpenCurly-clause-shorter
+bracketed-returns-in_err-hide-in-OpenCurly-clause-shorter t c = claims_nothing c.from_residual-in_err-hide-in-OpenCurly.result _ c.from_residual-in_err-hide-in-OpenCurly.ensures.0
+
+pub bracketed-returns-in_err-items-in-OpenSquare-clause-shorter : goal.bracketed-returns-in_err-items-in-OpenSquare-clause-shorter
+bracketed-returns-in_err-items-in-OpenSquare-clause-shorter t c = claims_nothing c.from_residual.result _ c.from_residual.ensures.0
+
+pub bracketed-returns-in_err-list-in-OpenSquare-clause-shorter : goal.bracketed-returns-in_err-list-in-OpenSquare-clause-shorter
+bracketed-returns-in_err-list-in-OpenSquare-clause-shorter t c = claims_nothing c.from_residual-in_err-list-in-OpenSquare.result _ c.from_residual-in_err-list-in-OpenSquare.ensures.0
 
 pub comparison_from-returns-in_err-first-clause-shorter : goal.comparison_from-returns-in_err-first-clause-shorter
 comparison_from-returns-in_err-first-clause-shorter t c = claims_nothing c.from_residual.result _ c.from_residual.ensures.0
@@ -173,6 +183,9 @@ conditional-returns-in_err-first-clause-shorter t c = claims_nothing c.from_resi
 pub conditional-returns-in_err-second-clause-shorter : goal.conditional-returns-in_err-second-clause-shorter
 conditional-returns-in_err-second-clause-shorter t c = claims_nothing c.from_residual-in_err-second.result _ c.from_residual-in_err-second.ensures.0
 
+pub control-returns-in_err-problem-in-Throw-clause-shorter : goal.control-returns-in_err-problem-in-Throw-clause-shorter
+control-returns-in_err-problem-in-Throw-clause-shorter t c = claims_nothing c.from_residual.result _ c.from_residual.ensures.0
+
 pub escape-returns-in_err-body-clause-shorter : goal.escape-returns-in_err-body-clause-shorter
 escape-returns-in_err-body-clause-shorter t c = claims_nothing c.from_residual-in_err-body.result _ c.from_residual-in_err-body.ensures.0
 
@@ -181,6 +194,15 @@ escape-returns-in_err-escape-clause-shorter t c = claims_nothing c.from_residual
 
 pub escape-returns-in_err-name-clause-shorter : goal.escape-returns-in_err-name-clause-shorter
 escape-returns-in_err-name-clause-shorter t c = claims_nothing c.from_residual.result _ c.from_residual.ensures.0
+
+pub expr-returns-in_err-give-clause-shorter : goal.expr-returns-in_err-give-clause-shorter
+expr-returns-in_err-give-clause-shorter t c = claims_nothing c.from_residual-in_err-give.result _ c.from_residual-in_err-give.ensures.0
+
+pub expr-returns-in_err-target-clause-shorter : goal.expr-returns-in_err-target-clause-shorter
+expr-returns-in_err-target-clause-shorter t c = claims_nothing c.from_residual.result _ c.from_residual.ensures.0
+
+pub expr-returns-in_err-value-clause-shorter : goal.expr-returns-in_err-value-clause-shorter
+expr-returns-in_err-value-clause-shorter t c = claims_nothing c.from_residual-in_err-value.result _ c.from_residual-in_err-value.ensures.0
 
 pub for_loop-returns-in_err-body-clause-shorter : goal.for_loop-returns-in_err-body-clause-shorter
 for_loop-returns-in_err-body-clause-shorter t c = claims_nothing c.from_residual-in_err-body.result _ c.from_residual-in_err-body.ensures.0
@@ -206,23 +228,8 @@ function-returns-in_err-function-clause-shorter t c = claims_nothing c.from_resi
 pub function-returns-in_err-parameters-clause-shorter : goal.function-returns-in_err-parameters-clause-shorter
 function-returns-in_err-parameters-clause-shorter t c = claims_nothing c.from_residual.result _ c.from_residual.ensures.0
 
-pub given-returns-in_err-give-clause-shorter : goal.given-returns-in_err-give-clause-shorter
-given-returns-in_err-give-clause-shorter t c = claims_nothing c.from_residual-in_err-give.result _ c.from_residual-in_err-give.ensures.0
-
-pub given-returns-in_err-target-clause-shorter : goal.given-returns-in_err-target-clause-shorter
-given-returns-in_err-target-clause-shorter t c = claims_nothing c.from_residual.result _ c.from_residual.ensures.0
-
-pub given-returns-in_err-value-clause-shorter : goal.given-returns-in_err-value-clause-shorter
-given-returns-in_err-value-clause-shorter t c = claims_nothing c.from_residual-in_err-value.result _ c.from_residual-in_err-value.ensures.0
-
 pub group-returns-in_err-inner-clause-shorter : goal.group-returns-in_err-inner-clause-shorter
 group-returns-in_err-inner-clause-shorter t c = claims_nothing c.from_residual.result _ c.from_residual.ensures.0
-
-pub hidden-returns-in_err-body-clause-shorter : goal.hidden-returns-in_err-body-clause-shorter
-hidden-returns-in_err-body-clause-shorter t c = claims_nothing c.from_residual.result _ c.from_residual.ensures.0
-
-pub hidden-returns-in_err-hide-clause-shorter : goal.hidden-returns-in_err-hide-clause-shorter
-hidden-returns-in_err-hide-clause-shorter t c = claims_nothing c.from_residual-in_err-hide.result _ c.from_residual-in_err-hide.ensures.0
 
 pub items-returns-in_err-first-clause-shorter : goal.items-returns-in_err-first-clause-shorter
 items-returns-in_err-first-clause-shorter t c = claims_nothing c.from_residual.result _ c.from_residual.ensures.0
@@ -248,26 +255,32 @@ linked-returns-in_err-receiver-clause-shorter t c = claims_nothing c.from_residu
 pub linked-returns-in_err-verb-clause-shorter : goal.linked-returns-in_err-verb-clause-shorter
 linked-returns-in_err-verb-clause-shorter t c = claims_nothing c.from_residual-in_err-verb.result _ c.from_residual-in_err-verb.ensures.0
 
-pub list-returns-in_err-items-clause-shorter : goal.list-returns-in_err-items-clause-shorter
-list-returns-in_err-items-clause-shorter t c = claims_nothing c.from_residual.result _ c.from_residual.ensures.0
-
-pub list-returns-in_err-list-clause-shorter : goal.list-returns-in_err-list-clause-shorter
-list-returns-in_err-list-clause-shorter t c = claims_nothing c.from_residual-in_err-list.result _ c.from_residual-in_err-list.ensures.0
-
 pub members-returns-in_err-methods-clause-shorter : goal.members-returns-in_err-methods-clause-shorter
 members-returns-in_err-methods-clause-shorter t c = claims_nothing c.from_residual.result _ c.from_residual.ensures.0
 
 pub members-returns-in_err-object-clause-shorter : goal.members-returns-in_err-object-clause-shorter
 members-returns-in_err-object-clause-shorter t c = claims_nothing c.from_residual-in_err-object.result _ c.from_residual-in_err-object.ensures.0
 
+pub method-returns-in_err-body-2-clause-shorter : goal.method-returns-in_err-body-2-clause-shorter
+method-returns-in_err-body-2-clause-shorter t c = claims_nothing c.from_residual-in_err-body-2.result _ c.from_residual-in_err-body-2.ensures.0
+
+pub method-returns-in_err-body-clause-shorter : goal.method-returns-in_err-body-clause-shorter
+method-returns-in_err-body-clause-shorter t c = claims_nothing c.from_residual-in_err-body.result _ c.from_residual-in_err-body.ensures.0
+
+pub method-returns-in_err-method-clause-shorter : goal.method-returns-in_err-method-clause-shorter
+method-returns-in_err-method-clause-shorter t c = claims_nothing c.from_residual-in_err-method.result _ c.from_residual-in_err-method.ensures.0
+
+pub method-returns-in_err-parameters-clause-shorter : goal.method-returns-in_err-parameters-clause-shorter
+method-returns-in_err-parameters-clause-shorter t c = claims_nothing c.from_residual-in_err-parameters.result _ c.from_residual-in_err-parameters.ensures.0
+
+pub method-returns-in_err-verb-clause-shorter : goal.method-returns-in_err-verb-clause-shorter
+method-returns-in_err-verb-clause-shorter t c = claims_nothing c.from_residual.result _ c.from_residual.ensures.0
+
 pub methods-returns-in_err-method-clause-shorter : goal.methods-returns-in_err-method-clause-shorter
 methods-returns-in_err-method-clause-shorter t c = claims_nothing c.from_residual.result _ c.from_residual.ensures.0
 
 pub methods-returns-in_err-push-clause-shorter : goal.methods-returns-in_err-push-clause-shorter
 methods-returns-in_err-push-clause-shorter t c = claims_nothing c.from_residual-in_err-push.result _ c.from_residual-in_err-push.ensures.0
-
-pub methods_past-returns-in_err-methods-clause-shorter : goal.methods_past-returns-in_err-methods-clause-shorter
-methods_past-returns-in_err-methods-clause-shorter t c = claims_nothing c.from_residual.result _ c.from_residual.ensures.0
 
 pub object-returns-in_err-pattern-clause-shorter : goal.object-returns-in_err-pattern-clause-shorter
 object-returns-in_err-pattern-clause-shorter t c = claims_nothing c.from_residual.result _ c.from_residual.ensures.0
@@ -293,26 +306,11 @@ returned-returns-in_err-returned-clause-shorter t c = claims_nothing c.from_resi
 pub returned-returns-in_err-value-clause-shorter : goal.returned-returns-in_err-value-clause-shorter
 returned-returns-in_err-value-clause-shorter t c = claims_nothing c.from_residual-in_err-value.result _ c.from_residual-in_err-value.ensures.0
 
-pub taking-returns-in_err-body-2-clause-shorter : goal.taking-returns-in_err-body-2-clause-shorter
-taking-returns-in_err-body-2-clause-shorter t c = claims_nothing c.from_residual-in_err-body-2.result _ c.from_residual-in_err-body-2.ensures.0
+pub second-returns-in_err-inner-clause-shorter : goal.second-returns-in_err-inner-clause-shorter
+second-returns-in_err-inner-clause-shorter t c = claims_nothing c.from_residual.result _ c.from_residual.ensures.0
 
-pub taking-returns-in_err-body-clause-shorter : goal.taking-returns-in_err-body-clause-shorter
-taking-returns-in_err-body-clause-shorter t c = claims_nothing c.from_residual-in_err-body.result _ c.from_residual-in_err-body.ensures.0
-
-pub taking-returns-in_err-method-clause-shorter : goal.taking-returns-in_err-method-clause-shorter
-taking-returns-in_err-method-clause-shorter t c = claims_nothing c.from_residual-in_err-method.result _ c.from_residual-in_err-method.ensures.0
-
-pub taking-returns-in_err-parameters-clause-shorter : goal.taking-returns-in_err-parameters-clause-shorter
-taking-returns-in_err-parameters-clause-shorter t c = claims_nothing c.from_residual-in_err-parameters.result _ c.from_residual-in_err-parameters.ensures.0
-
-pub taking-returns-in_err-verb-clause-shorter : goal.taking-returns-in_err-verb-clause-shorter
-taking-returns-in_err-verb-clause-shorter t c = claims_nothing c.from_residual.result _ c.from_residual.ensures.0
-
-pub throw-returns-in_err-problem-clause-shorter : goal.throw-returns-in_err-problem-clause-shorter
-throw-returns-in_err-problem-clause-shorter t c = claims_nothing c.from_residual.result _ c.from_residual.ensures.0
-
-pub tried-returns-in_err-body-clause-shorter : goal.tried-returns-in_err-body-clause-shorter
-tried-returns-in_err-body-clause-shorter t c = claims_nothing c.from_residual.result _ c.from_residual.ensures.0
+pub second-returns-in_err-one-clause-shorter : goal.second-returns-in_err-one-clause-shorter
+second-returns-in_err-one-clause-shorter t c = claims_nothing c.from_residual-in_err-one.result _ c.from_residual-in_err-one.ensures.0
 
 pub try_catch-returns-in_err-body-clause-shorter : goal.try_catch-returns-in_err-body-clause-shorter
 try_catch-returns-in_err-body-clause-shorter t c = claims_nothing c.from_residual.result _ c.from_residual.ensures.0

@@ -16,9 +16,6 @@ decreases-inner_conditional l = 64 * l.left + 0
 abbrev pub decreases-items : goal.decreases-items
 decreases-items l = 64 * l.left + 1
 
-abbrev pub decreases-given : goal.decreases-given
-decreases-given l = 64 * l.left + 1
-
 abbrev pub decreases-returned : goal.decreases-returned
 decreases-returned l = 64 * l.left + 1
 
@@ -31,17 +28,11 @@ decreases-expr l = 64 * l.left + 2
 abbrev pub decreases-args : goal.decreases-args
 decreases-args l = 64 * l.left + 2
 
-abbrev pub decreases-throw : goal.decreases-throw
-decreases-throw l = 64 * l.left + 2
-
 abbrev pub decreases-group : goal.decreases-group
 decreases-group l = 64 * l.left + 3
 
 abbrev pub decreases-block : goal.decreases-block
 decreases-block l = 64 * l.left + 3
-
-abbrev pub decreases-list : goal.decreases-list
-decreases-list l = 64 * l.left + 3
 
 abbrev pub decreases-linked : goal.decreases-linked
 decreases-linked l = 64 * l.left + 3
@@ -49,14 +40,8 @@ decreases-linked l = 64 * l.left + 3
 abbrev pub decreases-block_past : goal.decreases-block_past
 decreases-block_past l = 64 * l.left + 4
 
-abbrev pub decreases-hidden : goal.decreases-hidden
-decreases-hidden l = 64 * l.left + 5
-
 abbrev pub decreases-braced : goal.decreases-braced
 decreases-braced l = 64 * l.left + 5
-
-abbrev pub decreases-branch : goal.decreases-branch
-decreases-branch l = 64 * l.left + 6
 
 abbrev pub decreases-while_loop : goal.decreases-while_loop
 decreases-while_loop l = 64 * l.left + 6
@@ -64,17 +49,11 @@ decreases-while_loop l = 64 * l.left + 6
 abbrev pub decreases-for_loop : goal.decreases-for_loop
 decreases-for_loop l = 64 * l.left + 6
 
-abbrev pub decreases-tried : goal.decreases-tried
-decreases-tried l = 64 * l.left + 6
-
 abbrev pub decreases-escape : goal.decreases-escape
 decreases-escape l = 64 * l.left + 6
 
 abbrev pub decreases-function : goal.decreases-function
 decreases-function l = 64 * l.left + 6
-
-abbrev pub decreases-taking : goal.decreases-taking
-decreases-taking l = 64 * l.left + 6
 
 abbrev pub decreases-second : goal.decreases-second
 decreases-second l = 64 * l.left + 7
@@ -91,23 +70,14 @@ decreases-conditional l = 64 * l.left + 8
 abbrev pub decreases-methods : goal.decreases-methods
 decreases-methods l = 64 * l.left + 8
 
-abbrev pub decreases-methods_past : goal.decreases-methods_past
-decreases-methods_past l = 64 * l.left + 9
-
 abbrev pub decreases-members : goal.decreases-members
 decreases-members l = 64 * l.left + 10
-
-abbrev pub decreases-object_body : goal.decreases-object_body
-decreases-object_body l = 64 * l.left + 11
 
 abbrev pub decreases-object : goal.decreases-object
 decreases-object l = 64 * l.left + 12
 
 abbrev pub decreases-control : goal.decreases-control
 decreases-control l = 64 * l.left + 13
-
-abbrev pub decreases-word : goal.decreases-word
-decreases-word l = 64 * l.left + 14
 
 abbrev pub decreases-bracketed : goal.decreases-bracketed
 decreases-bracketed l = 64 * l.left + 14
