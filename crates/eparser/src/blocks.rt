@@ -154,6 +154,7 @@ impl<'a> Reader<'a> {
 
     /// The second block, if there is one: an `if` behind `else` is all of it.
     #[cycle(read)]
+    #[tactic(auto, unfolding(egrammar::specs::Reading::within_at))]
     fn second(&mut self, left: usize) -> Result<Vec<Expr>, Stop>
         ensures gives { GivesMany result self.old self.new (reading.else_at (within_at left)) }
         ensures shorter { OnOk result (IsNoLonger self.old self.new) }
@@ -165,22 +166,12 @@ impl<'a> Reader<'a> {
         if !self.at_if() {
             return self.braced(left);
         }
-        self.skip();
-        let inner = self.inner_conditional(left)?;
-        Ok(nodes::one(self.alloc, inner)?)
-    }
-
-    /// What stands behind an `if` that stands behind `else`.
-    #[cycle(read)]
-    #[tactic(auto, unfolding(egrammar::specs::Reading::within_at))]
-    fn inner_conditional(&mut self, left: usize) -> Result<Expr, Stop>
-        ensures gives { Gives result self.old self.new (within_at left).conditional }
-        ensures shorter { OnOk result (IsNoLonger self.old self.new) }
-    {
         if left == 0 {
             return Err(Stop::Unexpected);
         }
-        self.conditional(left - 1)
+        self.skip();
+        let inner = self.conditional(left - 1)?;
+        Ok(nodes::one(self.alloc, inner)?)
     }
 
     /// What stands behind `while`.

@@ -89,7 +89,14 @@ impl<'a> Reader<'a> {
         match sign {
             Sign::OpenRound => {
                 self.skip();
-                self.group(left)
+                let inner = self.expr(left)?;
+                if !self.at_close(Bracket::Round) {
+                    // By a call: to let go of an expression in place takes code for each of its kinds.
+                    drop(inner);
+                    return Err(Stop::Unexpected);
+                }
+                self.skip();
+                Ok(inner)
             }
             Sign::OpenSquare => {
                 self.skip();
@@ -103,22 +110,6 @@ impl<'a> Reader<'a> {
             }
             _ => Err(Stop::Unexpected),
         }
-    }
-
-    /// An expression in brackets, behind the opening one.
-    #[cycle(read)]
-    fn group(&mut self, left: usize) -> Result<Expr, Stop>
-        ensures gives { Gives result self.old self.new (reading.group_at (within_at left)) }
-        ensures shorter { OnOk result (IsNoLonger self.old self.new) }
-    {
-        let inner = self.expr(left)?;
-        if !self.at_close(Bracket::Round) {
-            // By a call: to let go of an expression in place takes code for each of its kinds.
-            drop(inner);
-            return Err(Stop::Unexpected);
-        }
-        self.skip();
-        Ok(inner)
     }
 
     /// An expression, and what it is given to, if it is given to anything.

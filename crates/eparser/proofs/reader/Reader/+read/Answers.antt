@@ -150,8 +150,11 @@ bracketed-returns-in_err-body-in-OpenCurly-clause-shorter t c = claims_nothing c
 pub bracketed-returns-in_err-hide-in-OpenCurly-clause-shorter : goal.bracketed-returns-in_err-hide-in-OpenCurly-clause-shorter
 bracketed-returns-in_err-hide-in-OpenCurly-clause-shorter t c = claims_nothing c.from_residual-in_err-hide-in-OpenCurly.result _ c.from_residual-in_err-hide-in-OpenCurly.ensures.0
 
+pub bracketed-returns-in_err-inner-in-OpenRound-clause-shorter : goal.bracketed-returns-in_err-inner-in-OpenRound-clause-shorter
+bracketed-returns-in_err-inner-in-OpenRound-clause-shorter t c = claims_nothing c.from_residual.result _ c.from_residual.ensures.0
+
 pub bracketed-returns-in_err-items-in-OpenSquare-clause-shorter : goal.bracketed-returns-in_err-items-in-OpenSquare-clause-shorter
-bracketed-returns-in_err-items-in-OpenSquare-clause-shorter t c = claims_nothing c.from_residual.result _ c.from_residual.ensures.0
+bracketed-returns-in_err-items-in-OpenSquare-clause-shorter t c = claims_nothing c.from_residual-in_err-items-in-OpenSquare.result _ c.from_residual-in_err-items-in-OpenSquare.ensures.0
 
 pub bracketed-returns-in_err-list-in-OpenSquare-clause-shorter : goal.bracketed-returns-in_err-list-in-OpenSquare-clause-shorter
 bracketed-returns-in_err-list-in-OpenSquare-clause-shorter t c = claims_nothing c.from_residual-in_err-list-in-OpenSquare.result _ c.from_residual-in_err-list-in-OpenSquare.ensures.0
@@ -227,9 +230,6 @@ function-returns-in_err-function-clause-shorter t c = claims_nothing c.from_resi
 
 pub function-returns-in_err-parameters-clause-shorter : goal.function-returns-in_err-parameters-clause-shorter
 function-returns-in_err-parameters-clause-shorter t c = claims_nothing c.from_residual.result _ c.from_residual.ensures.0
-
-pub group-returns-in_err-inner-clause-shorter : goal.group-returns-in_err-inner-clause-shorter
-group-returns-in_err-inner-clause-shorter t c = claims_nothing c.from_residual.result _ c.from_residual.ensures.0
 
 pub items-returns-in_err-first-clause-shorter : goal.items-returns-in_err-first-clause-shorter
 items-returns-in_err-first-clause-shorter t c = claims_nothing c.from_residual.result _ c.from_residual.ensures.0

@@ -10,9 +10,6 @@ use Rattle.eparser.proofs.reader.Reader.+read.Given as goal
 abbrev pub decreases-expression : goal.decreases-expression
 decreases-expression l = 64 * l.left + 0
 
-abbrev pub decreases-inner_conditional : goal.decreases-inner_conditional
-decreases-inner_conditional l = 64 * l.left + 0
-
 abbrev pub decreases-items : goal.decreases-items
 decreases-items l = 64 * l.left + 1
 
@@ -27,9 +24,6 @@ decreases-expr l = 64 * l.left + 2
 
 abbrev pub decreases-args : goal.decreases-args
 decreases-args l = 64 * l.left + 2
-
-abbrev pub decreases-group : goal.decreases-group
-decreases-group l = 64 * l.left + 3
 
 abbrev pub decreases-block : goal.decreases-block
 decreases-block l = 64 * l.left + 3
