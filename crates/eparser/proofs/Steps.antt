@@ -1,13 +1,16 @@
 -- What the reader gives by what it gives behind a first part, and where a turn of a loop stops.
-use Rattle.std.proofs.Common.{◌≡◌, List, false, Option, Some, Result, Ok, Err, ◌∙◌}
+use Rattle.std.proofs.Common.{◌≡◌, List, false, Option, Some, Result, Ok, Err, sym, ap, ◌∙◌}
 use Rattle.etoken.specs.declared.token.Token.{Token}
 use Rattle.etoken.specs.declared.token.Sign as signs
 use Rattle.kernele.specs.declared.tree.Expr.{Expr}
-use Rattle.kernele.specs.Tree.{Tree, Trees}
+use Rattle.kernele.specs.Tree.{Name, Tree, Trees, call}
+use Rattle.enodes.specs.declared.operator.Bracket.{Bracket}
+use Rattle.enodes.specs.declared.operator.Link.{Link}
 use Rattle.enodes.specs.declared.operator.Operator.{Operator}
-use Rattle.egrammar.specs.Reading.{Read, rest_of, front, operand_next, Within, is_block_end, separator_at, expr_at, block_next}
+use Rattle.enodes.specs.Nodes.{link_of, closer}
+use Rattle.egrammar.specs.Reading.{Read, ◌>>=◌, rest_of, front, operand_next, Within, args_at, verb_at, postfix_next, is_block_end, separator_at, expr_at, block_next}
 use Rattle.egrammar.proofs.Turns.{Turns}
-use Rattle.egrammar.proofs.Steps.{operand_fail, block_part_fail}
+use Rattle.egrammar.proofs.Steps.{operand_fail, postfix_fail, block_part_fail}
 use Rattle.enodes.specs.declared.stop.Stop.{Stop}
 use Rattle.enodes.specs.declared.stop.Stop.TheVariants as stop
 use Rattle.eparser.specs.declared.reader.Reader.{Reader}
@@ -26,6 +29,14 @@ module _ (of : signs.Sign → Option Operator) (part : List Token → Read Tree)
   operand_fails stop.Memory b c e k g = tt
 
 module _ (within : Within) where
+  pub args_fail : (e : Stop) {read : Read Tree} {t : Tree} {a : List Token} (b : List Token) {l : Link} {v : Name} {r : List Token} {bracket : Bracket}
+      → Turns (postfix_next within) read t a → front link_of a ≡ Some l → b ≡ rest_of a → verb_at l b ≡ Some (v, r) → bracket ≡ closer l → Fails e (args_at within bracket r) → Fails e read
+  args_fail stop.Unexpected {t = t} b {l = l} {v = v} {r = r} c e k g h f =
+      postfix_fail within b c e k
+      (ap (λ y. y >>= λ w. args_at within (closer l) w.1 >>= λ x. Some (call t w.0 x.0, x.1)) g
+      ∙ ap (λ y. y >>= λ x. Some (call t v x.0, x.1)) (ap (λ z. args_at within z r) (sym h) ∙ f))
+  args_fail stop.Memory b c e k g h f = tt
+
   pub block_part_fails : (e : Stop) {read : Read Trees} {ts : Trees} (u : Tree) {a : List Token} (b : List Token)
       → Turns (block_next within) read ts a → is_block_end a ≡ false → expr_at within a ≡ Some (u, b) → Fails e (separator_at b) → Fails e read
   block_part_fails stop.Unexpected u b c e g s = block_part_fail within u b c e g s

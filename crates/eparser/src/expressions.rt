@@ -151,20 +151,11 @@ impl<'a> Reader<'a> {
         let mut postfix = first;
         'more: while let Some(link) = self.link() {
             self.skip();
-            postfix = self.linked(left, link, postfix)?;
+            let receiver = Arc::new(self.alloc, postfix)?;
+            let verb = self.verb(link)?;
+            let args = self.args(left, link.bracket())?;
+            postfix = nodes::call(self.alloc, receiver, verb, args)?;
         }
         Ok(postfix)
-    }
-
-    /// A call of `receiver`, behind what makes it one.
-    #[cycle(read)]
-    fn linked(&mut self, left: usize, link: Link, receiver: Expr) -> Result<Expr, Stop>
-        ensures gives { Gives result self.old self.new (reading.linked_at (within_at left) link (tree_of receiver)) }
-        ensures shorter { OnOk result (IsNoLonger self.old self.new) }
-    {
-        let receiver = Arc::new(self.alloc, receiver)?;
-        let verb = self.verb(link)?;
-        let args = self.args(left, link.bracket())?;
-        Ok(nodes::call(self.alloc, receiver, verb, args)?)
     }
 }

@@ -5,7 +5,7 @@ use Rattle.enodes.proofs.Views.{trees_push}
 use Rattle.egrammar.proofs.Steps.{rest_le, skip-le, operand_more, operand_end, postfix_more, postfix_end, commas_more, commas_end, block_begin, block_more, block_end, methods_push, methods_begin, methods_more, methods_end}
 use Rattle.ids.proofs.Failing.{claims_nothing}
 use Rattle.eparser.proofs.Levels.{first_read, behind_here, behind_read, behind_compared, behind_fails}
-use Rattle.eparser.proofs.Steps.{gives_behind, operand_fails, block_part_fails}
+use Rattle.eparser.proofs.Steps.{gives_behind, operand_fails, args_fail, block_part_fails}
 use Rattle.eparser.specs.Levels.{operator_of, level_at, level_from}
 use Rattle.enodes.specs.Nodes.{snoc}
 use Rattle.egrammar.specs.Reading.{comparison_from, operand_next, operands_from, postfix_next, within_at}
@@ -66,9 +66,15 @@ postfix_from-more-init t c = record {
 
 pub postfix_from-more-preserved : goal.postfix_from-more-preserved
 postfix_from-more-preserved t c = record {
-  comes = postfix_more (within_at c.args.left) _ (plain c.skip.new.self.rest.now) _ c.more.invariant.comes (sym c.link.ensures ∙ c.in-Some.is) c.skip.ensures c.in_ok-postfix.ensures.gives c.in_ok-postfix.ensures.shorter;
-  shorter = omega (arith, c.more.invariant.shorter, c.in_ok-postfix.ensures.shorter, ap length c.skip.ensures, rest_le (plain c.more.self.rest.now));
+  comes = postfix_more (within_at c.args.left) _ (plain c.skip.new.self.rest.now) _ c.more.invariant.comes (sym c.link.ensures ∙ c.in-Some.is) c.skip.ensures (search rules)
+      (omega (arith, c.in_ok-args.ensures.shorter, c.in_ok-verb.ensures.shorter));
+  shorter = omega (arith, c.more.invariant.shorter, c.in_ok-args.ensures.shorter, c.in_ok-verb.ensures.shorter, ap length c.skip.ensures, rest_le (plain c.more.self.rest.now));
 }
+
+pub postfix_from-returns-in_err-args-clause-gives : goal.postfix_from-returns-in_err-args-clause-gives
+postfix_from-returns-in_err-args-clause-gives t c =
+    let k = err_from_is_err_and c.from_residual-in_err-args.result c.from_residual-in_err-args.ensures.1 in
+    rw (k.1, k.2) (args_fail (within_at c.args.left) c.in_err-args.field-0.0 (plain c.skip.new.self.rest.now) c.more.invariant.comes (sym c.link.ensures ∙ c.in-Some.is) c.skip.ensures c.in_ok-verb.ensures.gives c.bracket.ensures c.in_err-args.ensures.gives)
 
 pub postfix_from-returns-clause-gives : goal.postfix_from-returns-clause-gives
 postfix_from-returns-clause-gives t c = postfix_end (within_at c.args.left) c.more.invariant.comes (search rules)
@@ -243,18 +249,6 @@ items-returns-in_err-items-clause-shorter t c = claims_nothing c.from_residual-i
 pub items-returns-in_err-push-clause-shorter : goal.items-returns-in_err-push-clause-shorter
 items-returns-in_err-push-clause-shorter t c = claims_nothing c.from_residual-in_err-push.result _ c.from_residual-in_err-push.ensures.0
 
-pub linked-returns-in_err-args-clause-shorter : goal.linked-returns-in_err-args-clause-shorter
-linked-returns-in_err-args-clause-shorter t c = claims_nothing c.from_residual-in_err-args.result _ c.from_residual-in_err-args.ensures.0
-
-pub linked-returns-in_err-call-clause-shorter : goal.linked-returns-in_err-call-clause-shorter
-linked-returns-in_err-call-clause-shorter t c = claims_nothing c.from_residual-in_err-call.result _ c.from_residual-in_err-call.ensures.0
-
-pub linked-returns-in_err-receiver-clause-shorter : goal.linked-returns-in_err-receiver-clause-shorter
-linked-returns-in_err-receiver-clause-shorter t c = claims_nothing c.from_residual.result _ c.from_residual.ensures.0
-
-pub linked-returns-in_err-verb-clause-shorter : goal.linked-returns-in_err-verb-clause-shorter
-linked-returns-in_err-verb-clause-shorter t c = claims_nothing c.from_residual-in_err-verb.result _ c.from_residual-in_err-verb.ensures.0
-
 pub members-returns-in_err-methods-clause-shorter : goal.members-returns-in_err-methods-clause-shorter
 members-returns-in_err-methods-clause-shorter t c = claims_nothing c.from_residual.result _ c.from_residual.ensures.0
 
@@ -288,8 +282,17 @@ object-returns-in_err-pattern-clause-shorter t c = claims_nothing c.from_residua
 pub postfix-returns-in_err-first-clause-shorter : goal.postfix-returns-in_err-first-clause-shorter
 postfix-returns-in_err-first-clause-shorter t c = claims_nothing c.from_residual.result _ c.from_residual.ensures.0
 
+pub postfix_from-returns-in_err-args-clause-shorter : goal.postfix_from-returns-in_err-args-clause-shorter
+postfix_from-returns-in_err-args-clause-shorter t c = claims_nothing c.from_residual-in_err-args.result _ c.from_residual-in_err-args.ensures.0
+
 pub postfix_from-returns-in_err-postfix-clause-shorter : goal.postfix_from-returns-in_err-postfix-clause-shorter
-postfix_from-returns-in_err-postfix-clause-shorter t c = claims_nothing c.from_residual.result _ c.from_residual.ensures.0
+postfix_from-returns-in_err-postfix-clause-shorter t c = claims_nothing c.from_residual-in_err-postfix.result _ c.from_residual-in_err-postfix.ensures.0
+
+pub postfix_from-returns-in_err-receiver-clause-shorter : goal.postfix_from-returns-in_err-receiver-clause-shorter
+postfix_from-returns-in_err-receiver-clause-shorter t c = claims_nothing c.from_residual.result _ c.from_residual.ensures.0
+
+pub postfix_from-returns-in_err-verb-clause-shorter : goal.postfix_from-returns-in_err-verb-clause-shorter
+postfix_from-returns-in_err-verb-clause-shorter t c = claims_nothing c.from_residual-in_err-verb.result _ c.from_residual-in_err-verb.ensures.0
 
 pub primary-returns-in_err-noun-in-Name-clause-shorter : goal.primary-returns-in_err-noun-in-Name-clause-shorter
 primary-returns-in_err-noun-in-Name-clause-shorter t c = claims_nothing c.from_residual-in_err-noun-in-Name.result _ c.from_residual-in_err-noun-in-Name.ensures.0

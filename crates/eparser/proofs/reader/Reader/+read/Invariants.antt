@@ -28,9 +28,6 @@ decreases-args l = 64 * l.left + 2
 abbrev pub decreases-block : goal.decreases-block
 decreases-block l = 64 * l.left + 3
 
-abbrev pub decreases-linked : goal.decreases-linked
-decreases-linked l = 64 * l.left + 3
-
 abbrev pub decreases-block_past : goal.decreases-block_past
 decreases-block_past l = 64 * l.left + 4
 
