@@ -1,8 +1,8 @@
 -- Items and blocks whose value nobody wants.
-use Rattle.std.proofs.Common.{arith, ◌≡◌, ℕ, ◌-◌, Bool, List, [], ◌∷◌, drop, take, length, Option, Some, None, refl, subst}
+use Rattle.std.proofs.Common.{arith, ◌≡◌, ℕ, ◌-◌, Bool, ◌≤◌, List, drop, take, length, Option, Some, None, refl, sym, subst}
 use Rattle.std.proofs.lemmas.List.{take_all, length-drop}
 use Rattle.std.specs.Option.{MatchOption}
-use Rattle.kernele.specs.Tree.{Trees, none}
+use Rattle.kernele.specs.Tree.{Trees}
 use Rattle.code.specs.View.{trees_of_codes}
 use Rattle.code.specs.declared.code.Code.{Code}
 use Rattle.values.specs.Data.{Val, null}
@@ -14,13 +14,8 @@ use Rattle.erules.specs.Rules.{Items, items_none, items_next, items_halt, Block,
 use Rattle.erules.specs.View.{at, halt_of}
 use Rattle.erules.specs.declared.end.Halt.{Halt}
 use Rattle.erules.specs.declared.working.Working.{Working}
-use Rattle.erules.proofs.Steps.{block_end}
+use Rattle.erules.proofs.Steps.{block_end, items_end}
 use Rattle.eval.specs.Halting.{ItemsHalt, BlockHalts}
-
--- no items give null
-pub none_halt : {k : ℕ} (xs : List Code) {a : At} → length xs ≡ 0 → ItemsHalt k (trees_of_codes xs) a None a
-none_halt [] h = (null, items_none)
-none_halt (x ∷ xs) h = cc
 
 -- what the end of items says of their halt
 pub items_halted : {k : ℕ} {ts : Trees} {a b : At} {o : End} (h : Option Halt) → Items k null ts a o b → MatchOption h ((v : Val) × (o ≡ value v)) (λ s. o ≡ halt (halt_of s)) → ItemsHalt k ts a h b
@@ -40,6 +35,14 @@ halts_after s e (items_halt f) = items_halt f
 -- the items from a position on to the end
 pub to_the_end : (n : ℕ) (xs : List Code) → take (length xs - n) (drop n xs) ≡ drop n xs
 to_the_end n xs = take_all (length xs - n) (drop n xs) (omega (arith, length-drop n xs))
+
+-- items that are all done, where the halt and the place are known otherwise
+pub all_done : {k : ℕ} (xs : List Code) (n : ℕ) {a b c : At} {h : Option Halt} → length xs ≤ n → GoesOn k xs n a b → h ≡ None → c ≡ b → ItemsHalt k (trees_of_codes xs) a h c
+all_done {k = k} xs n {a = a} {b = b} {c = c} l goes e f = subst (λ h. ItemsHalt k (trees_of_codes xs) a h c) (sym e) (goes.0, subst (λ c. Items k null (trees_of_codes xs) a (value goes.0) c) (sym f) (goes.1 (value goes.0) b (items_end xs l)))
+
+-- halted items, where the halt and the place are known otherwise
+pub halts_as : (k : ℕ) (ts : Trees) (a : At) {b c : At} {g h : Option Halt} → h ≡ g → c ≡ b → ItemsHalt k ts a g b → ItemsHalt k ts a h c
+halts_as k ts a {c = c} {g = g} e f r = subst (λ h. ItemsHalt k ts a h c) (sym e) (subst (λ b. ItemsHalt k ts a g b) (sym f) r)
 
 -- items whose head is done, and then those behind it
 pub both_halt : {k : ℕ} (xs : List Code) (n : ℕ) {ys : List Code} {a b : At} (c : At) (h : Option Halt) → ys ≡ drop n xs → GoesOn k xs n a b → ItemsHalt k (trees_of_codes ys) b h c → ItemsHalt k (trees_of_codes xs) a h c

@@ -1,15 +1,15 @@
 // Control: the constructs that have blocks, each block in a scope of its own.
 ghost use Rattle.std.specs.Prelude.{◌≡◌, ◌≤◌, ◌++◌, false, IfOk};
-ghost use Rattle.kernele.specs.Tree.{hide, if_tree, while_tree, for_tree, try_tree};
+ghost use Rattle.kernele.specs.Tree.{if_tree, while_tree, for_tree, try_tree};
 ghost use Rattle.code.specs.Frames.{fits_all, only_names};
-ghost use Rattle.erules.specs.Fits.{all_fit_at, fits_at, frame_at, frame_behind};
+ghost use Rattle.erules.specs.Fits.{fits_at, frame_at, frame_behind};
 ghost use Rattle.scopes.specs.Scope.{name_of};
 ghost use Rattle.code.specs.View.{tree_of_code, trees_of_codes};
-ghost use Rattle.values.specs.View.{val_of, vals_of};
+ghost use Rattle.values.specs.View.{val_of};
 ghost use Rattle.erules.specs.Outcomes.{End as Ending};
-ghost use Rattle.erules.specs.Rules.{Ends, Runs, Block, Taking, Each, choice_of};
+ghost use Rattle.erules.specs.Rules.{Ends, Runs, Block, Taking, choice_of};
 ghost use Rattle.erules.specs.View.{at, choice_view, end_of};
-ghost use Rattle.eval.specs.Halting.{BlockHalts, ItemsHalt};
+ghost use Rattle.eval.specs.Halting.{BlockHalts};
 
 use crate::eval::{eval, eval_items};
 use code::code::Code;
@@ -23,20 +23,6 @@ use kernele::tree::Pattern;
 use std::alloc::AllocError;
 use std::sync::Arc;
 use values::value::Value;
-
-#[cycle(evaluate)]
-pub(crate) fn eval_hide(
-    w: &mut Working,
-    body: &Arc<Vec<Code>>,
-    level: u32,
-) -> Result<End, AllocError>
-    requires level { level ≤ 1000 }
-    requires fits { fits_all false (frame_at (at w.old)) body.now.value.items }
-    ensures { IfOk result (λ o. Runs level (hide (trees_of_codes body.now.value.items))
-        (at w.old) (end_of o) (at w.new)) }
-{
-    eval_block(w, body, level + 1)
-}
 
 #[cycle(evaluate)]
 pub(crate) fn eval_if(
@@ -97,6 +83,7 @@ pub(crate) fn eval_while(
     }
 }
 
+/// Evaluates a block for each value of a list from the left, up to the first that halts it.
 #[cycle(evaluate)]
 pub(crate) fn eval_for(
     w: &mut Working,
@@ -112,14 +99,17 @@ pub(crate) fn eval_for(
         (at w.old) (end_of o) (at w.new)) }
 {
     let ended = eval(w, list, level + 1)?;
-    let gone_over = items_of(w.alloc, ended)?;
-    match gone_over {
-        Listing::Ends(end) => Ok(end),
-        Listing::Listed(values) => {
-            let end = eval_each(w, pattern, &values, body, level + 1)?;
-            Ok(end)
+    let values = match items_of(w.alloc, ended)? {
+        Listing::Listed(values) => values,
+        Listing::Ends(end) => return Ok(end),
+    };
+    for value in values.iter() {
+        let ended = eval_taking(w, pattern, value, body, level + 1)?;
+        if let Some(halt) = halt_in(ended) {
+            return Ok(End::Halt(halt));
         }
     }
+    Ok(End::Value(Value::Null))
 }
 
 #[cycle(evaluate)]
@@ -188,29 +178,19 @@ fn run_block(w: &mut Working, items: &[Code], level: u32) -> Result<Option<Halt>
 {
     let outer = enter(w);
     let done = run_settings(w, items, level)?;
-    let halt = run_items(w, &items[done..], level)?;
+    let halt = if done == items.len() {
+        None
+    } else {
+        let ended = eval_items(w, &items[done..], level)?;
+        halt_in(ended)
+    };
     leave(w, outer);
     Ok(halt)
 }
 
-/// Evaluates items whose value nobody wants, if there are any.
-#[cycle(evaluate)]
-#[inline(always)]
-fn run_items(w: &mut Working, items: &[Code], level: u32) -> Result<Option<Halt>, AllocError>
-    requires level { level ≤ 1001 }
-    requires fits { all_fit_at (at w.old) items.now }
-    ensures { IfOk result (λ h. ItemsHalt level (trees_of_codes items.now) (at w.old) h (at w.new)) }
-{
-    if items.is_empty() {
-        return Ok(None);
-    }
-    let ended = eval_items(w, items, level)?;
-    Ok(halt_in(ended))
-}
-
 /// Evaluates a block, in a scope of its own.
 #[cycle(evaluate)]
-fn eval_block(w: &mut Working, items: &[Code], level: u32) -> Result<End, AllocError>
+pub(crate) fn eval_block(w: &mut Working, items: &[Code], level: u32) -> Result<End, AllocError>
     requires level { level ≤ 1001 }
     requires fits { fits_all false (frame_at (at w.old)) items.now }
     ensures { IfOk result (λ o. Block level (trees_of_codes items.now) (at w.old) (end_of o) (at w.new)) }
@@ -240,27 +220,4 @@ pub(crate) fn eval_taking(
     let end = eval_items(w, items, level)?;
     leave(w, outer);
     Ok(end)
-}
-
-/// Evaluates a block for each value from the left, up to the first that halts it.
-#[cycle(evaluate)]
-fn eval_each(
-    w: &mut Working,
-    pattern: &Pattern,
-    values: &[Value],
-    items: &[Code],
-    level: u32,
-) -> Result<End, AllocError>
-    requires level { level ≤ 1001 }
-    requires fits { fits_all false (frame_at (at w.old) ++ only_names (name_of pattern.now)) items.now }
-    ensures { IfOk result (λ o. Each level pattern.now (trees_of_codes items.now) (vals_of values.now)
-        (at w.old) (end_of o) (at w.new)) }
-{
-    for value in values {
-        let ended = eval_taking(w, pattern, value, items, level)?;
-        if let Some(halt) = halt_in(ended) {
-            return Ok(End::Halt(halt));
-        }
-    }
-    Ok(End::Value(Value::Null))
 }

@@ -9,7 +9,7 @@ ghost use Rattle.erules.specs.Rules.{Ends, Runs, Args, Items};
 ghost use Rattle.erules.specs.View.{at, end_of, gather_of};
 
 use crate::calling::{eval_call, eval_escape};
-use crate::control::{eval_for, eval_hide, eval_if, eval_try, eval_while};
+use crate::control::{eval_block, eval_for, eval_if, eval_try, eval_while};
 use code::code::{Code, Place};
 use erules::end::{Abandon, End, Gathered, Halt};
 use erules::nouns::{assign, bind_parts, declare, match_pattern, noun_end};
@@ -61,7 +61,7 @@ pub fn eval(w: &mut Working, e: &Code, level: u32) -> Result<End, AllocError>
         Code::List(items) => eval_list(w, items, level),
         Code::Same(left, right) => eval_same(w, left, right, level),
         Code::DefList(patterns, right) => eval_def_list(w, patterns, right, level),
-        Code::Hide(body) => eval_hide(w, body, level),
+        Code::Hide(body) => eval_block(w, body, level + 1),
         Code::If(condition, first, second) => eval_if(w, condition, first, second, level),
         Code::While(condition, body) => eval_while(w, condition, body, level),
         Code::For(pattern, list, body) => eval_for(w, pattern, list, body, level),

@@ -1,4 +1,4 @@
-use Rattle.std.proofs.Common.{rules, arith, ap, ◌∙◌, ◌+◌, refl, sym, subst, length, ◌++◌}
+use Rattle.std.proofs.Common.{rules, arith, ap, ◌∙◌, ◌+◌, ◌-◌, refl, sym, subst, length, take, drop, ◌++◌}
 use Rattle.std.proofs.lemmas.Result.{IfOk-weaker}
 use Rattle.ids.proofs.Failing.{claims_nothing}
 use Rattle.code.specs.View.{tree_of_code, trees_of_codes}
@@ -10,7 +10,7 @@ use Rattle.erules.specs.Outcomes.{halted, value}
 use Rattle.erules.specs.View.{at, end_of, halt_of, choice_view, listing_view, target_view}
 use Rattle.erules.specs.Rules.{at_budget, at_depth, run_null, run_bool, run_int, run_text, run_noun, run_define, run_variable, run_assign, run_call_receiver, run_call_gives, run_list, run_same_left, run_same, goes, run_define_list, run_hide, run_throw, run_if_goes, run_if_ends, run_while_again, run_while_halts, run_while_done, run_while_ends, run_for, run_for_ends, run_try, run_try_caught, run_object, args_halt}
 use Rattle.erules.proofs.Steps.{node, child, tested, children, slice_of, if_both, runs_as, runs_to, ends_to, parts_run, args_begin, args_pushed, args_more, args_no_more, args_end, args_done, args_as, only_one, one_arg, items_more, items_no_more, items_end, blocks, block_ending, taking, taking_ending, each, block_end, taking_end, each_more, each_no_more, each_end, next_round}
-use Rattle.eval.proofs.Halted.{none_halt, items_halted, both_halt, block_halts, halting, to_the_end}
+use Rattle.eval.proofs.Halted.{all_done, halts_as, items_halted, both_halt, block_halts, halting, to_the_end}
 use Rattle.eval.proofs.Entered.{call_leads, leads_as, entered, call_entered, escape_over}
 use Rattle.erules.proofs.Scopes.{truncated, truncated-length}
 use Rattle.erules.proofs.Added.{goes_add, block_stays, taking_stays}
@@ -23,7 +23,9 @@ use Rattle.erules.specs.Locals.{locals_of}
 use Rattle.erules.specs.Fits.{fits_at, all_fit_at}
 use Rattle.erules.proofs.Grown.{round_grow}
 use Rattle.erules.proofs.Spent.{condition_less, block_left}
+use Rattle.eval.specs.Halting.{ItemsHalt}
 use Rattle.eval.proofs.+evaluate.Goals as goal
+use Rattle.eval.proofs.+evaluate.Goals.{control::run_block-then-done-items, control::run_block-else-done-items+in_ok-ended}
 
 pub eval::eval-returns-then-w-eq0 : goal.eval::eval-returns-then-w-eq0
 eval::eval-returns-then-w-eq0 t c = at_budget (search rules)
@@ -130,7 +132,7 @@ pub eval::eval-returns-in-DefList : goal.eval::eval-returns-in-DefList
 eval::eval-returns-in-DefList t c = IfOk-weaker _ _ _ (λ o h. node _ (ap tree_of_code c.in-DefList.is) h (omega arith) c.if-level-gt-DEEPEST.false) c.eval_def_list.ensures
 
 pub eval::eval-returns-in-Hide : goal.eval::eval-returns-in-Hide
-eval::eval-returns-in-Hide t c = IfOk-weaker _ _ _ (λ o h. node _ (ap tree_of_code c.in-Hide.is ∙ tree_of_code-Hide c.in-Hide.body) h (omega arith) c.if-level-gt-DEEPEST.false) c.eval_hide.ensures
+eval::eval-returns-in-Hide t c = IfOk-weaker c.eval_block.result _ _ (λ o h. node _ {a = at c.args.w.now} {b = at c.eval_block.new.w} (ap tree_of_code c.in-Hide.is ∙ tree_of_code-Hide c.in-Hide.body) (run_hide (blocks {o = o} {p = o} (slice_of c.deref-in-Hide.ensures.value c.deref.ensures) refl h)) (omega arith) c.if-level-gt-DEEPEST.false) c.eval_block.ensures
 
 pub eval::eval-returns-in-If : goal.eval::eval-returns-in-If
 eval::eval-returns-in-If t c = IfOk-weaker _ _ _ (λ o h. node _ (ap tree_of_code c.in-If.is ∙ tree_of_code-If c.in-If.condition c.in-If.first c.in-If.second) h (omega arith) c.if-level-gt-DEEPEST.false) c.eval_if.ensures
@@ -174,9 +176,6 @@ eval::eval_items-returns t c = c.loop-item.invariant.0 _ _ (items_end _ c.loop-i
 pub eval::eval_item-returns-in_ok-set-in-Some : goal.eval::eval_item-returns-in_ok-set-in-Some
 eval::eval_item-returns-in_ok-set-in-Some t c = ends_to c.in-Some.ensures.ends (ap value c.in_ok-set-in-Some.ensures.value) c.in_ok-set-in-Some.ensures.place
 
-pub control::eval_hide-returns : goal.control::eval_hide-returns
-control::eval_hide-returns t c = IfOk-weaker _ _ _ (λ o h. run_hide (blocks (slice_of c.deref-2.ensures.value c.deref.ensures) refl h)) c.eval_block.ensures
-
 pub control::eval_if-returns-in-Ends : goal.control::eval_if-returns-in-Ends
 control::eval_if-returns-in-Ends t c = run_if_ends (tested c.deref.ensures c.in_ok-choice.ensures.1) (c.in_ok-choice.ensures.2 ∙ ap choice_view c.in-Ends.is)
 
@@ -211,19 +210,50 @@ control::eval_while-rounds-smaller t c =
     omega (arith, condition_less c.in_ok-choice.ensures.1 (c.in_ok-choice.ensures.2 ∙ ap choice_view c.in-Goes.is ∙ ap goes c.if-not-truth.false), block_left ended.1)
 
 pub control::run_block-returns : goal.control::run_block-returns
-control::run_block-returns t c = block_halts c.args.level (trees_of_codes c.args.items.now) c.in_ok-halt.halt c.args.w.now c.run_items.new.w c.enter-outer.ensures.names c.enter-outer.ensures.own c.enter-outer.ensures.place (both_halt c.args.items.now c.in_ok-done.done (at c.run_items.new.w) c.in_ok-halt.halt (to_the_end c.in_ok-done.done c.args.items.now) c.in_ok-done.ensures.runs c.in_ok-halt.ensures) c.leave.ensures
+control::run_block-returns t c =
+    let halts : ItemsHalt c.args.level (trees_of_codes c.args.items.now) (at c.enter-outer.new.w) c.if-done-items.halt (at c.if-done-items.w) = elim c.if-done-items.branch [
+      | control::run_block-then-done-items w ↦ all_done c.args.items.now c.in_ok-done.done (omega (arith, w.if-done-items.true)) c.in_ok-done.ensures.runs w.halt-is (ap at w.w-is)
+      | control::run_block-else-done-items+in_ok-ended w ↦ both_halt c.args.items.now c.in_ok-done.done (at c.if-done-items.w) c.if-done-items.halt (to_the_end c.in_ok-done.done c.args.items.now) c.in_ok-done.ensures.runs
+          (halts_as c.args.level (trees_of_codes (take (length c.args.items.now - c.in_ok-done.done) (drop c.in_ok-done.done c.args.items.now))) (at c.run_settings.new.w) w.halt-is (ap at w.w-is) (items_halted w.halt_in-halt.result w.in_ok-ended.ensures w.halt_in-halt.ensures))
+    ] in
+    block_halts c.args.level (trees_of_codes c.args.items.now) c.if-done-items.halt c.args.w.now c.if-done-items.w c.enter-outer.ensures.names c.enter-outer.ensures.own c.enter-outer.ensures.place halts c.leave.ensures
 
-pub control::run_items-returns-then-is_empty : goal.control::run_items-returns-then-is_empty
-control::run_items-returns-then-is_empty t c = none_halt c.args.items.now (search rules)
-
-pub control::run_items-returns : goal.control::run_items-returns
-control::run_items-returns t c = items_halted c.halt_in.result c.in_ok-ended.ensures c.halt_in.ensures
+pub control::run_block-returns-in_err-ended : goal.control::run_block-returns-in_err-ended
+control::run_block-returns-in_err-ended t c = claims_nothing c.from_residual-in_err-ended.result _ c.from_residual-in_err-ended.ensures.0
 
 pub control::eval_for-returns-in-Ends : goal.control::eval_for-returns-in-Ends
-control::eval_for-returns-in-Ends t c = run_for_ends (child c.deref.ensures refl c.in_ok-ended.ensures) (sym c.in_ok-gone_over.ensures ∙ ap listing_view c.in-Ends.is)
+control::eval_for-returns-in-Ends t c = run_for_ends (child c.deref.ensures refl c.in_ok-ended.ensures) (sym c.in_ok-values.ensures ∙ ap listing_view c.in-Ends.is)
 
-pub control::eval_for-returns-in_ok-end-in-Listed : goal.control::eval_for-returns-in_ok-end-in-Listed
-control::eval_for-returns-in_ok-end-in-Listed t c = run_for (child c.deref.ensures refl c.in_ok-ended.ensures) (sym c.in_ok-gone_over.ensures ∙ ap listing_view c.in-Listed.is) (each (slice_of c.deref-in-Listed-4.ensures.value c.deref-in-Listed-3.ensures) (slice_of c.deref-in-Listed-2.ensures.value c.deref-in-Listed.ensures) c.in_ok-end-in-Listed.ensures)
+pub control::eval_for-loop-value-init : goal.control::eval_for-loop-value-init
+control::eval_for-loop-value-init t c = (λ o b h. h, repeated_fits (only_names (name_of c.args.pattern.now)) refl (child c.deref.ensures refl c.in_ok-ended.ensures) (sym c.in_ok-values.ensures ∙ ap listing_view c.in-Listed.is) c.requires.fits.1)
+
+pub control::eval_for-eval_taking-requires : goal.control::eval_for-eval_taking-requires
+control::eval_for-eval_taking-requires t c = (search rules, (search rules, block_fits (slice_of c.deref-in-loop-value-2.ensures.value c.deref-in-loop-value.ensures) refl c.loop-value.invariant.1))
+
+pub control::eval_for-loop-value-preserved : goal.control::eval_for-loop-value-preserved
+control::eval_for-loop-value-preserved t c = (
+  λ o b h. c.loop-value.invariant.0 _ _ (each_more _ c.loop-value-test.true c.value-item.is (taking (slice_of c.deref-in-loop-value-2.ensures.value c.deref-in-loop-value.ensures) refl (taking_ending c.in_default.ensures.1 c.in_ok-ended-2.ensures)) h),
+  block_fits refl (ap (λ ns. frame_of ns ++ only_names (name_of c.args.pattern.now)) (taking_stays c.in_ok-ended-2.ensures).0) c.loop-value.invariant.1,
+)
+
+pub control::eval_for-returns-in-Some : goal.control::eval_for-returns-in-Some
+control::eval_for-returns-in-Some t c =
+    run_for (child c.deref.ensures refl c.in_ok-ended.ensures) (sym c.in_ok-values.ensures ∙ ap listing_view c.in-Listed.is)
+    (each refl (slice_of c.deref-value-items.ensures.value c.deref-2.ensures) (c.loop-value.invariant.0 _ _ (each_no_more _ c.loop-value-test.true c.value-item.is (taking (slice_of c.deref-in-loop-value-2.ensures.value c.deref-in-loop-value.ensures) refl (taking_ending c.in-Some.ensures c.in_ok-ended-2.ensures)))))
+
+pub control::eval_for-returns : goal.control::eval_for-returns
+control::eval_for-returns t c =
+    run_for (child c.deref.ensures refl c.in_ok-ended.ensures) (sym c.in_ok-values.ensures ∙ ap listing_view c.in-Listed.is)
+    (each refl (slice_of c.deref-value-items.ensures.value c.deref-2.ensures) (c.loop-value.invariant.0 _ _ (each_end _ c.loop-value-test.false)))
+
+pub control::eval_for-returns-in_err-ended-2 : goal.control::eval_for-returns-in_err-ended-2
+control::eval_for-returns-in_err-ended-2 t c = claims_nothing c.from_residual-in_err-ended-2.result _ c.from_residual-in_err-ended-2.ensures.0
+
+pub control::eval_for-returns-in_err-ended : goal.control::eval_for-returns-in_err-ended
+control::eval_for-returns-in_err-ended t c = claims_nothing c.from_residual.result _ c.from_residual.ensures.0
+
+pub control::eval_for-returns-in_err-values : goal.control::eval_for-returns-in_err-values
+control::eval_for-returns-in_err-values t c = claims_nothing c.from_residual-in_err-values.result _ c.from_residual-in_err-values.ensures.0
 
 pub control::eval_try-returns-in-Err : goal.control::eval_try-returns-in-Err
 control::eval_try-returns-in-Err t c = runs_as (run_try (blocks (slice_of c.deref-2.ensures.value c.deref.ensures) refl c.in_ok-tried.ensures) c.in-Err.ensures.1) (ap end_of c.in-Err.ensures.0)
@@ -240,26 +270,8 @@ control::eval_block-returns t c = block_end c.args.w.now c.eval_items.new.w c.en
 pub control::eval_taking-returns : goal.control::eval_taking-returns
 control::eval_taking-returns t c = taking_end c.args.pattern.now (val_of c.args.value.now) c.args.w.now c.eval_items.new.w c.enter-outer.ensures.names c.enter-outer.ensures.own c.enter-outer.ensures.place c.in_ok-match_pattern.ensures c.in_ok-end.ensures c.leave.ensures
 
-pub control::eval_each-loop-value-preserved : goal.control::eval_each-loop-value-preserved
-control::eval_each-loop-value-preserved t c = (
-  λ o b h. c.loop-value.invariant.0 _ _ (each_more _ c.loop-value-test.true c.value-item.is (taking_ending c.in_default.ensures.1 c.in_ok-ended.ensures) h),
-  block_fits refl (ap (λ ns. frame_of ns ++ only_names (name_of c.args.pattern.now)) (taking_stays c.in_ok-ended.ensures).0) c.loop-value.invariant.1,
-)
-
-pub control::eval_each-returns-in-Some : goal.control::eval_each-returns-in-Some
-control::eval_each-returns-in-Some t c = c.loop-value.invariant.0 _ _ (each_no_more _ c.loop-value-test.true c.value-item.is (taking_ending c.in-Some.ensures c.in_ok-ended.ensures))
-
-pub control::eval_each-returns : goal.control::eval_each-returns
-control::eval_each-returns t c = c.loop-value.invariant.0 _ _ (each_end _ c.loop-value-test.false)
-
 pub calling::eval_method-eval_items-requires : goal.calling::eval_method-eval_items-requires
 calling::eval_method-eval_items-requires t c = (search rules, (search rules, entry_fits c.args.entry.nouns.items (at c.args.w.now) _ c.enter_method-caller.ensures.place (slice_of c.deref-2.ensures.value c.deref.ensures) c.args.entry.fits))
-
-pub control::eval_each-eval_taking-requires : goal.control::eval_each-eval_taking-requires
-control::eval_each-eval_taking-requires t c = (search rules, (search rules, c.loop-value.invariant.1))
-
-pub control::eval_for-eval_each-requires : goal.control::eval_for-eval_each-requires
-control::eval_for-eval_each-requires t c = (search rules, (search rules, repeated_fits (only_names (name_of c.args.pattern.now)) (slice_of c.deref-in-Listed-4.ensures.value c.deref-in-Listed-3.ensures) (child c.deref.ensures refl c.in_ok-ended.ensures) (sym c.in_ok-gone_over.ensures ∙ ap listing_view c.in-Listed.is) c.requires.fits.1))
 
 pub control::eval_if-eval_block-requires : goal.control::eval_if-eval_block-requires
 control::eval_if-eval_block-requires t c = (search rules, (search rules, chosen_fits (slice_of c.deref-then-truth-2.ensures.value c.deref-then-truth.ensures) (tested c.deref.ensures c.in_ok-choice.ensures.1) (c.in_ok-choice.ensures.2 ∙ ap choice_view c.in-Goes.is) c.requires.fits.1))
@@ -279,8 +291,8 @@ eval::eval-eval_call-requires t c = (search rules, (search rules, parts_fit (at 
 pub eval::eval-eval_list-requires : goal.eval::eval-eval_list-requires
 eval::eval-eval_list-requires t c = (search rules, (search rules, parts_fit (at c.args.w.now) c.in-List.is (fits-List c.args.w.now.own_scope (frame_of (at c.args.w.now).nouns) c.in-List.items) c.requires.fits))
 
-pub eval::eval-eval_hide-requires : goal.eval::eval-eval_hide-requires
-eval::eval-eval_hide-requires t c = (search rules, (search rules, parts_fit (at c.args.w.now) c.in-Hide.is (fits-Hide c.args.w.now.own_scope (frame_of (at c.args.w.now).nouns) c.in-Hide.body) c.requires.fits))
+pub eval::eval-eval_block-requires : goal.eval::eval-eval_block-requires
+eval::eval-eval_block-requires t c = (search rules, (search rules, block_fits (slice_of c.deref-in-Hide.ensures.value c.deref.ensures) refl (parts_fit (at c.args.w.now) c.in-Hide.is (fits-Hide c.args.w.now.own_scope (frame_of (at c.args.w.now).nouns) c.in-Hide.body) c.requires.fits)))
 
 pub eval::eval-eval_if-requires : goal.eval::eval-eval_if-requires
 eval::eval-eval_if-requires t c = (search rules, (search rules, parts_fit (at c.args.w.now) c.in-If.is (fits-If c.args.w.now.own_scope (frame_of (at c.args.w.now).nouns) c.in-If.condition c.in-If.first c.in-If.second) c.requires.fits))
@@ -375,18 +387,6 @@ control::eval_any_condition-returns-in_err-tested t c = claims_nothing c.from_re
 pub control::eval_block-returns-in_err-end : goal.control::eval_block-returns-in_err-end
 control::eval_block-returns-in_err-end t c = claims_nothing c.from_residual.result _ c.from_residual.ensures.0
 
-pub control::eval_each-returns-in_err-ended : goal.control::eval_each-returns-in_err-ended
-control::eval_each-returns-in_err-ended t c = claims_nothing c.from_residual.result _ c.from_residual.ensures.0
-
-pub control::eval_for-returns-in_err-end-in-Listed : goal.control::eval_for-returns-in_err-end-in-Listed
-control::eval_for-returns-in_err-end-in-Listed t c = claims_nothing c.from_residual-in_err-end-in-Listed.result _ c.from_residual-in_err-end-in-Listed.ensures.0
-
-pub control::eval_for-returns-in_err-ended : goal.control::eval_for-returns-in_err-ended
-control::eval_for-returns-in_err-ended t c = claims_nothing c.from_residual.result _ c.from_residual.ensures.0
-
-pub control::eval_for-returns-in_err-gone_over : goal.control::eval_for-returns-in_err-gone_over
-control::eval_for-returns-in_err-gone_over t c = claims_nothing c.from_residual-in_err-gone_over.result _ c.from_residual-in_err-gone_over.ensures.0
-
 pub control::eval_if-returns-in_err-choice : goal.control::eval_if-returns-in_err-choice
 control::eval_if-returns-in_err-choice t c = claims_nothing c.from_residual.result _ c.from_residual.ensures.0
 
@@ -410,12 +410,6 @@ control::eval_while-returns-in_err-halt t c = claims_nothing c.from_residual-in_
 
 pub control::run_block-returns-in_err-done : goal.control::run_block-returns-in_err-done
 control::run_block-returns-in_err-done t c = claims_nothing c.from_residual.result _ c.from_residual.ensures.0
-
-pub control::run_block-returns-in_err-halt : goal.control::run_block-returns-in_err-halt
-control::run_block-returns-in_err-halt t c = claims_nothing c.from_residual-in_err-halt.result _ c.from_residual-in_err-halt.ensures.0
-
-pub control::run_items-returns-in_err-ended : goal.control::run_items-returns-in_err-ended
-control::run_items-returns-in_err-ended t c = claims_nothing c.from_residual.result _ c.from_residual.ensures.0
 
 pub eval::eval_args-returns-in_err-push-in-Value : goal.eval::eval_args-returns-in_err-push-in-Value
 eval::eval_args-returns-in_err-push-in-Value t c = claims_nothing c.from_residual-in_err-push-in-Value.result _ c.from_residual-in_err-push-in-Value.ensures.0

@@ -32,20 +32,14 @@ decreases-control::eval_condition l = 6 * (1001 - l.level) + 2
 abbrev pub decreases-control::eval_any_condition : goal.decreases-control::eval_any_condition
 decreases-control::eval_any_condition l = 6 * (1001 - l.level) + 1
 
-abbrev pub decreases-control::run_items : goal.decreases-control::run_items
-decreases-control::run_items l = 6 * (1001 - l.level) + 3
-
 abbrev pub decreases-control::run_block : goal.decreases-control::run_block
-decreases-control::run_block l = 6 * (1001 - l.level) + 4
+decreases-control::run_block l = 6 * (1001 - l.level) + 3
 
 abbrev pub decreases-control::eval_block : goal.decreases-control::eval_block
 decreases-control::eval_block l = 6 * (1001 - l.level) + 3
 
 abbrev pub decreases-control::eval_taking : goal.decreases-control::eval_taking
 decreases-control::eval_taking l = 6 * (1001 - l.level) + 3
-
-abbrev pub decreases-control::eval_each : goal.decreases-control::eval_each
-decreases-control::eval_each l = 6 * (1001 - l.level) + 4
 
 abbrev pub decreases-eval::eval_def : goal.decreases-eval::eval_def
 decreases-eval::eval_def l = 6 * (1000 - l.level) + 5
@@ -86,9 +80,6 @@ decreases-eval::eval_def_list l = 6 * (1000 - l.level) + 5
 abbrev pub decreases-eval::eval_throw : goal.decreases-eval::eval_throw
 decreases-eval::eval_throw l = 6 * (1000 - l.level) + 5
 
-abbrev pub decreases-control::eval_hide : goal.decreases-control::eval_hide
-decreases-control::eval_hide l = 6 * (1000 - l.level) + 5
-
 abbrev pub decreases-control::eval_if : goal.decreases-control::eval_if
 decreases-control::eval_if l = 6 * (1000 - l.level) + 5
 
@@ -114,10 +105,10 @@ invariant-eval::eval_items-loop-item l =
     × all_fit_at (at l.w) (drop l.item-index l.items)
 
 -- what the block does for the values that are left, is what it does for all, and it fits
-abbrev pub invariant-control::eval_each-loop-value : goal.invariant-control::eval_each-loop-value
-invariant-control::eval_each-loop-value l =
-    ((o : End) (b : At) → Each l.level l.pattern (trees_of_codes l.items) (vals_of (drop l.value-index l.values)) (at l.w) o b → Each l.level l.pattern (trees_of_codes l.items) (vals_of l.values) (at l.initial.w) o b)
-    × fits_all false (frame_at (at l.w) ++ only_names (name_of l.pattern)) l.items
+abbrev pub invariant-control::eval_for-loop-value : goal.invariant-control::eval_for-loop-value
+invariant-control::eval_for-loop-value l =
+    ((o : End) (b : At) → Each (l.level + 1) l.pattern (trees_of_codes l.body.value.items) (vals_of (drop l.value-index l.value-items)) (at l.w) o b → Each (l.level + 1) l.pattern (trees_of_codes l.body.value.items) (vals_of l.value-items) (at l.initial.w) o b)
+    × fits_all false (frame_at (at l.w) ++ only_names (name_of l.pattern)) l.body.value.items
 
 -- what the rounds from here on give is what all give, and each round begins with as many names, which its parts fit
 abbrev pub invariant-control::eval_while-rounds : goal.invariant-control::eval_while-rounds
