@@ -10,7 +10,7 @@ use Rattle.erules.specs.At.{At}
 use Rattle.erules.specs.Leaves.{GoesOn}
 use Rattle.erules.specs.Locals.{locals_of}
 use Rattle.erules.specs.Outcomes.{End, value, halt}
-use Rattle.erules.specs.Rules.{Items, items_none, items_next, items_halt, Block, entering}
+use Rattle.erules.specs.Rules.{Items, items_none, items_next, items_halt, entering}
 use Rattle.erules.specs.View.{at, halt_of}
 use Rattle.erules.specs.declared.end.Halt.{Halt}
 use Rattle.erules.specs.declared.working.Working.{Working}
