@@ -1,6 +1,8 @@
 -- Finding the free names of an object, part by part: they are its distinct free names.
-use Rattle.std.proofs.Common.{◌≡◌, List, [], ◌∷◌, ◌++◌, Bool, true, false, if◌then◌else◌, append_assoc, append-nil, ap, sym, refl, ◌∙◌, rules}
+use Rattle.std.proofs.Common.{◌≡◌, ℕ, List, length, take, [], ◌∷◌, ◌++◌, Result, Ok, Err, Bool, true, false, if◌then◌else◌, append_assoc, append-nil, ap, sym, refl, ◌∙◌, rules}
+use Rattle.std.proofs.Math.Seq.{take-append_seam}
 use Rattle.std.proofs.lemmas.Slice.Eq.{bytes_eq-Decides}
+use Rattle.std.specs.Prelude.{IfOk}
 use Rattle.std.specs.Str.{bytes_eq}
 use Rattle.kernele.specs.Tree.{Name}
 use Rattle.scopes.specs.Free.{is_among, without, distinct}
@@ -11,6 +13,19 @@ use Rattle.scopes.specs.declared.naming.TopName.{TopName}
 pub all_new_two : (xs ys zs : List Name) → with_all_new xs (ys ++ zs) ≡ with_all_new (with_all_new xs ys) zs
 all_new_two xs [] zs = refl
 all_new_two xs (y ∷ ys) zs = all_new_two (with_new xs y) ys zs
+
+-- the names of a part, and those behind it
+pub then_inside : (was one two : List TopName) {now whole : List TopName} → now ≡ was ++ one → whole ≡ one ++ two → now ++ two ≡ was ++ whole
+then_inside was one two h is = ap (λ names. names ++ two) h ∙ append_assoc was one two ∙ ap (λ names. was ++ names) (sym is)
+
+-- what was added twice is taken away again
+pub truncated : {was now all last : List TopName} (n : ℕ) (xs ys : List TopName) → n ≡ length was → now ≡ was ++ xs → all ≡ now ++ ys → last ≡ take n all → last ≡ was
+truncated {was = was} n xs ys outer entered added back = back ∙ (λ i. take (outer i) ((added ∙ ap (λ names. names ++ ys) entered ∙ append_assoc was xs ys) i)) ∙ take-append_seam was (xs ++ ys)
+
+-- what holds anyway holds of a success
+pub holds_anyway : {T E P : Type 0} (r : Result T E) → P → IfOk r (λ _. P)
+holds_anyway (Ok x) h = h
+holds_anyway (Err e) h = tt
 
 -- what is found in a part, and then in the rest behind what the part defines, is found in both
 pub then_found : (rest : List TopName → List Name) (was : List Name) {now : List Name} {inside : List TopName} (first : List Name) (defined : List TopName) → now ≡ with_all_new was first → inside ≡ defined → with_all_new now (rest inside) ≡ with_all_new was (first ++ rest defined)

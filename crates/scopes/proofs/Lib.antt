@@ -3,3 +3,4 @@ pub mod Names
 pub mod Counts
 pub mod Growth
 pub mod Finding
+pub mod Parts

@@ -1,7 +1,7 @@
 -- On what a fault tells.
-use Rattle.std.proofs.Common.{◌≡◌, ap, sym, subst}
+use Rattle.std.proofs.Common.{◌≡◌, Err, Result, ap, sym, subst}
 use Rattle.scopes.specs.Scope.{Scopes, Checked, in_turn, entered, in_block, left_for}
-use Rattle.scopes.specs.Check.{Refuses}
+use Rattle.scopes.specs.Check.{Refuses, Gives}
 use Rattle.scopes.specs.declared.checking.CheckFault.{CheckFault}
 use Rattle.scopes.specs.declared.checking.CheckFault.TheVariants as fault
 
@@ -26,3 +26,7 @@ refuses_in_block fault.Memory inside s h = tt
 -- a fault refuses what is the same
 pub refuses_same : (f : CheckFault) (r s : Checked) → s ≡ r → Refuses f r → Refuses f s
 refuses_same f r s e h = subst (Refuses f) (sym e) h
+
+-- where the first of two is refused, so are both
+pub fails : {result : Result (Unit {0}) CheckFault} {f : CheckFault} {whole : Checked} (first : Checked) (next : Scopes → Checked) (s : Scopes) → (e : CheckFault) × (result ≡ Err e) × (e ≡ f) → whole ≡ in_turn first next → Refuses f first → Gives result s whole
+fails first next s failed is h = rw (failed.1, failed.2) (refuses_same _ _ _ is (refuses_in_turn _ first next h))

@@ -1,8 +1,8 @@
 // The check of a program before it is evaluated.
-ghost use Rattle.std.specs.Prelude.{◌≡◌, [], map, false, Some, Ok, IsOk, IfOk, IfErr, OnOk, MatchResult};
-ghost use Rattle.kernele.specs.Tree.{define, variable, assign, same_tree, define_list, if_tree, while_tree, for_tree, try_tree, object_tree, escape_tree};
+ghost use Rattle.std.specs.Prelude.{◌≡◌, map, false, Some, Ok, IsOk, IfOk, IfErr, OnOk, MatchResult};
+ghost use Rattle.kernele.specs.Tree.{if_tree, while_tree, for_tree, try_tree, object_tree, escape_tree};
 ghost use Rattle.kernele.specs.View.{tree_of, trees_of, methods_of, program_of};
-ghost use Rattle.scopes.specs.Scope.{in_turn, checked, checked_all, checked_program, found, assigned, added, bound, all_bound, entered, in_block, checked_with, checked_taking, checked_methods, same_signature, has_signature, script_scopes, asked_scopes, kind_in, with_name};
+ghost use Rattle.scopes.specs.Scope.{checked, checked_all, checked_program, found, assigned, added, bound, all_bound, entered, in_block, checked_with, same_signature, has_signature, script_scopes, asked_scopes, kind_in, with_name};
 ghost use Rattle.scopes.specs.Check.{Gives, Refuses, fault_text, MayRefuse, names_of, scopes_of, scopes_in, scopes_with, signature_of};
 ghost use Rattle.scopes.specs.declared.checking.CheckFault.TheVariants.{Memory};
 
@@ -228,13 +228,31 @@ fn check_expr(e: &Expr, scopes: &mut Scopes) -> Result<(), CheckFault>
     match e {
         Expr::Null | Expr::Bool(_) | Expr::Int(_) | Expr::Text(_) => Ok(()),
         Expr::Noun(name) => check_noun(name, scopes),
-        Expr::Def(pattern, value) => check_def(pattern, value, scopes),
-        Expr::Var(name, value) => check_var(name, value, scopes),
-        Expr::Assign(name, value) => check_assign(name, value, scopes),
-        Expr::Call(receiver, _, args) => check_call(receiver, args, scopes),
+        Expr::Def(pattern, value) => {
+            check_expr(value, scopes)?;
+            check_pattern(pattern, scopes)
+        }
+        Expr::Var(name, value) => {
+            check_expr(value, scopes)?;
+            scopes.add(name, Kind::Variable)
+        }
+        Expr::Assign(name, value) => {
+            check_expr(value, scopes)?;
+            check_assigned(name, scopes)
+        }
+        Expr::Call(receiver, _, args) => {
+            check_expr(receiver, scopes)?;
+            check_all(args, scopes)
+        }
         Expr::List(items) => check_all(items, scopes),
-        Expr::Same(left, right) => check_same(left, right, scopes),
-        Expr::DefList(patterns, value) => check_def_list(patterns, value, scopes),
+        Expr::Same(left, right) => {
+            check_expr(left, scopes)?;
+            check_expr(right, scopes)
+        }
+        Expr::DefList(patterns, value) => {
+            check_expr(value, scopes)?;
+            check_patterns(patterns, scopes)
+        }
         Expr::Hide(body) => check_block(body, scopes),
         Expr::If(condition, first, second) => check_if(condition, first, second, scopes),
         Expr::While(condition, body) => check_while(condition, body, scopes),
@@ -244,54 +262,6 @@ fn check_expr(e: &Expr, scopes: &mut Scopes) -> Result<(), CheckFault>
         Expr::Object(pattern, methods) => check_object(pattern, methods, scopes),
         Expr::Escape(name, body) => check_escape(name, body, scopes),
     }
-}
-
-#[cycle(check)]
-fn check_def(pattern: &Pattern, value: &Expr, scopes: &mut Scopes) -> Result<(), CheckFault>
-    ensures { Gives result (scopes_in scopes.new) (checked (define pattern.now (tree_of value.now)) (scopes_in scopes.old)) }
-{
-    check_expr(value, scopes)?;
-    check_pattern(pattern, scopes)
-}
-
-#[cycle(check)]
-fn check_var(name: &Text, value: &Expr, scopes: &mut Scopes) -> Result<(), CheckFault>
-    ensures { Gives result (scopes_in scopes.new) (checked (variable name.now (tree_of value.now)) (scopes_in scopes.old)) }
-{
-    check_expr(value, scopes)?;
-    scopes.add(name, Kind::Variable)
-}
-
-#[cycle(check)]
-fn check_assign(name: &Text, right: &Expr, scopes: &mut Scopes) -> Result<(), CheckFault>
-    ensures { Gives result (scopes_in scopes.new) (checked (assign name.now (tree_of right.now)) (scopes_in scopes.old)) }
-{
-    check_expr(right, scopes)?;
-    check_assigned(name, scopes)
-}
-
-#[cycle(check)]
-fn check_def_list(patterns: &[Pattern], value: &Expr, scopes: &mut Scopes) -> Result<(), CheckFault>
-    ensures { Gives result (scopes_in scopes.new) (checked (define_list patterns.now (tree_of value.now)) (scopes_in scopes.old)) }
-{
-    check_expr(value, scopes)?;
-    check_patterns(patterns, scopes)
-}
-
-#[cycle(check)]
-fn check_call(receiver: &Expr, args: &[Expr], scopes: &mut Scopes) -> Result<(), CheckFault>
-    ensures { Gives result (scopes_in scopes.new) (in_turn (checked (tree_of receiver.now) (scopes_in scopes.old)) (checked_all (trees_of args.now))) }
-{
-    check_expr(receiver, scopes)?;
-    check_all(args, scopes)
-}
-
-#[cycle(check)]
-fn check_same(left: &Expr, right: &Expr, scopes: &mut Scopes) -> Result<(), CheckFault>
-    ensures { Gives result (scopes_in scopes.new) (checked (same_tree (tree_of left.now) (tree_of right.now)) (scopes_in scopes.old)) }
-{
-    check_expr(left, scopes)?;
-    check_expr(right, scopes)
 }
 
 #[cycle(check)]
@@ -342,6 +312,8 @@ fn check_try(
     check_bound_block(pattern, handler, scopes)
 }
 
+/// Checks an object: its own name, and then its methods, each in a scope of its own, which begins with the names of the
+/// parameters.
 #[cycle(check)]
 fn check_object(
     pattern: &Pattern,
@@ -351,32 +323,16 @@ fn check_object(
     ensures { Gives result (scopes_in scopes.new) (checked (object_tree pattern.now (methods_of methods.now)) (scopes_in scopes.old)) }
 {
     check_pattern(pattern, scopes)?;
-    check_methods(methods, scopes)
-}
-
-/// Checks the methods of an object, each in a scope of its own.
-#[cycle(check)]
-fn check_methods(methods: &[Method], scopes: &Scopes<'_>) -> Result<(), CheckFault>
-    ensures { Gives result (scopes_in scopes.now) (checked_methods [] (methods_of methods.now) (scopes_in scopes.now)) }
-{
     let mut index = 0;
     while index < methods.len() {
         let method = &methods[index];
         check_is_new(&methods[..index], method)?;
-        check_method(method, scopes)?;
+        let mut inner = scopes.enter();
+        check_patterns(&method.parameters, &mut inner)?;
+        check_all(&method.body, &mut inner)?;
         index += 1;
     }
     Ok(())
-}
-
-/// Checks the block of a method in a scope of its own, which begins with the names of the parameters.
-#[cycle(check)]
-fn check_method(method: &Method, scopes: &Scopes<'_>) -> Result<(), CheckFault>
-    ensures { Gives result (scopes_in scopes.now) (in_block (checked_taking method.now.parameters.value.items (checked_all (trees_of method.now.body.value.items))) (scopes_in scopes.now)) }
-{
-    let mut inner = scopes.enter();
-    check_patterns(&method.parameters, &mut inner)?;
-    check_all(&method.body, &mut inner)
 }
 
 /// Checks a block in a scope of its own, which begins with the name of an ejector.

@@ -1,8 +1,8 @@
 // The names that an object captures.
-ghost use Rattle.std.specs.Prelude.{◌≡◌, [], ◌∷◌, ◌++◌, IfOk, OnOk};
+ghost use Rattle.std.specs.Prelude.{◌≡◌, ◌++◌, IfOk, OnOk};
 ghost use Rattle.kernele.specs.View.{tree_of, trees_of, methods_of};
-ghost use Rattle.kernele.specs.Tree.{variable, assign, same_tree, if_tree, while_tree, for_tree, try_tree, object_tree, escape_tree};
-ghost use Rattle.scopes.specs.Scope.{own_names, own_names_in, name_of, names_of_all};
+ghost use Rattle.kernele.specs.Tree.{assign, if_tree, while_tree, for_tree, try_tree, object_tree, escape_tree};
+ghost use Rattle.scopes.specs.Scope.{own_names, own_names_in, name_of};
 ghost use Rattle.scopes.specs.Free.{captures, free, free_in, free_of, occurring, defines as defined_by, is_among as among_those};
 ghost use Rattle.scopes.specs.Found.{with_all_new};
 
@@ -35,13 +35,28 @@ fn find_in(e: &Expr, inside: &mut Vec<TopName>, found: &mut Vec<Text>) -> Result
     match e {
         Expr::Null | Expr::Bool(_) | Expr::Int(_) | Expr::Text(_) => Ok(()),
         Expr::Noun(name) => add_occurring(name, inside, found),
-        Expr::Def(pattern, value) => find_in_def(pattern, value, inside, found),
-        Expr::Var(name, value) => find_in_var(name, value, inside, found),
+        Expr::Def(pattern, value) => {
+            find_in(value, inside, found)?;
+            add_bound(pattern, inside)
+        }
+        Expr::Var(name, value) => {
+            find_in(value, inside, found)?;
+            add_name(name, Kind::Variable, inside)
+        }
         Expr::Assign(name, value) => find_in_assigned(name, value, inside, found),
-        Expr::Call(receiver, _, args) => find_in_call(receiver, args, inside, found),
+        Expr::Call(receiver, _, args) => {
+            find_in(receiver, inside, found)?;
+            find_in_all(args, inside, found)
+        }
         Expr::List(items) => find_in_all(items, inside, found),
-        Expr::Same(left, right) => find_in_same(left, right, inside, found),
-        Expr::DefList(patterns, value) => find_in_def_list(patterns, value, inside, found),
+        Expr::Same(left, right) => {
+            find_in(left, inside, found)?;
+            find_in(right, inside, found)
+        }
+        Expr::DefList(patterns, value) => {
+            find_in(value, inside, found)?;
+            add_all_bound(patterns, inside)
+        }
         Expr::Hide(body) => find_in_block(body, inside, found),
         Expr::If(condition, first, second) => {
             find_in_if(condition, first, second, inside, found)
@@ -53,76 +68,6 @@ fn find_in(e: &Expr, inside: &mut Vec<TopName>, found: &mut Vec<Text>) -> Result
         Expr::Object(pattern, methods) => find_in_object(pattern, methods, inside, found),
         Expr::Escape(name, body) => find_in_escape(name, body, inside, found),
     }
-}
-
-#[cycle(free)]
-fn find_in_def(
-    pattern: &Pattern,
-    value: &Expr,
-    inside: &mut Vec<TopName>,
-    found: &mut Vec<Text>,
-) -> Result<(), AllocError>
-    ensures inside { OnOk result (inside.new.items ≡ inside.old.items ++ own_names (tree_of value.now) ++ name_of pattern.now) }
-    ensures found { OnOk result (found.new.items ≡ with_all_new found.old.items (free (tree_of value.now) inside.old.items)) }
-{
-    find_in(value, inside, found)?;
-    add_bound(pattern, inside)
-}
-
-#[cycle(free)]
-fn find_in_var(
-    name: &Text,
-    value: &Expr,
-    inside: &mut Vec<TopName>,
-    found: &mut Vec<Text>,
-) -> Result<(), AllocError>
-    ensures inside { OnOk result (inside.new.items ≡ inside.old.items ++ own_names (variable name.now (tree_of value.now))) }
-    ensures found { OnOk result (found.new.items ≡ with_all_new found.old.items (free (tree_of value.now) inside.old.items)) }
-{
-    find_in(value, inside, found)?;
-    add_name(name, Kind::Variable, inside)
-}
-
-#[cycle(free)]
-fn find_in_def_list(
-    patterns: &[Pattern],
-    value: &Expr,
-    inside: &mut Vec<TopName>,
-    found: &mut Vec<Text>,
-) -> Result<(), AllocError>
-    ensures inside { OnOk result (inside.new.items ≡ inside.old.items ++ own_names (tree_of value.now) ++ names_of_all patterns.now) }
-    ensures found { OnOk result (found.new.items ≡ with_all_new found.old.items (free (tree_of value.now) inside.old.items)) }
-{
-    find_in(value, inside, found)?;
-    add_all_bound(patterns, inside)
-}
-
-#[cycle(free)]
-fn find_in_call(
-    receiver: &Expr,
-    args: &[Expr],
-    inside: &mut Vec<TopName>,
-    found: &mut Vec<Text>,
-) -> Result<(), AllocError>
-    ensures inside { OnOk result (inside.new.items ≡ inside.old.items ++ (own_names (tree_of receiver.now) ++ own_names_in (trees_of args.now))) }
-    ensures found { OnOk result (found.new.items ≡ with_all_new found.old.items (free (tree_of receiver.now) inside.old.items ++ free_in (trees_of args.now) (inside.old.items ++ own_names (tree_of receiver.now)))) }
-{
-    find_in(receiver, inside, found)?;
-    find_in_all(args, inside, found)
-}
-
-#[cycle(free)]
-fn find_in_same(
-    left: &Expr,
-    right: &Expr,
-    inside: &mut Vec<TopName>,
-    found: &mut Vec<Text>,
-) -> Result<(), AllocError>
-    ensures inside { OnOk result (inside.new.items ≡ inside.old.items ++ own_names (same_tree (tree_of left.now) (tree_of right.now))) }
-    ensures found { OnOk result (found.new.items ≡ with_all_new found.old.items (free (same_tree (tree_of left.now) (tree_of right.now)) inside.old.items)) }
-{
-    find_in(left, inside, found)?;
-    find_in(right, inside, found)
 }
 
 #[cycle(free)]
@@ -285,6 +230,7 @@ fn find_in_escape(
     Ok(())
 }
 
+/// The parameters of a method are defined in its body, and its names end with it.
 #[cycle(free)]
 fn find_in_methods(
     methods: &[Method],
@@ -294,26 +240,12 @@ fn find_in_methods(
     ensures inside { OnOk result (inside.new.items ≡ inside.old.items) }
     ensures found { OnOk result (found.new.items ≡ with_all_new found.old.items (free_of (methods_of methods.now) inside.old.items)) }
 {
-    for method in methods {
-        find_in_method(method, inside, found)?;
-    }
-    Ok(())
-}
-
-/// The parameters of a method are defined in its body.
-#[cycle(free)]
-fn find_in_method(
-    method: &Method,
-    inside: &mut Vec<TopName>,
-    found: &mut Vec<Text>,
-) -> Result<(), AllocError>
-    ensures inside { OnOk result (inside.new.items ≡ inside.old.items) }
-    ensures found { OnOk result (found.new.items ≡ with_all_new found.old.items (free_in (trees_of method.now.body.value.items) (inside.old.items ++ names_of_all method.now.parameters.value.items))) }
-{
     let outer = inside.len();
-    add_all_bound(&method.parameters, inside)?;
-    find_in_all(&method.body, inside, found)?;
-    inside.truncate(outer);
+    for method in methods {
+        add_all_bound(&method.parameters, inside)?;
+        find_in_all(&method.body, inside, found)?;
+        inside.truncate(outer);
+    }
     Ok(())
 }
 

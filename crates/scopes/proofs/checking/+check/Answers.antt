@@ -1,11 +1,12 @@
 use Rattle.std.proofs.Common.{ap, refl, ◌∙◌, ◌+◌, drop}
 use Rattle.std.proofs.lemmas.Result.{err_from_is_err_and}
-use Rattle.scopes.specs.Scope.{in_turn, in_block, checked_all, checked_with}
+use Rattle.scopes.specs.Scope.{in_turn, in_block, checked, checked_all, checked_with}
 use Rattle.kernele.specs.View.{trees_of}
 use Rattle.scopes.specs.Check.{scopes_in}
 use Rattle.kernele.proofs.Walks.{tree_is_call, tree_is_list, tree_is_hide, tree_is_if, tree_is_while, tree_is_for, tree_is_try, tree_is_object, tree_is_escape, trees_from, no_trees_from}
 use Rattle.kernele.specs.declared.tree.Pattern.TheVariants as pattern
-use Rattle.scopes.proofs.Refusals.{refuses_in_turn, refuses_in_block, refuses_same}
+use Rattle.scopes.proofs.Refusals.{refuses_in_turn, refuses_in_block, refuses_same, fails}
+use Rattle.scopes.proofs.Parts.{tree_is_define, tree_is_variable, tree_is_assign, tree_is_same, tree_is_define_list}
 use Rattle.scopes.proofs.checking.+check.Goals as goal
 
 pub check_all-returns-in_err-check_expr : goal.check_all-returns-in_err-check_expr
@@ -26,7 +27,7 @@ check_all-returns t c = c.loop-tree.invariant ∙ ap (λ ts. checked_all ts (sco
 pub check_expr-returns-in-List : goal.check_expr-returns-in-List
 check_expr-returns-in-List t c =
     let is = tree_is_list c.in-List.items c.in-List.is c.deref-in-List.ensures c.deref-in-List-2.ensures.value in
-    rw is c.check_all.ensures
+    rw is c.check_all-in-List.ensures
 
 pub check_expr-returns-in-Hide : goal.check_expr-returns-in-Hide
 check_expr-returns-in-Hide t c =
@@ -37,11 +38,6 @@ pub check_expr-returns-in-Escape : goal.check_expr-returns-in-Escape
 check_expr-returns-in-Escape t c =
     let is = tree_is_escape c.in-Escape.name c.in-Escape.body c.in-Escape.is refl c.deref-in-Escape.ensures c.deref-in-Escape-2.ensures.value in
     rw is c.check_escape.ensures
-
-pub check_expr-returns-in-Call : goal.check_expr-returns-in-Call
-check_expr-returns-in-Call t c =
-    let is = tree_is_call c.in-Call.receiver c.in-Call.field-1 c.in-Call.args c.in-Call.is c.deref-in-Call.ensures c.deref-in-Call-2.ensures c.deref-in-Call-3.ensures.value in
-    rw is c.check_call.ensures
 
 pub check_expr-returns-in-If : goal.check_expr-returns-in-If
 check_expr-returns-in-If t c =
@@ -68,9 +64,6 @@ check_expr-returns-in-Object t c =
     let is = tree_is_object c.in-Object.pattern c.in-Object.methods c.in-Object.is refl c.deref-in-Object.ensures c.deref-in-Object-2.ensures.value in
     rw is c.check_object.ensures
 
-pub check_call-returns : goal.check_call-returns
-check_call-returns t c = rw c.in_ok-check_expr.ensures c.check_all.ensures
-
 pub check_if-returns-in_err-check_block : goal.check_if-returns-in_err-check_block
 check_if-returns-in_err-check_block t c =
     let first = in_block (checked_all (trees_of c.args.first.now)) in
@@ -96,34 +89,11 @@ check_try-returns-in_err-check_block t c =
 pub check_try-returns : goal.check_try-returns
 check_try-returns t c = rw c.in_ok-check_block.ensures c.check_bound_block.ensures
 
-pub check_object-returns : goal.check_object-returns
-check_object-returns t c = rw c.in_ok-check_pattern.ensures c.check_methods.ensures
-
-pub check_assign-returns-in_err-check_expr : goal.check_assign-returns-in_err-check_expr
-check_assign-returns-in_err-check_expr t c =
-    let p = err_from_is_err_and c.from_residual.result c.from_residual.ensures.1 in
-    rw (p.1, p.2) (refuses_in_turn _ _ _ c.in_err-check_expr.ensures)
-
 pub check_bound_block-returns-in_err-check_pattern : goal.check_bound_block-returns-in_err-check_pattern
 check_bound_block-returns-in_err-check_pattern t c =
     let p = err_from_is_err_and c.from_residual.result c.from_residual.ensures.1 in
     let body = checked_all (trees_of c.args.body.now) in
     rw (p.1, p.2) (refuses_in_block _ (checked_with c.args.pattern.now body) (scopes_in c.args.scopes.now) (refuses_in_turn _ _ body (rw c.enter-inner.ensures at c.in_err-check_pattern.ensures)))
-
-pub check_call-returns-in_err-check_expr : goal.check_call-returns-in_err-check_expr
-check_call-returns-in_err-check_expr t c =
-    let p = err_from_is_err_and c.from_residual.result c.from_residual.ensures.1 in
-    rw (p.1, p.2) (refuses_in_turn _ _ _ c.in_err-check_expr.ensures)
-
-pub check_def-returns-in_err-check_expr : goal.check_def-returns-in_err-check_expr
-check_def-returns-in_err-check_expr t c =
-    let p = err_from_is_err_and c.from_residual.result c.from_residual.ensures.1 in
-    rw (p.1, p.2) (refuses_in_turn _ _ _ c.in_err-check_expr.ensures)
-
-pub check_def_list-returns-in_err-check_expr : goal.check_def_list-returns-in_err-check_expr
-check_def_list-returns-in_err-check_expr t c =
-    let p = err_from_is_err_and c.from_residual.result c.from_residual.ensures.1 in
-    rw (p.1, p.2) (refuses_in_turn _ _ _ c.in_err-check_expr.ensures)
 
 pub check_escape-returns-in_err-add : goal.check_escape-returns-in_err-add
 check_escape-returns-in_err-add t c =
@@ -146,17 +116,61 @@ check_object-returns-in_err-check_pattern t c =
     let p = err_from_is_err_and c.from_residual.result c.from_residual.ensures.1 in
     rw (p.1, p.2) (refuses_in_turn _ _ _ c.in_err-check_pattern.ensures)
 
-pub check_same-returns-in_err-check_expr : goal.check_same-returns-in_err-check_expr
-check_same-returns-in_err-check_expr t c =
-    let p = err_from_is_err_and c.from_residual.result c.from_residual.ensures.1 in
-    rw (p.1, p.2) (refuses_in_turn _ _ _ c.in_err-check_expr.ensures)
-
-pub check_var-returns-in_err-check_expr : goal.check_var-returns-in_err-check_expr
-check_var-returns-in_err-check_expr t c =
-    let p = err_from_is_err_and c.from_residual.result c.from_residual.ensures.1 in
-    rw (p.1, p.2) (refuses_in_turn _ _ _ c.in_err-check_expr.ensures)
-
 pub check_while-returns-in_err-check_expr : goal.check_while-returns-in_err-check_expr
 check_while-returns-in_err-check_expr t c =
     let p = err_from_is_err_and c.from_residual.result c.from_residual.ensures.1 in
     rw (p.1, p.2) (refuses_in_turn _ _ _ c.in_err-check_expr.ensures)
+
+pub check_expr-returns-in_err-check_expr-in-Def : goal.check_expr-returns-in_err-check_expr-in-Def
+check_expr-returns-in_err-check_expr-in-Def t c =
+    fails _ _ _ (err_from_is_err_and _ c.from_residual.ensures.1) (ap (λ x. checked x (scopes_in c.args.scopes.now)) (tree_is_define c.in-Def.pattern c.in-Def.value c.in-Def.is c.deref.ensures)) c.in_err-check_expr-in-Def.ensures
+
+pub check_expr-returns-in_ok-check_expr-in-Def : goal.check_expr-returns-in_ok-check_expr-in-Def
+check_expr-returns-in_ok-check_expr-in-Def t c =
+    let is = tree_is_define c.in-Def.pattern c.in-Def.value c.in-Def.is c.deref.ensures in
+    rw (is, c.in_ok-check_expr-in-Def.ensures) c.check_pattern.ensures
+
+pub check_expr-returns-in_err-check_expr-in-Var : goal.check_expr-returns-in_err-check_expr-in-Var
+check_expr-returns-in_err-check_expr-in-Var t c =
+    fails _ _ _ (err_from_is_err_and _ c.from_residual-in_err-check_expr-in-Var.ensures.1) (ap (λ x. checked x (scopes_in c.args.scopes.now)) (tree_is_variable c.in-Var.name c.in-Var.value c.in-Var.is c.deref-in-Var.ensures)) c.in_err-check_expr-in-Var.ensures
+
+pub check_expr-returns-in_ok-check_expr-in-Var : goal.check_expr-returns-in_ok-check_expr-in-Var
+check_expr-returns-in_ok-check_expr-in-Var t c =
+    let is = tree_is_variable c.in-Var.name c.in-Var.value c.in-Var.is c.deref-in-Var.ensures in
+    rw (is, c.in_ok-check_expr-in-Var.ensures) c.add.ensures
+
+pub check_expr-returns-in_err-check_expr-in-Assign : goal.check_expr-returns-in_err-check_expr-in-Assign
+check_expr-returns-in_err-check_expr-in-Assign t c =
+    fails _ _ _ (err_from_is_err_and _ c.from_residual-in_err-check_expr-in-Assign.ensures.1) (ap (λ x. checked x (scopes_in c.args.scopes.now)) (tree_is_assign c.in-Assign.name c.in-Assign.value c.in-Assign.is c.deref-in-Assign.ensures)) c.in_err-check_expr-in-Assign.ensures
+
+pub check_expr-returns-in_ok-check_expr-in-Assign : goal.check_expr-returns-in_ok-check_expr-in-Assign
+check_expr-returns-in_ok-check_expr-in-Assign t c =
+    let is = tree_is_assign c.in-Assign.name c.in-Assign.value c.in-Assign.is c.deref-in-Assign.ensures in
+    rw (is, c.in_ok-check_expr-in-Assign.ensures) c.check_assigned.ensures
+
+pub check_expr-returns-in_err-check_expr-in-Call : goal.check_expr-returns-in_err-check_expr-in-Call
+check_expr-returns-in_err-check_expr-in-Call t c =
+    fails _ _ _ (err_from_is_err_and _ c.from_residual-in_err-check_expr-in-Call.ensures.1) (ap (λ x. checked x (scopes_in c.args.scopes.now)) (tree_is_call c.in-Call.receiver c.in-Call.field-1 c.in-Call.args c.in-Call.is c.deref-in-Call.ensures refl refl)) c.in_err-check_expr-in-Call.ensures
+
+pub check_expr-returns-in_ok-check_expr-in-Call : goal.check_expr-returns-in_ok-check_expr-in-Call
+check_expr-returns-in_ok-check_expr-in-Call t c =
+    let is = tree_is_call c.in-Call.receiver c.in-Call.field-1 c.in-Call.args c.in-Call.is c.deref-in-Call.ensures c.deref-in-Call-2.ensures c.deref-in-Call-3.ensures.value in
+    rw (is, c.in_ok-check_expr-in-Call.ensures) c.check_all.ensures
+
+pub check_expr-returns-in_err-check_expr-in-Same : goal.check_expr-returns-in_err-check_expr-in-Same
+check_expr-returns-in_err-check_expr-in-Same t c =
+    fails _ _ _ (err_from_is_err_and _ c.from_residual-in_err-check_expr-in-Same.ensures.1) (ap (λ x. checked x (scopes_in c.args.scopes.now)) (tree_is_same c.in-Same.left c.in-Same.right c.in-Same.is c.deref-in-Same.ensures refl)) c.in_err-check_expr-in-Same.ensures
+
+pub check_expr-returns-in_ok-check_expr-in-Same : goal.check_expr-returns-in_ok-check_expr-in-Same
+check_expr-returns-in_ok-check_expr-in-Same t c =
+    let is = tree_is_same c.in-Same.left c.in-Same.right c.in-Same.is c.deref-in-Same.ensures c.deref-in-Same-2.ensures in
+    rw (is, c.in_ok-check_expr-in-Same.ensures) c.check_expr-in-Same-2.ensures
+
+pub check_expr-returns-in_err-check_expr-in-DefList : goal.check_expr-returns-in_err-check_expr-in-DefList
+check_expr-returns-in_err-check_expr-in-DefList t c =
+    fails _ _ _ (err_from_is_err_and _ c.from_residual-in_err-check_expr-in-DefList.ensures.1) (ap (λ x. checked x (scopes_in c.args.scopes.now)) (tree_is_define_list c.in-DefList.patterns c.in-DefList.value c.in-DefList.is c.deref-in-DefList.ensures refl refl)) c.in_err-check_expr-in-DefList.ensures
+
+pub check_expr-returns-in_ok-check_expr-in-DefList : goal.check_expr-returns-in_ok-check_expr-in-DefList
+check_expr-returns-in_ok-check_expr-in-DefList t c =
+    let is = tree_is_define_list c.in-DefList.patterns c.in-DefList.value c.in-DefList.is c.deref-in-DefList.ensures c.deref-in-DefList-2.ensures c.deref-in-DefList-3.ensures.value in
+    rw (is, c.in_ok-check_expr-in-DefList.ensures) c.check_patterns.ensures

@@ -11,11 +11,11 @@ abbrev pub invariant-check_all-loop-tree : goal.invariant-check_all-loop-tree
 invariant-check_all-loop-tree l = checked_all (trees_of l.trees) (scopes_in l.initial.scopes) ≡ checked_all (trees_of (drop l.tree-index l.trees)) (scopes_in l.scopes)
 
 -- what the methods that are left give behind those before them is what all give
-abbrev pub invariant-check_methods-loop-index : goal.invariant-check_methods-loop-index
-invariant-check_methods-loop-index l = checked_methods [] (methods_of l.methods) (scopes_in l.scopes) ≡ checked_methods (map signature_of (take l.index l.methods)) (methods_of (drop l.index l.methods)) (scopes_in l.scopes)
+abbrev pub invariant-check_object-loop-index : goal.invariant-check_object-loop-index
+invariant-check_object-loop-index l = checked_methods [] (methods_of l.methods) (scopes_in l.scopes) ≡ checked_methods (map signature_of (take l.index l.methods)) (methods_of (drop l.index l.methods)) (scopes_in l.scopes)
 
-abbrev pub decreases-check_methods-loop-index : goal.decreases-check_methods-loop-index
-decreases-check_methods-loop-index l = length l.methods - l.index
+abbrev pub decreases-check_object-loop-index : goal.decreases-check_object-loop-index
+decreases-check_object-loop-index l = length l.methods - l.index
 
 -- the depth of a tree, and the order of the calls that go no deeper
 abbrev pub decreases-check_expr : goal.decreases-check_expr
@@ -33,34 +33,10 @@ decreases-check_bound_block l = 4 * goal.size-check_bound_block l + 2
 abbrev pub decreases-check_escape : goal.decreases-check_escape
 decreases-check_escape l = 4 * goal.size-check_escape l + 2
 
-abbrev pub decreases-check_method : goal.decreases-check_method
-decreases-check_method l = 4 * goal.size-check_method l
-
-abbrev pub decreases-check_methods : goal.decreases-check_methods
-decreases-check_methods l = 4 * goal.size-check_methods l + 1
-
 abbrev pub decreases-check_object : goal.decreases-check_object
 decreases-check_object l = 4 * goal.size-check_object l + 2
 
-abbrev pub decreases-check_def : goal.decreases-check_def
-decreases-check_def l = 4 * goal.size-check_def l + 1
-
-abbrev pub decreases-check_var : goal.decreases-check_var
-decreases-check_var l = 4 * goal.size-check_var l + 1
-
-abbrev pub decreases-check_assign : goal.decreases-check_assign
-decreases-check_assign l = 4 * goal.size-check_assign l + 1
-
-abbrev pub decreases-check_def_list : goal.decreases-check_def_list
-decreases-check_def_list l = 4 * goal.size-check_def_list l + 1
-
 -- of two parts the greater depth
-abbrev pub decreases-check_call : goal.decreases-check_call
-decreases-check_call l = 4 * (max (goal.size-check_call l) (most (λ e. the_size e) l.args.now)) + 2
-
-abbrev pub decreases-check_same : goal.decreases-check_same
-decreases-check_same l = 4 * (max (goal.size-check_same l) (the_size l.right.now)) + 1
-
 abbrev pub decreases-check_if : goal.decreases-check_if
 decreases-check_if l = 4 * (max (max (goal.size-check_if l) (most (λ e. the_size e) l.first.now)) (most (λ e. the_size e) l.second.now)) + 3
 

@@ -1,23 +1,24 @@
-use Rattle.std.proofs.Common.{refl, ap, sym, ◌∙◌, ◌++◌, ◌+◌, append_assoc, drop}
+use Rattle.std.proofs.Common.{◌≡◌, rules, [], ◌∷◌, refl, ap, sym, ◌∙◌, ◌++◌, ◌+◌, drop, length}
 use Rattle.std.proofs.lemmas.Result.{IfOk-equal}
-use Rattle.scopes.specs.Scope.{own_names, own_names_in, name_of, names_of_all}
+use Rattle.scopes.specs.Scope.{own_names, own_names_in, name_of, names_of_all, variable_name}
 use Rattle.scopes.specs.Free.{free, free_in, free_of}
 use Rattle.scopes.specs.Found.{with_all_new}
 use Rattle.kernele.specs.View.{tree_of, trees_of, methods_of}
-use Rattle.kernele.proofs.Walks.{tree_is_call, tree_is_list, tree_is_hide, tree_is_if, tree_is_while, tree_is_for, tree_is_try, tree_is_object, tree_is_escape, trees_from, methods_from, append_more}
-use Rattle.scopes.proofs.Finding.{then_found}
+use Rattle.kernele.proofs.Walks.{tree_is_call, tree_is_list, tree_is_hide, tree_is_if, tree_is_while, tree_is_for, tree_is_try, tree_is_object, tree_is_escape, methods_from, body_is, trees_from, append_more}
+use Rattle.scopes.proofs.Finding.{then_found, then_inside, holds_anyway, truncated}
+use Rattle.scopes.proofs.Parts.{tree_is_define, tree_is_variable, tree_is_same, tree_is_define_list}
 use Rattle.ids.proofs.Failing.{claims_nothing}
 use Rattle.scopes.proofs.free.+free.Goals as goal
 
 pub find_in-returns-in-List-clause-inside : goal.find_in-returns-in-List-clause-inside
 find_in-returns-in-List-clause-inside t c =
     let is = tree_is_list c.in-List.items c.in-List.is c.deref-in-List.ensures c.deref-in-List-2.ensures.value in
-    IfOk-equal c.find_in_all.result _ _ _ c.find_in_all.ensures.inside (ap (λ t. c.args.inside.now.items ++ own_names t) (sym is))
+    IfOk-equal c.find_in_all-in-List.result _ _ _ c.find_in_all-in-List.ensures.inside (ap (λ t. c.args.inside.now.items ++ own_names t) (sym is))
 
 pub find_in-returns-in-List-clause-found : goal.find_in-returns-in-List-clause-found
 find_in-returns-in-List-clause-found t c =
     let is = tree_is_list c.in-List.items c.in-List.is c.deref-in-List.ensures c.deref-in-List-2.ensures.value in
-    IfOk-equal c.find_in_all.result _ _ _ c.find_in_all.ensures.found (ap (λ t. with_all_new c.args.found.now.items (free t c.args.inside.now.items)) (sym is))
+    IfOk-equal c.find_in_all-in-List.result _ _ _ c.find_in_all-in-List.ensures.found (ap (λ t. with_all_new c.args.found.now.items (free t c.args.inside.now.items)) (sym is))
 
 pub find_in-returns-in-Hide-clause-found : goal.find_in-returns-in-Hide-clause-found
 find_in-returns-in-Hide-clause-found t c =
@@ -39,27 +40,6 @@ find_in_all-loop-tree-preserved t c =
       found = then_found (free_in rest) c.loop-tree.found.items (free x c.loop-tree.inside.items) (c.loop-tree.inside.items ++ own_names x) c.in_ok-find_in.ensures.found c.in_ok-find_in.ensures.inside
           ∙ ap (λ ts. with_all_new c.loop-tree.found.items (free_in ts c.loop-tree.inside.items)) (sym next) ∙ c.loop-tree.invariant.found;
     }
-
-pub find_in_methods-loop-method-preserved : goal.find_in_methods-loop-method-preserved
-find_in_methods-loop-method-preserved t c =
-    let rest = methods_of (drop (c.loop-method.method-index + 1) c.args.methods.now) in
-    let next = methods_from c.args.methods.now c.loop-method.method-index c.method-item.result c.loop-method-test.true c.method-item.is in
-    let m = c.method-item.result in
-    record {
-      inside = c.in_ok-find_in_method.ensures.inside ∙ c.loop-method.invariant.inside;
-      found = then_found (free_of rest) c.loop-method.found.items (free_in (trees_of m.body.value.items) (c.loop-method.inside.items ++ names_of_all m.parameters.value.items)) c.loop-method.inside.items c.in_ok-find_in_method.ensures.found c.in_ok-find_in_method.ensures.inside
-          ∙ ap (λ ms. with_all_new c.loop-method.found.items (free_of ms c.loop-method.inside.items)) (sym next) ∙ c.loop-method.invariant.found;
-    }
-
-pub find_in-returns-in-Call-clause-inside : goal.find_in-returns-in-Call-clause-inside
-find_in-returns-in-Call-clause-inside t c =
-    let is = tree_is_call c.in-Call.receiver c.in-Call.field-1 c.in-Call.args c.in-Call.is c.deref-in-Call.ensures c.deref-in-Call-2.ensures c.deref-in-Call-3.ensures.value in
-    IfOk-equal c.find_in_call.result _ _ _ c.find_in_call.ensures.inside (ap (λ t. c.args.inside.now.items ++ own_names t) (sym is))
-
-pub find_in-returns-in-Call-clause-found : goal.find_in-returns-in-Call-clause-found
-find_in-returns-in-Call-clause-found t c =
-    let is = tree_is_call c.in-Call.receiver c.in-Call.field-1 c.in-Call.args c.in-Call.is c.deref-in-Call.ensures c.deref-in-Call-2.ensures c.deref-in-Call-3.ensures.value in
-    IfOk-equal c.find_in_call.result _ _ _ c.find_in_call.ensures.found (ap (λ t. with_all_new c.args.found.now.items (free t c.args.inside.now.items)) (sym is))
 
 pub find_in-returns-in-If-clause-found : goal.find_in-returns-in-If-clause-found
 find_in-returns-in-If-clause-found t c =
@@ -85,21 +65,6 @@ pub find_in-returns-in-Object-clause-found : goal.find_in-returns-in-Object-clau
 find_in-returns-in-Object-clause-found t c =
     let is = tree_is_object c.in-Object.pattern c.in-Object.methods c.in-Object.is refl c.deref-in-Object.ensures c.deref-in-Object-2.ensures.value in
     IfOk-equal c.find_in_object.result _ _ _ c.find_in_object.ensures.found (ap (λ t. with_all_new c.args.found.now.items (free t c.args.inside.now.items)) (sym is))
-
-pub find_in_call-returns-clause-inside : goal.find_in_call-returns-clause-inside
-find_in_call-returns-clause-inside t c =
-    IfOk-equal c.find_in_all.result _ _ _ c.find_in_all.ensures.inside
-    (ap (λ names. names ++ own_names_in (trees_of c.args.args.now)) c.in_ok-find_in.ensures.inside ∙ append_assoc c.args.inside.now.items (own_names (tree_of c.args.receiver.now)) (own_names_in (trees_of c.args.args.now)))
-
-pub find_in_call-returns-clause-found : goal.find_in_call-returns-clause-found
-find_in_call-returns-clause-found t c =
-    IfOk-equal c.find_in_all.result _ _ _ c.find_in_all.ensures.found
-    (then_found (free_in (trees_of c.args.args.now)) c.args.found.now.items (free (tree_of c.args.receiver.now) c.args.inside.now.items) (c.args.inside.now.items ++ own_names (tree_of c.args.receiver.now)) c.in_ok-find_in.ensures.found c.in_ok-find_in.ensures.inside)
-
-pub find_in_same-returns-clause-found : goal.find_in_same-returns-clause-found
-find_in_same-returns-clause-found t c =
-    IfOk-equal c.find_in-2.result _ _ _ c.find_in-2.ensures.found
-    (then_found (free (tree_of c.args.right.now)) c.args.found.now.items (free (tree_of c.args.left.now) c.args.inside.now.items) (c.args.inside.now.items ++ own_names (tree_of c.args.left.now)) c.in_ok-find_in.ensures.found c.in_ok-find_in.ensures.inside)
 
 pub find_in_while-returns-clause-found : goal.find_in_while-returns-clause-found
 find_in_while-returns-clause-found t c =
@@ -165,24 +130,6 @@ find_in_bound_block-returns-in_err-find_in_all-clause-inside t c = claims_nothin
 pub find_in_bound_block-returns-in_err-find_in_all-clause-found : goal.find_in_bound_block-returns-in_err-find_in_all-clause-found
 find_in_bound_block-returns-in_err-find_in_all-clause-found t c = claims_nothing c.from_residual-in_err-find_in_all.result _ c.from_residual-in_err-find_in_all.ensures.0
 
-pub find_in_call-returns-in_err-find_in-clause-inside : goal.find_in_call-returns-in_err-find_in-clause-inside
-find_in_call-returns-in_err-find_in-clause-inside t c = claims_nothing c.from_residual.result _ c.from_residual.ensures.0
-
-pub find_in_call-returns-in_err-find_in-clause-found : goal.find_in_call-returns-in_err-find_in-clause-found
-find_in_call-returns-in_err-find_in-clause-found t c = claims_nothing c.from_residual.result _ c.from_residual.ensures.0
-
-pub find_in_def-returns-in_err-find_in-clause-inside : goal.find_in_def-returns-in_err-find_in-clause-inside
-find_in_def-returns-in_err-find_in-clause-inside t c = claims_nothing c.from_residual.result _ c.from_residual.ensures.0
-
-pub find_in_def-returns-in_err-find_in-clause-found : goal.find_in_def-returns-in_err-find_in-clause-found
-find_in_def-returns-in_err-find_in-clause-found t c = claims_nothing c.from_residual.result _ c.from_residual.ensures.0
-
-pub find_in_def_list-returns-in_err-find_in-clause-inside : goal.find_in_def_list-returns-in_err-find_in-clause-inside
-find_in_def_list-returns-in_err-find_in-clause-inside t c = claims_nothing c.from_residual.result _ c.from_residual.ensures.0
-
-pub find_in_def_list-returns-in_err-find_in-clause-found : goal.find_in_def_list-returns-in_err-find_in-clause-found
-find_in_def_list-returns-in_err-find_in-clause-found t c = claims_nothing c.from_residual.result _ c.from_residual.ensures.0
-
 pub find_in_escape-returns-in_err-add_name-clause-inside : goal.find_in_escape-returns-in_err-add_name-clause-inside
 find_in_escape-returns-in_err-add_name-clause-inside t c = claims_nothing c.from_residual.result _ c.from_residual.ensures.0
 
@@ -213,35 +160,11 @@ find_in_if-returns-in_err-find_in_block-clause-inside t c = claims_nothing c.fro
 pub find_in_if-returns-in_err-find_in_block-clause-found : goal.find_in_if-returns-in_err-find_in_block-clause-found
 find_in_if-returns-in_err-find_in_block-clause-found t c = claims_nothing c.from_residual-in_err-find_in_block.result _ c.from_residual-in_err-find_in_block.ensures.0
 
-pub find_in_method-returns-in_err-add_all_bound-clause-inside : goal.find_in_method-returns-in_err-add_all_bound-clause-inside
-find_in_method-returns-in_err-add_all_bound-clause-inside t c = claims_nothing c.from_residual.result _ c.from_residual.ensures.0
-
-pub find_in_method-returns-in_err-add_all_bound-clause-found : goal.find_in_method-returns-in_err-add_all_bound-clause-found
-find_in_method-returns-in_err-add_all_bound-clause-found t c = claims_nothing c.from_residual.result _ c.from_residual.ensures.0
-
-pub find_in_method-returns-in_err-find_in_all-clause-inside : goal.find_in_method-returns-in_err-find_in_all-clause-inside
-find_in_method-returns-in_err-find_in_all-clause-inside t c = claims_nothing c.from_residual-in_err-find_in_all.result _ c.from_residual-in_err-find_in_all.ensures.0
-
-pub find_in_method-returns-in_err-find_in_all-clause-found : goal.find_in_method-returns-in_err-find_in_all-clause-found
-find_in_method-returns-in_err-find_in_all-clause-found t c = claims_nothing c.from_residual-in_err-find_in_all.result _ c.from_residual-in_err-find_in_all.ensures.0
-
-pub find_in_methods-returns-in_err-find_in_method-clause-inside : goal.find_in_methods-returns-in_err-find_in_method-clause-inside
-find_in_methods-returns-in_err-find_in_method-clause-inside t c = claims_nothing c.from_residual.result _ c.from_residual.ensures.0
-
-pub find_in_methods-returns-in_err-find_in_method-clause-found : goal.find_in_methods-returns-in_err-find_in_method-clause-found
-find_in_methods-returns-in_err-find_in_method-clause-found t c = claims_nothing c.from_residual.result _ c.from_residual.ensures.0
-
 pub find_in_object-returns-in_err-add_bound-clause-inside : goal.find_in_object-returns-in_err-add_bound-clause-inside
 find_in_object-returns-in_err-add_bound-clause-inside t c = claims_nothing c.from_residual.result _ c.from_residual.ensures.0
 
 pub find_in_object-returns-in_err-add_bound-clause-found : goal.find_in_object-returns-in_err-add_bound-clause-found
 find_in_object-returns-in_err-add_bound-clause-found t c = claims_nothing c.from_residual.result _ c.from_residual.ensures.0
-
-pub find_in_same-returns-in_err-find_in-clause-inside : goal.find_in_same-returns-in_err-find_in-clause-inside
-find_in_same-returns-in_err-find_in-clause-inside t c = claims_nothing c.from_residual.result _ c.from_residual.ensures.0
-
-pub find_in_same-returns-in_err-find_in-clause-found : goal.find_in_same-returns-in_err-find_in-clause-found
-find_in_same-returns-in_err-find_in-clause-found t c = claims_nothing c.from_residual.result _ c.from_residual.ensures.0
 
 pub find_in_try-returns-in_err-find_in_block-clause-inside : goal.find_in_try-returns-in_err-find_in_block-clause-inside
 find_in_try-returns-in_err-find_in_block-clause-inside t c = claims_nothing c.from_residual.result _ c.from_residual.ensures.0
@@ -249,14 +172,113 @@ find_in_try-returns-in_err-find_in_block-clause-inside t c = claims_nothing c.fr
 pub find_in_try-returns-in_err-find_in_block-clause-found : goal.find_in_try-returns-in_err-find_in_block-clause-found
 find_in_try-returns-in_err-find_in_block-clause-found t c = claims_nothing c.from_residual.result _ c.from_residual.ensures.0
 
-pub find_in_var-returns-in_err-find_in-clause-inside : goal.find_in_var-returns-in_err-find_in-clause-inside
-find_in_var-returns-in_err-find_in-clause-inside t c = claims_nothing c.from_residual.result _ c.from_residual.ensures.0
-
-pub find_in_var-returns-in_err-find_in-clause-found : goal.find_in_var-returns-in_err-find_in-clause-found
-find_in_var-returns-in_err-find_in-clause-found t c = claims_nothing c.from_residual.result _ c.from_residual.ensures.0
-
 pub find_in_while-returns-in_err-find_in-clause-inside : goal.find_in_while-returns-in_err-find_in-clause-inside
 find_in_while-returns-in_err-find_in-clause-inside t c = claims_nothing c.from_residual.result _ c.from_residual.ensures.0
 
 pub find_in_while-returns-in_err-find_in-clause-found : goal.find_in_while-returns-in_err-find_in-clause-found
 find_in_while-returns-in_err-find_in-clause-found t c = claims_nothing c.from_residual.result _ c.from_residual.ensures.0
+
+pub find_in-returns-in_ok-find_in-in-Def-clause-inside : goal.find_in-returns-in_ok-find_in-in-Def-clause-inside
+find_in-returns-in_ok-find_in-in-Def-clause-inside t c =
+    let is = ap own_names (tree_is_define c.in-Def.pattern c.in-Def.value c.in-Def.is c.deref-in-Def.ensures) in
+    IfOk-equal c.add_bound.result _ _ _ c.add_bound.ensures (then_inside c.args.inside.now.items (own_names (tree_of c.deref-in-Def.result.now)) (name_of c.in-Def.pattern) c.in_ok-find_in-in-Def.ensures.inside is)
+
+pub find_in-returns-in_ok-find_in-in-Def-clause-found : goal.find_in-returns-in_ok-find_in-in-Def-clause-found
+find_in-returns-in_ok-find_in-in-Def-clause-found t c = holds_anyway c.add_bound.result (c.in_ok-find_in-in-Def.ensures.found ∙ ap (λ t. with_all_new c.args.found.now.items (free t c.args.inside.now.items)) (sym (tree_is_define c.in-Def.pattern c.in-Def.value c.in-Def.is c.deref-in-Def.ensures)))
+
+pub find_in-returns-in_err-find_in-in-Def-clause-inside : goal.find_in-returns-in_err-find_in-in-Def-clause-inside
+find_in-returns-in_err-find_in-in-Def-clause-inside t c = claims_nothing c.from_residual.result _ c.from_residual.ensures.0
+
+pub find_in-returns-in_err-find_in-in-Def-clause-found : goal.find_in-returns-in_err-find_in-in-Def-clause-found
+find_in-returns-in_err-find_in-in-Def-clause-found t c = claims_nothing c.from_residual.result _ c.from_residual.ensures.0
+
+pub find_in-returns-in_ok-find_in-in-Var-clause-inside : goal.find_in-returns-in_ok-find_in-in-Var-clause-inside
+find_in-returns-in_ok-find_in-in-Var-clause-inside t c =
+    let is = ap own_names (tree_is_variable c.in-Var.name c.in-Var.value c.in-Var.is c.deref-in-Var.ensures) in
+    IfOk-equal c.add_name.result _ _ _ c.add_name.ensures (then_inside c.args.inside.now.items (own_names (tree_of c.deref-in-Var.result.now)) (variable_name c.in-Var.name ∷ []) c.in_ok-find_in-in-Var.ensures.inside is)
+
+pub find_in-returns-in_ok-find_in-in-Var-clause-found : goal.find_in-returns-in_ok-find_in-in-Var-clause-found
+find_in-returns-in_ok-find_in-in-Var-clause-found t c = holds_anyway c.add_name.result (c.in_ok-find_in-in-Var.ensures.found ∙ ap (λ t. with_all_new c.args.found.now.items (free t c.args.inside.now.items)) (sym (tree_is_variable c.in-Var.name c.in-Var.value c.in-Var.is c.deref-in-Var.ensures)))
+
+pub find_in-returns-in_err-find_in-in-Var-clause-inside : goal.find_in-returns-in_err-find_in-in-Var-clause-inside
+find_in-returns-in_err-find_in-in-Var-clause-inside t c = claims_nothing c.from_residual-in_err-find_in-in-Var.result _ c.from_residual-in_err-find_in-in-Var.ensures.0
+
+pub find_in-returns-in_err-find_in-in-Var-clause-found : goal.find_in-returns-in_err-find_in-in-Var-clause-found
+find_in-returns-in_err-find_in-in-Var-clause-found t c = claims_nothing c.from_residual-in_err-find_in-in-Var.result _ c.from_residual-in_err-find_in-in-Var.ensures.0
+
+pub find_in-returns-in_ok-find_in-in-Call-clause-inside : goal.find_in-returns-in_ok-find_in-in-Call-clause-inside
+find_in-returns-in_ok-find_in-in-Call-clause-inside t c =
+    let is = ap own_names (tree_is_call c.in-Call.receiver c.in-Call.field-1 c.in-Call.args c.in-Call.is c.deref-in-Call.ensures c.deref-in-Call-2.ensures c.deref-in-Call-3.ensures.value) in
+    IfOk-equal c.find_in_all.result _ _ _ c.find_in_all.ensures.inside (then_inside c.args.inside.now.items (own_names (tree_of c.deref-in-Call.result.now)) (own_names_in (trees_of c.deref-in-Call-3.result.now)) c.in_ok-find_in-in-Call.ensures.inside is)
+
+pub find_in-returns-in_ok-find_in-in-Call-clause-found : goal.find_in-returns-in_ok-find_in-in-Call-clause-found
+find_in-returns-in_ok-find_in-in-Call-clause-found t c =
+    IfOk-equal c.find_in_all.result _ _ _ c.find_in_all.ensures.found
+    (then_found (free_in (trees_of c.deref-in-Call-3.result.now)) c.args.found.now.items (free (tree_of c.deref-in-Call.result.now) c.args.inside.now.items) (c.args.inside.now.items ++ own_names (tree_of c.deref-in-Call.result.now)) c.in_ok-find_in-in-Call.ensures.found c.in_ok-find_in-in-Call.ensures.inside
+    ∙ ap (λ t. with_all_new c.args.found.now.items (free t c.args.inside.now.items)) (sym (tree_is_call c.in-Call.receiver c.in-Call.field-1 c.in-Call.args c.in-Call.is c.deref-in-Call.ensures c.deref-in-Call-2.ensures c.deref-in-Call-3.ensures.value)))
+
+pub find_in-returns-in_err-find_in-in-Call-clause-inside : goal.find_in-returns-in_err-find_in-in-Call-clause-inside
+find_in-returns-in_err-find_in-in-Call-clause-inside t c = claims_nothing c.from_residual-in_err-find_in-in-Call.result _ c.from_residual-in_err-find_in-in-Call.ensures.0
+
+pub find_in-returns-in_err-find_in-in-Call-clause-found : goal.find_in-returns-in_err-find_in-in-Call-clause-found
+find_in-returns-in_err-find_in-in-Call-clause-found t c = claims_nothing c.from_residual-in_err-find_in-in-Call.result _ c.from_residual-in_err-find_in-in-Call.ensures.0
+
+pub find_in-returns-in_ok-find_in-in-Same-clause-inside : goal.find_in-returns-in_ok-find_in-in-Same-clause-inside
+find_in-returns-in_ok-find_in-in-Same-clause-inside t c =
+    let is = ap own_names (tree_is_same c.in-Same.left c.in-Same.right c.in-Same.is c.deref-in-Same.ensures c.deref-in-Same-2.ensures) in
+    IfOk-equal c.find_in-in-Same-2.result _ _ _ c.find_in-in-Same-2.ensures.inside (then_inside c.args.inside.now.items (own_names (tree_of c.deref-in-Same.result.now)) (own_names (tree_of c.deref-in-Same-2.result.now)) c.in_ok-find_in-in-Same.ensures.inside is)
+
+pub find_in-returns-in_ok-find_in-in-Same-clause-found : goal.find_in-returns-in_ok-find_in-in-Same-clause-found
+find_in-returns-in_ok-find_in-in-Same-clause-found t c =
+    IfOk-equal c.find_in-in-Same-2.result _ _ _ c.find_in-in-Same-2.ensures.found
+    (then_found (free (tree_of c.deref-in-Same-2.result.now)) c.args.found.now.items (free (tree_of c.deref-in-Same.result.now) c.args.inside.now.items) (c.args.inside.now.items ++ own_names (tree_of c.deref-in-Same.result.now)) c.in_ok-find_in-in-Same.ensures.found c.in_ok-find_in-in-Same.ensures.inside
+    ∙ ap (λ t. with_all_new c.args.found.now.items (free t c.args.inside.now.items)) (sym (tree_is_same c.in-Same.left c.in-Same.right c.in-Same.is c.deref-in-Same.ensures c.deref-in-Same-2.ensures)))
+
+pub find_in-returns-in_err-find_in-in-Same-clause-inside : goal.find_in-returns-in_err-find_in-in-Same-clause-inside
+find_in-returns-in_err-find_in-in-Same-clause-inside t c = claims_nothing c.from_residual-in_err-find_in-in-Same.result _ c.from_residual-in_err-find_in-in-Same.ensures.0
+
+pub find_in-returns-in_err-find_in-in-Same-clause-found : goal.find_in-returns-in_err-find_in-in-Same-clause-found
+find_in-returns-in_err-find_in-in-Same-clause-found t c = claims_nothing c.from_residual-in_err-find_in-in-Same.result _ c.from_residual-in_err-find_in-in-Same.ensures.0
+
+pub find_in-returns-in_ok-find_in-in-DefList-clause-inside : goal.find_in-returns-in_ok-find_in-in-DefList-clause-inside
+find_in-returns-in_ok-find_in-in-DefList-clause-inside t c =
+    let is = ap own_names (tree_is_define_list c.in-DefList.patterns c.in-DefList.value c.in-DefList.is c.deref-in-DefList.ensures c.deref-in-DefList-2.ensures c.deref-in-DefList-3.ensures.value) in
+    IfOk-equal c.add_all_bound.result _ _ _ c.add_all_bound.ensures (then_inside c.args.inside.now.items (own_names (tree_of c.deref-in-DefList.result.now)) (names_of_all c.deref-in-DefList-3.result.now) c.in_ok-find_in-in-DefList.ensures.inside is)
+
+pub find_in-returns-in_ok-find_in-in-DefList-clause-found : goal.find_in-returns-in_ok-find_in-in-DefList-clause-found
+find_in-returns-in_ok-find_in-in-DefList-clause-found t c = holds_anyway c.add_all_bound.result (c.in_ok-find_in-in-DefList.ensures.found ∙ ap (λ t. with_all_new c.args.found.now.items (free t c.args.inside.now.items)) (sym (tree_is_define_list c.in-DefList.patterns c.in-DefList.value c.in-DefList.is c.deref-in-DefList.ensures c.deref-in-DefList-2.ensures c.deref-in-DefList-3.ensures.value)))
+
+pub find_in-returns-in_err-find_in-in-DefList-clause-inside : goal.find_in-returns-in_err-find_in-in-DefList-clause-inside
+find_in-returns-in_err-find_in-in-DefList-clause-inside t c = claims_nothing c.from_residual-in_err-find_in-in-DefList.result _ c.from_residual-in_err-find_in-in-DefList.ensures.0
+
+pub find_in-returns-in_err-find_in-in-DefList-clause-found : goal.find_in-returns-in_err-find_in-in-DefList-clause-found
+find_in-returns-in_err-find_in-in-DefList-clause-found t c = claims_nothing c.from_residual-in_err-find_in-in-DefList.result _ c.from_residual-in_err-find_in-in-DefList.ensures.0
+
+pub find_in_methods-loop-method-preserved : goal.find_in_methods-loop-method-preserved
+find_in_methods-loop-method-preserved t c =
+    let m = c.method-item.result in
+    let was = c.loop-method.inside.items in
+    let next = methods_from c.args.methods.now c.loop-method.method-index m c.loop-method-test.true c.method-item.is in
+    let parameters = c.deref-in-loop-method.ensures.value ∙ ap (λ v. v.items) c.deref.ensures in
+    let body = body_is m.body c.deref-in-loop-method-2.ensures c.deref-in-loop-method-3.ensures.value in
+    let entered = c.in_ok-add_all_bound.ensures ∙ ap (λ ps. was ++ names_of_all ps) parameters in
+    let outer : c.len-outer.result ≡ length c.args.inside.now.items = search rules in
+    let ended = truncated c.len-outer.result (names_of_all m.parameters.value.items) _ (outer ∙ sym (ap length c.loop-method.invariant.inside)) entered c.in_ok-find_in_all.ensures.inside c.truncate.ensures.items in
+    record {
+      inside = ended ∙ c.loop-method.invariant.inside;
+      found = then_found (free_of (methods_of (drop (c.loop-method.method-index + 1) c.args.methods.now))) c.loop-method.found.items (free_in (trees_of m.body.value.items) (was ++ names_of_all m.parameters.value.items)) was
+          (c.in_ok-find_in_all.ensures.found ∙ λ i. with_all_new c.loop-method.found.items (free_in (body i) (entered i))) ended
+          ∙ ap (λ ms. with_all_new c.loop-method.found.items (free_of ms was)) (sym next) ∙ c.loop-method.invariant.found;
+    }
+
+pub find_in_methods-returns-in_err-add_all_bound-clause-inside : goal.find_in_methods-returns-in_err-add_all_bound-clause-inside
+find_in_methods-returns-in_err-add_all_bound-clause-inside t c = claims_nothing c.from_residual.result _ c.from_residual.ensures.0
+
+pub find_in_methods-returns-in_err-add_all_bound-clause-found : goal.find_in_methods-returns-in_err-add_all_bound-clause-found
+find_in_methods-returns-in_err-add_all_bound-clause-found t c = claims_nothing c.from_residual.result _ c.from_residual.ensures.0
+
+pub find_in_methods-returns-in_err-find_in_all-clause-inside : goal.find_in_methods-returns-in_err-find_in_all-clause-inside
+find_in_methods-returns-in_err-find_in_all-clause-inside t c = claims_nothing c.from_residual-in_err-find_in_all.result _ c.from_residual-in_err-find_in_all.ensures.0
+
+pub find_in_methods-returns-in_err-find_in_all-clause-found : goal.find_in_methods-returns-in_err-find_in_all-clause-found
+find_in_methods-returns-in_err-find_in_all-clause-found t c = claims_nothing c.from_residual-in_err-find_in_all.result _ c.from_residual-in_err-find_in_all.ensures.0

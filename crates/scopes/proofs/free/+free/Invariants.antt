@@ -31,15 +31,6 @@ decreases-find_in_all l = 4 * goal.size-find_in_all l + 1
 abbrev pub decreases-find_in_assigned : goal.decreases-find_in_assigned
 decreases-find_in_assigned l = 4 * goal.size-find_in_assigned l + 1
 
-abbrev pub decreases-find_in_def : goal.decreases-find_in_def
-decreases-find_in_def l = 4 * goal.size-find_in_def l + 1
-
-abbrev pub decreases-find_in_var : goal.decreases-find_in_var
-decreases-find_in_var l = 4 * goal.size-find_in_var l + 1
-
-abbrev pub decreases-find_in_def_list : goal.decreases-find_in_def_list
-decreases-find_in_def_list l = 4 * goal.size-find_in_def_list l + 1
-
 abbrev pub decreases-find_in_block : goal.decreases-find_in_block
 decreases-find_in_block l = 4 * goal.size-find_in_block l + 2
 
@@ -49,9 +40,6 @@ decreases-find_in_bound_block l = 4 * goal.size-find_in_bound_block l + 2
 abbrev pub decreases-find_in_escape : goal.decreases-find_in_escape
 decreases-find_in_escape l = 4 * goal.size-find_in_escape l + 2
 
-abbrev pub decreases-find_in_method : goal.decreases-find_in_method
-decreases-find_in_method l = 4 * goal.size-find_in_method l
-
 abbrev pub decreases-find_in_methods : goal.decreases-find_in_methods
 decreases-find_in_methods l = 4 * goal.size-find_in_methods l + 1
 
@@ -59,12 +47,6 @@ abbrev pub decreases-find_in_object : goal.decreases-find_in_object
 decreases-find_in_object l = 4 * goal.size-find_in_object l + 2
 
 -- of two parts the greater depth
-abbrev pub decreases-find_in_call : goal.decreases-find_in_call
-decreases-find_in_call l = 4 * (max (goal.size-find_in_call l) (most (λ e. the_size e) l.args.now)) + 2
-
-abbrev pub decreases-find_in_same : goal.decreases-find_in_same
-decreases-find_in_same l = 4 * (max (goal.size-find_in_same l) (the_size l.right.now)) + 1
-
 abbrev pub decreases-find_in_if : goal.decreases-find_in_if
 decreases-find_in_if l = 4 * (max (max (goal.size-find_in_if l) (most (λ e. the_size e) l.first.now)) (most (λ e. the_size e) l.second.now)) + 3
 
