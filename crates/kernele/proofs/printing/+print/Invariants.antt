@@ -39,12 +39,6 @@ decreases-write_receiver l = 6 * goal.size-write_receiver l + 2
 abbrev pub decreases-write_parts : goal.decreases-write_parts
 decreases-write_parts l = 6 * goal.size-write_parts l + 3
 
-abbrev pub decreases-write_message : goal.decreases-write_message
-decreases-write_message l = 6 * goal.size-write_message l + 4
-
-abbrev pub decreases-write_list : goal.decreases-write_list
-decreases-write_list l = 6 * goal.size-write_list l + 4
-
 abbrev pub decreases-write_def : goal.decreases-write_def
 decreases-write_def l = 6 * goal.size-write_def l + 3
 
@@ -56,15 +50,6 @@ decreases-write_assign l = 6 * goal.size-write_assign l + 3
 
 abbrev pub decreases-write_condition : goal.decreases-write_condition
 decreases-write_condition l = 6 * goal.size-write_condition l + 3
-
-abbrev pub decreases-write_source : goal.decreases-write_source
-decreases-write_source l = 6 * goal.size-write_source l + 3
-
-abbrev pub decreases-write_throw : goal.decreases-write_throw
-decreases-write_throw l = 6 * goal.size-write_throw l + 3
-
-abbrev pub decreases-write_var : goal.decreases-write_var
-decreases-write_var l = 6 * goal.size-write_var l + 4
 
 abbrev pub decreases-write_method : goal.decreases-write_method
 decreases-write_method l = 6 * goal.size-write_method l
