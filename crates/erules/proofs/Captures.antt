@@ -121,6 +121,11 @@ given_none (v ∷ w ∷ vs) h g = refl
 pub capture_ends : (ns : Nouns) (x y : Name) (xs : List Name) (a : At) (all : Capture) → None ≡ sought x a → y ≡ x → all_captured (captured ns) (x ∷ xs) a ≡ all → missing y ≡ all
 capture_ends ns x y xs a all n e h = ap missing e ∙ sym (missing_stays x xs a) ∙ ap (λ m. all_captured (and_captured (captured ns) x m) xs a) n ∙ h
 
+-- the next name stands for something
+pub capture_goes : (ns ms : Nouns) (x : Name) (b d : Bind) (xs : List Name) (a : At) (all : Capture) → Some b ≡ sought x a → d ≡ b → ms ≡ (x, d) ∷ ns → all_captured (captured ns) (x ∷ xs) a ≡ all → all_captured (captured ms) xs a ≡ all
+capture_goes ns ms x b d xs a all s e m h =
+    ap (λ ns. all_captured (captured ns) xs a) (m ∙ ap (λ b. (x, b) ∷ ns) e) ∙ ap (λ m. all_captured (and_captured (captured ns) x m) xs a) s ∙ h
+
 not_missing : (ms : Nouns) (x : Name) → captured ms ≡ missing x → ⊥
 not_missing ms x e = cc
 

@@ -22,6 +22,11 @@ open_here xs older i j e t = sym (ap (λ ys. is_open j (opened_of ys)) e ∙ ap 
 pub open_on : (xs older : List EjId) (i j : EjId) → xs ≡ older ++ i ∷ [] → same_ejector i j ≡ false → is_open j (opened_of older) ≡ is_open j (opened_of xs)
 open_on xs older i j e t = sym (ap (λ ys. is_open j (opened_of ys)) e ∙ ap (is_open j) (opened_of-push older i) ∙ ap (λ b. cond b true (is_open j (opened_of older))) t)
 
+-- no ejector is left
+pub open_nowhere : (xs : List EjId) (j : EjId) → length xs ≡ 0 → false ≡ is_open j (opened_of xs)
+open_nowhere [] j e = refl
+open_nowhere (x ∷ xs) j e = absurd (omega (arith, e))
+
 ejectors_after-split : (js xs : List EjId) → ejectors_after js xs ≡ opened_of xs ++ js
 ejectors_after-split js [] = refl
 ejectors_after-split js (x ∷ xs) =

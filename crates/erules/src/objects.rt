@@ -125,15 +125,35 @@ fn place(
     if w.draft.object_count() >= MAX_OBJECTS {
         return Ok(End::Halt(Halt::Abandoned(Abandon::Size)));
     }
-    let made = Made {
-        own: pattern.share()?,
-        captured: Arc::new(w.alloc, nouns)?,
-        methods: Arc::try_clone(methods)?,
-        index: share_index(index)?,
-    };
+    let made = make(w.alloc, pattern, nouns, methods, index)?;
     let object = Value::Object(w.draft.new_object(made)?);
     match_pattern(w, pattern, &object)?;
     Ok(End::Value(object))
+}
+
+/// What an object with these names is made of. It shares its pattern and its methods with its definition.
+fn make(
+    alloc: Global,
+    pattern: &Pattern,
+    nouns: Vec<Noun>,
+    methods: &Arc<Vec<MethodCode>>,
+    index: &Option<Arc<MethodIndex>>,
+) -> Result<Made, AllocError>
+    requires fits { fits_methods (names_of nouns.items ++ only_names (name_of pattern.now)) methods.now.value.items }
+    requires indexed { index_fits (index_in index.now) (methods_of_codes methods.now.value.items) }
+    ensures { IfOk result (λ made. object_of made
+        ≡ record { own = pattern.now; captured = nouns_of nouns.items; methods = methods_of_codes methods.now.value.items }) }
+{
+    let captured = Arc::new(alloc, nouns)?;
+    let own = pattern.share()?;
+    let methods = Arc::try_clone(methods)?;
+    let index = share_index(index)?;
+    Ok(Made {
+        own,
+        captured,
+        methods,
+        index,
+    })
 }
 
 /// What a call on an object leads to.
