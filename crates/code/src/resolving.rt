@@ -6,7 +6,7 @@ ghost use Rattle.scopes.specs.Scope.{name_of};
 ghost use Rattle.code.specs.View.{trees_of_codes};
 ghost use Rattle.code.specs.Frames.{fits_all, only_names};
 ghost use Rattle.code.specs.Props.{fits_all-prop};
-ghost use Rattle.code.specs.Resolves.{Resolves, ResolvesAll, ResolvesBlock, ResolvesMethod, ResolvesMethods};
+ghost use Rattle.code.specs.Resolves.{Resolves, ResolvesAll, ResolvesBlock, ResolvesMethods};
 
 use crate::code::{Code, MethodCode};
 use crate::frame::{add_all_bound, add_bound, add_name, find_place, place_all, share_pattern};
@@ -104,25 +104,12 @@ fn resolve_row(
 ) -> Result<Arc<Vec<Code>>, AllocError>
     ensures { IfOk result (λ cs. ResolvesAll own_scope frame.old.items (trees_of row.now.value.items) cs.value.items frame.new.items) }
 {
-    let codes = resolve_all(alloc, row, own_scope, frame)?;
-    Ok(Arc::new(alloc, codes)?)
-}
-
-#[cycle(resolve)]
-fn resolve_all(
-    alloc: Global,
-    trees: &[Expr],
-    own_scope: bool,
-    frame: &mut Vec<Text>,
-) -> Result<Vec<Code>, AllocError>
-    ensures { IfOk result (λ cs. ResolvesAll own_scope frame.old.items (trees_of trees.now) cs.items frame.new.items) }
-{
     let mut codes = Vec::new(alloc);
-    for tree in trees {
+    for tree in row.iter() {
         let code = resolve_expr(alloc, tree, own_scope, frame)?;
         codes.push(code)?;
     }
-    Ok(codes)
+    Ok(Arc::new(alloc, codes)?)
 }
 
 /// A block: its names end with it.
@@ -355,6 +342,7 @@ fn resolve_object(
     ))
 }
 
+/// The body of a method begins with its parameters behind the names of the object.
 #[cycle(resolve)]
 fn resolve_methods(
     alloc: Global,
@@ -363,31 +351,17 @@ fn resolve_methods(
 ) -> Result<Vec<MethodCode>, AllocError>
     ensures { IfOk result (λ cs. ResolvesMethods frame.old.items (methods_of methods.now) cs.items) }
 {
+    let captured = frame.len();
     let mut codes = Vec::new(alloc);
     for method in methods {
-        let code = resolve_method(alloc, method, frame)?;
-        codes.push(code)?;
+        add_all_bound(&method.parameters, false, frame)?;
+        let body = resolve_row(alloc, &method.body, false, frame)?;
+        frame.truncate(captured);
+        codes.push(MethodCode {
+            verb: method.verb.share()?,
+            parameters: Arc::try_clone(&method.parameters)?,
+            body,
+        })?;
     }
     Ok(codes)
-}
-
-/// The body of a method begins with its parameters behind the names of the object.
-#[cycle(resolve)]
-fn resolve_method(
-    alloc: Global,
-    method: &Method,
-    frame: &mut Vec<Text>,
-) -> Result<MethodCode, AllocError>
-    ensures code { IfOk result (λ c. ResolvesMethod frame.old.items method.now c) }
-    ensures frame { OnOk result (frame.new.items ≡ frame.old.items) }
-{
-    let captured = frame.len();
-    add_all_bound(&method.parameters, false, frame)?;
-    let body = resolve_row(alloc, &method.body, false, frame)?;
-    frame.truncate(captured);
-    Ok(MethodCode {
-        verb: method.verb.share()?,
-        parameters: Arc::try_clone(&method.parameters)?,
-        body,
-    })
 }

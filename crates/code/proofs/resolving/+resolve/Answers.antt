@@ -1,14 +1,15 @@
-use Rattle.std.proofs.Common.{◌∙◌, ap, sym, subst, refl, arith, rules, [], ◌∷◌}
+use Rattle.std.proofs.Common.{◌≡◌, ◌++◌, length, ◌∙◌, ap, sym, subst, refl, arith, rules, [], ◌∷◌}
 use Rattle.std.proofs.Math.Path.{transport}
 use Rattle.std.proofs.lemmas.Result.{IfOk-weaker}
-use Rattle.kernele.specs.View.{tree_of, methods_of}
-use Rattle.scopes.specs.Scope.{nodes}
+use Rattle.kernele.specs.View.{tree_of, trees_of, methods_of}
+use Rattle.scopes.specs.Scope.{nodes, nodes_in, names_of_all}
 use Rattle.kernele.proofs.Views.{tree_of-Call, tree_of-List, tree_of-Hide, tree_of-If, tree_of-While, tree_of-For, tree_of-Try, tree_of-Object, tree_of-Escape}
 use Rattle.scopes.specs.Free.{captures}
 use Rattle.code.specs.View.{methods_of_codes}
 use Rattle.code.specs.Index.{index_in, index_fits}
-use Rattle.code.specs.Frames.{all_placed, captured_names_of}
-use Rattle.code.specs.Resolves.{ResolvesMethod, ResolvesMethods}
+use Rattle.code.specs.Frames.{all_placed, captured_names_of, only_names}
+use Rattle.code.specs.Resolves.{ResolvesAll, ResolvesMethod, ResolvesMethods}
+use Rattle.code.specs.declared.code.MethodCode.{MethodCode}
 use Rattle.code.proofs.Growing.{truncated}
 use Rattle.code.proofs.Made.{resolved_as, resolved_call, resolved_list, resolved_hide, resolved_if, resolved_while, resolved_for, resolved_try, resolved_escape, resolved_object, resolved_block, all_more, all_pushed, all_end, all_done, methods_more, methods_pushed, methods_end, methods_done}
 use Rattle.code.proofs.Ranks.{part_nodes, method_nodes}
@@ -68,27 +69,38 @@ resolve_expr-returns-in-Object t c = IfOk-weaker _ _ _ (λ d h. resolved_as (ap 
 pub resolve_expr-returns-in-Escape : goal.resolve_expr-returns-in-Escape
 resolve_expr-returns-in-Escape t c = IfOk-weaker _ _ _ (λ d h. resolved_as (ap tree_of c.in-Escape.is ∙ tree_of-Escape c.in-Escape.name c.in-Escape.body) (h c.args.own_scope)) c.resolve_escape.ensures
 
-pub resolve_all-resolve_expr-requires : goal.resolve_all-resolve_expr-requires
-resolve_all-resolve_expr-requires t c = (omega (arith, part_nodes c.args.trees.now c.loop-tree.tree-index c.tree-item.result c.loop-tree-test.true c.tree-item.is), tt)
+pub resolve_row-resolve_expr-requires : goal.resolve_row-resolve_expr-requires
+resolve_row-resolve_expr-requires t c =
+    let same = c.deref-tree-items.ensures.value ∙ ap (λ v. v.items) c.deref.ensures in
+    (omega (arith, part_nodes c.deref-tree-items.result.now c.loop-tree.tree-index c.tree-item.result c.loop-tree-test.true c.tree-item.is, ap (λ xs. nodes_in (trees_of xs)) same), tt)
 
-pub resolve_all-loop-tree-preserved : goal.resolve_all-loop-tree-preserved
-resolve_all-loop-tree-preserved t c = λ rest next h. all_pushed c.loop-tree.codes.items _ c.in_ok-code.code rest c.in_ok-push.ensures.items
-    (c.loop-tree.invariant (c.in_ok-code.code ∷ rest) next (all_more c.args.trees.now c.loop-tree.tree-index c.tree-item.result c.in_ok-code.code rest c.loop-tree-test.true c.tree-item.is c.in_ok-code.ensures h))
+pub resolve_row-loop-tree-preserved : goal.resolve_row-loop-tree-preserved
+resolve_row-loop-tree-preserved t c = λ rest next h. all_pushed c.loop-tree.codes.items _ c.in_ok-code.code rest c.in_ok-push.ensures.items
+    (c.loop-tree.invariant (c.in_ok-code.code ∷ rest) next (all_more c.deref-tree-items.result.now c.loop-tree.tree-index c.tree-item.result c.in_ok-code.code rest c.loop-tree-test.true c.tree-item.is c.in_ok-code.ensures h))
 
-pub resolve_all-returns : goal.resolve_all-returns
-resolve_all-returns t c = all_done c.loop-tree.codes.items (c.loop-tree.invariant [] c.loop-tree.frame.items (all_end c.loop-tree.frame.items c.args.trees.now c.loop-tree.tree-index c.loop-tree-test.false))
+pub resolve_row-returns : goal.resolve_row-returns
+resolve_row-returns t c =
+    let same = c.deref-tree-items.ensures.value ∙ ap (λ v. v.items) c.deref.ensures in
+    let all = all_done c.loop-tree.codes.items (c.loop-tree.invariant [] c.loop-tree.frame.items (all_end c.loop-tree.frame.items c.deref-tree-items.result.now c.loop-tree.tree-index c.loop-tree-test.false)) in
+    transport (λ i. ResolvesAll c.args.own_scope c.args.frame.now.items (trees_of (same i)) (sym c.in_ok-new.ensures.ok i).items c.loop-tree.frame.items) all
 
-pub resolve_methods-resolve_method-requires : goal.resolve_methods-resolve_method-requires
-resolve_methods-resolve_method-requires t c = (omega (arith, method_nodes c.args.methods.now c.loop-method.method-index c.method-item.result c.loop-method-test.true c.method-item.is), tt)
+pub resolve_methods-resolve_row-requires : goal.resolve_methods-resolve_row-requires
+resolve_methods-resolve_row-requires t c = (omega (arith, method_nodes c.args.methods.now c.loop-method.method-index c.method-item.result c.loop-method-test.true c.method-item.is), tt)
 
 pub resolve_methods-loop-method-preserved : goal.resolve_methods-loop-method-preserved
 resolve_methods-loop-method-preserved t c =
-    let stays = c.in_ok-code.ensures.frame ∙ c.loop-method.invariant.stays in
-    let code = subst (λ frame. ResolvesMethod frame c.method-item.result c.in_ok-code.code) c.loop-method.invariant.stays c.in_ok-code.ensures.code in
+    let m = c.method-item.result in
+    let was = c.loop-method.frame.items in
+    let outer : c.len-captured.result ≡ length c.args.frame.now.items = search rules in
+    let copied : c.in_ok-try_clone.field-0.value.items ≡ m.parameters.value.items = search rules in
+    let code : MethodCode = record { verb = c.in_ok-share.field-0; parameters = c.in_ok-try_clone.field-0; body = c.in_ok-body.body } in
+    let entered = c.in_ok-add_all_bound.ensures ∙ ap (λ ps. was ++ only_names (names_of_all ps)) (c.deref-in-loop-method.ensures.value ∙ ap (λ v. v.items) c.deref.ensures) in
+    let stays = truncated {f = was} c.len-captured.result _ _ (outer ∙ sym (ap length c.loop-method.invariant.stays)) entered c.in_ok-body.ensures.grown c.truncate.ensures.items ∙ c.loop-method.invariant.stays in
+    let made : ResolvesMethod was m code = record { verb = c.in_ok-share.ensures; parameters = copied; body = resolved_block entered c.in_ok-body.ensures } in
     record {
       stays = stays;
-      code = λ rest h. methods_pushed c.loop-method.codes.items _ c.in_ok-code.code rest c.in_ok-push.ensures.items
-          (c.loop-method.invariant.code (c.in_ok-code.code ∷ rest) (methods_more c.args.methods.now c.loop-method.method-index c.method-item.result c.in_ok-code.code rest c.loop-method-test.true c.method-item.is code h));
+      code = λ rest h. methods_pushed c.loop-method.codes.items _ code rest c.in_ok-push.ensures.items
+          (c.loop-method.invariant.code (code ∷ rest) (methods_more c.args.methods.now c.loop-method.method-index m code rest c.loop-method-test.true c.method-item.is (subst (λ frame. ResolvesMethod frame m code) c.loop-method.invariant.stays made) h));
     }
 
 pub resolve_methods-returns : goal.resolve_methods-returns

@@ -14,9 +14,6 @@ decreases-resolve_expr l = 6 * nodes (tree_of l.e.now)
 abbrev pub decreases-resolve_part : goal.decreases-resolve_part
 decreases-resolve_part l = 6 * nodes (tree_of l.e.now.value) + 1
 
-abbrev pub decreases-resolve_all : goal.decreases-resolve_all
-decreases-resolve_all l = 6 * nodes_in (trees_of l.trees.now) + 1
-
 abbrev pub decreases-resolve_row : goal.decreases-resolve_row
 decreases-resolve_row l = 6 * nodes_in (trees_of l.row.now.value.items) + 2
 
@@ -25,9 +22,6 @@ decreases-resolve_block l = 6 * nodes_in (trees_of l.body.now.value.items) + 3
 
 abbrev pub decreases-resolve_bound_block : goal.decreases-resolve_bound_block
 decreases-resolve_bound_block l = 6 * nodes_in (trees_of l.body.now.value.items) + 3
-
-abbrev pub decreases-resolve_method : goal.decreases-resolve_method
-decreases-resolve_method l = 6 * nodes_in (trees_of l.method.now.body.value.items) + 3
 
 abbrev pub decreases-resolve_methods : goal.decreases-resolve_methods
 decreases-resolve_methods l = 6 * nodes_of (methods_of l.methods.now) + 4
@@ -69,9 +63,9 @@ abbrev pub decreases-resolve_escape : goal.decreases-resolve_escape
 decreases-resolve_escape l = 6 * nodes_in (trees_of l.body.now.value.items) + 5
 
 -- whatever the trees that are left give, the code so far and then it is what all give
-abbrev pub invariant-resolve_all-loop-tree : goal.invariant-resolve_all-loop-tree
-invariant-resolve_all-loop-tree l = (rest : List Code) (next : Frame) → ResolvesAll l.own_scope l.frame.items (trees_of (drop l.tree-index l.trees)) rest next
-    → ResolvesAll l.own_scope l.initial.frame.items (trees_of l.trees) (l.codes.items ++ rest) next
+abbrev pub invariant-resolve_row-loop-tree : goal.invariant-resolve_row-loop-tree
+invariant-resolve_row-loop-tree l = (rest : List Code) (next : Frame) → ResolvesAll l.own_scope l.frame.items (trees_of (drop l.tree-index l.tree-items)) rest next
+    → ResolvesAll l.own_scope l.initial.frame.items (trees_of l.tree-items) (l.codes.items ++ rest) next
 
 -- the same of methods, which leave the frame as it is
 abbrev pub invariant-resolve_methods-loop-method : goal.invariant-resolve_methods-loop-method
