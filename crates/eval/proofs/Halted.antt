@@ -15,7 +15,12 @@ use Rattle.erules.specs.View.{at, halt_of}
 use Rattle.erules.specs.declared.end.Halt.{Halt}
 use Rattle.erules.specs.declared.working.Working.{Working}
 use Rattle.erules.proofs.Steps.{block_end, items_end}
-use Rattle.eval.specs.Halting.{ItemsHalt, BlockHalts}
+use Rattle.eval.specs.Halting.{BlockHalts}
+
+-- items gave a value, or were halted
+abbrev pub ItemsHalt : ℕ → Trees → At → Option Halt → At → Type 0
+ItemsHalt k ts a None b = (v : Val) × Items k null ts a (value v) b
+ItemsHalt k ts a (Some h) b = Items k null ts a (halt (halt_of h)) b
 
 -- what the end of items says of their halt
 pub items_halted : {k : ℕ} {ts : Trees} {a b : At} {o : End} (h : Option Halt) → Items k null ts a o b → MatchOption h ((v : Val) × (o ≡ value v)) (λ s. o ≡ halt (halt_of s)) → ItemsHalt k ts a h b

@@ -10,7 +10,7 @@ use Rattle.erules.specs.Outcomes.{halted, value}
 use Rattle.erules.specs.View.{at, end_of, halt_of, choice_view, listing_view, target_view}
 use Rattle.erules.specs.Rules.{at_budget, at_depth, run_null, run_bool, run_int, run_text, run_noun, run_define, run_variable, run_assign, run_call_receiver, run_call_gives, run_list, run_same_left, run_same, goes, run_define_list, run_hide, run_throw, run_if_goes, run_if_ends, run_while_again, run_while_halts, run_while_done, run_while_ends, run_for, run_for_ends, run_try, run_try_caught, run_object, args_halt}
 use Rattle.erules.proofs.Steps.{node, child, tested, children, slice_of, if_both, runs_as, runs_to, ends_to, parts_run, args_begin, args_pushed, args_more, args_no_more, args_end, args_done, args_as, only_one, one_arg, items_more, items_no_more, items_end, blocks, taking, taking_ending, each, block_end, taking_end, each_more, each_no_more, each_end, next_round}
-use Rattle.eval.proofs.Halted.{all_done, halts_as, items_halted, both_halt, block_halts, halting, to_the_end}
+use Rattle.eval.proofs.Halted.{ItemsHalt, all_done, halts_as, items_halted, both_halt, block_halts, halting, to_the_end}
 use Rattle.eval.proofs.Entered.{call_leads, leads_as, entered, call_entered, escape_over}
 use Rattle.erules.proofs.Scopes.{truncated, truncated-length}
 use Rattle.erules.proofs.Added.{goes_add, block_stays, taking_stays}
@@ -23,7 +23,6 @@ use Rattle.erules.specs.Locals.{locals_of}
 use Rattle.erules.specs.Fits.{fits_at, all_fit_at}
 use Rattle.erules.proofs.Grown.{round_grow}
 use Rattle.erules.proofs.Spent.{condition_less, block_left}
-use Rattle.eval.specs.Halting.{ItemsHalt}
 use Rattle.eval.proofs.+evaluate.Goals as goal
 use Rattle.eval.proofs.+evaluate.Goals.{control::run_block-then-done-items, control::run_block-else-done-items+in_ok-ended}
 
