@@ -12,7 +12,7 @@ use Rattle.heap.specs.State.{frame_of, slot_cell, held, write}
 use Rattle.erules.specs.At.{At}
 use Rattle.erules.specs.Fits.{all_fit_at, fits_at, frame_at, frame_behind}
 use Rattle.erules.specs.Leaves.{Leaf, Operands, AtHand, GoesOn}
-use Rattle.erules.specs.Outcomes.{End, value, reply_end}
+use Rattle.erules.specs.Outcomes.{value, reply_end}
 use Rattle.erules.specs.Rules as rules
 use Rattle.erules.specs.Rules.{assigned, assigned_end, noun_end, sought, sought_slot, begun, Ends, at_node, Runs, run_int, run_noun, run_assign, run_call_gives, args_none, args_next}
 use Rattle.erules.proofs.Steps.{runs_as, runs_to, items_more}

@@ -1,4 +1,4 @@
-use Rattle.std.proofs.Common.{◌≡◌, ◌≤◌, drop, length}
+use Rattle.std.proofs.Common.{◌≡◌, drop}
 use Rattle.erules.specs.Fits.{all_fit_at}
 use Rattle.erules.specs.Leaves.{GoesOn}
 use Rattle.erules.specs.View.{at}

@@ -1,8 +1,8 @@
 use Rattle.std.proofs.Common.{arith, ap}
 use Rattle.std.proofs.lemmas.Result.{on_ok_weaker, on_err_weaker}
 use Rattle.heap.specs.View.{state_of}
-use Rattle.heap.specs.Drafts.{is_of, with_slots, with_objects}
-use Rattle.heap.proofs.Overlaid.{own_there, own_written, beneath_written}
+use Rattle.heap.specs.Drafts.{with_slots, with_objects}
+use Rattle.heap.proofs.Overlaid.{own_written, beneath_written}
 use Rattle.heap.proofs.draft.Draft.write_slot.Goals as goal
 
 pub returns-then-is_own-clause-ok : goal.returns-then-is_own-clause-ok
