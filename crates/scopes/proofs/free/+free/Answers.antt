@@ -1,4 +1,4 @@
-use Rattle.std.proofs.Common.{◌≡◌, rules, [], ◌∷◌, refl, ap, sym, ◌∙◌, ◌++◌, ◌+◌, drop, length}
+use Rattle.std.proofs.Common.{◌≡◌, rules, append-nil, [], ◌∷◌, refl, ap, sym, ◌∙◌, ◌++◌, ◌+◌, drop, length}
 use Rattle.std.proofs.lemmas.Result.{IfOk-equal}
 use Rattle.scopes.specs.Scope.{own_names, own_names_in, name_of, names_of_all, variable_name}
 use Rattle.scopes.specs.Free.{free, free_in, free_of}
@@ -29,6 +29,41 @@ pub find_in-returns-in-Escape-clause-found : goal.find_in-returns-in-Escape-clau
 find_in-returns-in-Escape-clause-found t c =
     let is = tree_is_escape c.in-Escape.name c.in-Escape.body c.in-Escape.is refl c.deref-in-Escape.ensures c.deref-in-Escape-2.ensures.value in
     IfOk-equal c.find_in_escape.result _ _ _ c.find_in_escape.ensures.found (ap (λ t. with_all_new c.args.found.now.items (free t c.args.inside.now.items)) (sym is))
+
+pub find_in-returns-in-Hide-clause-inside : goal.find_in-returns-in-Hide-clause-inside
+find_in-returns-in-Hide-clause-inside t c =
+    let is = tree_is_hide c.in-Hide.body c.in-Hide.is c.deref-in-Hide.ensures c.deref-in-Hide-2.ensures.value in
+    IfOk-equal c.find_in_block.result _ _ _ c.find_in_block.ensures.inside (sym (append-nil c.args.inside.now.items) ∙ ap (λ t. c.args.inside.now.items ++ own_names t) (sym is))
+
+pub find_in-returns-in-If-clause-inside : goal.find_in-returns-in-If-clause-inside
+find_in-returns-in-If-clause-inside t c =
+    let is = tree_is_if c.in-If.condition c.in-If.first c.in-If.second c.in-If.is c.deref-in-If.ensures c.deref-in-If-2.ensures c.deref-in-If-3.ensures.value c.deref-in-If-4.ensures c.deref-in-If-5.ensures.value in
+    IfOk-equal c.find_in_if.result _ _ _ c.find_in_if.ensures.inside (ap (λ t. c.args.inside.now.items ++ own_names t) (sym is))
+
+pub find_in-returns-in-While-clause-inside : goal.find_in-returns-in-While-clause-inside
+find_in-returns-in-While-clause-inside t c =
+    let is = tree_is_while c.in-While.condition c.in-While.body c.in-While.is c.deref-in-While.ensures c.deref-in-While-2.ensures c.deref-in-While-3.ensures.value in
+    IfOk-equal c.find_in_while.result _ _ _ c.find_in_while.ensures.inside (ap (λ t. c.args.inside.now.items ++ own_names t) (sym is))
+
+pub find_in-returns-in-For-clause-inside : goal.find_in-returns-in-For-clause-inside
+find_in-returns-in-For-clause-inside t c =
+    let is = tree_is_for c.in-For.pattern c.in-For.list c.in-For.body c.in-For.is refl c.deref-in-For.ensures c.deref-in-For-2.ensures c.deref-in-For-3.ensures.value in
+    IfOk-equal c.find_in_for.result _ _ _ c.find_in_for.ensures.inside (ap (λ t. c.args.inside.now.items ++ own_names t) (sym is))
+
+pub find_in-returns-in-Try-clause-inside : goal.find_in-returns-in-Try-clause-inside
+find_in-returns-in-Try-clause-inside t c =
+    let is = tree_is_try c.in-Try.body c.in-Try.pattern c.in-Try.handler c.in-Try.is c.deref-in-Try.ensures c.deref-in-Try-2.ensures.value refl c.deref-in-Try-3.ensures c.deref-in-Try-4.ensures.value in
+    IfOk-equal c.find_in_try.result _ _ _ c.find_in_try.ensures.inside (sym (append-nil c.args.inside.now.items) ∙ ap (λ t. c.args.inside.now.items ++ own_names t) (sym is))
+
+pub find_in-returns-in-Object-clause-inside : goal.find_in-returns-in-Object-clause-inside
+find_in-returns-in-Object-clause-inside t c =
+    let is = tree_is_object c.in-Object.pattern c.in-Object.methods c.in-Object.is refl c.deref-in-Object.ensures c.deref-in-Object-2.ensures.value in
+    IfOk-equal c.find_in_object.result _ _ _ c.find_in_object.ensures.inside (ap (λ t. c.args.inside.now.items ++ own_names t) (sym is))
+
+pub find_in-returns-in-Escape-clause-inside : goal.find_in-returns-in-Escape-clause-inside
+find_in-returns-in-Escape-clause-inside t c =
+    let is = tree_is_escape c.in-Escape.name c.in-Escape.body c.in-Escape.is refl c.deref-in-Escape.ensures c.deref-in-Escape-2.ensures.value in
+    IfOk-equal c.find_in_escape.result _ _ _ c.find_in_escape.ensures.inside (sym (append-nil c.args.inside.now.items) ∙ ap (λ t. c.args.inside.now.items ++ own_names t) (sym is))
 
 pub find_in_all-loop-tree-preserved : goal.find_in_all-loop-tree-preserved
 find_in_all-loop-tree-preserved t c =
