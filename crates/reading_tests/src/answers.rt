@@ -74,6 +74,7 @@ fn shown_tokens(
         write_token(&placed.token, &mut words)?;
         words.push(' ')?;
     }
+    let _ = words.pop();
     Ok(words)
 }
 
@@ -112,7 +113,8 @@ fn check_asked(alloc: Global, program: &Program) -> Result<(), CheckFault> {
 }
 
 fn check_script(alloc: Global, program: &Program) -> Result<(), CheckFault> {
-    let earlier = vec![in alloc; Text::new(alloc, "v")?]?;
+    let mut earlier = Vec::new(alloc);
+    earlier.push(Text::new(alloc, "v")?)?;
     let outer = Outer::for_script(alloc, &earlier)?;
     check(alloc, program, &outer)
 }
@@ -120,13 +122,13 @@ fn check_script(alloc: Global, program: &Program) -> Result<(), CheckFault> {
 fn names(alloc: Global, program: &Program) -> Result<String, AllocError> {
     let mut words = String::new(alloc);
     for found in &top_names(alloc, program)? {
-        words.push_str(match found.kind {
-            Kind::Definition => "def ",
-            Kind::Variable => "var ",
-        })?;
-        words.push_str(found.name.as_str())?;
-        words.push(' ')?;
+        let kind = match found.kind {
+            Kind::Definition => "def",
+            Kind::Variable => "var",
+        };
+        write!(words, "{kind} {} ", found.name)?;
     }
+    let _ = words.pop();
     Ok(words)
 }
 
@@ -134,9 +136,9 @@ fn captures(alloc: Global, program: &Program) -> Result<String, AllocError> {
     let mut words = String::new(alloc);
     if let Some(Expr::Object(pattern, methods)) = program.0.0.first() {
         for name in &captured_names(alloc, pattern, methods)? {
-            words.push_str(name.as_str())?;
-            words.push(' ')?;
+            write!(words, "{name} ")?;
         }
     }
+    let _ = words.pop();
     Ok(words)
 }

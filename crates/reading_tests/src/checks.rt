@@ -2,44 +2,32 @@
 
 use crate::answers::Asked;
 use crate::tables::{expect, expect_repeated};
-use std::test::Fail;
+
+const ASKED_TEXTS: &str = r#"
+x => K1 Unbound x
+v := 2 => fits
+d := 2 => K2 AssignToDef d
+var v := 1 => fits
+var x := 1; def x := 2 => K3 DuplicateName x
+def f { method m(x) { null } method n(x) { f } } => fits
+def f { method m(x) { null } method m(x) { f } } => K3 DuplicateName m
+"#;
+
+const SCRIPT_TEXTS: &str = r#"
+v => fits
+v := 2 => K2 AssignToDef v
+var v := 1 => K3 DuplicateName v
+"#;
 
 #[test]
-fn asked_programs(rt: HostRuntime) -> Result<(), Fail> {
-    expect(
-        &rt,
-        Asked::CheckAsked,
-        &[
-            ("x", "K1 Unbound x"),
-            ("v := 2", "fits"),
-            ("d := 2", "K2 AssignToDef d"),
-            ("var v := 1", "fits"),
-            ("var x := 1; def x := 2", "K3 DuplicateName x"),
-            ("def f { method m(x) { null } method n(x) { f } }", "fits"),
-            (
-                "def f { method m(x) { null } method m(x) { f } }",
-                "K3 DuplicateName m",
-            ),
-        ],
-    )
-}
-
-#[test]
-fn scripts(rt: HostRuntime) -> Result<(), Fail> {
-    expect(
-        &rt,
-        Asked::CheckScript,
-        &[
-            ("v", "fits"),
-            ("v := 2", "K2 AssignToDef v"),
-            ("var v := 1", "K3 DuplicateName v"),
-        ],
-    )
+fn checks_programs(rt: HostRuntime) {
+    expect(&rt, Asked::CheckAsked, &[ASKED_TEXTS]);
+    expect(&rt, Asked::CheckScript, &[SCRIPT_TEXTS]);
 }
 
 /// A sum of n ones is n nodes deep.
 #[test]
-fn depths(rt: HostRuntime) -> Result<(), Fail> {
+fn depths(rt: HostRuntime) {
     expect_repeated(
         &rt,
         Asked::CheckAsked,
@@ -48,12 +36,12 @@ fn depths(rt: HostRuntime) -> Result<(), Fail> {
             ("1+", 200, "1", "K4 TooDeep"),
             ("1+", 2_000, "1", "K4 TooDeep"),
         ],
-    )
+    );
 }
 
 /// `1 != 1` is four nodes, and `1 != !1` five.
 #[test]
-fn lengths(rt: HostRuntime) -> Result<(), Fail> {
+fn lengths(rt: HostRuntime) {
     expect_repeated(
         &rt,
         Asked::CheckAsked,
@@ -61,34 +49,23 @@ fn lengths(rt: HostRuntime) -> Result<(), Fail> {
             ("1!=1;", 4_095, "1!=1", "fits"),
             ("1!=1;", 4_095, "1!=!1", "K5 TooLong"),
         ],
-    )
+    );
 }
 
-#[test]
-fn names(rt: HostRuntime) -> Result<(), Fail> {
-    expect(
-        &rt,
-        Asked::Names,
-        &[
-            ("def y := (var x := 1)", "var x def y "),
-            ("def f(x) { def y := x }; { def z := 1 }", "def f "),
-            ("def [a, _, b] := [1, 2, 3]", "def a def b "),
-        ],
-    )
-}
+const DEFINED: &str = r#"
+def y := (var x := 1) => var x def y
+def f(x) { def y := x }; { def z := 1 } => def f
+def [a, _, b] := [1, 2, 3] => def a def b
+"#;
+
+const CAPTURED: &str = r#"
+def f { method m(x) { b + (f + a) } method n() { a } } => b a
+def f { method m(x) { def y := z; y := x } } => z
+def f { method m() { z := y } } => z y
+"#;
 
 #[test]
-fn captures(rt: HostRuntime) -> Result<(), Fail> {
-    expect(
-        &rt,
-        Asked::Captures,
-        &[
-            (
-                "def f { method m(x) { b + (f + a) } method n() { a } }",
-                "b a ",
-            ),
-            ("def f { method m(x) { def y := z; y := x } }", "z "),
-            ("def f { method m() { z := y } }", "z y "),
-        ],
-    )
+fn finds_names(rt: HostRuntime) {
+    expect(&rt, Asked::Names, &[DEFINED]);
+    expect(&rt, Asked::Captures, &[CAPTURED]);
 }

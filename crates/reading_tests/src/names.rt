@@ -4,19 +4,18 @@ use crate::tables::expect_text;
 use ids::names::{EjId, EventName, MsgId, ObjId, PromId, SlotId, VatNo};
 use ids::quote::write_quoted;
 use ids::text::Text;
-use std::test::Fail;
 
 const BOB: VatNo = VatNo(EventName(3));
 
 #[test]
-fn quotes(rt: HostRuntime) -> Result<(), Fail> {
+fn quotes(rt: HostRuntime) {
     let mut out = String::new(rt.alloc());
-    write_quoted("a\"\\\n\t\ré", &mut out)?;
-    expect_text(&rt, &out, "\"a\\\"\\\\\\n\\t\\ré\"")
+    write_quoted("a\"\\\n\t\ré", &mut out).expect(&rt, "no memory");
+    expect_text(&rt, "quotes", &out, r#""a\"\\\n\t\ré""#);
 }
 
 #[test]
-fn names(rt: HostRuntime) -> Result<(), Fail> {
+fn names(rt: HostRuntime) {
     let event = EventName(8);
     let vat = BOB;
     let message = MsgId { event, index: 1 };
@@ -40,16 +39,19 @@ fn names(rt: HostRuntime) -> Result<(), Fail> {
         index: 10,
         vat,
     };
-    let text = format!(in rt.alloc(); "{event} {message} {promise} {slot} {object} {ejector}")?;
-    expect_text(&rt, &text, "e8 e8.m1 e8.p0 e8.s12 e8.o0 e8.j10")
+    let text = format!(in rt.alloc();
+        "{event} {message} {promise} {slot} {object} {ejector}"
+    ).expect(&rt, "no memory");
+    expect_text(&rt, "names", &text, "e8 e8.m1 e8.p0 e8.s12 e8.o0 e8.j10");
 }
 
 #[test]
-fn shares_texts(rt: HostRuntime) -> Result<(), Fail> {
-    let text = Text::new(rt.alloc(), "né")?;
-    let shared = text.share()?;
-    let made = Text::from_string(String::from_str(rt.alloc(), "né")?)?;
+fn shares_texts(rt: HostRuntime) {
+    let text = Text::new(rt.alloc(), "né").expect(&rt, "no memory");
+    let shared = text.share().expect(&rt, "no memory");
+    let written = String::from_str(rt.alloc(), "né").expect(&rt, "no memory");
+    let made = Text::from_string(written).expect(&rt, "no memory");
     assert!(rt; shared == text && made == text);
-    assert!(rt; Text::new(rt.alloc(), "n")? < text);
-    Ok(())
+    let less = Text::new(rt.alloc(), "n").expect(&rt, "no memory");
+    assert!(rt; less < text);
 }

@@ -1,5 +1,6 @@
-// Calls of a book, one after the other.
+// Calls of a book, one after the other. A line of a table is a call, as `ask VAT TEXT`, and its answer.
 
+use crate::tables::{expect_text, row};
 use crate::turns::{ended, program};
 use book::book::Book;
 use book::fault::BookFault;
@@ -7,43 +8,41 @@ use ids::names::{EventName, MsgId};
 use ids::text::Text;
 use journal::entry::{Entry, Mark};
 use std::alloc::{AllocError, Global};
+use std::fmt::Write;
 use std::process::Abort;
-use std::test::Fail;
 
-/// A call of a book.
-#[derive(Clone, Copy)]
-pub enum Call<'a> {
-    Birth(&'a str, &'a str),
-    Ask(&'a str, &'a str),
-    /// The turn of the first message of the event with this number.
-    Turn(u64),
-    Undo(&'a [EventName]),
-    Redo(&'a [EventName]),
-    Cone(u64),
-    /// The causes of the journal's last entry, and whether it is live.
-    Last,
+/// The event that a word such as `e5` names.
+fn event_of(word: &str) -> EventName {
+    EventName(word.trim_start_matches('e').parse().unwrap_or(0u64))
 }
 
-fn events(alloc: Global, names: &[EventName]) -> Result<String, AllocError> {
+fn events_of(alloc: Global, words: &str) -> Result<Vec<EventName>, AllocError> {
+    let mut names = Vec::new(alloc);
+    for word in words.split_whitespace() {
+        names.push(event_of(word))?;
+    }
+    Ok(names)
+}
+
+fn shown_events(alloc: Global, names: &[EventName]) -> Result<String, AllocError> {
     let mut words = String::new(alloc);
     for name in names {
-        words.push_str(format!(in alloc; "{name} ")?.as_str())?;
+        write!(words, "{name} ")?;
     }
     Ok(words)
 }
 
+/// The causes of the journal's last entry, and whether it is live.
 fn last(alloc: Global, entries: &[Entry]) -> Result<String, AllocError> {
-    match entries.last() {
-        Some(entry) => {
-            let causes = events(alloc, &entry.causes)?;
-            let mark = match entry.mark {
-                Mark::Live => "live",
-                Mark::Undone => "undone",
-            };
-            format!(in alloc; "{causes}{mark}")
-        }
-        None => String::from_str(alloc, ""),
+    let mut words = String::new(alloc);
+    if let Some(entry) = entries.last() {
+        words = shown_events(alloc, &entry.causes)?;
+        words.push_str(match entry.mark {
+            Mark::Live => "live",
+            Mark::Undone => "undone",
+        })?;
     }
+    Ok(words)
 }
 
 fn born(alloc: Global, book: &mut Book, name: &str, script: &str) -> Result<String, BookFault> {
@@ -62,29 +61,36 @@ fn turned(alloc: Global, book: &mut Book, event: EventName) -> Result<String, Bo
 }
 
 fn cone(alloc: Global, book: &Book, event: EventName) -> Result<String, BookFault> {
-    Ok(events(alloc, &book.cone(event)?)?)
+    Ok(shown_events(alloc, &book.cone(event)?)?)
 }
 
-fn called(alloc: Global, book: &mut Book, call: Call) -> Result<String, BookFault> {
-    match call {
-        Call::Birth(name, script) => born(alloc, book, name, script),
-        Call::Ask(name, text) => asked(alloc, book, name, text),
-        Call::Turn(number) => turned(alloc, book, EventName(number)),
-        Call::Undo(names) => {
-            let count = book.undo(names)?;
-            Ok(format!(in alloc; "{count}")?)
-        }
-        Call::Redo(names) => {
-            let count = book.redo(names)?;
-            Ok(format!(in alloc; "{count}")?)
-        }
-        Call::Cone(number) => cone(alloc, book, EventName(number)),
-        Call::Last => Ok(last(alloc, book.journal())?),
+fn undone(alloc: Global, book: &mut Book, words: &str) -> Result<String, BookFault> {
+    let count = book.undo(&events_of(alloc, words)?)?;
+    Ok(format!(in alloc; "{count}")?)
+}
+
+fn redone(alloc: Global, book: &mut Book, words: &str) -> Result<String, BookFault> {
+    let count = book.redo(&events_of(alloc, words)?)?;
+    Ok(format!(in alloc; "{count}")?)
+}
+
+/// What a call is answered: `turn` names the event whose first message it runs, `last` asks for the journal's last entry.
+fn called(alloc: Global, book: &mut Book, call: &str) -> Result<String, BookFault> {
+    let (verb, rest) = call.split_once(' ').unwrap_or((call, ""));
+    let (name, text) = rest.split_once(' ').unwrap_or((rest, ""));
+    match verb {
+        "birth" => born(alloc, book, name, text),
+        "ask" => asked(alloc, book, name, text),
+        "turn" => turned(alloc, book, event_of(rest)),
+        "undo" => undone(alloc, book, rest),
+        "redo" => redone(alloc, book, rest),
+        "cone" => cone(alloc, book, event_of(rest)),
+        _ => Ok(last(alloc, book.journal())?),
     }
 }
 
 /// The answer of a call, or the refusal.
-fn told(alloc: Global, book: &mut Book, call: Call) -> Result<String, AllocError> {
+fn told(alloc: Global, book: &mut Book, call: &str) -> Result<String, AllocError> {
     match called(alloc, book, call) {
         Ok(answer) => Ok(answer),
         Err(fault) => fault.to_string(alloc),
@@ -92,78 +98,76 @@ fn told(alloc: Global, book: &mut Book, call: Call) -> Result<String, AllocError
 }
 
 /// Compares what a new book answers to calls, one after the other, with what stands beside them.
-fn expect(rt: &(impl Abort + AllocGlobal), rows: &[(Call, &str)]) -> Result<(), Fail> {
+fn expect_calls(rt: &(impl Abort + AllocGlobal), table: &str) {
     let mut book = Book::new(rt.alloc());
-    for (call, wanted) in rows {
-        let answered = told(rt.alloc(), &mut book, *call)?;
-        assert_eq!(rt; answered.as_str(), *wanted);
+    for line in table.lines() {
+        if let Some((call, wanted)) = row(rt, line) {
+            let answered = told(rt.alloc(), &mut book, call).expect(rt, "no memory");
+            expect_text(rt, call, answered.trim_end(), wanted);
+        }
     }
-    Ok(())
+}
+
+const EVENTS: &str = r#"
+birth a => e1
+ask a 2 + 3 => e2
+turn e2 => B6 Before e1.m0
+turn e1 => null
+turn e2 => 5
+turn e2 => B4 NotThere
+turn e4 => B3 NoMessage e4.m0
+birth a => B2 NameTaken a
+birth b x => K1 Unbound x
+ask b 1 => B1 NoVat b
+birth b while (true) { } => e5
+turn e5 => turn budget spent
+"#;
+
+const UNDONE_ASSIGNMENT: &str = r#"
+birth a var n := 0 => e1
+turn e1 => 0
+ask a n := 1 => e3
+ask a n => e4
+turn e3 => 1
+undo e5 => 1
+turn e4 => 0
+undo e2 => B15 NotClosed e2 e6
+redo e5 => B21 NotNext
+undo e6 => 1
+last => e1 e2 e4 undone
+redo e6 => 1
+last => e1 e2 e4 live
+"#;
+
+const CAME_OF_AN_EVENT: &str = r#"
+birth a var n := 0 => e1
+turn e1 => 0
+ask a n := 1 => e3
+ask a n => e4
+turn e3 => 1
+turn e4 => 1
+cone e3 => e3 e5 e6
+cone e7 => B12 NoEvent e7
+undo e6 e3 e5 => 3
+cone e3 => B13 NotLive e3
+redo e3 e5 e6 => 3
+undo => 0
+redo => 0
+redo e4 => B14 IsLive e4
+undo e9 => B12 NoEvent e9
+"#;
+
+#[test]
+fn events_and_their_turns(rt: HostRuntime) {
+    expect_calls(&rt, EVENTS);
 }
 
 #[test]
-fn events_and_their_turns(rt: HostRuntime) -> Result<(), Fail> {
-    expect(
-        &rt,
-        &[
-            (Call::Birth("a", ""), "e1"),
-            (Call::Ask("a", "2 + 3"), "e2"),
-            (Call::Turn(2), "B6 Before e1.m0"),
-            (Call::Turn(1), "null"),
-            (Call::Turn(2), "5"),
-            (Call::Turn(2), "B4 NotThere"),
-            (Call::Turn(4), "B3 NoMessage e4.m0"),
-            (Call::Birth("a", ""), "B2 NameTaken a"),
-            (Call::Birth("b", "x"), "K1 Unbound x"),
-            (Call::Ask("b", "1"), "B1 NoVat b"),
-            (Call::Birth("b", "while (true) { }"), "e5"),
-            (Call::Turn(5), "turn budget spent"),
-        ],
-    )
+fn an_undone_assignment_was_never_made(rt: HostRuntime) {
+    expect_calls(&rt, UNDONE_ASSIGNMENT);
 }
 
 #[test]
-fn an_undone_assignment_was_never_made(rt: HostRuntime) -> Result<(), Fail> {
-    expect(
-        &rt,
-        &[
-            (Call::Birth("a", "var n := 0"), "e1"),
-            (Call::Turn(1), "0"),
-            (Call::Ask("a", "n := 1"), "e3"),
-            (Call::Ask("a", "n"), "e4"),
-            (Call::Turn(3), "1"),
-            (Call::Undo(&[EventName(5)]), "1"),
-            (Call::Turn(4), "0"),
-            (Call::Undo(&[EventName(2)]), "B15 NotClosed e2 e6"),
-            (Call::Redo(&[EventName(5)]), "B21 NotNext"),
-            (Call::Undo(&[EventName(6)]), "1"),
-            (Call::Last, "e1 e2 e4 undone"),
-            (Call::Redo(&[EventName(6)]), "1"),
-            (Call::Last, "e1 e2 e4 live"),
-        ],
-    )
-}
-
-#[test]
-fn what_came_of_an_event(rt: HostRuntime) -> Result<(), Fail> {
-    expect(
-        &rt,
-        &[
-            (Call::Birth("a", "var n := 0"), "e1"),
-            (Call::Turn(1), "0"),
-            (Call::Ask("a", "n := 1"), "e3"),
-            (Call::Ask("a", "n"), "e4"),
-            (Call::Turn(3), "1"),
-            (Call::Turn(4), "1"),
-            (Call::Cone(3), "e3 e5 e6 "),
-            (Call::Cone(7), "B12 NoEvent e7"),
-            (Call::Undo(&[EventName(6), EventName(3), EventName(5)]), "3"),
-            (Call::Cone(3), "B13 NotLive e3"),
-            (Call::Redo(&[EventName(3), EventName(5), EventName(6)]), "3"),
-            (Call::Undo(&[]), "0"),
-            (Call::Redo(&[]), "0"),
-            (Call::Redo(&[EventName(4)]), "B14 IsLive e4"),
-            (Call::Undo(&[EventName(9)]), "B12 NoEvent e9"),
-        ],
-    )
+fn what_came_of_an_event(rt: HostRuntime) {
+    expect_calls(&rt, CAME_OF_AN_EVENT);
 }

@@ -1,78 +1,82 @@
 // What nests deepest, on a stack as large as that on which the program answers commands, and budgets at their ends.
 
-use crate::sessions::{expect, limits};
+use crate::tables::{expect, expect_text, limits};
+use std::alloc::{AllocError, Global};
 use std::process::Abort;
 use std::rt::Runtime;
-use std::test::Fail;
 use std::thread::{Builder, Threads};
 use stepper::{STACK, replies};
 
 /// Runs commands on a stack as large as the program's own, and compares the replies.
 fn expect_on_its_stack(
     rt: &(impl Runtime + AllocGlobal + Threads + Abort),
-    commands: String,
+    commands: &str,
     wanted: &str,
-) -> Result<(), Fail> {
+) {
     let alloc = rt.alloc();
+    let commands = String::from_str(alloc, commands).expect(rt, "no memory");
     let answering = move || replies(alloc, commands.as_bytes(), limits(10_000));
-    match Builder::new()
+    let thread = Builder::new()
         .stack_size(STACK)
-        .spawn(rt, answering)?
-        .join(rt)
-    {
-        Ok((written, _)) => assert_eq!(rt; str::from_utf8(&written), Ok(wanted)),
-        Err(fault) => assert!(rt; false, "{fault}"),
+        .spawn(rt, answering)
+        .expect(rt, "no thread");
+    match thread.join(rt) {
+        Ok((written, _)) => {
+            expect_text(
+                rt,
+                "commands",
+                str::from_utf8(&written).unwrap_or("no text"),
+                wanted,
+            );
+        }
+        Err(_) => assert!(rt; false),
     }
-    Ok(())
+}
+
+fn nested(alloc: Global) -> Result<String, AllocError> {
+    let loops = "for a in ".repeat(alloc, 3276)?;
+    let bodies = "{}".repeat(alloc, 3276)?;
+    let choices = "if (true) {} else ".repeat(alloc, 2300)?;
+    format!(in alloc; "vat a () 0\nask a {loops}[]{bodies}\nask a {loops}\nask a {choices}{{}}\n")
 }
 
 /// A loop over each list of a loop, or a condition behind each `else`, as deep as the tokens of a text allow: the texts
 /// are read, and the trees are too deep.
 #[test]
-fn nests_without_brackets(rt: HostRuntime) -> Result<(), Fail> {
-    let loops = "for a in ".repeat(rt.alloc(), 3276)?;
-    let bodies = "{}".repeat(rt.alloc(), 3276)?;
-    let choices = "if (true) {} else ".repeat(rt.alloc(), 2300)?;
-    let commands = format!(in rt.alloc();
-        "vat a () 0\nask a {loops}[]{bodies}\nask a {loops}\nask a {choices}{{}}\n"
-    )?;
+fn nests_without_brackets(rt: HostRuntime) {
+    let commands = nested(rt.alloc()).expect(&rt, "no memory");
     let wanted = "ok e1 e1.m0\nno K4 TooDeep\nno L5 Unexpected 29484\nno K4 TooDeep\n";
-    expect_on_its_stack(&rt, commands, wanted)
+    expect_on_its_stack(&rt, &commands, wanted);
 }
 
 #[test]
-fn calls_without_end(rt: HostRuntime) -> Result<(), Fail> {
-    let commands = String::from_str(
-        rt.alloc(),
-        "vat a () 1\ndef f() { f() }\nturn e1.m0\nask a f()\nturn e3.m0\n",
-    )?;
+fn calls_without_end(rt: HostRuntime) {
+    let commands = "vat a () 1\ndef f() { f() }\nturn e1.m0\nask a f()\nturn e3.m0\n";
     let wanted =
         "ok e1 e1.m0\nok e2 value <e2.o0>\nok e3 e3.m0\nok e4 abandoned \"calls too deep\"\n";
-    expect_on_its_stack(&rt, commands, wanted)
+    expect_on_its_stack(&rt, commands, wanted);
 }
 
 /// A call of `f(n)` at level k reaches level k + 2n + 3; the deepest is 1,000.
 #[test]
-fn the_deepest_level(rt: HostRuntime) -> Result<(), Fail> {
-    let commands = String::from_str(
-        rt.alloc(),
-        "vat a () 1\ndef f { method run(n) { if (n > 0) { f(n - 1) } } }\nturn e1.m0\nask a f(498)\nturn e3.m0\nask a [f(498)]\nturn e5.m0\n",
-    )?;
+fn the_deepest_level(rt: HostRuntime) {
+    let commands =
+        "vat a () 1\ndef f { method run(n) { if (n > 0) { f(n - 1) } } }\nturn e1.m0\nask a f(498)\nturn e3.m0\nask a [f(498)]\nturn e5.m0\n";
     let wanted =
         "ok e1 e1.m0\nok e2 value <e2.o0>\nok e3 e3.m0\nok e4 value null\nok e5 e5.m0\nok e6 abandoned \"calls too deep\"\n";
-    expect_on_its_stack(&rt, commands, wanted)
+    expect_on_its_stack(&rt, commands, wanted);
 }
 
 /// A sum of 198 ones is 198 levels deep, so the call of it may stand at level 801.
 #[test]
-fn the_deepest_tree_at_the_deepest_level(rt: HostRuntime) -> Result<(), Fail> {
-    let sum = "1 + ".repeat(rt.alloc(), 197)?;
+fn the_deepest_tree_at_the_deepest_level(rt: HostRuntime) {
+    let sum = "1 + ".repeat(rt.alloc(), 197).expect(&rt, "no memory");
     let commands = format!(in rt.alloc();
         "vat a () 2\ndef g {{ method run() {{ {sum}1 }} }}\ndef f {{ method run(n) {{ if (n > 0) {{ f(n - 1) }} else {{ g() }} }} }}\nturn e1.m0\nask a f(399)\nturn e3.m0\nask a f(400)\nturn e5.m0\n"
-    )?;
+    ).expect(&rt, "no memory");
     let wanted =
         "ok e1 e1.m0\nok e2 value <e2.o1>\nok e3 e3.m0\nok e4 value 198\nok e5 e5.m0\nok e6 abandoned \"calls too deep\"\n";
-    expect_on_its_stack(&rt, commands, wanted)
+    expect_on_its_stack(&rt, &commands, wanted);
 }
 
 /// The least budget and the largest one.

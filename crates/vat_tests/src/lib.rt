@@ -16,6 +16,8 @@ mod sessions;
 #[cfg(test)]
 mod steps;
 #[cfg(test)]
+mod tables;
+#[cfg(test)]
 mod turns;
 #[cfg(test)]
 mod visibility;

@@ -1,85 +1,12 @@
 // Whole texts of commands with the replies that their authors are promised.
 
-use std::process::Abort;
-use std::test::Fail;
-use stepper::{Limits, replies};
-
-const OPENED: &str = "vat a () 0\nturn e1.m0\n";
-
-const BORN: &str = "ok e1 e1.m0\nok e2 value null\n";
-
-pub(crate) fn limits(budget: u32) -> Limits {
-    Limits { budget, workers: 8 }
-}
-
-/// Runs commands and compares the replies, and whether one is a refusal.
-pub(crate) fn expect(
-    rt: &(impl Abort + AllocGlobal),
-    budget: u32,
-    input: &[u8],
-    wanted: &str,
-    refused: bool,
-) {
-    match replies(rt.alloc(), input, limits(budget)) {
-        Ok((written, summary)) => {
-            assert_eq!(rt; str::from_utf8(&written), Ok(wanted));
-            assert_eq!(rt; summary.refused, refused);
-        }
-        Err(fault) => assert!(rt; false, "{fault}"),
-    }
-}
-
-/// Runs one asked text in a vat that was opened, and compares the replies behind the vat's own.
-pub(crate) fn expect_asked(
-    rt: &(impl Abort + AllocGlobal),
-    text: &str,
-    wanted: &str,
-    refused: bool,
-) -> Result<(), Fail> {
-    let commands = format!(in rt.alloc(); "{OPENED}ask a {text}\n")?;
-    let wanted = format!(in rt.alloc(); "{BORN}{wanted}\n")?;
-    expect(rt, 10_000, commands.as_bytes(), wanted.as_str(), refused);
-    Ok(())
-}
-
-/// The same with the turn of the asked text.
-pub(crate) fn expect_turn(
-    rt: &(impl Abort + AllocGlobal),
-    text: &str,
-    wanted: &str,
-) -> Result<(), Fail> {
-    let commands = format!(in rt.alloc(); "{OPENED}ask a {text}\nturn e3.m0\n")?;
-    let wanted = format!(in rt.alloc(); "{BORN}ok e3 e3.m0\nok e4 {wanted}\n")?;
-    expect(rt, 10_000, commands.as_bytes(), wanted.as_str(), false);
-    Ok(())
-}
-
-/// Runs asked texts with their turns, each in a vat of its own.
-pub(crate) fn expect_turns(
-    rt: &(impl Abort + AllocGlobal),
-    rows: &[(&str, &str)],
-) -> Result<(), Fail> {
-    for (text, wanted) in rows {
-        expect_turn(rt, text, wanted)?;
-    }
-    Ok(())
-}
-
-/// Runs asked texts that are refused, each in a vat of its own.
-pub(crate) fn expect_refusals(
-    rt: &(impl Abort + AllocGlobal),
-    rows: &[(&str, &str)],
-) -> Result<(), Fail> {
-    for (text, wanted) in rows {
-        expect_asked(rt, text, wanted, true)?;
-    }
-    Ok(())
-}
+use crate::tables::{BUDGET, expect, expect_refusal, expect_refusals, expect_turn, expect_turns};
+use std::alloc::{AllocError, Global};
 
 #[test]
 fn nothing_is_replied_to_nothing(rt: HostRuntime) {
-    expect(&rt, 10_000, b"", "", false);
-    expect(&rt, 10_000, b"\n \t\n# vat\n\r\n", "", false);
+    expect(&rt, BUDGET, b"", "", false);
+    expect(&rt, BUDGET, b"\n \t\n# vat\n\r\n", "", false);
 }
 
 #[test]
@@ -88,58 +15,56 @@ fn turns_within_their_budget(rt: HostRuntime) {
     let five = "ok e1 e1.m0\nok e2 value null\nok e3 e3.m0\nok e4 value 5\n";
     let spent =
         "ok e1 e1.m0\nok e2 value null\nok e3 e3.m0\nok e4 abandoned \"turn budget spent\"\n";
-    expect(&rt, 10_000, commands, five, false);
+    expect(&rt, BUDGET, commands, five, false);
     expect(&rt, 3, commands, five, false);
     expect(&rt, 2, commands, spent, false);
 }
 
-#[test]
-fn asked_texts_and_their_turns(rt: HostRuntime) -> Result<(), Fail> {
-    expect_turns(
-        &rt,
-        &[
-            ("1 + 2 * 3", "value 7"),
-            ("1 - 2 - 3", "value -4"),
-            ("-7 // 2", "value -4"),
-            ("9223372036854775807 + 1", "problem \"integer too large\""),
-            ("-9223372036854775807 - 1", "value -9223372036854775808"),
-            ("1 // 0", "problem \"division by zero\""),
-            ("[1, [true, null]][1]", "value [true, null]"),
-            ("[1][1]", "problem \"index out of range\""),
-            ("[1, 2] == [1, 2]", "value true"),
-            ("1 != true", "value true"),
-            ("\"a\\n\" + \"\\\"\"", "value \"a\\n\\\"\""),
-            ("\"h\u{e9}\".size()", "value 2"),
-            ("1 + \"a\"", "problem \"bad argument\""),
-            ("3(1, 2)", "problem \"no method run/2\""),
-            ("!null", "problem \"no method not/0\""),
-            ("def x := 6; def _ := 7; x * 7", "value 42"),
-            ("(def x := 6) * x", "value 36"),
-            ("", "value null"),
-            (";; 1 ;; 2 ;;", "value 2"),
-        ],
-    )
-}
+const ASKED_TEXTS: &str = r#"
+1 + 2 * 3 => value 7
+1 - 2 - 3 => value -4
+-7 // 2 => value -4
+9223372036854775807 + 1 => problem "integer too large"
+-9223372036854775807 - 1 => value -9223372036854775808
+1 // 0 => problem "division by zero"
+[1, [true, null]][1] => value [true, null]
+[1][1] => problem "index out of range"
+[1, 2] == [1, 2] => value true
+1 != true => value true
+"a\n" + "\"" => value "a\n\""
+"hé".size() => value 2
+1 + "a" => problem "bad argument"
+3(1, 2) => problem "no method run/2"
+!null => problem "no method not/0"
+def x := 6; def _ := 7; x * 7 => value 42
+(def x := 6) * x => value 36
+ => value null
+;; 1 ;; 2 ;; => value 2
+"#;
 
 #[test]
-fn refused_texts(rt: HostRuntime) -> Result<(), Fail> {
-    expect_refusals(
-        &rt,
-        &[
-            ("x", "no K1 Unbound x"),
-            ("def x := 1; def x := 2", "no K3 DuplicateName x"),
-            ("def x := 1; x := 2", "no K2 AssignToDef x"),
-            ("\"x", "no L2 UnclosedText 0"),
-            ("1 +", "no L5 Unexpected 3"),
-            ("1 < 2 < 3", "no L5 Unexpected 6"),
-            ("1 <- run()", "no L5 Unexpected 2"),
-            ("9223372036854775808", "no L4 IntegerTooLarge 0"),
-            ("\"a\\q\"", "no L3 BadEscape 2"),
-            ("1 & 2", "no L1 BadCharacter 2"),
-            ("1 \u{e9}", "no L1 BadCharacter 2"),
-            ("1 \0", "no L1 BadCharacter 2"),
-        ],
-    )
+fn asked_texts_and_their_turns(rt: HostRuntime) {
+    expect_turns(&rt, BUDGET, &[ASKED_TEXTS]);
+}
+
+const REFUSED_TEXTS: &str = r#"
+x => no K1 Unbound x
+def x := 1; def x := 2 => no K3 DuplicateName x
+def x := 1; x := 2 => no K2 AssignToDef x
+"x => no L2 UnclosedText 0
+1 + => no L5 Unexpected 3
+1 < 2 < 3 => no L5 Unexpected 6
+1 <- run() => no L5 Unexpected 2
+9223372036854775808 => no L4 IntegerTooLarge 0
+"a\q" => no L3 BadEscape 2
+1 & 2 => no L1 BadCharacter 2
+1 é => no L1 BadCharacter 2
+"#;
+
+#[test]
+fn refused_texts(rt: HostRuntime) {
+    expect_refusals(&rt, REFUSED_TEXTS);
+    expect_refusal(&rt, "1 \0", "no L1 BadCharacter 2");
 }
 
 #[test]
@@ -148,17 +73,17 @@ fn refused_commands_draw_no_name(rt: HostRuntime) {
         b"ask a 1\nvat a () 0\nvat a () 1\n)\nvat a () 1\n1\nask a 1\nturn e2.m0\nturn e9.m0\nhop\nturn e2\nask 1a 2\nshow all\nvat b (a) 0\nvat b () 4097\nturn e01.m00\nturn e1.m0\n";
     let wanted =
         "no B1 NoVat a\nok e1 e1.m0\nno L5 Unexpected 0\nno B2 NameTaken a\nok e2 e2.m0\nno B6 Before e1.m0\nno B3 NoMessage e9.m0\nno S1 UnknownCommand\nno S2 BadWord\nno S2 BadWord\nno S2 BadWord\nno S2 BadWord\nno S2 BadWord\nok e3 value null\nno B4 NotThere\n";
-    expect(&rt, 10_000, commands, wanted, true);
+    expect(&rt, BUDGET, commands, wanted, true);
 }
 
 #[test]
 fn scripts_are_taken_whole(rt: HostRuntime) {
     let truncated = "no S4 Truncated\n";
-    expect(&rt, 10_000, b"vat a () 3\ndef x := 1\nx", truncated, true);
+    expect(&rt, BUDGET, b"vat a () 3\ndef x := 1\nx", truncated, true);
     let commands =
         b"vat a () 2\ndef x := 6\n\xff\nvat a () 3\ndef x := 6\n# six\ndef y :=\r\n7\nask a 1\n";
     let wanted = "no S2 BadWord\nno L5 Unexpected 25\nno S1 UnknownCommand\nno B1 NoVat a\n";
-    expect(&rt, 10_000, commands, wanted, true);
+    expect(&rt, BUDGET, commands, wanted, true);
 }
 
 #[test]
@@ -167,7 +92,7 @@ fn the_world_is_shown(rt: HostRuntime) {
         b"vat b () 2\ndef z := [1, \"two\"]\ndef a := z.size() // 0; def c := 1\nvat a () 0\nturn e1.m0\nask b z\nturn e4.m0\nshow";
     let wanted =
         "ok e1 e1.m0\nok e2 e2.m0\nok e3 problem \"division by zero\"\nok e4 e4.m0\nok e5 value [1, \"two\"]\nvat b e1\n noun z = [1, \"two\"]\nvat a e2\nmsg e1.m0 done e3\nmsg e2.m0 at a\nmsg e4.m0 done e5\nboard e1.p0 = <broken \"division by zero\">\nboard e4.p0 = [1, \"two\"]\n";
-    expect(&rt, 10_000, commands, wanted, false);
+    expect(&rt, BUDGET, commands, wanted, false);
 }
 
 #[test]
@@ -175,7 +100,7 @@ fn the_journal_is_listed(rt: HostRuntime) {
     let commands = b"journal\nvat a () 0\nturn e1.m0\nask a 2 + 3\nturn e3.m0\njournal";
     let wanted =
         "ok e1 e1.m0\nok e2 value null\nok e3 e3.m0\nok e4 value 5\n1 e1 live birth a causes\n2 e2 live turn e1.m0 causes e1\n3 e3 live ask a causes e1\n4 e4 live turn e3.m0 causes e1 e2 e3\n";
-    expect(&rt, 10_000, commands, wanted, false);
+    expect(&rt, BUDGET, commands, wanted, false);
 }
 
 #[test]
@@ -184,7 +109,7 @@ fn the_last_undo_alone_is_redone(rt: HostRuntime) {
         b"vat a () 1\nvar n := 0\nturn e1.m0\nask a n := 1\nask a n\nturn e3.m0\nundo e5\nturn e4.m0\nundo e2\nredo e5\nundo e6\nredo e6\njournal";
     let wanted =
         "ok e1 e1.m0\nok e2 value 0\nok e3 e3.m0\nok e4 e4.m0\nok e5 value 1\nok undone 1\nok e6 value 0\nno B15 NotClosed e2 e6\nno B21 NotNext\nok undone 1\nok redone 1\n1 e1 live birth a causes\n2 e2 live turn e1.m0 causes e1\n3 e3 live ask a causes e1\n4 e4 live ask a causes e1\n5 e5 undone turn e3.m0 causes e1 e2 e3\n6 e6 live turn e4.m0 causes e1 e2 e4\n";
-    expect(&rt, 10_000, commands, wanted, true);
+    expect(&rt, BUDGET, commands, wanted, true);
 }
 
 #[test]
@@ -193,7 +118,7 @@ fn cones_are_named_and_undone(rt: HostRuntime) {
         b"vat a () 2\nvar m := 0\nvar n := 0\nturn e1.m0\nask a m := 1\nask a n := 2\nturn e3.m0\nturn e4.m0\ncone e05\nundo-cone e5\ncone e5\nundo e6\nredo e6 e5 e6\nredo e5\nundo-cone e1\nshow\nundo e9";
     let wanted =
         "ok e1 e1.m0\nok e2 value 0\nok e3 e3.m0\nok e4 e4.m0\nok e5 value 1\nok e6 value 2\ncone e5 e6\nok undone 2\nno B13 NotLive e5\nno B13 NotLive e6\nok redone 2\nno B14 IsLive e5\nok undone 6\nno B12 NoEvent e9\n";
-    expect(&rt, 10_000, commands, wanted, true);
+    expect(&rt, BUDGET, commands, wanted, true);
 }
 
 #[test]
@@ -202,7 +127,7 @@ fn words_that_name_no_events(rt: HostRuntime) {
         b"journal all\ncone\ncone e1 e2\ncone 1\nundo\nundo e1 m2\nundo e4294967296\nundo-cone e1 e2\nredo\nredo e\nundo e4294967295  e9 ";
     let wanted =
         "no S2 BadWord\nno S2 BadWord\nno S2 BadWord\nno S2 BadWord\nno S2 BadWord\nno S2 BadWord\nno S2 BadWord\nno S2 BadWord\nno S2 BadWord\nno S2 BadWord\nno B12 NoEvent e9\n";
-    expect(&rt, 10_000, commands, wanted, true);
+    expect(&rt, BUDGET, commands, wanted, true);
 }
 
 #[test]
@@ -210,68 +135,54 @@ fn slots_are_shown(rt: HostRuntime) {
     let commands = b"vat a () 3\nvar n := 5\ndef k := 1\nvar b := [n]\nturn e1.m0\nshow";
     let wanted =
         "ok e1 e1.m0\nok e2 value [5]\nvat a e1\n noun b = slot e2.s1\n noun k = 1\n noun n = slot e2.s0\n slot e2.s0 = 5\n slot e2.s1 = [5]\nmsg e1.m0 done e2\nboard e1.p0 = [5]\n";
-    expect(&rt, 10_000, commands, wanted, false);
+    expect(&rt, BUDGET, commands, wanted, false);
 }
 
-/// So many copies of a text, and another behind them.
-fn behind_copies(
-    rt: &(impl Abort + AllocGlobal),
-    text: &str,
-    count: usize,
-    rest: &str,
-) -> Result<String, Fail> {
-    let mut out = text.repeat(rt.alloc(), count)?;
-    out.push_str(rest)?;
-    Ok(out)
+/// A part so many times, and an end behind it.
+fn repeated(alloc: Global, part: &str, times: usize, end: &str) -> Result<String, AllocError> {
+    let mut text = part.repeat(alloc, times)?;
+    text.push_str(end)?;
+    Ok(text)
 }
 
 #[test]
-fn texts_at_their_limits(rt: HostRuntime) -> Result<(), Fail> {
-    for (text, count, rest, wanted) in &[
-        ("1 + ", 199, "1", "value 200"),
-        (";", 16_384, "", "value null"),
-    ] {
-        let asked = behind_copies(&rt, text, *count, rest)?;
-        expect_turn(&rt, asked.as_str(), wanted)?;
-    }
-    Ok(())
+fn texts_at_their_limits(rt: HostRuntime) {
+    let sum = repeated(rt.alloc(), "1 + ", 199, "1").expect(&rt, "no memory");
+    expect_turn(&rt, BUDGET, &sum, "value 200");
+    let breaks = repeated(rt.alloc(), ";", 16_384, "").expect(&rt, "no memory");
+    expect_turn(&rt, BUDGET, &breaks, "value null");
+    let closed = repeated(rt.alloc(), ")", 100, "").expect(&rt, "no memory");
+    let end = format!(in rt.alloc(); "1{closed}").expect(&rt, "no memory");
+    let brackets = repeated(rt.alloc(), "(", 100, &end).expect(&rt, "no memory");
+    expect_turn(&rt, BUDGET, &brackets, "value 1");
 }
 
 #[test]
-fn brackets_at_their_limit(rt: HostRuntime) -> Result<(), Fail> {
-    let closed = behind_copies(&rt, "1", 1, ")".repeat(rt.alloc(), 100)?.as_str())?;
-    let asked = behind_copies(&rt, "(", 100, closed.as_str())?;
-    expect_turn(&rt, asked.as_str(), "value 1")
-}
-
-#[test]
-fn texts_past_their_limits(rt: HostRuntime) -> Result<(), Fail> {
-    for (text, count, rest, wanted) in &[
+fn texts_past_their_limits(rt: HostRuntime) {
+    for (part, times, end, wanted) in &[
         ("1 + ", 200, "1", "no K4 TooDeep"),
         (";", 16_385, "", "no L8 TooLong"),
         ("(", 101, "", "no L6 TooDeep"),
     ] {
-        let asked = behind_copies(&rt, text, *count, rest)?;
-        expect_asked(&rt, asked.as_str(), wanted, true)?;
+        let text = repeated(rt.alloc(), part, *times, end).expect(&rt, "no memory");
+        expect_refusal(&rt, &text, wanted);
     }
-    Ok(())
 }
 
 #[test]
-fn lines_at_their_limits(rt: HostRuntime) -> Result<(), Fail> {
-    let endless = "x".repeat(rt.alloc(), 70_000)?;
-    expect(&rt, 10_000, endless.as_bytes(), "no S3 LineTooLong\n", true);
-    let longest = "x".repeat(rt.alloc(), 65_536)?;
+fn lines_at_their_limits(rt: HostRuntime) {
+    let endless = repeated(rt.alloc(), "x", 70_000, "").expect(&rt, "no memory");
+    expect(&rt, BUDGET, endless.as_bytes(), "no S3 LineTooLong\n", true);
+    let longest = repeated(rt.alloc(), "x", 65_536, "").expect(&rt, "no memory");
     expect(
         &rt,
-        10_000,
+        BUDGET,
         longest.as_bytes(),
         "no S1 UnknownCommand\n",
         true,
     );
-    let half = " ".repeat(rt.alloc(), 32_768)?;
-    let script = format!(in rt.alloc(); "vat a () 2\n{half}\n{half}\nshow\n")?;
-    expect(&rt, 10_000, script.as_bytes(), "no L8 TooLong\n", true);
-    expect(&rt, 10_000, b"ask a \xff\nshow", "no S2 BadWord\n", true);
-    Ok(())
+    let half = repeated(rt.alloc(), " ", 32_768, "\n").expect(&rt, "no memory");
+    let script = format!(in rt.alloc(); "vat a () 2\n{half}{half}show\n").expect(&rt, "no memory");
+    expect(&rt, BUDGET, script.as_bytes(), "no L8 TooLong\n", true);
+    expect(&rt, BUDGET, b"ask a \xff\nshow", "no S2 BadWord\n", true);
 }

@@ -1,5 +1,6 @@
 // Turns: what a text gives that is asked of a vat.
 
+use crate::tables::{expect_text, row};
 use ereader::read;
 use heap::state::{Binding, VatState};
 use ids::names::{EventName, MsgId, VatNo};
@@ -7,7 +8,6 @@ use ids::text::Text;
 use kernele::tree::Program;
 use std::alloc::{AllocError, Global};
 use std::process::Abort;
-use std::test::Fail;
 use turn::delivery::{Delivery, Ended, Outcome};
 use turn::ticket::{Out, Ticket};
 use values::showing::show;
@@ -51,13 +51,18 @@ fn run(state: VatState, event: u64, delivery: Delivery) -> Result<Outcome, Alloc
     }
 }
 
-/// A vat where the noun `gone` is broken by the problem "lost", once its script has run.
-fn after_script(alloc: Global, script: &str) -> Result<Opened, AllocError> {
+/// A vat where the noun `gone` is broken by the problem "lost".
+fn unopened(alloc: Global) -> Result<VatState, AllocError> {
     let mut state = VatState::new(alloc);
     let lost = Value::Broken(Text::new(alloc, "lost")?);
     state.bind_top(Text::new(alloc, "gone")?, Binding::Fixed(lost))?;
+    Ok(state)
+}
+
+/// The same once its script has run.
+fn after_script(alloc: Global, script: &str) -> Result<Opened, AllocError> {
     let delivery = Delivery::Opening(program(alloc, script)?);
-    let state = run(state, 2, delivery)?.state;
+    let state = run(unopened(alloc)?, 2, delivery)?.state;
     Ok(Opened { state })
 }
 
@@ -77,188 +82,150 @@ fn shown(alloc: Global, opened: &Opened, text: &str) -> Result<String, AllocErro
     ended(alloc, &outcome.ended)
 }
 
-/// Compares what each text gives with what stands beside it, where it is asked of a vat that was opened so.
-fn expect_turns(
-    rt: &(impl Abort + AllocGlobal),
-    opened: &Opened,
-    rows: &[(&str, &str)],
-) -> Result<(), Fail> {
-    for (text, wanted) in rows {
-        let answered = shown(rt.alloc(), opened, text)?;
-        assert_eq!(rt; answered.as_str(), *wanted, "at {text}");
+/// Compares what each text of a table gives with what stands beside it, where it is asked of a vat with this script.
+fn expect_turns(rt: &(impl Abort + AllocGlobal), script: &str, table: &str) {
+    let opened = after_script(rt.alloc(), script).expect(rt, "no memory");
+    for line in table.lines() {
+        if let Some((text, wanted)) = row(rt, line) {
+            let answered = shown(rt.alloc(), &opened, text).expect(rt, "no memory");
+            expect_text(rt, text, &answered, wanted);
+        }
     }
-    Ok(())
 }
 
-#[test]
-fn integers(rt: HostRuntime) -> Result<(), Fail> {
-    let vat = after_script(
-        rt.alloc(),
-        "def most := 9223372036854775807; def least := -most - 1",
-    )?;
-    expect_turns(
-        &rt,
-        &vat,
-        &[
-            ("2 + 3", "5"),
-            ("most + 1", "!integer too large"),
-            ("least", "-9223372036854775808"),
-            ("least - 1", "!integer too large"),
-            ("2 - 5", "-3"),
-            ("-4 * 6", "-24"),
-            ("most * 2", "!integer too large"),
-            ("7 // 2", "3"),
-            ("-7 // 2", "-4"),
-            ("7 // -2", "-4"),
-            ("-7 // -2", "3"),
-            ("-8 // 2", "-4"),
-            ("least // 1", "-9223372036854775808"),
-            ("least // -1", "!integer too large"),
-            ("1 // 0", "!division by zero"),
-            ("1 // gone", "!lost"),
-            (
-                "[1 < 2, 2 < 2, 2 <= 2, 3 <= 2]",
-                "[true, false, true, false]",
-            ),
-            (
-                "[3 > 2, 2 > 2, 2 >= 2, 1 >= 2]",
-                "[true, false, true, false]",
-            ),
-            ("1.power(2)", "!no method power/1"),
-            ("1.negate(2)", "!no method negate/1"),
-            ("1.add()", "!no method add/0"),
-            ("1.add(null, null)", "!no method add/2"),
-            ("1 + true", "!bad argument"),
-            ("1 + gone", "!lost"),
-            ("gone.fly(1)", "!lost"),
-            ("null.add(null)", "!no method add/1"),
-            ("[!true, !false]", "[false, true]"),
-            ("false.not(null)", "!no method not/1"),
-            ("-most", "-9223372036854775807"),
-            ("-least", "!integer too large"),
-        ],
-    )
-}
+const INTEGERS: &str = r#"
+2 + 3 => 5
+most + 1 => !integer too large
+least => -9223372036854775808
+least - 1 => !integer too large
+2 - 5 => -3
+-4 * 6 => -24
+most * 2 => !integer too large
+7 // 2 => 3
+-7 // 2 => -4
+7 // -2 => -4
+-7 // -2 => 3
+-8 // 2 => -4
+least // 1 => -9223372036854775808
+least // -1 => !integer too large
+1 // 0 => !division by zero
+1 // gone => !lost
+[1 < 2, 2 < 2, 2 <= 2, 3 <= 2] => [true, false, true, false]
+[3 > 2, 2 > 2, 2 >= 2, 1 >= 2] => [true, false, true, false]
+1.power(2) => !no method power/1
+1.negate(2) => !no method negate/1
+1.add() => !no method add/0
+1.add(null, null) => !no method add/2
+1 + true => !bad argument
+1 + gone => !lost
+gone.fly(1) => !lost
+null.add(null) => !no method add/1
+[!true, !false] => [false, true]
+false.not(null) => !no method not/1
+-most => -9223372036854775807
+-least => !integer too large
+"#;
 
 #[test]
-fn texts_and_lists(rt: HostRuntime) -> Result<(), Fail> {
-    let vat = after_script(rt.alloc(), "def pair := [1, 2]; def accented := \"é\"")?;
-    expect_turns(
-        &rt,
-        &vat,
-        &[
-            ("accented.size()", "1"),
-            ("accented + \"a\\\"\"", "\"éa\\\"\""),
-            ("accented + 1", "!bad argument"),
-            ("accented + gone", "!lost"),
-            ("accented.get()", "!no method get/0"),
-            ("pair.size()", "2"),
-            ("pair + [3]", "[1, 2, 3]"),
-            ("pair + 3", "!bad argument"),
-            ("pair.with([])", "[1, 2, []]"),
-            ("pair.with(gone)", "[1, 2, <broken \"lost\">]"),
-            ("[pair[0], pair[1]]", "[1, 2]"),
-            ("pair[2]", "!index out of range"),
-            ("pair[-1]", "!index out of range"),
-            ("pair[null]", "!bad argument"),
-            (
-                "\"a\\\"b\\\\c\\nd\\te\\rf'\"",
-                "\"a\\\"b\\\\c\\nd\\te\\rf'\"",
-            ),
-        ],
-    )
+fn integers(rt: HostRuntime) {
+    let script = "def most := 9223372036854775807; def least := -most - 1";
+    expect_turns(&rt, script, INTEGERS);
 }
 
-#[test]
-fn sameness(rt: HostRuntime) -> Result<(), Fail> {
-    let vat = after_script(
-        rt.alloc(),
-        "def f() { }; def g() { }; def lists := [[1, 2], [1], [1, 3]]",
-    )?;
-    expect_turns(
-        &rt,
-        &vat,
-        &[
-            (
-                "[null == null, true == true, true == false, 1 == true]",
-                "[true, true, false, false]",
-            ),
-            (
-                "[lists[0] == [1, 2], lists[0] == lists[1], lists[0] == lists[2]]",
-                "[true, false, false]",
-            ),
-            (
-                "[gone == gone, gone == \"lost\", \"a\" == \"a\", \"a\" == \"b\"]",
-                "[true, false, true, false]",
-            ),
-            ("[f == f, f == g, f == \"<e2.o0>\"]", "[true, false, false]"),
-            ("escape x { [x == x, x == f] }", "[true, false]"),
-        ],
-    )
-}
+const TEXTS_AND_LISTS: &str = r#"
+accented.size() => 1
+accented + "a\"" => "éa\""
+accented + 1 => !bad argument
+accented + gone => !lost
+accented.get() => !no method get/0
+pair.size() => 2
+pair + [3] => [1, 2, 3]
+pair + 3 => !bad argument
+pair.with([]) => [1, 2, []]
+pair.with(gone) => [1, 2, <broken "lost">]
+[pair[0], pair[1]] => [1, 2]
+pair[2] => !index out of range
+pair[-1] => !index out of range
+pair[null] => !bad argument
+"a\"b\\c\nd\te\rf'" => "a\"b\\c\nd\te\rf'"
+"#;
 
 #[test]
-fn objects(rt: HostRuntime) -> Result<(), Fail> {
-    let vat = after_script(
-        rt.alloc(),
-        "var n := 0; def counter { to next() { n := n + 1; return n } to both(a, b) { return [a, b] } }",
-    )?;
-    expect_turns(
-        &rt,
-        &vat,
-        &[
-            ("counter", "<e2.o0>"),
-            ("[counter.next(), counter.next(), n]", "[1, 2, 2]"),
-            ("counter.both(1, counter.next())", "[1, 1]"),
-            ("counter.size()", "!no method size/0"),
-            ("1 + counter", "!bad argument"),
-            ("def o { method m() { o } }; o.m()", "<e4.o0>"),
-            ("escape e { e }", "<e4.j0>"),
-            ("def spent := escape e { e }; spent(1)", "!ejector is spent"),
-            ("escape e { e.size() }", "!no method size/0"),
-            ("throw(gone)", "!lost"),
-            ("while (gone) { }", "!lost"),
-            ("while (true) { }", "turn budget spent"),
-            ("z; def z := 1", "!undefined noun z"),
-        ],
-    )
+fn texts_and_lists(rt: HostRuntime) {
+    let script = "def pair := [1, 2]; def accented := \"é\"";
+    expect_turns(&rt, script, TEXTS_AND_LISTS);
+}
+
+const SAMENESS: &str = r#"
+[null == null, true == true, true == false, 1 == true] => [true, true, false, false]
+[lists[0] == [1, 2], lists[0] == lists[1], lists[0] == lists[2]] => [true, false, false]
+[gone == gone, gone == "lost", "a" == "a", "a" == "b"] => [true, false, true, false]
+[f == f, f == g, f == "<e2.o0>"] => [true, false, false]
+escape x { [x == x, x == f] } => [true, false]
+"#;
+
+#[test]
+fn sameness(rt: HostRuntime) {
+    let script = "def f() { }; def g() { }; def lists := [[1, 2], [1], [1, 3]]";
+    expect_turns(&rt, script, SAMENESS);
+}
+
+const OBJECTS: &str = r#"
+counter => <e2.o0>
+[counter.next(), counter.next(), n] => [1, 2, 2]
+counter.both(1, counter.next()) => [1, 1]
+counter.size() => !no method size/0
+1 + counter => !bad argument
+def o { method m() { o } }; o.m() => <e4.o0>
+escape e { e } => <e4.j0>
+def spent := escape e { e }; spent(1) => !ejector is spent
+escape e { e.size() } => !no method size/0
+throw(gone) => !lost
+while (gone) { } => !lost
+while (true) { } => turn budget spent
+z; def z := 1 => !undefined noun z
+"#;
+
+#[test]
+fn objects(rt: HostRuntime) {
+    let script =
+        "var n := 0; def counter { to next() { n := n + 1; return n } to both(a, b) { return [a, b] } }";
+    expect_turns(&rt, script, OBJECTS);
 }
 
 /// An abandoned turn binds nothing, and an asked text binds no top noun.
 #[test]
-fn what_turns_bind(rt: HostRuntime) -> Result<(), Fail> {
-    let endless = after_script(rt.alloc(), "def x := 1; while (true) { }")?;
-    expect_turns(&rt, &endless, &[("x", "!undefined noun x")])?;
-    let vat = after_script(rt.alloc(), "def x := 1; def y := [x, 2]; throw(\"no\")")?;
+fn what_turns_bind(rt: HostRuntime) {
+    let endless = "def x := 1; while (true) { }";
+    expect_turns(&rt, endless, "x => !undefined noun x");
+    let thrown = "def x := 1; def y := [x, 2]; throw(\"no\")";
     expect_turns(
         &rt,
-        &vat,
-        &[("def z := y; z", "[1, 2]"), ("z", "!undefined noun z")],
-    )
+        thrown,
+        "def z := y; z => [1, 2]
+z => !undefined noun z",
+    );
 }
+
+const LIMITS: &str = r#"
+t.size() => 65535
+t + "a" => !value too large
+[t] => !value too large
+[].with(t) => !value too large
+l.size() => 65535
+l[65534] => 0
+l[65535] => !index out of range
+l.with(0) => !value too large
+l + l => !value too large
+[n] => !value too large
+[].with(n) => !value too large
+n[0] == n => false
+"#;
 
 /// The longest text, the longest list and the deepest list, and one more of each.
 #[test]
-fn limits_of_values(rt: HostRuntime) -> Result<(), Fail> {
+fn limits_of_values(rt: HostRuntime) {
     let script =
         "var t := \"\"; var l := []; var i := 0; while (i < 16) { t := t + t + \"a\"; l := l + l + [0]; i := i + 1 }; var n := null; i := 0; while (i < 64) { n := [n]; i := i + 1 }";
-    let vat = after_script(rt.alloc(), script)?;
-    expect_turns(
-        &rt,
-        &vat,
-        &[
-            ("t.size()", "65535"),
-            ("t + \"a\"", "!value too large"),
-            ("[t]", "!value too large"),
-            ("[].with(t)", "!value too large"),
-            ("l.size()", "65535"),
-            ("l[65534]", "0"),
-            ("l[65535]", "!index out of range"),
-            ("l.with(0)", "!value too large"),
-            ("l + l", "!value too large"),
-            ("[n]", "!value too large"),
-            ("[].with(n)", "!value too large"),
-            ("n[0] == n", "false"),
-        ],
-    )
+    expect_turns(&rt, script, LIMITS);
 }

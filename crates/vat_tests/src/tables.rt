@@ -1,0 +1,91 @@
+// Tables of texts and of what is wanted of them. A line of a table is a text, ` => `, and its answer. Memory is ample, so
+// where it runs out a test fails.
+
+use std::process::Abort;
+use stepper::{Limits, replies};
+
+pub(crate) const BUDGET: u32 = 10_000;
+
+const OPENED: &str = "vat a () 0\nturn e1.m0\n";
+
+const BORN: &str = "ok e1 e1.m0\nok e2 value null\n";
+
+pub(crate) fn limits(budget: u32) -> Limits {
+    Limits { budget, workers: 8 }
+}
+
+/// Compares an answer with the one that is wanted, and says what it answers where they differ.
+pub(crate) fn expect_text(rt: &impl Abort, of: &str, answered: &str, wanted: &str) {
+    if answered != wanted {
+        panic!(rt; "{of}\nis answered: {answered}\nand wanted is: {wanted}");
+    }
+}
+
+/// The text and the answer of a table's line, if it is not empty.
+pub(crate) fn row<'a>(rt: &impl Abort, line: &'a str) -> Option<(&'a str, &'a str)> {
+    let row = line.split_once(" => ");
+    assert!(rt; row.is_some() || line.is_empty(), "no answer in {line}");
+    row
+}
+
+/// Runs commands and compares the replies, and whether one is a refusal.
+pub(crate) fn expect(
+    rt: &(impl Abort + AllocGlobal),
+    budget: u32,
+    commands: &[u8],
+    wanted: &str,
+    refused: bool,
+) {
+    match replies(rt.alloc(), commands, limits(budget)) {
+        Ok((written, summary)) => {
+            expect_text(rt, shown(commands), shown(&written), wanted);
+            assert!(rt; summary.refused == refused);
+        }
+        Err(_) => assert!(rt; false),
+    }
+}
+
+/// Bytes as a text that a failure can show.
+fn shown(bytes: &[u8]) -> &str {
+    str::from_utf8(bytes).unwrap_or("bytes that are no text")
+}
+
+/// Asks a text of a vat that was opened, and compares the refusal behind the vat's own replies.
+pub(crate) fn expect_refusal(rt: &(impl Abort + AllocGlobal), text: &str, wanted: &str) {
+    let commands = format!(in rt.alloc(); "{OPENED}ask a {text}\n").expect(rt, "no memory");
+    let wanted = format!(in rt.alloc(); "{BORN}{wanted}\n").expect(rt, "no memory");
+    expect(rt, BUDGET, commands.as_bytes(), &wanted, true);
+}
+
+/// Asks a text of a vat that was opened, runs its turn, and compares how that ends.
+pub(crate) fn expect_turn(rt: &(impl Abort + AllocGlobal), budget: u32, text: &str, wanted: &str) {
+    let commands = format!(in rt.alloc(); "{OPENED}ask a {text}\nturn e3.m0\n").expect(
+        rt,
+        "no memory",
+    );
+    let wanted = format!(in rt.alloc(); "{BORN}ok e3 e3.m0\nok e4 {wanted}\n").expect(
+        rt,
+        "no memory",
+    );
+    expect(rt, budget, commands.as_bytes(), &wanted, false);
+}
+
+/// Asks the texts of some tables and runs their turns, each in a vat of its own.
+pub(crate) fn expect_turns(rt: &(impl Abort + AllocGlobal), budget: u32, tables: &[&str]) {
+    for table in tables {
+        for line in table.lines() {
+            if let Some((text, wanted)) = row(rt, line) {
+                expect_turn(rt, budget, text, wanted);
+            }
+        }
+    }
+}
+
+/// Asks the texts of a table that are refused, each in a vat of its own.
+pub(crate) fn expect_refusals(rt: &(impl Abort + AllocGlobal), table: &str) {
+    for line in table.lines() {
+        if let Some((text, wanted)) = row(rt, line) {
+            expect_refusal(rt, text, wanted);
+        }
+    }
+}
