@@ -7,8 +7,9 @@ use book::fault::BookFault;
 use ids::names::{EventName, MsgId};
 use ids::text::Text;
 use journal::entry::{Entry, Mark};
+use kernele::tree::Program;
 use std::alloc::{AllocError, Global};
-use std::fmt::Write;
+use std::fmt::{Display, Write};
 use std::process::Abort;
 
 /// The event that a word such as `e5` names.
@@ -33,68 +34,76 @@ fn shown_events(alloc: Global, names: &[EventName]) -> Result<String, AllocError
 }
 
 /// The causes of the journal's last entry, and whether it is live.
-fn last(alloc: Global, entries: &[Entry]) -> Result<String, AllocError> {
-    let mut words = String::new(alloc);
-    if let Some(entry) = entries.last() {
-        words = shown_events(alloc, &entry.causes)?;
-        words.push_str(match entry.mark {
-            Mark::Live => "live",
-            Mark::Undone => "undone",
-        })?;
-    }
-    Ok(words)
+fn last(rt: &(impl Abort + AllocGlobal), entries: &[Entry]) -> String {
+    let entry = entries.last().expect(rt, "no entry");
+    let causes = shown_events(rt.alloc(), &entry.causes).expect(rt, "no memory");
+    let mark = match entry.mark {
+        Mark::Live => "live",
+        Mark::Undone => "undone",
+    };
+    format!(in rt.alloc(); "{causes}{mark}").expect(rt, "no memory")
 }
 
-fn born(alloc: Global, book: &mut Book, name: &str, script: &str) -> Result<String, BookFault> {
-    let event = book.birth(&Text::new(alloc, name)?, program(alloc, script)?)?;
-    Ok(event.to_string(alloc)?)
+/// What a call answered, or the refusal.
+fn told<T: Display + Drop>(
+    rt: &(impl Abort + AllocGlobal),
+    answered: Result<T, BookFault>,
+) -> String {
+    let text = match answered {
+        Ok(answer) => answer.to_string(rt.alloc()),
+        Err(fault) => fault.to_string(rt.alloc()),
+    };
+    text.expect(rt, "no memory")
 }
 
-fn asked(alloc: Global, book: &mut Book, name: &str, text: &str) -> Result<String, BookFault> {
-    let event = book.ask(&Text::new(alloc, name)?, program(alloc, text)?)?;
-    Ok(event.to_string(alloc)?)
-}
-
-fn turned(alloc: Global, book: &mut Book, event: EventName) -> Result<String, BookFault> {
-    let turned = book.turn(MsgId { event, index: 0 }, 100)?;
-    Ok(ended(alloc, &turned.ended)?)
-}
-
-fn cone(alloc: Global, book: &Book, event: EventName) -> Result<String, BookFault> {
-    Ok(shown_events(alloc, &book.cone(event)?)?)
-}
-
-fn undone(alloc: Global, book: &mut Book, words: &str) -> Result<String, BookFault> {
-    let count = book.undo(&events_of(alloc, words)?)?;
-    Ok(format!(in alloc; "{count}")?)
-}
-
-fn redone(alloc: Global, book: &mut Book, words: &str) -> Result<String, BookFault> {
-    let count = book.redo(&events_of(alloc, words)?)?;
-    Ok(format!(in alloc; "{count}")?)
+fn undone(rt: &(impl Abort + AllocGlobal), book: &mut Book, again: bool, words: &str) -> String {
+    let names = events_of(rt.alloc(), words).expect(rt, "no memory");
+    told(
+        rt,
+        if again {
+            book.redo(&names)
+        } else {
+            book.undo(&names)
+        },
+    )
 }
 
 /// What a call is answered: `turn` names the event whose first message it runs, `last` asks for the journal's last entry.
-fn called(alloc: Global, book: &mut Book, call: &str) -> Result<String, BookFault> {
+fn called(rt: &(impl Abort + AllocGlobal), book: &mut Book, call: &str) -> String {
     let (verb, rest) = call.split_once(' ').unwrap_or((call, ""));
-    let (name, text) = rest.split_once(' ').unwrap_or((rest, ""));
     match verb {
-        "birth" => born(alloc, book, name, text),
-        "ask" => asked(alloc, book, name, text),
-        "turn" => turned(alloc, book, event_of(rest)),
-        "undo" => undone(alloc, book, rest),
-        "redo" => redone(alloc, book, rest),
-        "cone" => cone(alloc, book, event_of(rest)),
-        _ => Ok(last(alloc, book.journal())?),
+        "birth" => told(rt, book.birth(&vat_of(rt, rest), text_of(rt, rest))),
+        "ask" => told(rt, book.ask(&vat_of(rt, rest), text_of(rt, rest))),
+        "turn" => match book.turn(
+            MsgId {
+                event: event_of(rest),
+                index: 0,
+            },
+            100,
+        ) {
+            Ok(turned) => ended(rt, &turned.ended),
+            Err(fault) => told::<EventName>(rt, Err(fault)),
+        },
+        "undo" => undone(rt, book, false, rest),
+        "redo" => undone(rt, book, true, rest),
+        "cone" => match book.cone(event_of(rest)) {
+            Ok(names) => shown_events(rt.alloc(), &names).expect(rt, "no memory"),
+            Err(fault) => told::<EventName>(rt, Err(fault)),
+        },
+        _ => last(rt, book.journal()),
     }
 }
 
-/// The answer of a call, or the refusal.
-fn told(alloc: Global, book: &mut Book, call: &str) -> Result<String, AllocError> {
-    match called(alloc, book, call) {
-        Ok(answer) => Ok(answer),
-        Err(fault) => fault.to_string(alloc),
-    }
+/// The vat's name in `VAT TEXT`.
+fn vat_of(rt: &(impl Abort + AllocGlobal), words: &str) -> Text {
+    let (name, _) = words.split_once(' ').unwrap_or((words, ""));
+    Text::new(rt.alloc(), name).expect(rt, "no memory")
+}
+
+/// The program in `VAT TEXT`.
+fn text_of(rt: &(impl Abort + AllocGlobal), words: &str) -> Program {
+    let (_, text) = words.split_once(' ').unwrap_or((words, ""));
+    program(rt, text)
 }
 
 /// Compares what a new book answers to calls, one after the other, with what stands beside them.
@@ -102,8 +111,7 @@ fn expect_calls(rt: &(impl Abort + AllocGlobal), table: &str) {
     let mut book = Book::new(rt.alloc());
     for line in table.lines() {
         if let Some((call, wanted)) = row(rt, line) {
-            let answered = told(rt.alloc(), &mut book, call).expect(rt, "no memory");
-            expect_text(rt, call, answered.trim_end(), wanted);
+            expect_text(rt, call, called(rt, &mut book, call).trim_end(), wanted);
         }
     }
 }

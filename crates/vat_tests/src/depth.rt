@@ -1,7 +1,6 @@
 // What nests deepest, on a stack as large as that on which the program answers commands, and budgets at their ends.
 
-use crate::tables::{expect, expect_text, limits};
-use std::alloc::{AllocError, Global};
+use crate::tables::{expect, expect_text, limits, nested};
 use std::process::Abort;
 use std::rt::Runtime;
 use std::thread::{Builder, Threads};
@@ -33,20 +32,28 @@ fn expect_on_its_stack(
     }
 }
 
-fn nested(alloc: Global) -> Result<String, AllocError> {
-    let loops = "for a in ".repeat(alloc, 3276)?;
-    let bodies = "{}".repeat(alloc, 3276)?;
-    let choices = "if (true) {} else ".repeat(alloc, 2300)?;
-    format!(in alloc; "vat a () 0\nask a {loops}[]{bodies}\nask a {loops}\nask a {choices}{{}}\n")
+/// Asks a text of a vat on such a stack, and compares the refusal.
+fn expect_refusal_of(
+    rt: &(impl Runtime + AllocGlobal + Threads + Abort),
+    text: &str,
+    wanted: &str,
+) {
+    let commands = format!(in rt.alloc(); "vat a () 0\nask a {text}\n").expect(rt, "no memory");
+    let wanted = format!(in rt.alloc(); "ok e1 e1.m0\n{wanted}\n").expect(rt, "no memory");
+    expect_on_its_stack(rt, &commands, &wanted);
 }
 
 /// A loop over each list of a loop, or a condition behind each `else`, as deep as the tokens of a text allow: the texts
 /// are read, and the trees are too deep.
 #[test]
 fn nests_without_brackets(rt: HostRuntime) {
-    let commands = nested(rt.alloc()).expect(&rt, "no memory");
-    let wanted = "ok e1 e1.m0\nno K4 TooDeep\nno L5 Unexpected 29484\nno K4 TooDeep\n";
-    expect_on_its_stack(&rt, &commands, wanted);
+    for (open, times, middle, close, wanted) in &[
+        ("for a in ", 3276, "[]", "{}", "no K4 TooDeep"),
+        ("for a in ", 3276, "", "", "no L5 Unexpected 29484"),
+        ("if (true) {} else ", 2300, "{}", "", "no K4 TooDeep"),
+    ] {
+        expect_refusal_of(&rt, &nested(&rt, open, *times, middle, close), wanted);
+    }
 }
 
 #[test]
@@ -70,9 +77,9 @@ fn the_deepest_level(rt: HostRuntime) {
 /// A sum of 198 ones is 198 levels deep, so the call of it may stand at level 801.
 #[test]
 fn the_deepest_tree_at_the_deepest_level(rt: HostRuntime) {
-    let sum = "1 + ".repeat(rt.alloc(), 197).expect(&rt, "no memory");
+    let sum = nested(&rt, "1 + ", 197, "1", "");
     let commands = format!(in rt.alloc();
-        "vat a () 2\ndef g {{ method run() {{ {sum}1 }} }}\ndef f {{ method run(n) {{ if (n > 0) {{ f(n - 1) }} else {{ g() }} }} }}\nturn e1.m0\nask a f(399)\nturn e3.m0\nask a f(400)\nturn e5.m0\n"
+        "vat a () 2\ndef g {{ method run() {{ {sum} }} }}\ndef f {{ method run(n) {{ if (n > 0) {{ f(n - 1) }} else {{ g() }} }} }}\nturn e1.m0\nask a f(399)\nturn e3.m0\nask a f(400)\nturn e5.m0\n"
     ).expect(&rt, "no memory");
     let wanted =
         "ok e1 e1.m0\nok e2 value <e2.o1>\nok e3 e3.m0\nok e4 value 198\nok e5 e5.m0\nok e6 abandoned \"calls too deep\"\n";

@@ -1,7 +1,8 @@
 // Whole texts of commands with the replies that their authors are promised.
 
-use crate::tables::{BUDGET, expect, expect_refusal, expect_refusals, expect_turn, expect_turns};
-use std::alloc::{AllocError, Global};
+use crate::tables::{
+    BUDGET, expect, expect_refusal, expect_refusals, expect_turn, expect_turns, nested,
+};
 
 #[test]
 fn nothing_is_replied_to_nothing(rt: HostRuntime) {
@@ -138,51 +139,45 @@ fn slots_are_shown(rt: HostRuntime) {
     expect(&rt, BUDGET, commands, wanted, false);
 }
 
-/// A part so many times, and an end behind it.
-fn repeated(alloc: Global, part: &str, times: usize, end: &str) -> Result<String, AllocError> {
-    let mut text = part.repeat(alloc, times)?;
-    text.push_str(end)?;
-    Ok(text)
-}
-
 #[test]
 fn texts_at_their_limits(rt: HostRuntime) {
-    let sum = repeated(rt.alloc(), "1 + ", 199, "1").expect(&rt, "no memory");
-    expect_turn(&rt, BUDGET, &sum, "value 200");
-    let breaks = repeated(rt.alloc(), ";", 16_384, "").expect(&rt, "no memory");
-    expect_turn(&rt, BUDGET, &breaks, "value null");
-    let closed = repeated(rt.alloc(), ")", 100, "").expect(&rt, "no memory");
-    let end = format!(in rt.alloc(); "1{closed}").expect(&rt, "no memory");
-    let brackets = repeated(rt.alloc(), "(", 100, &end).expect(&rt, "no memory");
-    expect_turn(&rt, BUDGET, &brackets, "value 1");
+    for (open, times, middle, close, wanted) in &[
+        ("1 + ", 199, "1", "", "value 200"),
+        (";", 16_384, "", "", "value null"),
+        ("(", 100, "1", ")", "value 1"),
+    ] {
+        let text = nested(&rt, open, *times, middle, close);
+        expect_turn(&rt, BUDGET, &text, wanted);
+    }
 }
 
 #[test]
 fn texts_past_their_limits(rt: HostRuntime) {
-    for (part, times, end, wanted) in &[
+    for (open, times, middle, wanted) in &[
         ("1 + ", 200, "1", "no K4 TooDeep"),
         (";", 16_385, "", "no L8 TooLong"),
         ("(", 101, "", "no L6 TooDeep"),
     ] {
-        let text = repeated(rt.alloc(), part, *times, end).expect(&rt, "no memory");
+        let text = nested(&rt, open, *times, middle, "");
         expect_refusal(&rt, &text, wanted);
     }
 }
 
 #[test]
 fn lines_at_their_limits(rt: HostRuntime) {
-    let endless = repeated(rt.alloc(), "x", 70_000, "").expect(&rt, "no memory");
-    expect(&rt, BUDGET, endless.as_bytes(), "no S3 LineTooLong\n", true);
-    let longest = repeated(rt.alloc(), "x", 65_536, "").expect(&rt, "no memory");
-    expect(
-        &rt,
-        BUDGET,
-        longest.as_bytes(),
-        "no S1 UnknownCommand\n",
-        true,
-    );
-    let half = repeated(rt.alloc(), " ", 32_768, "\n").expect(&rt, "no memory");
-    let script = format!(in rt.alloc(); "vat a () 2\n{half}{half}show\n").expect(&rt, "no memory");
-    expect(&rt, BUDGET, script.as_bytes(), "no L8 TooLong\n", true);
+    for (part, times, wanted) in &[
+        ("x", 70_000, "no S3 LineTooLong\n"),
+        ("x", 65_536, "no S1 UnknownCommand\n"),
+    ] {
+        let line = nested(&rt, part, *times, "", "");
+        expect(&rt, BUDGET, line.as_bytes(), wanted, true);
+    }
     expect(&rt, BUDGET, b"ask a \xff\nshow", "no S2 BadWord\n", true);
+}
+
+#[test]
+fn scripts_past_their_limit(rt: HostRuntime) {
+    let lines = nested(&rt, " ", 32_768, "\n", " ");
+    let script = format!(in rt.alloc(); "vat a () 2\n{lines}\nshow\n").expect(&rt, "no memory");
+    expect(&rt, BUDGET, script.as_bytes(), "no L8 TooLong\n", true);
 }

@@ -14,6 +14,19 @@ pub(crate) fn limits(budget: u32) -> Limits {
     Limits { budget, workers: 8 }
 }
 
+/// An opening so many times, a middle, and a close as many times.
+pub(crate) fn nested(
+    rt: &(impl Abort + AllocGlobal),
+    open: &str,
+    times: usize,
+    middle: &str,
+    close: &str,
+) -> String {
+    let opened = open.repeat(rt.alloc(), times).expect(rt, "no memory");
+    let closed = close.repeat(rt.alloc(), times).expect(rt, "no memory");
+    format!(in rt.alloc(); "{opened}{middle}{closed}").expect(rt, "no memory")
+}
+
 /// Compares an answer with the one that is wanted, and says what it answers where they differ.
 pub(crate) fn expect_text(rt: &impl Abort, of: &str, answered: &str, wanted: &str) {
     if answered != wanted {

@@ -6,7 +6,6 @@ use heap::state::{Binding, VatState};
 use ids::names::{EventName, MsgId, VatNo};
 use ids::text::Text;
 use kernele::tree::Program;
-use std::alloc::{AllocError, Global};
 use std::process::Abort;
 use turn::delivery::{Delivery, Ended, Outcome};
 use turn::ticket::{Out, Ticket};
@@ -15,22 +14,16 @@ use values::value::Value;
 
 const ALICE: VatNo = VatNo(EventName(1));
 
-/// A vat whose opening turn is over.
-#[derive(Drop)]
-struct Opened {
-    state: VatState,
-}
-
 /// The program that a text spells.
-pub(crate) fn program(alloc: Global, text: &str) -> Result<Program, AllocError> {
-    match read(alloc, text) {
-        Ok(program) => Ok(program),
-        Err(_) => Err(AllocError),
+pub(crate) fn program(rt: &(impl Abort + AllocGlobal), text: &str) -> Program {
+    match read(rt.alloc(), text) {
+        Ok(program) => program,
+        Err(_) => panic!(rt; "no program: {text}"),
     }
 }
 
 /// Runs a turn by a ticket, with a budget of 2,000 steps.
-fn run(state: VatState, event: u64, delivery: Delivery) -> Result<Outcome, AllocError> {
+fn run(rt: &impl Abort, state: VatState, event: u64, delivery: Delivery) -> Outcome {
     let ticket = Ticket::new(Out {
         event: EventName(event),
         message: MsgId {
@@ -43,52 +36,50 @@ fn run(state: VatState, event: u64, delivery: Delivery) -> Result<Outcome, Alloc
         budget: 2000,
     });
     match ticket.run() {
-        Ok(ran) => Ok(ran.into_parts().outcome),
-        Err((ticket, error)) => {
+        Ok(ran) => ran.into_parts().outcome,
+        Err((ticket, _)) => {
             ticket.discard();
-            Err(error)
+            rt.panic("no memory")
         }
     }
 }
 
-/// A vat where the noun `gone` is broken by the problem "lost".
-fn unopened(alloc: Global) -> Result<VatState, AllocError> {
-    let mut state = VatState::new(alloc);
-    let lost = Value::Broken(Text::new(alloc, "lost")?);
-    state.bind_top(Text::new(alloc, "gone")?, Binding::Fixed(lost))?;
-    Ok(state)
-}
-
-/// The same once its script has run.
-fn after_script(alloc: Global, script: &str) -> Result<Opened, AllocError> {
-    let delivery = Delivery::Opening(program(alloc, script)?);
-    let state = run(unopened(alloc)?, 2, delivery)?.state;
-    Ok(Opened { state })
+/// The state of a vat where the noun `gone` is broken by the problem "lost", once its script has run.
+fn after_script(rt: &(impl Abort + AllocGlobal), script: &str) -> VatState {
+    let mut state = VatState::new(rt.alloc());
+    let lost = Value::Broken(Text::new(rt.alloc(), "lost").expect(rt, "no memory"));
+    let gone = Text::new(rt.alloc(), "gone").expect(rt, "no memory");
+    state
+        .bind_top(gone, Binding::Fixed(lost))
+        .expect(rt, "no memory");
+    run(rt, state, 2, Delivery::Opening(program(rt, script))).state
 }
 
 /// How a turn ended: its value, its problem behind `!`, or why it was abandoned.
-pub(crate) fn ended(alloc: Global, ended: &Ended) -> Result<String, AllocError> {
-    match ended {
+pub(crate) fn ended(rt: &(impl Abort + AllocGlobal), ended: &Ended) -> String {
+    let alloc = rt.alloc();
+    let told = match ended {
         Ended::Value(value) => show(alloc, value),
         Ended::Problem(problem) => format!(in alloc; "!{problem}"),
         Ended::Abandoned(why) => String::from_str(alloc, why.reason()),
-    }
+    };
+    told.expect(rt, "no memory")
 }
 
 /// How the turn ends that a text is asked in.
-fn shown(alloc: Global, opened: &Opened, text: &str) -> Result<String, AllocError> {
-    let delivery = Delivery::Asked(program(alloc, text)?);
-    let outcome = run(opened.state.try_copy()?, 4, delivery.share()?)?;
-    ended(alloc, &outcome.ended)
+fn asked(rt: &(impl Abort + AllocGlobal), state: &VatState, text: &str) -> String {
+    let delivery = Delivery::Asked(program(rt, text));
+    let shared = delivery.share().expect(rt, "no memory");
+    let state = state.try_copy().expect(rt, "no memory");
+    ended(rt, &run(rt, state, 4, shared).ended)
 }
 
 /// Compares what each text of a table gives with what stands beside it, where it is asked of a vat with this script.
 fn expect_turns(rt: &(impl Abort + AllocGlobal), script: &str, table: &str) {
-    let opened = after_script(rt.alloc(), script).expect(rt, "no memory");
+    let state = after_script(rt, script);
     for line in table.lines() {
         if let Some((text, wanted)) = row(rt, line) {
-            let answered = shown(rt.alloc(), &opened, text).expect(rt, "no memory");
-            expect_text(rt, text, &answered, wanted);
+            expect_text(rt, text, &asked(rt, &state, text), wanted);
         }
     }
 }
