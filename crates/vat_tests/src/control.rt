@@ -1,6 +1,6 @@
 // Asked texts with blocks, conditions, loops and problems, and what their authors are promised.
 
-use crate::tables::{BUDGET, expect_refusals, expect_turns};
+use crate::tables::{BUDGET, expect_all};
 
 const CONDITIONS: &str = r#"
 if (1 < 2) { "a" } else { "b" } => value "a"
@@ -48,11 +48,6 @@ var n := 1; try { n := 2; throw("x") } catch _ { n } => value 2
 def x := 1; try { def x := 2; throw("x") } catch _ { x } => value 1
 "#;
 
-#[test]
-fn blocks_and_problems(rt: HostRuntime) {
-    expect_turns(&rt, BUDGET, &[CONDITIONS, BLOCKS, LOOPS, PROBLEMS]);
-}
-
 const REFUSED_BLOCKS: &str = r#"
 { def k := 1 }; k => no K1 Unbound k
 if (true) { def k := 1 }; k => no K1 Unbound k
@@ -71,6 +66,10 @@ throw 1 => no L5 Unexpected 6
 "#;
 
 #[test]
-fn refused_blocks(rt: HostRuntime) {
-    expect_refusals(&rt, REFUSED_BLOCKS);
+fn blocks_and_problems(rt: HostRuntime) {
+    expect_all(
+        &rt,
+        BUDGET,
+        &[CONDITIONS, BLOCKS, LOOPS, PROBLEMS, REFUSED_BLOCKS],
+    );
 }

@@ -1,6 +1,6 @@
 // Asked texts with objects, methods and escapes, and what their authors are promised.
 
-use crate::tables::{BUDGET, expect, expect_refusals, expect_turns};
+use crate::tables::{BUDGET, expect, expect_all};
 
 const METHODS: &str = r#"
 def f(x) { return x * 2 }; f(21) => value 42
@@ -126,25 +126,6 @@ def f() { return __return }; [f() == f(), f()] => value [false, <e4.j2>]
 def a { }; a == "<e4.o0>" => value false
 "#;
 
-#[test]
-fn objects_and_escapes(rt: HostRuntime) {
-    expect_turns(
-        &rt,
-        BUDGET,
-        &[
-            METHODS,
-            MANY_METHODS,
-            RETURNS,
-            RECURSION,
-            CAPTURES,
-            ESCAPES,
-            SPENT_EJECTORS,
-            PROBLEMS_OF_CALLS,
-            TEXTS_AND_SAMENESS,
-        ],
-    );
-}
-
 const REFUSED_OBJECTS: &str = r#"
 return 1 => no K1 Unbound __return
 return => no K1 Unbound __return
@@ -174,8 +155,23 @@ def f() { return return 1 } => no L5 Unexpected 17
 "#;
 
 #[test]
-fn refused_objects(rt: HostRuntime) {
-    expect_refusals(&rt, REFUSED_OBJECTS);
+fn objects_and_escapes(rt: HostRuntime) {
+    expect_all(
+        &rt,
+        BUDGET,
+        &[
+            METHODS,
+            MANY_METHODS,
+            RETURNS,
+            RECURSION,
+            CAPTURES,
+            ESCAPES,
+            SPENT_EJECTORS,
+            PROBLEMS_OF_CALLS,
+            TEXTS_AND_SAMENESS,
+            REFUSED_OBJECTS,
+        ],
+    );
 }
 
 /// Objects are shown behind the slots of their vat, by event and then by number, with the names that they were bound to.

@@ -1,8 +1,6 @@
 // Whole texts of commands with the replies that their authors are promised.
 
-use crate::tables::{
-    BUDGET, expect, expect_refusal, expect_refusals, expect_turn, expect_turns, nested,
-};
+use crate::tables::{BUDGET, expect, expect_all, expect_asked, nested};
 
 #[test]
 fn nothing_is_replied_to_nothing(rt: HostRuntime) {
@@ -43,11 +41,6 @@ def x := 6; def _ := 7; x * 7 => value 42
 ;; 1 ;; 2 ;; => value 2
 "#;
 
-#[test]
-fn asked_texts_and_their_turns(rt: HostRuntime) {
-    expect_turns(&rt, BUDGET, &[ASKED_TEXTS]);
-}
-
 const REFUSED_TEXTS: &str = r#"
 x => no K1 Unbound x
 def x := 1; def x := 2 => no K3 DuplicateName x
@@ -63,9 +56,9 @@ def x := 1; x := 2 => no K2 AssignToDef x
 "#;
 
 #[test]
-fn refused_texts(rt: HostRuntime) {
-    expect_refusals(&rt, REFUSED_TEXTS);
-    expect_refusal(&rt, "1 \0", "no L1 BadCharacter 2");
+fn asked_texts_and_their_turns(rt: HostRuntime) {
+    expect_all(&rt, BUDGET, &[ASKED_TEXTS, REFUSED_TEXTS]);
+    expect_asked(&rt, BUDGET, "1 \0", "no L1 BadCharacter 2");
 }
 
 #[test]
@@ -107,9 +100,9 @@ fn the_journal_is_listed(rt: HostRuntime) {
 #[test]
 fn the_last_undo_alone_is_redone(rt: HostRuntime) {
     let commands =
-        b"vat a () 1\nvar n := 0\nturn e1.m0\nask a n := 1\nask a n\nturn e3.m0\nundo e5\nturn e4.m0\nundo e2\nredo e5\nundo e6\nredo e6\njournal";
+        b"vat a () 1\nvar n := 0\nturn e1.m0\nask a n := 1\nask a n\nturn e3.m0\nundo e5\nturn e4.m0\nundo e2\nredo e5\nundo e6\njournal\nredo e6\njournal";
     let wanted =
-        "ok e1 e1.m0\nok e2 value 0\nok e3 e3.m0\nok e4 e4.m0\nok e5 value 1\nok undone 1\nok e6 value 0\nno B15 NotClosed e2 e6\nno B21 NotNext\nok undone 1\nok redone 1\n1 e1 live birth a causes\n2 e2 live turn e1.m0 causes e1\n3 e3 live ask a causes e1\n4 e4 live ask a causes e1\n5 e5 undone turn e3.m0 causes e1 e2 e3\n6 e6 live turn e4.m0 causes e1 e2 e4\n";
+        "ok e1 e1.m0\nok e2 value 0\nok e3 e3.m0\nok e4 e4.m0\nok e5 value 1\nok undone 1\nok e6 value 0\nno B15 NotClosed e2 e6\nno B21 NotNext\nok undone 1\n1 e1 live birth a causes\n2 e2 live turn e1.m0 causes e1\n3 e3 live ask a causes e1\n4 e4 live ask a causes e1\n5 e5 undone turn e3.m0 causes e1 e2 e3\n6 e6 undone turn e4.m0 causes e1 e2 e4\nok redone 1\n1 e1 live birth a causes\n2 e2 live turn e1.m0 causes e1\n3 e3 live ask a causes e1\n4 e4 live ask a causes e1\n5 e5 undone turn e3.m0 causes e1 e2 e3\n6 e6 live turn e4.m0 causes e1 e2 e4\n";
     expect(&rt, BUDGET, commands, wanted, true);
 }
 
@@ -143,23 +136,14 @@ fn slots_are_shown(rt: HostRuntime) {
 fn texts_at_their_limits(rt: HostRuntime) {
     for (open, times, middle, close, wanted) in &[
         ("1 + ", 199, "1", "", "value 200"),
+        ("1 + ", 200, "1", "", "no K4 TooDeep"),
         (";", 16_384, "", "", "value null"),
+        (";", 16_385, "", "", "no L8 TooLong"),
         ("(", 100, "1", ")", "value 1"),
+        ("(", 101, "", "", "no L6 TooDeep"),
     ] {
         let text = nested(&rt, open, *times, middle, close);
-        expect_turn(&rt, BUDGET, &text, wanted);
-    }
-}
-
-#[test]
-fn texts_past_their_limits(rt: HostRuntime) {
-    for (open, times, middle, wanted) in &[
-        ("1 + ", 200, "1", "no K4 TooDeep"),
-        (";", 16_385, "", "no L8 TooLong"),
-        ("(", 101, "", "no L6 TooDeep"),
-    ] {
-        let text = nested(&rt, open, *times, middle, "");
-        expect_refusal(&rt, &text, wanted);
+        expect_asked(&rt, BUDGET, &text, wanted);
     }
 }
 

@@ -1,6 +1,6 @@
 // How many steps each construct takes (just enough of them give the value, one less spends the budget), and what a turn may make and keeps.
 
-use crate::tables::{expect, expect_turn, expect_turns, row};
+use crate::tables::{expect, expect_all, expect_asked, row};
 use std::process::Abort;
 
 /// Runs each text with just enough steps, and with one less.
@@ -9,8 +9,8 @@ fn expect_costs(rt: &(impl Abort + AllocGlobal), table: &str) {
         if let Some((text, wanted)) = row(rt, line) {
             let (count, value) = wanted.split_once(" steps: ").unwrap_or(("", wanted));
             let budget = count.parse().unwrap_or(0u32);
-            expect_turn(rt, budget, text, value);
-            expect_turn(
+            expect_asked(rt, budget, text, value);
+            expect_asked(
                 rt,
                 budget.saturating_sub(1),
                 text,
@@ -55,7 +55,7 @@ var i := 0; while (i < 4097) { def _ { }; i := i + 1 }; i => abandoned "turn too
 
 #[test]
 fn limits_of_a_turn(rt: HostRuntime) {
-    expect_turns(&rt, 100_000, &[LIMITS_OF_A_TURN]);
+    expect_all(&rt, 100_000, &[LIMITS_OF_A_TURN]);
 }
 
 /// An abandoned turn leaves a variable as it was, a turn that ends with a problem keeps what it wrote.

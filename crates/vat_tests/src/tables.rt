@@ -63,42 +63,32 @@ fn shown(bytes: &[u8]) -> &str {
     str::from_utf8(bytes).unwrap_or("bytes that are no text")
 }
 
-/// Asks a text of a vat that was opened, and compares the refusal behind the vat's own replies.
-pub(crate) fn expect_refusal(rt: &(impl Abort + AllocGlobal), text: &str, wanted: &str) {
-    let commands = format!(in rt.alloc(); "{OPENED}ask a {text}\n").expect(rt, "no memory");
-    let wanted = format!(in rt.alloc(); "{BORN}{wanted}\n").expect(rt, "no memory");
-    expect(rt, BUDGET, commands.as_bytes(), &wanted, true);
-}
-
-/// Asks a text of a vat that was opened, runs its turn, and compares how that ends.
-pub(crate) fn expect_turn(rt: &(impl Abort + AllocGlobal), budget: u32, text: &str, wanted: &str) {
+/// Asks a text of a vat that was opened, runs its turn, and compares how that ends, or with what the text is refused.
+pub(crate) fn expect_asked(rt: &(impl Abort + AllocGlobal), budget: u32, text: &str, wanted: &str) {
+    let refused = wanted.starts_with("no ");
+    let (before, behind) = if refused {
+        ("", "no B3 NoMessage e3.m0\n")
+    } else {
+        ("ok e3 e3.m0\nok e4 ", "")
+    };
     let commands = format!(in rt.alloc(); "{OPENED}ask a {text}\nturn e3.m0\n").expect(
         rt,
         "no memory",
     );
-    let wanted = format!(in rt.alloc(); "{BORN}ok e3 e3.m0\nok e4 {wanted}\n").expect(
+    let replies = format!(in rt.alloc(); "{BORN}{before}{wanted}\n{behind}").expect(
         rt,
         "no memory",
     );
-    expect(rt, budget, commands.as_bytes(), &wanted, false);
+    expect(rt, budget, commands.as_bytes(), &replies, refused);
 }
 
-/// Asks the texts of some tables and runs their turns, each in a vat of its own.
-pub(crate) fn expect_turns(rt: &(impl Abort + AllocGlobal), budget: u32, tables: &[&str]) {
+/// Asks the texts of some tables, each in a vat of its own.
+pub(crate) fn expect_all(rt: &(impl Abort + AllocGlobal), budget: u32, tables: &[&str]) {
     for table in tables {
         for line in table.lines() {
             if let Some((text, wanted)) = row(rt, line) {
-                expect_turn(rt, budget, text, wanted);
+                expect_asked(rt, budget, text, wanted);
             }
-        }
-    }
-}
-
-/// Asks the texts of a table that are refused, each in a vat of its own.
-pub(crate) fn expect_refusals(rt: &(impl Abort + AllocGlobal), table: &str) {
-    for line in table.lines() {
-        if let Some((text, wanted)) = row(rt, line) {
-            expect_refusal(rt, text, wanted);
         }
     }
 }

@@ -15,7 +15,7 @@ use values::value::Value;
 const ALICE: VatNo = VatNo(EventName(1));
 
 /// The program that a text spells.
-pub(crate) fn program(rt: &(impl Abort + AllocGlobal), text: &str) -> Program {
+fn program(rt: &(impl Abort + AllocGlobal), text: &str) -> Program {
     match read(rt.alloc(), text) {
         Ok(program) => program,
         Err(_) => panic!(rt; "no program: {text}"),
@@ -56,7 +56,7 @@ fn after_script(rt: &(impl Abort + AllocGlobal), script: &str) -> VatState {
 }
 
 /// How a turn ended: its value, its problem behind `!`, or why it was abandoned.
-pub(crate) fn ended(rt: &(impl Abort + AllocGlobal), ended: &Ended) -> String {
+fn ended(rt: &(impl Abort + AllocGlobal), ended: &Ended) -> String {
     let alloc = rt.alloc();
     let told = match ended {
         Ended::Value(value) => show(alloc, value),

@@ -1,6 +1,6 @@
 // Where names are in scope, in asked texts.
 
-use crate::tables::{BUDGET, expect_refusals, expect_turns};
+use crate::tables::{BUDGET, expect_all};
 
 const IN_SCOPE: &str = r#"
 [(def y := 1)]; def z := y; z => value 1
@@ -12,11 +12,6 @@ var v := 1; { { v := 3 } }; v => value 3
 x := (var x := 1) => value 1
 try { throw((def [a, _, b] := [1, 2, 3])); b } catch p { p } => value "not a text"
 "#;
-
-#[test]
-fn names_in_scope(rt: HostRuntime) {
-    expect_turns(&rt, BUDGET, &[IN_SCOPE]);
-}
 
 const OUT_OF_SCOPE: &str = r#"
 def x := x => no K1 Unbound x
@@ -34,6 +29,6 @@ def v := []; for v in v { def v := 1 } => no K3 DuplicateName v
 "#;
 
 #[test]
-fn names_out_of_scope(rt: HostRuntime) {
-    expect_refusals(&rt, OUT_OF_SCOPE);
+fn names_in_scope(rt: HostRuntime) {
+    expect_all(&rt, BUDGET, &[IN_SCOPE, OUT_OF_SCOPE]);
 }
