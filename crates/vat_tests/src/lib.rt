@@ -1,4 +1,4 @@
-//! What vats, books and commands answer where memory is ample: tables of texts, calls and commands, each with the answer that is wanted.
+//! What vats and commands answer where memory is ample: tables of texts and texts of commands, each with the answer that is wanted.
 #![tactic(auto)]
 
 #[cfg(test)]
