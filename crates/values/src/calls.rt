@@ -1,7 +1,7 @@
 // The verbs of data. Calls on integers are inlined where they are made, and no others, so that a sum costs little.
-ghost use Rattle.std.specs.Prelude.{◌≡◌, IfOk, IfSome};
-ghost use Rattle.values.specs.Data.{bool, int, and_val, no_vals, gives};
-ghost use Rattle.values.specs.Replies.{bool_table, data_reply};
+ghost use Rattle.std.specs.Prelude.{◌≡◌, IfOk, option_map};
+ghost use Rattle.values.specs.Data.{int, and_val, no_vals};
+ghost use Rattle.values.specs.Replies.{bool_table, data_reply, value_given, integer_given, truth_given};
 ghost use Rattle.values.specs.View.{val_of, vals_of, reply_of};
 
 use crate::integers::{IntReply, int_call, int_with};
@@ -55,7 +55,7 @@ pub fn call_verb(
 /// The value that a verb gives on two integers, if it gives one. Nothing is made.
 #[inline(always)]
 pub fn call_integers(x: i64, verb: &Verb, y: i64) -> Option<Value>
-    ensures { IfSome result (λ v. data_reply (int x) verb.now (and_val (int y) no_vals) ≡ gives (val_of v)) }
+    ensures { option_map val_of result ≡ value_given (data_reply (int x) verb.now (and_val (int y) no_vals)) }
 {
     match int_with(x, verb, &Value::Int(y)) {
         IntReply::Integer(integer) => Some(Value::Int(integer)),
@@ -70,7 +70,7 @@ pub fn call_integers(x: i64, verb: &Verb, y: i64) -> Option<Value>
 /// The integer that a verb makes of two integers, if it makes one.
 #[inline(always)]
 pub fn combine_integers(x: i64, verb: &Verb, y: i64) -> Option<i64>
-    ensures { IfSome result (λ n. data_reply (int x) verb.now (and_val (int y) no_vals) ≡ gives (int n)) }
+    ensures { result ≡ integer_given (data_reply (int x) verb.now (and_val (int y) no_vals)) }
 {
     match int_with(x, verb, &Value::Int(y)) {
         IntReply::Integer(integer) => Some(integer),
@@ -85,7 +85,7 @@ pub fn combine_integers(x: i64, verb: &Verb, y: i64) -> Option<i64>
 /// What a verb says of two integers, if it says whether something holds.
 #[inline(always)]
 pub fn compare_integers(x: i64, verb: &Verb, y: i64) -> Option<bool>
-    ensures { IfSome result (λ holds. data_reply (int x) verb.now (and_val (int y) no_vals) ≡ gives (bool holds)) }
+    ensures { result ≡ truth_given (data_reply (int x) verb.now (and_val (int y) no_vals)) }
 {
     match int_with(x, verb, &Value::Int(y)) {
         IntReply::Truth(holds) => Some(holds),
