@@ -4,4 +4,4 @@
 pub mod book;
 pub mod fault;
 pub mod rerun;
-pub mod undoing;
+mod undoing;

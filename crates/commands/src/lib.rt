@@ -3,6 +3,6 @@
 
 pub mod command;
 pub mod lines;
-pub mod numbers;
+mod numbers;
 pub mod script;
-pub mod words;
+mod words;

@@ -23,7 +23,7 @@ fn is_numeral(word: &str) -> bool
 }
 
 /// A number of at most 4,294,967,295, leading zeros allowed.
-pub fn number(word: &str) -> Option<u32>
+pub(crate) fn number(word: &str) -> Option<u32>
     ensures { result ≡ number_of word.now }
 {
     if is_numeral(word) {
@@ -50,7 +50,7 @@ fn tagged(tag: char, word: &str) -> Option<u32>
 }
 
 /// A message's name, such as `e7.m0`.
-pub fn message_named(word: &str) -> Option<MsgId>
+pub(crate) fn message_named(word: &str) -> Option<MsgId>
     ensures { result ≡ message_named word.now }
 {
     let (event, index) = word.split_once('.')?;
@@ -63,7 +63,7 @@ pub fn message_named(word: &str) -> Option<MsgId>
 }
 
 /// An event's name, such as `e7`.
-pub fn event_named(word: &str) -> Option<EventName>
+pub(crate) fn event_named(word: &str) -> Option<EventName>
     ensures { result ≡ event_named word.now }
 {
     let number = tagged('e', word)?;
@@ -71,7 +71,7 @@ pub fn event_named(word: &str) -> Option<EventName>
 }
 
 /// The events that the words of a text name, where they are one or more and all are names.
-pub fn events_named(alloc: Global, words: &str) -> Result<Option<Vec<EventName>>, AllocError>
+pub(crate) fn events_named(alloc: Global, words: &str) -> Result<Option<Vec<EventName>>, AllocError>
     ensures { IfOk result (λ r. option_map (λ events. events.items) r ≡ one_or_more (words_in words.now)) }
 {
     let mut events = Vec::new(alloc);

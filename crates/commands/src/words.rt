@@ -36,14 +36,14 @@ fn blanks_end(text: &[u8]) -> usize
 }
 
 /// What begins with the first character that is no blank.
-pub fn skip_blanks(text: &str) -> &str
+pub(crate) fn skip_blanks(text: &str) -> &str
     ensures { result.now ≡ without_blanks text.now }
 {
     text.split_at(blanks_end(text.as_bytes())).1
 }
 
 /// The word that a text begins with, and what stands behind the blanks after it.
-pub fn cut_word(text: &str) -> (&str, &str)
+pub(crate) fn cut_word(text: &str) -> (&str, &str)
     ensures word { result.0.now ≡ first_word text.now }
     ensures rest { result.1.now ≡ behind_word text.now }
 {

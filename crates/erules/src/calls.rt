@@ -99,7 +99,7 @@ pub fn enter_method(w: &mut Working, nouns: Vec<Local>) -> Caller
 }
 
 /// A frame with no names: one that a method before left, if there is one.
-pub fn empty_frame(w: &mut Working) -> Vec<Local>
+pub(crate) fn empty_frame(w: &mut Working) -> Vec<Local>
     ensures empty { result.items ≡ [] }
     ensures place { at w.new ≡ at w.old }
 {

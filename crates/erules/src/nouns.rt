@@ -54,7 +54,7 @@ fn slot_end(w: &Working, slot: SlotId, name: &Text) -> Result<End, AllocError>
 }
 
 /// What a name throws that stands for nothing.
-pub fn undefined(alloc: Global, name: &Text) -> Result<End, AllocError>
+pub(crate) fn undefined(alloc: Global, name: &Text) -> Result<End, AllocError>
     ensures { IfOk result (λ o. end_of o ≡ undefined_noun name.now) }
 {
     let mut problem = String::from_str(alloc, "undefined noun ")?;
@@ -64,7 +64,7 @@ pub fn undefined(alloc: Global, name: &Text) -> Result<End, AllocError>
 
 /// What a name stands for: its newest meaning in the scopes, which is at its place, else the vat's top noun.
 #[inline(always)]
-pub fn seek<'a>(w: &'a Working, name: &Text, place: Place) -> Option<&'a Binding>
+pub(crate) fn seek<'a>(w: &'a Working, name: &Text, place: Place) -> Option<&'a Binding>
     requires { place ≡ place_in (frame_at (at w.now)) name.now }
     ensures { option_map (λ b. bind_of b.now) result ≡ sought name.now (at w.now) }
 {

@@ -157,7 +157,7 @@ fn make(
 }
 
 /// What a call on an object leads to.
-pub fn object_target(
+pub(crate) fn object_target(
     w: &mut Working,
     id: ObjId,
     verb: &Verb,

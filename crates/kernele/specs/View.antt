@@ -4,7 +4,6 @@ use Rattle.kernele.specs.Tree.{Tree, null_tree, bool_tree, int_tree, text_tree, 
 use Rattle.kernele.specs.declared.tree.Expr as code
 use Rattle.kernele.specs.declared.tree.Expr.{Expr}
 use Rattle.kernele.specs.declared.tree.Method.{Method}
-use Rattle.kernele.specs.declared.tree.Method as methods
 use Rattle.kernele.specs.declared.tree.Block.{Block}
 use Rattle.kernele.specs.declared.tree.Program.{Program}
 

@@ -1,6 +1,6 @@
 // The canonical spelling of a program.
 ghost use Rattle.std.specs.Prelude.{◌≡◌, ◌++◌, IfOk, OnOk, string_bytes, codes, map, true};
-ghost use Rattle.kernele.specs.Tree.{bool_tree, define, define_list, assign, call, same_tree, if_tree, while_tree, for_tree, try_tree, object_tree, escape_tree};
+ghost use Rattle.kernele.specs.Tree.{bool_tree, define, define_list, variable, assign, call, list_tree, same_tree, if_tree, while_tree, for_tree, try_tree, throw_tree, object_tree, escape_tree};
 ghost use Rattle.kernele.specs.View.{tree_of, trees_of, methods_of, program_of};
 ghost use Rattle.kernele.specs.Spelling.{spelling, spelled, spelled_parts, spelled_items, spelled_methods, joined, bracketed, in_braces, methods_in_braces, method_text, bound_name, needs_brackets as brackets_test, is_bare_receiver as bare_receiver_test, as_part, as_receiver, message};
 
@@ -46,17 +46,10 @@ fn write_expr(e: &Expr, out: &mut String) -> Result<(), AllocError>
         Expr::Text(text) => write_quoted(text.as_str(), out),
         Expr::Noun(name) => out.push_str(name.as_str()),
         Expr::Def(pattern, value) => write_def(pattern, value, out),
-        Expr::Var(name, value) => {
-            out.push_str("var ")?;
-            write_assign(name, value, out)
-        }
+        Expr::Var(name, value) => write_var(name, value, out),
         Expr::Assign(name, value) => write_assign(name, value, out),
         Expr::Call(receiver, verb, args) => write_call(receiver, verb, args, out),
-        Expr::List(items) => {
-            out.push_str("[")?;
-            write_parts(items, out)?;
-            out.push_str("]")
-        }
+        Expr::List(items) => write_list(items, out),
         Expr::Same(left, right) => write_same(left, right, out),
         Expr::DefList(patterns, value) => write_def_list(patterns, value, out),
         Expr::Hide(body) => write_block(body, out),
@@ -64,11 +57,7 @@ fn write_expr(e: &Expr, out: &mut String) -> Result<(), AllocError>
         Expr::While(condition, body) => write_while(condition, body, out),
         Expr::For(pattern, list, body) => write_for(pattern, list, body, out),
         Expr::Try(body, pattern, handler) => write_try(body, pattern, handler, out),
-        Expr::Throw(problem) => {
-            out.push_str("throw(")?;
-            write_part(problem, out)?;
-            out.push_str(")")
-        }
+        Expr::Throw(problem) => write_throw(problem, out),
         Expr::Object(pattern, methods) => write_object(pattern, methods, out),
         Expr::Escape(name, body) => write_escape(name, body, out),
     }
@@ -101,6 +90,32 @@ fn write_assign(name: &Text, value: &Expr, out: &mut String) -> Result<(), Alloc
     out.push_str(name.as_str())?;
     out.push_str(" := ")?;
     write_part(value, out)
+}
+
+#[cycle(print)]
+fn write_var(name: &Text, value: &Expr, out: &mut String) -> Result<(), AllocError>
+    ensures { OnOk result (string_bytes out.new ≡ string_bytes out.old ++ spelled (variable name.now (tree_of value.now))) }
+{
+    out.push_str("var ")?;
+    write_assign(name, value, out)
+}
+
+#[cycle(print)]
+fn write_list(items: &[Expr], out: &mut String) -> Result<(), AllocError>
+    ensures { OnOk result (string_bytes out.new ≡ string_bytes out.old ++ spelled (list_tree (trees_of items.now))) }
+{
+    out.push_str("[")?;
+    write_parts(items, out)?;
+    out.push_str("]")
+}
+
+#[cycle(print)]
+fn write_throw(problem: &Expr, out: &mut String) -> Result<(), AllocError>
+    ensures { OnOk result (string_bytes out.new ≡ string_bytes out.old ++ spelled (throw_tree (tree_of problem.now))) }
+{
+    out.push_str("throw(")?;
+    write_part(problem, out)?;
+    out.push_str(")")
 }
 
 #[cycle(print)]

@@ -102,14 +102,14 @@ impl World {
         self.homes.get(&number)
     }
 
-    pub fn message(&self, name: MsgId) -> Option<&Message>
+    pub(crate) fn message(&self, name: MsgId) -> Option<&Message>
         ensures { option_map (λ g. message (message_of g.now)) result ≡ world_of self.now (key.Msg name) }
     {
         self.messages.get(&name)
     }
 
     /// Adds a message, or changes nothing.
-    pub fn add_message(&mut self, name: MsgId, added: Message) -> Result<(), AllocError>
+    pub(crate) fn add_message(&mut self, name: MsgId, added: Message) -> Result<(), AllocError>
         ensures ok { OnOk result (world_of self.new ≡ put (key.Msg name) (message (message_of added)) (world_of self.old)) }
         ensures err { OnErr result (world_of self.new ≡ world_of self.old) }
     {
@@ -187,7 +187,7 @@ impl World {
     }
 
     /// Adds a vat with its state and its opening message, or changes nothing.
-    pub fn add_vat(
+    pub(crate) fn add_vat(
         &mut self,
         vat: Vat,
         added: Home,
@@ -228,7 +228,7 @@ impl World {
     }
 
     /// Gives a vat a new state.
-    pub fn give_state(&mut self, number: VatNo, state: VatState)
+    pub(crate) fn give_state(&mut self, number: VatNo, state: VatState)
         ensures { (x : List ℕ) (s : State) → world_of self.old (key.State number) ≡ Some (home x s) → world_of self.new ≡ put (key.State number) (home x (state_of state)) (world_of self.old) }
     {
         if let Some(home) = self.homes.get_mut(&number) {
@@ -237,7 +237,7 @@ impl World {
     }
 
     /// Publishes what a turn gave and marks its message as done, or changes nothing.
-    pub fn settle(
+    pub(crate) fn settle(
         &mut self,
         event: EventName,
         name: MsgId,

@@ -6,10 +6,13 @@ use Rattle.kernele.specs.View.{tree_of, trees_of, methods_of}
 use Rattle.kernele.proofs.Walks.{tree_is_call, tree_is_list, tree_is_hide, tree_is_if, tree_is_while, tree_is_for, tree_is_try, tree_is_object, tree_is_escape, braces, append_more, append_end, methods_more, methods_end}
 use Rattle.kernele.proofs.printing.+print.Goals as goal
 
-pub write_expr-returns-in_ok-write_parts-in-List : goal.write_expr-returns-in_ok-write_parts-in-List
-write_expr-returns-in_ok-write_parts-in-List t c =
+pub write_expr-returns-in-List : goal.write_expr-returns-in-List
+write_expr-returns-in-List t c =
     let is = tree_is_list c.in-List.items c.in-List.is c.deref-in-List.ensures c.deref-in-List-2.ensures.value in
-    rw is (search (rules, IfOk-equal, append_assoc))
+    rw is c.write_list.ensures
+
+pub write_list-returns : goal.write_list-returns
+write_list-returns t c = search (rules, IfOk-equal, append_assoc)
 
 pub write_parts-loop-part-preserved : goal.write_parts-loop-part-preserved
 write_parts-loop-part-preserved t c =

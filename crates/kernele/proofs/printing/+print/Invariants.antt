@@ -24,6 +24,9 @@ decreases-write_expr l = 6 * goal.size-write_expr l
 abbrev pub decreases-write_items : goal.decreases-write_items
 decreases-write_items l = 6 * goal.size-write_items l + 1
 
+abbrev pub decreases-write_list : goal.decreases-write_list
+decreases-write_list l = 6 * goal.size-write_list l + 4
+
 abbrev pub decreases-write_block : goal.decreases-write_block
 decreases-write_block l = 6 * goal.size-write_block l + 2
 
@@ -45,8 +48,14 @@ decreases-write_def l = 6 * goal.size-write_def l + 3
 abbrev pub decreases-write_def_list : goal.decreases-write_def_list
 decreases-write_def_list l = 6 * goal.size-write_def_list l + 3
 
+abbrev pub decreases-write_var : goal.decreases-write_var
+decreases-write_var l = 6 * goal.size-write_var l + 4
+
 abbrev pub decreases-write_assign : goal.decreases-write_assign
 decreases-write_assign l = 6 * goal.size-write_assign l + 3
+
+abbrev pub decreases-write_throw : goal.decreases-write_throw
+decreases-write_throw l = 6 * goal.size-write_throw l + 3
 
 abbrev pub decreases-write_condition : goal.decreases-write_condition
 decreases-write_condition l = 6 * goal.size-write_condition l + 3
