@@ -59,7 +59,11 @@ fn check_closed(alloc: Global, entries: &[Entry], names: &[EventName]) -> Result
 
 /// Whether these events may be undone: all are in the journal and live, and so are all live
 /// events that came of them.
-pub(crate) fn check_undo(alloc: Global, entries: &[Entry], names: &[EventName]) -> Result<(), BookFault>
+pub(crate) fn check_undo(
+    alloc: Global,
+    entries: &[Entry],
+    names: &[EventName],
+) -> Result<(), BookFault>
     ensures ok { OnOk result (undo_refusal (lines_of entries.now) names.now ≡ None) }
     ensures err { IfErr result (λ fault. Tells fault (undo_refusal (lines_of entries.now) names.now)) }
 {
@@ -96,7 +100,11 @@ pub(crate) fn check_redo(
 }
 
 /// The live events that go with an event when it is undone, and the event itself, in order.
-pub(crate) fn cone(alloc: Global, entries: &[Entry], root: EventName) -> Result<Vec<EventName>, BookFault>
+pub(crate) fn cone(
+    alloc: Global,
+    entries: &[Entry],
+    root: EventName,
+) -> Result<Vec<EventName>, BookFault>
     requires { CausesComeFirst (lines_of entries.now) }
     ensures ok { IfOk result (λ names. (cone_refusal (lines_of entries.now) root ≡ None) × Cone (lines_of entries.now) root names.items) }
     ensures err { IfErr result (λ fault. Tells fault (cone_refusal (lines_of entries.now) root)) }
