@@ -7,7 +7,7 @@ use Rattle.journal.specs.Journal.{Line, chosen, is_entered, undone_in, redone_in
 use Rattle.causality.specs.Selections.{least_missing, first_undone, first_gap, first_live, same_set}
 use Rattle.causality.proofs.Sets.{not_mapped, all_entered, all_live, all_undone, all_closed}
 use Rattle.book.specs.Books.{Book}
-use Rattle.book.specs.Refusals.{no_event, not_live, still_live, not_next, gap_refusal, missing_refusal, undone_refusal, live_refusal, open_refusal, undo_refusal, redo_refusal}
+use Rattle.book.specs.Refusals.{no_event, not_live, still_live, not_next, gap_refusal, missing_refusal, undone_refusal, live_refusal, undo_refusal, redo_refusal}
 use Rattle.book.proofs.Refused.{neither}
 
 -- the parts of an undo that is not refused

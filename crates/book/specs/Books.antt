@@ -1,7 +1,7 @@
 -- The book: what has happened so far, and the headline about it.
 use Rattle.std.specs.Prelude.{◌≡◌, ◌<◌, ℕ, List, [], map, reverse}
 use Rattle.std.specs.List.{AllByRecursion}
-use Rattle.history.specs.Subject.{Footprint, Run}
+use Rattle.history.specs.Subject.{Run}
 use Rattle.history.specs.Subject as history
 use Rattle.history.specs.Journal.{Entry, live_set, both, named, Good, Named, Sound}
 use Rattle.ids.specs.declared.names.EventName.{EventName}

@@ -1,5 +1,5 @@
 -- What each part of the reader gives, as a function of the tokens: a tree and what is after it, or nothing.
-use Rattle.std.specs.Prelude.{Bool, true, false, cond, ℕ, zero, suc, List, [], ◌∷◌, ◌++◌, length, Option, Some, None, codes}
+use Rattle.std.specs.Prelude.{Bool, true, false, cond, ℕ, zero, suc, List, [], ◌∷◌, ◌++◌, length, Option, Some, None}
 use Rattle.etoken.specs.declared.token.Token.{Token}
 use Rattle.etoken.specs.declared.token.Token.TheVariants as token
 use Rattle.etoken.specs.declared.token.Reserved as words
@@ -11,7 +11,6 @@ use Rattle.kernele.specs.declared.tree.Pattern.TheVariants as pattern
 use Rattle.kernele.specs.Tree.{Name, Tree, null_tree, int_tree, text_tree, noun, call, list_tree, hide, if_tree, while_tree, for_tree, try_tree, throw_tree, object_tree, escape_tree, Trees, none, and_then, Methods, no_methods}
 use Rattle.enodes.specs.declared.operator.Operator.{Operator}
 use Rattle.enodes.specs.declared.operator.Link.{Link}
-use Rattle.enodes.specs.declared.operator.Link.TheVariants as link
 use Rattle.enodes.specs.declared.operator.Bracket.{Bracket}
 use Rattle.enodes.specs.declared.operator.Bracket.TheVariants as bracket
 use Rattle.enodes.specs.Nodes.{product_operator, sum_operator, comparison_operator, and_operator, or_operator, prefix_operator, joined, prefix_verb, Place, definition, definitions, new_variable, assignment, given, snoc, alone, MethodTree, method_tree, return_tree, function_tree, literal_of, block_of, link_of, verb_of, closer}

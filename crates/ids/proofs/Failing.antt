@@ -1,5 +1,5 @@
 -- What is claimed of a call that failed.
-use Rattle.std.proofs.Common.{◌≡◌, Bool, true, Result, Ok, Err, sym}
+use Rattle.std.proofs.Common.{◌≡◌, true, Result, Ok, Err, sym}
 use Rattle.std.proofs.lemmas.Bool.{true≢false}
 use Rattle.std.specs.Result.{IfOk, is_err}
 

@@ -1,9 +1,9 @@
 -- Lists whose first items are changed, and lines that are marked.
-use Rattle.std.proofs.Common.{◌≡◌, ℕ, suc, zero, ◌+◌, ◌<◌, ◌≤◌, List, [], ◌∷◌, Bool, true, false, cond, refl, ap, sym, ◌∙◌, map, set, length, get_or, arith, add-one}
+use Rattle.std.proofs.Common.{◌≡◌, ℕ, suc, zero, ◌+◌, ◌<◌, ◌≤◌, List, [], ◌∷◌, Bool, true, false, refl, ap, sym, ◌∙◌, map, set, length, get_or, arith, add-one}
 use Rattle.std.specs.Prelude.{◌||◌, ◌&&◌, not}
 use Rattle.ids.specs.declared.names.EventName.{EventName}
 use Rattle.std.proofs.lemmas.List.{map-set, length-map}
-use Rattle.journal.specs.Journal.{Line, name_of, among, chosen}
+use Rattle.journal.specs.Journal.{Line, among, chosen}
 use Rattle.journal.specs.EntryView.{is_live, line_of, lines_of}
 use Rattle.journal.specs.declared.entry.Entry.{Entry}
 use Rattle.journal.specs.declared.entry.Mark.{Mark}

@@ -1,7 +1,7 @@
 -- What a check adds to the scopes.
 use Rattle.std.proofs.Common.{◌≡◌, List, [], ◌∷◌, ◌++◌, Bool, true, false, Option, Some, None, Ok, Err, ap, sym, refl, ◌∙◌, cond, length}
 use Rattle.kernele.specs.Tree.{Name, Tree, null_tree, bool_tree, int_tree, text_tree, noun, define, variable, assign, call, list_tree, same_tree, define_list, hide, if_tree, while_tree, for_tree, try_tree, throw_tree, object_tree, escape_tree, Trees, none, and_then, Methods, no_methods, and_method}
-use Rattle.scopes.specs.Scope.{Names, Scopes, Refusal, Checked, in_turn, added, bound, all_bound, entered, left_for, in_block, checked_with, checked_taking, checked_methods, Signature, new_method, has_signature, assigned, assigned_to, kind_in, checked, checked_all, with_names, with_name, defined_name, variable_name, name_of, names_of_all, own_names, own_names_in}
+use Rattle.scopes.specs.Scope.{Names, Scopes, Refusal, Checked, in_turn, added, bound, all_bound, entered, left_for, in_block, checked_with, checked_taking, checked_methods, Signature, new_method, assigned, assigned_to, kind_in, checked, checked_all, with_names, with_name, defined_name, variable_name, name_of, names_of_all, own_names, own_names_in}
 use Rattle.kernele.specs.declared.tree.Pattern.{Pattern}
 use Rattle.kernele.specs.declared.tree.Pattern.TheVariants as pattern
 use Rattle.scopes.specs.declared.naming.Kind.{Kind}

@@ -2,7 +2,7 @@
 use Rattle.std.specs.Prelude.{List, [], ◌∷◌, ◌++◌, Bool, true, false, if◌then◌else◌}
 use Rattle.std.specs.Str.{bytes_eq}
 use Rattle.kernele.specs.Tree.{Name, Tree, null_tree, bool_tree, int_tree, text_tree, noun, define, variable, assign, call, list_tree, same_tree, define_list, hide, if_tree, while_tree, for_tree, try_tree, throw_tree, object_tree, escape_tree, Trees, none, and_then, Methods, no_methods, and_method}
-use Rattle.scopes.specs.Scope.{defined_name, name_of, names_of_all, own_names, own_names_in}
+use Rattle.scopes.specs.Scope.{defined_name, name_of, names_of_all, own_names}
 use Rattle.kernele.specs.declared.tree.Pattern.{Pattern}
 use Rattle.scopes.specs.declared.naming.TopName.{TopName}
 
