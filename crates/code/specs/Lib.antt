@@ -1,6 +1,5 @@
 pub mod View
 pub mod Index
 pub mod Frames
-pub mod Resolves
 pub mod Props
 pub mod Newest

@@ -27,7 +27,7 @@ pub struct MethodIndex {
 const FEW_METHODS: usize = 8;
 
 /// The index of these methods, if they are many.
-pub(crate) fn index_many(
+pub fn index_many(
     alloc: Global,
     methods: &[MethodCode],
 ) -> Result<Option<Arc<MethodIndex>>, AllocError>

@@ -1,10 +1,7 @@
-//! Programs whose names are resolved: each noun has its position in the frame where it is evaluated.
+//! Programs whose names are resolved, what it means that each noun has its position in the frame where it is evaluated, and
+//! the index of an object's methods.
 #![tactic(auto)]
 
 pub mod code;
-mod frame;
 pub mod index;
-mod resolving;
-
-pub use frame::places_are_newest;
-pub use resolving::{Resolved, resolve};
+pub mod theorems;

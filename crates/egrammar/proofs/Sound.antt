@@ -8,12 +8,14 @@ use Rattle.etoken.specs.declared.token.Sign as signs
 use Rattle.etoken.specs.declared.token.Sign.TheVariants as sign
 use Rattle.kernele.specs.declared.tree.Pattern.{Pattern}
 use Rattle.kernele.specs.Tree.{Name, Tree, null_tree, define, define_list, variable, assign, call, list_tree, hide, if_tree, while_tree, for_tree, try_tree, throw_tree, object_tree, escape_tree, Trees, none, and_then, Methods, no_methods}
-use Rattle.enodes.specs.declared.operator.Operator.{Operator}
-use Rattle.enodes.specs.declared.operator.Link.{Link}
-use Rattle.enodes.specs.declared.operator.Link.TheVariants as link
-use Rattle.enodes.specs.declared.operator.Bracket.{Bracket}
-use Rattle.enodes.specs.declared.operator.Bracket.TheVariants as bracket
-use Rattle.enodes.specs.Nodes.{product_operator, sum_operator, comparison_operator, and_operator, or_operator, prefix_operator, joined, prefix_verb, Place, definition, definitions, new_variable, assignment, given, snoc, alone, MethodTree, method_tree, return_tree, returning, function_tree, literal_of, link_of, closer}
+use Rattle.esigns.specs.declared.operator.Operator.{Operator}
+use Rattle.esigns.specs.declared.operator.Link.{Link}
+use Rattle.esigns.specs.declared.operator.Link.TheVariants as link
+use Rattle.esigns.specs.declared.operator.Bracket.{Bracket}
+use Rattle.esigns.specs.declared.operator.Bracket.TheVariants as bracket
+use Rattle.esigns.specs.Signs.{product_operator, sum_operator, comparison_operator, and_operator, or_operator, prefix_operator, link_of, closer}
+use Rattle.eforms.specs.Forms.{joined, prefix_verb, snoc, alone, return_tree, returning, function_tree, literal_of}
+use Rattle.enodes.specs.Nodes.{Place, definition, definitions, new_variable, assignment, given, MethodTree, method_tree}
 use Rattle.egrammar.specs.Grammar.{put_method, Pat, pat_name, pat_ignore, Pats, pats_one, pats_and, PatList, pat_list_none, pat_list_some, Semicolons, semicolons_none, semicolons_more, Expr, expr_define, expr_define_list, expr_variable, expr_assign, expr_return, expr_return_null, expr_disjunction, Disjunction, disjunction_conjunction, disjunction_more, Conjunction, conjunction_comparison, conjunction_more, Comparison, comparison_sum, comparison_two, Sum, sum_product, sum_more, Product, product_unary, product_more, Unary, unary_postfix, unary_prefix, Postfix, postfix_primary, postfix_method, postfix_run, postfix_get, Primary, primary_int, primary_text, primary_true, primary_false, primary_null, primary_name, primary_list, primary_group, primary_hide, primary_if, primary_while, primary_for, primary_try, primary_throw, primary_escape, primary_object, primary_function, Method, method_to, method_plain, MethodList, methods_none, methods_and, Conditional, conditional_alone, conditional_else, conditional_else_if, Condition, condition, Braced, braced, Args, args_none, args_some, Items, items_one, items_and, Sequence, sequence_one, sequence_and, Block, block_empty, block_items, Program}
 use Rattle.egrammar.specs.Reading.{Read, ◌>>=◌, or_else, rest_of, is_empty, sign_in, front, is_at_word, is_def_word, is_var_word, is_if_word, is_else_word, is_in_word, is_catch_word, is_assignment, is_comma, is_semicolon, is_becomes, is_open, is_close, repeat, past, past_word, operand_next, operands_at, commas_next, commas_at, closed_at, push_pattern, Within, items_at, args_at, list_at, pattern_at, pattern_at_sign, patterns_at, pattern_list_at, bound_at, bound_list_at, assigned_at, define_one_at, define_list_at, define_at, variable_at, assign_at, target_at, is_return_word, is_to_word, is_method_word, is_definition, is_bound, begins, method_verb_at, taking_at, method_at, methods_next, methods_at, methods_past_at, members_at, function_at, escape_at, body_at, object_at, name_at, return_at, given_at, expr_at, group_at, control_at, word_at, bracket_at, primary_at, verb_at, linked_at, postfix_next, postfix_at, unary_at, product_at, sum_at, comparison_at, conjunction_at, disjunction_at, if_at, while_at, for_at, try_at, throw_at, within_at, skip_semicolons, is_block_end, separator_at, separated, block_next, block_at, block_past_at, braced_at, hide_at, condition_at, branch_at, else_at, each_at, tried_at, ended, program_at}
 use Rattle.egrammar.proofs.Turns.{bind_some, or_else_is, if_is, some_same, none_some, repeat_sound}

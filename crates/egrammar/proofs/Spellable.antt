@@ -18,11 +18,12 @@ use Rattle.etoken.specs.Breaks.{parts, semicolon_at, with_breaks_in, behind, may
 use Rattle.kernele.specs.declared.tree.Pattern.{Pattern}
 use Rattle.kernele.specs.Tree.{Tree, null_tree, call, Trees, none, and_then, Methods, no_methods, and_method}
 use Rattle.kernele.specs.Spelling.{spelling}
-use Rattle.enodes.specs.declared.operator.Operator.{Operator}
-use Rattle.enodes.specs.declared.operator.Operator.TheVariants as operator
-use Rattle.enodes.specs.declared.operator.Prefix.{Prefix}
-use Rattle.enodes.specs.declared.operator.Prefix.TheVariants as prefix
-use Rattle.enodes.specs.Nodes.{joined, prefix_verb, snoc, MethodTree, method_tree, returning}
+use Rattle.esigns.specs.declared.operator.Operator.{Operator}
+use Rattle.esigns.specs.declared.operator.Operator.TheVariants as operator
+use Rattle.esigns.specs.declared.operator.Prefix.{Prefix}
+use Rattle.esigns.specs.declared.operator.Prefix.TheVariants as prefix
+use Rattle.eforms.specs.Forms.{joined, prefix_verb, snoc, returning}
+use Rattle.enodes.specs.Nodes.{MethodTree, method_tree}
 use Rattle.egrammar.specs.Grammar.{put_method, Pat, pat_name, pat_ignore, Pats, pats_one, pats_and, PatList, pat_list_none, pat_list_some, Semicolons, semicolons_none, semicolons_more, Expr, expr_define, expr_define_list, expr_variable, expr_assign, expr_return, expr_return_null, expr_disjunction, Disjunction, disjunction_conjunction, disjunction_more, Conjunction, conjunction_comparison, conjunction_more, Comparison, comparison_sum, comparison_two, Sum, sum_product, sum_more, Product, product_unary, product_more, Unary, unary_postfix, unary_prefix, Postfix, postfix_primary, postfix_method, postfix_run, postfix_get, Primary, primary_int, primary_text, primary_true, primary_false, primary_null, primary_name, primary_list, primary_group, primary_hide, primary_if, primary_while, primary_for, primary_try, primary_throw, primary_escape, primary_object, primary_function, Method, method_to, method_plain, MethodList, methods_none, methods_and, Conditional, conditional_alone, conditional_else, conditional_else_if, Condition, condition, Braced, braced, Args, args_none, args_some, Items, items_one, items_and, Sequence, sequence_one, sequence_and, Block, block_empty, block_items}
 use Rattle.egrammar.specs.View.{plain}
 use Rattle.egrammar.specs.Spelled.{CutInto, cut_into, SpelledBy, IsName, HasLiteral, BindsName, BindNames, IsSpellable, AreSpellable, AreSpellableMethods}

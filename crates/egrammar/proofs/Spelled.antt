@@ -7,7 +7,8 @@ use Rattle.kernele.specs.declared.tree.Pattern.{Pattern}
 use Rattle.kernele.specs.declared.tree.Pattern.TheVariants as pattern
 use Rattle.kernele.specs.Tree.{Name, Tree, null_tree, bool_tree, int_tree, text_tree, noun, define, variable, assign, call, list_tree, same_tree, define_list, hide, if_tree, while_tree, for_tree, try_tree, throw_tree, object_tree, escape_tree, Trees, none, and_then, Methods, no_methods, and_method}
 use Rattle.kernele.specs.Spelling.{needs_brackets, is_bare_receiver}
-use Rattle.enodes.specs.Nodes.{snoc, method_tree}
+use Rattle.eforms.specs.Forms.{snoc}
+use Rattle.enodes.specs.Nodes.{method_tree}
 use Rattle.egrammar.specs.Grammar.{put_method, Pat, pat_name, pat_ignore, Pats, pats_one, pats_and, PatList, pat_list_none, pat_list_some, semicolons_none, Expr, expr_define, expr_define_list, expr_variable, expr_assign, expr_disjunction, Disjunction, disjunction_conjunction, conjunction_comparison, Sum, comparison_sum, comparison_two, sum_product, product_unary, unary_postfix, Postfix, postfix_primary, postfix_method, Primary, primary_int, primary_text, primary_true, primary_false, primary_null, primary_name, primary_list, primary_group, primary_hide, primary_if, primary_while, primary_for, primary_try, primary_throw, primary_escape, primary_object, method_plain, MethodList, methods_none, methods_and, conditional_else, condition, Braced, braced, Args, args_none, args_some, Items, items_one, items_and, Sequence, sequence_one, sequence_and, Block, block_empty, block_items, Program}
 use Rattle.egrammar.specs.Written.{led_by, between, bracketed, bound, bound_in, in_braces, truth_word, written, written_parts, written_items, written_methods, program_tokens}
 

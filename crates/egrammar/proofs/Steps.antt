@@ -8,9 +8,11 @@ use Rattle.etoken.specs.declared.token.Sign.TheVariants as sign
 use Rattle.kernele.specs.Tree.{Tree, Trees, none, Methods, no_methods, and_method}
 use Rattle.kernele.specs.declared.tree.Method.{Method}
 use Rattle.kernele.specs.View.{trees_of, methods_of}
-use Rattle.enodes.specs.declared.operator.Operator.{Operator}
-use Rattle.enodes.specs.declared.operator.Link.{Link}
-use Rattle.enodes.specs.Nodes.{joined, snoc, MethodTree, link_of}
+use Rattle.esigns.specs.declared.operator.Operator.{Operator}
+use Rattle.esigns.specs.declared.operator.Link.{Link}
+use Rattle.eforms.specs.Forms.{joined, snoc}
+use Rattle.enodes.specs.Nodes.{MethodTree}
+use Rattle.esigns.specs.Signs.{link_of}
 use Rattle.egrammar.specs.Grammar.{put_method}
 use Rattle.egrammar.specs.Reading.{Read, ◌>>=◌, or_else, rest_of, is_empty, sign_in, front, is_comma, is_semicolon, Within, linked_at, postfix_next, commas_next, operand_next, skip_semicolons, skip_semicolons_sign, repeat, is_block_end, separator_at, separated, expr_at, block_next, block_at, is_at_word, is_method_word, method_at, methods_next, methods_at}
 use Rattle.enodes.specs.View.{method_of}

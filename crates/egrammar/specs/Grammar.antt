@@ -8,9 +8,11 @@ use Rattle.etoken.specs.declared.token.Sign.TheVariants as sign
 use Rattle.kernele.specs.declared.tree.Pattern.{Pattern}
 use Rattle.kernele.specs.declared.tree.Pattern.TheVariants as pattern
 use Rattle.kernele.specs.Tree.{Name, Tree, null_tree, bool_tree, int_tree, text_tree, noun, define, variable, assign, call, list_tree, define_list, hide, if_tree, while_tree, for_tree, try_tree, throw_tree, object_tree, escape_tree, Trees, none, and_then, Methods, no_methods, and_method}
-use Rattle.enodes.specs.declared.operator.Operator.{Operator}
-use Rattle.enodes.specs.declared.operator.Prefix.{Prefix}
-use Rattle.enodes.specs.Nodes.{product_operator, sum_operator, comparison_operator, and_operator, or_operator, prefix_operator, alone, joined, prefix_verb, snoc, MethodTree, method_tree, return_tree, returning, function_tree}
+use Rattle.esigns.specs.declared.operator.Operator.{Operator}
+use Rattle.esigns.specs.declared.operator.Prefix.{Prefix}
+use Rattle.esigns.specs.Signs.{product_operator, sum_operator, comparison_operator, and_operator, or_operator, prefix_operator}
+use Rattle.eforms.specs.Forms.{alone, joined, prefix_verb, snoc, return_tree, returning, function_tree}
+use Rattle.enodes.specs.Nodes.{MethodTree, method_tree}
 
 -- the tokens that rules name
 abbrev pub dot : Token

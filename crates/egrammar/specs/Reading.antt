@@ -9,11 +9,13 @@ use Rattle.etoken.specs.declared.token.Sign.TheVariants as sign
 use Rattle.kernele.specs.declared.tree.Pattern.{Pattern}
 use Rattle.kernele.specs.declared.tree.Pattern.TheVariants as pattern
 use Rattle.kernele.specs.Tree.{Name, Tree, null_tree, int_tree, text_tree, noun, call, list_tree, hide, if_tree, while_tree, for_tree, try_tree, throw_tree, object_tree, escape_tree, Trees, none, and_then, Methods, no_methods}
-use Rattle.enodes.specs.declared.operator.Operator.{Operator}
-use Rattle.enodes.specs.declared.operator.Link.{Link}
-use Rattle.enodes.specs.declared.operator.Bracket.{Bracket}
-use Rattle.enodes.specs.declared.operator.Bracket.TheVariants as bracket
-use Rattle.enodes.specs.Nodes.{product_operator, sum_operator, comparison_operator, and_operator, or_operator, prefix_operator, joined, prefix_verb, Place, definition, definitions, new_variable, assignment, given, snoc, alone, MethodTree, method_tree, return_tree, function_tree, literal_of, block_of, link_of, verb_of, closer}
+use Rattle.esigns.specs.declared.operator.Operator.{Operator}
+use Rattle.esigns.specs.declared.operator.Link.{Link}
+use Rattle.esigns.specs.declared.operator.Bracket.{Bracket}
+use Rattle.esigns.specs.declared.operator.Bracket.TheVariants as bracket
+use Rattle.esigns.specs.Signs.{product_operator, sum_operator, comparison_operator, and_operator, or_operator, prefix_operator, link_of, verb_of, closer}
+use Rattle.eforms.specs.Forms.{joined, prefix_verb, snoc, alone, return_tree, function_tree, literal_of, block_of}
+use Rattle.enodes.specs.Nodes.{Place, definition, definitions, new_variable, assignment, given, MethodTree, method_tree}
 use Rattle.egrammar.specs.Grammar.{put_method}
 
 -- what is read, and the tokens after it

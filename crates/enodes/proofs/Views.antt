@@ -10,7 +10,7 @@ use Rattle.kernele.specs.declared.tree.Pattern.{Pattern}
 use Rattle.kernele.specs.declared.tree.Expr.{Expr}
 use Rattle.kernele.proofs.Views.{tree_of-Call, tree_of-List, tree_of-Hide, tree_of-If, tree_of-While, tree_of-For, tree_of-Try, tree_of-Object, tree_of-Escape}
 use Rattle.kernele.specs.declared.tree.Method.{Method}
-use Rattle.enodes.specs.Nodes.{method_tree, snoc}
+use Rattle.enodes.specs.Nodes.{method_tree}
 
 pub tree_of-made : (r : Arc Expr Global) (verb : List ℕ) (args : Arc (Vec Expr Global) Global) (items : Vec Expr Global)
     → args.value ≡ items → tree_of (code.Call r verb args) ≡ call (tree_of r.value) verb (trees_of items.items)
@@ -54,8 +54,3 @@ tree_of-object p block methods e = tree_of-Object p block ∙ ap (λ (xs : Vec M
 pub method_of-made : (verb : Name) (ps : Arc (Vec Pattern Global) Global) (block : Arc (Vec Expr Global) Global) (parameters : Vec Pattern Global) (body : Vec Expr Global)
     → ps.value ≡ parameters → block.value ≡ body → method_tree verb ps.value.items (trees_of block.value.items) ≡ method_tree verb parameters.items (trees_of body.items)
 method_of-made verb ps block parameters body e f = ap (λ (xs : Vec Pattern Global). method_tree verb xs.items (trees_of block.value.items)) e ∙ ap (method_tree verb parameters.items) (of_block block body f)
-
--- a list that grows at its end
-pub trees_push : (es : List Expr) (e : Expr) → trees_of (es ++ e ∷ []) ≡ snoc (trees_of es) (tree_of e)
-trees_push [] e = refl
-trees_push (d ∷ es) e = ap (and_then (tree_of d)) (trees_push es e)

@@ -1,11 +1,8 @@
--- What methods, literals and what a value is given to stand for.
-use Rattle.std.specs.Prelude.{◌≡◌, Option, Some, None}
-use Rattle.kernele.specs.declared.tree.Expr.{Expr}
+-- What methods and what a value is given to stand for.
 use Rattle.kernele.specs.declared.tree.Method.{Method}
-use Rattle.kernele.specs.Tree.{Tree}
-use Rattle.kernele.specs.View.{tree_of, trees_of}
-use Rattle.enodes.specs.declared.operator.Target.{Target}
-use Rattle.enodes.specs.declared.operator.Target.TheVariants as target
+use Rattle.kernele.specs.View.{trees_of}
+use Rattle.enodes.specs.declared.target.Target.{Target}
+use Rattle.enodes.specs.declared.target.Target.TheVariants as target
 use Rattle.enodes.specs.Nodes.{Place, definition, definitions, new_variable, assignment, MethodTree, method_tree}
 
 -- the method that a method stands for
@@ -18,8 +15,3 @@ place_of (target.Definition p) = definition p
 place_of (target.Definitions ps) = definitions ps.items
 place_of (target.Variable x) = new_variable x
 place_of (target.Assignment x) = assignment x
-
--- a literal stands for a tree, or none is there
-abbrev pub GivesTree : Option Expr → Option Tree → Type 0
-GivesTree (Some e) tree = tree ≡ Some (tree_of e)
-GivesTree None tree = tree ≡ None

@@ -1,6 +1,5 @@
-//! What a reader makes programs of: the nodes of their trees, what operators stand for, and why reading stops.
+//! The nodes of trees, and what a value is given to.
 #![tactic(auto)]
 
 pub mod nodes;
-pub mod operator;
-pub mod stop;
+pub mod target;

@@ -4,15 +4,15 @@ use Rattle.etoken.specs.declared.token.Token.{Token}
 use Rattle.etoken.specs.declared.token.Sign as signs
 use Rattle.kernele.specs.declared.tree.Expr.{Expr}
 use Rattle.kernele.specs.Tree.{Name, Tree, Trees, call}
-use Rattle.enodes.specs.declared.operator.Bracket.{Bracket}
-use Rattle.enodes.specs.declared.operator.Link.{Link}
-use Rattle.enodes.specs.declared.operator.Operator.{Operator}
-use Rattle.enodes.specs.Nodes.{link_of, closer}
+use Rattle.esigns.specs.declared.operator.Bracket.{Bracket}
+use Rattle.esigns.specs.declared.operator.Link.{Link}
+use Rattle.esigns.specs.declared.operator.Operator.{Operator}
+use Rattle.esigns.specs.Signs.{link_of, closer}
 use Rattle.egrammar.specs.Reading.{Read, ◌>>=◌, rest_of, front, operand_next, Within, args_at, verb_at, postfix_next, is_block_end, separator_at, expr_at, block_next}
 use Rattle.egrammar.proofs.Turns.{Turns}
 use Rattle.egrammar.proofs.Steps.{operand_fail, postfix_fail, block_part_fail}
-use Rattle.enodes.specs.declared.stop.Stop.{Stop}
-use Rattle.enodes.specs.declared.stop.Stop.TheVariants as stop
+use Rattle.esigns.specs.declared.stop.Stop.{Stop}
+use Rattle.esigns.specs.declared.stop.Stop.TheVariants as stop
 use Rattle.eparser.specs.declared.reader.Reader.{Reader}
 use Rattle.eparser.specs.View.{left_of, Fails, Gives}
 

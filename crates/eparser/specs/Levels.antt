@@ -3,8 +3,8 @@ use Rattle.std.specs.Prelude.{Bool, true, false, ℕ, List, Option, Some, None}
 use Rattle.etoken.specs.declared.token.Token.{Token}
 use Rattle.etoken.specs.declared.token.Sign as signs
 use Rattle.kernele.specs.Tree.{Tree}
-use Rattle.enodes.specs.declared.operator.Operator.{Operator}
-use Rattle.enodes.specs.Nodes.{product_operator, sum_operator, comparison_operator, and_operator, or_operator}
+use Rattle.esigns.specs.declared.operator.Operator.{Operator}
+use Rattle.esigns.specs.Signs.{product_operator, sum_operator, comparison_operator, and_operator, or_operator}
 use Rattle.egrammar.specs.Reading.{Read, Within, operands_from, unary_at, product_at, sum_at, comparison_at, conjunction_at, disjunction_at, sums_from, comparisons_from, conjunctions_from, disjunctions_from}
 use Rattle.eparser.specs.declared.level.Level.{Level}
 use Rattle.eparser.specs.declared.level.Level.TheVariants as level

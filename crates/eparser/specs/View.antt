@@ -9,10 +9,10 @@ use Rattle.kernele.specs.declared.tree.Pattern.{Pattern}
 use Rattle.kernele.specs.declared.tree.Method.{Method}
 use Rattle.kernele.specs.Tree.{Tree, Trees, Methods}
 use Rattle.kernele.specs.View.{tree_of, trees_of, methods_of}
-use Rattle.enodes.specs.declared.stop.Stop.{Stop}
-use Rattle.enodes.specs.declared.stop.Stop.TheVariants as stop
+use Rattle.esigns.specs.declared.stop.Stop.{Stop}
+use Rattle.esigns.specs.declared.stop.Stop.TheVariants as stop
 use Rattle.eparser.specs.declared.reader.Reader.{Reader}
-use Rattle.enodes.specs.declared.operator.Target.{Target}
+use Rattle.enodes.specs.declared.target.Target.{Target}
 use Rattle.enodes.specs.Nodes.{Place, MethodTree}
 use Rattle.egrammar.specs.Reading.{Read}
 use Rattle.enodes.specs.View.{method_of, place_of}

@@ -6,8 +6,8 @@ ghost use Rattle.eparser.specs.View.{left_of, Advances, IsNoLonger, Gives, Gives
 
 use crate::reader::Reader;
 use enodes::nodes;
-use enodes::operator::Bracket;
-use enodes::stop::Stop;
+use esigns::operator::Bracket;
+use esigns::stop::Stop;
 use etoken::token::Reserved;
 use kernele::tree::{Expr, Pattern};
 use std::sync::Arc;

@@ -9,9 +9,10 @@ ghost use Rattle.eparser.specs.View.{Advances, IsNoLonger, Gives, GivesPlain};
 
 use crate::level::Level;
 use crate::reader::Reader;
+use eforms::operators;
 use enodes::nodes;
-use enodes::operator::{Bracket, Link};
-use enodes::stop::Stop;
+use esigns::operator::{Bracket, Link};
+use esigns::stop::Stop;
 use ids::text::Text;
 use kernele::tree::Expr;
 use std::sync::Arc;
@@ -100,7 +101,7 @@ impl<'a> Reader<'a> {
             self.skip();
             let whole = Arc::new(self.alloc, joined)?;
             let right = self.operands(left, tighter)?;
-            joined = nodes::join(self.alloc, whole, operator, right)?;
+            joined = operators::join(self.alloc, whole, operator, right)?;
         }
         Ok(joined)
     }
@@ -117,7 +118,7 @@ impl<'a> Reader<'a> {
         self.skip();
         let first = Arc::new(self.alloc, first)?;
         let second = self.operands(left, Level::Sum)?;
-        Ok(nodes::join(self.alloc, first, operator, second)?)
+        Ok(operators::join(self.alloc, first, operator, second)?)
     }
 
     #[cycle(read)]
@@ -130,7 +131,7 @@ impl<'a> Reader<'a> {
         };
         self.skip();
         let operand = self.postfix(left)?;
-        Ok(nodes::prefixed(self.alloc, operator, operand)?)
+        Ok(operators::prefixed(self.alloc, operator, operand)?)
     }
 
     #[cycle(read)]

@@ -2,7 +2,7 @@
 ghost use Rattle.std.specs.Prelude.{◌≡◌};
 ghost use Rattle.eparser.specs.Levels as levels;
 
-use enodes::operator::Operator;
+use esigns::operator::Operator;
 use etoken::token::Sign;
 
 /// How tightly operators between two operands bind: each level's operands are those of the level behind it here.

@@ -5,9 +5,10 @@ ghost use Rattle.egrammar.specs.Reading.{within_at};
 ghost use Rattle.eparser.specs.View.{Advances, IsNoLonger, Gives, GivesMethod, GivesMethods};
 
 use crate::reader::Reader;
+use eforms::methods;
 use enodes::nodes;
-use enodes::operator::Bracket;
-use enodes::stop::Stop;
+use esigns::operator::Bracket;
+use esigns::stop::Stop;
 use kernele::tree::{Expr, Method, Pattern};
 
 impl<'a> Reader<'a> {
@@ -50,7 +51,7 @@ impl<'a> Reader<'a> {
     {
         let parameters = self.pattern_list(Bracket::Round)?;
         let body = self.braced(left)?;
-        Ok(nodes::function(self.alloc, pattern, parameters, body)?)
+        Ok(methods::function(self.alloc, pattern, parameters, body)?)
     }
 
     /// An object that the pattern is bound to, behind its opening brace.
@@ -92,7 +93,7 @@ impl<'a> Reader<'a> {
         let verb = self.method_verb()?;
         let parameters = self.pattern_list(Bracket::Round)?;
         let body = self.braced(left)?;
-        let body = nodes::block_of(self.alloc, returns, body)?;
+        let body = methods::block_of(self.alloc, returns, body)?;
         Ok(nodes::method(self.alloc, verb, parameters, body)?)
     }
 }

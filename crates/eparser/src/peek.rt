@@ -1,6 +1,6 @@
 // What stands in front of a reader.
 ghost use Rattle.std.specs.Prelude.{◌≡◌};
-ghost use Rattle.enodes.specs.Nodes.{prefix_operator, link_of};
+ghost use Rattle.esigns.specs.Signs.{prefix_operator, link_of};
 ghost use Rattle.egrammar.specs.Reading as reading;
 ghost use Rattle.egrammar.specs.Reading.{front, sign_in};
 ghost use Rattle.egrammar.specs.View.{plain};
@@ -9,7 +9,7 @@ ghost use Rattle.eparser.specs.View.{left_of};
 
 use crate::level::Level;
 use crate::reader::Reader;
-use enodes::operator::{Bracket, Link, Operator, Prefix};
+use esigns::operator::{Bracket, Link, Operator, Prefix};
 use etoken::token::{Placed, Reserved, Sign, Token};
 
 /// The sign that the first token is.

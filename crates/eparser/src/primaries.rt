@@ -5,9 +5,10 @@ ghost use Rattle.egrammar.specs.Reading.{rest_of, within_at};
 ghost use Rattle.eparser.specs.View.{left_of, Advances, IsNoLonger, Gives, GivesMany};
 
 use crate::reader::Reader;
+use eforms::{methods, words};
 use enodes::nodes;
-use enodes::operator::Bracket;
-use enodes::stop::Stop;
+use esigns::operator::Bracket;
+use esigns::stop::Stop;
 use etoken::token::{Sign, Token};
 use kernele::tree::Expr;
 
@@ -70,7 +71,7 @@ impl<'a> Reader<'a> {
                 Ok(noun)
             }
             Token::Word(word) => {
-                let Some(literal) = nodes::literal(*word) else {
+                let Some(literal) = words::literal(*word) else {
                     return self.control(left, *word);
                 };
                 self.rest = rest;
@@ -137,9 +138,9 @@ impl<'a> Reader<'a> {
         ensures shorter { OnOk result (IsNoLonger self.old self.new) }
     {
         if !self.at_operand() {
-            return Ok(nodes::returned(self.alloc, Expr::Null)?);
+            return Ok(methods::returned(self.alloc, Expr::Null)?);
         }
         let value = self.expression(left)?;
-        Ok(nodes::returned(self.alloc, value)?)
+        Ok(methods::returned(self.alloc, value)?)
     }
 }

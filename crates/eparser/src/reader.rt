@@ -4,8 +4,9 @@ ghost use Rattle.egrammar.specs.Reading as reading;
 ghost use Rattle.egrammar.specs.Reading.{rest_of};
 ghost use Rattle.eparser.specs.View.{left_of, Advances, IsNoLonger, GivesPlain, GivesPatterns, GivesPlace};
 
-use enodes::operator::{Bracket, Target};
-use enodes::stop::Stop;
+use enodes::target::Target;
+use esigns::operator::Bracket;
+use esigns::stop::Stop;
 use etoken::token::{Placed, Sign, Token};
 use ids::text::Text;
 use kernele::tree::Pattern;

@@ -4,7 +4,7 @@ use Rattle.std.specs.declared.vec.Vec.{Vec}
 use Rattle.std.specs.declared.alloc.Global.{Global}
 use Rattle.etoken.specs.declared.token.Token.{Token}
 use Rattle.kernele.specs.declared.tree.Expr.{Expr}
-use Rattle.enodes.specs.declared.stop.Stop.{Stop}
+use Rattle.esigns.specs.declared.stop.Stop.{Stop}
 use Rattle.eparser.specs.View.{Fails}
 use Rattle.etoken.specs.declared.token.Placed.{Placed}
 use Rattle.kernele.specs.declared.tree.Program.{Program}

@@ -17,8 +17,8 @@ pub mod fault;
 pub mod theorems;
 
 use crate::fault::ReadFault;
-use enodes::stop::Stop;
 use eparser::Reader;
+use esigns::stop::Stop;
 use etoken::token::Placed;
 use etoken::tokens::tokens;
 use kernele::tree::{Block, Expr, Program};

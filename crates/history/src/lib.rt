@@ -5,9 +5,6 @@ ghost use Rattle.history.specs.Subject.{Subject, Laws};
 ghost use Rattle.history.specs.Theorems.{RunsAreOne, GoodRuns, GoodRun, Appended, CausesAreNamed, NamedStays};
 ghost use Rattle.history.specs.Theorems.{Undone, Redone, RedoneLast, ConeIsClosed, ConeHasRoot, ConeIsLeast, ConeIsPart};
 
-#[cfg(test)]
-mod tests;
-
 /// What can be undone: its events go by the cells that they touch.
 pub trait Undoable {
     ghost subject: { Subject };

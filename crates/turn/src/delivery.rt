@@ -12,7 +12,6 @@ ghost use Rattle.heap.specs.View.{state_of};
 ghost use Rattle.erules.specs.View.{at, end_of};
 ghost use Rattle.turn.specs.View.{ended_of, delivery_of, outcome_of};
 
-use code::resolve;
 use erules::end::{Abandon, End, Halt};
 use erules::working::Working;
 use eval::eval::eval_items;
@@ -21,6 +20,7 @@ use heap::state::VatState;
 use ids::names::{EventName, VatNo};
 use ids::text::Text;
 use kernele::tree::Program;
+use resolver::resolve;
 use std::alloc::{AllocError, Global};
 use values::limits::is_within_limits;
 use values::value::Value;

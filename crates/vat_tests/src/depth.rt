@@ -1,6 +1,6 @@
 // What nests deepest, on a stack as large as that on which the program answers commands, and budgets at their ends.
 
-use crate::tables::{expect, expect_text, limits, nested};
+use crate::tables::{expect, expect_text, limits, nested, sessions_of};
 use std::process::Abort;
 use std::rt::Runtime;
 use std::thread::{Builder, Threads};
@@ -56,22 +56,36 @@ fn nests_without_brackets(rt: HostRuntime) {
     }
 }
 
-#[test]
-fn calls_without_end(rt: HostRuntime) {
-    let commands = "vat a () 1\ndef f() { f() }\nturn e1.m0\nask a f()\nturn e3.m0\n";
-    let wanted =
-        "ok e1 e1.m0\nok e2 value <e2.o0>\nok e3 e3.m0\nok e4 abandoned \"calls too deep\"\n";
-    expect_on_its_stack(&rt, commands, wanted);
-}
+/// Calls without end, and calls to the deepest level: one of `f(n)` at level k reaches level k + 2n + 3; the deepest is 1,000.
+const DEEP_CALLS: &str = r#"> vat a () 1
+> def f() { f() }
+ok e1 e1.m0
+> turn e1.m0
+ok e2 value <e2.o0>
+> ask a f()
+ok e3 e3.m0
+> turn e3.m0
+ok e4 abandoned "calls too deep"
 
-/// A call of `f(n)` at level k reaches level k + 2n + 3; the deepest is 1,000.
+> vat a () 1
+> def f { method run(n) { if (n > 0) { f(n - 1) } } }
+ok e1 e1.m0
+> turn e1.m0
+ok e2 value <e2.o0>
+> ask a f(498)
+ok e3 e3.m0
+> turn e3.m0
+ok e4 value null
+> ask a [f(498)]
+ok e5 e5.m0
+> turn e5.m0
+ok e6 abandoned "calls too deep""#;
+
 #[test]
-fn the_deepest_level(rt: HostRuntime) {
-    let commands =
-        "vat a () 1\ndef f { method run(n) { if (n > 0) { f(n - 1) } } }\nturn e1.m0\nask a f(498)\nturn e3.m0\nask a [f(498)]\nturn e5.m0\n";
-    let wanted =
-        "ok e1 e1.m0\nok e2 value <e2.o0>\nok e3 e3.m0\nok e4 value null\nok e5 e5.m0\nok e6 abandoned \"calls too deep\"\n";
-    expect_on_its_stack(&rt, commands, wanted);
+fn deep_calls(rt: HostRuntime) {
+    for session in &sessions_of(&rt, DEEP_CALLS) {
+        expect_on_its_stack(&rt, &session.commands, &session.wanted);
+    }
 }
 
 /// A sum of 198 ones is 198 levels deep, so the call of it may stand at level 801.
@@ -92,10 +106,10 @@ fn budgets(rt: HostRuntime) {
     let opened = b"vat a () 0\nturn e1.m0\nask a 1\nturn e3.m0\nask a 1 + 1\nturn e5.m0\n";
     let one =
         "ok e1 e1.m0\nok e2 value null\nok e3 e3.m0\nok e4 value 1\nok e5 e5.m0\nok e6 abandoned \"turn budget spent\"\n";
-    expect(&rt, 1, opened, one, false);
+    expect(&rt, 1, opened, one);
     let endless =
         b"vat a () 0\nturn e1.m0\nask a var x := 0; while (x < 111111) { x := x + 1 }; x\nturn e3.m0\nask a while (true) { }\nturn e5.m0\n";
     let most =
         "ok e1 e1.m0\nok e2 value null\nok e3 e3.m0\nok e4 value 111111\nok e5 e5.m0\nok e6 abandoned \"turn budget spent\"\n";
-    expect(&rt, 1_000_000, endless, most, false);
+    expect(&rt, 1_000_000, endless, most);
 }

@@ -10,6 +10,8 @@ mod depth;
 #[cfg(test)]
 mod endings;
 #[cfg(test)]
+mod laws;
+#[cfg(test)]
 mod objects;
 #[cfg(test)]
 mod sessions;

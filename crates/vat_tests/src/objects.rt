@@ -1,6 +1,6 @@
 // Asked texts with objects, methods and escapes, and what their authors are promised.
 
-use crate::tables::{BUDGET, expect, expect_all};
+use crate::tables::{BUDGET, expect_all, expect_sessions};
 
 const METHODS: &str = r#"
 def f(x) { return x * 2 }; f(21) => value 42
@@ -53,16 +53,6 @@ def x := 1; def f(x) { return x }; f(5) + x => value 6
 def f(x) { def x := 5; return x }; f(1) => value 5
 var n := 1; def f() { n := 2; throw("x") }; try { f() } catch _ { n } => value 2
 "#;
-
-/// A name that the vat's opening never defined is missed when an object captures it: then no object is made.
-#[test]
-fn captures_of_nothing(rt: HostRuntime) {
-    let commands =
-        b"vat a () 2\n1 // 0\ndef z := 1\nturn e1.m0\nask a def f() { return z }\nturn e3.m0\nask a [try { def f() { z } } catch p { p }, def g() { }]\nturn e5.m0\n";
-    let wanted =
-        "ok e1 e1.m0\nok e2 problem \"division by zero\"\nok e3 e3.m0\nok e4 problem \"undefined noun z\"\nok e5 e5.m0\nok e6 value [\"undefined noun z\", <e6.o0>]\n";
-    expect(&rt, BUDGET, commands, wanted, false);
-}
 
 const ESCAPES: &str = r#"
 escape out { out(7); 8 } => value 7
@@ -154,6 +144,97 @@ def f() => no L5 Unexpected 7
 def f() { return return 1 } => no L5 Unexpected 17
 "#;
 
+/// A name that the vat's opening never defined is missed when an object captures it: then no object is made.
+const CAPTURES_OF_NOTHING: &str = r#"> vat a () 2
+> 1 // 0
+> def z := 1
+ok e1 e1.m0
+> turn e1.m0
+ok e2 problem "division by zero"
+> ask a def f() { return z }
+ok e3 e3.m0
+> turn e3.m0
+ok e4 problem "undefined noun z"
+> ask a [try { def f() { z } } catch p { p }, def g() { }]
+ok e5 e5.m0
+> turn e5.m0
+ok e6 value ["undefined noun z", <e6.o0>]"#;
+
+/// Objects are shown behind the slots of their vat, by event and then by number, with the names that they were bound to.
+const SHOWN_OBJECTS: &str = r#"> vat a () 2
+> def f() { var n := 1; def _ { } }
+> def o { }
+ok e1 e1.m0
+> turn e1.m0
+ok e2 value <e2.o1>
+> ask a f(); f(); def p { }
+ok e3 e3.m0
+> turn e3.m0
+ok e4 value <e4.o2>
+> show
+vat a e1
+ noun f = <e2.o0>
+ noun o = <e2.o1>
+ slot e4.s0 = 1
+ slot e4.s1 = 1
+ object e2.o0 f
+ object e2.o1 o
+ object e4.o0 _
+ object e4.o1 _
+ object e4.o2 p
+msg e1.m0 done e2
+msg e3.m0 done e4
+board e1.p0 = <e2.o1>
+board e3.p0 = <e4.o2>"#;
+
+/// What an abandoned turn made is gone.
+const ABANDONED_OBJECTS: &str = r#"> vat a () 3
+> def spin() {
+>  var x := 0
+>  while (true) { x := x + 1; def _ { } } }
+ok e1 e1.m0
+> turn e1.m0
+ok e2 value <e2.o0>
+> ask a spin()
+ok e3 e3.m0
+> turn e3.m0
+ok e4 abandoned "turn budget spent"
+> show
+vat a e1
+ noun spin = <e2.o0>
+ object e2.o0 spin
+msg e1.m0 done e2
+msg e3.m0 done e4
+board e1.p0 = <e2.o0>
+board e3.p0 = <broken "turn budget spent">"#;
+
+/// A turn that ends by a problem keeps what a method wrote, and its objects.
+const KEPT_OBJECTS: &str = r#"> vat a () 2
+> var n := 0
+> def f() { n := def g { }; throw("oops") }
+ok e1 e1.m0
+> turn e1.m0
+ok e2 value <e2.o0>
+> ask a f()
+ok e3 e3.m0
+> turn e3.m0
+ok e4 problem "oops"
+> ask a n
+ok e5 e5.m0
+> turn e5.m0
+ok e6 value <e4.o0>
+> undo-cone e3
+ok undone 3
+> show
+vat a e1
+ noun f = <e2.o0>
+ noun n = slot e2.s0
+ slot e2.s0 = 0
+ object e2.o0 f
+msg e1.m0 done e2
+msg e5.m0 at a
+board e1.p0 = <e2.o0>"#;
+
 #[test]
 fn objects_and_escapes(rt: HostRuntime) {
     expect_all(
@@ -172,34 +253,13 @@ fn objects_and_escapes(rt: HostRuntime) {
             REFUSED_OBJECTS,
         ],
     );
-}
-
-/// Objects are shown behind the slots of their vat, by event and then by number, with the names that they were bound to.
-#[test]
-fn objects_are_shown(rt: HostRuntime) {
-    let commands =
-        b"vat a () 2\ndef f() { var n := 1; def _ { } }\ndef o { }\nturn e1.m0\nask a f(); f(); def p { }\nturn e3.m0\nshow";
-    let wanted =
-        "ok e1 e1.m0\nok e2 value <e2.o1>\nok e3 e3.m0\nok e4 value <e4.o2>\nvat a e1\n noun f = <e2.o0>\n noun o = <e2.o1>\n slot e4.s0 = 1\n slot e4.s1 = 1\n object e2.o0 f\n object e2.o1 o\n object e4.o0 _\n object e4.o1 _\n object e4.o2 p\nmsg e1.m0 done e2\nmsg e3.m0 done e4\nboard e1.p0 = <e2.o1>\nboard e3.p0 = <e4.o2>\n";
-    expect(&rt, BUDGET, commands, wanted, false);
-}
-
-/// What an abandoned turn made is gone.
-#[test]
-fn abandoned_turns_make_nothing(rt: HostRuntime) {
-    let commands =
-        b"vat a () 3\ndef spin() {\n var x := 0\n while (true) { x := x + 1; def _ { } } }\nturn e1.m0\nask a spin()\nturn e3.m0\nshow";
-    let wanted =
-        "ok e1 e1.m0\nok e2 value <e2.o0>\nok e3 e3.m0\nok e4 abandoned \"turn budget spent\"\nvat a e1\n noun spin = <e2.o0>\n object e2.o0 spin\nmsg e1.m0 done e2\nmsg e3.m0 done e4\nboard e1.p0 = <e2.o0>\nboard e3.p0 = <broken \"turn budget spent\">\n";
-    expect(&rt, BUDGET, commands, wanted, false);
-}
-
-/// A turn that ends by a problem keeps what a method wrote, and its objects.
-#[test]
-fn problems_keep_what_was_written(rt: HostRuntime) {
-    let commands =
-        b"vat a () 2\nvar n := 0\ndef f() { n := def g { }; throw(\"oops\") }\nturn e1.m0\nask a f()\nturn e3.m0\nask a n\nturn e5.m0\nundo-cone e3\nshow";
-    let wanted =
-        "ok e1 e1.m0\nok e2 value <e2.o0>\nok e3 e3.m0\nok e4 problem \"oops\"\nok e5 e5.m0\nok e6 value <e4.o0>\nok undone 3\nvat a e1\n noun f = <e2.o0>\n noun n = slot e2.s0\n slot e2.s0 = 0\n object e2.o0 f\nmsg e1.m0 done e2\nmsg e5.m0 at a\nboard e1.p0 = <e2.o0>\n";
-    expect(&rt, BUDGET, commands, wanted, false);
+    expect_sessions(
+        &rt,
+        &[
+            CAPTURES_OF_NOTHING,
+            SHOWN_OBJECTS,
+            ABANDONED_OBJECTS,
+            KEPT_OBJECTS,
+        ],
+    );
 }

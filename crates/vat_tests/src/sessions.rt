@@ -1,12 +1,6 @@
 // Whole texts of commands with the replies that their authors are promised.
 
-use crate::tables::{BUDGET, expect, expect_all, expect_asked, nested};
-
-#[test]
-fn nothing_is_replied_to_nothing(rt: HostRuntime) {
-    expect(&rt, BUDGET, b"", "", false);
-    expect(&rt, BUDGET, b"\n \t\n# vat\n\r\n", "", false);
-}
+use crate::tables::{BUDGET, expect, expect_all, expect_asked, expect_sessions, nested};
 
 #[test]
 fn turns_within_their_budget(rt: HostRuntime) {
@@ -14,9 +8,9 @@ fn turns_within_their_budget(rt: HostRuntime) {
     let five = "ok e1 e1.m0\nok e2 value null\nok e3 e3.m0\nok e4 value 5\n";
     let spent =
         "ok e1 e1.m0\nok e2 value null\nok e3 e3.m0\nok e4 abandoned \"turn budget spent\"\n";
-    expect(&rt, BUDGET, commands, five, false);
-    expect(&rt, 3, commands, five, false);
-    expect(&rt, 2, commands, spent, false);
+    expect(&rt, BUDGET, commands, five);
+    expect(&rt, 3, commands, five);
+    expect(&rt, 2, commands, spent);
 }
 
 const ASKED_TEXTS: &str = r#"
@@ -61,75 +55,262 @@ fn asked_texts_and_their_turns(rt: HostRuntime) {
     expect_asked(&rt, BUDGET, "1 \0", "no L1 BadCharacter 2");
 }
 
-#[test]
-fn refused_commands_draw_no_name(rt: HostRuntime) {
-    let commands =
-        b"ask a 1\nvat a () 0\nvat a () 1\n)\nvat a () 1\n1\nask a 1\nturn e2.m0\nturn e9.m0\nhop\nturn e2\nask 1a 2\nshow all\nvat b (a) 0\nvat b () 4097\nturn e01.m00\nturn e1.m0\n";
-    let wanted =
-        "no B1 NoVat a\nok e1 e1.m0\nno L5 Unexpected 0\nno B2 NameTaken a\nok e2 e2.m0\nno B6 Before e1.m0\nno B3 NoMessage e9.m0\nno S1 UnknownCommand\nno S2 BadWord\nno S2 BadWord\nno S2 BadWord\nno S2 BadWord\nno S2 BadWord\nok e3 value null\nno B4 NotThere\n";
-    expect(&rt, BUDGET, commands, wanted, true);
-}
+/// A refused command draws no name.
+const REFUSED_COMMANDS: &str = r#"> ask a 1
+no B1 NoVat a
+> vat a () 0
+ok e1 e1.m0
+> vat a () 1
+> )
+no L5 Unexpected 0
+> vat a () 1
+> 1
+no B2 NameTaken a
+> ask a 1
+ok e2 e2.m0
+> turn e2.m0
+no B6 Before e1.m0
+> turn e9.m0
+no B3 NoMessage e9.m0
+> hop
+no S1 UnknownCommand
+> turn e2
+no S2 BadWord
+> ask 1a 2
+no S2 BadWord
+> show all
+no S2 BadWord
+> vat b (a) 0
+no S2 BadWord
+> vat b () 4097
+no S2 BadWord
+> turn e01.m00
+ok e3 value null
+> turn e1.m0
+no B4 NotThere"#;
+
+const WORLD: &str = r#"> vat b () 2
+> def z := [1, "two"]
+> def a := z.size() // 0; def c := 1
+ok e1 e1.m0
+> vat a () 0
+ok e2 e2.m0
+> turn e1.m0
+ok e3 problem "division by zero"
+> ask b z
+ok e4 e4.m0
+> turn e4.m0
+ok e5 value [1, "two"]
+> show
+vat b e1
+ noun z = [1, "two"]
+vat a e2
+msg e1.m0 done e3
+msg e2.m0 at a
+msg e4.m0 done e5
+board e1.p0 = <broken "division by zero">
+board e4.p0 = [1, "two"]"#;
+
+const SLOTS: &str = r#"> vat a () 3
+> var n := 5
+> def k := 1
+> var b := [n]
+ok e1 e1.m0
+> turn e1.m0
+ok e2 value [5]
+> show
+vat a e1
+ noun b = slot e2.s1
+ noun k = 1
+ noun n = slot e2.s0
+ slot e2.s0 = 5
+ slot e2.s1 = [5]
+msg e1.m0 done e2
+board e1.p0 = [5]"#;
+
+const JOURNAL: &str = r#"> journal
+> vat a () 0
+ok e1 e1.m0
+> turn e1.m0
+ok e2 value null
+> ask a 2 + 3
+ok e3 e3.m0
+> turn e3.m0
+ok e4 value 5
+> journal
+1 e1 live birth a causes
+2 e2 live turn e1.m0 causes e1
+3 e3 live ask a causes e1
+4 e4 live turn e3.m0 causes e1 e2 e3"#;
+
+/// The last undo alone is redone.
+const LAST_UNDO: &str = r#"> vat a () 1
+> var n := 0
+ok e1 e1.m0
+> turn e1.m0
+ok e2 value 0
+> ask a n := 1
+ok e3 e3.m0
+> ask a n
+ok e4 e4.m0
+> turn e3.m0
+ok e5 value 1
+> undo e5
+ok undone 1
+> turn e4.m0
+ok e6 value 0
+> undo e2
+no B15 NotClosed e2 e6
+> redo e5
+no B21 NotNext
+> undo e6
+ok undone 1
+> journal
+1 e1 live birth a causes
+2 e2 live turn e1.m0 causes e1
+3 e3 live ask a causes e1
+4 e4 live ask a causes e1
+5 e5 undone turn e3.m0 causes e1 e2 e3
+6 e6 undone turn e4.m0 causes e1 e2 e4
+> redo e6
+ok redone 1
+> journal
+1 e1 live birth a causes
+2 e2 live turn e1.m0 causes e1
+3 e3 live ask a causes e1
+4 e4 live ask a causes e1
+5 e5 undone turn e3.m0 causes e1 e2 e3
+6 e6 live turn e4.m0 causes e1 e2 e4"#;
+
+const CONES: &str = r#"> vat a () 2
+> var m := 0
+> var n := 0
+ok e1 e1.m0
+> turn e1.m0
+ok e2 value 0
+> ask a m := 1
+ok e3 e3.m0
+> ask a n := 2
+ok e4 e4.m0
+> turn e3.m0
+ok e5 value 1
+> turn e4.m0
+ok e6 value 2
+> cone e05
+cone e5 e6
+> undo-cone e5
+ok undone 2
+> cone e5
+no B13 NotLive e5
+> undo e6
+no B13 NotLive e6
+> redo e6 e5 e6
+ok redone 2
+> redo e5
+no B14 IsLive e5
+> undo-cone e1
+ok undone 6
+> show
+> undo e9
+no B12 NoEvent e9"#;
+
+/// Words that name no events.
+const NO_EVENTS: &str = r#"> journal all
+no S2 BadWord
+> cone
+no S2 BadWord
+> cone e1 e2
+no S2 BadWord
+> cone 1
+no S2 BadWord
+> undo
+no S2 BadWord
+> undo e1 m2
+no S2 BadWord
+> undo e4294967296
+no S2 BadWord
+> undo-cone e1 e2
+no S2 BadWord
+> redo
+no S2 BadWord
+> redo e
+no S2 BadWord
+> undo e4294967295  e9 
+no B12 NoEvent e9"#;
+
+/// Events and their turns, once each.
+const EVENTS: &str = r#"> vat a () 0
+ok e1 e1.m0
+> ask a 2 + 3
+ok e2 e2.m0
+> turn e2.m0
+no B6 Before e1.m0
+> turn e1.m0
+ok e3 value null
+> turn e2.m0
+ok e4 value 5
+> turn e2.m0
+no B4 NotThere
+> turn e4.m0
+no B3 NoMessage e4.m0
+> vat a () 0
+no B2 NameTaken a
+> vat b () 1
+> x
+no K1 Unbound x
+> ask b 1
+no B1 NoVat b
+> vat b () 1
+> while (true) { }
+ok e5 e5.m0
+> turn e5.m0
+ok e6 abandoned "turn budget spent""#;
+
+/// What came of an event.
+const CONSEQUENCES: &str = r#"> vat a () 1
+> var n := 0
+ok e1 e1.m0
+> turn e1.m0
+ok e2 value 0
+> ask a n := 1
+ok e3 e3.m0
+> ask a n
+ok e4 e4.m0
+> turn e3.m0
+ok e5 value 1
+> turn e4.m0
+ok e6 value 1
+> cone e3
+cone e3 e5 e6
+> cone e7
+no B12 NoEvent e7
+> undo e6 e3 e5
+ok undone 3
+> cone e3
+no B13 NotLive e3
+> redo e3 e5 e6
+ok redone 3
+> redo e4
+no B14 IsLive e4
+> undo e9
+no B12 NoEvent e9"#;
 
 #[test]
-fn scripts_are_taken_whole(rt: HostRuntime) {
-    let truncated = "no S4 Truncated\n";
-    expect(&rt, BUDGET, b"vat a () 3\ndef x := 1\nx", truncated, true);
-    let commands =
-        b"vat a () 2\ndef x := 6\n\xff\nvat a () 3\ndef x := 6\n# six\ndef y :=\r\n7\nask a 1\n";
-    let wanted = "no S2 BadWord\nno L5 Unexpected 25\nno S1 UnknownCommand\nno B1 NoVat a\n";
-    expect(&rt, BUDGET, commands, wanted, true);
-}
-
-#[test]
-fn the_world_is_shown(rt: HostRuntime) {
-    let commands =
-        b"vat b () 2\ndef z := [1, \"two\"]\ndef a := z.size() // 0; def c := 1\nvat a () 0\nturn e1.m0\nask b z\nturn e4.m0\nshow";
-    let wanted =
-        "ok e1 e1.m0\nok e2 e2.m0\nok e3 problem \"division by zero\"\nok e4 e4.m0\nok e5 value [1, \"two\"]\nvat b e1\n noun z = [1, \"two\"]\nvat a e2\nmsg e1.m0 done e3\nmsg e2.m0 at a\nmsg e4.m0 done e5\nboard e1.p0 = <broken \"division by zero\">\nboard e4.p0 = [1, \"two\"]\n";
-    expect(&rt, BUDGET, commands, wanted, false);
-}
-
-#[test]
-fn the_journal_is_listed(rt: HostRuntime) {
-    let commands = b"journal\nvat a () 0\nturn e1.m0\nask a 2 + 3\nturn e3.m0\njournal";
-    let wanted =
-        "ok e1 e1.m0\nok e2 value null\nok e3 e3.m0\nok e4 value 5\n1 e1 live birth a causes\n2 e2 live turn e1.m0 causes e1\n3 e3 live ask a causes e1\n4 e4 live turn e3.m0 causes e1 e2 e3\n";
-    expect(&rt, BUDGET, commands, wanted, false);
-}
-
-#[test]
-fn the_last_undo_alone_is_redone(rt: HostRuntime) {
-    let commands =
-        b"vat a () 1\nvar n := 0\nturn e1.m0\nask a n := 1\nask a n\nturn e3.m0\nundo e5\nturn e4.m0\nundo e2\nredo e5\nundo e6\njournal\nredo e6\njournal";
-    let wanted =
-        "ok e1 e1.m0\nok e2 value 0\nok e3 e3.m0\nok e4 e4.m0\nok e5 value 1\nok undone 1\nok e6 value 0\nno B15 NotClosed e2 e6\nno B21 NotNext\nok undone 1\n1 e1 live birth a causes\n2 e2 live turn e1.m0 causes e1\n3 e3 live ask a causes e1\n4 e4 live ask a causes e1\n5 e5 undone turn e3.m0 causes e1 e2 e3\n6 e6 undone turn e4.m0 causes e1 e2 e4\nok redone 1\n1 e1 live birth a causes\n2 e2 live turn e1.m0 causes e1\n3 e3 live ask a causes e1\n4 e4 live ask a causes e1\n5 e5 undone turn e3.m0 causes e1 e2 e3\n6 e6 live turn e4.m0 causes e1 e2 e4\n";
-    expect(&rt, BUDGET, commands, wanted, true);
-}
-
-#[test]
-fn cones_are_named_and_undone(rt: HostRuntime) {
-    let commands =
-        b"vat a () 2\nvar m := 0\nvar n := 0\nturn e1.m0\nask a m := 1\nask a n := 2\nturn e3.m0\nturn e4.m0\ncone e05\nundo-cone e5\ncone e5\nundo e6\nredo e6 e5 e6\nredo e5\nundo-cone e1\nshow\nundo e9";
-    let wanted =
-        "ok e1 e1.m0\nok e2 value 0\nok e3 e3.m0\nok e4 e4.m0\nok e5 value 1\nok e6 value 2\ncone e5 e6\nok undone 2\nno B13 NotLive e5\nno B13 NotLive e6\nok redone 2\nno B14 IsLive e5\nok undone 6\nno B12 NoEvent e9\n";
-    expect(&rt, BUDGET, commands, wanted, true);
-}
-
-#[test]
-fn words_that_name_no_events(rt: HostRuntime) {
-    let commands =
-        b"journal all\ncone\ncone e1 e2\ncone 1\nundo\nundo e1 m2\nundo e4294967296\nundo-cone e1 e2\nredo\nredo e\nundo e4294967295  e9 ";
-    let wanted =
-        "no S2 BadWord\nno S2 BadWord\nno S2 BadWord\nno S2 BadWord\nno S2 BadWord\nno S2 BadWord\nno S2 BadWord\nno S2 BadWord\nno S2 BadWord\nno S2 BadWord\nno B12 NoEvent e9\n";
-    expect(&rt, BUDGET, commands, wanted, true);
-}
-
-#[test]
-fn slots_are_shown(rt: HostRuntime) {
-    let commands = b"vat a () 3\nvar n := 5\ndef k := 1\nvar b := [n]\nturn e1.m0\nshow";
-    let wanted =
-        "ok e1 e1.m0\nok e2 value [5]\nvat a e1\n noun b = slot e2.s1\n noun k = 1\n noun n = slot e2.s0\n slot e2.s0 = 5\n slot e2.s1 = [5]\nmsg e1.m0 done e2\nboard e1.p0 = [5]\n";
-    expect(&rt, BUDGET, commands, wanted, false);
+fn sessions(rt: HostRuntime) {
+    expect_sessions(
+        &rt,
+        &[
+            REFUSED_COMMANDS,
+            WORLD,
+            SLOTS,
+            JOURNAL,
+            LAST_UNDO,
+            CONES,
+            NO_EVENTS,
+            EVENTS,
+            CONSEQUENCES,
+        ],
+    );
 }
 
 #[test]
@@ -147,21 +328,40 @@ fn texts_at_their_limits(rt: HostRuntime) {
     }
 }
 
+/// Commands that are no text, or do not end with a line's end.
 #[test]
-fn lines_at_their_limits(rt: HostRuntime) {
-    for (part, times, wanted) in &[
-        ("x", 70_000, "no S3 LineTooLong\n"),
-        ("x", 65_536, "no S1 UnknownCommand\n"),
-    ] {
-        let line = nested(&rt, part, *times, "", "");
-        expect(&rt, BUDGET, line.as_bytes(), wanted, true);
+fn bytes_of_commands(rt: HostRuntime) {
+    let rows: [(&[u8], &str); 5] = [
+        (b"", ""),
+        (b"\n \t\n# vat\n\r\n", ""),
+        (b"vat a () 3\ndef x := 1\nx", "no S4 Truncated\n"),
+        (
+            b"vat a () 2\ndef x := 6\n\xff\nvat a () 3\ndef x := 6\n# six\ndef y :=\r\n7\nask a 1\n",
+            "no S2 BadWord\nno L5 Unexpected 25\nno S1 UnknownCommand\nno B1 NoVat a\n",
+        ),
+        (b"ask a \xff\nshow", "no S2 BadWord\n"),
+    ];
+    for (commands, wanted) in &rows {
+        expect(&rt, BUDGET, commands, wanted);
     }
-    expect(&rt, BUDGET, b"ask a \xff\nshow", "no S2 BadWord\n", true);
 }
 
+/// Lines and scripts at their limits.
 #[test]
-fn scripts_past_their_limit(rt: HostRuntime) {
-    let lines = nested(&rt, " ", 32_768, "\n", " ");
-    let script = format!(in rt.alloc(); "vat a () 2\n{lines}\nshow\n").expect(&rt, "no memory");
-    expect(&rt, BUDGET, script.as_bytes(), "no L8 TooLong\n", true);
+fn long_commands(rt: HostRuntime) {
+    for (before, times, behind, wanted) in &[
+        ("", 70_000, "", "no S3 LineTooLong\n"),
+        ("", 65_536, "", "no S1 UnknownCommand\n"),
+        ("vat a () 2\n", 32_768, "\n", "no L8 TooLong\n"),
+    ] {
+        let long = nested(
+            &rt,
+            "x",
+            *times,
+            behind,
+            if behind.is_empty() { "" } else { "x" },
+        );
+        let commands = format!(in rt.alloc(); "{before}{long}\n").expect(&rt, "no memory");
+        expect(&rt, BUDGET, commands.as_bytes(), wanted);
+    }
 }

@@ -1,6 +1,6 @@
 // How many steps each construct takes (just enough of them give the value, one less spends the budget), and what a turn may make and keeps.
 
-use crate::tables::{expect, expect_all, expect_asked, row};
+use crate::tables::{expect_all, expect_asked, expect_sessions, row};
 use std::process::Abort;
 
 /// Runs each text with just enough steps, and with one less.
@@ -53,17 +53,31 @@ var i := 0; while (i < 4096) { def _ { }; i := i + 1 }; i => value 4096
 var i := 0; while (i < 4097) { def _ { }; i := i + 1 }; i => abandoned "turn too large"
 "#;
 
-#[test]
-fn limits_of_a_turn(rt: HostRuntime) {
-    expect_all(&rt, 100_000, &[LIMITS_OF_A_TURN]);
-}
-
 /// An abandoned turn leaves a variable as it was, a turn that ends with a problem keeps what it wrote.
+const KEPT: &str = r#"> vat a () 1
+> var n := 0
+ok e1 e1.m0
+> turn e1.m0
+ok e2 value 0
+> ask a n := 1; while (true) { }
+ok e3 e3.m0
+> turn e3.m0
+ok e4 abandoned "turn budget spent"
+> ask a n
+ok e5 e5.m0
+> turn e5.m0
+ok e6 value 0
+> ask a n := 2; throw("x")
+ok e7 e7.m0
+> turn e7.m0
+ok e8 problem "x"
+> ask a n
+ok e9 e9.m0
+> turn e9.m0
+ok e10 value 2"#;
+
 #[test]
-fn what_a_turn_keeps(rt: HostRuntime) {
-    let commands =
-        b"vat a () 1\nvar n := 0\nturn e1.m0\nask a n := 1; while (true) { }\nturn e3.m0\nask a n\nturn e5.m0\nask a n := 2; throw(\"x\")\nturn e7.m0\nask a n\nturn e9.m0\n";
-    let wanted =
-        "ok e1 e1.m0\nok e2 value 0\nok e3 e3.m0\nok e4 abandoned \"turn budget spent\"\nok e5 e5.m0\nok e6 value 0\nok e7 e7.m0\nok e8 problem \"x\"\nok e9 e9.m0\nok e10 value 2\n";
-    expect(&rt, 1_000, commands, wanted, false);
+fn what_a_turn_makes_and_keeps(rt: HostRuntime) {
+    expect_all(&rt, 100_000, &[LIMITS_OF_A_TURN]);
+    expect_sessions(&rt, &[KEPT]);
 }

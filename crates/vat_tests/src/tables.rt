@@ -41,20 +41,57 @@ pub(crate) fn row<'a>(rt: &impl Abort, line: &'a str) -> Option<(&'a str, &'a st
     row
 }
 
-/// Runs commands and compares the replies, and whether one is a refusal.
-pub(crate) fn expect(
-    rt: &(impl Abort + AllocGlobal),
-    budget: u32,
-    commands: &[u8],
-    wanted: &str,
-    refused: bool,
-) {
+/// Runs commands and compares the replies, and whether one is told to be a refusal.
+pub(crate) fn expect(rt: &(impl Abort + AllocGlobal), budget: u32, commands: &[u8], wanted: &str) {
     match replies(rt.alloc(), commands, limits(budget)) {
         Ok((written, summary)) => {
             expect_text(rt, shown(commands), shown(&written), wanted);
+            let refused = wanted.lines().any(|reply| reply.starts_with("no "));
             assert!(rt; summary.refused == refused);
         }
         Err(_) => assert!(rt; false),
+    }
+}
+
+/// Commands, and the replies that are wanted of them.
+#[derive(Drop)]
+pub(crate) struct Session {
+    pub commands: String,
+    pub wanted: String,
+}
+
+/// The sessions of a transcript: what stands behind `> ` is a command or a line of a script, other lines are replies, and
+/// an empty line ends a session.
+pub(crate) fn sessions_of(rt: &(impl Abort + AllocGlobal), transcript: &str) -> Vec<Session> {
+    let alloc = rt.alloc();
+    let mut sessions = Vec::new(alloc);
+    for part in transcript.split("\n\n") {
+        let mut commands = String::new(alloc);
+        let mut wanted = String::new(alloc);
+        for line in part.lines() {
+            match line.strip_prefix("> ") {
+                Some(command) => add_line(rt, command, &mut commands),
+                None => add_line(rt, line, &mut wanted),
+            }
+        }
+        sessions
+            .push(Session { commands, wanted })
+            .expect(rt, "no memory");
+    }
+    sessions
+}
+
+fn add_line(rt: &impl Abort, line: &str, text: &mut String) {
+    text.push_str(line).expect(rt, "no memory");
+    text.push('\n').expect(rt, "no memory");
+}
+
+/// Runs the sessions of some transcripts.
+pub(crate) fn expect_sessions(rt: &(impl Abort + AllocGlobal), transcripts: &[&str]) {
+    for transcript in transcripts {
+        for session in &sessions_of(rt, transcript) {
+            expect(rt, BUDGET, session.commands.as_bytes(), &session.wanted);
+        }
     }
 }
 
@@ -65,8 +102,7 @@ fn shown(bytes: &[u8]) -> &str {
 
 /// Asks a text of a vat that was opened, runs its turn, and compares how that ends, or with what the text is refused.
 pub(crate) fn expect_asked(rt: &(impl Abort + AllocGlobal), budget: u32, text: &str, wanted: &str) {
-    let refused = wanted.starts_with("no ");
-    let (before, behind) = if refused {
+    let (before, behind) = if wanted.starts_with("no ") {
         ("", "no B3 NoMessage e3.m0\n")
     } else {
         ("ok e3 e3.m0\nok e4 ", "")
@@ -79,7 +115,7 @@ pub(crate) fn expect_asked(rt: &(impl Abort + AllocGlobal), budget: u32, text: &
         rt,
         "no memory",
     );
-    expect(rt, budget, commands.as_bytes(), &replies, refused);
+    expect(rt, budget, commands.as_bytes(), &replies);
 }
 
 /// Asks the texts of some tables, each in a vat of its own.

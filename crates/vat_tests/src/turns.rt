@@ -117,12 +117,6 @@ false.not(null) => !no method not/1
 -least => !integer too large
 "#;
 
-#[test]
-fn integers(rt: HostRuntime) {
-    let script = "def most := 9223372036854775807; def least := -most - 1";
-    expect_turns(&rt, script, INTEGERS);
-}
-
 const TEXTS_AND_LISTS: &str = r#"
 accented.size() => 1
 accented + "a\"" => "éa\""
@@ -141,12 +135,6 @@ pair[null] => !bad argument
 "a\"b\\c\nd\te\rf'" => "a\"b\\c\nd\te\rf'"
 "#;
 
-#[test]
-fn texts_and_lists(rt: HostRuntime) {
-    let script = "def pair := [1, 2]; def accented := \"é\"";
-    expect_turns(&rt, script, TEXTS_AND_LISTS);
-}
-
 const SAMENESS: &str = r#"
 [null == null, true == true, true == false, 1 == true] => [true, true, false, false]
 [lists[0] == [1, 2], lists[0] == lists[1], lists[0] == lists[2]] => [true, false, false]
@@ -154,12 +142,6 @@ const SAMENESS: &str = r#"
 [f == f, f == g, f == "<e2.o0>"] => [true, false, false]
 escape x { [x == x, x == f] } => [true, false]
 "#;
-
-#[test]
-fn sameness(rt: HostRuntime) {
-    let script = "def f() { }; def g() { }; def lists := [[1, 2], [1], [1, 3]]";
-    expect_turns(&rt, script, SAMENESS);
-}
 
 const OBJECTS: &str = r#"
 counter => <e2.o0>
@@ -177,27 +159,7 @@ while (true) { } => turn budget spent
 z; def z := 1 => !undefined noun z
 "#;
 
-#[test]
-fn objects(rt: HostRuntime) {
-    let script =
-        "var n := 0; def counter { to next() { n := n + 1; return n } to both(a, b) { return [a, b] } }";
-    expect_turns(&rt, script, OBJECTS);
-}
-
-/// An abandoned turn binds nothing, and an asked text binds no top noun.
-#[test]
-fn what_turns_bind(rt: HostRuntime) {
-    let endless = "def x := 1; while (true) { }";
-    expect_turns(&rt, endless, "x => !undefined noun x");
-    let thrown = "def x := 1; def y := [x, 2]; throw(\"no\")";
-    expect_turns(
-        &rt,
-        thrown,
-        "def z := y; z => [1, 2]
-z => !undefined noun z",
-    );
-}
-
+/// The longest text, the longest list and the deepest list, and one more of each.
 const LIMITS: &str = r#"
 t.size() => 65535
 t + "a" => !value too large
@@ -213,10 +175,34 @@ l + l => !value too large
 n[0] == n => false
 "#;
 
-/// The longest text, the longest list and the deepest list, and one more of each.
+/// Scripts, each with a table of what is asked of the vat then. An abandoned turn binds nothing, and an asked text binds no
+/// top noun.
 #[test]
-fn limits_of_values(rt: HostRuntime) {
-    let script =
-        "var t := \"\"; var l := []; var i := 0; while (i < 16) { t := t + t + \"a\"; l := l + l + [0]; i := i + 1 }; var n := null; i := 0; while (i < 64) { n := [n]; i := i + 1 }";
-    expect_turns(&rt, script, LIMITS);
+fn turns(rt: HostRuntime) {
+    for (script, table) in &[
+        (
+            "def most := 9223372036854775807; def least := -most - 1",
+            INTEGERS,
+        ),
+        ("def pair := [1, 2]; def accented := \"é\"", TEXTS_AND_LISTS),
+        (
+            "def f() { }; def g() { }; def lists := [[1, 2], [1], [1, 3]]",
+            SAMENESS,
+        ),
+        (
+            "var n := 0; def counter { to next() { n := n + 1; return n } to both(a, b) { return [a, b] } }",
+            OBJECTS,
+        ),
+        ("def x := 1; while (true) { }", "x => !undefined noun x"),
+        (
+            "def x := 1; def y := [x, 2]; throw(\"no\")",
+            "def z := y; z => [1, 2]\nz => !undefined noun z",
+        ),
+        (
+            "var t := \"\"; var l := []; var i := 0; while (i < 16) { t := t + t + \"a\"; l := l + l + [0]; i := i + 1 }; var n := null; i := 0; while (i < 64) { n := [n]; i := i + 1 }",
+            LIMITS,
+        ),
+    ] {
+        expect_turns(&rt, script, table);
+    }
 }

@@ -1,13 +1,13 @@
 use Rattle.std.proofs.Common.{rules, arith, length, sym, ap, ◌∙◌}
 use Rattle.std.proofs.lemmas.Result.{err_from_is_err_and}
 use Rattle.egrammar.proofs.Turns.{turns_here}
-use Rattle.enodes.proofs.Views.{trees_push}
+use Rattle.eforms.proofs.Views.{trees_push}
 use Rattle.egrammar.proofs.Steps.{rest_le, skip-le, operand_more, operand_end, postfix_more, postfix_end, commas_more, commas_end, block_begin, block_more, block_end, methods_push, methods_begin, methods_more, methods_end}
 use Rattle.ids.proofs.Failing.{claims_nothing}
 use Rattle.eparser.proofs.Levels.{first_read, behind_here, behind_read, behind_compared, behind_fails}
 use Rattle.eparser.proofs.Steps.{gives_behind, operand_fails, args_fail, block_part_fails}
 use Rattle.eparser.specs.Levels.{operator_of, level_at, level_from}
-use Rattle.enodes.specs.Nodes.{snoc}
+use Rattle.eforms.specs.Forms.{snoc}
 use Rattle.egrammar.specs.Reading.{comparison_from, operand_next, operands_from, postfix_next, within_at}
 use Rattle.egrammar.specs.View.{plain}
 use Rattle.kernele.specs.View.{tree_of}

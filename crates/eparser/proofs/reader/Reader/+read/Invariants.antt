@@ -1,5 +1,5 @@
 use Rattle.std.proofs.Common.{length, ◌*◌, ◌+◌, ◌<◌, ◌≤◌}
-use Rattle.enodes.specs.Nodes.{snoc}
+use Rattle.eforms.specs.Forms.{snoc}
 use Rattle.egrammar.specs.Reading.{within_at, operand_next, operands_from, postfix_from, postfix_next, items_at, commas_next, block_at, block_next, methods_at, methods_next}
 use Rattle.egrammar.specs.View.{plain}
 use Rattle.kernele.specs.View.{tree_of, trees_of, methods_of}

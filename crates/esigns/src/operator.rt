@@ -1,0 +1,157 @@
+// Signs, by what they stand for where they stand.
+ghost use Rattle.std.specs.Prelude.{◌≡◌, IfOk};
+ghost use Rattle.esigns.specs.Signs.{and_operator, comparison_operator, or_operator, prefix_operator, product_operator, sum_operator, closer, link_of, verb_of};
+
+use etoken::token::Sign;
+use ids::text::Text;
+use std::alloc::{AllocError, Global};
+
+/// A sign between two operands.
+#[derive(Clone, Copy)]
+pub enum Operator {
+    Add,
+    Subtract,
+    Multiply,
+    FloorDivide,
+    LessThan,
+    AtMost,
+    MoreThan,
+    AtLeast,
+    Same,
+    Differ,
+    And,
+    Or,
+}
+
+impl Operator {
+    /// The operator that a sign is between two operands of a product.
+    pub fn of_product(sign: Sign) -> Option<Operator>
+        ensures { result ≡ product_operator sign }
+    {
+        match sign {
+            Sign::Times => Some(Operator::Multiply),
+            Sign::Divide => Some(Operator::FloorDivide),
+            _ => None,
+        }
+    }
+
+    /// The operator that a sign is between two products.
+    pub fn of_sum(sign: Sign) -> Option<Operator>
+        ensures { result ≡ sum_operator sign }
+    {
+        match sign {
+            Sign::Plus => Some(Operator::Add),
+            Sign::Minus => Some(Operator::Subtract),
+            _ => None,
+        }
+    }
+
+    /// The operator that a sign is between two sums.
+    pub fn of_comparison(sign: Sign) -> Option<Operator>
+        ensures { result ≡ comparison_operator sign }
+    {
+        match sign {
+            Sign::Equal => Some(Operator::Same),
+            Sign::NotEqual => Some(Operator::Differ),
+            Sign::Less => Some(Operator::LessThan),
+            Sign::AtMost => Some(Operator::AtMost),
+            Sign::More => Some(Operator::MoreThan),
+            Sign::AtLeast => Some(Operator::AtLeast),
+            _ => None,
+        }
+    }
+
+    /// The operator that a sign is between two comparisons.
+    pub fn of_conjunction(sign: Sign) -> Option<Operator>
+        ensures { result ≡ and_operator sign }
+    {
+        match sign {
+            Sign::And => Some(Operator::And),
+            _ => None,
+        }
+    }
+
+    /// The operator that a sign is between two conjunctions.
+    pub fn of_disjunction(sign: Sign) -> Option<Operator>
+        ensures { result ≡ or_operator sign }
+    {
+        match sign {
+            Sign::Or => Some(Operator::Or),
+            _ => None,
+        }
+    }
+}
+
+/// A sign before an operand.
+#[derive(Clone, Copy)]
+pub enum Prefix {
+    Not,
+    Negate,
+}
+
+impl Prefix {
+    /// The operator that a sign is before an operand.
+    pub fn of(sign: Sign) -> Option<Prefix>
+        ensures { result ≡ prefix_operator sign }
+    {
+        match sign {
+            Sign::Not => Some(Prefix::Not),
+            Sign::Minus => Some(Prefix::Negate),
+            _ => None,
+        }
+    }
+}
+
+/// What makes a call of the receiver before it.
+#[derive(Clone, Copy)]
+pub enum Link {
+    /// `.verb(`
+    Method,
+    /// `(`
+    Run,
+    /// `[`
+    Index,
+}
+
+impl Link {
+    /// What a sign behind a receiver begins, if it makes a call of it.
+    pub fn of(sign: Sign) -> Option<Link>
+        ensures { result ≡ link_of sign }
+    {
+        match sign {
+            Sign::Dot => Some(Link::Method),
+            Sign::OpenRound => Some(Link::Run),
+            Sign::OpenSquare => Some(Link::Index),
+            _ => None,
+        }
+    }
+
+    /// The verb of the call, where no name stands for it.
+    pub fn verb(self, alloc: Global) -> Result<Option<Text>, AllocError>
+        ensures { IfOk result (λ verb. verb ≡ verb_of self) }
+    {
+        Ok(match self {
+            Link::Method => None,
+            Link::Run => Some(Text::new(alloc, "run")?),
+            Link::Index => Some(Text::new(alloc, "get")?),
+        })
+    }
+
+    /// The bracket that its arguments stand in.
+    pub fn bracket(self) -> Bracket
+        ensures { result ≡ closer self }
+    {
+        match self {
+            Link::Method | Link::Run => Bracket::Round,
+            Link::Index => Bracket::Square,
+        }
+    }
+}
+
+/// A kind of bracket.
+#[derive(Clone, Copy)]
+pub enum Bracket {
+    Round,
+    Square,
+    Curly,
+}
