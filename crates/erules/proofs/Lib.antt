@@ -6,14 +6,10 @@ pub mod Ejectors
 pub mod Fitting
 pub mod Framed
 pub mod Grown
-pub mod Leaves
-pub mod Methods
 pub mod Opened
 pub mod Patterns
-pub mod Places
 pub mod Scopes
 pub mod Spent
 pub mod Steps
 pub mod Unwritten
-pub mod Drafted
 pub mod Locals

@@ -5,5 +5,4 @@ pub mod Rules
 pub mod View
 pub mod Touched
 pub mod Laws
-pub mod Leaves
 pub mod Locals

@@ -4,21 +4,13 @@ use Rattle.ids.specs.declared.names.EjId.{EjId}
 use Rattle.values.specs.View.{val_of, vals_of}
 use Rattle.erules.specs.At.{At}
 use Rattle.erules.specs.Locals.{locals_of}
-use Rattle.heap.specs.View.{nouns_of}
 use Rattle.heap.specs.Drafts.{draft_of, counts_of}
 use Rattle.erules.specs.Outcomes.{Cause, budget_spent, too_deep, too_large, Halt, thrown, ejected, abandoned, End, value, halt, Gather, values, halted}
-use Rattle.erules.specs.Rules.{Choice, goes, ends, Listing, listed, unlisted, Capture, captured, missing, Callee, on_object, on_ejector, on_datum, Target, gives, enters}
-use Rattle.code.specs.View.{trees_of_codes}
+use Rattle.erules.specs.Rules.{Choice, goes, ends, Listing, listed, unlisted}
 use Rattle.erules.specs.declared.wanted.Choosing.{Choosing}
 use Rattle.erules.specs.declared.wanted.Choosing.TheVariants as code-choosing
 use Rattle.erules.specs.declared.wanted.Listing as code-list
 use Rattle.erules.specs.declared.wanted.Listing.TheVariants as code-listing
-use Rattle.erules.specs.declared.objects.Capture as code-capture
-use Rattle.erules.specs.declared.objects.Capture.TheVariants as code-captures
-use Rattle.erules.specs.declared.objects.Target as code-target
-use Rattle.erules.specs.declared.objects.Target.TheVariants as code-targets
-use Rattle.erules.specs.declared.calls.Callee as code-callee
-use Rattle.erules.specs.declared.calls.Callee.TheVariants as code-callees
 use Rattle.erules.specs.declared.working.Working.{Working}
 use Rattle.erules.specs.declared.end.Abandon.{Abandon}
 use Rattle.erules.specs.declared.end.Abandon.TheVariants as code-abandon
@@ -67,18 +59,3 @@ choice_view (code-choosing.Ends e) = ends (end_of e)
 abbrev pub listing_view : code-list.Listing → Listing
 listing_view (code-listing.Listed items) = listed (vals_of items.value.items)
 listing_view (code-listing.Ends e) = unlisted (end_of e)
-
--- what an object captures
-abbrev pub capture_view : code-capture.Capture → Capture
-capture_view (code-captures.Captured nouns) = captured (nouns_of nouns.items)
-capture_view (code-captures.Missing x) = missing x
-
--- what a call is made on, and what it leads to
-abbrev pub callee_view : code-callee.Callee → Callee
-callee_view (code-callees.Object i) = on_object i
-callee_view (code-callees.Ejector j) = on_ejector j
-callee_view code-callees.Datum = on_datum
-
-abbrev pub target_view : code-target.Target → Target
-target_view (code-targets.Gives e) = gives (end_of e)
-target_view (code-targets.Enters e) = enters (locals_of e.nouns.items) (trees_of_codes e.body.value.items)

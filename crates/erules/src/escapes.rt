@@ -66,7 +66,7 @@ pub fn escape_end(ejector: EjId, ended: End) -> Result<End, AllocError>
 }
 
 /// What a call on an ejector gives.
-pub(crate) fn ejector_end(
+pub fn ejector_end(
     w: &Working,
     ejector: EjId,
     verb: &Verb,

@@ -41,7 +41,7 @@ pub fn list_end(alloc: Global, gathered: Gathered) -> Result<End, AllocError>
 }
 
 /// What a call on data gives.
-pub(crate) fn data_end(
+pub fn data_end(
     alloc: Global,
     receiver: &Value,
     verb: &Verb,
@@ -53,7 +53,7 @@ pub(crate) fn data_end(
 }
 
 /// What a call gives on what has no such verb with so many arguments.
-pub(crate) fn no_such_method(alloc: Global, verb: &Verb, args: &[Value]) -> Result<End, AllocError>
+pub fn no_such_method(alloc: Global, verb: &Verb, args: &[Value]) -> Result<End, AllocError>
     ensures { IfOk result (λ o. end_of o ≡ no_such_method_end verb.now (vals_of args.now)) }
 {
     // Null has no verb at all.

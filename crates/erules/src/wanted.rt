@@ -29,7 +29,7 @@ pub enum Listing {
 }
 
 /// What a value throws that is not of the kind that is wanted: these words, or its own problem, if it is broken.
-pub(crate) fn mismatch(alloc: Global, words: &str, value: &Value) -> Result<End, AllocError>
+pub fn mismatch(alloc: Global, words: &str, value: &Value) -> Result<End, AllocError>
     ensures { IfOk result (λ o. end_of o ≡ mismatch_of words.now (val_of value.now)) }
 {
     let problem = match value {

@@ -7,7 +7,7 @@ use Rattle.code.specs.View.{trees_of_codes}
 use Rattle.code.specs.declared.code.Code.{Code}
 use Rattle.values.specs.Data.{Val, null}
 use Rattle.erules.specs.At.{At}
-use Rattle.erules.specs.Leaves.{GoesOn}
+use Rattle.eobjects.specs.Leaves.{GoesOn}
 use Rattle.erules.specs.Locals.{locals_of}
 use Rattle.erules.specs.Outcomes.{End, value, halt}
 use Rattle.erules.specs.Rules.{Items, items_none, items_next, items_halt, entering}

@@ -13,10 +13,10 @@ ghost use Rattle.eval.specs.Halting.{BlockHalts};
 
 use crate::eval::{eval, eval_items};
 use code::code::Code;
+use eobjects::nouns::match_pattern;
+use eobjects::quick::{quick_truth, run_settings};
 use erules::blocks::{enter, leave};
 use erules::end::{End, Halt};
-use erules::nouns::match_pattern;
-use erules::quick::{quick_truth, run_settings};
 use erules::wanted::{Choosing, Listing, caught, choose, halt_in, items_of};
 use erules::working::Working;
 use kernele::tree::Pattern;

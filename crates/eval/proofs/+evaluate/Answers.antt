@@ -7,7 +7,8 @@ use Rattle.kernele.specs.declared.tree.Pattern.TheVariants as pattern
 use Rattle.values.specs.Data.{bool}
 use Rattle.values.specs.View.{val_of}
 use Rattle.erules.specs.Outcomes.{halted, value}
-use Rattle.erules.specs.View.{at, end_of, halt_of, choice_view, listing_view, target_view}
+use Rattle.erules.specs.View.{at, end_of, halt_of, choice_view, listing_view}
+use Rattle.eobjects.specs.View.{target_view}
 use Rattle.erules.specs.Rules.{at_budget, at_depth, run_null, run_bool, run_int, run_text, run_noun, run_define, run_variable, run_assign, run_call_receiver, run_call_gives, run_list, run_same_left, run_same, goes, run_define_list, run_hide, run_throw, run_if_goes, run_if_ends, run_while_again, run_while_halts, run_while_done, run_while_ends, run_for, run_for_ends, run_try, run_try_caught, run_object, args_halt}
 use Rattle.erules.proofs.Steps.{node, child, tested, children, slice_of, if_both, runs_as, runs_to, ends_to, parts_run, args_begin, args_pushed, args_more, args_no_more, args_end, args_done, args_as, only_one, one_arg, items_more, items_no_more, items_end, blocks, taking, taking_ending, each, block_end, taking_end, each_more, each_no_more, each_end, next_round}
 use Rattle.eval.proofs.Halted.{ItemsHalt, all_done, halts_as, items_halted, both_halt, block_halts, halting, to_the_end}

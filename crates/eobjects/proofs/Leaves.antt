@@ -1,0 +1,111 @@
+-- Leaves, calls on them, and assignments of these.
+use Rattle.std.proofs.Common.{arith, ◌≡◌, ℕ, ◌+◌, ◌-◌, ◌<◌, ◌≤◌, ℤ, List, [], ◌∷◌, length, get_or, Some, refl, sym, ap, ◌∙◌, subst}
+use Rattle.ids.specs.declared.names.SlotId.{SlotId}
+use Rattle.kernele.specs.Tree.{Name, Tree, Trees, int_tree, noun, call, assign, none, and_then}
+use Rattle.code.specs.Frames.{after, fits_all, place_in}
+use Rattle.code.specs.View.{tree_of_code, trees_of_codes}
+use Rattle.code.specs.declared.code.Code.{Code}
+use Rattle.code.specs.declared.code.Place.{Place}
+use Rattle.values.specs.Data.{Val, int, null, no_vals, and_val, gives}
+use Rattle.values.specs.Replies.{data_reply}
+use Rattle.heap.specs.State.{frame_of, slot_cell, held, write}
+use Rattle.erules.specs.At.{At}
+use Rattle.erules.specs.Fits.{all_fit_at, fits_at, frame_at, frame_behind}
+use Rattle.eobjects.specs.Leaves.{Leaf, Operands, AtHand, GoesOn}
+use Rattle.erules.specs.Outcomes.{value, reply_end}
+use Rattle.erules.specs.Rules as rules
+use Rattle.erules.specs.Rules.{assigned, assigned_end, noun_end, sought, sought_slot, begun, Ends, at_node, Runs, run_int, run_noun, run_assign, run_call_gives, args_none, args_next}
+use Rattle.erules.proofs.Steps.{runs_as, runs_to, items_more}
+use Rattle.erules.proofs.Fitting.{all_fit_then, placed_then}
+
+-- an integer and a noun that has a value are leaves
+pub integer_leaf : (a : At) (e : Code) (z y : ℤ) → tree_of_code e ≡ int_tree z → y ≡ z → Leaf a (tree_of_code e) (int y)
+integer_leaf a e z y is same = λ k n. subst (λ t. Runs k t (record a { left = n }) (value (int y)) (record a { left = n })) (sym is) (runs_as run_int (ap (λ x. value (int x)) same))
+
+pub noun_leaf : (a : At) (e : Code) (x : Name) (v : Val) → tree_of_code e ≡ noun x → noun_end a.state x (sought x a) ≡ value v → Leaf a (tree_of_code e) v
+noun_leaf a e x v is h = λ k n. subst (λ t. Runs k t (record a { left = n }) (value v) (record a { left = n })) (sym is) (runs_as run_noun (sym h))
+
+-- what fits behind a leaf fits where the leaf stands
+pub leaf_fits : (a : At) (e : Code) {v : Val} (es : List Code) → Leaf a (tree_of_code e) v → fits_all a.own_scope (after a.own_scope (tree_of_code e) (frame_of a.nouns)) es → all_fit_at a es
+leaf_fits a e es leaf h = all_fit_then {k = 1} {t = tree_of_code e} {a = record a { left = 1 }} {b = record a { left = 0 }} refl (at_node (omega arith) (omega arith) (leaf 1 0)) h
+
+leaf_ends : (a : At) (t : Tree) (v : Val) (k n : ℕ) → Leaf a t v → 0 < n → k ≤ 1000 → Ends k t (record a { left = n }) (value v) (record a { left = n - 1 })
+leaf_ends a t v k n leaf some deep = at_node some deep (leaf k (n - 1))
+
+twice : (n : ℕ) → n - 1 - 1 ≡ n - 2
+twice n = omega arith
+
+-- a call on two leaves
+leaf_call : (a : At) {k : ℕ} {r t : Tree} {verb : Name} {x y : ℤ} {v : Val} → Leaf a r (int x) → Leaf a t (int y) → 2 ≤ a.left → k < 1000 → data_reply (int x) verb (and_val (int y) no_vals) ≡ gives v
+    → Runs k (call r verb (and_then t none)) a (value v) (record a { left = a.left - 2 })
+leaf_call a {k = k} {r = r} {t = t} {verb = verb} {x = x} {y = y} {v = v} left right two deep h =
+    subst (λ n. Runs k (call r verb (and_then t none)) a (value v) (record a { left = n })) (twice a.left)
+    (run_call_gives (leaf_ends a r (int x) (k + 1) a.left left (omega (arith, two)) (omega (arith, deep)))
+    (args_next (leaf_ends a t (int y) (k + 1) (a.left - 1) right (omega (arith, two)) (omega (arith, deep))) args_none)
+    (ap (λ m. rules.gives (reply_end m)) h))
+
+-- two leaves are the operands of a call
+pub operands : (a : At) {r : Tree} {e : Code} {es : List Code} {x y p q : ℤ} → e ∷ [] ≡ es → Leaf a r (int x) → Leaf a (tree_of_code e) (int y) → p ≡ x → q ≡ y → Operands a r (trees_of_codes es) p q
+operands a {r = r} {e = e} same left right f g = (subst (λ x. Leaf a r (int x)) (sym f) left, tree_of_code e, ap trees_of_codes (sym same), subst (λ y. Leaf a (tree_of_code e) (int y)) (sym g) right)
+
+-- a call on operands at hand
+call_runs : (a : At) {k : ℕ} {r : Tree} {ts : Trees} {verb : Name} {x y : ℤ} {v : Val} → Operands a r ts x y → 2 ≤ a.left → k < 1000 → data_reply (int x) verb (and_val (int y) no_vals) ≡ gives v
+    → Runs k (call r verb ts) a (value v) (record a { left = a.left - 2 })
+call_runs a {k = k} {r = r} {verb = verb} {v = v} both two deep h = subst (λ us. Runs k (call r verb us) a (value v) (record a { left = a.left - 2 })) (sym both.2) (leaf_call a both.0 both.3 two deep h)
+
+-- the same where the integers are known otherwise
+reply_as : (verb : Name) {x y p q : ℤ} {v : Val} → p ≡ x → q ≡ y → data_reply (int p) verb (and_val (int q) no_vals) ≡ gives v → data_reply (int x) verb (and_val (int y) no_vals) ≡ gives v
+reply_as verb f g h = sym (λ i. data_reply (int (f i)) verb (and_val (int (g i)) no_vals)) ∙ h
+
+pub integers_run : (a : At) {k : ℕ} {r : Tree} {ts : Trees} {verb : Name} {x y p q : ℤ} {v : Val} → Operands a r ts x y → 2 ≤ a.left → k < 1000 → p ≡ x → q ≡ y → data_reply (int p) verb (and_val (int q) no_vals) ≡ gives v
+    → Runs k (call r verb ts) a (value v) (record a { left = a.left - 2 })
+integers_run a {verb = verb} both two deep f g h = call_runs a both two deep (reply_as verb f g h)
+
+thrice : (n : ℕ) → n - 1 - 2 ≡ n - 3
+thrice n = omega arith
+
+call_at_hand : (a : At) {r : Tree} {ts : Trees} {verb : Name} {x y : ℤ} {v : Val} → Operands a r ts x y → data_reply (int x) verb (and_val (int y) no_vals) ≡ gives v → AtHand a (call r verb ts) 3 v
+call_at_hand a {r = r} {ts = ts} {verb = verb} {v = v} both h = λ k n deep some.
+    subst (λ m. Ends k (call r verb ts) (record a { left = n }) (value v) (record a { left = m })) (thrice n)
+    (at_node (omega (arith, some)) (omega (arith, deep)) (call_runs (record a { left = n - 1 }) both (omega (arith, some)) deep h))
+
+-- the parts of such a call fit
+pub operands_fit : (a : At) {r s : Code} {es fs : List Code} → r ≡ s → es ≡ fs → fits_at a s × fits_all a.own_scope (frame_behind a s) fs → fits_at a r × fits_all a.own_scope (frame_behind a r) es
+operands_fit a {r = r} {fs = fs} f g h = subst (λ cs. fits_at a r × fits_all a.own_scope (frame_behind a r) cs) (sym g) (subst (λ c. fits_at a c × fits_all a.own_scope (frame_behind a c) fs) (sym f) h)
+
+-- code that is such a call
+pub code_at_hand : (a : At) (e : Code) (r s : Code) {es fs : List Code} {verb : Name} {x y p q : ℤ} {v : Val} → tree_of_code e ≡ call (tree_of_code s) verb (trees_of_codes fs) → r ≡ s → es ≡ fs → Operands a (tree_of_code r) (trees_of_codes es) x y
+    → p ≡ x → q ≡ y → data_reply (int p) verb (and_val (int q) no_vals) ≡ gives v → AtHand a (tree_of_code e) 3 v
+code_at_hand a e r s {fs = fs} {verb = verb} {x = x} {y = y} {v = v} is f g both m n h =
+    subst (λ t. AtHand a t 3 v) (sym is) (call_at_hand a (subst (λ c. Operands a (tree_of_code c) (trees_of_codes fs) x y) f (subst (λ cs. Operands a (tree_of_code r) (trees_of_codes cs) x y) g both)) (reply_as verb m n h))
+
+-- a tree that is at hand ends so
+pub hand_ends : (a : At) {t : Tree} {k steps : ℕ} {v : Val} → AtHand a t steps v → steps ≤ a.left → k < 1000 → Ends k t a (value v) (record a { left = a.left - steps })
+hand_ends a {k = k} at_hand enough deep = at_hand k a.left deep enough
+
+fourth : (n : ℕ) → n - 4 ≡ n - 1 - 3
+fourth n = omega arith
+
+-- the name of an assignment is at its place where the right side is at hand
+pub placed_at_hand : (a : At) (c d : Code) {p : Place} {v : Val} (x : Name) → c ≡ d → AtHand a (tree_of_code c) 3 v → p ≡ place_in (frame_behind a d) x → p ≡ place_in (frame_at a) x
+placed_at_hand a c d {p = p} {v = v} x same at_hand h = placed_then x (subst (λ e. AtHand a (tree_of_code e) 3 v) same at_hand 1 3 (omega arith) (omega arith)) h
+
+-- an assignment of an integer that is at hand
+pub set_at_hand : (a : At) (e c d : Code) {x : Name} {k : ℕ} {y z : ℤ} {i : SlotId} → tree_of_code e ≡ assign x (tree_of_code d) → c ≡ d → AtHand a (tree_of_code c) 3 (int z) → y ≡ z → 4 ≤ a.left → k < 999 → sought_slot x a ≡ Some i
+    → Ends k (tree_of_code e) a (value (int y)) (record a { state = write a.state (slot_cell i) (held (int y)); left = a.left - 4 })
+set_at_hand a e c d {x = x} {k = k} {y = y} {z = z} {i = i} is same at_hand f enough deep there =
+    let b : At = record a { left = a.left - 1 - 3 } in
+    let right : AtHand a (tree_of_code d) 3 (int y) = subst (λ z. AtHand a (tree_of_code d) 3 (int z)) (sym f) (subst (λ e. AtHand a (tree_of_code e) 3 (int z)) same at_hand) in
+    subst (λ t. Ends k t a (value (int y)) (record a { state = write a.state (slot_cell i) (held (int y)); left = a.left - 4 })) (sym is)
+    (at_node (omega (arith, enough)) (omega (arith, deep))
+    (runs_to (run_assign (right (k + 1) (a.left - 1) (omega (arith, deep)) (omega (arith, enough))))
+    (sym (ap (assigned_end x (value (int y))) there))
+    (ap (λ n. record a { state = write a.state (slot_cell i) (held (int y)); left = n }) (fourth a.left) ∙ sym (ap (λ j. assigned (value (int y)) j b) there))))
+
+-- no item is done yet
+pub none_done : {k : ℕ} (items : List Code) (a : At) → GoesOn k items 0 a a
+none_done items a = (null, λ o c h. h)
+
+-- one more item gave a value
+pub setting_done : {k : ℕ} (items : List Code) {i : ℕ} {x : Code} {a b c : At} {v : Val} → i < length items → x ≡ get_or items i x → Ends k (tree_of_code x) b (value v) c → GoesOn k items i a b → GoesOn k items (i + 1) a c
+setting_done items {v = v} h e ended goes = (v, λ o d rest. goes.1 o d (items_more items h e ended rest))

@@ -1,0 +1,4 @@
+mod Methods
+mod Places
+mod Leaves
+mod Drafted

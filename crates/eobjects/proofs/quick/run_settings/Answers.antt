@@ -1,0 +1,28 @@
+use Rattle.std.proofs.Common.{◌+◌, refl, ap, sym, subst}
+use Rattle.eobjects.specs.Leaves.{GoesOn}
+use Rattle.erules.specs.View.{at}
+use Rattle.erules.proofs.Fitting.{all_fit_then, fits_from}
+use Rattle.eobjects.proofs.Leaves.{setting_done, none_done}
+use Rattle.erules.proofs.Steps.{ends_to}
+use Rattle.eobjects.proofs.quick.run_settings.Goals as goal
+
+pub quick_setting-requires : goal.quick_setting-requires
+quick_setting-requires c = (fits_from _ _ c.args.items.now c.loop-item.item-index _ c.loop-item-test.true c.item-item.is c.loop-item.invariant.fits).0
+
+pub loop-item-preserved : goal.loop-item-preserved
+loop-item-preserved c =
+    let ended = ends_to c.in-Some.ensures.ends refl c.in_ok-set.ensures.place in
+    record {
+      counted = ap (λ n. n + 1) c.loop-item.invariant.counted;
+      runs = setting_done c.args.items.now c.loop-item-test.true c.item-item.is ended c.loop-item.invariant.runs;
+      fits = all_fit_then refl ended (fits_from _ _ c.args.items.now c.loop-item.item-index _ c.loop-item-test.true c.item-item.is c.loop-item.invariant.fits).1;
+    }
+
+pub loop-item-init : goal.loop-item-init
+loop-item-init c = record { counted = refl; runs = none_done c.args.items.now (at c.args.w.now); fits = c.requires }
+
+pub returns-in_default-clause-runs : goal.returns-in_default-clause-runs
+returns-in_default-clause-runs c = subst (λ n. GoesOn c.args.level c.args.items.now n (at c.args.w.now) (at c.loop-item.w)) (sym c.loop-item.invariant.counted) c.loop-item.invariant.runs
+
+pub returns-clause-runs : goal.returns-clause-runs
+returns-clause-runs c = subst (λ n. GoesOn c.args.level c.args.items.now n (at c.args.w.now) (at c.loop-item.w)) (sym c.loop-item.invariant.counted) c.loop-item.invariant.runs

@@ -1,0 +1,125 @@
+// Calls: what they lead to, and how a method is entered and left.
+ghost use Rattle.std.specs.Prelude.{◌≡◌, [], IfOk};
+ghost use Rattle.values.specs.View.{val_of, vals_of};
+ghost use Rattle.erules.specs.Rules.{callee_of, callee_target, target_of, inside};
+ghost use Rattle.erules.specs.Locals.{locals_of};
+ghost use Rattle.erules.specs.View.{at, gather_of};
+ghost use Rattle.eobjects.specs.View.{callee_view, target_view};
+
+use crate::objects::{Target, object_target};
+use erules::end::{End, Gathered};
+use erules::escapes::ejector_end;
+use erules::local::Local;
+use erules::results::data_end;
+use erules::working::Working;
+use ids::names::{EjId, ObjId};
+use ids::text::Text;
+use std::alloc::AllocError;
+use std::mem;
+use values::value::Value;
+use values::verb::Verb;
+
+/// What a call is made on.
+#[derive(Clone, Copy)]
+pub enum Callee {
+    Object(ObjId),
+    Ejector(EjId),
+    Datum,
+}
+
+/// What a caller's names were when the method was entered.
+#[derive(Drop)]
+pub struct Caller {
+    nouns: Vec<Local>,
+    own_scope: bool,
+}
+
+/// What a call leads to, once its arguments have ended.
+pub fn call_target(
+    w: &mut Working,
+    receiver: Value,
+    verb: &Verb,
+    gathered: Gathered,
+) -> Result<Target, AllocError>
+    ensures target { IfOk result (λ t. target_view t
+        ≡ target_of (val_of receiver) verb.now (gather_of gathered) (at w.old)) }
+    ensures place { at w.new ≡ at w.old }
+{
+    match gathered {
+        Gathered::Values(args) => value_target(w, &receiver, verb, args.as_slice()),
+        Gathered::Halt(halt) => Ok(Target::Gives(End::Halt(halt))),
+    }
+}
+
+/// What a call with these arguments leads to.
+pub fn value_target(
+    w: &mut Working,
+    receiver: &Value,
+    verb: &Verb,
+    args: &[Value],
+) -> Result<Target, AllocError>
+    ensures target { IfOk result (λ t. target_view t
+        ≡ callee_target (callee_of (val_of receiver.now)) (val_of receiver.now) verb.now (vals_of args.now) (at w.old)) }
+    ensures place { at w.new ≡ at w.old }
+{
+    match called_on(receiver) {
+        Callee::Object(id) => object_target(w, id, verb, args),
+        Callee::Ejector(id) => Ok(Target::Gives(ejector_end(w, id, verb, args)?)),
+        Callee::Datum => Ok(Target::Gives(data_end(w.alloc, receiver, verb, args)?)),
+    }
+}
+
+/// What a value is to a call.
+fn called_on(value: &Value) -> Callee
+    ensures { callee_view result ≡ callee_of (val_of value.now) }
+{
+    match value {
+        Value::Object(id) => Callee::Object(*id),
+        Value::Ejector(id) => Callee::Ejector(*id),
+        Value::Null
+        | Value::Bool(_)
+        | Value::Int(_)
+        | Value::Text(_)
+        | Value::List(_)
+        | Value::Broken(_) => Callee::Datum,
+    }
+}
+
+/// Begins a method with names of its own, in place of those of the caller.
+pub fn enter_method(w: &mut Working, nouns: Vec<Local>) -> Caller
+    ensures names { result.nouns ≡ w.old.nouns }
+    ensures own { result.own_scope ≡ w.old.own_scope }
+    ensures place { at w.new ≡ inside (locals_of nouns.items) (at w.old) }
+{
+    let caller = Caller {
+        nouns: mem::replace(&mut w.nouns, nouns),
+        own_scope: w.own_scope,
+    };
+    w.own_scope = false;
+    caller
+}
+
+/// A frame with no names: one that a method before left, if there is one.
+pub(crate) fn empty_frame(w: &mut Working) -> Vec<Local>
+    ensures empty { result.items ≡ [] }
+    ensures place { at w.new ≡ at w.old }
+{
+    match w.spare.pop() {
+        Some(mut frame) => {
+            frame.clear();
+            frame
+        }
+        None => Vec::new(w.alloc),
+    }
+}
+
+/// Goes back to the caller's names, and keeps the method's frame for another one.
+pub fn leave_method(w: &mut Working, caller: Caller)
+    ensures { at w.new ≡ record (at w.old) { nouns = locals_of caller.nouns.items; own_scope = caller.own_scope } }
+{
+    let mut frame = mem::replace(&mut w.nouns, caller.nouns);
+    w.own_scope = caller.own_scope;
+    frame.clear();
+    // Where there is no memory to keep it, it is dropped.
+    let _ = w.spare.push(frame);
+}

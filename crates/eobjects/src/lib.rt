@@ -1,0 +1,10 @@
+//! Nouns, objects and calls: what names stand for, how they are bound and assigned, how objects are made, found and entered;
+//! and quick ways where integers are at hand.
+//!
+//! What a function here gives or leaves is what the rules of evaluation say of its part.
+#![tactic(auto)]
+
+pub mod calls;
+pub mod nouns;
+pub mod objects;
+pub mod quick;

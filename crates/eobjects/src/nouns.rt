@@ -1,0 +1,184 @@
+// Nouns: what they stand for, and how they are bound, declared and assigned.
+ghost use Rattle.std.specs.Prelude.{◌≡◌, IfOk, IfSome, OnOk, length};
+ghost use Rattle.std.specs.Option.{option_map};
+ghost use Rattle.values.specs.Replies.{items_in};
+ghost use Rattle.values.specs.View.{val_of, vals_of};
+ghost use Rattle.code.specs.Frames.{place_in};
+ghost use Rattle.erules.specs.Fits.{frame_at};
+ghost use Rattle.heap.specs.State.{read, slot_cell};
+ghost use Rattle.erules.specs.Outcomes.{value as value_end};
+ghost use Rattle.erules.specs.Rules.{binding as binding_of, matched, matched_all, taken, parts_of, parts_bound, parts_end, sought, sought_slot, held_end, undefined_noun};
+ghost use Rattle.erules.specs.Rules.{declared, declared_end, assigned, assigned_end};
+ghost use Rattle.erules.specs.Rules.{noun_end as noun_end_of};
+ghost use Rattle.heap.specs.View.{bind_of};
+ghost use Rattle.heap.specs.Drafts.{draft_of};
+ghost use Rattle.erules.specs.View.{at, end_of};
+
+use code::code::Place;
+use erules::end::{Abandon, End, Halt};
+use erules::local::Local;
+use erules::wanted::mismatch;
+use erules::working::Working;
+use heap::state::Binding;
+use ids::names::SlotId;
+use ids::text::Text;
+use kernele::tree::Pattern;
+use std::alloc::{AllocError, Global};
+use std::snapshot::Snapshot;
+use values::value::Value;
+
+/// How many slots a turn may make.
+const MAX_SLOTS: usize = 4096;
+
+/// The value of a noun: a slot gives what it holds.
+pub fn noun_end(w: &Working, name: &Text, place: Place) -> Result<End, AllocError>
+    requires { place ≡ place_in (frame_at (at w.now)) name.now }
+    ensures { IfOk result (λ o. end_of o
+        ≡ noun_end_of (draft_of w.now.draft) name.now (sought name.now (at w.now))) }
+{
+    match seek(w, name, place) {
+        Some(Binding::Fixed(value)) => Ok(End::Value(value.share()?)),
+        Some(Binding::Slot(slot)) => slot_end(w, *slot, name),
+        None => undefined(w.alloc, name),
+    }
+}
+
+fn slot_end(w: &Working, slot: SlotId, name: &Text) -> Result<End, AllocError>
+    ensures { IfOk result (λ o. end_of o
+        ≡ held_end name.now (read (draft_of w.now.draft) (slot_cell slot))) }
+{
+    match w.draft.read_slot(slot) {
+        Some(value) => Ok(End::Value(value.share()?)),
+        None => undefined(w.alloc, name),
+    }
+}
+
+/// What a name throws that stands for nothing.
+pub(crate) fn undefined(alloc: Global, name: &Text) -> Result<End, AllocError>
+    ensures { IfOk result (λ o. end_of o ≡ undefined_noun name.now) }
+{
+    let mut problem = String::from_str(alloc, "undefined noun ")?;
+    problem.push_str(name.as_str())?;
+    Ok(End::Halt(Halt::Thrown(Text::from_string(problem)?)))
+}
+
+/// What a name stands for: its newest meaning in the scopes, which is at its place, else the vat's top noun.
+#[inline(always)]
+pub(crate) fn seek<'a>(w: &'a Working, name: &Text, place: Place) -> Option<&'a Binding>
+    requires { place ≡ place_in (frame_at (at w.now)) name.now }
+    ensures { option_map (λ b. bind_of b.now) result ≡ sought name.now (at w.now) }
+{
+    match place {
+        Place::Frame(i) => Some(&w.nouns[i].binding),
+        Place::Top => w.draft.top(name),
+    }
+}
+
+/// The slot that a name stands for.
+pub(crate) fn seek_slot(w: &Working, name: &Text, place: Place) -> Option<SlotId>
+    requires { place ≡ place_in (frame_at (at w.now)) name.now }
+    ensures { result ≡ sought_slot name.now (at w.now) }
+{
+    match seek(w, name, place) {
+        Some(Binding::Slot(slot)) => Some(*slot),
+        Some(Binding::Fixed(_)) | None => None,
+    }
+}
+
+/// Binds what a pattern names.
+pub fn match_pattern(w: &mut Working, pattern: &Pattern, value: &Value) -> Result<(), AllocError>
+    ensures { OnOk result (at w.new ≡ matched pattern.now (val_of value.now) (at w.old)) }
+{
+    match pattern {
+        Pattern::Name(name) => bind(w, name, Binding::Fixed(value.share()?)),
+        Pattern::Ignore => Ok(()),
+    }
+}
+
+/// Binds what a list of patterns names, where the value is a list of as many items.
+pub fn bind_parts(w: &mut Working, patterns: &[Pattern], value: Value) -> Result<End, AllocError>
+    ensures ends { IfOk result (λ o. end_of o
+        ≡ parts_end (value_end (val_of value)) (parts_of patterns.now (value_end (val_of value)))) }
+    ensures binds { IfOk result (λ o. at w.new
+        ≡ parts_bound patterns.now (parts_of patterns.now (value_end (val_of value))) (at w.old)) }
+{
+    match parts(patterns, &value) {
+        Some(values) => {
+            match_all(w, patterns, values)?;
+            Ok(End::Value(value))
+        }
+        None => mismatch(w.alloc, "wrong list", &value),
+    }
+}
+
+/// The items of a list, where there are as many as patterns.
+fn parts<'a>(patterns: &[Pattern], value: &'a Value) -> Option<&'a [Value]>
+    ensures items { option_map (λ s. vals_of s.now) result ≡ taken patterns.now (items_in (val_of value.now)) }
+    ensures count { IfSome result (λ s. length s.now ≡ length patterns.now) }
+{
+    match value.as_items() {
+        Some(values) => {
+            if values.len() == patterns.len() {
+                Some(values)
+            } else {
+                None
+            }
+        }
+        None => None,
+    }
+}
+
+/// Binds what patterns name, from the left.
+fn match_all(w: &mut Working, patterns: &[Pattern], values: &[Value]) -> Result<(), AllocError>
+    requires { length values.now ≡ length patterns.now }
+    ensures { OnOk result (at w.new ≡ matched_all patterns.now (vals_of values.now) (at w.old)) }
+{
+    for i in 0..patterns.len() {
+        match_pattern(w, &patterns[i], &values[i])?;
+    }
+    Ok(())
+}
+
+/// Binds a name in the innermost scope.
+fn bind(w: &mut Working, name: &Text, binding: Binding) -> Result<(), AllocError>
+    ensures { OnOk result (at w.new ≡ binding_of name.now (bind_of binding) (at w.old)) }
+{
+    if w.own_scope {
+        w.draft.bind_top(name.share()?, binding)
+    } else {
+        let name = Snapshot::of(name);
+        w.nouns.push(Local { name, binding })?;
+        Ok(())
+    }
+}
+
+/// Makes a variable that holds this value, or abandons a turn that has made too many.
+pub fn declare(w: &mut Working, name: &Text, value: Value) -> Result<End, AllocError>
+    ensures ends { IfOk result (λ o. end_of o ≡ declared_end (value_end (val_of value)) (at w.old)) }
+    ensures makes { IfOk result (λ o. at w.new ≡ declared name.now (value_end (val_of value)) (at w.old)) }
+{
+    if w.draft.slot_count() >= MAX_SLOTS {
+        return Ok(End::Halt(Halt::Abandoned(Abandon::Size)));
+    }
+    let slot = w.draft.new_slot(value.share()?)?;
+    bind(w, name, Binding::Slot(slot))?;
+    Ok(End::Value(value))
+}
+
+/// Lets the slot that a name stands for hold this value. What stands for no slot is undefined here:
+/// a program that assigns to a definition is refused before it runs.
+pub fn assign(w: &mut Working, name: &Text, place: Place, value: Value) -> Result<End, AllocError>
+    requires { place ≡ place_in (frame_at (at w.old)) name.now }
+    ensures ends { IfOk result (λ o. end_of o
+        ≡ assigned_end name.now (value_end (val_of value)) (sought_slot name.now (at w.old))) }
+    ensures writes { IfOk result (λ o. at w.new
+        ≡ assigned (value_end (val_of value)) (sought_slot name.now (at w.old)) (at w.old)) }
+{
+    match seek_slot(w, name, place) {
+        Some(slot) => {
+            w.draft.write_slot(slot, value.share()?)?;
+            Ok(End::Value(value))
+        }
+        None => undefined(w.alloc, name),
+    }
+}

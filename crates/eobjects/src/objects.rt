@@ -1,0 +1,300 @@
+// Objects: what they capture, how they are made, and how a call finds a method.
+ghost use Rattle.std.specs.Prelude.{◌≡◌, [], ◌∷◌, ◌++◌, IfOk, OnOk, length};
+ghost use Rattle.std.specs.Option.{option_copied};
+ghost use Rattle.code.specs.Frames.{only_names, captured_names_of, all_placed, fits_methods};
+ghost use Rattle.code.specs.Index.{Indexes, index_in, index_fits};
+ghost use Rattle.heap.specs.Names.{names_of};
+ghost use Rattle.erules.specs.Fits.{frame_at, FindsMethod};
+ghost use Rattle.scopes.specs.Free.{captures as captures_of};
+ghost use Rattle.scopes.specs.Scope.{name_of};
+ghost use Rattle.code.specs.View.{methods_of_codes};
+ghost use Rattle.values.specs.Data.{object as object_value};
+ghost use Rattle.values.specs.View.{val_of, vals_of};
+ghost use Rattle.heap.specs.State.{object_cell, read};
+ghost use Rattle.erules.specs.Rules.{captured, all_captured, capture_of, has_object_room, placed, placed_end};
+ghost use Rattle.erules.specs.Rules.{with_object, object_end, named, named_all, method_in};
+ghost use Rattle.erules.specs.Rules.{method_target as method_target_of, object_target as object_target_of};
+ghost use Rattle.heap.specs.View.{bind_of, nouns_of, object_of};
+ghost use Rattle.heap.specs.Drafts.{draft_of};
+ghost use Rattle.erules.specs.Locals.{locals_of};
+ghost use Rattle.erules.specs.View.{at, end_of};
+ghost use Rattle.eobjects.specs.View.{capture_view, target_view};
+
+use crate::calls::empty_frame;
+use crate::nouns::{match_pattern, seek, undefined};
+use code::code::{Capture as CaptureCode, MethodCode};
+use code::index::{MethodIndex, share_index};
+use erules::end::{Abandon, End, Halt};
+use erules::entry::Entry;
+use erules::local::Local;
+use erules::results::no_such_method;
+use erules::working::Working;
+use heap::made::Made;
+use heap::state::{Binding, Noun};
+use ids::names::ObjId;
+use ids::text::Text;
+use kernele::tree::Pattern;
+use std::alloc::{AllocError, Global};
+use std::snapshot::Snapshot;
+use std::sync::Arc;
+use values::value::Value;
+use values::verb::Verb;
+
+/// How many objects a turn may make.
+const MAX_OBJECTS: usize = 4096;
+
+/// The names that an object captures, the newest last, or the first of them that stands for nothing.
+#[derive(Drop)]
+pub enum Capture {
+    Captured(Vec<Noun>),
+    Missing(Text),
+}
+
+/// What a call leads to: an end, or a method's block.
+#[derive(Drop)]
+pub enum Target {
+    Gives(End),
+    Enters(Entry),
+}
+
+/// Makes an object once its names are captured, and binds its pattern.
+pub fn define_object(
+    w: &mut Working,
+    pattern: &Pattern,
+    captures: &Arc<Vec<CaptureCode>>,
+    methods: &Arc<Vec<MethodCode>>,
+    index: &Option<Arc<MethodIndex>>,
+) -> Result<End, AllocError>
+    requires fits { (captured_names_of captures.now.value.items ≡ captures_of pattern.now (methods_of_codes methods.now.value.items))
+        × all_placed (frame_at (at w.old)) captures.now.value.items
+        × fits_methods (captured_names_of captures.now.value.items ++ only_names (name_of pattern.now)) methods.now.value.items
+        × index_fits (index_in index.now) (methods_of_codes methods.now.value.items) }
+    ensures ends { IfOk result (λ o. end_of o
+        ≡ object_end (capture_of pattern.now (methods_of_codes methods.now.value.items) (at w.old)) (at w.old)) }
+    ensures makes { IfOk result (λ o. at w.new
+        ≡ with_object pattern.now (methods_of_codes methods.now.value.items)
+        (capture_of pattern.now (methods_of_codes methods.now.value.items) (at w.old)) (at w.old)) }
+{
+    let capture = capture_all(w, captures.as_slice())?;
+    match capture {
+        Capture::Captured(nouns) => place(w, pattern, nouns, methods, index),
+        Capture::Missing(name) => undefined(w.alloc, &name),
+    }
+}
+
+/// Captures names from the left, up to the first that stands for nothing. A variable is captured as its slot.
+fn capture_all(w: &Working, captures: &[CaptureCode]) -> Result<Capture, AllocError>
+    requires { all_placed (frame_at (at w.now)) captures.now }
+    ensures { IfOk result (λ c. capture_view c ≡ all_captured (captured []) (captured_names_of captures.now) (at w.now)) }
+{
+    let mut nouns = Vec::new(w.alloc);
+    let mut rest = captures;
+    while let Some((first, others)) = rest.split_first() {
+        match seek(w, &first.name, first.place) {
+            Some(binding) => add_noun(&mut nouns, &first.name, binding.share()?)?,
+            None => return Ok(Capture::Missing(first.name.share()?)),
+        }
+        rest = others;
+    }
+    Ok(Capture::Captured(nouns))
+}
+
+/// Adds a newer name to those that are captured.
+fn add_noun(nouns: &mut Vec<Noun>, name: &Text, binding: Binding) -> Result<(), AllocError>
+    ensures { OnOk result (nouns_of nouns.new.items ≡ (name.now, bind_of binding) ∷ nouns_of nouns.old.items) }
+{
+    let name = name.share()?;
+    nouns.push(Noun { name, binding })?;
+    Ok(())
+}
+
+/// Makes an object with these names and binds its pattern, or abandons a turn that has made too many.
+fn place(
+    w: &mut Working,
+    pattern: &Pattern,
+    nouns: Vec<Noun>,
+    methods: &Arc<Vec<MethodCode>>,
+    index: &Option<Arc<MethodIndex>>,
+) -> Result<End, AllocError>
+    requires fits { fits_methods (names_of nouns.items ++ only_names (name_of pattern.now)) methods.now.value.items }
+    requires indexed { index_fits (index_in index.now) (methods_of_codes methods.now.value.items) }
+    ensures ends { IfOk result (λ o. end_of o ≡ placed_end (has_object_room (at w.old)) (at w.old)) }
+    ensures makes { IfOk result (λ o. at w.new ≡ placed (has_object_room (at w.old)) pattern.now
+        (record { own = pattern.now; captured = nouns_of nouns.items; methods = methods_of_codes methods.now.value.items })
+        (at w.old)) }
+{
+    if w.draft.object_count() >= MAX_OBJECTS {
+        return Ok(End::Halt(Halt::Abandoned(Abandon::Size)));
+    }
+    let made = make(w.alloc, pattern, nouns, methods, index)?;
+    let object = Value::Object(w.draft.new_object(made)?);
+    match_pattern(w, pattern, &object)?;
+    Ok(End::Value(object))
+}
+
+/// What an object with these names is made of. It shares its pattern and its methods with its definition.
+fn make(
+    alloc: Global,
+    pattern: &Pattern,
+    nouns: Vec<Noun>,
+    methods: &Arc<Vec<MethodCode>>,
+    index: &Option<Arc<MethodIndex>>,
+) -> Result<Made, AllocError>
+    requires fits { fits_methods (names_of nouns.items ++ only_names (name_of pattern.now)) methods.now.value.items }
+    requires indexed { index_fits (index_in index.now) (methods_of_codes methods.now.value.items) }
+    ensures { IfOk result (λ made. object_of made
+        ≡ record { own = pattern.now; captured = nouns_of nouns.items; methods = methods_of_codes methods.now.value.items }) }
+{
+    let captured = Arc::new(alloc, nouns)?;
+    let own = pattern.share()?;
+    let methods = Arc::try_clone(methods)?;
+    let index = share_index(index)?;
+    Ok(Made {
+        own,
+        captured,
+        methods,
+        index,
+    })
+}
+
+/// What a call on an object leads to.
+pub(crate) fn object_target(
+    w: &mut Working,
+    id: ObjId,
+    verb: &Verb,
+    args: &[Value],
+) -> Result<Target, AllocError>
+    ensures target { IfOk result (λ t. target_view t
+        ≡ object_target_of id (read (draft_of w.old.draft) (object_cell id)) verb.now (vals_of args.now)) }
+    ensures place { at w.new ≡ at w.old }
+{
+    let frame = empty_frame(w);
+    match w.draft.object(id) {
+        Some(object) => method_target(w.alloc, frame, id, object, verb, args),
+        None => Ok(Target::Gives(no_such_method(w.alloc, verb, args)?)),
+    }
+}
+
+/// The method that a call on this object enters, with the names that it begins with, in an empty frame.
+fn method_target(
+    alloc: Global,
+    frame: Vec<Local>,
+    id: ObjId,
+    object: &Made,
+    verb: &Verb,
+    args: &[Value],
+) -> Result<Target, AllocError>
+    requires { frame.items ≡ [] }
+    ensures { IfOk result (λ t. target_view t
+        ≡ method_target_of id (object_of object.now) verb.now (vals_of args.now)
+        (method_in (methods_of_codes object.now.methods.value.items) verb.now (vals_of args.now))) }
+{
+    match find_method(object, verb, args)? {
+        Some(method) => {
+            let nouns = method_nouns(frame, id, object, method.parameters.as_slice(), args)?;
+            let body = Arc::try_clone(&method.body)?;
+            Ok(Target::Enters(Entry { nouns, body }))
+        }
+        None => Ok(Target::Gives(no_such_method(alloc, verb, args)?)),
+    }
+}
+
+/// The method with this verb and as many parameters as there are arguments: among many it is looked up, among few sought.
+fn find_method<'a>(
+    object: &'a Made,
+    verb: &Verb,
+    args: &[Value],
+) -> Result<Option<&'a MethodCode>, AllocError>
+    ensures { IfOk result (λ method. FindsMethod object.now.methods.value.items verb.now args.now (option_copied method)) }
+{
+    let methods = object.methods.as_slice();
+    match &object.index {
+        Some(index) => look_up_method(methods, index, verb, args),
+        None => Ok(scan_methods(methods, verb, args)),
+    }
+}
+
+/// The method that an index finds.
+fn look_up_method<'a>(
+    methods: &'a [MethodCode],
+    index: &MethodIndex,
+    verb: &Verb,
+    args: &[Value],
+) -> Result<Option<&'a MethodCode>, AllocError>
+    requires { Indexes index.now (methods_of_codes methods.now) }
+    ensures { IfOk result (λ method. FindsMethod methods.now verb.now args.now (option_copied method)) }
+{
+    match index.find(verb.text(), args.len())? {
+        Some(position) => Ok(Some(&methods[position])),
+        None => Ok(None),
+    }
+}
+
+/// The method that is found by looking at one after another.
+fn scan_methods<'a>(
+    methods: &'a [MethodCode],
+    verb: &Verb,
+    args: &[Value],
+) -> Option<&'a MethodCode>
+    ensures { FindsMethod methods.now verb.now args.now (option_copied result) }
+{
+    let mut rest = methods;
+    while let Some((method, others)) = rest.split_first() {
+        if method.verb.as_str() == verb.as_str() && args.len() == method.parameters.len() {
+            return Some(method);
+        }
+        rest = others;
+    }
+    None
+}
+
+/// The names that a method begins with: the object's, its own, and the parameters.
+fn method_nouns(
+    frame: Vec<Local>,
+    id: ObjId,
+    object: &Made,
+    parameters: &[Pattern],
+    args: &[Value],
+) -> Result<Vec<Local>, AllocError>
+    requires empty { frame.items ≡ [] }
+    requires count { length args.now ≡ length parameters.now }
+    ensures { IfOk result (λ ns. locals_of ns.items ≡ named_all parameters.now (vals_of args.now)
+        (named object.now.own (object_value id) (nouns_of object.now.captured.value.items))) }
+{
+    let mut nouns = copied(frame, object.captured.as_slice())?;
+    name_value(&mut nouns, &object.own, &Value::Object(id))?;
+    for i in 0..parameters.len() {
+        name_value(&mut nouns, &parameters[i], &args[i])?;
+    }
+    Ok(nouns)
+}
+
+/// The same names in an empty frame, with what they stand for shared.
+fn copied(mut frame: Vec<Local>, nouns: &[Noun]) -> Result<Vec<Local>, AllocError>
+    requires { frame.items ≡ [] }
+    ensures { IfOk result (λ ns. locals_of ns.items ≡ nouns_of nouns.now) }
+{
+    for noun in nouns {
+        add_local(&mut frame, &noun.name, noun.binding.share()?)?;
+    }
+    Ok(frame)
+}
+
+/// Adds what a pattern names.
+fn name_value(nouns: &mut Vec<Local>, pattern: &Pattern, value: &Value) -> Result<(), AllocError>
+    ensures { OnOk result (locals_of nouns.new.items ≡ named pattern.now (val_of value.now) (locals_of nouns.old.items)) }
+{
+    match pattern {
+        Pattern::Name(name) => add_local(nouns, name, Binding::Fixed(value.share()?)),
+        Pattern::Ignore => Ok(()),
+    }
+}
+
+/// Adds a newer name to a frame.
+fn add_local(nouns: &mut Vec<Local>, name: &Text, binding: Binding) -> Result<(), AllocError>
+    ensures { OnOk result (locals_of nouns.new.items ≡ (name.now, bind_of binding) ∷ locals_of nouns.old.items) }
+{
+    let name = Snapshot::of(name);
+    nouns.push(Local { name, binding })?;
+    Ok(())
+}

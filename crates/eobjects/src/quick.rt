@@ -1,0 +1,182 @@
+// What integers at hand, in literals and nouns, make possible without an end: they share, make and leave nothing.
+ghost use Rattle.std.specs.Prelude.{◌≡◌, ◌≤◌, ◌-◌, IfOk, IfSome, drop, length};
+ghost use Rattle.kernele.specs.Tree.{call};
+ghost use Rattle.code.specs.View.{tree_of_code, trees_of_codes};
+ghost use Rattle.code.specs.Frames.{fits_all, place_in};
+ghost use Rattle.values.specs.Data.{bool, int};
+ghost use Rattle.values.specs.View.{val_of};
+ghost use Rattle.heap.specs.Drafts.{draft_of};
+ghost use Rattle.heap.specs.State.{held, slot_cell, write};
+ghost use Rattle.erules.specs.Fits.{all_fit_at, fits_at, frame_at, frame_behind};
+ghost use Rattle.eobjects.specs.Leaves.{AtHand, GoesOn, Leaf, Operands};
+ghost use Rattle.erules.specs.Outcomes.{value as value_end};
+ghost use Rattle.erules.specs.Rules.{Ends, Runs, noun_end, sought};
+ghost use Rattle.erules.specs.View.{at};
+
+use crate::nouns::{seek, seek_slot};
+use code::code::{Code, Place};
+use erules::working::{DEEPEST, Working};
+use heap::state::Binding;
+use ids::names::SlotId;
+use ids::text::Text;
+use std::alloc::AllocError;
+use values::calls::{call_integers, combine_integers, compare_integers};
+use values::value::Value;
+use values::verb::Verb;
+
+/// An integer, and the slot that it is assigned to.
+#[derive(Clone, Copy)]
+pub struct Setting {
+    pub slot: SlotId,
+    pub integer: i64,
+}
+
+/// The value of a call with one argument, where both sides are integers at hand, the verb gives a value for them,
+/// and there are steps for both.
+pub fn quick_value(
+    w: &Working,
+    receiver: &Code,
+    verb: &Verb,
+    args: &[Code],
+    level: u32,
+) -> Option<Value>
+    requires fits { fits_at (at w.now) receiver.now × fits_all w.now.own_scope (frame_behind (at w.now) receiver.now) args.now }
+    ensures steps { IfSome result (λ v. 2 ≤ w.now.steps) }
+    ensures runs { IfSome result (λ v. Runs level (call (tree_of_code receiver.now) verb.now (trees_of_codes args.now))
+        (at w.now) (value_end (val_of v)) (record (at w.now) { left = w.now.steps - 2 })) }
+{
+    if w.steps < 2 || level >= DEEPEST {
+        return None;
+    }
+    let (x, y) = operands(w, receiver, args)?;
+    call_integers(x, verb, y)
+}
+
+/// Whether a condition holds that is a call on integers at hand, where there are steps for its three nodes.
+pub fn quick_truth(w: &Working, condition: &Code, level: u32) -> Option<bool>
+    requires { fits_at (at w.now) condition.now }
+    ensures steps { IfSome result (λ holds. 3 ≤ w.now.steps) }
+    ensures ends { IfSome result (λ holds. Ends level (tree_of_code condition.now)
+        (at w.now) (value_end (bool holds)) (record (at w.now) { left = w.now.steps - 3 })) }
+{
+    if w.steps < 3 || level >= DEEPEST {
+        return None;
+    }
+    compared(w, condition)
+}
+
+/// What an assignment sets whose right side is a call on integers at hand, where there are steps for its four nodes.
+pub fn quick_setting(w: &Working, item: &Code, level: u32) -> Option<Setting>
+    requires { fits_at (at w.now) item.now }
+    ensures steps { IfSome result (λ s. 4 ≤ w.now.steps) }
+    ensures ends { IfSome result (λ s. Ends level (tree_of_code item.now) (at w.now) (value_end (int s.integer))
+        (record (at w.now) { state = write (draft_of w.now.draft) (slot_cell s.slot) (held (int s.integer)); left = w.now.steps - 4 })) }
+{
+    match item {
+        Code::Assign(name, place, right) => {
+            if w.steps < 4 || level >= DEEPEST - 1 {
+                return None;
+            }
+            let integer = combined(w, right)?;
+            let slot = seek_slot(w, name, *place)?;
+            Some(Setting { slot, integer })
+        }
+        _ => None,
+    }
+}
+
+/// Assigns, in four steps. Gives the integer as a value.
+pub fn set(w: &mut Working, setting: Setting) -> Result<Value, AllocError>
+    requires { 4 ≤ w.old.steps }
+    ensures value { IfOk result (λ v. val_of v ≡ int setting.integer) }
+    ensures place { IfOk result (λ v. at w.new
+        ≡ record (at w.old) { state = write (draft_of w.old.draft) (slot_cell setting.slot) (held (int setting.integer)); left = w.old.steps - 4 }) }
+{
+    w.draft
+        .write_slot(setting.slot, Value::Int(setting.integer))?;
+    w.steps -= 4;
+    Ok(Value::Int(setting.integer))
+}
+
+/// Runs the items at the head of a block that assign what integers at hand give. Answers how many they are.
+pub fn run_settings(w: &mut Working, items: &[Code], level: u32) -> Result<usize, AllocError>
+    requires { all_fit_at (at w.old) items.now }
+    ensures within { IfOk result (λ n. n ≤ length items.now) }
+    ensures runs { IfOk result (λ n. GoesOn level items.now n (at w.old) (at w.new)) }
+    ensures fits { IfOk result (λ n. all_fit_at (at w.new) (drop n items.now)) }
+{
+    let mut done = 0;
+    for item in items {
+        let Some(setting) = quick_setting(w, item, level) else {
+            return Ok(done);
+        };
+        set(w, setting)?;
+        done += 1;
+    }
+    Ok(done)
+}
+
+/// What a call on integers at hand says, if it says whether something holds.
+fn compared(w: &Working, e: &Code) -> Option<bool>
+    requires { fits_at (at w.now) e.now }
+    ensures { IfSome result (λ holds. AtHand (at w.now) (tree_of_code e.now) 3 (bool holds)) }
+{
+    match e {
+        Code::Call(receiver, verb, args) => {
+            let (x, y) = operands(w, receiver, args)?;
+            compare_integers(x, verb, y)
+        }
+        _ => None,
+    }
+}
+
+/// The integer that a call on integers at hand gives, if it gives one.
+fn combined(w: &Working, e: &Code) -> Option<i64>
+    requires { fits_at (at w.now) e.now }
+    ensures { IfSome result (λ n. AtHand (at w.now) (tree_of_code e.now) 3 (int n)) }
+{
+    match e {
+        Code::Call(receiver, verb, args) => {
+            let (x, y) = operands(w, receiver, args)?;
+            combine_integers(x, verb, y)
+        }
+        _ => None,
+    }
+}
+
+/// What a call is made on and its argument, where it has one argument and both are integers at hand.
+fn operands(w: &Working, receiver: &Code, args: &[Code]) -> Option<(i64, i64)>
+    requires { fits_at (at w.now) receiver.now × fits_all w.now.own_scope (frame_behind (at w.now) receiver.now) args.now }
+    ensures { IfSome result (λ p. Operands (at w.now) (tree_of_code receiver.now) (trees_of_codes args.now) p.0 p.1) }
+{
+    if args.len() != 1 {
+        return None;
+    }
+    let x = integer_at(w, receiver)?;
+    let y = integer_at(w, &args[0])?;
+    Some((x, y))
+}
+
+/// The integer that a literal or a noun gives, if it gives one.
+fn integer_at(w: &Working, e: &Code) -> Option<i64>
+    requires { fits_at (at w.now) e.now }
+    ensures { IfSome result (λ n. Leaf (at w.now) (tree_of_code e.now) (int n)) }
+{
+    match e {
+        Code::Int(n) => Some(*n),
+        Code::Noun(name, place) => integer_of(w, name, *place),
+        _ => None,
+    }
+}
+
+/// The integer that a noun stands for, if it stands for one.
+fn integer_of(w: &Working, name: &Text, place: Place) -> Option<i64>
+    requires { place ≡ place_in (frame_at (at w.now)) name.now }
+    ensures { IfSome result (λ n. noun_end (draft_of w.now.draft) name.now (sought name.now (at w.now)) ≡ value_end (int n)) }
+{
+    match seek(w, name, place) {
+        Some(Binding::Fixed(value)) => value.as_int(),
+        Some(Binding::Slot(slot)) => w.draft.read_slot(*slot)?.as_int(),
+        None => None,
+    }
+}

@@ -1,5 +1,0 @@
-use Rattle.std.proofs.Common.{rules}
-use Rattle.erules.proofs.calls.called_on.Goals as goal
-
-pub returns-in-Ejector : goal.returns-in-Ejector
-returns-in-Ejector c = search rules
