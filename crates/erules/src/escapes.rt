@@ -21,11 +21,7 @@ pub fn open_escape(w: &mut Working) -> Result<EjId, AllocError>
     ensures named { IfOk result (λ j. j ≡ next_ejector (at w.old)) }
     ensures place { IfOk result (λ j. at w.new ≡ escaping (at w.old)) }
 {
-    let ejector = EjId {
-        event: w.draft.event(),
-        index: w.ejectors,
-        vat: w.draft.vat(),
-    };
+    let ejector = w.draft.ejector(w.ejectors);
     w.opened.push(ejector)?;
     w.ejectors += 1;
     Ok(ejector)

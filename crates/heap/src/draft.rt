@@ -4,7 +4,7 @@ ghost use Rattle.std.specs.Option.{option_map};
 
 use crate::made::Made;
 use crate::state::{Binding, VatState};
-use ids::names::{EventName, ObjId, SlotId, VatNo};
+use ids::names::{EjId, EventName, ObjId, SlotId, VatNo};
 use ids::text::Text;
 use std::alloc::AllocError;
 use values::value::Value;
@@ -45,20 +45,16 @@ impl Draft {
         }
     }
 
-    /// The event of the turn.
+    /// The name of the turn's ejector of this number.
     #[inline]
-    pub fn event(&self) -> EventName
-        ensures { result ≡ self.now.event }
+    pub fn ejector(&self, index: u32) -> EjId
+        ensures { result ≡ record { event = self.now.event; index = index; vat = self.now.vat } }
     {
-        self.event
-    }
-
-    /// The vat whose state this is.
-    #[inline]
-    pub fn vat(&self) -> VatNo
-        ensures { result ≡ self.now.vat }
-    {
-        self.vat
+        EjId {
+            event: self.event,
+            index,
+            vat: self.vat,
+        }
     }
 
     /// How many slots the turn has made.

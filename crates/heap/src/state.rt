@@ -44,7 +44,7 @@ pub struct Noun {
 
 impl Made {
     /// The same object, whose names, methods and index are shared. Fails only for want of memory.
-    pub fn share(&self) -> Result<Made, AllocError>
+    pub(crate) fn share(&self) -> Result<Made, AllocError>
         ensures { IfOk result (λ m. object_of m ≡ object_of self.now) }
     {
         Ok(Made {
@@ -90,7 +90,7 @@ impl VatState {
     }
 
     /// What a top noun stands for.
-    pub fn top(&self, name: &Text) -> Option<&Binding>
+    pub(crate) fn top(&self, name: &Text) -> Option<&Binding>
         ensures { option_map (λ b. bound (bind_of b.now)) result
             ≡ read (state_of self.now) (top name.now) }
     {
@@ -98,7 +98,7 @@ impl VatState {
     }
 
     /// Binds a top noun. Without memory for a new one the state stays as it was.
-    pub fn bind_top(&mut self, name: Text, binding: Binding) -> Result<(), AllocError>
+    pub(crate) fn bind_top(&mut self, name: Text, binding: Binding) -> Result<(), AllocError>
         ensures ok { OnOk result
             (state_of self.new ≡ write (state_of self.old) (top name) (bound (bind_of binding))) }
         ensures err { OnErr result (state_of self.new ≡ state_of self.old) }
@@ -108,7 +108,7 @@ impl VatState {
     }
 
     /// What a slot holds.
-    pub fn read_slot(&self, slot: SlotId) -> Option<&Value>
+    pub(crate) fn read_slot(&self, slot: SlotId) -> Option<&Value>
         ensures { option_map (λ v. held (val_of v.now)) result
             ≡ read (state_of self.now) (slot_cell slot) }
     {
@@ -116,7 +116,7 @@ impl VatState {
     }
 
     /// Lets a slot hold a value. Without memory for a new one the state stays as it was.
-    pub fn write_slot(&mut self, slot: SlotId, value: Value) -> Result<(), AllocError>
+    pub(crate) fn write_slot(&mut self, slot: SlotId, value: Value) -> Result<(), AllocError>
         ensures ok { OnOk result
             (state_of self.new ≡ write (state_of self.old) (slot_cell slot) (held (val_of value))) }
         ensures err { OnErr result (state_of self.new ≡ state_of self.old) }
@@ -126,7 +126,7 @@ impl VatState {
     }
 
     /// What an object is.
-    pub fn object(&self, object: ObjId) -> Option<&Made>
+    pub(crate) fn object(&self, object: ObjId) -> Option<&Made>
         ensures { option_map (λ m. made (object_of m.now)) result
             ≡ read (state_of self.now) (object_cell object) }
     {

@@ -1,27 +1,12 @@
-// What holds of turns: each function's contract is a law.
+// What holds of turns.
 ghost use Rattle.turn.specs.Laws.{AtMostOneDelivery, DeliveryFrame, OthersStayInTurns, WithinBudget, NoEjectionLeavesATurn};
 
-/// A delivery has at most one outcome.
-pub fn at_most_one_delivery()
-    ensures { AtMostOneDelivery }
-{}
-
-/// A delivery depends on no cell but those that it touches.
-pub fn delivery_frame()
-    ensures { DeliveryFrame }
-{}
-
-/// A delivery leaves each cell that it does not write.
-pub fn others_stay_in_turns()
-    ensures { OthersStayInTurns }
-{}
-
-/// A delivery leaves no more steps than its budget.
-pub fn within_budget()
-    ensures { WithinBudget }
-{}
-
-/// No such value leaves the program of a turn.
-pub fn no_ejection_leaves_a_turn()
-    ensures { NoEjectionLeavesATurn }
+/// A delivery has at most one outcome. It depends on no cell but those that it touches, leaves each that it does not
+/// write, and leaves no more steps than its budget. No value on its way to an Escape leaves the program of a turn.
+pub fn turns_are_lawful()
+    ensures one_outcome { AtMostOneDelivery }
+    ensures frame { DeliveryFrame }
+    ensures others_stay { OthersStayInTurns }
+    ensures within_budget { WithinBudget }
+    ensures no_ejection_leaves { NoEjectionLeavesATurn }
 {}

@@ -1,6 +1,6 @@
 // The verbs of data, and the verbs that programs call.
 ghost use Rattle.std.specs.Prelude.{◌≡◌, IfOk};
-ghost use Rattle.values.specs.Verbs.{text_of, word_of};
+ghost use Rattle.values.specs.Verbs.{word_of};
 
 use ids::text::Text;
 use std::alloc::AllocError;
@@ -38,29 +38,8 @@ pub enum Word {
 }
 
 impl Word {
-    /// The text that spells it.
-    pub fn text(self) -> &'static str
-        ensures { result.now ≡ text_of self }
-    {
-        match self {
-            Word::Add => "add",
-            Word::Subtract => "subtract",
-            Word::Multiply => "multiply",
-            Word::FloorDivide => "floorDivide",
-            Word::LessThan => "lessThan",
-            Word::AtMost => "atMost",
-            Word::MoreThan => "moreThan",
-            Word::AtLeast => "atLeast",
-            Word::Negate => "negate",
-            Word::Not => "not",
-            Word::Size => "size",
-            Word::With => "with",
-            Word::Get => "get",
-        }
-    }
-
     /// The verb that a text spells, if it spells one.
-    pub fn of(text: &str) -> Option<Word>
+    pub(crate) fn of(text: &str) -> Option<Word>
         ensures { result ≡ word_of text.now }
     {
         match text {

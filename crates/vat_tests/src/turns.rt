@@ -2,6 +2,7 @@
 
 use crate::tables::{expect_text, row};
 use ereader::read;
+use heap::draft::Draft;
 use heap::state::{Binding, VatState};
 use ids::names::{EventName, MsgId, VatNo};
 use ids::text::Text;
@@ -46,12 +47,13 @@ fn run(rt: &impl Abort, state: VatState, event: u64, delivery: Delivery) -> Outc
 
 /// The state of a vat where the noun `gone` is broken by the problem "lost", once its script has run.
 fn after_script(rt: &(impl Abort + AllocGlobal), script: &str) -> VatState {
-    let mut state = VatState::new(rt.alloc());
+    let mut state = Draft::new(VatState::new(rt.alloc()), EventName(1), ALICE);
     let lost = Value::Broken(Text::new(rt.alloc(), "lost").expect(rt, "no memory"));
     let gone = Text::new(rt.alloc(), "gone").expect(rt, "no memory");
     state
         .bind_top(gone, Binding::Fixed(lost))
         .expect(rt, "no memory");
+    let state = state.finish().expect(rt, "no memory");
     run(rt, state, 2, Delivery::Opening(program(rt, script))).state
 }
 

@@ -4,9 +4,9 @@ use Rattle.erules.proofs.Ejectors.{opened_of-push}
 use Rattle.erules.proofs.escapes.open_escape.Goals as goal
 
 pub returns-clause-named : goal.returns-clause-named
-returns-clause-named c = λ k. record { event = c.event.ensures k; index = c.args.w.now.ejectors; vat = c.vat.ensures k }
+returns-clause-named c = c.ejector-ejector.ensures
 
 pub returns-clause-place : goal.returns-clause-place
 returns-clause-place c =
     ap (λ js. record (at c.args.w.now) { ejectors = c.args.w.now.ejectors + 1; opened = js })
-    (ap opened_of c.in_ok-push.ensures.items ∙ opened_of-push c.args.w.now.opened.items _ ∙ (λ k. record { event = c.event.ensures k; index = c.args.w.now.ejectors; vat = c.vat.ensures k } ∷ opened_of c.args.w.now.opened.items))
+    (ap opened_of c.in_ok-push.ensures.items ∙ opened_of-push c.args.w.now.opened.items _ ∙ ap (λ j. j ∷ opened_of c.args.w.now.opened.items) c.ejector-ejector.ensures)
