@@ -1,5 +1,5 @@
 // Where the methods of an object stand, so that a call finds one without a scan of all.
-ghost use Rattle.std.specs.Prelude.{◌≡◌, IfOk, OnOk, Some, length};
+ghost use Rattle.std.specs.Prelude.{◌≡◌, ◌<◌, ◌↔◌, IfOk, IsSome, OnOk, Some, length};
 ghost use Rattle.std.specs.BTreeMap.{Updates};
 ghost use Rattle.code.specs.View.{methods_of_codes};
 ghost use Rattle.code.specs.Index.{key_cmp, key_of, found_at, Indexes, index_in, index_fits};
@@ -31,7 +31,8 @@ pub fn index_many(
     alloc: Global,
     methods: &[MethodCode],
 ) -> Result<Option<Arc<MethodIndex>>, AllocError>
-    ensures { IfOk result (λ index. index_fits (index_in index) (methods_of_codes methods.now)) }
+    ensures fits { IfOk result (λ index. index_fits (index_in index) (methods_of_codes methods.now)) }
+    ensures many { IfOk result (λ index. IsSome index ↔ (8 < length methods.now)) }
 {
     if methods.len() <= FEW_METHODS {
         return Ok(None);

@@ -134,4 +134,4 @@ resolve_object-returns t c =
     (ap (λ v. captured_names_of v.items) c.in_ok-new.ensures.ok ∙ c.in_ok-captures.ensures.names ∙ c.deref-3.ensures.value)
     (transport (λ i. all_placed (c.deref-4.ensures.value i) (sym c.in_ok-new.ensures.ok i).items) c.in_ok-captures.ensures.places) c.in_ok-add_bound.ensures
     (transport (λ i. ResolvesMethods c.add_bound.new.frame.items (methods_of (same i)) (sym c.in_ok-new-2.ensures.ok i).items) c.in_ok-methods.ensures)
-    (transport (λ i. index_fits (index_in c.in_ok-index.index) (methods_of_codes ((codes ∙ ap (λ v. v.items) (sym c.in_ok-new-2.ensures.ok)) i))) c.in_ok-index.ensures) c.in_ok-add_bound-2.ensures
+    (transport (λ i. index_fits (index_in c.in_ok-index.index) (methods_of_codes ((codes ∙ ap (λ v. v.items) (sym c.in_ok-new-2.ensures.ok)) i))) c.in_ok-index.ensures.fits) c.in_ok-add_bound-2.ensures
