@@ -6,22 +6,22 @@ use crate::text::Text;
 use std::fmt;
 
 /// The name of an event: a number drawn from the book's counter, from 1.
-#[derive(Clone, Copy, Debug, PartialEq, Eq, PartialOrd, Ord, Hash)]
+#[derive(Clone, Copy, PartialEq, Eq, PartialOrd, Ord)]
 pub struct EventName(pub u64);
 
 /// A vat's number: the name of its birth.
-#[derive(Clone, Copy, Debug, PartialEq, Eq, PartialOrd, Ord, Hash)]
+#[derive(Clone, Copy, PartialEq, Eq, PartialOrd, Ord)]
 pub struct VatNo(pub EventName);
 
 /// A message: the event that sent it, and its number among that event's messages, from 0.
-#[derive(Clone, Copy, Debug, PartialEq, Eq, PartialOrd, Ord, Hash)]
+#[derive(Clone, Copy, PartialEq, Eq, PartialOrd, Ord)]
 pub struct MsgId {
     pub event: EventName,
     pub index: u32,
 }
 
 /// A promise: the event that made it, its number among that event's promises, from 0, and its home.
-#[derive(Clone, Copy, Debug, PartialEq, Eq, PartialOrd, Ord, Hash)]
+#[derive(Clone, Copy, PartialEq, Eq, PartialOrd, Ord)]
 pub struct PromId {
     pub event: EventName,
     pub index: u32,
@@ -29,7 +29,7 @@ pub struct PromId {
 }
 
 /// A variable's slot: the event that made it, its number among that event's slots, from 0, and its vat.
-#[derive(Clone, Copy, Debug, PartialEq, Eq, PartialOrd, Ord, Hash)]
+#[derive(Clone, Copy, PartialEq, Eq, PartialOrd, Ord)]
 pub struct SlotId {
     pub event: EventName,
     pub index: u32,
@@ -37,7 +37,7 @@ pub struct SlotId {
 }
 
 /// An object: the event that made it, its number among that event's objects, from 0, and its vat.
-#[derive(Clone, Copy, Debug, PartialEq, Eq, PartialOrd, Ord, Hash)]
+#[derive(Clone, Copy, PartialEq, Eq, PartialOrd, Ord)]
 pub struct ObjId {
     pub event: EventName,
     pub index: u32,
@@ -45,7 +45,7 @@ pub struct ObjId {
 }
 
 /// An ejector: the event that made it, its number among that event's ejectors, from 0, and its vat.
-#[derive(Clone, Copy, Debug, PartialEq, Eq, PartialOrd, Ord, Hash)]
+#[derive(Clone, Copy, PartialEq, Eq, PartialOrd, Ord)]
 pub struct EjId {
     pub event: EventName,
     pub index: u32,
@@ -53,7 +53,7 @@ pub struct EjId {
 }
 
 /// A cell of the world.
-#[derive(PartialEq, Eq, PartialOrd, Ord, Hash, Debug, Drop)]
+#[derive(PartialEq, Eq, PartialOrd, Ord, Drop)]
 pub enum CellKey {
     /// What is known of a vat by its name.
     Name(Text),
