@@ -1,5 +1,6 @@
 // Names of events and of what they make.
-ghost use Rattle.std.specs.Prelude.{Some};
+ghost use Rattle.std.specs.Prelude.{◌++◌, Some};
+ghost use Rattle.std.specs.Fmt.{WritesOnOk, decimal};
 ghost use Rattle.ids.specs.Names.{event_text, message_text, promise_text, slot_text, object_text, ejector_text};
 
 use crate::text::Text;
@@ -72,11 +73,23 @@ impl fmt::Display for EventName {
     }
 }
 
+/// Writes an event, a mark, and the number of what the event made.
+fn write_made<W: fmt::Write>(
+    f: &mut fmt::Formatter<W>,
+    event: EventName,
+    mark: &str,
+    index: u32,
+) -> fmt::Result
+    ensures { WritesOnOk W.write_str_gives f.old result (event_text event ++ mark.now ++ decimal index) f.new }
+{
+    write!(f, "{event}{mark}{index}")
+}
+
 impl fmt::Display for MsgId {
     ghost output = { λ m. Some (message_text m) };
 
     fn fmt<W: fmt::Write>(&self, f: &mut fmt::Formatter<W>) -> fmt::Result {
-        write!(f, "{}.m{}", self.event, self.index)
+        write_made(f, self.event, ".m", self.index)
     }
 }
 
@@ -84,7 +97,7 @@ impl fmt::Display for PromId {
     ghost output = { λ p. Some (promise_text p) };
 
     fn fmt<W: fmt::Write>(&self, f: &mut fmt::Formatter<W>) -> fmt::Result {
-        write!(f, "{}.p{}", self.event, self.index)
+        write_made(f, self.event, ".p", self.index)
     }
 }
 
@@ -92,7 +105,7 @@ impl fmt::Display for SlotId {
     ghost output = { λ s. Some (slot_text s) };
 
     fn fmt<W: fmt::Write>(&self, f: &mut fmt::Formatter<W>) -> fmt::Result {
-        write!(f, "{}.s{}", self.event, self.index)
+        write_made(f, self.event, ".s", self.index)
     }
 }
 
@@ -100,7 +113,7 @@ impl fmt::Display for ObjId {
     ghost output = { λ o. Some (object_text o) };
 
     fn fmt<W: fmt::Write>(&self, f: &mut fmt::Formatter<W>) -> fmt::Result {
-        write!(f, "{}.o{}", self.event, self.index)
+        write_made(f, self.event, ".o", self.index)
     }
 }
 
@@ -108,6 +121,6 @@ impl fmt::Display for EjId {
     ghost output = { λ j. Some (ejector_text j) };
 
     fn fmt<W: fmt::Write>(&self, f: &mut fmt::Formatter<W>) -> fmt::Result {
-        write!(f, "{}.j{}", self.event, self.index)
+        write_made(f, self.event, ".j", self.index)
     }
 }
