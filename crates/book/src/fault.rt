@@ -1,5 +1,6 @@
 // Why the book refuses a call.
 ghost use Rattle.std.specs.Prelude.{◌≡◌, Some};
+ghost use Rattle.std.specs.Fmt.{DisplaysOnOk, option_append};
 ghost use Rattle.book.specs.declared.fault.BookFault.TheVariants.{Memory};
 ghost use Rattle.book.specs.Fault.{fault_text};
 
@@ -9,10 +10,10 @@ use scopes::CheckFault;
 use std::alloc::{AllocError, AllocFailed};
 use std::error::Error;
 use std::fmt;
-use std::fmt::{Display, Formatter, Write};
+use std::fmt::{Debug, Display, Formatter, Write};
 
 /// Why a call of the book is refused. The book is then as it was.
-#[derive(Debug, Drop)]
+#[derive(Drop)]
 pub enum BookFault {
     /// No vat has this name.
     NoVat(Text),
@@ -40,27 +41,41 @@ pub enum BookFault {
     Memory,
 }
 
+/// Writes words, and behind them what they are about.
+fn write_about<T: Display, W: Write>(f: &mut Formatter<W>, words: &str, about: &T) -> fmt::Result
+    ensures { DisplaysOnOk W.write_str_gives f.old result (option_append (Some words.now) (T.output about.now)) f.new }
+{
+    f.write_str(words)?;
+    about.fmt(f)
+}
+
 impl Display for BookFault {
     ghost output = { λ fault. Some (fault_text fault) };
 
     fn fmt<W: Write>(&self, f: &mut Formatter<W>) -> fmt::Result {
         match self {
-            BookFault::NoVat(name) => write!(f, "B1 NoVat {name}"),
-            BookFault::NameTaken(name) => write!(f, "B2 NameTaken {name}"),
-            BookFault::NoMessage(message) => write!(f, "B3 NoMessage {message}"),
-            BookFault::NotThere => write!(f, "B4 NotThere"),
-            BookFault::Before(message) => write!(f, "B6 Before {message}"),
-            BookFault::Full => write!(f, "B8 Full"),
-            BookFault::NoEvent(event) => write!(f, "B12 NoEvent {event}"),
-            BookFault::NotLive(event) => write!(f, "B13 NotLive {event}"),
-            BookFault::IsLive(event) => write!(f, "B14 IsLive {event}"),
+            BookFault::NoVat(name) => write_about(f, "B1 NoVat ", name),
+            BookFault::NameTaken(name) => write_about(f, "B2 NameTaken ", name),
+            BookFault::NoMessage(message) => write_about(f, "B3 NoMessage ", message),
+            BookFault::NotThere => f.write_str("B4 NotThere"),
+            BookFault::Before(message) => write_about(f, "B6 Before ", message),
+            BookFault::Full => f.write_str("B8 Full"),
+            BookFault::NoEvent(event) => write_about(f, "B12 NoEvent ", event),
+            BookFault::NotLive(event) => write_about(f, "B13 NotLive ", event),
+            BookFault::IsLive(event) => write_about(f, "B14 IsLive ", event),
             BookFault::NotClosed(event, consequence) => {
                 write!(f, "B15 NotClosed {event} {consequence}")
             }
-            BookFault::NotNext => write!(f, "B21 NotNext"),
-            BookFault::Check(fault) => write!(f, "{fault}"),
-            BookFault::Memory => write!(f, "B20 Memory"),
+            BookFault::NotNext => f.write_str("B21 NotNext"),
+            BookFault::Check(fault) => Display::fmt(fault, f),
+            BookFault::Memory => f.write_str("B20 Memory"),
         }
+    }
+}
+
+impl Debug for BookFault {
+    fn fmt<W: Write>(&self, f: &mut Formatter<W>) -> fmt::Result {
+        Display::fmt(self, f)
     }
 }
 

@@ -13,7 +13,7 @@ use std::alloc::{AllocError, Global};
 use std::collections::BTreeSet;
 
 /// Where a set of events is not closed: one of them, and a live event outside that came of it.
-#[derive(Clone, Copy, Debug, PartialEq, Eq)]
+#[derive(Clone, Copy)]
 pub struct Gap {
     pub event: EventName,
     pub consequence: EventName,

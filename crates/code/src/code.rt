@@ -7,7 +7,7 @@ use std::sync::Arc;
 use values::verb::Verb;
 
 /// Where what a name stands for is found.
-#[derive(Clone, Copy, Debug, PartialEq, Eq)]
+#[derive(Clone, Copy)]
 pub enum Place {
     /// At this position in the frame, counted from its oldest name.
     Frame(usize),

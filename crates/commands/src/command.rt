@@ -12,7 +12,7 @@ use ids::names::{EventName, MsgId};
 use std::alloc::{AllocError, Global};
 use std::error::Error;
 use std::fmt;
-use std::fmt::{Display, Formatter, Write};
+use std::fmt::{Debug, Display, Formatter, Write};
 
 /// The most script lines that a vat may have.
 const MOST_LINES: u32 = 4_096;
@@ -38,7 +38,7 @@ pub enum Command<'a> {
 }
 
 /// Why a line is no command.
-#[derive(Clone, Copy, Debug, PartialEq, Eq)]
+#[derive(Clone, Copy)]
 pub enum LineFault {
     UnknownCommand,
     /// A wrong count or form of words, a number out of range, or bytes that are no text.
@@ -52,12 +52,18 @@ impl Display for LineFault {
     ghost output = { λ fault. Some (fault_text fault) };
 
     fn fmt<W: Write>(&self, f: &mut Formatter<W>) -> fmt::Result {
-        match self {
-            LineFault::UnknownCommand => write!(f, "S1 UnknownCommand"),
-            LineFault::BadWord => write!(f, "S2 BadWord"),
-            LineFault::LineTooLong => write!(f, "S3 LineTooLong"),
-            LineFault::Truncated => write!(f, "S4 Truncated"),
-        }
+        f.write_str(match self {
+            LineFault::UnknownCommand => "S1 UnknownCommand",
+            LineFault::BadWord => "S2 BadWord",
+            LineFault::LineTooLong => "S3 LineTooLong",
+            LineFault::Truncated => "S4 Truncated",
+        })
+    }
+}
+
+impl Debug for LineFault {
+    fn fmt<W: Write>(&self, f: &mut Formatter<W>) -> fmt::Result {
+        Display::fmt(self, f)
     }
 }
 

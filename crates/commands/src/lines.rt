@@ -7,7 +7,7 @@ ghost use Rattle.commands.specs.Lines.{line_of, behind_line, is_long, is_line_fe
 const LONGEST_LINE: usize = 65_536;
 
 /// The first line of an input, and what is behind it.
-#[derive(Clone, Copy, Debug)]
+#[derive(Clone, Copy)]
 pub struct Cut<'a> {
     pub line: &'a [u8],
     pub is_long: bool,

@@ -1,5 +1,6 @@
 // Why nothing was read.
 ghost use Rattle.std.specs.Prelude.{◌≡◌, ◌++◌, Some, codes};
+ghost use Rattle.std.specs.Fmt.{WritesOnOk, decimal};
 ghost use Rattle.ereader.specs.declared.fault.ReadFault.TheVariants.{Memory};
 ghost use Rattle.ereader.specs.Shown.{shown};
 ghost use Rattle.ereader.specs.Texts.{refusal_of};
@@ -9,7 +10,7 @@ use std::alloc::{AllocError, AllocFailed};
 use std::fmt;
 
 /// Why a text is not read. An offset counts the text's bytes.
-#[derive(Debug, Drop)]
+#[derive(Drop)]
 pub enum ReadFault {
     /// No token begins here.
     BadCharacter(usize),
@@ -28,19 +29,26 @@ pub enum ReadFault {
     Memory,
 }
 
+/// Writes words, and behind them an offset.
+fn write_at<W: fmt::Write>(f: &mut fmt::Formatter<W>, words: &str, offset: usize) -> fmt::Result
+    ensures { WritesOnOk W.write_str_gives f.old result (words.now ++ decimal offset) f.new }
+{
+    write!(f, "{words}{offset}")
+}
+
 impl fmt::Display for ReadFault {
     ghost output = { λ f. Some (shown f) };
 
     fn fmt<W: fmt::Write>(&self, f: &mut fmt::Formatter<W>) -> fmt::Result {
         match self {
-            ReadFault::BadCharacter(offset) => write!(f, "L1 BadCharacter {offset}"),
-            ReadFault::UnclosedText(offset) => write!(f, "L2 UnclosedText {offset}"),
-            ReadFault::BadEscape(offset) => write!(f, "L3 BadEscape {offset}"),
-            ReadFault::IntegerTooLarge(offset) => write!(f, "L4 IntegerTooLarge {offset}"),
-            ReadFault::Unexpected(offset) => write!(f, "L5 Unexpected {offset}"),
-            ReadFault::TooDeep => write!(f, "L6 TooDeep"),
-            ReadFault::Memory => write!(f, "L7 Memory"),
-            ReadFault::TooLong => write!(f, "L8 TooLong"),
+            ReadFault::BadCharacter(offset) => write_at(f, "L1 BadCharacter ", *offset),
+            ReadFault::UnclosedText(offset) => write_at(f, "L2 UnclosedText ", *offset),
+            ReadFault::BadEscape(offset) => write_at(f, "L3 BadEscape ", *offset),
+            ReadFault::IntegerTooLarge(offset) => write_at(f, "L4 IntegerTooLarge ", *offset),
+            ReadFault::Unexpected(offset) => write_at(f, "L5 Unexpected ", *offset),
+            ReadFault::TooDeep => f.write_str("L6 TooDeep"),
+            ReadFault::Memory => f.write_str("L7 Memory"),
+            ReadFault::TooLong => f.write_str("L8 TooLong"),
         }
     }
 }

@@ -9,7 +9,7 @@ use std::sync::Arc;
 use values::value::Value;
 
 /// Why a turn is abandoned.
-#[derive(Clone, Copy, Debug, PartialEq, Eq)]
+#[derive(Clone, Copy)]
 pub enum Abandon {
     Budget,
     Depth,

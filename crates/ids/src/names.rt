@@ -1,27 +1,28 @@
 // Names of events and of what they make.
-ghost use Rattle.std.specs.Prelude.{Some};
+ghost use Rattle.std.specs.Prelude.{◌++◌, Some};
+ghost use Rattle.std.specs.Fmt.{WritesOnOk, decimal};
 ghost use Rattle.ids.specs.Names.{event_text, message_text, promise_text, slot_text, object_text, ejector_text};
 
 use crate::text::Text;
 use std::fmt;
 
 /// The name of an event: a number drawn from the book's counter, from 1.
-#[derive(Clone, Copy, Debug, PartialEq, Eq, PartialOrd, Ord, Hash)]
+#[derive(Clone, Copy, PartialEq, Eq, PartialOrd, Ord)]
 pub struct EventName(pub u64);
 
 /// A vat's number: the name of its birth.
-#[derive(Clone, Copy, Debug, PartialEq, Eq, PartialOrd, Ord, Hash)]
+#[derive(Clone, Copy, PartialEq, Eq, PartialOrd, Ord)]
 pub struct VatNo(pub EventName);
 
 /// A message: the event that sent it, and its number among that event's messages, from 0.
-#[derive(Clone, Copy, Debug, PartialEq, Eq, PartialOrd, Ord, Hash)]
+#[derive(Clone, Copy, PartialEq, Eq, PartialOrd, Ord)]
 pub struct MsgId {
     pub event: EventName,
     pub index: u32,
 }
 
 /// A promise: the event that made it, its number among that event's promises, from 0, and its home.
-#[derive(Clone, Copy, Debug, PartialEq, Eq, PartialOrd, Ord, Hash)]
+#[derive(Clone, Copy, PartialEq, Eq, PartialOrd, Ord)]
 pub struct PromId {
     pub event: EventName,
     pub index: u32,
@@ -29,7 +30,7 @@ pub struct PromId {
 }
 
 /// A variable's slot: the event that made it, its number among that event's slots, from 0, and its vat.
-#[derive(Clone, Copy, Debug, PartialEq, Eq, PartialOrd, Ord, Hash)]
+#[derive(Clone, Copy, PartialEq, Eq, PartialOrd, Ord)]
 pub struct SlotId {
     pub event: EventName,
     pub index: u32,
@@ -37,7 +38,7 @@ pub struct SlotId {
 }
 
 /// An object: the event that made it, its number among that event's objects, from 0, and its vat.
-#[derive(Clone, Copy, Debug, PartialEq, Eq, PartialOrd, Ord, Hash)]
+#[derive(Clone, Copy, PartialEq, Eq, PartialOrd, Ord)]
 pub struct ObjId {
     pub event: EventName,
     pub index: u32,
@@ -45,7 +46,7 @@ pub struct ObjId {
 }
 
 /// An ejector: the event that made it, its number among that event's ejectors, from 0, and its vat.
-#[derive(Clone, Copy, Debug, PartialEq, Eq, PartialOrd, Ord, Hash)]
+#[derive(Clone, Copy, PartialEq, Eq, PartialOrd, Ord)]
 pub struct EjId {
     pub event: EventName,
     pub index: u32,
@@ -53,7 +54,7 @@ pub struct EjId {
 }
 
 /// A cell of the world.
-#[derive(PartialEq, Eq, PartialOrd, Ord, Hash, Debug, Drop)]
+#[derive(PartialEq, Eq, PartialOrd, Ord, Drop)]
 pub enum CellKey {
     /// What is known of a vat by its name.
     Name(Text),
@@ -72,11 +73,23 @@ impl fmt::Display for EventName {
     }
 }
 
+/// Writes an event, a mark, and the number of what the event made.
+fn write_made<W: fmt::Write>(
+    f: &mut fmt::Formatter<W>,
+    event: EventName,
+    mark: &str,
+    index: u32,
+) -> fmt::Result
+    ensures { WritesOnOk W.write_str_gives f.old result (event_text event ++ mark.now ++ decimal index) f.new }
+{
+    write!(f, "{event}{mark}{index}")
+}
+
 impl fmt::Display for MsgId {
     ghost output = { λ m. Some (message_text m) };
 
     fn fmt<W: fmt::Write>(&self, f: &mut fmt::Formatter<W>) -> fmt::Result {
-        write!(f, "{}.m{}", self.event, self.index)
+        write_made(f, self.event, ".m", self.index)
     }
 }
 
@@ -84,7 +97,7 @@ impl fmt::Display for PromId {
     ghost output = { λ p. Some (promise_text p) };
 
     fn fmt<W: fmt::Write>(&self, f: &mut fmt::Formatter<W>) -> fmt::Result {
-        write!(f, "{}.p{}", self.event, self.index)
+        write_made(f, self.event, ".p", self.index)
     }
 }
 
@@ -92,7 +105,7 @@ impl fmt::Display for SlotId {
     ghost output = { λ s. Some (slot_text s) };
 
     fn fmt<W: fmt::Write>(&self, f: &mut fmt::Formatter<W>) -> fmt::Result {
-        write!(f, "{}.s{}", self.event, self.index)
+        write_made(f, self.event, ".s", self.index)
     }
 }
 
@@ -100,7 +113,7 @@ impl fmt::Display for ObjId {
     ghost output = { λ o. Some (object_text o) };
 
     fn fmt<W: fmt::Write>(&self, f: &mut fmt::Formatter<W>) -> fmt::Result {
-        write!(f, "{}.o{}", self.event, self.index)
+        write_made(f, self.event, ".o", self.index)
     }
 }
 
@@ -108,6 +121,6 @@ impl fmt::Display for EjId {
     ghost output = { λ j. Some (ejector_text j) };
 
     fn fmt<W: fmt::Write>(&self, f: &mut fmt::Formatter<W>) -> fmt::Result {
-        write!(f, "{}.j{}", self.event, self.index)
+        write_made(f, self.event, ".j", self.index)
     }
 }

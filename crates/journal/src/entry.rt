@@ -10,7 +10,7 @@ use std::alloc::{AllocError, Global};
 use world::event::Event;
 
 /// Whether an event counts: an undone one is as if it had never been.
-#[derive(Clone, Copy, Debug, PartialEq, Eq)]
+#[derive(Clone, Copy, PartialEq, Eq)]
 pub enum Mark {
     Live,
     Undone,

@@ -7,7 +7,7 @@ use std::alloc::AllocError;
 use std::marker::Model;
 
 /// A verb of data: one that the table of some kind of receiver has.
-#[derive(Clone, Copy, Debug, PartialEq, Eq)]
+#[derive(Clone, Copy)]
 pub enum Word {
     /// `add`
     Add,

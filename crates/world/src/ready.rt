@@ -11,7 +11,7 @@ use crate::world::{Home, Message, Place, World};
 use ids::names::{MsgId, VatNo};
 
 /// Why a message may not be delivered now.
-#[derive(Debug, Drop)]
+#[derive(Drop)]
 pub enum Unready {
     NoMessage,
     /// It is not at a vat.

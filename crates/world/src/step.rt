@@ -28,7 +28,7 @@ use turn::delivery::{Delivery, Ended, Outcome};
 use turn::ticket::{Out, Ran, Ticket};
 
 /// Why an event was not done.
-#[derive(Debug, Drop)]
+#[derive(Drop)]
 pub enum StepFault {
     /// It is not possible in this world.
     Impossible,

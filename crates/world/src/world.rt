@@ -40,7 +40,7 @@ pub struct Home {
 }
 
 /// Where a message is.
-#[derive(Clone, Copy, Debug, PartialEq, Eq)]
+#[derive(Clone, Copy)]
 pub enum Place {
     At(VatNo),
     Done(EventName),
