@@ -6,7 +6,7 @@ ghost use Rattle.scopes.specs.Scope.{checked, checked_all, checked_program, foun
 ghost use Rattle.scopes.specs.Check.{Gives, Refuses, fault_text, MayRefuse, names_of, scopes_of, scopes_in, scopes_with, signature_of};
 ghost use Rattle.scopes.specs.declared.checking.CheckFault.TheVariants.{Memory};
 
-use crate::count::{are_within_depth, nodes_left_by_all};
+use crate::count::{Room, behind_all};
 use crate::naming::{Kind, TopName};
 use ids::text::Text;
 use kernele::tree::{Expr, Method, Pattern, Program};
@@ -114,10 +114,14 @@ pub fn check(alloc: Global, program: &Program, outer: &Outer) -> Result<(), Chec
     ensures refused { IfErr result (λ fault. Refuses fault (checked_program (program_of program.now) (scopes_of outer.now))) }
 {
     let trees = program.0.0.as_slice();
-    if nodes_left_by_all(trees, MOST_NODES).is_none() {
+    let room = Room {
+        nodes: MOST_NODES,
+        too_deep: false,
+    };
+    let Some(room) = behind_all(trees, GREATEST_DEPTH, Some(room)) else {
         return Err(CheckFault::TooLong);
-    }
-    if !are_within_depth(trees, GREATEST_DEPTH) {
+    };
+    if room.too_deep {
         return Err(CheckFault::TooDeep);
     }
     let mut scopes = Scopes {
