@@ -1,4 +1,4 @@
-use Rattle.std.proofs.Common.{◌≡◌, Some, ◌+◌, max, arith, ap, sym, ◌∙◌, refl}
+use Rattle.std.proofs.Common.{Some, ◌+◌, max, arith, ap, sym, ◌∙◌, refl}
 use Rattle.kernele.specs.View.{tree_of, trees_of, methods_of}
 use Rattle.kernele.proofs.Walks.{tree_is_if, tree_is_try, tree_is_object}
 use Rattle.scopes.specs.Scope.{nodes, nodes_in, nodes_of, depth, depth_in, depth_of}
