@@ -1,8 +1,19 @@
 -- Counting nodes and depth.
-use Rattle.std.proofs.Common.{◌≡◌, ℕ, ◌+◌, ◌-◌, ◌≤◌, Option, Some, None, Bool, true, false, cond, arith, rules}
-use Rattle.std.specs.Prelude.{SomeIff, IsTrue, nat_lt, is_some}
-use Rattle.kernele.specs.Tree.{Tree, null_tree, bool_tree, int_tree, text_tree, noun, define, variable, assign, call, list_tree, same_tree, define_list, hide, if_tree, while_tree, for_tree, try_tree, throw_tree, object_tree, escape_tree, Trees}
+use Rattle.std.proofs.Common.{◌≡◌, ◌⊎◌, inl, inr, ℕ, ◌+◌, ◌-◌, ◌≤◌, max, List, Option, Some, None, Bool, true, false, ◌||◌, cond, ap, sym, ◌∙◌, refl, arith}
+use Rattle.std.proofs.lemmas.Bool.Decides.{nat_tests}
+use Rattle.std.specs.Prelude.{nat_lt}
+use Rattle.kernele.specs.Tree.{Name, Tree, null_tree, bool_tree, int_tree, text_tree, noun, define, variable, assign, call, list_tree, same_tree, define_list, hide, if_tree, while_tree, for_tree, try_tree, throw_tree, object_tree, escape_tree, Trees}
+use Rattle.kernele.specs.View.{tree_of, trees_of}
+use Rattle.kernele.proofs.Walks.{tree_is_call, tree_is_list, tree_is_hide, tree_is_while, tree_is_for, tree_is_escape}
+use Rattle.kernele.specs.declared.tree.Expr as code
+use Rattle.kernele.specs.declared.tree.Expr.{Expr}
+use Rattle.kernele.specs.declared.tree.Pattern.{Pattern}
+use Rattle.std.specs.declared.sync.Arc.{Arc}
+use Rattle.std.specs.declared.vec.Vec.{Vec}
+use Rattle.std.specs.declared.alloc.Global.{Global}
 use Rattle.scopes.specs.Scope.{nodes, nodes_in, depth, depth_in, Scopes, Checked, checked_all, checked_program}
+use Rattle.scopes.specs.Room.{room_behind}
+use Rattle.scopes.specs.declared.count.Room.{Room}
 
 -- a tree is a node
 pub some_node : (t : Tree) → 1 ≤ nodes t
@@ -27,51 +38,89 @@ some_node (throw_tree e) = omega arith
 some_node (object_tree p ms) = omega arith
 some_node (escape_tree x body) = omega arith
 
--- a tree has a depth
-pub some_depth : (t : Tree) → 1 ≤ depth t
-some_depth null_tree = omega arith
-some_depth (bool_tree b) = omega arith
-some_depth (int_tree z) = omega arith
-some_depth (text_tree s) = omega arith
-some_depth (noun x) = omega arith
-some_depth (define p e) = omega arith
-some_depth (variable x e) = omega arith
-some_depth (assign x e) = omega arith
-some_depth (call r verb args) = omega arith
-some_depth (list_tree items) = omega arith
-some_depth (same_tree l r) = omega arith
-some_depth (define_list ps e) = omega arith
-some_depth (hide body) = omega arith
-some_depth (if_tree c first second) = omega arith
-some_depth (while_tree c body) = omega arith
-some_depth (for_tree p e body) = omega arith
-some_depth (try_tree body p handler) = omega arith
-some_depth (throw_tree e) = omega arith
-some_depth (object_tree p ms) = omega arith
-some_depth (escape_tree x body) = omega arith
+-- where so many levels may stand, and a tree was too deep already or one part or another is, all of it is too deep
+deeper : (already : Bool) (levels d e : ℕ) → ((already || nat_lt levels d) || nat_lt levels e) ≡ (already || nat_lt levels (max d e))
+deeper true levels d e = refl
+deeper false levels d e = grind (arith, nat_tests)
 
--- what is left of a number after some nodes is what is left after more of a greater number
-pub left_after : (o : Option ℕ) (more part whole left limit : ℕ) → whole ≡ part + more → limit ≡ left + more → SomeIff o (part ≤ left) (left - part) → SomeIff o (whole ≤ limit) (limit - whole)
-left_after None more part whole left limit e f h = λ k. h (omega (arith, k))
-left_after (Some v) more part whole left limit e f h = (omega (arith, h.0), omega (arith, h.0, h.1))
+-- below a node there is a level less, and where there was none it was too deep already
+below_node : (already : Bool) (levels below d : ℕ) → below ≡ levels - 1 → ((already || nat_lt levels 1) || nat_lt below d) ≡ (already || nat_lt levels (1 + d))
+below_node true levels below d h = refl
+below_node false levels below d h = grind (arith, nat_tests)
 
--- a test that passed
-pub is_true : IsTrue true
-is_true = search rules
+-- what is too many for a part is too many for the whole
+too_many : (k n m : ℕ) → true ≡ nat_lt k n → true ≡ nat_lt k (n + m)
+too_many k n m h = grind (arith, nat_tests)
 
--- a test that failed did not pass
-pub not_true : IsTrue false → ⊥
-not_true h = search rules
+none_left : (over : Bool) (k n : ℕ) (one more : Room) → over ≡ nat_lt k 1 → None ≡ cond over None (Some one) → None ≡ cond (nat_lt k (n + 1)) None (Some more)
+none_left true k n one more is h = ap (λ b. cond b None (Some more)) (too_many k 1 n is ∙ ap (nat_lt k) (omega arith))
+none_left false k n one more is h = absurd (cc)
 
--- two tests that fail lead to the last case
-within : (a b : Bool) (x y z : Checked) → a ≡ false → b ≡ false → cond a x (cond b y z) ≡ z
-within a b x y z e f = rw (e, f)
+none_more : (levels : ℕ) (o : Option Room) (n d : ℕ) → None ≡ room_behind levels o 1 1 → None ≡ room_behind levels o (n + 1) d
+none_more levels None n d h = refl
+none_more levels (Some room) n d h = none_left (nat_lt room.nodes 1) room.nodes n _ _ refl h
 
--- a program within both limits is refused for its names alone
-pub checked_within : (ts : Trees) (s : Scopes) → nodes_in ts ≤ 16384 → depth_in ts ≤ 200 → checked_program ts s ≡ checked_all ts s
-checked_within ts s few shallow = within (nat_lt 16384 (nodes_in ts)) (nat_lt 200 (depth_in ts)) _ _ _ (search rules) (search rules)
+-- what is not too many for a part is compared with the rest
+few_left : (k n m : ℕ) → false ≡ nat_lt k n → nat_lt (k - n) m ≡ nat_lt k (n + m)
+few_left k n m h = grind (arith, nat_tests)
 
--- a number is left only where the fact holds
-pub some_holds : (o : Option ℕ) (P : Type 0) (v : ℕ) → is_some o ≡ true → SomeIff o P v → P
-some_holds None P v e h = absurd (cc)
-some_holds (Some x) P v e h = h.0
+less_both : (k n m : ℕ) → (k - n) - m ≡ k - (n + m)
+less_both k n m = omega arith
+
+-- what is left behind a part of a tree, and then behind the rest, is what is left behind the whole
+parts : (over : Bool) (k n m : ℕ) (deep both : Bool) (below e : ℕ) → over ≡ nat_lt k n → (deep || nat_lt below e) ≡ both
+    → room_behind below (cond over None (Some (record { nodes = k - n; too_deep = deep }))) m e ≡ cond (nat_lt k (n + m)) None (Some (record { nodes = k - (n + m); too_deep = both }))
+parts true k n m deep both below e is same =
+    ap (λ o. cond o None (Some (record { nodes = k - (n + m); too_deep = both }))) (too_many k n m is)
+parts false k n m deep both below e is same =
+    λ i. cond (few_left k n m is i) None (Some (record { nodes = less_both k n m i; too_deep = same i }))
+
+-- what is left behind two parts one after the other is what is left behind both
+pub behind_both : (levels : ℕ) (o : Option Room) (n d m e : ℕ) → room_behind levels (room_behind levels o n d) m e ≡ room_behind levels o (n + m) (max d e)
+behind_both levels None n d m e = refl
+behind_both levels (Some room) n d m e = parts (nat_lt room.nodes n) room.nodes n m _ _ levels e refl (deeper room.too_deep levels d e)
+
+-- what is left behind a node and what stands below it
+pub behind_below : (levels below : ℕ) (o : Option Room) (n d : ℕ) → below ≡ levels - 1 → room_behind below (room_behind levels o 1 1) n d ≡ room_behind levels o (1 + n) (1 + d)
+behind_below levels below None n d h = refl
+behind_below levels below (Some room) n d h = parts (nat_lt room.nodes 1) room.nodes 1 n _ _ below d refl (below_node room.too_deep levels below d h)
+
+-- where no node may be left, no tree may be either
+pub none_behind : (levels : ℕ) (o : Option Room) (t : Tree) → None ≡ room_behind levels o 1 1 → None ≡ room_behind levels o (nodes t) (depth t)
+none_behind levels o t h = none_more levels o (nodes t - 1) (depth t) h ∙ ap (λ n. room_behind levels o n (depth t)) (omega (arith, some_node t))
+
+-- what is left behind a tree, from what is left behind the node on it and behind what stands below it
+pub behind_whole : (levels : ℕ) {below : ℕ} (o : Option Room) {passed : Option Room} (n d : ℕ) {whole deep : ℕ} → below ≡ levels - 1 → passed ≡ room_behind levels o 1 1 → whole ≡ 1 + n → deep ≡ 1 + d
+    → room_behind below passed n d ≡ room_behind levels o whole deep
+behind_whole levels {below = below} o n d under node more lower =
+    ap (λ r. room_behind below r n d) node ∙ behind_below levels below o n d under ∙ (λ i. room_behind levels o (sym more i) (sym lower i))
+
+-- a tree that is a node with so many nodes below it, in so many levels
+pub record Holds (t : Tree) (n d : ℕ) : Type 0 where
+  pub many : nodes t ≡ 1 + n
+  pub deep : depth t ≡ 1 + d
+
+-- one with a list of trees
+pub holds_list : {e : Expr} {v : Vec Expr Global} {xs : List Expr} (items : Arc (Vec Expr Global) Global) → (e ≡ code.List items) ⊎ ((e ≡ code.Hide items) ⊎ ((x : Name) × (e ≡ code.Escape x items)))
+    → v ≡ items.value → xs ≡ v.items → Holds (tree_of e) (nodes_in (trees_of xs)) (depth_in (trees_of xs))
+holds_list items (inl is) held slice = let t = tree_is_list items is held slice in record { many = ap nodes t; deep = ap depth t }
+holds_list items (inr (inl is)) held slice = let t = tree_is_hide items is held slice in record { many = ap nodes t; deep = ap depth t }
+holds_list items (inr (inr is)) held slice = let t = tree_is_escape is.0 items is.1 refl held slice in record { many = ap nodes t; deep = ap depth t }
+
+-- one with a tree and a list of trees
+pub holds_first : {e x : Expr} {v : Vec Expr Global} {xs : List Expr} (first : Arc Expr Global) (rest : Arc (Vec Expr Global) Global)
+    → ((name : Name) × (e ≡ code.Call first name rest)) ⊎ ((e ≡ code.While first rest) ⊎ ((p : Pattern) × (e ≡ code.For p first rest)))
+    → x ≡ first.value → v ≡ rest.value → xs ≡ v.items → Holds (tree_of e) (nodes (tree_of x) + nodes_in (trees_of xs)) (max (depth (tree_of x)) (depth_in (trees_of xs)))
+holds_first first rest (inl is) one held slice = let t = tree_is_call first is.0 rest is.1 one held slice in record { many = ap nodes t ∙ omega arith; deep = ap depth t }
+holds_first first rest (inr (inl is)) one held slice = let t = tree_is_while first rest is one held slice in record { many = ap nodes t ∙ omega arith; deep = ap depth t }
+holds_first first rest (inr (inr is)) one held slice = let t = tree_is_for is.0 first rest is.1 refl one held slice in record { many = ap nodes t ∙ omega arith; deep = ap depth t }
+
+-- a program that leaves room, in which no tree was too deep, is refused for its names alone
+in_room : (over deep : Bool) (room whole : Room) (x y z : Checked) → Some room ≡ cond over None (Some whole) → deep ≡ whole.too_deep → room.too_deep ≡ false → cond over x (cond deep y z) ≡ z
+in_room true deep room whole x y z left is shallow = absurd (cc)
+in_room false deep room whole x y z left is shallow =
+    let same : room ≡ whole = cc in ap (λ b. cond b y z) (is ∙ sym (ap (λ r. r.too_deep) same) ∙ shallow)
+
+pub checked_within : (ts : Trees) (s : Scopes) (room whole : Room) → Some room ≡ cond (nat_lt 16384 (nodes_in ts)) None (Some whole) → nat_lt 200 (depth_in ts) ≡ whole.too_deep → room.too_deep ≡ false
+    → checked_program ts s ≡ checked_all ts s
+checked_within ts s room whole left is shallow = in_room (nat_lt 16384 (nodes_in ts)) (nat_lt 200 (depth_in ts)) room whole _ _ _ left is shallow

@@ -2,7 +2,8 @@
 use Rattle.std.proofs.Common.{◌≡◌, ℕ, List, length, take, [], ◌∷◌, ◌++◌, Result, Ok, Err, Bool, true, false, if◌then◌else◌, append_assoc, append-nil, ap, sym, refl, ◌∙◌, rules}
 use Rattle.std.proofs.Math.Seq.{take-append_seam}
 use Rattle.std.proofs.lemmas.Slice.Eq.{bytes_eq-Decides}
-use Rattle.std.specs.Prelude.{IfOk}
+use Rattle.std.specs.Prelude.{IfOk, vec_len, Vec}
+use Rattle.std.specs.declared.alloc.Global.{Global}
 use Rattle.std.specs.Str.{bytes_eq}
 use Rattle.kernele.specs.Tree.{Name}
 use Rattle.scopes.specs.Free.{is_among, without, distinct}
@@ -17,6 +18,14 @@ all_new_two xs (y ∷ ys) zs = all_new_two (with_new xs y) ys zs
 -- the names of a part, and those behind it
 pub then_inside : (was one two : List TopName) {now whole : List TopName} → now ≡ was ++ one → whole ≡ one ++ two → now ++ two ≡ was ++ whole
 then_inside was one two h is = ap (λ names. names ++ two) h ∙ append_assoc was one two ∙ ap (λ names. was ++ names) (sym is)
+
+-- a list of names is as long as its vector says
+pub as_long : (names : Vec TopName Global) {n : ℕ} → n ≡ vec_len names → n ≡ length names.items
+as_long names e = search rules
+
+-- what was added is taken away again
+pub truncated_once : {was all last : List TopName} (n : ℕ) (xs : List TopName) → n ≡ length was → all ≡ was ++ xs → last ≡ take n all → last ≡ was
+truncated_once {was = was} n xs outer added back = back ∙ (λ i. take (outer i) (added i)) ∙ take-append_seam was xs
 
 -- what was added twice is taken away again
 pub truncated : {was now all last : List TopName} (n : ℕ) (xs ys : List TopName) → n ≡ length was → now ≡ was ++ xs → all ≡ now ++ ys → last ≡ take n all → last ≡ was

@@ -4,3 +4,4 @@ pub mod Counts
 pub mod Growth
 pub mod Finding
 pub mod Parts
+pub mod Methods

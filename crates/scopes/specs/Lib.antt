@@ -2,3 +2,4 @@ pub mod Scope
 pub mod Check
 pub mod Free
 pub mod Found
+pub mod Room

@@ -3,10 +3,10 @@ ghost use Rattle.std.specs.Prelude.{◌≡◌, map, false, Some, Ok, IsOk, IfOk,
 ghost use Rattle.kernele.specs.Tree.{if_tree, while_tree, for_tree, try_tree, object_tree, escape_tree};
 ghost use Rattle.kernele.specs.View.{tree_of, trees_of, methods_of, program_of};
 ghost use Rattle.scopes.specs.Scope.{checked, checked_all, checked_program, found, assigned, added, bound, all_bound, entered, in_block, checked_with, same_signature, has_signature, script_scopes, asked_scopes, kind_in, with_name};
-ghost use Rattle.scopes.specs.Check.{Gives, Refuses, fault_text, MayRefuse, names_of, scopes_of, scopes_in, scopes_with, signature_of};
+ghost use Rattle.scopes.specs.Check.{Gives, Refuses, fault_text, MayRefuse, names_of, scopes_of, scopes_in, scopes_with, signature_of, method_checked};
 ghost use Rattle.scopes.specs.declared.checking.CheckFault.TheVariants.{Memory};
 
-use crate::count::{are_within_depth, nodes_left_by_all};
+use crate::count::{Room, behind_all};
 use crate::naming::{Kind, TopName};
 use ids::text::Text;
 use kernele::tree::{Expr, Method, Pattern, Program};
@@ -114,10 +114,14 @@ pub fn check(alloc: Global, program: &Program, outer: &Outer) -> Result<(), Chec
     ensures refused { IfErr result (λ fault. Refuses fault (checked_program (program_of program.now) (scopes_of outer.now))) }
 {
     let trees = program.0.0.as_slice();
-    if nodes_left_by_all(trees, MOST_NODES).is_none() {
+    let room = Room {
+        nodes: MOST_NODES,
+        too_deep: false,
+    };
+    let Some(room) = behind_all(trees, GREATEST_DEPTH, Some(room)) else {
         return Err(CheckFault::TooLong);
-    }
-    if !are_within_depth(trees, GREATEST_DEPTH) {
+    };
+    if room.too_deep {
         return Err(CheckFault::TooDeep);
     }
     let mut scopes = Scopes {
@@ -312,8 +316,7 @@ fn check_try(
     check_bound_block(pattern, handler, scopes)
 }
 
-/// Checks an object: its own name, and then its methods, each in a scope of its own, which begins with the names of the
-/// parameters.
+/// Checks an object: its own name, and then its methods.
 #[cycle(check)]
 fn check_object(
     pattern: &Pattern,
@@ -325,14 +328,21 @@ fn check_object(
     check_pattern(pattern, scopes)?;
     let mut index = 0;
     while index < methods.len() {
-        let method = &methods[index];
-        check_is_new(&methods[..index], method)?;
-        let mut inner = scopes.enter();
-        check_patterns(&method.parameters, &mut inner)?;
-        check_all(&method.body, &mut inner)?;
+        check_method(&methods[index], &methods[..index], scopes)?;
         index += 1;
     }
     Ok(())
+}
+
+/// Checks a method behind the earlier ones of its object, in a scope of its own, which begins with the names of the parameters.
+#[cycle(check)]
+fn check_method(method: &Method, earlier: &[Method], scopes: &Scopes<'_>) -> Result<(), CheckFault>
+    ensures { Gives result (scopes_in scopes.now) (method_checked earlier.now method.now (scopes_in scopes.now)) }
+{
+    check_is_new(earlier, method)?;
+    let mut inner = scopes.enter();
+    check_patterns(&method.parameters, &mut inner)?;
+    check_all(&method.body, &mut inner)
 }
 
 /// Checks a block in a scope of its own, which begins with the name of an ejector.

@@ -1,125 +1,79 @@
-// The size and the depth of a program, each compared with a limit.
-ghost use Rattle.std.specs.Prelude.{◌≡◌, ◌≤◌, ◌-◌, ◌↔◌, IsTrue, SomeIff};
+// The size and the depth of a program, compared with their limits in one walk.
+ghost use Rattle.std.specs.Prelude.{◌≡◌};
 ghost use Rattle.kernele.specs.View.{tree_of, trees_of, methods_of};
 ghost use Rattle.scopes.specs.Scope.{nodes, nodes_in, nodes_of, depth, depth_in, depth_of};
+ghost use Rattle.scopes.specs.Room.{room_behind};
 
 use kernele::tree::{Expr, Method};
 
-/// What a tree leaves of a number of nodes, if it has no more.
-#[cycle(count)]
-fn nodes_left(e: &Expr, limit: u32) -> Option<u32>
-    ensures { SomeIff result (nodes (tree_of e.now) ≤ limit) (limit - nodes (tree_of e.now)) }
+/// What is left of the limits behind some trees.
+#[derive(Clone, Copy)]
+pub(crate) struct Room {
+    /// How many nodes there may be yet.
+    pub nodes: u32,
+    /// Whether a tree was deeper than it may be.
+    pub too_deep: bool,
+}
+
+/// What a node leaves, if there may be one more.
+fn behind_node(levels: u32, room: Option<Room>) -> Option<Room>
+    ensures { result ≡ room_behind levels room 1 1 }
 {
-    let left = limit.checked_sub(1)?;
+    let room = room?;
+    Some(Room {
+        nodes: room.nodes.checked_sub(1)?,
+        too_deep: room.too_deep || levels == 0,
+    })
+}
+
+/// What a tree leaves, if it has no more nodes than there may be. It may have so many levels.
+#[cycle(count)]
+fn behind_tree(e: &Expr, levels: u32, room: Option<Room>) -> Option<Room>
+    ensures { result ≡ room_behind levels room (nodes (tree_of e.now)) (depth (tree_of e.now)) }
+{
+    let room = Some(behind_node(levels, room)?);
+    let below = levels.saturating_sub(1);
     match e {
-        Expr::Null | Expr::Bool(_) | Expr::Int(_) | Expr::Text(_) | Expr::Noun(_) => Some(left),
+        Expr::Null | Expr::Bool(_) | Expr::Int(_) | Expr::Text(_) | Expr::Noun(_) => room,
         Expr::Def(_, value)
         | Expr::Var(_, value)
         | Expr::Assign(_, value)
         | Expr::DefList(_, value)
-        | Expr::Throw(value) => nodes_left(value, left),
-        Expr::Call(receiver, _, args) => nodes_left_by_all(args, nodes_left(receiver, left)?),
-        Expr::List(items) => nodes_left_by_all(items, left),
-        Expr::Same(one, other) => nodes_left(other, nodes_left(one, left)?),
-        Expr::Hide(body) => nodes_left_by_all(body, left),
+        | Expr::Throw(value) => behind_tree(value, below, room),
+        Expr::Same(left, right) => behind_tree(right, below, behind_tree(left, below, room)),
+        Expr::Call(first, _, rest) | Expr::While(first, rest) | Expr::For(_, first, rest) => {
+            behind_all(rest, below, behind_tree(first, below, room))
+        }
+        Expr::List(items) | Expr::Hide(items) | Expr::Escape(_, items) => {
+            behind_all(items, below, room)
+        }
         Expr::If(condition, first, second) => {
-            let left = nodes_left(condition, left)?;
-            nodes_left_by_all(second, nodes_left_by_all(first, left)?)
+            let room = behind_tree(condition, below, room);
+            behind_all(second, below, behind_all(first, below, room))
         }
-        Expr::While(condition, body) => nodes_left_by_all(body, nodes_left(condition, left)?),
-        Expr::For(_, list, body) => nodes_left_by_all(body, nodes_left(list, left)?),
-        Expr::Try(body, _, handler) => nodes_left_by_all(handler, nodes_left_by_all(body, left)?),
-        Expr::Object(_, methods) => nodes_left_by_methods(methods, left),
-        Expr::Escape(_, body) => nodes_left_by_all(body, left),
+        Expr::Try(body, _, handler) => behind_all(handler, below, behind_all(body, below, room)),
+        Expr::Object(_, methods) => behind_methods(methods, below, room),
     }
 }
 
-/// What methods leave of a number of nodes, if they have no more in all.
+/// The same of methods.
 #[cycle(count)]
-fn nodes_left_by_methods(methods: &[Method], limit: u32) -> Option<u32>
-    ensures { SomeIff result (nodes_of (methods_of methods.now) ≤ limit) (limit - nodes_of (methods_of methods.now)) }
-{
-    let mut left = limit;
-    for method in methods {
-        left = nodes_left_by_all(&method.body, left)?;
-    }
-    Some(left)
-}
-
-/// What trees leave of a number of nodes, if they have no more in all.
-#[cycle(count)]
-pub(crate) fn nodes_left_by_all(trees: &[Expr], limit: u32) -> Option<u32>
-    ensures { SomeIff result (nodes_in (trees_of trees.now) ≤ limit) (limit - nodes_in (trees_of trees.now)) }
-{
-    let mut left = limit;
-    for tree in trees {
-        left = nodes_left(tree, left)?;
-    }
-    Some(left)
-}
-
-#[cycle(depth)]
-fn is_within_depth(e: &Expr, limit: u32) -> bool
-    ensures { IsTrue result ↔ (depth (tree_of e.now) ≤ limit) }
-{
-    if limit == 0 {
-        return false;
-    }
-    match e {
-        Expr::Null | Expr::Bool(_) | Expr::Int(_) | Expr::Text(_) | Expr::Noun(_) => true,
-        Expr::Def(_, value)
-        | Expr::Var(_, value)
-        | Expr::Assign(_, value)
-        | Expr::DefList(_, value)
-        | Expr::Throw(value) => is_within_depth(value, limit - 1),
-        Expr::Call(receiver, _, args) => {
-            is_within_depth(receiver, limit - 1) && are_within_depth(args, limit - 1)
-        }
-        Expr::List(items) => are_within_depth(items, limit - 1),
-        Expr::Same(left, right) => {
-            is_within_depth(left, limit - 1) && is_within_depth(right, limit - 1)
-        }
-        Expr::Hide(body) => are_within_depth(body, limit - 1),
-        Expr::If(condition, first, second) => {
-            is_within_depth(condition, limit - 1)
-                && (are_within_depth(first, limit - 1) && are_within_depth(second, limit - 1))
-        }
-        Expr::While(condition, body) => {
-            is_within_depth(condition, limit - 1) && are_within_depth(body, limit - 1)
-        }
-        Expr::For(_, list, body) => {
-            is_within_depth(list, limit - 1) && are_within_depth(body, limit - 1)
-        }
-        Expr::Try(body, _, handler) => {
-            are_within_depth(body, limit - 1) && are_within_depth(handler, limit - 1)
-        }
-        Expr::Object(_, methods) => are_methods_within_depth(methods, limit - 1),
-        Expr::Escape(_, body) => are_within_depth(body, limit - 1),
-    }
-}
-
-/// Whether no tree of these methods is deeper.
-#[cycle(depth)]
-fn are_methods_within_depth(methods: &[Method], limit: u32) -> bool
-    ensures { IsTrue result ↔ (depth_of (methods_of methods.now) ≤ limit) }
+fn behind_methods(methods: &[Method], levels: u32, mut room: Option<Room>) -> Option<Room>
+    ensures { result ≡ room_behind levels room (nodes_of (methods_of methods.now)) (depth_of (methods_of methods.now)) }
 {
     for method in methods {
-        if !are_within_depth(&method.body, limit) {
-            return false;
-        }
+        room = behind_all(&method.body, levels, room);
     }
-    true
+    room
 }
 
-/// Whether no tree is deeper.
-#[cycle(depth)]
-pub(crate) fn are_within_depth(trees: &[Expr], limit: u32) -> bool
-    ensures { IsTrue result ↔ (depth_in (trees_of trees.now) ≤ limit) }
+/// The same of trees.
+#[cycle(count)]
+pub(crate) fn behind_all(trees: &[Expr], levels: u32, mut room: Option<Room>) -> Option<Room>
+    ensures { result ≡ room_behind levels room (nodes_in (trees_of trees.now)) (depth_in (trees_of trees.now)) }
 {
     for tree in trees {
-        if !is_within_depth(tree, limit) {
-            return false;
-        }
+        room = behind_tree(tree, levels, room);
     }
-    true
+    room
 }

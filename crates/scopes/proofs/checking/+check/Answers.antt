@@ -1,11 +1,12 @@
-use Rattle.std.proofs.Common.{ap, refl, ◌∙◌, ◌+◌, drop}
+use Rattle.std.proofs.Common.{[], ap, refl, ◌∙◌, ◌+◌, drop, take, map, subst, sym}
 use Rattle.std.proofs.lemmas.Result.{err_from_is_err_and}
-use Rattle.scopes.specs.Scope.{in_turn, in_block, checked, checked_all, checked_with}
-use Rattle.kernele.specs.View.{trees_of}
-use Rattle.scopes.specs.Check.{scopes_in}
-use Rattle.kernele.proofs.Walks.{tree_is_call, tree_is_list, tree_is_hide, tree_is_if, tree_is_while, tree_is_for, tree_is_try, tree_is_object, tree_is_escape, trees_from, no_trees_from}
+use Rattle.scopes.specs.Scope.{in_turn, in_block, all_bound, checked, checked_all, checked_methods, checked_with, checked_taking}
+use Rattle.kernele.specs.View.{trees_of, methods_of}
+use Rattle.scopes.specs.Check.{Gives, Refuses, scopes_in, signature_of}
+use Rattle.kernele.proofs.Walks.{tree_is_call, tree_is_list, tree_is_hide, tree_is_if, tree_is_while, tree_is_for, tree_is_try, tree_is_object, tree_is_escape, trees_from, no_trees_from, no_methods_from, body_is}
 use Rattle.kernele.specs.declared.tree.Pattern.TheVariants as pattern
 use Rattle.scopes.proofs.Refusals.{refuses_in_turn, refuses_in_block, refuses_same, fails}
+use Rattle.scopes.proofs.Methods.{methods_next, twice_refused, method_is_new, taking_gives}
 use Rattle.scopes.proofs.Parts.{tree_is_define, tree_is_variable, tree_is_assign, tree_is_same, tree_is_define_list}
 use Rattle.scopes.proofs.checking.+check.Goals as goal
 
@@ -174,3 +175,48 @@ pub check_expr-returns-in_ok-check_expr-in-DefList : goal.check_expr-returns-in_
 check_expr-returns-in_ok-check_expr-in-DefList t c =
     let is = tree_is_define_list c.in-DefList.patterns c.in-DefList.value c.in-DefList.is c.deref-in-DefList.ensures c.deref-in-DefList-2.ensures c.deref-in-DefList-3.ensures.value in
     rw (is, c.in_ok-check_expr-in-DefList.ensures) c.check_patterns.ensures
+
+pub check_object-loop-index-preserved : goal.check_object-loop-index-preserved
+check_object-loop-index-preserved t c =
+    let i = c.loop-index.index in
+    c.loop-index.invariant
+    ∙ methods_next c.args.methods.now i c.index-methods-index.result (scopes_in c.check_pattern.new.scopes) c.loop-index-test.true c.index-methods-index.is
+    ∙ ap (λ r. in_turn r (checked_methods (map signature_of (take (i + 1) c.args.methods.now)) (methods_of (drop (i + 1) c.args.methods.now)))) c.in_ok-check_method.ensures
+
+pub check_object-returns-in_err-check_method : goal.check_object-returns-in_err-check_method
+check_object-returns-in_err-check_method t c =
+    let p = err_from_is_err_and c.from_residual-in_err-check_method.result c.from_residual-in_err-check_method.ensures.1 in
+    let whole = ap (λ r. in_turn r (checked_methods [] (methods_of c.args.methods.now))) c.in_ok-check_pattern.ensures ∙ c.loop-index.invariant
+    ∙ methods_next c.args.methods.now c.loop-index.index c.index-methods-index.result (scopes_in c.check_pattern.new.scopes) c.loop-index-test.true c.index-methods-index.is in
+    rw (p.1, p.2) (refuses_same _ _ _ whole (refuses_in_turn _ _ _ c.in_err-check_method.ensures))
+
+pub check_object-returns : goal.check_object-returns
+check_object-returns t c =
+    ap (λ r. in_turn r (checked_methods [] (methods_of c.args.methods.now))) c.in_ok-check_pattern.ensures ∙ c.loop-index.invariant
+    ∙ ap (λ ms. checked_methods (map signature_of (take c.loop-index.index c.args.methods.now)) ms (scopes_in c.check_pattern.new.scopes)) (no_methods_from c.args.methods.now c.loop-index.index c.loop-index-test.false)
+
+pub check_method-returns-in_err-check_is_new : goal.check_method-returns-in_err-check_is_new
+check_method-returns-in_err-check_is_new t c =
+    let p = err_from_is_err_and c.from_residual.result c.from_residual.ensures.1 in
+    rw (p.1, p.2) (refuses_in_turn _ _ _ (twice_refused _ _ _ _ c.in_err-check_is_new.ensures.refused))
+
+pub check_method-returns-in_err-check_patterns : goal.check_method-returns-in_err-check_patterns
+check_method-returns-in_err-check_patterns t c =
+    let p = err_from_is_err_and c.from_residual-in_err-check_patterns.result c.from_residual-in_err-check_patterns.ensures.1 in
+    let m = c.args.method.now in
+    let body = checked_all (trees_of m.body.value.items) in
+    let parameters = c.deref-2.ensures.value ∙ ap (λ v. v.items) c.deref.ensures in
+    let refused = subst (Refuses c.in_err-check_patterns.field-0.0) (λ i. all_bound (parameters i) (c.enter-inner.ensures i)) c.in_err-check_patterns.ensures in
+    rw (p.1, p.2) (refuses_same _ _ _ (method_is_new c.args.earlier.now m (scopes_in c.args.scopes.now) c.in_ok-check_is_new.ensures.ok)
+    (refuses_in_block _ (checked_taking m.parameters.value.items body) (scopes_in c.args.scopes.now) (refuses_in_turn _ _ body refused)))
+
+pub check_method-returns : goal.check_method-returns
+check_method-returns t c =
+    let m = c.args.method.now in
+    let s = scopes_in c.args.scopes.now in
+    let parameters = c.deref-2.ensures.value ∙ ap (λ v. v.items) c.deref.ensures in
+    let body = body_is m.body c.deref-3.ensures c.deref-4.ensures.value in
+    let checked : Gives c.check_all.result (scopes_in c.check_all.new.scopes) (checked_all (trees_of m.body.value.items) (scopes_in c.check_patterns.new.scopes)) =
+    subst (λ ts. Gives c.check_all.result (scopes_in c.check_all.new.scopes) (checked_all ts (scopes_in c.check_patterns.new.scopes))) body c.check_all.ensures in
+    subst (Gives c.check_all.result s) (sym (method_is_new c.args.earlier.now m s c.in_ok-check_is_new.ensures.ok))
+    (taking_gives c.check_all.result m.parameters.value.items (checked_all (trees_of m.body.value.items)) s _ _ c.enter-inner.ensures parameters c.in_ok-check_patterns.ensures checked)

@@ -34,7 +34,10 @@ abbrev pub decreases-check_escape : goal.decreases-check_escape
 decreases-check_escape l = 4 * goal.size-check_escape l + 2
 
 abbrev pub decreases-check_object : goal.decreases-check_object
-decreases-check_object l = 4 * goal.size-check_object l + 2
+decreases-check_object l = 4 * goal.size-check_object l + 3
+
+abbrev pub decreases-check_method : goal.decreases-check_method
+decreases-check_method l = 4 * goal.size-check_method l + 2
 
 -- of two parts the greater depth
 abbrev pub decreases-check_if : goal.decreases-check_if

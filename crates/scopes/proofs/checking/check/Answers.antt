@@ -1,9 +1,9 @@
-use Rattle.std.proofs.Common.{◌≡◌, ap, sym, ◌∙◌, not}
+use Rattle.std.proofs.Common.{◌≡◌, ap, sym, ◌∙◌, refl}
 use Rattle.std.proofs.lemmas.Result.{MatchResult-weaker}
 use Rattle.kernele.specs.View.{trees_of}
 use Rattle.scopes.specs.Scope.{checked_all}
 use Rattle.scopes.specs.Check.{scopes_of}
-use Rattle.scopes.proofs.Counts.{checked_within, some_holds, is_true}
+use Rattle.scopes.proofs.Counts.{checked_within}
 use Rattle.scopes.proofs.Names.{fresh}
 use Rattle.scopes.proofs.Refusals.{refuses_same}
 use Rattle.scopes.proofs.checking.check.Goals as goal
@@ -11,8 +11,6 @@ use Rattle.scopes.proofs.checking.check.Goals as goal
 pub returns-clause-refused : goal.returns-clause-refused
 returns-clause-refused c =
     let slice : c.as_slice-trees.result.now ≡ c.args.program.now.0.0.value.items = c.as_slice-trees.ensures.value ∙ ap (λ v. v.items) c.deref.ensures in
-    let is = checked_within (trees_of c.as_slice-trees.result.now) (scopes_of c.args.outer.now)
-    (some_holds c.nodes_left_by_all.result _ _ (c.is_none.ensures ∙ ap not c.if-is_none.false) c.nodes_left_by_all.ensures)
-    (c.if-not-are_within_depth.ensures.0 is_true)
+    let is = checked_within (trees_of c.as_slice-trees.result.now) (scopes_of c.args.outer.now) c.in-Some.room _ c.in-Some.ensures refl c.if-room.false
     ∙ ap (checked_all (trees_of c.as_slice-trees.result.now)) (sym (fresh c.args.outer c.new.result c.new.ensures.empty)) in
     rw (← slice) (MatchResult-weaker c.check_all.result c.check_all.ensures (λ done h. tt) (λ f h. refuses_same f _ _ is h))

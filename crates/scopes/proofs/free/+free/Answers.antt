@@ -1,11 +1,11 @@
-use Rattle.std.proofs.Common.{◌≡◌, rules, append-nil, [], ◌∷◌, refl, ap, sym, ◌∙◌, ◌++◌, ◌+◌, drop, length}
+use Rattle.std.proofs.Common.{append-nil, [], ◌∷◌, refl, ap, sym, ◌∙◌, ◌++◌, ◌+◌, drop, length}
 use Rattle.std.proofs.lemmas.Result.{IfOk-equal}
-use Rattle.scopes.specs.Scope.{own_names, own_names_in, name_of, names_of_all, variable_name}
-use Rattle.scopes.specs.Free.{free, free_in, free_of}
+use Rattle.scopes.specs.Scope.{own_names, own_names_in, name_of, names_of_all, defined_name, variable_name}
+use Rattle.scopes.specs.Free.{occurring, free, free_in, free_of}
 use Rattle.scopes.specs.Found.{with_all_new}
 use Rattle.kernele.specs.View.{tree_of, trees_of, methods_of}
 use Rattle.kernele.proofs.Walks.{tree_is_call, tree_is_list, tree_is_hide, tree_is_if, tree_is_while, tree_is_for, tree_is_try, tree_is_object, tree_is_escape, methods_from, body_is, trees_from, append_more}
-use Rattle.scopes.proofs.Finding.{then_found, then_inside, holds_anyway, truncated}
+use Rattle.scopes.proofs.Finding.{then_found, then_inside, holds_anyway, as_long, truncated, truncated_once}
 use Rattle.scopes.proofs.Parts.{tree_is_define, tree_is_variable, tree_is_same, tree_is_define_list}
 use Rattle.ids.proofs.Failing.{claims_nothing}
 use Rattle.scopes.proofs.free.+free.Goals as goal
@@ -297,8 +297,7 @@ find_in_methods-loop-method-preserved t c =
     let parameters = c.deref-in-loop-method.ensures.value ∙ ap (λ v. v.items) c.deref.ensures in
     let body = body_is m.body c.deref-in-loop-method-2.ensures c.deref-in-loop-method-3.ensures.value in
     let entered = c.in_ok-add_all_bound.ensures ∙ ap (λ ps. was ++ names_of_all ps) parameters in
-    let outer : c.len-outer.result ≡ length c.args.inside.now.items = search rules in
-    let ended = truncated c.len-outer.result (names_of_all m.parameters.value.items) _ (outer ∙ sym (ap length c.loop-method.invariant.inside)) entered c.in_ok-find_in_all.ensures.inside c.truncate.ensures.items in
+    let ended = truncated c.len-outer.result (names_of_all m.parameters.value.items) _ (as_long c.args.inside.now c.len-outer.ensures ∙ sym (ap length c.loop-method.invariant.inside)) entered c.in_ok-find_in_all.ensures.inside c.truncate.ensures.items in
     record {
       inside = ended ∙ c.loop-method.invariant.inside;
       found = then_found (free_of (methods_of (drop (c.loop-method.method-index + 1) c.args.methods.now))) c.loop-method.found.items (free_in (trees_of m.body.value.items) (was ++ names_of_all m.parameters.value.items)) was
@@ -317,3 +316,42 @@ find_in_methods-returns-in_err-find_in_all-clause-inside t c = claims_nothing c.
 
 pub find_in_methods-returns-in_err-find_in_all-clause-found : goal.find_in_methods-returns-in_err-find_in_all-clause-found
 find_in_methods-returns-in_err-find_in_all-clause-found t c = claims_nothing c.from_residual-in_err-find_in_all.result _ c.from_residual-in_err-find_in_all.ensures.0
+
+pub find_in_block-returns-clause-inside : goal.find_in_block-returns-clause-inside
+find_in_block-returns-clause-inside t c =
+    truncated_once c.len-outer.result (own_names_in (trees_of c.args.body.now)) (as_long c.args.inside.now c.len-outer.ensures) c.in_ok-find_in_all.ensures.inside c.truncate.ensures.items
+
+pub find_in_block-returns-clause-found : goal.find_in_block-returns-clause-found
+find_in_block-returns-clause-found t c = c.in_ok-find_in_all.ensures.found
+
+pub find_in_bound_block-returns-clause-inside : goal.find_in_bound_block-returns-clause-inside
+find_in_bound_block-returns-clause-inside t c =
+    truncated c.len-outer.result (name_of c.args.pattern.now) (own_names_in (trees_of c.args.body.now)) (as_long c.args.inside.now c.len-outer.ensures) c.in_ok-add_bound.ensures c.in_ok-find_in_all.ensures.inside c.truncate.ensures.items
+
+pub find_in_bound_block-returns-clause-found : goal.find_in_bound_block-returns-clause-found
+find_in_bound_block-returns-clause-found t c =
+    c.in_ok-find_in_all.ensures.found ∙ ap (λ bs. with_all_new c.args.found.now.items (free_in (trees_of c.args.body.now) bs)) c.in_ok-add_bound.ensures
+
+pub find_in_escape-returns-clause-inside : goal.find_in_escape-returns-clause-inside
+find_in_escape-returns-clause-inside t c =
+    truncated c.len-outer.result (defined_name c.args.name.now ∷ []) (own_names_in (trees_of c.args.body.now)) (as_long c.args.inside.now c.len-outer.ensures) c.in_ok-add_name.ensures c.in_ok-find_in_all.ensures.inside c.truncate.ensures.items
+
+pub find_in_escape-returns-clause-found : goal.find_in_escape-returns-clause-found
+find_in_escape-returns-clause-found t c =
+    c.in_ok-find_in_all.ensures.found ∙ ap (λ bs. with_all_new c.args.found.now.items (free_in (trees_of c.args.body.now) bs)) c.in_ok-add_name.ensures
+
+pub find_in_assigned-returns-clause-inside : goal.find_in_assigned-returns-clause-inside
+find_in_assigned-returns-clause-inside t c =
+    let names = own_names (tree_of c.args.value.now) in
+    let ended = truncated_once c.len-outer.result names (as_long c.args.inside.now c.len-outer.ensures) c.in_ok-add_names.ensures c.truncate.ensures.items in
+    IfOk-equal c.find_in.result _ _ _ c.find_in.ensures.inside (ap (λ bs. bs ++ names) ended)
+
+pub find_in_assigned-returns-clause-found : goal.find_in_assigned-returns-clause-found
+find_in_assigned-returns-clause-found t c =
+    let was = c.args.found.now.items in
+    let inside = c.args.inside.now.items in
+    let names = own_names (tree_of c.args.value.now) in
+    let ended = truncated_once c.len-outer.result names (as_long c.args.inside.now c.len-outer.ensures) c.in_ok-add_names.ensures c.truncate.ensures.items in
+    let found = c.in_ok-add_occurring.ensures ∙ ap (λ bs. with_all_new was (occurring c.args.name.now bs)) (c.deref.ensures.value ∙ c.in_ok-add_names.ensures) in
+    IfOk-equal c.find_in.result _ _ _ c.find_in.ensures.found
+    (then_found (free (tree_of c.args.value.now)) was (occurring c.args.name.now (inside ++ names)) inside found ended)
