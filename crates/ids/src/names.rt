@@ -7,22 +7,22 @@ use crate::text::Text;
 use std::fmt;
 
 /// The name of an event: a number drawn from the book's counter, from 1.
-#[derive(Clone, Copy, PartialEq, Eq, PartialOrd, Ord)]
+#[derive(Clone, Copy, PartialEq, Eq, PartialOrd, Ord, Hash)]
 pub struct EventName(pub u64);
 
 /// A vat's number: the name of its birth.
-#[derive(Clone, Copy, PartialEq, Eq, PartialOrd, Ord)]
+#[derive(Clone, Copy, PartialEq, Eq, PartialOrd, Ord, Hash)]
 pub struct VatNo(pub EventName);
 
 /// A message: the event that sent it, and its number among that event's messages, from 0.
-#[derive(Clone, Copy, PartialEq, Eq, PartialOrd, Ord)]
+#[derive(Clone, Copy, PartialEq, Eq, PartialOrd, Ord, Hash)]
 pub struct MsgId {
     pub event: EventName,
     pub index: u32,
 }
 
 /// A promise: the event that made it, its number among that event's promises, from 0, and its home.
-#[derive(Clone, Copy, PartialEq, Eq, PartialOrd, Ord)]
+#[derive(Clone, Copy, PartialEq, Eq, PartialOrd, Ord, Hash)]
 pub struct PromId {
     pub event: EventName,
     pub index: u32,
@@ -30,7 +30,7 @@ pub struct PromId {
 }
 
 /// A variable's slot: the event that made it, its number among that event's slots, from 0, and its vat.
-#[derive(Clone, Copy, PartialEq, Eq, PartialOrd, Ord)]
+#[derive(Clone, Copy, PartialEq, Eq, PartialOrd, Ord, Hash)]
 pub struct SlotId {
     pub event: EventName,
     pub index: u32,
@@ -38,7 +38,7 @@ pub struct SlotId {
 }
 
 /// An object: the event that made it, its number among that event's objects, from 0, and its vat.
-#[derive(Clone, Copy, PartialEq, Eq, PartialOrd, Ord)]
+#[derive(Clone, Copy, PartialEq, Eq, PartialOrd, Ord, Hash)]
 pub struct ObjId {
     pub event: EventName,
     pub index: u32,
@@ -46,7 +46,7 @@ pub struct ObjId {
 }
 
 /// An ejector: the event that made it, its number among that event's ejectors, from 0, and its vat.
-#[derive(Clone, Copy, PartialEq, Eq, PartialOrd, Ord)]
+#[derive(Clone, Copy, PartialEq, Eq, PartialOrd, Ord, Hash)]
 pub struct EjId {
     pub event: EventName,
     pub index: u32,
@@ -54,7 +54,7 @@ pub struct EjId {
 }
 
 /// A cell of the world.
-#[derive(PartialEq, Eq, PartialOrd, Ord, Drop)]
+#[derive(PartialEq, Eq, PartialOrd, Ord, Hash, Drop)]
 pub enum CellKey {
     /// What is known of a vat by its name.
     Name(Text),
