@@ -1,7 +1,8 @@
 // What is no program, and where reading stops.
 
 use crate::answers::Asked;
-use crate::tables::{expect, expect_repeated, expect_text};
+use crate::tables::expect_text;
+use crate::texts::{expect, expect_repeated};
 use ereader::fault::ReadFault;
 use etoken::fault::TokenFault;
 use scopes::CheckFault;
