@@ -154,7 +154,6 @@ impl<'a> Reader<'a> {
 
     /// The second block, if there is one: an `if` behind `else` is all of it.
     #[cycle(read)]
-    #[tactic(auto, unfolding(egrammar::specs::Reading::within_at))]
     fn second(&mut self, left: usize) -> Result<Vec<Expr>, Stop>
         ensures gives { GivesMany result self.old self.new (reading.else_at (within_at left)) }
         ensures shorter { OnOk result (IsNoLonger self.old self.new) }

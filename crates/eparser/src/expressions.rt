@@ -45,7 +45,6 @@ impl<'a> Reader<'a> {
     /// An expression that gives its value to no name, where parts lie within one another less than `left` deep. Each
     /// such part is behind at least one token of the one around it, so the number of tokens is always enough.
     #[cycle(read)]
-    #[tactic(auto, unfolding(egrammar::specs::Reading::within_at))]
     pub(crate) fn expression(&mut self, left: usize) -> Result<Expr, Stop>
         ensures gives { Gives result self.old self.new (within_at left).expression }
         ensures shorter { OnOk result (Advances self.old self.new) }

@@ -2,10 +2,12 @@ use Rattle.std.proofs.Common.{rules, arith, length, sym, ap, ◌∙◌}
 use Rattle.std.proofs.lemmas.Result.{err_from_is_err_and}
 use Rattle.egrammar.proofs.Turns.{turns_here}
 use Rattle.eforms.proofs.Views.{trees_push}
-use Rattle.egrammar.proofs.Steps.{rest_le, skip-le, operand_more, operand_end, postfix_more, postfix_end, commas_more, commas_end, block_begin, block_more, block_end, methods_push, methods_begin, methods_more, methods_end}
+use Rattle.esigns.specs.Signs.{link_of}
+use Rattle.egrammar.proofs.Steps.{rest_le, front_length, skip-le, operand_more, operand_end, postfix_more, postfix_end, commas_more, commas_end, block_begin, block_more, block_end, methods_push, methods_begin, methods_more, methods_end}
 use Rattle.ids.proofs.Failing.{claims_nothing}
 use Rattle.eparser.proofs.Levels.{first_read, behind_here, behind_read, behind_compared, behind_fails}
 use Rattle.eparser.proofs.Steps.{gives_behind, operand_fails, args_fail, block_part_fails}
+use Rattle.eparser.proofs.Parts.{expression_gives, expression_none, else_if_is, else_if_fails, else_if_none, while_is, args_are, try_is, try_fails, function_is, for_is, escape_is, given_is, prefixed_is, prefixed_fails, compared_is}
 use Rattle.eparser.specs.Levels.{operator_of, level_at, level_from}
 use Rattle.eforms.specs.Forms.{snoc}
 use Rattle.egrammar.specs.Reading.{comparison_from, operand_next, operands_from, postfix_next, within_at}
@@ -132,6 +134,132 @@ methods-returns-clause-gives t c = methods_end (within_at c.args.left) c.more.in
 pub method-returns-clause-shorter : goal.method-returns-clause-shorter
 method-returns-clause-shorter t c =
     omega (arith, c.in_ok-body.ensures.shorter, c.in_ok-parameters.ensures.shorter, c.in_ok-verb.ensures.shorter, ap length c.skip.ensures, rest_le (plain c.args.self.now.rest.now))
+
+pub joined_from-more-smaller : goal.joined_from-more-smaller
+joined_from-more-smaller t c = omega (arith, c.in_ok-right.ensures.shorter, ap length c.skip.ensures, rest_le (plain c.more.self.rest.now))
+
+pub postfix_from-more-smaller : goal.postfix_from-more-smaller
+postfix_from-more-smaller t c =
+    omega (arith, c.in_ok-args.ensures.shorter, c.in_ok-verb.ensures.shorter, ap length c.skip.ensures, front_length link_of (plain c.more.self.rest.now) (sym c.link.ensures ∙ c.in-Some.is))
+
+pub items-more-smaller : goal.items-more-smaller
+items-more-smaller t c = omega (arith, c.in_ok-item.ensures.shorter, ap length c.skip.ensures, rest_le (plain c.more.self.rest.now))
+
+pub expression-returns-clause-gives : goal.expression-returns-clause-gives
+expression-returns-clause-gives t c =
+    expression_gives c.operands.result c.args.left c.args.self.now c.operands.new.self (omega arith) c.operands.ensures.gives
+
+pub expression-returns-then-left-eq0-clause-gives : goal.expression-returns-then-left-eq0-clause-gives
+expression-returns-then-left-eq0-clause-gives t c = rw c.if-left-eq0.true (expression_none (plain c.args.self.now.rest.now))
+
+pub while_loop-returns-clause-gives : goal.while_loop-returns-clause-gives
+while_loop-returns-clause-gives t c = while_is (within_at c.args.left) (plain c.args.self.now.rest.now) c.in_ok-condition.ensures.gives c.in_ok-body.ensures.gives c.in_ok-repeat_while.ensures
+
+pub args-returns-clause-gives : goal.args-returns-clause-gives
+args-returns-clause-gives t c =
+    args_are (within_at c.args.left) c.args.bracket (plain c.args.self.now.rest.now) (plain c.items.new.self.rest.now) (sym c.at_close.ensures ∙ c.if-at_close.false) c.in_ok-items.ensures.gives (sym c.at_close-2.ensures ∙ c.if-not-at_close.false) c.skip-2.ensures
+
+pub try_catch-returns-clause-gives : goal.try_catch-returns-clause-gives
+try_catch-returns-clause-gives t c =
+    try_is (within_at c.args.left) (plain c.args.self.now.rest.now) (plain c.braced.new.self.rest.now) (plain c.skip.new.self.rest.now) c.in_ok-body.ensures.gives (sym c.at_catch.ensures ∙ c.if-not-at_catch.false) c.skip.ensures c.in_ok-pattern.ensures.gives c.in_ok-handler.ensures.gives c.in_ok-try_catch.ensures
+
+pub try_catch-returns-in_err-body-clause-gives : goal.try_catch-returns-in_err-body-clause-gives
+try_catch-returns-in_err-body-clause-gives t c =
+    let k = err_from_is_err_and c.from_residual.result c.from_residual.ensures.1 in
+    rw (k.1, k.2) (try_fails (within_at c.args.left) c.in_err-body.field-0.0 (plain c.args.self.now.rest.now) c.in_err-body.ensures.gives)
+
+pub function-returns-clause-gives : goal.function-returns-clause-gives
+function-returns-clause-gives t c = function_is (within_at c.args.left) c.args.pattern (plain c.args.self.now.rest.now) c.in_ok-parameters.ensures.gives c.in_ok-body.ensures.gives c.in_ok-function.ensures
+
+pub for_loop-returns-clause-gives : goal.for_loop-returns-clause-gives
+for_loop-returns-clause-gives t c =
+    rw (c.in_ok-repeat_for.ensures, c.in_ok-list-2.ensures.ok) (for_is (within_at c.args.left) (plain c.args.self.now.rest.now) c.in_ok-pattern.ensures.gives c.in_ok-list.ensures.gives c.in_ok-body.ensures.gives)
+
+pub escape-returns-clause-gives : goal.escape-returns-clause-gives
+escape-returns-clause-gives t c = escape_is (within_at c.args.left) (plain c.args.self.now.rest.now) c.in_ok-name.ensures.gives c.in_ok-body.ensures.gives c.in_ok-escape.ensures
+
+pub expr-returns-clause-gives : goal.expr-returns-clause-gives
+expr-returns-clause-gives t c = given_is (within_at c.args.left) (plain c.args.self.now.rest.now) (sym c.at_return.ensures ∙ c.if-at_return.false) (rw c.in-Some.is at c.in_ok-target.ensures.gives) c.in_ok-value.ensures.gives c.in_ok-give.ensures
+
+pub unary-returns-clause-gives : goal.unary-returns-clause-gives
+unary-returns-clause-gives t c = prefixed_is (within_at c.args.left) (plain c.args.self.now.rest.now) (plain c.skip.new.self.rest.now) (sym c.prefix_operator.ensures ∙ c.in-Some.is) c.skip.ensures c.in_ok-operand.ensures.gives c.in_ok-prefixed.ensures
+
+pub unary-returns-in_err-operand-clause-gives : goal.unary-returns-in_err-operand-clause-gives
+unary-returns-in_err-operand-clause-gives t c =
+    let k = err_from_is_err_and c.from_residual.result c.from_residual.ensures.1 in
+    rw (k.1, k.2) (prefixed_fails (within_at c.args.left) c.in_err-operand.field-0.0 (plain c.args.self.now.rest.now) (plain c.skip.new.self.rest.now) (sym c.prefix_operator.ensures ∙ c.in-Some.is) c.skip.ensures c.in_err-operand.ensures.gives)
+
+pub comparison_from-returns-clause-gives : goal.comparison_from-returns-clause-gives
+comparison_from-returns-clause-gives t c =
+    rw (c.in_ok-join.ensures, c.in_ok-first.ensures.ok) (compared_is (within_at c.args.left) (tree_of c.args.first) (plain c.args.self.now.rest.now) (plain c.skip.new.self.rest.now) (sym c.operator.ensures ∙ c.in-Some.is) c.skip.ensures c.in_ok-second.ensures.gives)
+
+pub second-returns-clause-gives : goal.second-returns-clause-gives
+second-returns-clause-gives t c =
+    rw c.in_ok-one.ensures (else_if_is c.args.left (plain c.args.self.now.rest.now) (plain c.skip.new.self.rest.now) (plain c.skip-2.new.self.rest.now) (omega arith) (sym c.at_else.ensures ∙ c.if-not-at_else.false) c.skip.ensures (sym c.at_if.ensures ∙ c.if-not-at_if.false) c.skip-2.ensures c.in_ok-inner.ensures.gives)
+
+pub second-returns-in_err-inner-clause-gives : goal.second-returns-in_err-inner-clause-gives
+second-returns-in_err-inner-clause-gives t c =
+    let k = err_from_is_err_and c.from_residual.result c.from_residual.ensures.1 in
+    rw (k.1, k.2) (else_if_fails c.in_err-inner.field-0.0 c.args.left (plain c.args.self.now.rest.now) (plain c.skip.new.self.rest.now) (plain c.skip-2.new.self.rest.now) (omega arith) (sym c.at_else.ensures ∙ c.if-not-at_else.false) c.skip.ensures (sym c.at_if.ensures ∙ c.if-not-at_if.false) c.skip-2.ensures c.in_err-inner.ensures.gives)
+
+pub second-returns-then-left-eq0-clause-gives : goal.second-returns-then-left-eq0-clause-gives
+second-returns-then-left-eq0-clause-gives t c =
+    rw c.if-left-eq0.true (else_if_none (plain c.args.self.now.rest.now) (plain c.skip.new.self.rest.now) (sym c.at_else.ensures ∙ c.if-not-at_else.false) c.skip.ensures (sym c.at_if.ensures ∙ c.if-not-at_if.false))
+
+pub method-returns-in_err-body-2-clause-gives : goal.method-returns-in_err-body-2-clause-gives
+method-returns-in_err-body-2-clause-gives t c =
+    let k = err_from_is_err_and c.from_residual-in_err-body-2.result c.from_residual-in_err-body-2.ensures.1 in
+    rw (k.1, k.2) tt
+
+pub method-returns-in_err-method-clause-gives : goal.method-returns-in_err-method-clause-gives
+method-returns-in_err-method-clause-gives t c =
+    let k = err_from_is_err_and c.from_residual-in_err-method.result c.from_residual-in_err-method.ensures.1 in
+    rw (k.1, k.2) tt
+
+pub items-returns-in_err-push-clause-gives : goal.items-returns-in_err-push-clause-gives
+items-returns-in_err-push-clause-gives t c =
+    let k = err_from_is_err_and c.from_residual-in_err-push.result c.from_residual-in_err-push.ensures.1 in
+    rw (k.1, k.2) tt
+
+pub second-returns-in_err-one-clause-gives : goal.second-returns-in_err-one-clause-gives
+second-returns-in_err-one-clause-gives t c =
+    let k = err_from_is_err_and c.from_residual-in_err-one.result c.from_residual-in_err-one.ensures.1 in
+    rw (k.1, k.2) tt
+
+pub methods-returns-in_err-push-clause-gives : goal.methods-returns-in_err-push-clause-gives
+methods-returns-in_err-push-clause-gives t c =
+    let k = err_from_is_err_and c.from_residual-in_err-push.result c.from_residual-in_err-push.ensures.1 in
+    rw (k.1, k.2) tt
+
+pub escape-returns-in_err-escape-clause-gives : goal.escape-returns-in_err-escape-clause-gives
+escape-returns-in_err-escape-clause-gives t c =
+    let k = err_from_is_err_and c.from_residual-in_err-escape.result c.from_residual-in_err-escape.ensures.1 in
+    rw (k.1, k.2) tt
+
+pub for_loop-returns-in_err-list-2-clause-gives : goal.for_loop-returns-in_err-list-2-clause-gives
+for_loop-returns-in_err-list-2-clause-gives t c =
+    let k = err_from_is_err_and c.from_residual-in_err-list-2.result c.from_residual-in_err-list-2.ensures.1 in
+    rw (k.1, k.2) tt
+
+pub expr-returns-in_err-give-clause-gives : goal.expr-returns-in_err-give-clause-gives
+expr-returns-in_err-give-clause-gives t c =
+    let k = err_from_is_err_and c.from_residual-in_err-give.result c.from_residual-in_err-give.ensures.1 in
+    rw (k.1, k.2) tt
+
+pub block-returns-in_err-push-clause-gives : goal.block-returns-in_err-push-clause-gives
+block-returns-in_err-push-clause-gives t c =
+    let k = err_from_is_err_and c.from_residual-in_err-push.result c.from_residual-in_err-push.ensures.1 in
+    rw (k.1, k.2) tt
+
+pub unary-returns-in_err-prefixed-clause-gives : goal.unary-returns-in_err-prefixed-clause-gives
+unary-returns-in_err-prefixed-clause-gives t c =
+    let k = err_from_is_err_and c.from_residual-in_err-prefixed.result c.from_residual-in_err-prefixed.ensures.1 in
+    rw (k.1, k.2) tt
+
+pub members-returns-in_err-object-clause-gives : goal.members-returns-in_err-object-clause-gives
+members-returns-in_err-object-clause-gives t c =
+    let k = err_from_is_err_and c.from_residual-in_err-object.result c.from_residual-in_err-object.ensures.1 in
+    rw (k.1, k.2) tt
 
 -- A step that fails claims nothing of what is left.
 
