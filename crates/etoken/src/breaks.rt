@@ -8,7 +8,7 @@ use crate::token::{Reserved, Sign, Token};
 use std::alloc::Global;
 
 /// A kind of bracket.
-#[derive(Clone, Copy, Debug, PartialEq, Eq)]
+#[derive(Clone, Copy)]
 pub enum Bracket {
     Round,
     Square,
