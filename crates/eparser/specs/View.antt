@@ -1,9 +1,11 @@
 -- What the reader's answers stand for.
-use Rattle.std.specs.Prelude.{◌≡◌, ◌<◌, ◌≤◌, length, List, Option, Some, None, Result, Ok, Err}
+use Rattle.std.specs.Prelude.{◌≡◌, ◌<◌, ◌≤◌, length, List, [], ◌∷◌, Option, Some, None, Result, Ok, Err}
 use Rattle.std.specs.declared.sync.Arc.{Arc}
 use Rattle.std.specs.declared.vec.Vec.{Vec}
 use Rattle.std.specs.declared.alloc.Global.{Global}
 use Rattle.etoken.specs.declared.token.Token.{Token}
+use Rattle.etoken.specs.declared.token.Token.TheVariants as token
+use Rattle.etoken.specs.declared.token.Reserved.{Reserved}
 use Rattle.kernele.specs.declared.tree.Expr.{Expr}
 use Rattle.kernele.specs.declared.tree.Pattern.{Pattern}
 use Rattle.kernele.specs.declared.tree.Method.{Method}
@@ -26,6 +28,12 @@ Fails stop.Memory read = Unit {0}
 -- the tokens that a reader has left
 abbrev pub left_of : Reader → List Token
 left_of r = plain r.rest.now
+
+-- the word in front
+abbrev pub word_in : List Token → Option Reserved
+word_in [] = None
+word_in (token.Word w ∷ a) = Some w
+word_in (_ ∷ a) = None
 
 -- a method of a reader returned, and left to read, what reading gives, unless memory ran out
 abbrev pub Gives : Result Expr Stop → Reader → Reader → (List Token → Read Tree) → Type 0

@@ -5,7 +5,7 @@ ghost use Rattle.egrammar.specs.Reading as reading;
 ghost use Rattle.egrammar.specs.Reading.{front, sign_in};
 ghost use Rattle.egrammar.specs.View.{plain};
 ghost use Rattle.eparser.specs.Levels.{operator_of};
-ghost use Rattle.eparser.specs.View.{left_of};
+ghost use Rattle.eparser.specs.View.{left_of, word_in};
 
 use crate::level::Level;
 use crate::reader::Reader;
@@ -26,10 +26,10 @@ fn front_sign(tokens: &[Placed]) -> Option<Sign>
 fn is_bound(tokens: &[Placed]) -> bool
     ensures { result ≡ reading.is_bound (plain tokens.now) }
 {
-    let Some((first, rest)) = tokens.split_first() else {
+    let Some((_, rest)) = tokens.split_first() else {
         return false;
     };
-    matches!(first.token, Token::Sign(Sign::OpenSquare))
+    matches!(front_sign(tokens), Some(Sign::OpenSquare))
         || matches!(front_sign(rest), Some(Sign::Becomes))
 }
 
@@ -80,6 +80,16 @@ impl<'a> Reader<'a> {
         front_sign(self.rest)
     }
 
+    /// The word in front.
+    fn word(&self) -> Option<Reserved>
+        ensures { result ≡ word_in (left_of self.now) }
+    {
+        match self.rest.first()?.token {
+            Token::Word(word) => Some(word),
+            _ => None,
+        }
+    }
+
     pub(crate) fn at_end(&self) -> bool
         ensures { result ≡ reading.is_empty (left_of self.now) }
     {
@@ -119,74 +129,50 @@ impl<'a> Reader<'a> {
     pub(crate) fn at_variable(&self) -> bool
         ensures { result ≡ reading.is_at_word reading.is_var_word (left_of self.now) }
     {
-        match self.rest.first() {
-            Some(placed) => matches!(placed.token, Token::Word(Reserved::Var)),
-            None => false,
-        }
+        matches!(self.word(), Some(Reserved::Var))
     }
 
     pub(crate) fn at_if(&self) -> bool
         ensures { result ≡ reading.is_at_word reading.is_if_word (left_of self.now) }
     {
-        match self.rest.first() {
-            Some(placed) => matches!(placed.token, Token::Word(Reserved::If)),
-            None => false,
-        }
+        matches!(self.word(), Some(Reserved::If))
     }
 
     pub(crate) fn at_else(&self) -> bool
         ensures { result ≡ reading.is_at_word reading.is_else_word (left_of self.now) }
     {
-        match self.rest.first() {
-            Some(placed) => matches!(placed.token, Token::Word(Reserved::Else)),
-            None => false,
-        }
+        matches!(self.word(), Some(Reserved::Else))
     }
 
     pub(crate) fn at_in(&self) -> bool
         ensures { result ≡ reading.is_at_word reading.is_in_word (left_of self.now) }
     {
-        match self.rest.first() {
-            Some(placed) => matches!(placed.token, Token::Word(Reserved::In)),
-            None => false,
-        }
+        matches!(self.word(), Some(Reserved::In))
     }
 
     pub(crate) fn at_catch(&self) -> bool
         ensures { result ≡ reading.is_at_word reading.is_catch_word (left_of self.now) }
     {
-        match self.rest.first() {
-            Some(placed) => matches!(placed.token, Token::Word(Reserved::Catch)),
-            None => false,
-        }
+        matches!(self.word(), Some(Reserved::Catch))
     }
 
     pub(crate) fn at_return(&self) -> bool
         ensures { result ≡ reading.is_at_word reading.is_return_word (left_of self.now) }
     {
-        match self.rest.first() {
-            Some(placed) => matches!(placed.token, Token::Word(Reserved::Return)),
-            None => false,
-        }
+        matches!(self.word(), Some(Reserved::Return))
     }
 
     pub(crate) fn at_to(&self) -> bool
         ensures { result ≡ reading.is_at_word reading.is_to_word (left_of self.now) }
     {
-        match self.rest.first() {
-            Some(placed) => matches!(placed.token, Token::Word(Reserved::To)),
-            None => false,
-        }
+        matches!(self.word(), Some(Reserved::To))
     }
 
     /// Whether a method begins here.
     pub(crate) fn at_method(&self) -> bool
         ensures { result ≡ reading.is_at_word reading.is_method_word (left_of self.now) }
     {
-        match self.rest.first() {
-            Some(placed) => matches!(placed.token, Token::Word(Reserved::To | Reserved::Method)),
-            None => false,
-        }
+        matches!(self.word(), Some(Reserved::To | Reserved::Method))
     }
 
     /// Whether an expression that may stand in any place can begin here.
