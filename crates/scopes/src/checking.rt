@@ -1,5 +1,6 @@
 // The check of a program before it is evaluated.
-ghost use Rattle.std.specs.Prelude.{◌≡◌, map, false, Some, Ok, IsOk, IfOk, IfErr, OnOk, MatchResult};
+ghost use Rattle.std.specs.Prelude.{◌≡◌, ◌++◌, map, false, Some, Ok, IsOk, IfOk, IfErr, OnOk, MatchResult};
+ghost use Rattle.std.specs.Fmt.{WritesOnOk};
 ghost use Rattle.kernele.specs.Tree.{if_tree, while_tree, for_tree, try_tree, object_tree, escape_tree};
 ghost use Rattle.kernele.specs.View.{tree_of, trees_of, methods_of, program_of};
 ghost use Rattle.scopes.specs.Scope.{checked, checked_all, checked_program, found, assigned, added, bound, all_bound, entered, in_block, checked_with, same_signature, has_signature, script_scopes, asked_scopes, kind_in, with_name};
@@ -14,7 +15,7 @@ use std::alloc::{AllocError, AllocFailed, Global};
 use std::collections::BTreeMap;
 use std::error::Error;
 use std::fmt;
-use std::fmt::{Display, Formatter, Write};
+use std::fmt::{Debug, Display, Formatter, Write};
 
 /// The most nodes that a program may have.
 const MOST_NODES: u32 = 16_384;
@@ -23,7 +24,7 @@ const MOST_NODES: u32 = 16_384;
 const GREATEST_DEPTH: u32 = 200;
 
 /// Why a program is not evaluated.
-#[derive(Debug, Drop)]
+#[derive(Drop)]
 pub enum CheckFault {
     /// A noun that no scope has.
     Unbound(Text),
@@ -39,18 +40,31 @@ pub enum CheckFault {
     Memory,
 }
 
+/// Writes words, and behind them the name that they are about.
+fn write_about<W: Write>(f: &mut Formatter<W>, words: &str, name: &Text) -> fmt::Result
+    ensures { WritesOnOk W.write_str_gives f.old result (words.now ++ name.now) f.new }
+{
+    write!(f, "{words}{name}")
+}
+
 impl Display for CheckFault {
     ghost output = { λ fault. Some (fault_text fault) };
 
     fn fmt<W: Write>(&self, f: &mut Formatter<W>) -> fmt::Result {
         match self {
-            CheckFault::Unbound(name) => write!(f, "K1 Unbound {name}"),
-            CheckFault::AssignToDef(name) => write!(f, "K2 AssignToDef {name}"),
-            CheckFault::DuplicateName(name) => write!(f, "K3 DuplicateName {name}"),
-            CheckFault::TooDeep => write!(f, "K4 TooDeep"),
-            CheckFault::TooLong => write!(f, "K5 TooLong"),
-            CheckFault::Memory => write!(f, "B20 Memory"),
+            CheckFault::Unbound(name) => write_about(f, "K1 Unbound ", name),
+            CheckFault::AssignToDef(name) => write_about(f, "K2 AssignToDef ", name),
+            CheckFault::DuplicateName(name) => write_about(f, "K3 DuplicateName ", name),
+            CheckFault::TooDeep => f.write_str("K4 TooDeep"),
+            CheckFault::TooLong => f.write_str("K5 TooLong"),
+            CheckFault::Memory => f.write_str("B20 Memory"),
         }
+    }
+}
+
+impl Debug for CheckFault {
+    fn fmt<W: Write>(&self, f: &mut Formatter<W>) -> fmt::Result {
+        Display::fmt(self, f)
     }
 }
 

@@ -8,7 +8,7 @@ use kernele::tree::{Expr, Pattern, Program};
 use std::alloc::{AllocError, Global};
 
 /// What a name in scope is.
-#[derive(Clone, Copy, Debug, PartialEq, Eq)]
+#[derive(Clone, Copy)]
 pub enum Kind {
     /// What it stands for stays the same.
     Definition,

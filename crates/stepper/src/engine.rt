@@ -30,7 +30,7 @@ use std::fmt::{Display, Formatter, Write};
 pub const STACK: usize = 256 << 20;
 
 /// What the author's options allow.
-#[derive(Clone, Copy, Debug)]
+#[derive(Clone, Copy)]
 pub struct Limits {
     /// The most steps of a turn, from 1 to 1,000,000.
     pub budget: u32,
@@ -39,14 +39,14 @@ pub struct Limits {
 }
 
 /// What is known of a run that came to its end.
-#[derive(Clone, Copy, Debug, PartialEq, Eq)]
+#[derive(Clone, Copy)]
 pub struct Summary {
     /// Whether a command was refused.
     pub refused: bool,
 }
 
 /// Why a run did not come to its end.
-#[derive(Clone, Copy, Debug, PartialEq, Eq)]
+#[derive(Clone, Copy)]
 pub enum Fault {
     /// The input could not be read.
     Reader,
@@ -60,11 +60,11 @@ impl Display for Fault {
     ghost output = { λ fault. Some (fault_text fault) };
 
     fn fmt<W: Write>(&self, f: &mut Formatter<W>) -> fmt::Result {
-        match self {
-            Fault::Reader => write!(f, "reading failed"),
-            Fault::Writer => write!(f, "writing failed"),
-            Fault::Memory => write!(f, "out of memory"),
-        }
+        f.write_str(match self {
+            Fault::Reader => "reading failed",
+            Fault::Writer => "writing failed",
+            Fault::Memory => "out of memory",
+        })
     }
 }
 

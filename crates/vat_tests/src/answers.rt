@@ -2,13 +2,12 @@
 
 use ereader::fault::ReadFault;
 use ereader::{read, read_tokens};
-use etoken::fault::TokenFault;
 use etoken::token::{Placed, Token};
 use etoken::tokens::tokens;
 use ids::text::Text;
 use kernele::print;
 use kernele::tree::{Expr, Program};
-use scopes::{CheckFault, Kind, Outer, captured_names, check, top_names};
+use scopes::{CheckFault, Kind, Outer, TopName, captured_names, check, top_names};
 use std::alloc::{AllocError, Global};
 use std::fmt::Write;
 
@@ -33,49 +32,71 @@ pub enum Asked {
 
 /// The answer, or the refusal.
 pub(crate) fn answer(alloc: Global, asked: Asked, text: &str) -> Result<String, AllocError> {
-    match asked {
-        Asked::Tokens => shown_tokens(alloc, tokens(alloc, text)),
-        Asked::Spelling => spelling(alloc, read(alloc, text)),
-        Asked::SpellingOfTokens => match tokens(alloc, text) {
-            Ok(list) => spelling(alloc, read_tokens(alloc, &list, text.len())),
-            Err(fault) => fault.to_string(alloc),
-        },
-        Asked::CheckAsked | Asked::CheckScript | Asked::Names | Asked::Captures => {
-            match read(alloc, text) {
-                Ok(program) => answer_of_program(alloc, asked, &program),
-                Err(fault) => fault.to_string(alloc),
-            }
-        }
-    }
+    let mut out = String::new(alloc);
+    write_answer(alloc, asked, text, &mut out)?;
+    Ok(out)
 }
 
-fn answer_of_program(alloc: Global, asked: Asked, program: &Program) -> Result<String, AllocError> {
-    match asked {
-        Asked::CheckAsked => verdict(alloc, check_asked(alloc, program)),
-        Asked::CheckScript => verdict(alloc, check_script(alloc, program)),
-        Asked::Captures => captures(alloc, program),
-        Asked::Names | Asked::Tokens | Asked::Spelling | Asked::SpellingOfTokens => {
-            names(alloc, program)
-        }
-    }
-}
-
-fn shown_tokens(
+fn write_answer(
     alloc: Global,
-    found: Result<Vec<Placed>, TokenFault>,
-) -> Result<String, AllocError> {
-    let list = match found {
-        Ok(list) => list,
-        Err(fault) => return fault.to_string(alloc),
-    };
-    let mut words = String::new(alloc);
-    for placed in &list {
-        write!(words, "{}:", placed.offset)?;
-        write_token(&placed.token, &mut words)?;
-        words.push(' ')?;
+    asked: Asked,
+    text: &str,
+    out: &mut String,
+) -> Result<(), AllocError> {
+    match asked {
+        Asked::Tokens => match tokens(alloc, text) {
+            Ok(list) => write_tokens(&list, out),
+            Err(fault) => write!(out, "{fault}"),
+        },
+        Asked::SpellingOfTokens => match tokens(alloc, text) {
+            Ok(list) => {
+                let outcome = read_tokens(alloc, &list, text.len());
+                write_of_reading(alloc, Asked::Spelling, outcome, out)
+            }
+            Err(fault) => write!(out, "{fault}"),
+        },
+        Asked::Spelling | Asked::CheckAsked | Asked::CheckScript | Asked::Names | Asked::Captures =>
+            write_of_reading(alloc, asked, read(alloc, text), out),
     }
-    let _ = words.pop();
-    Ok(words)
+}
+
+fn write_of_reading(
+    alloc: Global,
+    asked: Asked,
+    outcome: Result<Program, ReadFault>,
+    out: &mut String,
+) -> Result<(), AllocError> {
+    match outcome {
+        Ok(program) => write_of_program(alloc, asked, &program, out),
+        Err(fault) => write!(out, "{fault}"),
+    }
+}
+
+fn write_of_program(
+    alloc: Global,
+    asked: Asked,
+    program: &Program,
+    out: &mut String,
+) -> Result<(), AllocError> {
+    match asked {
+        Asked::CheckAsked => write_verdict(&check_asked(alloc, program), out),
+        Asked::CheckScript => write_verdict(&check_script(alloc, program), out),
+        Asked::Names => write_names(&top_names(alloc, program)?, out),
+        Asked::Captures => write_captures(alloc, program, out),
+        Asked::Spelling | Asked::Tokens | Asked::SpellingOfTokens => {
+            out.push_str(&print(alloc, program)?)
+        }
+    }
+}
+
+fn write_tokens(list: &[Placed], out: &mut String) -> Result<(), AllocError> {
+    for placed in list {
+        write!(out, "{}:", placed.offset)?;
+        write_token(&placed.token, out)?;
+        out.push(' ')?;
+    }
+    let _ = out.pop();
+    Ok(())
 }
 
 /// Writes a token as a short word.
@@ -89,56 +110,56 @@ fn write_token(token: &Token, out: &mut String) -> Result<(), AllocError> {
     }
 }
 
-fn spelling(alloc: Global, outcome: Result<Program, ReadFault>) -> Result<String, AllocError> {
-    match outcome {
-        Ok(program) => print(alloc, &program),
-        Err(fault) => fault.to_string(alloc),
+fn write_verdict(checked: &Result<(), CheckFault>, out: &mut String) -> Result<(), AllocError> {
+    match checked {
+        Ok(()) => out.push_str("fits"),
+        Err(fault) => write!(out, "{fault}"),
     }
 }
 
-fn verdict(alloc: Global, checked: Result<(), CheckFault>) -> Result<String, AllocError> {
-    match checked {
-        Ok(()) => String::from_str(alloc, "fits"),
-        Err(fault) => fault.to_string(alloc),
+/// The names that the script defines of the vat that is asked.
+fn known(alloc: Global) -> Result<Vec<TopName>, CheckFault> {
+    match read(alloc, "var v := 1; def d := 2") {
+        Ok(script) => Ok(top_names(alloc, &script)?),
+        Err(_) => Err(CheckFault::Memory),
     }
 }
 
 fn check_asked(alloc: Global, program: &Program) -> Result<(), CheckFault> {
-    let Ok(script) = read(alloc, "var v := 1; def d := 2") else {
-        return Err(CheckFault::Memory);
-    };
-    let known = top_names(alloc, &script)?;
-    let outer = Outer::for_asked(alloc, &known)?;
+    let outer = Outer::for_asked(alloc, &known(alloc)?)?;
     check(alloc, program, &outer)
 }
 
 fn check_script(alloc: Global, program: &Program) -> Result<(), CheckFault> {
-    let mut earlier = Vec::new(alloc);
-    earlier.push(Text::new(alloc, "v")?)?;
-    let outer = Outer::for_script(alloc, &earlier)?;
+    let outer = Outer::for_script(alloc, &[Text::new(alloc, "v")?])?;
     check(alloc, program, &outer)
 }
 
-fn names(alloc: Global, program: &Program) -> Result<String, AllocError> {
-    let mut words = String::new(alloc);
-    for found in &top_names(alloc, program)? {
+fn write_names(names: &[TopName], out: &mut String) -> Result<(), AllocError> {
+    for found in names {
         let kind = match found.kind {
             Kind::Definition => "def",
             Kind::Variable => "var",
         };
-        write!(words, "{kind} {} ", found.name)?;
+        write!(out, "{kind} {} ", found.name)?;
     }
-    let _ = words.pop();
-    Ok(words)
+    let _ = out.pop();
+    Ok(())
 }
 
-fn captures(alloc: Global, program: &Program) -> Result<String, AllocError> {
-    let mut words = String::new(alloc);
-    if let Some(Expr::Object(pattern, methods)) = program.0.0.first() {
-        for name in &captured_names(alloc, pattern, methods)? {
-            write!(words, "{name} ")?;
+fn write_captures(alloc: Global, program: &Program, out: &mut String) -> Result<(), AllocError> {
+    match program.0.0.first() {
+        Some(Expr::Object(pattern, methods)) => {
+            write_words(&captured_names(alloc, pattern, methods)?, out)
         }
+        _ => Ok(()),
     }
-    let _ = words.pop();
-    Ok(words)
+}
+
+fn write_words(words: &[Text], out: &mut String) -> Result<(), AllocError> {
+    for word in words {
+        write!(out, "{word} ")?;
+    }
+    let _ = out.pop();
+    Ok(())
 }
