@@ -5,7 +5,7 @@ ghost use Rattle.stepper.specs.Ended.{status_of};
 use crate::engine::{Fault, Summary};
 
 /// How a run of the program ends.
-#[derive(Clone, Copy, Debug, PartialEq, Eq)]
+#[derive(Clone, Copy)]
 pub enum Ended {
     /// The help was asked for and printed.
     Help,

@@ -30,7 +30,7 @@ use std::fmt::{Display, Formatter, Write};
 pub const STACK: usize = 256 << 20;
 
 /// What the author's options allow.
-#[derive(Clone, Copy, Debug)]
+#[derive(Clone, Copy)]
 pub struct Limits {
     /// The most steps of a turn, from 1 to 1,000,000.
     pub budget: u32,
@@ -39,14 +39,14 @@ pub struct Limits {
 }
 
 /// What is known of a run that came to its end.
-#[derive(Clone, Copy, Debug, PartialEq, Eq)]
+#[derive(Clone, Copy)]
 pub struct Summary {
     /// Whether a command was refused.
     pub refused: bool,
 }
 
 /// Why a run did not come to its end.
-#[derive(Clone, Copy, Debug, PartialEq, Eq)]
+#[derive(Clone, Copy)]
 pub enum Fault {
     /// The input could not be read.
     Reader,
@@ -61,9 +61,9 @@ impl Display for Fault {
 
     fn fmt<W: Write>(&self, f: &mut Formatter<W>) -> fmt::Result {
         match self {
-            Fault::Reader => write!(f, "reading failed"),
-            Fault::Writer => write!(f, "writing failed"),
-            Fault::Memory => write!(f, "out of memory"),
+            Fault::Reader => f.write_str("reading failed"),
+            Fault::Writer => f.write_str("writing failed"),
+            Fault::Memory => f.write_str("out of memory"),
         }
     }
 }
@@ -208,41 +208,18 @@ impl Engine {
             Command::Birth { name, lines } => {
                 let script = take_script(self.alloc, input, lines)?;
                 self.birth(name, &script.text)?;
-                Ok(script.rest)
+                return Ok(script.rest);
             }
-            Command::Ask { name, text } => {
-                self.ask(name, text)?;
-                Ok(input)
-            }
-            Command::Turn(message) => {
-                self.turn(message)?;
-                Ok(input)
-            }
-            Command::Show => {
-                self.show()?;
-                Ok(input)
-            }
-            Command::Journal => {
-                self.journal()?;
-                Ok(input)
-            }
-            Command::Cone(event) => {
-                self.cone(event)?;
-                Ok(input)
-            }
-            Command::Undo(events) => {
-                self.undo(&events)?;
-                Ok(input)
-            }
-            Command::UndoCone(event) => {
-                self.undo_cone(event)?;
-                Ok(input)
-            }
-            Command::Redo(events) => {
-                self.redo(&events)?;
-                Ok(input)
-            }
-        }
+            Command::Ask { name, text } => self.ask(name, text),
+            Command::Turn(message) => self.turn(message),
+            Command::Show => self.show(),
+            Command::Journal => self.journal(),
+            Command::Cone(event) => self.cone(event),
+            Command::Undo(events) => self.undo(&events),
+            Command::UndoCone(event) => self.undo_cone(event),
+            Command::Redo(events) => self.redo(&events),
+        }?;
+        Ok(input)
     }
 
     /// Answers what a line says, and gives what is left of the input behind it.
