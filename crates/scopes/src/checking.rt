@@ -47,9 +47,9 @@ impl Display for CheckFault {
             CheckFault::Unbound(name) => write!(f, "K1 Unbound {name}"),
             CheckFault::AssignToDef(name) => write!(f, "K2 AssignToDef {name}"),
             CheckFault::DuplicateName(name) => write!(f, "K3 DuplicateName {name}"),
-            CheckFault::TooDeep => write!(f, "K4 TooDeep"),
-            CheckFault::TooLong => write!(f, "K5 TooLong"),
-            CheckFault::Memory => write!(f, "B20 Memory"),
+            CheckFault::TooDeep => f.write_str("K4 TooDeep"),
+            CheckFault::TooLong => f.write_str("K5 TooLong"),
+            CheckFault::Memory => f.write_str("B20 Memory"),
         }
     }
 }
