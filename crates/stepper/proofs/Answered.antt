@@ -26,7 +26,7 @@ use Rattle.book.specs.declared.fault.BookFault.{BookFault}
 use Rattle.book.specs.declared.fault.BookFault.TheVariants as fault
 use Rattle.scopes.specs.Check as check
 use Rattle.stepper.specs.declared.engine.Engine.{Engine}
-use Rattle.stepper.specs.Engine.{Happens}
+use Rattle.stepper.specs.Engine.{Happens, HappensAt}
 use Rattle.commands.specs.Commands as commands
 use Rattle.commands.specs.Commands.{Spelled, spelled_by, fault_text}
 use Rattle.commands.specs.Scripts.{script_of, behind_lines, fault_of}
@@ -184,6 +184,13 @@ born_at budget b d c x lines input rest reply refusal script e f g h =
 -- the first line is another command
 pub answered_at : (budget : ℕ) (b d : Book) (c a : Spelled) (input reply : List ℕ) (refusal : Bool) → c ≡ a → Answers budget b a reply refusal d → FirstReply budget b (Ok (Some c)) input reply refusal d input
 answered_at budget b d c a input reply refusal e h = subst (λ z. FirstReply budget b (Ok (Some z)) input reply refusal d input) (sym e) (answered h)
+
+-- where what answered a command succeeded, it is answered
+pub answered_alone : {A E : Type 0} {old new now : Engine} (c a : Spelled) (input : List ℕ) (r : Result A E) {s : Result A E} {x : A} → c ≡ a → s ≡ r → s ≡ Ok x → now ≡ new → OnOk r (Happens old new (λ b r s d. Answers old.budget b a r s d))
+    → HappensAt old now input (λ b r s d i. FirstReply old.budget b (Ok (Some c)) input r s d i)
+answered_alone {old = old} c a input (Ok y) spelled is was same h =
+    subst (λ now. HappensAt old now input (λ b r s d i. FirstReply old.budget b (Ok (Some c)) input r s d i)) (sym same) (happens_as (λ b r s d k. answered_at old.budget b d c a input r s spelled k) h)
+answered_alone c a input (Err e) spelled is was same h = absurd (cc)
 
 -- the script is refused
 pub refused_at : (b : Book) (x : List ℕ) (f : LineFault) (script : Result (List ℕ) LineFault) → script ≡ Err f → AnswersBirth b x script (refused (fault_text f)) true b

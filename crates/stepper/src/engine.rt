@@ -208,41 +208,18 @@ impl Engine {
             Command::Birth { name, lines } => {
                 let script = take_script(self.alloc, input, lines)?;
                 self.birth(name, &script.text)?;
-                Ok(script.rest)
+                return Ok(script.rest);
             }
-            Command::Ask { name, text } => {
-                self.ask(name, text)?;
-                Ok(input)
-            }
-            Command::Turn(message) => {
-                self.turn(message)?;
-                Ok(input)
-            }
-            Command::Show => {
-                self.show()?;
-                Ok(input)
-            }
-            Command::Journal => {
-                self.journal()?;
-                Ok(input)
-            }
-            Command::Cone(event) => {
-                self.cone(event)?;
-                Ok(input)
-            }
-            Command::Undo(events) => {
-                self.undo(&events)?;
-                Ok(input)
-            }
-            Command::UndoCone(event) => {
-                self.undo_cone(event)?;
-                Ok(input)
-            }
-            Command::Redo(events) => {
-                self.redo(&events)?;
-                Ok(input)
-            }
-        }
+            Command::Ask { name, text } => self.ask(name, text),
+            Command::Turn(message) => self.turn(message),
+            Command::Show => self.show(),
+            Command::Journal => self.journal(),
+            Command::Cone(event) => self.cone(event),
+            Command::Undo(events) => self.undo(&events),
+            Command::UndoCone(event) => self.undo_cone(event),
+            Command::Redo(events) => self.redo(&events),
+        }?;
+        Ok(input)
     }
 
     /// Answers what a line says, and gives what is left of the input behind it.

@@ -1,31 +1,22 @@
 use Rattle.std.proofs.Common.{ap, sym, ◌∙◌}
 use Rattle.commands.specs.Commands.{command_of, undo, redo}
-use Rattle.stepper.proofs.Answered.{happens_as, born_at, answered_at}
+use Rattle.stepper.proofs.Answered.{happens_as, born_at, answered_alone}
 use Rattle.stepper.proofs.engine.Engine.answer.Goals as goal
+use Rattle.stepper.proofs.engine.Engine.answer.Goals.{in-Ask, in-Turn, in-Show, in-Journal, in-Cone, in-Undo, in-UndoCone, in-Redo}
 
-pub returns-in_ok-birth-in-Birth-clause-reply : goal.returns-in_ok-birth-in-Birth-clause-reply
-returns-in_ok-birth-in-Birth-clause-reply c = happens_as (λ b r s d k. born_at _ b d _ _ c.in-Birth.lines c.args.input.now _ r s _ (ap command_of c.in-Birth.is) c.in_ok-script-in-Birth.ensures.text c.in_ok-script-in-Birth.ensures.rest k) c.in_ok-birth-in-Birth.ensures
+pub returns-in-Birth-clause-reply : goal.returns-in-Birth-clause-reply
+returns-in-Birth-clause-reply c = happens_as (λ b r s d k. born_at _ b d _ _ c.in-Birth.lines c.args.input.now _ r s _ (ap command_of c.in-Birth.is) c.in_ok-script-in-Birth.ensures.text c.in_ok-script-in-Birth.ensures.rest k) c.in_ok-birth-in-Birth.ensures
 
-pub returns-in_ok-ask-in-Ask-clause-reply : goal.returns-in_ok-ask-in-Ask-clause-reply
-returns-in_ok-ask-in-Ask-clause-reply c = happens_as (λ b r s d k. answered_at _ b d _ _ c.args.input.now r s (ap command_of c.in-Ask.is) k) c.in_ok-ask-in-Ask.ensures
-
-pub returns-in_ok-turn-in-Turn-clause-reply : goal.returns-in_ok-turn-in-Turn-clause-reply
-returns-in_ok-turn-in-Turn-clause-reply c = happens_as (λ b r s d k. answered_at _ b d _ _ c.args.input.now r s (ap command_of c.in-Turn.is) k) c.in_ok-turn-in-Turn.ensures
-
-pub returns-in_ok-show-in-Show-clause-reply : goal.returns-in_ok-show-in-Show-clause-reply
-returns-in_ok-show-in-Show-clause-reply c = happens_as (λ b r s d k. answered_at _ b d _ _ c.args.input.now r s (ap command_of c.in-Show.is) k) c.in_ok-show-in-Show.ensures
-
-pub returns-in_ok-journal-in-Journal-clause-reply : goal.returns-in_ok-journal-in-Journal-clause-reply
-returns-in_ok-journal-in-Journal-clause-reply c = happens_as (λ b r s d k. answered_at _ b d _ _ c.args.input.now r s (ap command_of c.in-Journal.is) k) c.in_ok-journal-in-Journal.ensures
-
-pub returns-in_ok-cone-in-Cone-clause-reply : goal.returns-in_ok-cone-in-Cone-clause-reply
-returns-in_ok-cone-in-Cone-clause-reply c = happens_as (λ b r s d k. answered_at _ b d _ _ c.args.input.now r s (ap command_of c.in-Cone.is) k) c.in_ok-cone-in-Cone.ensures
-
-pub returns-in_ok-undo_cone-in-UndoCone-clause-reply : goal.returns-in_ok-undo_cone-in-UndoCone-clause-reply
-returns-in_ok-undo_cone-in-UndoCone-clause-reply c = happens_as (λ b r s d k. answered_at _ b d _ _ c.args.input.now r s (ap command_of c.in-UndoCone.is) k) c.in_ok-undo_cone-in-UndoCone.ensures
-
-pub returns-in_ok-undo-in-Undo-clause-reply : goal.returns-in_ok-undo-in-Undo-clause-reply
-returns-in_ok-undo-in-Undo-clause-reply c = happens_as (λ b r s d k. answered_at _ b d _ _ c.args.input.now r s (ap command_of c.in-Undo.is ∙ ap undo (sym c.deref.ensures.value)) k) c.in_ok-undo-in-Undo.ensures
-
-pub returns-in_ok-redo-in-Redo-clause-reply : goal.returns-in_ok-redo-in-Redo-clause-reply
-returns-in_ok-redo-in-Redo-clause-reply c = happens_as (λ b r s d k. answered_at _ b d _ _ c.args.input.now r s (ap command_of c.in-Redo.is ∙ ap redo (sym c.deref-in-Redo.ensures.value)) k) c.in_ok-redo-in-Redo.ensures
+pub returns-clause-reply : goal.returns-clause-reply
+returns-clause-reply c =
+    let input = c.args.input.now in
+    elim c.match-command.branch [
+      | in-Ask w ↦ answered_alone _ _ input w.ask.result (ap command_of w.in-Ask.is) w.branch'-is c.in_ok-redo.was w.self-is w.ask.ensures
+      | in-Turn w ↦ answered_alone _ _ input w.turn.result (ap command_of w.in-Turn.is) w.branch'-is c.in_ok-redo.was w.self-is w.turn.ensures
+      | in-Show w ↦ answered_alone _ _ input w.show.result (ap command_of w.in-Show.is) w.branch'-is c.in_ok-redo.was w.self-is w.show.ensures
+      | in-Journal w ↦ answered_alone _ _ input w.journal.result (ap command_of w.in-Journal.is) w.branch'-is c.in_ok-redo.was w.self-is w.journal.ensures
+      | in-Cone w ↦ answered_alone _ _ input w.cone.result (ap command_of w.in-Cone.is) w.branch'-is c.in_ok-redo.was w.self-is w.cone.ensures
+      | in-Undo w ↦ answered_alone _ _ input w.undo.result (ap command_of w.in-Undo.is ∙ ap undo (sym w.deref.ensures.value)) w.branch'-is c.in_ok-redo.was w.self-is w.undo.ensures
+      | in-UndoCone w ↦ answered_alone _ _ input w.undo_cone.result (ap command_of w.in-UndoCone.is) w.branch'-is c.in_ok-redo.was w.self-is w.undo_cone.ensures
+      | in-Redo w ↦ answered_alone _ _ input w.redo.result (ap command_of w.in-Redo.is ∙ ap redo (sym w.deref-in-Redo.ensures.value)) w.branch'-is c.in_ok-redo.was w.self-is w.redo.ensures
+    ]
