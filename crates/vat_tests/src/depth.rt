@@ -1,6 +1,6 @@
 // What nests deepest, on a stack as large as that on which the program answers commands, and budgets at their ends.
 
-use crate::tables::{expect, expect_text, limits, nested, sessions_of};
+use crate::tables::{expect, expect_text, limits, nested, session_of};
 use std::process::Abort;
 use std::rt::Runtime;
 use std::thread::{Builder, Threads};
@@ -83,7 +83,8 @@ ok e6 abandoned "calls too deep""#;
 
 #[test]
 fn deep_calls(rt: HostRuntime) {
-    for session in &sessions_of(&rt, DEEP_CALLS) {
+    for part in DEEP_CALLS.split("\n\n") {
+        let session = session_of(&rt, part);
         expect_on_its_stack(&rt, &session.commands, &session.wanted);
     }
 }

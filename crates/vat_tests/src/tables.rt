@@ -60,25 +60,18 @@ pub(crate) struct Session {
     pub wanted: String,
 }
 
-/// The sessions of a transcript: what stands behind `> ` is a command or a line of a script, other lines are replies, and
-/// an empty line ends a session.
-pub(crate) fn sessions_of(rt: &(impl Abort + AllocGlobal), transcript: &str) -> Vec<Session> {
+/// A session of a transcript: what stands behind `> ` is a command or a line of a script, other lines are replies.
+pub(crate) fn session_of(rt: &(impl Abort + AllocGlobal), part: &str) -> Session {
     let alloc = rt.alloc();
-    let mut sessions = Vec::new(alloc);
-    for part in transcript.split("\n\n") {
-        let mut commands = String::new(alloc);
-        let mut wanted = String::new(alloc);
-        for line in part.lines() {
-            match line.strip_prefix("> ") {
-                Some(command) => add_line(rt, command, &mut commands),
-                None => add_line(rt, line, &mut wanted),
-            }
+    let mut commands = String::new(alloc);
+    let mut wanted = String::new(alloc);
+    for line in part.lines() {
+        match line.strip_prefix("> ") {
+            Some(command) => add_line(rt, command, &mut commands),
+            None => add_line(rt, line, &mut wanted),
         }
-        sessions
-            .push(Session { commands, wanted })
-            .expect(rt, "no memory");
     }
-    sessions
+    Session { commands, wanted }
 }
 
 fn add_line(rt: &impl Abort, line: &str, text: &mut String) {
@@ -86,10 +79,11 @@ fn add_line(rt: &impl Abort, line: &str, text: &mut String) {
     text.push('\n').expect(rt, "no memory");
 }
 
-/// Runs the sessions of some transcripts.
+/// Runs the sessions of some transcripts. An empty line ends a session.
 pub(crate) fn expect_sessions(rt: &(impl Abort + AllocGlobal), transcripts: &[&str]) {
     for transcript in transcripts {
-        for session in &sessions_of(rt, transcript) {
+        for part in transcript.split("\n\n") {
+            let session = session_of(rt, part);
             expect(rt, BUDGET, session.commands.as_bytes(), &session.wanted);
         }
     }

@@ -179,32 +179,34 @@ n[0] == n => false
 
 /// Scripts, each with a table of what is asked of the vat then. An abandoned turn binds nothing, and an asked text binds no
 /// top noun.
+const TURNS: &[(&str, &str)] = &[
+    (
+        "def most := 9223372036854775807; def least := -most - 1",
+        INTEGERS,
+    ),
+    ("def pair := [1, 2]; def accented := \"é\"", TEXTS_AND_LISTS),
+    (
+        "def f() { }; def g() { }; def lists := [[1, 2], [1], [1, 3]]",
+        SAMENESS,
+    ),
+    (
+        "var n := 0; def counter { to next() { n := n + 1; return n } to both(a, b) { return [a, b] } }",
+        OBJECTS,
+    ),
+    ("def x := 1; while (true) { }", "x => !undefined noun x"),
+    (
+        "def x := 1; def y := [x, 2]; throw(\"no\")",
+        "def z := y; z => [1, 2]\nz => !undefined noun z",
+    ),
+    (
+        "var t := \"\"; var l := []; var i := 0; while (i < 16) { t := t + t + \"a\"; l := l + l + [0]; i := i + 1 }; var n := null; i := 0; while (i < 64) { n := [n]; i := i + 1 }",
+        LIMITS,
+    ),
+];
+
 #[test]
 fn turns(rt: HostRuntime) {
-    for (script, table) in &[
-        (
-            "def most := 9223372036854775807; def least := -most - 1",
-            INTEGERS,
-        ),
-        ("def pair := [1, 2]; def accented := \"é\"", TEXTS_AND_LISTS),
-        (
-            "def f() { }; def g() { }; def lists := [[1, 2], [1], [1, 3]]",
-            SAMENESS,
-        ),
-        (
-            "var n := 0; def counter { to next() { n := n + 1; return n } to both(a, b) { return [a, b] } }",
-            OBJECTS,
-        ),
-        ("def x := 1; while (true) { }", "x => !undefined noun x"),
-        (
-            "def x := 1; def y := [x, 2]; throw(\"no\")",
-            "def z := y; z => [1, 2]\nz => !undefined noun z",
-        ),
-        (
-            "var t := \"\"; var l := []; var i := 0; while (i < 16) { t := t + t + \"a\"; l := l + l + [0]; i := i + 1 }; var n := null; i := 0; while (i < 64) { n := [n]; i := i + 1 }",
-            LIMITS,
-        ),
-    ] {
+    for (script, table) in TURNS {
         expect_turns(&rt, script, table);
     }
 }
