@@ -92,6 +92,33 @@ write_expr-returns-in-Try t c =
     let is = tree_is_try c.in-Try.body c.in-Try.pattern c.in-Try.handler c.in-Try.is c.deref-in-Try.ensures c.deref-in-Try-2.ensures.value refl c.deref-in-Try-3.ensures c.deref-in-Try-4.ensures.value in
     rw is c.write_try.ensures
 
+pub write_def-returns : goal.write_def-returns
+write_def-returns t c = search (rules, IfOk-equal, append_assoc)
+
+pub write_def_list-returns : goal.write_def_list-returns
+write_def_list-returns t c = search (rules, IfOk-equal, append_assoc)
+
+pub write_assign-returns : goal.write_assign-returns
+write_assign-returns t c = search (rules, IfOk-equal, append_assoc)
+
+pub write_var-returns : goal.write_var-returns
+write_var-returns t c = search (rules, IfOk-equal, append_assoc)
+
+pub write_throw-returns : goal.write_throw-returns
+write_throw-returns t c = search (rules, IfOk-equal, append_assoc)
+
+pub write_object-returns : goal.write_object-returns
+write_object-returns t c = search (rules, IfOk-equal, append_assoc)
+
+pub write_method-returns : goal.write_method-returns
+write_method-returns t c = search (rules, IfOk-equal, append_assoc)
+
+pub write_escape-returns : goal.write_escape-returns
+write_escape-returns t c = search (rules, IfOk-equal, append_assoc)
+
+pub write_bracketed-returns : goal.write_bracketed-returns
+write_bracketed-returns t c = search (rules, IfOk-equal, append_assoc)
+
 pub write_call-returns : goal.write_call-returns
 write_call-returns t c = search (rules, IfOk-equal, append_assoc)
 
