@@ -1,5 +1,5 @@
 -- What the reader gives of a whole by what it gives of the parts.
-use Rattle.std.proofs.Common.{◌≡◌, ◌-◌, ◌≤◌, ℕ, zero, suc, List, true, false, None, Some, Result, Ok, Err, refl, arith}
+use Rattle.std.proofs.Common.{◌≡◌, ◌-◌, ◌<◌, ◌≤◌, ℕ, zero, suc, List, length, Bool, true, false, None, Some, Result, Ok, Err, refl, ap, arith}
 use Rattle.etoken.specs.declared.token.Token.{Token}
 use Rattle.kernele.specs.declared.tree.Expr.{Expr}
 use Rattle.kernele.specs.declared.tree.Pattern.{Pattern}
@@ -11,9 +11,10 @@ use Rattle.esigns.specs.declared.operator.Prefix.{Prefix}
 use Rattle.esigns.specs.Signs.{prefix_operator, comparison_operator}
 use Rattle.esigns.specs.declared.stop.Stop.{Stop}
 use Rattle.esigns.specs.declared.stop.Stop.TheVariants as stop
-use Rattle.eforms.specs.Forms.{joined, prefix_verb, alone, function_tree}
-use Rattle.enodes.specs.Nodes.{Place, given}
-use Rattle.egrammar.specs.Reading.{Within, within_at, rest_of, sign_in, front, is_close, is_at_word, is_else_word, is_if_word, is_catch_word, is_return_word, items_at, args_at, braced_at, condition_at, else_at, if_at, while_at, each_at, for_at, pattern_at, pattern_list_at, name_at, try_at, escape_at, function_at, target_at, expr_at, postfix_at, unary_at, sum_at, comparison_from, disjunction_at}
+use Rattle.eforms.specs.Forms.{joined, prefix_verb, alone, function_tree, block_of}
+use Rattle.enodes.specs.Nodes.{Place, given, MethodTree, method_tree}
+use Rattle.egrammar.specs.Reading.{Within, within_at, rest_of, sign_in, front, is_close, is_at_word, is_else_word, is_if_word, is_catch_word, is_return_word, is_to_word, items_at, args_at, braced_at, condition_at, else_at, if_at, while_at, each_at, for_at, pattern_at, pattern_list_at, name_at, try_at, escape_at, function_at, method_verb_at, method_at, target_at, expr_at, postfix_at, unary_at, sum_at, comparison_from, disjunction_at}
+use Rattle.egrammar.proofs.Steps.{rest_le}
 use Rattle.eparser.specs.declared.reader.Reader.{Reader}
 use Rattle.eparser.specs.View.{Fails, Gives}
 
@@ -88,3 +89,18 @@ module _ (within : Within) where
 
   pub compared_is : (t : Tree) (a b : List Token) {d : List Token} {o : Operator} {u : Tree} → front comparison_operator a ≡ Some o → b ≡ rest_of a → sum_at within b ≡ Some (u, d) → comparison_from within t a ≡ Some (joined o t u, d)
   compared_is t a b e f g = rw (e, ← f, g)
+
+  pub method_is : (a b : List Token) {d e r : List Token} {returns : Bool} {v : Name} {ps : List Pattern} {ts us : Trees} {m : MethodTree} → returns ≡ is_at_word is_to_word a → b ≡ rest_of a
+      → method_verb_at b ≡ Some (v, d) → pattern_list_at bracket.Round d ≡ Some (ps, e) → braced_at within e ≡ Some (ts, r) → us ≡ block_of returns ts → m ≡ method_tree v ps us → method_at within a ≡ Some (m, r)
+  method_is a b e f g h k u w = rw (← e, ← f, g, h, k, w, u)
+
+  pub method_fails : (s : Stop) (a b : List Token) {d e : List Token} {v : Name} {ps : List Pattern} → b ≡ rest_of a → method_verb_at b ≡ Some (v, d) → pattern_list_at bracket.Round d ≡ Some (ps, e) → Fails s (braced_at within e) → Fails s (method_at within a)
+  method_fails stop.Unexpected a b f g h k = rw (← f, g, h, k)
+  method_fails stop.Memory a b f g h k = tt
+
+-- what is left behind parts that follow each other
+pub second_shorter : (a b d : List Token) {n : ℕ} → b ≡ rest_of a → d ≡ rest_of b → n ≤ length d → n ≤ length a
+second_shorter a b d e f h = omega (arith, h, ap length e, ap length f, rest_le a, rest_le b)
+
+pub try_shorter : (b d : List Token) {n k m : ℕ} → length b < n → d ≡ rest_of b → k < length d → m < k → m ≤ n
+try_shorter b d g e h k = omega (arith, g, h, k, ap length e, rest_le b)

@@ -1,4 +1,5 @@
 use Rattle.std.proofs.Common.{rules, arith, length, sym, ap, ◌∙◌}
+use Rattle.std.proofs.Math.Nat.{lt_of_lt_of_le}
 use Rattle.std.proofs.lemmas.Result.{err_from_is_err_and}
 use Rattle.egrammar.proofs.Turns.{turns_here}
 use Rattle.eforms.proofs.Views.{trees_push}
@@ -7,7 +8,7 @@ use Rattle.egrammar.proofs.Steps.{rest_le, front_length, skip-le, operand_more, 
 use Rattle.ids.proofs.Failing.{claims_nothing}
 use Rattle.eparser.proofs.Levels.{first_read, behind_here, behind_read, behind_compared, behind_fails}
 use Rattle.eparser.proofs.Steps.{gives_behind, operand_fails, args_fail, block_part_fails}
-use Rattle.eparser.proofs.Parts.{expression_gives, expression_none, else_if_is, else_if_fails, else_if_none, while_is, args_are, try_is, try_fails, function_is, for_is, escape_is, given_is, prefixed_is, prefixed_fails, compared_is}
+use Rattle.eparser.proofs.Parts.{expression_gives, expression_none, else_if_is, else_if_fails, else_if_none, while_is, args_are, try_is, try_fails, function_is, for_is, escape_is, given_is, prefixed_is, prefixed_fails, compared_is, method_is, method_fails, second_shorter, try_shorter}
 use Rattle.eparser.specs.Levels.{operator_of, level_at, level_from}
 use Rattle.eforms.specs.Forms.{snoc}
 use Rattle.egrammar.specs.Reading.{comparison_from, operand_next, operands_from, postfix_next, within_at}
@@ -260,6 +261,24 @@ pub members-returns-in_err-object-clause-gives : goal.members-returns-in_err-obj
 members-returns-in_err-object-clause-gives t c =
     let k = err_from_is_err_and c.from_residual-in_err-object.result c.from_residual-in_err-object.ensures.1 in
     rw (k.1, k.2) tt
+
+pub second-returns-clause-shorter : goal.second-returns-clause-shorter
+second-returns-clause-shorter t c = second_shorter (plain c.args.self.now.rest.now) (plain c.skip.new.self.rest.now) (plain c.skip-2.new.self.rest.now) c.skip.ensures c.skip-2.ensures c.in_ok-inner.ensures.shorter
+
+pub try_catch-returns-clause-shorter : goal.try_catch-returns-clause-shorter
+try_catch-returns-clause-shorter t c = try_shorter (plain c.braced.new.self.rest.now) (plain c.skip.new.self.rest.now) c.in_ok-body.ensures.shorter c.skip.ensures c.in_ok-pattern.ensures.shorter c.in_ok-handler.ensures.shorter
+
+pub expr-returns-clause-shorter : goal.expr-returns-clause-shorter
+expr-returns-clause-shorter t c = lt_of_lt_of_le c.in_ok-value.ensures.shorter c.in_ok-target.ensures.shorter
+
+pub method-returns-clause-gives : goal.method-returns-clause-gives
+method-returns-clause-gives t c =
+    method_is (within_at c.args.left) (plain c.args.self.now.rest.now) (plain c.skip.new.self.rest.now) c.at_to-returns.ensures c.skip.ensures c.in_ok-verb.ensures.gives c.in_ok-parameters.ensures.gives c.in_ok-body.ensures.gives c.in_ok-body-2.ensures c.in_ok-method.ensures
+
+pub method-returns-in_err-body-clause-gives : goal.method-returns-in_err-body-clause-gives
+method-returns-in_err-body-clause-gives t c =
+    let k = err_from_is_err_and c.from_residual-in_err-body.result c.from_residual-in_err-body.ensures.1 in
+    rw (k.1, k.2) (method_fails (within_at c.args.left) c.in_err-body.field-0.0 (plain c.args.self.now.rest.now) (plain c.skip.new.self.rest.now) c.skip.ensures c.in_ok-verb.ensures.gives c.in_ok-parameters.ensures.gives c.in_err-body.ensures.gives)
 
 -- A step that fails claims nothing of what is left.
 
