@@ -1,12 +1,8 @@
-//! What is read, checked and found in texts, and what vats and commands answer, where memory is ample: tables of texts and texts of commands, each with the answer that is wanted.
+//! What vats and commands answer where memory is ample: tables of texts and texts of commands, each with the answer that is wanted.
 #![tactic(auto)]
 
 #[cfg(test)]
-mod answers;
-#[cfg(test)]
 mod books;
-#[cfg(test)]
-mod checks;
 #[cfg(test)]
 mod control;
 #[cfg(test)]
@@ -16,23 +12,13 @@ mod endings;
 #[cfg(test)]
 mod laws;
 #[cfg(test)]
-mod names;
-#[cfg(test)]
 mod objects;
-#[cfg(test)]
-mod programs;
-#[cfg(test)]
-mod refusals;
 #[cfg(test)]
 mod sessions;
 #[cfg(test)]
 mod steps;
 #[cfg(test)]
 mod tables;
-#[cfg(test)]
-mod texts;
-#[cfg(test)]
-mod tokens;
 #[cfg(test)]
 mod turns;
 #[cfg(test)]

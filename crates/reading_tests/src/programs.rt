@@ -1,7 +1,7 @@
 // What programs are read as: the canonical spelling of the tree.
 
 use crate::answers::Asked;
-use crate::texts::{expect, expect_answer, expect_repeated, repeated};
+use crate::tables::{expect, expect_answer, expect_repeated, repeated};
 
 const PROGRAMS: &str = r#"
  =>

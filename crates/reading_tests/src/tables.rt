@@ -1,8 +1,7 @@
-// Tables of texts and of what is read, checked and found in them. A line of a table is a text, ` =>`, and its answer; the picture of a
+// Tables of texts and of the answers that are wanted. A line of a table is a text, ` =>`, and its answer; the picture of a
 // control character, as ␊ of the line feed, stands for that character. Memory is ample, so where it runs out a test fails.
 
 use crate::answers::{Asked, answer};
-use crate::tables::expect_text;
 use std::alloc::{AllocError, Global};
 use std::process::Abort;
 
@@ -56,6 +55,13 @@ pub(crate) fn expect_answer(
 ) {
     let answered = answer(rt.alloc(), asked, text).expect(rt, "no memory");
     expect_text(rt, text, &answered, wanted);
+}
+
+/// Compares an answer with the one that is wanted, and says what it answers where they differ.
+pub(crate) fn expect_text(rt: &impl Abort, of: &str, answered: &str, wanted: &str) {
+    if answered != wanted {
+        panic!(rt; "{of}\nis answered: {answered}\nand wanted is: {wanted}");
+    }
 }
 
 /// What a line of a table means.

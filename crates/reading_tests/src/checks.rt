@@ -1,7 +1,7 @@
 // What the check says of a program, the names that it defines, and what an object captures.
 
 use crate::answers::Asked;
-use crate::texts::{expect, expect_repeated};
+use crate::tables::{expect, expect_repeated};
 
 const ASKED_TEXTS: &str = r#"
 x => K1 Unbound x

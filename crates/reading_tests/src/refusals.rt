@@ -1,8 +1,7 @@
 // What is no program, and where reading stops.
 
 use crate::answers::Asked;
-use crate::tables::expect_text;
-use crate::texts::{expect, expect_repeated};
+use crate::tables::{expect, expect_repeated, expect_text};
 use ereader::fault::ReadFault;
 use etoken::fault::TokenFault;
 use scopes::CheckFault;

@@ -1,7 +1,7 @@
 // What tokens a text has: each behind its offset.
 
 use crate::answers::Asked;
-use crate::texts::{expect, expect_repeated};
+use crate::tables::{expect, expect_repeated};
 
 const EACH_KIND: &str = r#"
  =>
