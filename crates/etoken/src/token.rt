@@ -3,7 +3,7 @@
 use ids::text::Text;
 
 /// A word of the language that is no name.
-#[derive(Clone, Copy, Debug, PartialEq, Eq)]
+#[derive(Clone, Copy, Debug)]
 pub enum Reserved {
     Def,
     Var,
@@ -27,7 +27,7 @@ pub enum Reserved {
 }
 
 /// A sign of one or two characters.
-#[derive(Clone, Copy, Debug, PartialEq, Eq)]
+#[derive(Clone, Copy, Debug)]
 pub enum Sign {
     OpenRound,
     CloseRound,
