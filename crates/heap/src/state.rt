@@ -56,6 +56,17 @@ impl Made {
     }
 }
 
+/// What a state holds.
+#[derive(Clone, Copy)]
+pub struct Contents<'a> {
+    /// The top nouns with what they stand for, in order of bytes.
+    pub nouns: &'a BTreeMap<Text, Binding>,
+    /// The slots with what they hold, in order of their names.
+    pub slots: &'a BTreeMap<SlotId, Value>,
+    /// The objects with what they are, in order of their names.
+    pub objects: &'a BTreeMap<ObjId, Made>,
+}
+
 /// A vat's state: what its top nouns stand for, what its variables' slots hold, and what its objects are.
 pub struct VatState {
     alloc: Global,
@@ -155,25 +166,17 @@ impl VatState {
         })
     }
 
-    /// The top nouns with what they stand for, in order of bytes.
-    pub fn nouns(&self) -> &BTreeMap<Text, Binding>
-        ensures { (x : Name) → tops_of result.now x ≡ read (state_of self.now) (top x) }
+    /// All that it holds.
+    pub fn contents(&self) -> Contents<'_>
+        ensures nouns { (x : Name) → tops_of result.nouns.now x ≡ read (state_of self.now) (top x) }
+        ensures slots { (i : SlotId) → slots_of result.slots.now i ≡ read (state_of self.now) (slot_cell i) }
+        ensures objects { (i : ObjId) → objects_of result.objects.now i ≡ read (state_of self.now) (object_cell i) }
     {
-        &self.nouns
-    }
-
-    /// The slots with what they hold, in order of their names.
-    pub fn slots(&self) -> &BTreeMap<SlotId, Value>
-        ensures { (i : SlotId) → slots_of result.now i ≡ read (state_of self.now) (slot_cell i) }
-    {
-        &self.slots
-    }
-
-    /// The objects with what they are, in order of their names.
-    pub fn objects(&self) -> &BTreeMap<ObjId, Made>
-        ensures { (i : ObjId) → objects_of result.now i ≡ read (state_of self.now) (object_cell i) }
-    {
-        &self.objects
+        Contents {
+            nouns: &self.nouns,
+            slots: &self.slots,
+            objects: &self.objects,
+        }
     }
 
     /// What new values of this vat are allocated with.

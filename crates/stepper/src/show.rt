@@ -113,9 +113,10 @@ fn write_home(number: VatNo, home: &Home, out: &mut String) -> Result<(), AllocE
     ensures { OnOk result (HomeWritten number home.now (string_bytes out.old) (string_bytes out.new)) }
 {
     write_vat(number, &home.name, out)?;
-    write_nouns(home.state.nouns(), out)?;
-    write_slots(home.state.slots(), out)?;
-    write_objects(home.state.objects(), out)?;
+    let contents = home.state.contents();
+    write_nouns(contents.nouns, out)?;
+    write_slots(contents.slots, out)?;
+    write_objects(contents.objects, out)?;
     Ok(())
 }
 
@@ -196,8 +197,9 @@ fn write_board(board: &BTreeMap<PromId, Value>, out: &mut String) -> Result<(), 
 pub(crate) fn write_world(world: &World, out: &mut String) -> Result<(), AllocError>
     ensures { OnOk result ((text : List ℕ) × Shows (world_of world.now) text × (string_bytes out.new ≡ string_bytes out.old ++ text)) }
 {
-    write_homes(world.homes(), out)?;
-    write_messages(world.messages(), world, out)?;
-    write_board(world.board(), out)?;
+    let contents = world.contents();
+    write_homes(contents.homes, out)?;
+    write_messages(contents.messages, world, out)?;
+    write_board(contents.board, out)?;
     Ok(())
 }

@@ -104,7 +104,7 @@ impl Verb {
     }
 
     /// The verb of data that it is, if it is one.
-    pub fn word(&self) -> Option<Word>
+    pub(crate) fn word(&self) -> Option<Word>
         ensures { result ≡ word_of self.now }
     {
         self.word

@@ -57,6 +57,17 @@ pub struct Message {
     pub place: Place,
 }
 
+/// What a world holds of its vats, messages and promises.
+#[derive(Clone, Copy)]
+pub struct Contents<'a> {
+    /// The vats' names and states, in order of birth.
+    pub homes: &'a BTreeMap<VatNo, Home>,
+    /// The messages, in order of their names.
+    pub messages: &'a BTreeMap<MsgId, Message>,
+    /// What was published, in order of the promises.
+    pub board: &'a BTreeMap<PromId, Value>,
+}
+
 /// All cells, by what they hold.
 pub struct World {
     vats: BTreeMap<Text, Vat>,
@@ -252,24 +263,16 @@ impl World {
         Ok(())
     }
 
-    /// The vats' names and states, in order of birth.
-    pub fn homes(&self) -> &BTreeMap<VatNo, Home>
-        ensures { (v : VatNo) → option_map home_of (get vat_cmp result.now v) ≡ world_of self.now (key.State v) }
+    /// All that it holds.
+    pub fn contents(&self) -> Contents<'_>
+        ensures homes { (v : VatNo) → option_map home_of (get vat_cmp result.homes.now v) ≡ world_of self.now (key.State v) }
+        ensures messages { (m : MsgId) → option_map (λ g. message (message_of g)) (get message_cmp result.messages.now m) ≡ world_of self.now (key.Msg m) }
+        ensures board { (p : PromId) → option_map (λ v. published (val_of v)) (get promise_cmp result.board.now p) ≡ world_of self.now (key.Board p) }
     {
-        &self.homes
-    }
-
-    /// The messages, in order of their names.
-    pub fn messages(&self) -> &BTreeMap<MsgId, Message>
-        ensures { (m : MsgId) → option_map (λ g. message (message_of g)) (get message_cmp result.now m) ≡ world_of self.now (key.Msg m) }
-    {
-        &self.messages
-    }
-
-    /// What was published, in order of the promises.
-    pub fn board(&self) -> &BTreeMap<PromId, Value>
-        ensures { (p : PromId) → option_map (λ v. published (val_of v)) (get promise_cmp result.now p) ≡ world_of self.now (key.Board p) }
-    {
-        &self.board
+        Contents {
+            homes: &self.homes,
+            messages: &self.messages,
+            board: &self.board,
+        }
     }
 }
