@@ -2,13 +2,13 @@
 use Rattle.std.proofs.Common.{◌≡◌, List, true, false, Some, None, refl, ap, subst}
 use Rattle.etoken.specs.declared.token.Token.{Token}
 use Rattle.kernele.specs.Tree.{Tree}
-use Rattle.esigns.specs.Signs.{product_operator}
+use Rattle.esigns.specs.Signs.{operator_of, product_operator}
 use Rattle.egrammar.specs.Reading.{or_else, Within, unary_at, operands_from, comparison_from}
 use Rattle.esigns.specs.declared.stop.Stop.{Stop}
 use Rattle.esigns.specs.declared.stop.Stop.TheVariants as stop
-use Rattle.eparser.specs.declared.level.Level.{Level}
-use Rattle.eparser.specs.declared.level.Level.TheVariants as level
-use Rattle.eparser.specs.Levels.{tighter, joins_two, operator_of, level_at, level_from}
+use Rattle.esigns.specs.declared.operator.Level.{Level}
+use Rattle.esigns.specs.declared.operator.Level.TheVariants as level
+use Rattle.eparser.specs.Levels.{tighter, joins_two, level_at, level_from}
 use Rattle.eparser.specs.View.{Fails}
 
 -- the level of its operands, where there is one

@@ -1,13 +1,11 @@
 -- What the operators of one level between two operands read.
 use Rattle.std.specs.Prelude.{Bool, true, false, ℕ, List, Option, Some, None}
 use Rattle.etoken.specs.declared.token.Token.{Token}
-use Rattle.etoken.specs.declared.token.Sign as signs
 use Rattle.kernele.specs.Tree.{Tree}
-use Rattle.esigns.specs.declared.operator.Operator.{Operator}
-use Rattle.esigns.specs.Signs.{product_operator, sum_operator, comparison_operator, and_operator, or_operator}
+use Rattle.esigns.specs.Signs.{product_operator}
 use Rattle.egrammar.specs.Reading.{Read, Within, operands_from, unary_at, product_at, sum_at, comparison_at, conjunction_at, disjunction_at, sums_from, comparisons_from, conjunctions_from, disjunctions_from}
-use Rattle.eparser.specs.declared.level.Level.{Level}
-use Rattle.eparser.specs.declared.level.Level.TheVariants as level
+use Rattle.esigns.specs.declared.operator.Level.{Level}
+use Rattle.esigns.specs.declared.operator.Level.TheVariants as level
 
 -- the level of its operands
 abbrev pub tighter : Level → Option Level
@@ -31,14 +29,6 @@ rank level.Unary = 0
 abbrev pub joins_two : Level → Bool
 joins_two level.Comparison = true
 joins_two _ = false
-
-abbrev pub operator_of : Level → signs.Sign → Option Operator
-operator_of level.Disjunction = or_operator
-operator_of level.Conjunction = and_operator
-operator_of level.Comparison = comparison_operator
-operator_of level.Sum = sum_operator
-operator_of level.Product = product_operator
-operator_of level.Unary = λ s. None
 
 -- operands and the operators between them
 abbrev pub level_at : Level → Within → List Token → Read Tree

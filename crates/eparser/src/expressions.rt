@@ -4,14 +4,15 @@ ghost use Rattle.std.specs.Prelude.{◌≡◌, OnOk};
 ghost use Rattle.kernele.specs.View.{tree_of};
 ghost use Rattle.egrammar.specs.Reading as reading;
 ghost use Rattle.egrammar.specs.Reading.{within_at};
-ghost use Rattle.eparser.specs.Levels.{operator_of, level_at, level_from};
+ghost use Rattle.esigns.specs.Signs.{operator_of};
+ghost use Rattle.eparser.specs.Levels.{level_at, level_from};
 ghost use Rattle.eparser.specs.View.{Advances, IsNoLonger, Gives, GivesPlain};
 
-use crate::level::Level;
+use crate::level::{joins_two, tighter};
 use crate::reader::Reader;
 use eforms::operators;
 use enodes::nodes;
-use esigns::operator::{Bracket, Link};
+use esigns::operator::{Bracket, Level, Link};
 use esigns::stop::Stop;
 use ids::text::Text;
 use kernele::tree::Expr;
@@ -72,11 +73,11 @@ impl<'a> Reader<'a> {
         ensures gives { Gives result self.old self.new (level_from level (within_at left) (tree_of first)) }
         ensures shorter { OnOk result (IsNoLonger self.old self.new) }
     {
-        let Some(tighter) = level.tighter() else {
+        let Some(tighter) = tighter(level) else {
             return Ok(first);
         };
         let operand = self.operands_from(left, tighter, first)?;
-        if level.joins_two() {
+        if joins_two(level) {
             return self.comparison_from(left, operand);
         }
         self.joined_from(left, level, tighter, operand)

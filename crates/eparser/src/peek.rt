@@ -1,15 +1,13 @@
 // What stands in front of a reader.
 ghost use Rattle.std.specs.Prelude.{◌≡◌};
-ghost use Rattle.esigns.specs.Signs.{prefix_operator, link_of};
+ghost use Rattle.esigns.specs.Signs.{link_of, operator_of, prefix_operator};
 ghost use Rattle.egrammar.specs.Reading as reading;
 ghost use Rattle.egrammar.specs.Reading.{front, sign_in};
 ghost use Rattle.egrammar.specs.View.{plain};
-ghost use Rattle.eparser.specs.Levels.{operator_of};
 ghost use Rattle.eparser.specs.View.{left_of, word_in};
 
-use crate::level::Level;
 use crate::reader::Reader;
-use esigns::operator::{Bracket, Link, Operator, Prefix};
+use esigns::operator::{Bracket, Level, Link, Operator, Prefix};
 use etoken::token::{Placed, Reserved, Sign, Token};
 
 /// The sign that the first token is.

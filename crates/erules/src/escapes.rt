@@ -1,5 +1,5 @@
 // Escapes: ejectors are made, end their Escape, and are spent behind it.
-ghost use Rattle.std.specs.Prelude.{◌≡◌, ◌<◌, ◌+◌, IfOk, length, take};
+ghost use Rattle.std.specs.Prelude.{◌≡◌, ◌<◌, ◌+◌, IfOk, take};
 ghost use Rattle.std.specs.Option.{option_map};
 ghost use Rattle.values.specs.View.{val_of, vals_of};
 ghost use Rattle.erules.specs.Rules.{next_ejector, escaping, escape_end as escape_end_of, is_open as is_open_of, ejects, given as given_of, ejector_end as ejector_end_of};
@@ -25,13 +25,6 @@ pub fn open_escape(w: &mut Working) -> Result<EjId, AllocError>
     w.opened.push(ejector)?;
     w.ejectors += 1;
     Ok(ejector)
-}
-
-/// How many Escapes are being evaluated.
-pub fn count_open(w: &Working) -> usize
-    ensures { result ≡ length w.now.opened.items }
-{
-    w.opened.len()
 }
 
 /// Ends the Escapes that were begun since there were so many: their ejectors are spent.

@@ -107,9 +107,15 @@ pub fn items_of(alloc: Global, ended: End) -> Result<Listing, AllocError>
 pub fn thrown(alloc: Global, value: &Value) -> Result<End, AllocError>
     ensures { IfOk result (λ o. end_of o ≡ thrown_end (value_end (val_of value.now))) }
 {
-    match value.as_text() {
-        Some(problem) => Ok(End::Halt(Halt::Thrown(problem.share()?))),
-        None => mismatch(alloc, "not a text", value),
+    match value {
+        Value::Text(problem) => Ok(End::Halt(Halt::Thrown(problem.share()?))),
+        Value::Null
+        | Value::Bool(_)
+        | Value::Int(_)
+        | Value::List(_)
+        | Value::Object(_)
+        | Value::Ejector(_)
+        | Value::Broken(_) => mismatch(alloc, "not a text", value),
     }
 }
 

@@ -4,6 +4,8 @@ use Rattle.etoken.specs.declared.token.Sign as signs
 use Rattle.etoken.specs.declared.token.Sign.TheVariants as sign
 use Rattle.esigns.specs.declared.operator.Operator.{Operator}
 use Rattle.esigns.specs.declared.operator.Operator.TheVariants as operator
+use Rattle.esigns.specs.declared.operator.Level.{Level}
+use Rattle.esigns.specs.declared.operator.Level.TheVariants as level
 use Rattle.esigns.specs.declared.operator.Prefix.{Prefix}
 use Rattle.esigns.specs.declared.operator.Prefix.TheVariants as prefix
 use Rattle.esigns.specs.declared.operator.Link.{Link}
@@ -42,6 +44,15 @@ and_operator _ = None
 abbrev pub or_operator : signs.Sign → Option Operator
 or_operator sign.Or = Some operator.Or
 or_operator _ = None
+
+-- the operators of a level
+abbrev pub operator_of : Level → signs.Sign → Option Operator
+operator_of level.Disjunction = or_operator
+operator_of level.Conjunction = and_operator
+operator_of level.Comparison = comparison_operator
+operator_of level.Sum = sum_operator
+operator_of level.Product = product_operator
+operator_of level.Unary = λ s. None
 
 -- what stands before an operand
 abbrev pub prefix_operator : signs.Sign → Option Prefix

@@ -1,6 +1,6 @@
 // Signs, by what they stand for where they stand.
 ghost use Rattle.std.specs.Prelude.{◌≡◌, IfOk};
-ghost use Rattle.esigns.specs.Signs.{and_operator, comparison_operator, or_operator, prefix_operator, product_operator, sum_operator, closer, link_of, verb_of};
+ghost use Rattle.esigns.specs.Signs.{closer, link_of, operator_of, prefix_operator, verb_of};
 
 use etoken::token::Sign;
 use ids::text::Text;
@@ -23,61 +23,52 @@ pub enum Operator {
     Or,
 }
 
-impl Operator {
-    /// The operator that a sign is between two operands of a product.
-    pub fn of_product(sign: Sign) -> Option<Operator>
-        ensures { result ≡ product_operator sign }
-    {
-        match sign {
-            Sign::Times => Some(Operator::Multiply),
-            Sign::Divide => Some(Operator::FloorDivide),
-            _ => None,
-        }
-    }
+/// How tightly operators between two operands bind: each level's operands are those of the level behind it here.
+#[derive(Clone, Copy)]
+pub enum Level {
+    Disjunction,
+    Conjunction,
+    Comparison,
+    Sum,
+    Product,
+    /// No operator between two operands.
+    Unary,
+}
 
-    /// The operator that a sign is between two products.
-    pub fn of_sum(sign: Sign) -> Option<Operator>
-        ensures { result ≡ sum_operator sign }
+impl Level {
+    /// The operator of the level that a sign is between two operands, if it is one.
+    pub fn operator(self, sign: Sign) -> Option<Operator>
+        ensures { result ≡ operator_of self sign }
     {
-        match sign {
-            Sign::Plus => Some(Operator::Add),
-            Sign::Minus => Some(Operator::Subtract),
-            _ => None,
-        }
-    }
-
-    /// The operator that a sign is between two sums.
-    pub fn of_comparison(sign: Sign) -> Option<Operator>
-        ensures { result ≡ comparison_operator sign }
-    {
-        match sign {
-            Sign::Equal => Some(Operator::Same),
-            Sign::NotEqual => Some(Operator::Differ),
-            Sign::Less => Some(Operator::LessThan),
-            Sign::AtMost => Some(Operator::AtMost),
-            Sign::More => Some(Operator::MoreThan),
-            Sign::AtLeast => Some(Operator::AtLeast),
-            _ => None,
-        }
-    }
-
-    /// The operator that a sign is between two comparisons.
-    pub fn of_conjunction(sign: Sign) -> Option<Operator>
-        ensures { result ≡ and_operator sign }
-    {
-        match sign {
-            Sign::And => Some(Operator::And),
-            _ => None,
-        }
-    }
-
-    /// The operator that a sign is between two conjunctions.
-    pub fn of_disjunction(sign: Sign) -> Option<Operator>
-        ensures { result ≡ or_operator sign }
-    {
-        match sign {
-            Sign::Or => Some(Operator::Or),
-            _ => None,
+        match self {
+            Level::Disjunction => match sign {
+                Sign::Or => Some(Operator::Or),
+                _ => None,
+            },
+            Level::Conjunction => match sign {
+                Sign::And => Some(Operator::And),
+                _ => None,
+            },
+            Level::Comparison => match sign {
+                Sign::Equal => Some(Operator::Same),
+                Sign::NotEqual => Some(Operator::Differ),
+                Sign::Less => Some(Operator::LessThan),
+                Sign::AtMost => Some(Operator::AtMost),
+                Sign::More => Some(Operator::MoreThan),
+                Sign::AtLeast => Some(Operator::AtLeast),
+                _ => None,
+            },
+            Level::Sum => match sign {
+                Sign::Plus => Some(Operator::Add),
+                Sign::Minus => Some(Operator::Subtract),
+                _ => None,
+            },
+            Level::Product => match sign {
+                Sign::Times => Some(Operator::Multiply),
+                Sign::Divide => Some(Operator::FloorDivide),
+                _ => None,
+            },
+            Level::Unary => None,
         }
     }
 }

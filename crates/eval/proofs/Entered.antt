@@ -1,6 +1,7 @@
 -- From the rules of calls and of Escapes to what the program's functions ensure.
-use Rattle.std.proofs.Common.{◌≡◌, ℕ, ◌+◌, Bool, List, length, take, subst, sym, ap, ◌∙◌}
-use Rattle.std.specs.Prelude.{Result, Ok, Err, IfOk}
+use Rattle.std.proofs.Common.{◌≡◌, ℕ, ◌+◌, Bool, List, length, take, subst, sym, ap, ◌∙◌, rules}
+use Rattle.std.specs.Prelude.{Result, Ok, Err, IfOk, Vec, vec_len}
+use Rattle.std.specs.declared.alloc.Global.{Global}
 use Rattle.ids.specs.declared.names.EjId.{EjId}
 use Rattle.kernele.specs.Tree.{Name, Tree, Trees, call, escape_tree}
 use Rattle.code.specs.View.{trees_of_codes}
@@ -31,6 +32,10 @@ entered {k = k} {ts = ts} {o = o} d ns w u {b = b} e f q r h = (at u, subst (λ 
 pub call_entered : {k : ℕ} {r : Tree} {verb : Name} {args : Trees} {a b c z : At} {v : Val} {g : Gather} {ns : Nouns} {body : Trees} {o : End} → Ends (k + 1) r a (value v) b → Args (k + 1) args b g c → target_of v verb g c ≡ enters ns body
     → Enters (k + 1) body ns c o z → Runs k (call r verb args) a o z
 call_entered {k = k} {r = r} {verb = verb} {args = args} {a = a} {o = o} p u e h = subst (λ z. Runs k (call r verb args) a o z) (sym h.2) (run_call_enters p u e h.1)
+
+-- as many Escapes are being evaluated as their vector says
+pub as_many : (opened : Vec EjId Global) {n : ℕ} → n ≡ vec_len opened → n ≡ length opened.items
+as_many opened e = search rules
 
 -- an Escape is over
 pub escape_over : {k : ℕ} {ts : Trees} {o p : End} (x : Name) (xs : List Code) (w u : Working) {q : Pattern} {j : EjId} {b z : At} {n : ℕ} → n ≡ length w.opened.items → j ≡ next_ejector (at w) → b ≡ escaping (at w) → q ≡ pattern.Name x → trees_of_codes xs ≡ ts

@@ -21,7 +21,7 @@ use eobjects::objects::Target;
 use eobjects::quick::quick_value;
 use erules::end::End;
 use erules::entry::Entry;
-use erules::escapes::{close_escape, count_open, escape_end, open_escape};
+use erules::escapes::{close_escape, escape_end, open_escape};
 use erules::working::Working;
 use ids::text::Text;
 use kernele::tree::Pattern;
@@ -150,7 +150,7 @@ pub(crate) fn eval_escape(
     ensures { IfOk result (λ o. Runs level (escape_tree name.now (trees_of_codes body.now.value.items))
         (at w.old) (end_of o) (at w.new)) }
 {
-    let outer = count_open(w);
+    let outer = w.opened.len();
     let ejector = open_escape(w)?;
     let pattern = Pattern::Name(name.share()?);
     let ended = eval_taking(w, &pattern, &Value::Ejector(ejector), body, level + 1)?;

@@ -42,13 +42,6 @@ impl Ticket<Out> {
         Ticket { stage: turn }
     }
 
-    /// What is carried.
-    pub fn carried(&self) -> &Out
-        ensures { result.now ≡ self.now.stage }
-    {
-        &self.stage
-    }
-
     /// Runs the turn. For want of memory the ticket comes back as it was.
     pub fn run(self) -> Result<Ticket<Ran>, (Ticket<Out>, AllocError)>
         ensures ok { IfOk result (λ t. t.stage.carried ≡ self.stage) }
@@ -74,13 +67,6 @@ impl Ticket<Out> {
 }
 
 impl Ticket<Ran> {
-    /// What was carried: the ticket's event, its message, its vat, and the state that the turn began with.
-    pub fn carried(&self) -> &Out
-        ensures { result.now ≡ self.now.stage.carried }
-    {
-        &self.stage.carried
-    }
-
     /// What the turn left.
     pub fn outcome(&self) -> &Outcome
         ensures { result.now ≡ self.now.stage.outcome }

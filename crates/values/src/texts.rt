@@ -61,9 +61,15 @@ fn characters(text: &str) -> usize
 fn text_add(alloc: Global, text: &str, argument: &Value) -> Result<Answer, AllocError>
     ensures { IfOk result (λ a. reply_of a ≡ add_reply text.now (val_of argument.now)) }
 {
-    match argument.as_text() {
-        Some(more) => joined_text(alloc, text, more.as_str()),
-        None => wrong_argument(alloc, argument),
+    match argument {
+        Value::Text(more) => joined_text(alloc, text, more.as_str()),
+        Value::Null
+        | Value::Bool(_)
+        | Value::Int(_)
+        | Value::List(_)
+        | Value::Object(_)
+        | Value::Ejector(_)
+        | Value::Broken(_) => wrong_argument(alloc, argument),
     }
 }
 

@@ -1,7 +1,7 @@
 // Values, shared and never changed.
 ghost use Rattle.std.specs.Prelude.{◌≡◌, IfOk};
 ghost use Rattle.std.specs.Option.{option_map};
-ghost use Rattle.values.specs.Replies.{int_in, text_in, items_in};
+ghost use Rattle.values.specs.Replies.{int_in, items_in};
 ghost use Rattle.values.specs.View.{val_of, vals_of};
 
 use ids::names::{EjId, ObjId};
@@ -58,22 +58,6 @@ impl Value {
             Value::Null
             | Value::Bool(_)
             | Value::Text(_)
-            | Value::List(_)
-            | Value::Object(_)
-            | Value::Ejector(_)
-            | Value::Broken(_) => { None }
-        }
-    }
-
-    /// The text that it is.
-    pub fn as_text(&self) -> Option<&Text>
-        ensures { option_map (λ s. s.now) result ≡ text_in (val_of self.now) }
-    {
-        match self {
-            Value::Text(text) => Some(text),
-            Value::Null
-            | Value::Bool(_)
-            | Value::Int(_)
             | Value::List(_)
             | Value::Object(_)
             | Value::Ejector(_)

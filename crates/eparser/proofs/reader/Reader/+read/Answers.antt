@@ -3,13 +3,13 @@ use Rattle.std.proofs.Math.Nat.{lt_of_lt_of_le}
 use Rattle.std.proofs.lemmas.Result.{err_from_is_err_and}
 use Rattle.egrammar.proofs.Turns.{turns_here}
 use Rattle.eforms.proofs.Views.{trees_push}
-use Rattle.esigns.specs.Signs.{link_of}
+use Rattle.esigns.specs.Signs.{link_of, operator_of}
 use Rattle.egrammar.proofs.Steps.{rest_le, front_length, skip-le, operand_more, operand_end, postfix_more, postfix_end, commas_more, commas_end, block_begin, block_more, block_end, methods_push, methods_begin, methods_more, methods_end}
 use Rattle.ids.proofs.Failing.{claims_nothing}
 use Rattle.eparser.proofs.Levels.{first_read, behind_here, behind_read, behind_compared, behind_fails}
 use Rattle.eparser.proofs.Steps.{gives_behind, operand_fails, args_fail, block_part_fails}
 use Rattle.eparser.proofs.Parts.{expression_gives, expression_none, else_if_is, else_if_fails, else_if_none, while_is, args_are, try_is, try_fails, function_is, for_is, escape_is, given_is, prefixed_is, prefixed_fails, compared_is, method_is, method_fails, second_shorter, try_shorter}
-use Rattle.eparser.specs.Levels.{operator_of, level_at, level_from}
+use Rattle.eparser.specs.Levels.{level_at, level_from}
 use Rattle.eforms.specs.Forms.{snoc}
 use Rattle.egrammar.specs.Reading.{comparison_from, operand_next, operands_from, postfix_next, within_at}
 use Rattle.egrammar.specs.View.{plain}

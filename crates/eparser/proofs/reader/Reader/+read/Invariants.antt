@@ -4,7 +4,8 @@ use Rattle.egrammar.specs.Reading.{within_at, operand_next, operands_from, postf
 use Rattle.egrammar.specs.View.{plain}
 use Rattle.kernele.specs.View.{tree_of, trees_of, methods_of}
 use Rattle.egrammar.proofs.Turns.{Turns}
-use Rattle.eparser.specs.Levels.{rank, operator_of, level_at}
+use Rattle.esigns.specs.Signs.{operator_of}
+use Rattle.eparser.specs.Levels.{rank, level_at}
 use Rattle.eparser.proofs.reader.Reader.+read.Given as goal
 
 abbrev pub decreases-expression : goal.decreases-expression
