@@ -22,22 +22,20 @@ pub enum Parsed<'a> {
     Stop(Ended),
 }
 
-fn budget<'a>(alloc: Global) -> Arg<'a> {
-    Arg::new(alloc, "budget")
-        .long("budget")
+/// An option that is a number from 1 on.
+fn numbered<'a>(
+    alloc: Global,
+    name: &'a str,
+    most: i64,
+    otherwise: &'a str,
+    help: &'a str,
+) -> Arg<'a> {
+    Arg::new(alloc, name)
+        .long(name)
         .value_name("N")
-        .value_parser(value_parser!(u32).range(1..=1_000_000))
-        .default_value("10000")
-        .help("The most steps of a turn, 1 to 1,000,000")
-}
-
-fn workers<'a>(alloc: Global) -> Arg<'a> {
-    Arg::new(alloc, "workers")
-        .long("workers")
-        .value_name("N")
-        .value_parser(value_parser!(u32).range(1..=64))
-        .default_value("8")
-        .help("The most workers that a command may start, 1 to 64")
+        .value_parser(value_parser!(u32).range(1..=most))
+        .default_value(otherwise)
+        .help(help)
 }
 
 fn file<'a>(alloc: Global) -> Arg<'a> {
@@ -47,10 +45,24 @@ fn file<'a>(alloc: Global) -> Arg<'a> {
 }
 
 fn command<'a>(alloc: Global) -> Result<Command<'a>, AllocError> {
+    let budget = numbered(
+        alloc,
+        "budget",
+        1_000_000,
+        "10000",
+        "The most steps of a turn, 1 to 1,000,000",
+    );
+    let workers = numbered(
+        alloc,
+        "workers",
+        64,
+        "8",
+        "The most workers that a command may start, 1 to 64",
+    );
     Command::new(alloc, "evats")
         .about("Runs programs of communicating event-loop vats: one reply for each command")
-        .arg(budget(alloc))?
-        .arg(workers(alloc))?
+        .arg(budget)?
+        .arg(workers)?
         .arg(file(alloc))
 }
 
