@@ -4,7 +4,8 @@ use Rattle.std.specs.Prelude.{◌||◌, ◌&&◌, not}
 use Rattle.std.specs.List.{filter, AllByRecursion}
 use Rattle.ids.specs.declared.names.EventName.{EventName}
 use Rattle.journal.specs.Journal.{Line, chosen, is_entered, undone_in, redone_in, live_events, rest_of, Closed}
-use Rattle.causality.specs.Selections.{least_missing, first_undone, first_gap, first_live, same_set}
+use Rattle.journal.specs.declared.entry.Mark.TheVariants as mark
+use Rattle.causality.specs.Selections.{least_missing, first_marked, first_gap, same_set}
 use Rattle.causality.proofs.Sets.{not_mapped, all_entered, all_live, all_undone, all_closed}
 use Rattle.book.specs.Books.{Book}
 use Rattle.book.specs.Refusals.{no_event, not_live, still_live, not_next, gap_refusal, missing_refusal, undone_refusal, live_refusal, undo_refusal, redo_refusal}
@@ -14,8 +15,8 @@ use Rattle.book.proofs.Refused.{neither}
 none_missing : (lines : List Line) (names : List EventName) → missing_refusal names lines ≡ None → least_missing names lines ≡ None
 none_missing lines names e = not_mapped no_event (least_missing names lines) e
 
-none_undone : (lines : List Line) (names : List EventName) → undo_refusal lines names ≡ None → first_undone names lines ≡ None
-none_undone lines names e = not_mapped not_live (first_undone names lines) (neither (undone_refusal names lines) _ (neither (missing_refusal names lines) _ e).1).0
+none_undone : (lines : List Line) (names : List EventName) → undo_refusal lines names ≡ None → first_marked mark.Undone names lines ≡ None
+none_undone lines names e = not_mapped not_live (first_marked mark.Undone names lines) (neither (undone_refusal names lines) _ (neither (missing_refusal names lines) _ e).1).0
 
 none_open : (lines : List Line) (names : List EventName) → undo_refusal lines names ≡ None → first_gap names lines ≡ None
 none_open lines names e = not_mapped gap_refusal (first_gap names lines) (neither (undone_refusal names lines) _ (neither (missing_refusal names lines) _ e).1).1
@@ -30,7 +31,7 @@ chosen_live lines names e = all_live lines names (none_undone lines names e)
 
 -- what may be redone is undone
 pub chosen_undone : (lines : List Line) (names : List EventName) → live_refusal names lines ≡ None → AllByRecursion (λ l. chosen names l ≡ true → l.live ≡ false) lines
-chosen_undone lines names e = all_undone lines names (not_mapped still_live (first_live names lines) e)
+chosen_undone lines names e = all_undone lines names (not_mapped still_live (first_marked mark.Live names lines) e)
 
 -- what may be undone has all that came of it
 pub closed : (lines : List Line) (names : List EventName) → undo_refusal lines names ≡ None → Closed names lines

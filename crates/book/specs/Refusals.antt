@@ -12,7 +12,8 @@ use Rattle.world.specs.declared.ready.Unready.{Unready}
 use Rattle.world.specs.declared.ready.Unready.TheVariants as why
 use Rattle.journal.specs.Journal.{Line}
 use Rattle.causality.specs.declared.selection.Gap.{Gap}
-use Rattle.causality.specs.Selections.{least_missing, first_undone, first_live, first_gap, same_set}
+use Rattle.journal.specs.declared.entry.Mark.TheVariants as mark
+use Rattle.causality.specs.Selections.{least_missing, first_marked, first_gap, same_set}
 use Rattle.book.specs.Books.{Book}
 
 -- why a call is refused
@@ -80,11 +81,11 @@ missing_refusal names lines = option_map no_event (least_missing names lines)
 
 -- an event that is undone
 abbrev pub undone_refusal : List EventName → List Line → Option Refusal
-undone_refusal names lines = option_map not_live (first_undone names lines)
+undone_refusal names lines = option_map not_live (first_marked mark.Undone names lines)
 
 -- an event that is live
 abbrev pub live_refusal : List EventName → List Line → Option Refusal
-live_refusal names lines = option_map still_live (first_live names lines)
+live_refusal names lines = option_map still_live (first_marked mark.Live names lines)
 
 abbrev pub gap_refusal : Gap → Refusal
 gap_refusal gap = not_closed gap.event gap.consequence

@@ -24,7 +24,7 @@ use crate::rerun::plain_run;
 use crate::undoing::{check_redo, check_undo, cone};
 use ids::names::{EventName, MsgId, VatNo};
 use ids::text::Text;
-use journal::entry::{Entry, count_of};
+use journal::entry::{Entry, Mark, count_of};
 use journal::journal::Journal;
 use kernele::tree::Program;
 use scopes::{CheckFault, Outer, check};
@@ -269,7 +269,7 @@ impl Book {
         }
         let redoable = Vec::from_slice(self.alloc, events)?;
         let count = count_of(self.journal.entries(), events);
-        self.journal.undo(events);
+        self.journal.mark(events, Mark::Undone);
         match plain_run(self.alloc, self.journal.entries()) {
             Ok(world) => {
                 self.world = world;
@@ -277,7 +277,7 @@ impl Book {
                 Ok(count)
             }
             Err(StepFault::Memory) => {
-                self.journal.redo(events);
+                self.journal.mark(events, Mark::Live);
                 Err(BookFault::Memory)
             }
             Err(StepFault::Impossible) => unreachable!(),
@@ -298,7 +298,7 @@ impl Book {
             return Ok(0);
         }
         let count = count_of(self.journal.entries(), events);
-        self.journal.redo(events);
+        self.journal.mark(events, Mark::Live);
         match plain_run(self.alloc, self.journal.entries()) {
             Ok(world) => {
                 self.world = world;
@@ -306,7 +306,7 @@ impl Book {
                 Ok(count)
             }
             Err(StepFault::Memory) => {
-                self.journal.undo(events);
+                self.journal.mark(events, Mark::Undone);
                 Err(BookFault::Memory)
             }
             Err(StepFault::Impossible) => unreachable!(),

@@ -8,9 +8,9 @@ ghost use Rattle.book.specs.Refusals.{first, missing_refusal, undone_refusal, li
 
 use crate::fault::BookFault;
 use causality::cone;
-use causality::selection::{are_same, first_gap, first_live, first_undone, least_missing};
+use causality::selection::{are_same, first_gap, first_marked, least_missing};
 use ids::names::EventName;
-use journal::entry::Entry;
+use journal::entry::{Entry, Mark};
 use std::alloc::Global;
 
 /// The events are in the journal.
@@ -29,7 +29,7 @@ fn check_live(entries: &[Entry], names: &[EventName]) -> Result<(), BookFault>
     ensures ok { OnOk result (undone_refusal names.now (lines_of entries.now) ≡ None) }
     ensures err { IfErr result (λ fault. Tells fault (undone_refusal names.now (lines_of entries.now))) }
 {
-    match first_undone(entries, names) {
+    match first_marked(entries, names, Mark::Undone) {
         Some(name) => Err(BookFault::NotLive(name)),
         None => Ok(()),
     }
@@ -40,7 +40,7 @@ fn check_undone(entries: &[Entry], names: &[EventName]) -> Result<(), BookFault>
     ensures ok { OnOk result (live_refusal names.now (lines_of entries.now) ≡ None) }
     ensures err { IfErr result (λ fault. Tells fault (live_refusal names.now (lines_of entries.now))) }
 {
-    match first_live(entries, names) {
+    match first_marked(entries, names, Mark::Live) {
         Some(name) => Err(BookFault::IsLive(name)),
         None => Ok(()),
     }

@@ -6,7 +6,8 @@ use Rattle.std.specs.Option.{option_map}
 use Rattle.std.proofs.lemmas.Bool.{not-false, both_ways, cases_Bool}
 use Rattle.ids.specs.declared.names.EventName.{EventName}
 use Rattle.journal.specs.Journal.{Line, name_of, among, chosen, is_entered, Closed}
-use Rattle.causality.specs.Selections.{least, lesser, least_missing, first_undone, first_live, consequence, gap, gap_at, first_gap}
+use Rattle.causality.specs.Selections.{least, lesser, least_missing, first_marked, consequence, gap, gap_at, first_gap}
+use Rattle.journal.specs.declared.entry.Mark.TheVariants as mark
 use Rattle.causality.proofs.Along.{none_each, none_kept, meet, each_map, each, swapped, each_among, same_name}
 
 live_at : (c live : Bool) (e : EventName) → cond (c && not live) (Some e) None ≡ None → c ≡ true → live ≡ true
@@ -15,7 +16,7 @@ live_at true false n h e = cc
 live_at false live n h e = cc
 
 -- none is undone
-pub all_live : (lines : List Line) (names : List EventName) → first_undone names lines ≡ None → AllByRecursion (λ l. chosen names l ≡ true → l.live ≡ true) lines
+pub all_live : (lines : List Line) (names : List EventName) → first_marked mark.Undone names lines ≡ None → AllByRecursion (λ l. chosen names l ≡ true → l.live ≡ true) lines
 all_live lines names e = each_map _ _ (λ l h. live_at (chosen names l) l.live (name_of l) h) lines (none_each _ lines e)
 
 undone_at : (c live : Bool) (e : EventName) → cond (c && live) (Some e) None ≡ None → c ≡ true → live ≡ false
@@ -24,7 +25,7 @@ undone_at true false n h e = refl
 undone_at false live n h e = cc
 
 -- none is live
-pub all_undone : (lines : List Line) (names : List EventName) → first_live names lines ≡ None → AllByRecursion (λ l. chosen names l ≡ true → l.live ≡ false) lines
+pub all_undone : (lines : List Line) (names : List EventName) → first_marked mark.Live names lines ≡ None → AllByRecursion (λ l. chosen names l ≡ true → l.live ≡ false) lines
 all_undone lines names e = each_map _ _ (λ l h. undone_at (chosen names l) l.live (name_of l) h) lines (none_each _ lines e)
 
 no_name : (e : EventName) (o : Option EventName) → lesser e o ≡ None → ⊥

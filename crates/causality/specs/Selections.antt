@@ -4,6 +4,8 @@ use Rattle.std.specs.List.{list_all}
 use Rattle.std.specs.Option.{option_map, option_or}
 use Rattle.ids.specs.declared.names.EventName.{EventName}
 use Rattle.journal.specs.Journal.{Line, name_of, among, chosen, is_entered}
+use Rattle.journal.specs.declared.entry.Mark.{Mark}
+use Rattle.journal.specs.declared.entry.Mark.TheVariants as mark
 use Rattle.causality.specs.declared.selection.Gap.{Gap}
 
 -- the first answer along a list
@@ -25,13 +27,14 @@ least (e ∷ es) = lesser e (least es)
 abbrev pub least_missing : List EventName → List Line → Option EventName
 least_missing names lines = least (filter (λ e. not (is_entered lines e)) names)
 
--- the first of the set that is undone
-abbrev pub first_undone : List EventName → List Line → Option EventName
-first_undone names lines = first_some (λ l. cond (chosen names l && not l.live) (Some (name_of l)) None) lines
+-- a line has this mark
+abbrev pub has_mark : Mark → Line → Bool
+has_mark mark.Live l = l.live
+has_mark mark.Undone l = not l.live
 
--- the first of the set that is live
-abbrev pub first_live : List EventName → List Line → Option EventName
-first_live names lines = first_some (λ l. cond (chosen names l && l.live) (Some (name_of l)) None) lines
+-- the first of the set that has this mark
+abbrev pub first_marked : Mark → List EventName → List Line → Option EventName
+first_marked m names lines = first_some (λ l. cond (chosen names l && has_mark m l) (Some (name_of l)) None) lines
 
 -- the first live line outside the set that has e as a cause
 abbrev pub consequence : List EventName → EventName → List Line → Option EventName

@@ -4,7 +4,7 @@ ghost use Rattle.std.specs.List.{list_all, list_any};
 ghost use Rattle.journal.specs.EntryView.{line_of, lines_of};
 ghost use Rattle.journal.specs.Journal.{among};
 ghost use Rattle.causality.specs.Causes.{is_left};
-ghost use Rattle.causality.specs.Selections.{consequence, first_gap, first_live, first_undone, least_missing, lesser, same_set};
+ghost use Rattle.causality.specs.Selections.{consequence, first_gap, first_marked, has_mark, least_missing, lesser, same_set};
 
 use crate::names::{has, has_any, sorted};
 use ids::names::EventName;
@@ -42,24 +42,18 @@ pub fn least_missing(entries: &[Entry], names: &[EventName]) -> Option<EventName
     missing
 }
 
-/// The first of these events that is undone.
-pub fn first_undone(entries: &[Entry], names: &[EventName]) -> Option<EventName>
-    ensures { result ≡ first_undone names.now (lines_of entries.now) }
+fn has_mark(entry: &Entry, mark: Mark) -> bool
+    ensures { result ≡ has_mark mark (line_of entry.now) }
 {
-    for entry in entries {
-        if is_among(names, entry.event.name) && entry.mark == Mark::Undone {
-            return Some(entry.event.name);
-        }
-    }
-    None
+    entry.mark == mark
 }
 
-/// The first of these events that is live.
-pub fn first_live(entries: &[Entry], names: &[EventName]) -> Option<EventName>
-    ensures { result ≡ first_live names.now (lines_of entries.now) }
+/// The first of these events that has a mark.
+pub fn first_marked(entries: &[Entry], names: &[EventName], mark: Mark) -> Option<EventName>
+    ensures { result ≡ first_marked mark names.now (lines_of entries.now) }
 {
     for entry in entries {
-        if is_among(names, entry.event.name) && entry.mark == Mark::Live {
+        if is_among(names, entry.event.name) && has_mark(entry, mark) {
             return Some(entry.event.name);
         }
     }

@@ -20,7 +20,7 @@ use heap::state::Binding;
 use ids::names::SlotId;
 use ids::text::Text;
 use std::alloc::AllocError;
-use values::calls::{call_integers, combine_integers, compare_integers};
+use values::calls::call_integers;
 use values::value::Value;
 use values::verb::Verb;
 
@@ -62,7 +62,10 @@ pub fn quick_truth(w: &Working, condition: &Code, level: u32) -> Option<bool>
     if w.steps < 3 || level >= DEEPEST {
         return None;
     }
-    compared(w, condition)
+    match called(w, condition) {
+        Some(Value::Bool(holds)) => Some(holds),
+        _ => None,
+    }
 }
 
 /// What an assignment sets whose right side is a call on integers at hand, where there are steps for its four nodes.
@@ -77,7 +80,9 @@ pub fn quick_setting(w: &Working, item: &Code, level: u32) -> Option<Setting>
             if w.steps < 4 || level >= DEEPEST - 1 {
                 return None;
             }
-            let integer = combined(w, right)?;
+            let Some(Value::Int(integer)) = called(w, right) else {
+                return None;
+            };
             let slot = seek_slot(w, name, *place)?;
             Some(Setting { slot, integer })
         }
@@ -116,29 +121,15 @@ pub fn run_settings(w: &mut Working, items: &[Code], level: u32) -> Result<usize
     Ok(done)
 }
 
-/// What a call on integers at hand says, if it says whether something holds.
-fn compared(w: &Working, e: &Code) -> Option<bool>
+/// The value of a call on integers at hand, if it gives one.
+fn called(w: &Working, e: &Code) -> Option<Value>
     requires { fits_at (at w.now) e.now }
-    ensures { IfSome result (λ holds. AtHand (at w.now) (tree_of_code e.now) 3 (bool holds)) }
+    ensures { IfSome result (λ v. AtHand (at w.now) (tree_of_code e.now) 3 (val_of v)) }
 {
     match e {
         Code::Call(receiver, verb, args) => {
             let (x, y) = operands(w, receiver, args)?;
-            compare_integers(x, verb, y)
-        }
-        _ => None,
-    }
-}
-
-/// The integer that a call on integers at hand gives, if it gives one.
-fn combined(w: &Working, e: &Code) -> Option<i64>
-    requires { fits_at (at w.now) e.now }
-    ensures { IfSome result (λ n. AtHand (at w.now) (tree_of_code e.now) 3 (int n)) }
-{
-    match e {
-        Code::Call(receiver, verb, args) => {
-            let (x, y) = operands(w, receiver, args)?;
-            combine_integers(x, verb, y)
+            call_integers(x, verb, y)
         }
         _ => None,
     }

@@ -1,4 +1,4 @@
-//! Undo and redo, over any events whose effects go by the cells that they touch: each function's contract is a law.
+//! Undo and redo, over any events whose effects go by the cells that they touch: the laws are clauses of one contract.
 #![tactic(auto)]
 
 ghost use Rattle.history.specs.Subject.{Subject, Laws};
@@ -12,51 +12,22 @@ pub trait Undoable {
     ghost laws: { Laws subject };
 }
 
-/// Events lead from a world to at most one world.
-pub fn runs_are_one<S: Undoable>()
-    ensures { RunsAreOne S.subject }
-{}
-
-/// The entries of a good set run to its world, each with its footprint, and so do their events.
-pub fn good_runs<S: Undoable>()
+/// Events lead from a world to at most one world, and the entries of a good journal run to its world. It stays good when an
+/// event that is possible is appended with its footprint and the causes that are computed, when a closed set is undone, and
+/// when a set is redone that is sound together with what is live, as what was just undone is: that gives back the entries
+/// and the world. Marks change no names. The cone of an entry is the least closed set that has it.
+pub fn undo_is_lawful<S: Undoable>()
+    ensures runs_are_one { RunsAreOne S.subject }
     ensures footprints { GoodRuns S.subject }
     ensures events { GoodRun S.subject }
-{}
-
-/// An event that is possible is appended with its footprint and its causes.
-pub fn append<S: Undoable>()
-    ensures { Appended S.subject }
-{}
-
-/// The causes that are computed are the causes.
-pub fn causes_are_named<S: Undoable>()
-    ensures { CausesAreNamed S.subject }
-{}
-
-/// Marks do not change what is named.
-pub fn named_stays<S: Undoable>()
-    ensures { NamedStays S.subject }
-{}
-
-/// A closed set is undone.
-pub fn undo<S: Undoable>()
-    ensures { Undone S.subject }
-{}
-
-/// A set is redone where it is sound together with what is live.
-pub fn redo<S: Undoable>()
-    ensures { Redone S.subject }
-{}
-
-/// What was just undone may be redone, which gives back the entries and the world.
-pub fn redo_last<S: Undoable>()
-    ensures { RedoneLast S.subject }
-{}
-
-/// The cone of an entry is the least closed set that has it.
-pub fn cone_is_least<S: Undoable>()
-    ensures closed { ConeIsClosed S.subject }
-    ensures root { ConeHasRoot S.subject }
-    ensures least { ConeIsLeast S.subject }
-    ensures part { ConeIsPart S.subject }
+    ensures appended { Appended S.subject }
+    ensures causes_are_named { CausesAreNamed S.subject }
+    ensures named_stays { NamedStays S.subject }
+    ensures undone { Undone S.subject }
+    ensures redone { Redone S.subject }
+    ensures redone_last { RedoneLast S.subject }
+    ensures cone_is_closed { ConeIsClosed S.subject }
+    ensures cone_has_root { ConeHasRoot S.subject }
+    ensures cone_is_least { ConeIsLeast S.subject }
+    ensures cone_is_part { ConeIsPart S.subject }
 {}

@@ -3,17 +3,11 @@ use Rattle.std.proofs.Common.{◌≡◌, ℕ, suc, zero, ◌+◌, ◌<◌, ◌�
 use Rattle.std.specs.Prelude.{◌||◌, ◌&&◌, not}
 use Rattle.ids.specs.declared.names.EventName.{EventName}
 use Rattle.std.proofs.lemmas.List.{map-set, length-map}
-use Rattle.journal.specs.Journal.{Line, among, chosen}
-use Rattle.journal.specs.EntryView.{is_live, line_of, lines_of}
+use Rattle.journal.specs.Journal.{Line, among}
+use Rattle.journal.specs.EntryView.{is_live, line_of, lines_of, marked_line, marked_in}
 use Rattle.journal.specs.declared.entry.Entry.{Entry}
 use Rattle.journal.specs.declared.entry.Mark.{Mark}
 use Rattle.journal.specs.declared.entry.Mark.TheVariants as mark
-
-abbrev pub undo_line : List EventName → Line → Line
-undo_line names l = record l { live = l.live && not (chosen names l) }
-
-abbrev pub redo_line : List EventName → Line → Line
-redo_line names l = record l { live = l.live || chosen names l }
 
 -- the first items changed
 abbrev pub partly : {X : Type 0} → (X → X) → ℕ → List X → List X
@@ -75,8 +69,8 @@ marked f start was now i x y h invariant read written changed =
     within = omega (arith, h, length_partly f i start, ap length invariant, length-map was line_of)
 
 -- at the end all are
-pub marked_all : (f : Line → Line) (start now : List Entry) (i : ℕ) → length start ≤ i → lines_of now ≡ partly f i (lines_of start) → lines_of now ≡ map f (lines_of start)
-marked_all f start now i h invariant = invariant ∙ partly_all f (lines_of start) i (omega (arith, length-map start line_of))
+pub marked_all : (m : Mark) (names : List EventName) (start now : List Entry) (i : ℕ) → length start ≤ i → lines_of now ≡ partly (marked_line m names) i (lines_of start) → lines_of now ≡ marked_in m names (lines_of start)
+marked_all m names start now i h invariant = invariant ∙ partly_all (marked_line m names) (lines_of start) i (omega (arith, length-map start line_of))
 
 and_false : (b : Bool) → (b && false) ≡ false
 and_false true = refl
@@ -94,25 +88,26 @@ or_false : (b : Bool) → (b || false) ≡ b
 or_false true = refl
 or_false false = refl
 
-pub undo_chosen : (names : List EventName) (x : Entry) → among names x.event.name ≡ true → line_of (record x { mark = mark.Undone }) ≡ undo_line names (line_of x)
-undo_chosen names x e =
+pub marked_chosen : (m : Mark) (names : List EventName) (x : Entry) → among names x.event.name ≡ true → line_of (record x { mark = m }) ≡ marked_line m names (line_of x)
+marked_chosen mark.Live names x e =
+    let live : true ≡ (is_live x.mark || among names x.event.name) = sym (ap (λ b. is_live x.mark || b) e ∙ or_true (is_live x.mark)) in
+    λ i. record (line_of x) { live = live i }
+marked_chosen mark.Undone names x e =
     let live : false ≡ (is_live x.mark && not (among names x.event.name)) = sym (ap (λ b. is_live x.mark && not b) e ∙ and_false (is_live x.mark)) in
     λ i. record (line_of x) { live = live i }
 
-pub undo_other : (names : List EventName) (x : Entry) → among names x.event.name ≡ false → line_of x ≡ undo_line names (line_of x)
-undo_other names x e =
+pub marked_other : (m : Mark) (names : List EventName) (x : Entry) → among names x.event.name ≡ false → line_of x ≡ marked_line m names (line_of x)
+marked_other mark.Live names x e =
+    let live : is_live x.mark ≡ (is_live x.mark || among names x.event.name) = sym (ap (λ b. is_live x.mark || b) e ∙ or_false (is_live x.mark)) in
+    λ i. record (line_of x) { live = live i }
+marked_other mark.Undone names x e =
     let live : is_live x.mark ≡ (is_live x.mark && not (among names x.event.name)) = sym (ap (λ b. is_live x.mark && not b) e ∙ and_true (is_live x.mark)) in
     λ i. record (line_of x) { live = live i }
 
-pub redo_chosen : (names : List EventName) (x : Entry) → among names x.event.name ≡ true → line_of (record x { mark = mark.Live }) ≡ redo_line names (line_of x)
-redo_chosen names x e =
-    let live : true ≡ (is_live x.mark || among names x.event.name) = sym (ap (λ b. is_live x.mark || b) e ∙ or_true (is_live x.mark)) in
-    λ i. record (line_of x) { live = live i }
-
-pub redo_other : (names : List EventName) (x : Entry) → among names x.event.name ≡ false → line_of x ≡ redo_line names (line_of x)
-redo_other names x e =
-    let live : is_live x.mark ≡ (is_live x.mark || among names x.event.name) = sym (ap (λ b. is_live x.mark || b) e ∙ or_false (is_live x.mark)) in
-    λ i. record (line_of x) { live = live i }
+-- a mark keeps what a line wrote
+pub same_written : (m : Mark) (names : List EventName) (l : Line) → (marked_line m names l).written ≡ l.written
+same_written mark.Live names l = refl
+same_written mark.Undone names l = refl
 
 -- marks leave as many entries
 pub same_length : (f : Line → Line) (xs ys : List Entry) → lines_of xs ≡ map f (lines_of ys) → length xs ≡ length ys

@@ -1,7 +1,8 @@
 -- What the program's entries stand for.
-use Rattle.std.specs.Prelude.{Bool, true, false, List, map}
+use Rattle.std.specs.Prelude.{◌&&◌, ◌||◌, not, Bool, true, false, List, map}
+use Rattle.ids.specs.declared.names.EventName.{EventName}
 use Rattle.world.specs.EventView.{event_of}
-use Rattle.journal.specs.Journal.{Line}
+use Rattle.journal.specs.Journal.{Line, chosen}
 use Rattle.journal.specs.declared.entry.Mark.{Mark}
 use Rattle.journal.specs.declared.entry.Mark.TheVariants as mark
 use Rattle.journal.specs.declared.entry.Entry.{Entry}
@@ -15,3 +16,12 @@ line_of e = record { event = event_of e.event; touched = e.touched.items; writte
 
 abbrev pub lines_of : List Entry → List Line
 lines_of entries = map line_of entries
+
+-- a line that has this mark where it is chosen
+abbrev pub marked_line : Mark → List EventName → Line → Line
+marked_line mark.Live names l = record l { live = l.live || chosen names l }
+marked_line mark.Undone names l = record l { live = l.live && not (chosen names l) }
+
+-- the lines with the chosen ones marked so
+abbrev pub marked_in : Mark → List EventName → List Line → List Line
+marked_in m names lines = map (marked_line m names) lines

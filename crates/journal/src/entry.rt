@@ -1,8 +1,8 @@
 // The entries of the journal: one for each event, live or undone.
 ghost use Rattle.std.specs.Prelude.{◌≡◌, IfOk, length};
 ghost use Rattle.std.specs.List.{filter, slice_get};
-ghost use Rattle.journal.specs.EntryView.{lines_of};
-ghost use Rattle.journal.specs.Journal.{among, chosen, is_entered, undone_in, redone_in};
+ghost use Rattle.journal.specs.EntryView.{lines_of, marked_in};
+ghost use Rattle.journal.specs.Journal.{among, chosen, is_entered};
 ghost use Rattle.journal.specs.Writers.{live_name, live_names};
 
 use ids::names::{CellKey, EventName};
@@ -93,24 +93,13 @@ pub fn count_of(entries: &[Entry], names: &[EventName]) -> usize
     count
 }
 
-/// Marks these events as undone.
-pub(crate) fn mark_undone(entries: &mut [Entry], names: &[EventName])
-    ensures { lines_of entries.new ≡ undone_in names.now (lines_of entries.old) }
+/// Gives these events a mark.
+pub(crate) fn mark_those(entries: &mut [Entry], names: &[EventName], mark: Mark)
+    ensures { lines_of entries.new ≡ marked_in mark names.now (lines_of entries.old) }
 {
     for entry in entries.iter_mut() {
         if is_among(names, entry.event.name) {
-            entry.mark = Mark::Undone;
-        }
-    }
-}
-
-/// Marks these events as live again.
-pub(crate) fn mark_redone(entries: &mut [Entry], names: &[EventName])
-    ensures { lines_of entries.new ≡ redone_in names.now (lines_of entries.old) }
-{
-    for entry in entries.iter_mut() {
-        if is_among(names, entry.event.name) {
-            entry.mark = Mark::Live;
+            entry.mark = mark;
         }
     }
 }

@@ -1,11 +1,11 @@
 // The journal: the entries of all events, in the order in which they were accepted.
 ghost use Rattle.std.specs.Prelude.{◌≡◌, ◌++◌, ◌∷◌, List, [], true, IfOk, OnOk, OnErr};
-ghost use Rattle.journal.specs.EntryView.{lines_of};
-ghost use Rattle.journal.specs.Journal.{causes_in, undone_in, redone_in};
+ghost use Rattle.journal.specs.EntryView.{lines_of, marked_in};
+ghost use Rattle.journal.specs.Journal.{causes_in};
 ghost use Rattle.journal.specs.WritersView.{Indexed};
 ghost use Rattle.world.specs.EventView.{event_of};
 
-use crate::entry::{Entry, Mark, live_names, mark_redone, mark_undone};
+use crate::entry::{Entry, Mark, live_names, mark_those};
 use crate::writers::Writers;
 use ids::names::{CellKey, EventName};
 use std::alloc::{AllocError, Global};
@@ -84,17 +84,10 @@ impl Journal {
         }
     }
 
-    /// Marks events as undone.
-    pub fn undo(&mut self, names: &[EventName])
-        ensures { lines_of (entries_of self.new) ≡ undone_in names.now (lines_of (entries_of self.old)) }
+    /// Gives events a mark.
+    pub fn mark(&mut self, names: &[EventName], mark: Mark)
+        ensures { lines_of (entries_of self.new) ≡ marked_in mark names.now (lines_of (entries_of self.old)) }
     {
-        mark_undone(&mut self.entries, names);
-    }
-
-    /// Marks events as live again.
-    pub fn redo(&mut self, names: &[EventName])
-        ensures { lines_of (entries_of self.new) ≡ redone_in names.now (lines_of (entries_of self.old)) }
-    {
-        mark_redone(&mut self.entries, names);
+        mark_those(&mut self.entries, names, mark);
     }
 }

@@ -7,8 +7,8 @@ use Rattle.std.specs.List.{HoldsAt}
 use Rattle.std.specs.declared.alloc.AllocError.{AllocError}
 use Rattle.values.specs.declared.value.Answer.{Answer}
 use Rattle.std.specs.Fmt.{decimal}
-use Rattle.values.specs.Data.{Val, Vals, no_vals, and_val, null, bool, int, text, list, object, ejector, broken, Reply, gives, throws}
-use Rattle.values.specs.Replies.{Table, count_of, no_method, data_reply, joined, item_at, limited, value_given, integer_given, truth_given}
+use Rattle.values.specs.Data.{Val, Vals, no_vals, and_val, int, Reply, gives, throws}
+use Rattle.values.specs.Replies.{Table, count_of, no_method, data_reply, joined, item_at, limited, value_given}
 use Rattle.values.specs.View.{val_of, vals_of, reply_of, int_reply}
 use Rattle.values.specs.declared.integers.IntReply.{IntReply}
 use Rattle.values.specs.declared.integers.IntReply.TheVariants as int-reply
@@ -113,27 +113,3 @@ pub value_is_given : (o : Option Value) (r : Reply) → option_map val_of o ≡ 
 value_is_given None r h = tt
 value_is_given (Some v) (gives w) h = cc
 value_is_given (Some v) (throws problem) h = absurd (cc)
-
-pub integer_is_given : (o : Option ℤ) (r : Reply) → o ≡ integer_given r → IfSome o (λ z. r ≡ gives (int z))
-integer_is_given None r h = tt
-integer_is_given (Some z) (gives (int x)) h = cc
-integer_is_given (Some z) (gives null) h = absurd (cc)
-integer_is_given (Some z) (gives (bool b)) h = absurd (cc)
-integer_is_given (Some z) (gives (text s)) h = absurd (cc)
-integer_is_given (Some z) (gives (list vs)) h = absurd (cc)
-integer_is_given (Some z) (gives (object i)) h = absurd (cc)
-integer_is_given (Some z) (gives (ejector j)) h = absurd (cc)
-integer_is_given (Some z) (gives (broken p)) h = absurd (cc)
-integer_is_given (Some z) (throws problem) h = absurd (cc)
-
-pub truth_is_given : (o : Option Bool) (r : Reply) → o ≡ truth_given r → IfSome o (λ b. r ≡ gives (bool b))
-truth_is_given None r h = tt
-truth_is_given (Some b) (gives (bool d)) h = cc
-truth_is_given (Some b) (gives null) h = absurd (cc)
-truth_is_given (Some b) (gives (int x)) h = absurd (cc)
-truth_is_given (Some b) (gives (text s)) h = absurd (cc)
-truth_is_given (Some b) (gives (list vs)) h = absurd (cc)
-truth_is_given (Some b) (gives (object i)) h = absurd (cc)
-truth_is_given (Some b) (gives (ejector j)) h = absurd (cc)
-truth_is_given (Some b) (gives (broken p)) h = absurd (cc)
-truth_is_given (Some b) (throws problem) h = absurd (cc)

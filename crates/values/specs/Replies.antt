@@ -48,10 +48,6 @@ abbrev pub items_in : Val → Option Vals
 items_in (list vs) = Some vs
 items_in _ = None
 
-abbrev pub bool_in : Val → Option Bool
-bool_in (bool b) = Some b
-bool_in _ = None
-
 -- where a datum of another kind is wanted, a broken value throws its own problem
 abbrev pub wrong_kind : Val → Reply
 wrong_kind (broken problem) = throws problem
@@ -213,11 +209,3 @@ data_reply (broken problem) = λ verb vs. throws problem
 abbrev pub value_given : Reply → Option Val
 value_given (gives v) = Some v
 value_given (throws problem) = None
-
-abbrev pub integer_given : Reply → Option ℤ
-integer_given (gives v) = int_in v
-integer_given (throws problem) = None
-
-abbrev pub truth_given : Reply → Option Bool
-truth_given (gives v) = bool_in v
-truth_given (throws problem) = None

@@ -1,7 +1,7 @@
 // The verbs of data. Calls on integers are inlined where they are made, and no others, so that a sum costs little.
 ghost use Rattle.std.specs.Prelude.{◌≡◌, IfOk, option_map};
 ghost use Rattle.values.specs.Data.{int, and_val, no_vals};
-ghost use Rattle.values.specs.Replies.{bool_table, data_reply, value_given, integer_given, truth_given};
+ghost use Rattle.values.specs.Replies.{bool_table, data_reply, value_given};
 ghost use Rattle.values.specs.View.{val_of, vals_of, reply_of};
 
 use crate::integers::{IntReply, int_call, int_with};
@@ -61,36 +61,6 @@ pub fn call_integers(x: i64, verb: &Verb, y: i64) -> Option<Value>
         IntReply::Integer(integer) => Some(Value::Int(integer)),
         IntReply::Truth(holds) => Some(Value::Bool(holds)),
         IntReply::TooLarge
-        | IntReply::DivisionByZero
-        | IntReply::WrongArgument
-        | IntReply::NoMethod => None,
-    }
-}
-
-/// The integer that a verb makes of two integers, if it makes one.
-#[inline(always)]
-pub fn combine_integers(x: i64, verb: &Verb, y: i64) -> Option<i64>
-    ensures { result ≡ integer_given (data_reply (int x) verb.now (and_val (int y) no_vals)) }
-{
-    match int_with(x, verb, &Value::Int(y)) {
-        IntReply::Integer(integer) => Some(integer),
-        IntReply::Truth(_)
-        | IntReply::TooLarge
-        | IntReply::DivisionByZero
-        | IntReply::WrongArgument
-        | IntReply::NoMethod => None,
-    }
-}
-
-/// What a verb says of two integers, if it says whether something holds.
-#[inline(always)]
-pub fn compare_integers(x: i64, verb: &Verb, y: i64) -> Option<bool>
-    ensures { result ≡ truth_given (data_reply (int x) verb.now (and_val (int y) no_vals)) }
-{
-    match int_with(x, verb, &Value::Int(y)) {
-        IntReply::Truth(holds) => Some(holds),
-        IntReply::Integer(_)
-        | IntReply::TooLarge
         | IntReply::DivisionByZero
         | IntReply::WrongArgument
         | IntReply::NoMethod => None,

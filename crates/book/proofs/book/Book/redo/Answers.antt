@@ -31,15 +31,15 @@ invariant_of-self-in-Ok-clause-stands c =
     (λ i. first (missing_refusal ev (lines_of (sym c.entries.ensures i))) (first (live_refusal ev (lines_of (sym c.entries.ensures i))) (next_refusal ev (sym c.deref.ensures.value i))))
     ∙ c.in_ok-check_redo.ensures.ok in
     let some : (length ev == 0) ≡ false = sym c.is_empty.ensures ∙ c.if-is_empty.false in
-    let lines = lines_of (entries_of c.redo.new.self) in
+    let lines = lines_of (entries_of c.mark.new.self) in
     let run : PlainRun (live_events lines) (world_of c.in-Ok.world) = subst (λ (es : List Entry). PlainRun (live_events (lines_of es)) (world_of c.in-Ok.world)) c.entries-3.ensures c.in-Ok.ensures.ok in
     let new : Book = record { world = world_of c.in-Ok.world; journal = lines; next = c.args.self.now.next; redoable = c.clear.new.self.items } in
     let u : Redoes ev old new = record {
-      run = subst (λ (ls : List Line). PlainRun (live_events ls) new.world) c.redo.ensures run;
-      marked = c.redo.ensures;
+      run = subst (λ (ls : List Line). PlainRun (live_events ls) new.world) c.mark.ensures run;
+      marked = c.mark.ensures;
       same_next = refl;
       redoable = c.clear.ensures.items ∙ sym (still_none ev old.redoable some);
-      former = λ before h o k. former ev before old new.world lines run c.redo.ensures h o k;
+      former = λ before h o k. former ev before old new.world lines run c.mark.ensures h o k;
     } in
     stands_after_redo ev old new some c.args.self.now.stands ok u
 
@@ -50,7 +50,7 @@ invariant_of-self-in-Err-Memory-clause-stands c =
     let ok : redo_refusal old ev ≡ None =
     (λ i. first (missing_refusal ev (lines_of (sym c.entries.ensures i))) (first (live_refusal ev (lines_of (sym c.entries.ensures i))) (next_refusal ev (sym c.deref.ensures.value i))))
     ∙ c.in_ok-check_redo.ensures.ok in
-    stands_so _ _ _ _ _ _ refl (c.undo.ensures ∙ ap (undone_in ev) c.redo.ensures ∙ undone-redone old ev ok) c.args.self.now.stands
+    stands_so _ _ _ _ _ _ refl (c.mark-in-Err-Memory.ensures ∙ ap (undone_in ev) c.mark.ensures ∙ undone-redone old ev ok) c.args.self.now.stands
 
 pub unreachable-requires : goal.unreachable-requires
 unreachable-requires c =
@@ -60,10 +60,10 @@ unreachable-requires c =
     (λ i. first (missing_refusal ev (lines_of (sym c.entries.ensures i))) (first (live_refusal ev (lines_of (sym c.entries.ensures i))) (next_refusal ev (sym c.deref.ensures.value i))))
     ∙ c.in_ok-check_redo.ensures.ok in
     let some : (length ev == 0) ≡ false = sym c.is_empty.ensures ∙ c.if-is_empty.false in
-    let lines = lines_of (entries_of c.redo.new.self) in
+    let lines = lines_of (entries_of c.mark.new.self) in
     redo_goes old ev some c.args.self.now.stands ok
     (λ w r. subst (TellsRun (live_events (lines_of c.entries-3.result.now))) c.in-Err-Impossible.field-0-is c.in-Err-Impossible.ensures.err w
-    (subst (λ (ls : List Line). PlainRun (live_events ls) w) (sym (ap lines_of c.entries-3.ensures ∙ c.redo.ensures)) r))
+    (subst (λ (ls : List Line). PlainRun (live_events ls) w) (sym (ap lines_of c.entries-3.ensures ∙ c.mark.ensures)) r))
 
 pub returns-in-Ok-clause-ok : goal.returns-in-Ok-clause-ok
 returns-in-Ok-clause-ok c =
@@ -73,15 +73,15 @@ returns-in-Ok-clause-ok c =
     (λ i. first (missing_refusal ev (lines_of (sym c.entries.ensures i))) (first (live_refusal ev (lines_of (sym c.entries.ensures i))) (next_refusal ev (sym c.deref.ensures.value i))))
     ∙ c.in_ok-check_redo.ensures.ok in
     let some : (length ev == 0) ≡ false = sym c.is_empty.ensures ∙ c.if-is_empty.false in
-    let lines = lines_of (entries_of c.redo.new.self) in
+    let lines = lines_of (entries_of c.mark.new.self) in
     let run : PlainRun (live_events lines) (world_of c.in-Ok.world) = subst (λ (es : List Entry). PlainRun (live_events (lines_of es)) (world_of c.in-Ok.world)) c.entries-3.ensures c.in-Ok.ensures.ok in
     let new : Book = record { world = world_of c.in-Ok.world; journal = lines; next = c.args.self.now.next; redoable = c.clear.new.self.items } in
     let u : Redoes ev old new = record {
-      run = subst (λ (ls : List Line). PlainRun (live_events ls) new.world) c.redo.ensures run;
-      marked = c.redo.ensures;
+      run = subst (λ (ls : List Line). PlainRun (live_events ls) new.world) c.mark.ensures run;
+      marked = c.mark.ensures;
       same_next = refl;
       redoable = c.clear.ensures.items ∙ sym (still_none ev old.redoable some);
-      former = λ before h o k. former ev before old new.world lines run c.redo.ensures h o k;
+      former = λ before h o k. former ev before old new.world lines run c.mark.ensures h o k;
     } in
     (ok, u, c.count_of-count.ensures ∙ ap (λ (es : List Entry). length (filter (chosen ev) (lines_of es))) c.entries-2.ensures)
 
@@ -92,5 +92,5 @@ returns-in-Err-Memory-clause-unchanged c =
     let ok : redo_refusal old ev ≡ None =
     (λ i. first (missing_refusal ev (lines_of (sym c.entries.ensures i))) (first (live_refusal ev (lines_of (sym c.entries.ensures i))) (next_refusal ev (sym c.deref.ensures.value i))))
     ∙ c.in_ok-check_redo.ensures.ok in
-    let back = c.undo.ensures ∙ ap (undone_in ev) c.redo.ensures ∙ undone-redone old ev ok in
+    let back = c.mark-in-Err-Memory.ensures ∙ ap (undone_in ev) c.mark.ensures ∙ undone-redone old ev ok in
     λ i. record { world = old.world; journal = back i; next = old.next; redoable = old.redoable }

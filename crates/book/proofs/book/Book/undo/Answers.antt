@@ -27,14 +27,14 @@ invariant_of-self-in-Err-Memory-clause-stands c =
     let old = book_of c.args.self.now in
     let ev = c.args.events.now in
     let ok : undo_refusal old.journal ev ≡ None = ap (λ (es : List Entry). undo_refusal (lines_of es) ev) (sym c.entries.ensures) ∙ c.in_ok-check_undo.ensures.ok in
-    stands_so _ _ _ _ _ _ refl (c.redo.ensures ∙ ap (redone_in ev) c.undo.ensures ∙ redone-undone old.journal ev ok) c.args.self.now.stands
+    stands_so _ _ _ _ _ _ refl (c.mark-in-Err-Memory.ensures ∙ ap (redone_in ev) c.mark.ensures ∙ redone-undone old.journal ev ok) c.args.self.now.stands
 
 pub unreachable-requires : goal.unreachable-requires
 unreachable-requires c =
     let old = book_of c.args.self.now in
     let ev = c.args.events.now in
     let ok : undo_refusal old.journal ev ≡ None = ap (λ (es : List Entry). undo_refusal (lines_of es) ev) (sym c.entries.ensures) ∙ c.in_ok-check_undo.ensures.ok in
-    let rest : live_events (lines_of c.entries-3.result.now) ≡ rest_of ev old.journal = ap live_events (ap lines_of c.entries-3.ensures ∙ c.undo.ensures) ∙ live_events-undone ev old.journal in
+    let rest : live_events (lines_of c.entries-3.result.now) ≡ rest_of ev old.journal = ap live_events (ap lines_of c.entries-3.ensures ∙ c.mark.ensures) ∙ live_events-undone ev old.journal in
     undo_runs old ev c.args.self.now.stands ok
     (λ w r. subst (TellsRun (live_events (lines_of c.entries-3.result.now))) c.in-Err-Impossible.field-0-is c.in-Err-Impossible.ensures.err w (subst (λ es. PlainRun es w) (sym rest) r))
 
@@ -44,12 +44,12 @@ returns-in-Ok-clause-ok c =
     let ev = c.args.events.now in
     let ok : undo_refusal old.journal ev ≡ None = ap (λ (es : List Entry). undo_refusal (lines_of es) ev) (sym c.entries.ensures) ∙ c.in_ok-check_undo.ensures.ok in
     let some : (length ev == 0) ≡ false = sym c.is_empty.ensures ∙ c.if-is_empty.false in
-    let lines = lines_of (entries_of c.undo.new.self) in
+    let lines = lines_of (entries_of c.mark.new.self) in
     let new : Book = record { world = world_of c.in-Ok.world; journal = lines; next = c.args.self.now.next; redoable = c.in_ok-redoable.redoable.items } in
-    let rest : live_events (lines_of c.entries-3.result.now) ≡ rest_of ev old.journal = ap live_events (ap lines_of c.entries-3.ensures ∙ c.undo.ensures) ∙ live_events-undone ev old.journal in
+    let rest : live_events (lines_of c.entries-3.result.now) ≡ rest_of ev old.journal = ap live_events (ap lines_of c.entries-3.ensures ∙ c.mark.ensures) ∙ live_events-undone ev old.journal in
     let u : Undoes ev old new = record {
       rest = subst (λ es. PlainRun es new.world) rest c.in-Ok.ensures.ok;
-      marked = c.undo.ensures;
+      marked = c.mark.ensures;
       same_next = refl;
       redoable = c.in_ok-redoable.ensures.items ∙ sym (now_those ev old.redoable some);
     } in
@@ -60,7 +60,7 @@ returns-in-Err-Memory-clause-unchanged c =
     let old = book_of c.args.self.now in
     let ev = c.args.events.now in
     let ok : undo_refusal old.journal ev ≡ None = ap (λ (es : List Entry). undo_refusal (lines_of es) ev) (sym c.entries.ensures) ∙ c.in_ok-check_undo.ensures.ok in
-    let back = c.redo.ensures ∙ ap (redone_in ev) c.undo.ensures ∙ redone-undone old.journal ev ok in
+    let back = c.mark-in-Err-Memory.ensures ∙ ap (redone_in ev) c.mark.ensures ∙ redone-undone old.journal ev ok in
     λ i. record { world = old.world; journal = back i; next = old.next; redoable = old.redoable }
 
 pub invariant_of-self : goal.invariant_of-self
@@ -69,12 +69,12 @@ invariant_of-self c =
     let ev = c.args.events.now in
     let ok : undo_refusal old.journal ev ≡ None = ap (λ (es : List Entry). undo_refusal (lines_of es) ev) (sym c.entries.ensures) ∙ c.in_ok-check_undo.ensures.ok in
     let some : (length ev == 0) ≡ false = sym c.is_empty.ensures ∙ c.if-is_empty.false in
-    let lines = lines_of (entries_of c.undo.new.self) in
+    let lines = lines_of (entries_of c.mark.new.self) in
     let new : Book = record { world = world_of c.in-Ok.world; journal = lines; next = c.args.self.now.next; redoable = c.in_ok-redoable.redoable.items } in
-    let rest : live_events (lines_of c.entries-3.result.now) ≡ rest_of ev old.journal = ap live_events (ap lines_of c.entries-3.ensures ∙ c.undo.ensures) ∙ live_events-undone ev old.journal in
+    let rest : live_events (lines_of c.entries-3.result.now) ≡ rest_of ev old.journal = ap live_events (ap lines_of c.entries-3.ensures ∙ c.mark.ensures) ∙ live_events-undone ev old.journal in
     let u : Undoes ev old new = record {
       rest = subst (λ es. PlainRun es new.world) rest c.in-Ok.ensures.ok;
-      marked = c.undo.ensures;
+      marked = c.mark.ensures;
       same_next = refl;
       redoable = c.in_ok-redoable.ensures.items ∙ sym (now_those ev old.redoable some);
     } in

@@ -1,7 +1,0 @@
-use Rattle.std.proofs.Common.{◌≡◌, drop}
-use Rattle.causality.specs.Selections.{first_live}
-use Rattle.journal.specs.EntryView.{lines_of}
-use Rattle.causality.proofs.selection.first_live.Given as goal
-
-abbrev pub invariant-loop-entry : goal.invariant-loop-entry
-invariant-loop-entry l = first_live l.names (lines_of (drop l.entry-index l.entries)) ≡ first_live l.names (lines_of l.entries)
