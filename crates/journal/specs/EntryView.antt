@@ -1,8 +1,8 @@
 -- What the program's entries stand for.
-use Rattle.std.specs.Prelude.{◌&&◌, ◌||◌, not, Bool, true, false, List, map}
+use Rattle.std.specs.Prelude.{Bool, true, false, List, map}
 use Rattle.ids.specs.declared.names.EventName.{EventName}
 use Rattle.world.specs.EventView.{event_of}
-use Rattle.journal.specs.Journal.{Line, chosen}
+use Rattle.journal.specs.Journal.{Line, undone, redone}
 use Rattle.journal.specs.declared.entry.Mark.{Mark}
 use Rattle.journal.specs.declared.entry.Mark.TheVariants as mark
 use Rattle.journal.specs.declared.entry.Entry.{Entry}
@@ -19,8 +19,8 @@ lines_of entries = map line_of entries
 
 -- a line that has this mark where it is chosen
 abbrev pub marked_line : Mark → List EventName → Line → Line
-marked_line mark.Live names l = record l { live = l.live || chosen names l }
-marked_line mark.Undone names l = record l { live = l.live && not (chosen names l) }
+marked_line mark.Live names l = redone names l
+marked_line mark.Undone names l = undone names l
 
 -- the lines with the chosen ones marked so
 abbrev pub marked_in : Mark → List EventName → List Line → List Line

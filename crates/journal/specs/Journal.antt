@@ -40,12 +40,19 @@ wrote_one_of touched l = list_any (λ k. has_key touched k) l.written
 abbrev pub causes_in : List CellKey → List Line → List EventName
 causes_in touched lines = map name_of (filter (λ l. l.live && wrote_one_of touched l) lines)
 
+-- a line is undone where it is chosen, or live again
+abbrev pub undone : List EventName → Line → Line
+undone names l = record l { live = l.live && not (chosen names l) }
+
+abbrev pub redone : List EventName → Line → Line
+redone names l = record l { live = l.live || chosen names l }
+
 -- the lines with the chosen ones undone, or live again
 abbrev pub undone_in : List EventName → List Line → List Line
-undone_in names lines = map {A = Line} {B = Line} (λ l. record l { live = l.live && not (chosen names l) }) lines
+undone_in names lines = map (undone names) lines
 
 abbrev pub redone_in : List EventName → List Line → List Line
-redone_in names lines = map {A = Line} {B = Line} (λ l. record l { live = l.live || chosen names l }) lines
+redone_in names lines = map (redone names) lines
 
 -- the events of the live lines
 abbrev pub live_events : List Line → List Event
