@@ -45,77 +45,47 @@ fn write_expr(e: &Expr, out: &mut String) -> Result<(), AllocError>
         Expr::Int(n) => write!(out, "{n}"),
         Expr::Text(text) => write_quoted(text.as_str(), out),
         Expr::Noun(name) => out.push_str(name.as_str()),
-        Expr::Def(pattern, value) => write_def(pattern, value, out),
-        Expr::Var(name, value) => write_var(name, value, out),
-        Expr::Assign(name, value) => write_assign(name, value, out),
+        Expr::Def(pattern, value) => write_binding("def ", bound_text(pattern), value, out),
+        Expr::Var(name, value) => write_binding("var ", name.as_str(), value, out),
+        Expr::Assign(name, value) => write_binding("", name.as_str(), value, out),
         Expr::Call(receiver, verb, args) => write_call(receiver, verb, args, out),
-        Expr::List(items) => write_list(items, out),
+        Expr::List(items) => write_parts("[", items, "]", out),
         Expr::Same(left, right) => write_same(left, right, out),
-        Expr::DefList(patterns, value) => write_def_list(patterns, value, out),
+        Expr::DefList(patterns, value) => {
+            write_def_list_head(patterns, out)?;
+            write_part(value, out)
+        }
         Expr::Hide(body) => write_block(body, out),
         Expr::If(condition, first, second) => write_if(condition, first, second, out),
-        Expr::While(condition, body) => write_while(condition, body, out),
+        Expr::While(condition, body) => {
+            write_enclosed("while (", condition, ") ", out)?;
+            write_block(body, out)
+        }
         Expr::For(pattern, list, body) => write_for(pattern, list, body, out),
         Expr::Try(body, pattern, handler) => write_try(body, pattern, handler, out),
-        Expr::Throw(problem) => write_throw(problem, out),
+        Expr::Throw(problem) => write_enclosed("throw(", problem, ")", out),
         Expr::Object(pattern, methods) => write_object(pattern, methods, out),
-        Expr::Escape(name, body) => write_escape(name, body, out),
+        Expr::Escape(name, body) => {
+            write_escape_head(name, out)?;
+            write_block(body, out)
+        }
     }
 }
 
+/// Writes a definition or an assignment of one name.
 #[cycle(print)]
-fn write_def(pattern: &Pattern, value: &Expr, out: &mut String) -> Result<(), AllocError>
-    ensures { OnOk result (string_bytes out.new ≡ string_bytes out.old ++ spelled (define pattern.now (tree_of value.now))) }
+fn write_binding(
+    opening: &str,
+    name: &str,
+    value: &Expr,
+    out: &mut String,
+) -> Result<(), AllocError>
+    ensures { OnOk result (string_bytes out.new ≡ string_bytes out.old ++ opening.now ++ name.now ++ codes " := " ++ as_part (tree_of value.now) (spelled (tree_of value.now))) }
 {
-    out.push_str("def ")?;
-    write_pattern(pattern, out)?;
+    out.push_str(opening)?;
+    out.push_str(name)?;
     out.push_str(" := ")?;
     write_part(value, out)
-}
-
-#[cycle(print)]
-fn write_def_list(patterns: &[Pattern], value: &Expr, out: &mut String) -> Result<(), AllocError>
-    ensures { OnOk result (string_bytes out.new ≡ string_bytes out.old ++ spelled (define_list patterns.now (tree_of value.now))) }
-{
-    out.push_str("def [")?;
-    write_patterns(patterns, out)?;
-    out.push_str("] := ")?;
-    write_part(value, out)
-}
-
-#[cycle(print)]
-fn write_assign(name: &Text, value: &Expr, out: &mut String) -> Result<(), AllocError>
-    ensures { OnOk result (string_bytes out.new ≡ string_bytes out.old ++ spelled (assign name.now (tree_of value.now))) }
-{
-    out.push_str(name.as_str())?;
-    out.push_str(" := ")?;
-    write_part(value, out)
-}
-
-#[cycle(print)]
-fn write_var(name: &Text, value: &Expr, out: &mut String) -> Result<(), AllocError>
-    ensures { OnOk result (string_bytes out.new ≡ string_bytes out.old ++ spelled (variable name.now (tree_of value.now))) }
-{
-    out.push_str("var ")?;
-    write_assign(name, value, out)
-}
-
-#[cycle(print)]
-fn write_list(items: &[Expr], out: &mut String) -> Result<(), AllocError>
-    ensures { OnOk result (string_bytes out.new ≡ string_bytes out.old ++ spelled (list_tree (trees_of items.now))) }
-{
-    out.push_str("[")?;
-    write_parts(items, out)?;
-    out.push_str("]")
-}
-
-#[cycle(print)]
-fn write_throw(problem: &Expr, out: &mut String) -> Result<(), AllocError>
-    ensures { OnOk result (string_bytes out.new ≡ string_bytes out.old ++ spelled (throw_tree (tree_of problem.now))) }
-{
-    out.push_str("throw(")?;
-    write_part(problem, out)?;
-    out.push_str(")")
 }
 
 #[cycle(print)]
@@ -127,12 +97,10 @@ fn write_call(
 ) -> Result<(), AllocError>
     ensures { OnOk result (string_bytes out.new ≡ string_bytes out.old ++ spelled (call (tree_of receiver.now) verb.now (trees_of args.now))) }
 {
-    write_receiver(receiver, out)?;
+    write_bracketed(!is_bare_receiver(receiver), receiver, out)?;
     out.push_str(".")?;
     out.push_str(verb.as_str())?;
-    out.push_str("(")?;
-    write_parts(args, out)?;
-    out.push_str(")")
+    write_parts("(", args, ")", out)
 }
 
 #[cycle(print)]
@@ -155,18 +123,10 @@ fn write_if(
 ) -> Result<(), AllocError>
     ensures { OnOk result (string_bytes out.new ≡ string_bytes out.old ++ spelled (if_tree (tree_of condition.now) (trees_of first.now) (trees_of second.now))) }
 {
-    write_condition("if (", condition, out)?;
+    write_enclosed("if (", condition, ") ", out)?;
     write_block(first, out)?;
     out.push_str(" else ")?;
     write_block(second, out)
-}
-
-#[cycle(print)]
-fn write_while(condition: &Expr, body: &[Expr], out: &mut String) -> Result<(), AllocError>
-    ensures { OnOk result (string_bytes out.new ≡ string_bytes out.old ++ spelled (while_tree (tree_of condition.now) (trees_of body.now))) }
-{
-    write_condition("while (", condition, out)?;
-    write_block(body, out)
 }
 
 #[cycle(print)]
@@ -179,7 +139,7 @@ fn write_for(
     ensures { OnOk result (string_bytes out.new ≡ string_bytes out.old ++ spelled (for_tree pattern.now (tree_of list.now) (trees_of body.now))) }
 {
     out.push_str("for ")?;
-    write_pattern(pattern, out)?;
+    out.push_str(bound_text(pattern))?;
     out.push_str(" in ")?;
     write_part(list, out)?;
     out.push_str(" ")?;
@@ -201,83 +161,17 @@ fn write_try(
     write_block(handler, out)
 }
 
-/// Writes the beginning of an `if` or a `while`, up to its first block.
-#[cycle(print)]
-fn write_condition(opening: &str, condition: &Expr, out: &mut String) -> Result<(), AllocError>
-    ensures { OnOk result (string_bytes out.new ≡ string_bytes out.old ++ opening.now ++ as_part (tree_of condition.now) (spelled (tree_of condition.now)) ++ codes ") ") }
-{
-    out.push_str(opening)?;
-    write_part(condition, out)?;
-    out.push_str(") ")
-}
-
-/// Writes what stands between the two blocks of a `try`.
-fn write_catch(pattern: &Pattern, out: &mut String) -> Result<(), AllocError>
-    ensures { OnOk result (string_bytes out.new ≡ string_bytes out.old ++ codes " catch " ++ bound_name pattern.now ++ codes " ") }
-{
-    out.push_str(" catch ")?;
-    write_pattern(pattern, out)?;
-    out.push_str(" ")
-}
-
+/// Writes an object, a space before each of its methods.
 #[cycle(print)]
 fn write_object(pattern: &Pattern, methods: &[Method], out: &mut String) -> Result<(), AllocError>
     ensures { OnOk result (string_bytes out.new ≡ string_bytes out.old ++ spelled (object_tree pattern.now (methods_of methods.now))) }
 {
-    out.push_str("def ")?;
-    write_pattern(pattern, out)?;
-    out.push_str(" ")?;
-    write_methods(methods, out)
-}
-
-/// Writes methods in their braces.
-#[cycle(print)]
-fn write_methods(methods: &[Method], out: &mut String) -> Result<(), AllocError>
-    ensures { OnOk result (string_bytes out.new ≡ string_bytes out.old ++ methods_in_braces (spelled_methods (methods_of methods.now))) }
-{
-    let Some((first, rest)) = methods.split_first() else {
-        return out.push_str("{ }");
-    };
-    out.push_str("{ ")?;
-    write_method(first, out)?;
-    for method in rest {
-        out.push_str(" ")?;
-        write_method(method, out)?;
+    write_object_head(pattern, out)?;
+    for method in methods {
+        write_method_head(&method.verb, &method.parameters, out)?;
+        write_block(&method.body, out)?;
     }
     out.push_str(" }")
-}
-
-#[cycle(print)]
-fn write_method(method: &Method, out: &mut String) -> Result<(), AllocError>
-    ensures { OnOk result (string_bytes out.new ≡ string_bytes out.old ++ method_text method.now.verb method.now.parameters.value.items (spelled_items (trees_of method.now.body.value.items))) }
-{
-    write_method_head(&method.verb, &method.parameters, out)?;
-    write_block(&method.body, out)
-}
-
-/// Writes a method up to its block.
-fn write_method_head(
-    verb: &Text,
-    parameters: &[Pattern],
-    out: &mut String,
-) -> Result<(), AllocError>
-    ensures { OnOk result (string_bytes out.new ≡ string_bytes out.old ++ codes "method " ++ message verb.now (map bound_name parameters.now) ++ codes " ") }
-{
-    out.push_str("method ")?;
-    out.push_str(verb.as_str())?;
-    out.push_str("(")?;
-    write_patterns(parameters, out)?;
-    out.push_str(") ")
-}
-
-#[cycle(print)]
-fn write_escape(name: &Text, body: &[Expr], out: &mut String) -> Result<(), AllocError>
-    ensures { OnOk result (string_bytes out.new ≡ string_bytes out.old ++ spelled (escape_tree name.now (trees_of body.now))) }
-{
-    out.push_str("escape ")?;
-    out.push_str(name.as_str())?;
-    out.push_str(" ")?;
-    write_block(body, out)
 }
 
 /// Writes a block in its braces.
@@ -293,19 +187,41 @@ fn write_block(items: &[Expr], out: &mut String) -> Result<(), AllocError>
     out.push_str(" }")
 }
 
-/// Writes arguments, or the items of a list.
+/// Writes arguments, or the items of a list, in their brackets.
 #[cycle(print)]
-fn write_parts(parts: &[Expr], out: &mut String) -> Result<(), AllocError>
-    ensures { OnOk result (string_bytes out.new ≡ string_bytes out.old ++ joined (codes ", ") (spelled_parts (trees_of parts.now))) }
+fn write_parts(
+    opening: &str,
+    parts: &[Expr],
+    closing: &str,
+    out: &mut String,
+) -> Result<(), AllocError>
+    ensures { OnOk result (string_bytes out.new ≡ string_bytes out.old ++ opening.now ++ joined (codes ", ") (spelled_parts (trees_of parts.now)) ++ closing.now) }
 {
-    if let Some((first, rest)) = parts.split_first() {
-        write_part(first, out)?;
-        for part in rest {
-            out.push_str(", ")?;
-            write_part(part, out)?;
-        }
+    out.push_str(opening)?;
+    let Some((first, rest)) = parts.split_first() else {
+        return out.push_str(closing);
+    };
+    write_part(first, out)?;
+    for part in rest {
+        out.push_str(", ")?;
+        write_part(part, out)?;
     }
-    Ok(())
+    out.push_str(closing)
+}
+
+/// Writes a part of another expression between two texts.
+#[cycle(print)]
+fn write_enclosed(
+    opening: &str,
+    e: &Expr,
+    closing: &str,
+    out: &mut String,
+) -> Result<(), AllocError>
+    ensures { OnOk result (string_bytes out.new ≡ string_bytes out.old ++ opening.now ++ as_part (tree_of e.now) (spelled (tree_of e.now)) ++ closing.now) }
+{
+    out.push_str(opening)?;
+    write_part(e, out)?;
+    out.push_str(closing)
 }
 
 /// Writes a part of another expression.
@@ -313,31 +229,71 @@ fn write_parts(parts: &[Expr], out: &mut String) -> Result<(), AllocError>
 fn write_part(e: &Expr, out: &mut String) -> Result<(), AllocError>
     ensures { OnOk result (string_bytes out.new ≡ string_bytes out.old ++ as_part (tree_of e.now) (spelled (tree_of e.now))) }
 {
-    if needs_brackets(e) {
-        write_bracketed(e, out)
-    } else {
-        write_expr(e, out)
-    }
+    write_bracketed(needs_brackets(e), e, out)
 }
 
+/// Writes an expression, in round brackets where they are wanted.
 #[cycle(print)]
-fn write_receiver(e: &Expr, out: &mut String) -> Result<(), AllocError>
-    ensures { OnOk result (string_bytes out.new ≡ string_bytes out.old ++ as_receiver (tree_of e.now) (spelled (tree_of e.now))) }
+fn write_bracketed(wanted: bool, e: &Expr, out: &mut String) -> Result<(), AllocError>
+    ensures { OnOk result (string_bytes out.new ≡ string_bytes out.old ++ bracketed wanted (spelled (tree_of e.now))) }
 {
-    if is_bare_receiver(e) {
-        write_expr(e, out)
-    } else {
-        write_bracketed(e, out)
+    if !wanted {
+        return write_expr(e, out);
     }
-}
-
-#[cycle(print)]
-fn write_bracketed(e: &Expr, out: &mut String) -> Result<(), AllocError>
-    ensures { OnOk result (string_bytes out.new ≡ string_bytes out.old ++ bracketed true (spelled (tree_of e.now))) }
-{
     out.push_str("(")?;
     write_expr(e, out)?;
     out.push_str(")")
+}
+
+/// Writes the definition of names for a list, up to its value.
+fn write_def_list_head(patterns: &[Pattern], out: &mut String) -> Result<(), AllocError>
+    ensures { OnOk result (string_bytes out.new ≡ string_bytes out.old ++ codes "def [" ++ joined (codes ", ") (map bound_name patterns.now) ++ codes "] := ") }
+{
+    out.push_str("def [")?;
+    write_patterns(patterns, out)?;
+    out.push_str("] := ")
+}
+
+/// Writes what stands between the two blocks of a `try`.
+fn write_catch(pattern: &Pattern, out: &mut String) -> Result<(), AllocError>
+    ensures { OnOk result (string_bytes out.new ≡ string_bytes out.old ++ codes " catch " ++ bound_name pattern.now ++ codes " ") }
+{
+    out.push_str(" catch ")?;
+    out.push_str(bound_text(pattern))?;
+    out.push_str(" ")
+}
+
+/// Writes an object up to its methods.
+fn write_object_head(pattern: &Pattern, out: &mut String) -> Result<(), AllocError>
+    ensures { OnOk result (string_bytes out.new ≡ string_bytes out.old ++ codes "def " ++ bound_name pattern.now ++ codes " {") }
+{
+    out.push_str("def ")?;
+    out.push_str(bound_text(pattern))?;
+    out.push_str(" {")
+}
+
+/// Writes a method up to its block, behind a space.
+fn write_method_head(
+    verb: &Text,
+    parameters: &[Pattern],
+    out: &mut String,
+) -> Result<(), AllocError>
+    ensures { OnOk result (string_bytes out.new ≡ string_bytes out.old ++ codes " method " ++ message verb.now (map bound_name parameters.now) ++ codes " ") }
+{
+    out.push_str(" method ")?;
+    out.push_str(verb.as_str())?;
+    out.push_str("(")?;
+    write_patterns(parameters, out)?;
+    out.push_str(") ")
+}
+
+/// Writes an escape up to its block.
+fn write_escape_head(name: &Text, out: &mut String) -> Result<(), AllocError>
+    ensures { OnOk result (string_bytes out.new ≡ string_bytes out.old ++ codes "escape " ++ name.now ++ codes " ") }
+{
+    out.push_str("escape ")?;
+    out.push_str(name.as_str())?;
+    out.push_str(" ")
 }
 
 fn write_bool(b: bool, out: &mut String) -> Result<(), AllocError>
@@ -351,21 +307,22 @@ fn write_patterns(patterns: &[Pattern], out: &mut String) -> Result<(), AllocErr
     ensures { OnOk result (string_bytes out.new ≡ string_bytes out.old ++ joined (codes ", ") (map bound_name patterns.now)) }
 {
     if let Some((first, rest)) = patterns.split_first() {
-        write_pattern(first, out)?;
+        out.push_str(bound_text(first))?;
         for pattern in rest {
             out.push_str(", ")?;
-            write_pattern(pattern, out)?;
+            out.push_str(bound_text(pattern))?;
         }
     }
     Ok(())
 }
 
-fn write_pattern(pattern: &Pattern, out: &mut String) -> Result<(), AllocError>
-    ensures { OnOk result (string_bytes out.new ≡ string_bytes out.old ++ bound_name pattern.now) }
+/// What a pattern binds, as it is written.
+fn bound_text(pattern: &Pattern) -> &str
+    ensures { result.now ≡ bound_name pattern.now }
 {
     match pattern {
-        Pattern::Name(name) => out.push_str(name.as_str()),
-        Pattern::Ignore => out.push_str("_"),
+        Pattern::Name(name) => name.as_str(),
+        Pattern::Ignore => "_",
     }
 }
 

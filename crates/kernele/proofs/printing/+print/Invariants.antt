@@ -14,8 +14,8 @@ abbrev pub invariant-write_items-loop-item : goal.invariant-write_items-loop-ite
 invariant-write_items-loop-item l = string_bytes l.out ++ led_by (codes "; ") (spelled_items (trees_of (drop l.item-index l.rest))) ≡ string_bytes l.initial.out ++ led_by (codes "; ") (spelled_items (trees_of l.rest))
 
 -- the same of methods
-abbrev pub invariant-write_methods-loop-method : goal.invariant-write_methods-loop-method
-invariant-write_methods-loop-method l = string_bytes l.out ++ led_by (codes " ") (spelled_methods (methods_of (drop l.method-index l.rest))) ≡ string_bytes l.initial.out ++ led_by (codes " ") (spelled_methods (methods_of l.rest))
+abbrev pub invariant-write_object-loop-method : goal.invariant-write_object-loop-method
+invariant-write_object-loop-method l = string_bytes l.out ++ led_by (codes " ") (spelled_methods (methods_of (drop l.method-index l.methods))) ≡ string_bytes l.initial.out ++ led_by (codes " ") (spelled_methods (methods_of l.methods))
 
 -- the depth of a tree, and the order of the calls that go no deeper
 abbrev pub decreases-write_expr : goal.decreases-write_expr
@@ -23,9 +23,6 @@ decreases-write_expr l = 6 * goal.size-write_expr l
 
 abbrev pub decreases-write_items : goal.decreases-write_items
 decreases-write_items l = 6 * goal.size-write_items l + 1
-
-abbrev pub decreases-write_list : goal.decreases-write_list
-decreases-write_list l = 6 * goal.size-write_list l + 4
 
 abbrev pub decreases-write_block : goal.decreases-write_block
 decreases-write_block l = 6 * goal.size-write_block l + 2
@@ -36,41 +33,17 @@ decreases-write_bracketed l = 6 * goal.size-write_bracketed l + 1
 abbrev pub decreases-write_part : goal.decreases-write_part
 decreases-write_part l = 6 * goal.size-write_part l + 2
 
-abbrev pub decreases-write_receiver : goal.decreases-write_receiver
-decreases-write_receiver l = 6 * goal.size-write_receiver l + 2
-
 abbrev pub decreases-write_parts : goal.decreases-write_parts
 decreases-write_parts l = 6 * goal.size-write_parts l + 3
 
-abbrev pub decreases-write_def : goal.decreases-write_def
-decreases-write_def l = 6 * goal.size-write_def l + 3
-
-abbrev pub decreases-write_def_list : goal.decreases-write_def_list
-decreases-write_def_list l = 6 * goal.size-write_def_list l + 3
-
-abbrev pub decreases-write_var : goal.decreases-write_var
-decreases-write_var l = 6 * goal.size-write_var l + 4
-
-abbrev pub decreases-write_assign : goal.decreases-write_assign
-decreases-write_assign l = 6 * goal.size-write_assign l + 3
-
-abbrev pub decreases-write_throw : goal.decreases-write_throw
-decreases-write_throw l = 6 * goal.size-write_throw l + 3
-
-abbrev pub decreases-write_condition : goal.decreases-write_condition
-decreases-write_condition l = 6 * goal.size-write_condition l + 3
-
-abbrev pub decreases-write_method : goal.decreases-write_method
-decreases-write_method l = 6 * goal.size-write_method l
-
-abbrev pub decreases-write_methods : goal.decreases-write_methods
-decreases-write_methods l = 6 * goal.size-write_methods l + 1
-
 abbrev pub decreases-write_object : goal.decreases-write_object
-decreases-write_object l = 6 * goal.size-write_object l + 2
+decreases-write_object l = 6 * goal.size-write_object l
 
-abbrev pub decreases-write_escape : goal.decreases-write_escape
-decreases-write_escape l = 6 * goal.size-write_escape l + 3
+abbrev pub decreases-write_binding : goal.decreases-write_binding
+decreases-write_binding l = 6 * goal.size-write_binding l + 3
+
+abbrev pub decreases-write_enclosed : goal.decreases-write_enclosed
+decreases-write_enclosed l = 6 * goal.size-write_enclosed l + 3
 
 -- of two parts the greater depth
 abbrev pub decreases-write_call : goal.decreases-write_call
@@ -81,9 +54,6 @@ decreases-write_same l = 6 * (max (goal.size-write_same l) (the_size l.right.now
 
 abbrev pub decreases-write_if : goal.decreases-write_if
 decreases-write_if l = 6 * (max (max (goal.size-write_if l) (most (λ e. the_size e) l.first.now)) (most (λ e. the_size e) l.second.now)) + 4
-
-abbrev pub decreases-write_while : goal.decreases-write_while
-decreases-write_while l = 6 * (max (goal.size-write_while l) (most (λ e. the_size e) l.body.now)) + 4
 
 abbrev pub decreases-write_for : goal.decreases-write_for
 decreases-write_for l = 6 * (max (goal.size-write_for l) (most (λ e. the_size e) l.body.now)) + 4

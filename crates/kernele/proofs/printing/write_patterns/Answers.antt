@@ -11,6 +11,6 @@ loop-pattern-preserved c =
 pub returns-after-loop-pattern : goal.returns-after-loop-pattern
 returns-after-loop-pattern c =
     let written = items_end (λ ps. led_by (codes ", ") (map bound_name ps)) refl c.in-Some.rest.now c.loop-pattern.pattern-index c.loop-pattern-test.false c.loop-pattern.invariant in
-    written ∙ ap (λ s. s ++ led_by (codes ", ") (map bound_name c.in-Some.rest.now)) c.in_ok-write_pattern.ensures
+    written ∙ ap (λ s. s ++ led_by (codes ", ") (map bound_name c.in-Some.rest.now)) (c.in_ok-push_str.ensures.bytes ∙ ap (λ s. string_bytes c.args.out.now ++ s) c.bound_text.ensures)
     ∙ append_assoc (string_bytes c.args.out.now) (bound_name c.in-Some.first.now) (led_by (codes ", ") (map bound_name c.in-Some.rest.now))
     ∙ ap (λ ps. string_bytes c.args.out.now ++ joined (codes ", ") (map bound_name ps)) (sym c.in-Some.ensures.cases.0)
