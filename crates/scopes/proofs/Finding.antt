@@ -5,8 +5,10 @@ use Rattle.std.proofs.lemmas.Slice.Eq.{bytes_eq-Decides}
 use Rattle.std.specs.Prelude.{IfOk, vec_len, Vec}
 use Rattle.std.specs.declared.alloc.Global.{Global}
 use Rattle.std.specs.Str.{bytes_eq}
-use Rattle.kernele.specs.Tree.{Name}
-use Rattle.scopes.specs.Free.{is_among, without, distinct}
+use Rattle.kernele.specs.Tree.{Name, Tree, Trees, while_tree, for_tree}
+use Rattle.kernele.specs.declared.tree.Pattern.TheVariants as pattern
+use Rattle.scopes.specs.Scope.{own_names}
+use Rattle.scopes.specs.Free.{free, free_in, is_among, without, distinct}
 use Rattle.scopes.specs.Found.{with_new, with_all_new}
 use Rattle.scopes.specs.declared.naming.TopName.{TopName}
 
@@ -30,6 +32,14 @@ truncated_once {was = was} n xs outer added back = back ∙ (λ i. take (outer i
 -- what was added twice is taken away again
 pub truncated : {was now all last : List TopName} (n : ℕ) (xs ys : List TopName) → n ≡ length was → now ≡ was ++ xs → all ≡ now ++ ys → last ≡ take n all → last ≡ was
 truncated {was = was} n xs ys outer entered added back = back ∙ (λ i. take (outer i) ((added ∙ ap (λ names. names ++ ys) entered ∙ append_assoc was xs ys) i)) ∙ take-append_seam was (xs ++ ys)
+
+-- what is found in a block that begins with no name
+pub plainly : (was : List Name) (block : List TopName → List Name) (inside : List TopName) {now : List Name} → now ≡ with_all_new was (block (inside ++ [])) → now ≡ with_all_new was (block inside)
+plainly was block inside found = found ∙ ap (λ names. with_all_new was (block names)) (append-nil inside)
+
+-- a loop that binds nothing
+pub binds_nothing : (t : Tree) (ts : Trees) (names : List TopName) → free (for_tree pattern.Ignore t ts) names ≡ free (while_tree t ts) names
+binds_nothing t ts names = ap (λ inside. free t names ++ free_in ts inside) (append-nil (names ++ own_names t))
 
 -- what holds anyway holds of a success
 pub holds_anyway : {T E P : Type 0} (r : Result T E) → P → IfOk r (λ _. P)

@@ -1,9 +1,9 @@
 // The names that an object captures.
 ghost use Rattle.std.specs.Prelude.{◌≡◌, ◌++◌, IfOk, OnOk};
 ghost use Rattle.kernele.specs.View.{tree_of, trees_of, methods_of};
-ghost use Rattle.kernele.specs.Tree.{assign, if_tree, while_tree, for_tree, try_tree, object_tree, escape_tree};
+ghost use Rattle.kernele.specs.Tree.{assign, if_tree, for_tree, try_tree, object_tree};
 ghost use Rattle.scopes.specs.Scope.{own_names, own_names_in, name_of};
-ghost use Rattle.scopes.specs.Free.{captures, free, free_in, free_of, occurring, defines as defined_by, is_among as among_those};
+ghost use Rattle.scopes.specs.Free.{captures, free, free_in, occurring, defines as defined_by, is_among as among_those};
 ghost use Rattle.scopes.specs.Found.{with_all_new};
 
 use crate::naming::{Kind, TopName, add_all_bound, add_bound, add_name, add_names};
@@ -21,8 +21,7 @@ pub fn captured_names(
 {
     let mut inside = Vec::new(alloc);
     let mut found = Vec::new(alloc);
-    add_bound(pattern, &mut inside)?;
-    find_in_methods(methods, &mut inside, &mut found)?;
+    find_in_object(pattern, methods, &mut inside, &mut found)?;
     Ok(found)
 }
 
@@ -57,91 +56,17 @@ fn find_in(e: &Expr, inside: &mut Vec<TopName>, found: &mut Vec<Text>) -> Result
             find_in(value, inside, found)?;
             add_all_bound(patterns, inside)
         }
-        Expr::Hide(body) => find_in_block(body, inside, found),
-        Expr::If(condition, first, second) => {
-            find_in_if(condition, first, second, inside, found)
-        }
-        Expr::While(condition, body) => find_in_while(condition, body, inside, found),
-        Expr::For(pattern, list, body) => find_in_for(pattern, list, body, inside, found),
+        Expr::Hide(body) => find_in_block(&Pattern::Ignore, body, inside, found),
+        Expr::If(condition, first, second) => find_in_if(condition, first, second, inside, found),
+        Expr::While(test, body) => find_in_loop(&Pattern::Ignore, test, body, inside, found),
+        Expr::For(pattern, list, body) => find_in_loop(pattern, list, body, inside, found),
         Expr::Try(body, pattern, handler) => find_in_try(body, pattern, handler, inside, found),
         Expr::Throw(problem) => find_in(problem, inside, found),
         Expr::Object(pattern, methods) => find_in_object(pattern, methods, inside, found),
-        Expr::Escape(name, body) => find_in_escape(name, body, inside, found),
+        Expr::Escape(name, body) => {
+            find_in_block(&Pattern::Name(name.share()?), body, inside, found)
+        }
     }
-}
-
-#[cycle(free)]
-fn find_in_if(
-    condition: &Expr,
-    first: &[Expr],
-    second: &[Expr],
-    inside: &mut Vec<TopName>,
-    found: &mut Vec<Text>,
-) -> Result<(), AllocError>
-    ensures inside { OnOk result (inside.new.items ≡ inside.old.items ++ own_names (tree_of condition.now)) }
-    ensures found { OnOk result (found.new.items ≡ with_all_new found.old.items (free (if_tree (tree_of condition.now) (trees_of first.now) (trees_of second.now)) inside.old.items)) }
-{
-    find_in(condition, inside, found)?;
-    find_in_block(first, inside, found)?;
-    find_in_block(second, inside, found)
-}
-
-#[cycle(free)]
-fn find_in_while(
-    condition: &Expr,
-    body: &[Expr],
-    inside: &mut Vec<TopName>,
-    found: &mut Vec<Text>,
-) -> Result<(), AllocError>
-    ensures inside { OnOk result (inside.new.items ≡ inside.old.items ++ own_names (tree_of condition.now)) }
-    ensures found { OnOk result (found.new.items ≡ with_all_new found.old.items (free (while_tree (tree_of condition.now) (trees_of body.now)) inside.old.items)) }
-{
-    find_in(condition, inside, found)?;
-    find_in_block(body, inside, found)
-}
-
-#[cycle(free)]
-fn find_in_for(
-    pattern: &Pattern,
-    list: &Expr,
-    body: &[Expr],
-    inside: &mut Vec<TopName>,
-    found: &mut Vec<Text>,
-) -> Result<(), AllocError>
-    ensures inside { OnOk result (inside.new.items ≡ inside.old.items ++ own_names (tree_of list.now)) }
-    ensures found { OnOk result (found.new.items ≡ with_all_new found.old.items (free (for_tree pattern.now (tree_of list.now) (trees_of body.now)) inside.old.items)) }
-{
-    find_in(list, inside, found)?;
-    find_in_bound_block(pattern, body, inside, found)
-}
-
-#[cycle(free)]
-fn find_in_try(
-    body: &[Expr],
-    pattern: &Pattern,
-    handler: &[Expr],
-    inside: &mut Vec<TopName>,
-    found: &mut Vec<Text>,
-) -> Result<(), AllocError>
-    ensures inside { OnOk result (inside.new.items ≡ inside.old.items) }
-    ensures found { OnOk result (found.new.items ≡ with_all_new found.old.items (free (try_tree (trees_of body.now) pattern.now (trees_of handler.now)) inside.old.items)) }
-{
-    find_in_block(body, inside, found)?;
-    find_in_bound_block(pattern, handler, inside, found)
-}
-
-#[cycle(free)]
-fn find_in_object(
-    pattern: &Pattern,
-    methods: &[Method],
-    inside: &mut Vec<TopName>,
-    found: &mut Vec<Text>,
-) -> Result<(), AllocError>
-    ensures inside { OnOk result (inside.new.items ≡ inside.old.items ++ name_of pattern.now) }
-    ensures found { OnOk result (found.new.items ≡ with_all_new found.old.items (free (object_tree pattern.now (methods_of methods.now)) inside.old.items)) }
-{
-    add_bound(pattern, inside)?;
-    find_in_methods(methods, inside, found)
 }
 
 /// The same of expressions in order.
@@ -178,25 +103,77 @@ fn find_in_assigned(
     find_in(value, inside, found)
 }
 
-/// What a block defines ends with it.
 #[cycle(free)]
-fn find_in_block(
+fn find_in_if(
+    condition: &Expr,
+    first: &[Expr],
+    second: &[Expr],
+    inside: &mut Vec<TopName>,
+    found: &mut Vec<Text>,
+) -> Result<(), AllocError>
+    ensures inside { OnOk result (inside.new.items ≡ inside.old.items ++ own_names (tree_of condition.now)) }
+    ensures found { OnOk result (found.new.items ≡ with_all_new found.old.items (free (if_tree (tree_of condition.now) (trees_of first.now) (trees_of second.now)) inside.old.items)) }
+{
+    find_in(condition, inside, found)?;
+    find_in_block(&Pattern::Ignore, first, inside, found)?;
+    find_in_block(&Pattern::Ignore, second, inside, found)
+}
+
+/// The same of a loop over a list; one that has a condition in its place binds nothing.
+#[cycle(free)]
+fn find_in_loop(
+    pattern: &Pattern,
+    list: &Expr,
     body: &[Expr],
     inside: &mut Vec<TopName>,
     found: &mut Vec<Text>,
 ) -> Result<(), AllocError>
-    ensures inside { OnOk result (inside.new.items ≡ inside.old.items) }
-    ensures found { OnOk result (found.new.items ≡ with_all_new found.old.items (free_in (trees_of body.now) inside.old.items)) }
+    ensures inside { OnOk result (inside.new.items ≡ inside.old.items ++ own_names (tree_of list.now)) }
+    ensures found { OnOk result (found.new.items ≡ with_all_new found.old.items (free (for_tree pattern.now (tree_of list.now) (trees_of body.now)) inside.old.items)) }
 {
+    find_in(list, inside, found)?;
+    find_in_block(pattern, body, inside, found)
+}
+
+#[cycle(free)]
+fn find_in_try(
+    body: &[Expr],
+    pattern: &Pattern,
+    handler: &[Expr],
+    inside: &mut Vec<TopName>,
+    found: &mut Vec<Text>,
+) -> Result<(), AllocError>
+    ensures inside { OnOk result (inside.new.items ≡ inside.old.items) }
+    ensures found { OnOk result (found.new.items ≡ with_all_new found.old.items (free (try_tree (trees_of body.now) pattern.now (trees_of handler.now)) inside.old.items)) }
+{
+    find_in_block(&Pattern::Ignore, body, inside, found)?;
+    find_in_block(pattern, handler, inside, found)
+}
+
+/// The same of an object: its own name is defined in its methods and behind it, the parameters of a method in its body alone.
+#[cycle(free)]
+fn find_in_object(
+    pattern: &Pattern,
+    methods: &[Method],
+    inside: &mut Vec<TopName>,
+    found: &mut Vec<Text>,
+) -> Result<(), AllocError>
+    ensures inside { OnOk result (inside.new.items ≡ inside.old.items ++ name_of pattern.now) }
+    ensures found { OnOk result (found.new.items ≡ with_all_new found.old.items (free (object_tree pattern.now (methods_of methods.now)) inside.old.items)) }
+{
+    add_bound(pattern, inside)?;
     let outer = inside.len();
-    find_in_all(body, inside, found)?;
-    inside.truncate(outer);
+    for method in methods {
+        add_all_bound(&method.parameters, inside)?;
+        find_in_all(&method.body, inside, found)?;
+        inside.truncate(outer);
+    }
     Ok(())
 }
 
-/// The same of a block that begins with the name of a pattern.
+/// The same of a block that begins with what a pattern binds; what it defines ends with it.
 #[cycle(free)]
-fn find_in_bound_block(
+fn find_in_block(
     pattern: &Pattern,
     body: &[Expr],
     inside: &mut Vec<TopName>,
@@ -209,43 +186,6 @@ fn find_in_bound_block(
     add_bound(pattern, inside)?;
     find_in_all(body, inside, found)?;
     inside.truncate(outer);
-    Ok(())
-}
-
-/// The same of a block that begins with the name of an ejector.
-#[cycle(free)]
-fn find_in_escape(
-    name: &Text,
-    body: &[Expr],
-    inside: &mut Vec<TopName>,
-    found: &mut Vec<Text>,
-) -> Result<(), AllocError>
-    ensures inside { OnOk result (inside.new.items ≡ inside.old.items) }
-    ensures found { OnOk result (found.new.items ≡ with_all_new found.old.items (free (escape_tree name.now (trees_of body.now)) inside.old.items)) }
-{
-    let outer = inside.len();
-    add_name(name, Kind::Definition, inside)?;
-    find_in_all(body, inside, found)?;
-    inside.truncate(outer);
-    Ok(())
-}
-
-/// The parameters of a method are defined in its body, and its names end with it.
-#[cycle(free)]
-fn find_in_methods(
-    methods: &[Method],
-    inside: &mut Vec<TopName>,
-    found: &mut Vec<Text>,
-) -> Result<(), AllocError>
-    ensures inside { OnOk result (inside.new.items ≡ inside.old.items) }
-    ensures found { OnOk result (found.new.items ≡ with_all_new found.old.items (free_of (methods_of methods.now) inside.old.items)) }
-{
-    let outer = inside.len();
-    for method in methods {
-        add_all_bound(&method.parameters, inside)?;
-        find_in_all(&method.body, inside, found)?;
-        inside.truncate(outer);
-    }
     Ok(())
 }
 

@@ -15,8 +15,8 @@ invariant-find_in_all-loop-tree l = record {
 }
 
 -- the same of methods
-abbrev pub invariant-find_in_methods-loop-method : goal.invariant-find_in_methods-loop-method
-invariant-find_in_methods-loop-method l = record {
+abbrev pub invariant-find_in_object-loop-method : goal.invariant-find_in_object-loop-method
+invariant-find_in_object-loop-method l = record {
   inside : l.inside.items ≡ l.initial.inside.items;
   found : with_all_new l.found.items (free_of (methods_of (drop l.method-index l.methods)) l.inside.items) ≡ with_all_new l.initial.found.items (free_of (methods_of l.methods) l.initial.inside.items);
 }
@@ -34,27 +34,15 @@ decreases-find_in_assigned l = 4 * goal.size-find_in_assigned l + 1
 abbrev pub decreases-find_in_block : goal.decreases-find_in_block
 decreases-find_in_block l = 4 * goal.size-find_in_block l + 2
 
-abbrev pub decreases-find_in_bound_block : goal.decreases-find_in_bound_block
-decreases-find_in_bound_block l = 4 * goal.size-find_in_bound_block l + 2
-
-abbrev pub decreases-find_in_escape : goal.decreases-find_in_escape
-decreases-find_in_escape l = 4 * goal.size-find_in_escape l + 2
-
-abbrev pub decreases-find_in_methods : goal.decreases-find_in_methods
-decreases-find_in_methods l = 4 * goal.size-find_in_methods l + 1
-
 abbrev pub decreases-find_in_object : goal.decreases-find_in_object
-decreases-find_in_object l = 4 * goal.size-find_in_object l + 2
+decreases-find_in_object l = 4 * goal.size-find_in_object l + 1
 
 -- of two parts the greater depth
 abbrev pub decreases-find_in_if : goal.decreases-find_in_if
 decreases-find_in_if l = 4 * (max (max (goal.size-find_in_if l) (most (λ e. the_size e) l.first.now)) (most (λ e. the_size e) l.second.now)) + 3
 
-abbrev pub decreases-find_in_while : goal.decreases-find_in_while
-decreases-find_in_while l = 4 * (max (goal.size-find_in_while l) (most (λ e. the_size e) l.body.now)) + 3
-
-abbrev pub decreases-find_in_for : goal.decreases-find_in_for
-decreases-find_in_for l = 4 * (max (goal.size-find_in_for l) (most (λ e. the_size e) l.body.now)) + 3
+abbrev pub decreases-find_in_loop : goal.decreases-find_in_loop
+decreases-find_in_loop l = 4 * (max (goal.size-find_in_loop l) (most (λ e. the_size e) l.body.now)) + 3
 
 abbrev pub decreases-find_in_try : goal.decreases-find_in_try
 decreases-find_in_try l = 4 * (max (goal.size-find_in_try l) (most (λ e. the_size e) l.handler.now)) + 3
