@@ -1,7 +1,7 @@
 // The check of a program before it is evaluated.
 ghost use Rattle.std.specs.Prelude.{◌≡◌, ◌++◌, map, false, Some, Ok, IsOk, IfOk, IfErr, OnOk, MatchResult};
 ghost use Rattle.std.specs.Fmt.{WritesOnOk};
-ghost use Rattle.kernele.specs.Tree.{if_tree, while_tree, for_tree, try_tree, object_tree, escape_tree};
+ghost use Rattle.kernele.specs.Tree.{if_tree, for_tree, try_tree, object_tree};
 ghost use Rattle.kernele.specs.View.{tree_of, trees_of, methods_of, program_of};
 ghost use Rattle.scopes.specs.Scope.{checked, checked_all, checked_program, found, assigned, added, bound, all_bound, entered, in_block, checked_with, same_signature, has_signature, script_scopes, asked_scopes, kind_in, with_name};
 ghost use Rattle.scopes.specs.Check.{Gives, Refuses, fault_text, MayRefuse, names_of, scopes_of, scopes_in, scopes_with, signature_of, method_checked};
@@ -271,14 +271,14 @@ fn check_expr(e: &Expr, scopes: &mut Scopes) -> Result<(), CheckFault>
             check_expr(value, scopes)?;
             check_patterns(patterns, scopes)
         }
-        Expr::Hide(body) => check_block(body, scopes),
+        Expr::Hide(body) => check_block(&Pattern::Ignore, body, scopes),
         Expr::If(condition, first, second) => check_if(condition, first, second, scopes),
-        Expr::While(condition, body) => check_while(condition, body, scopes),
-        Expr::For(pattern, list, body) => check_for(pattern, list, body, scopes),
+        Expr::While(condition, body) => check_loop(&Pattern::Ignore, condition, body, scopes),
+        Expr::For(pattern, list, body) => check_loop(pattern, list, body, scopes),
         Expr::Try(body, pattern, handler) => check_try(body, pattern, handler, scopes),
         Expr::Throw(problem) => check_expr(problem, scopes),
         Expr::Object(pattern, methods) => check_object(pattern, methods, scopes),
-        Expr::Escape(name, body) => check_escape(name, body, scopes),
+        Expr::Escape(name, body) => check_block(&Pattern::Name(name.share()?), body, scopes),
     }
 }
 
@@ -292,20 +292,13 @@ fn check_if(
     ensures { Gives result (scopes_in scopes.new) (checked (if_tree (tree_of condition.now) (trees_of first.now) (trees_of second.now)) (scopes_in scopes.old)) }
 {
     check_expr(condition, scopes)?;
-    check_block(first, scopes)?;
-    check_block(second, scopes)
+    check_block(&Pattern::Ignore, first, scopes)?;
+    check_block(&Pattern::Ignore, second, scopes)
 }
 
+/// Checks a loop over a list; one that has a condition in its place binds nothing.
 #[cycle(check)]
-fn check_while(condition: &Expr, body: &[Expr], scopes: &mut Scopes) -> Result<(), CheckFault>
-    ensures { Gives result (scopes_in scopes.new) (checked (while_tree (tree_of condition.now) (trees_of body.now)) (scopes_in scopes.old)) }
-{
-    check_expr(condition, scopes)?;
-    check_block(body, scopes)
-}
-
-#[cycle(check)]
-fn check_for(
+fn check_loop(
     pattern: &Pattern,
     list: &Expr,
     body: &[Expr],
@@ -314,7 +307,7 @@ fn check_for(
     ensures { Gives result (scopes_in scopes.new) (checked (for_tree pattern.now (tree_of list.now) (trees_of body.now)) (scopes_in scopes.old)) }
 {
     check_expr(list, scopes)?;
-    check_bound_block(pattern, body, scopes)
+    check_block(pattern, body, scopes)
 }
 
 #[cycle(check)]
@@ -326,8 +319,8 @@ fn check_try(
 ) -> Result<(), CheckFault>
     ensures { Gives result (scopes_in scopes.new) (checked (try_tree (trees_of body.now) pattern.now (trees_of handler.now)) (scopes_in scopes.old)) }
 {
-    check_block(body, scopes)?;
-    check_bound_block(pattern, handler, scopes)
+    check_block(&Pattern::Ignore, body, scopes)?;
+    check_block(pattern, handler, scopes)
 }
 
 /// Checks an object: its own name, and then its methods.
@@ -359,31 +352,9 @@ fn check_method(method: &Method, earlier: &[Method], scopes: &Scopes<'_>) -> Res
     check_all(&method.body, &mut inner)
 }
 
-/// Checks a block in a scope of its own, which begins with the name of an ejector.
+/// Checks a block in a scope of its own, which begins with what a pattern binds.
 #[cycle(check)]
-fn check_escape(name: &Text, body: &[Expr], scopes: &Scopes<'_>) -> Result<(), CheckFault>
-    ensures { Gives result (scopes_in scopes.now) (checked (escape_tree name.now (trees_of body.now)) (scopes_in scopes.now)) }
-{
-    let mut inner = scopes.enter();
-    inner.add(name, Kind::Definition)?;
-    check_all(body, &mut inner)
-}
-
-/// Checks a block in a scope of its own.
-#[cycle(check)]
-fn check_block(body: &[Expr], scopes: &Scopes<'_>) -> Result<(), CheckFault>
-    ensures { Gives result (scopes_in scopes.now) (in_block (checked_all (trees_of body.now)) (scopes_in scopes.now)) }
-{
-    check_all(body, &mut scopes.enter())
-}
-
-/// Checks a block in a scope of its own, which begins with the name of a pattern.
-#[cycle(check)]
-fn check_bound_block(
-    pattern: &Pattern,
-    body: &[Expr],
-    scopes: &Scopes<'_>,
-) -> Result<(), CheckFault>
+fn check_block(pattern: &Pattern, body: &[Expr], scopes: &Scopes<'_>) -> Result<(), CheckFault>
     ensures { Gives result (scopes_in scopes.now) (in_block (checked_with pattern.now (checked_all (trees_of body.now))) (scopes_in scopes.now)) }
 {
     let mut inner = scopes.enter();

@@ -4,7 +4,6 @@ use Rattle.scopes.specs.Scope.{in_turn, in_block, all_bound, checked, checked_al
 use Rattle.kernele.specs.View.{trees_of, methods_of}
 use Rattle.scopes.specs.Check.{Gives, Refuses, scopes_in, signature_of}
 use Rattle.kernele.proofs.Walks.{tree_is_call, tree_is_list, tree_is_hide, tree_is_if, tree_is_while, tree_is_for, tree_is_try, tree_is_object, tree_is_escape, trees_from, no_trees_from, no_methods_from, body_is}
-use Rattle.kernele.specs.declared.tree.Pattern.TheVariants as pattern
 use Rattle.scopes.proofs.Refusals.{refuses_in_turn, refuses_in_block, refuses_same, fails}
 use Rattle.scopes.proofs.Methods.{methods_next, twice_refused, method_is_new, taking_gives}
 use Rattle.scopes.proofs.Parts.{tree_is_define, tree_is_variable, tree_is_assign, tree_is_same, tree_is_define_list}
@@ -35,10 +34,10 @@ check_expr-returns-in-Hide t c =
     let is = tree_is_hide c.in-Hide.body c.in-Hide.is c.deref-in-Hide.ensures c.deref-in-Hide-2.ensures.value in
     rw is c.check_block.ensures
 
-pub check_expr-returns-in-Escape : goal.check_expr-returns-in-Escape
-check_expr-returns-in-Escape t c =
-    let is = tree_is_escape c.in-Escape.name c.in-Escape.body c.in-Escape.is refl c.deref-in-Escape.ensures c.deref-in-Escape-2.ensures.value in
-    rw is c.check_escape.ensures
+pub check_expr-returns-in_ok-share-in-Escape : goal.check_expr-returns-in_ok-share-in-Escape
+check_expr-returns-in_ok-share-in-Escape t c =
+    let is = tree_is_escape c.in-Escape.name c.in-Escape.body c.in-Escape.is c.in_ok-share-in-Escape.ensures c.deref-in-Escape.ensures c.deref-in-Escape-2.ensures.value in
+    rw is c.check_block-in-Escape.ensures
 
 pub check_expr-returns-in-If : goal.check_expr-returns-in-If
 check_expr-returns-in-If t c =
@@ -48,12 +47,12 @@ check_expr-returns-in-If t c =
 pub check_expr-returns-in-While : goal.check_expr-returns-in-While
 check_expr-returns-in-While t c =
     let is = tree_is_while c.in-While.condition c.in-While.body c.in-While.is c.deref-in-While.ensures c.deref-in-While-2.ensures c.deref-in-While-3.ensures.value in
-    rw is c.check_while.ensures
+    rw is c.check_loop.ensures
 
 pub check_expr-returns-in-For : goal.check_expr-returns-in-For
 check_expr-returns-in-For t c =
     let is = tree_is_for c.in-For.pattern c.in-For.list c.in-For.body c.in-For.is refl c.deref-in-For.ensures c.deref-in-For-2.ensures c.deref-in-For-3.ensures.value in
-    rw is c.check_for.ensures
+    rw is c.check_loop-in-For.ensures
 
 pub check_expr-returns-in-Try : goal.check_expr-returns-in-Try
 check_expr-returns-in-Try t c =
@@ -75,11 +74,8 @@ check_if-returns-in_err-check_block t c =
 pub check_if-returns : goal.check_if-returns
 check_if-returns t c = rw (c.in_ok-check_expr.ensures, c.in_ok-check_block.ensures) c.check_block-2.ensures
 
-pub check_while-returns : goal.check_while-returns
-check_while-returns t c = rw c.in_ok-check_expr.ensures c.check_block.ensures
-
-pub check_for-returns : goal.check_for-returns
-check_for-returns t c = rw c.in_ok-check_expr.ensures c.check_bound_block.ensures
+pub check_loop-returns : goal.check_loop-returns
+check_loop-returns t c = rw c.in_ok-check_expr.ensures c.check_block.ensures
 
 pub check_try-returns-in_err-check_block : goal.check_try-returns-in_err-check_block
 check_try-returns-in_err-check_block t c =
@@ -88,22 +84,16 @@ check_try-returns-in_err-check_block t c =
     rw (p.1, p.2) (refuses_in_turn _ _ handler c.in_err-check_block.ensures)
 
 pub check_try-returns : goal.check_try-returns
-check_try-returns t c = rw c.in_ok-check_block.ensures c.check_bound_block.ensures
+check_try-returns t c = rw c.in_ok-check_block.ensures c.check_block-2.ensures
 
-pub check_bound_block-returns-in_err-check_pattern : goal.check_bound_block-returns-in_err-check_pattern
-check_bound_block-returns-in_err-check_pattern t c =
+pub check_block-returns-in_err-check_pattern : goal.check_block-returns-in_err-check_pattern
+check_block-returns-in_err-check_pattern t c =
     let p = err_from_is_err_and c.from_residual.result c.from_residual.ensures.1 in
     let body = checked_all (trees_of c.args.body.now) in
     rw (p.1, p.2) (refuses_in_block _ (checked_with c.args.pattern.now body) (scopes_in c.args.scopes.now) (refuses_in_turn _ _ body (rw c.enter-inner.ensures at c.in_err-check_pattern.ensures)))
 
-pub check_escape-returns-in_err-add : goal.check_escape-returns-in_err-add
-check_escape-returns-in_err-add t c =
-    let p = err_from_is_err_and c.from_residual.result c.from_residual.ensures.1 in
-    let body = checked_all (trees_of c.args.body.now) in
-    rw (p.1, p.2) (refuses_in_block _ (checked_with (pattern.Name c.args.name.now) body) (scopes_in c.args.scopes.now) (refuses_in_turn _ _ body (rw c.enter-inner.ensures at c.in_err-add.ensures)))
-
-pub check_for-returns-in_err-check_expr : goal.check_for-returns-in_err-check_expr
-check_for-returns-in_err-check_expr t c =
+pub check_loop-returns-in_err-check_expr : goal.check_loop-returns-in_err-check_expr
+check_loop-returns-in_err-check_expr t c =
     let p = err_from_is_err_and c.from_residual.result c.from_residual.ensures.1 in
     rw (p.1, p.2) (refuses_in_turn _ _ _ c.in_err-check_expr.ensures)
 
@@ -116,11 +106,6 @@ pub check_object-returns-in_err-check_pattern : goal.check_object-returns-in_err
 check_object-returns-in_err-check_pattern t c =
     let p = err_from_is_err_and c.from_residual.result c.from_residual.ensures.1 in
     rw (p.1, p.2) (refuses_in_turn _ _ _ c.in_err-check_pattern.ensures)
-
-pub check_while-returns-in_err-check_expr : goal.check_while-returns-in_err-check_expr
-check_while-returns-in_err-check_expr t c =
-    let p = err_from_is_err_and c.from_residual.result c.from_residual.ensures.1 in
-    rw (p.1, p.2) (refuses_in_turn _ _ _ c.in_err-check_expr.ensures)
 
 pub check_expr-returns-in_err-check_expr-in-Def : goal.check_expr-returns-in_err-check_expr-in-Def
 check_expr-returns-in_err-check_expr-in-Def t c =

@@ -27,12 +27,6 @@ decreases-check_all l = 4 * goal.size-check_all l + 1
 abbrev pub decreases-check_block : goal.decreases-check_block
 decreases-check_block l = 4 * goal.size-check_block l + 2
 
-abbrev pub decreases-check_bound_block : goal.decreases-check_bound_block
-decreases-check_bound_block l = 4 * goal.size-check_bound_block l + 2
-
-abbrev pub decreases-check_escape : goal.decreases-check_escape
-decreases-check_escape l = 4 * goal.size-check_escape l + 2
-
 abbrev pub decreases-check_object : goal.decreases-check_object
 decreases-check_object l = 4 * goal.size-check_object l + 3
 
@@ -43,11 +37,8 @@ decreases-check_method l = 4 * goal.size-check_method l + 2
 abbrev pub decreases-check_if : goal.decreases-check_if
 decreases-check_if l = 4 * (max (max (goal.size-check_if l) (most (λ e. the_size e) l.first.now)) (most (λ e. the_size e) l.second.now)) + 3
 
-abbrev pub decreases-check_while : goal.decreases-check_while
-decreases-check_while l = 4 * (max (goal.size-check_while l) (most (λ e. the_size e) l.body.now)) + 3
-
-abbrev pub decreases-check_for : goal.decreases-check_for
-decreases-check_for l = 4 * (max (goal.size-check_for l) (most (λ e. the_size e) l.body.now)) + 3
+abbrev pub decreases-check_loop : goal.decreases-check_loop
+decreases-check_loop l = 4 * (max (goal.size-check_loop l) (most (λ e. the_size e) l.body.now)) + 3
 
 abbrev pub decreases-check_try : goal.decreases-check_try
 decreases-check_try l = 4 * (max (goal.size-check_try l) (most (λ e. the_size e) l.handler.now)) + 3
