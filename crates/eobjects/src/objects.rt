@@ -240,7 +240,7 @@ fn scan_methods<'a>(
 {
     let mut rest = methods;
     while let Some((method, others)) = rest.split_first() {
-        if method.verb.as_str() == verb.as_str() && args.len() == method.parameters.len() {
+        if method.verb.as_str() == verb.text().as_str() && args.len() == method.parameters.len() {
             return Some(method);
         }
         rest = others;

@@ -167,8 +167,11 @@ fn integer_of(w: &Working, name: &Text, place: Place) -> Option<i64>
     ensures { IfSome result (λ n. noun_end (draft_of w.now.draft) name.now (sought name.now (at w.now)) ≡ value_end (int n)) }
 {
     match seek(w, name, place) {
-        Some(Binding::Fixed(value)) => value.as_int(),
-        Some(Binding::Slot(slot)) => w.draft.read_slot(*slot)?.as_int(),
-        None => None,
+        Some(Binding::Fixed(Value::Int(n))) => Some(*n),
+        Some(Binding::Slot(slot)) => match w.draft.read_slot(*slot) {
+            Some(Value::Int(n)) => Some(*n),
+            _ => None,
+        },
+        _ => None,
     }
 }

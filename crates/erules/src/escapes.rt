@@ -64,7 +64,7 @@ pub fn ejector_end(
     ensures { IfOk result (λ o. end_of o
         ≡ ejector_end_of ejector (opened_of w.now.opened.items) verb.now (vals_of args.now)) }
 {
-    if verb.as_str() != "run" {
+    if verb.text().as_str() != "run" {
         return no_such_method(w.alloc, verb, args);
     }
     match given(args)? {

@@ -1,5 +1,5 @@
 // A text that many hold and nobody changes.
-ghost use Rattle.std.specs.Prelude.{◌≡◌, ℕ, List, IfOk, length, string_bytes, nat_eq, Some};
+ghost use Rattle.std.specs.Prelude.{◌≡◌, ℕ, List, IfOk, string_bytes, nat_eq, Some};
 ghost use Rattle.std.proofs.Common.{refl, rules};
 ghost use Rattle.std.specs.Ordering.{nat_cmp};
 ghost use Rattle.std.specs.Hash as fed;
@@ -68,13 +68,6 @@ impl Text {
         ensures { result.now ≡ self.now }
     {
         self.shared.as_str()
-    }
-
-    /// How many bytes it has.
-    pub fn len(&self) -> usize
-        ensures { result ≡ length self.now }
-    {
-        self.shared.len()
     }
 }
 

@@ -28,7 +28,7 @@ fn weight_left(value: &Value, depth: u32, weight: u32) -> Option<u32>
         Value::Null | Value::Bool(_) | Value::Int(_) => Some(left),
         Value::Object(_) | Value::Ejector(_) => Some(left),
         Value::Text(text) | Value::Broken(text) => left.checked_sub(u32::try_from(
-            text.len(),
+            text.as_str().len(),
         ).ok()?),
         Value::List(items) => items_left(items.as_slice(), depth.checked_sub(1)?, left),
     }

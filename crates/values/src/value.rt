@@ -50,7 +50,7 @@ impl Value {
     }
 
     /// The integer that it is.
-    pub fn as_int(&self) -> Option<i64>
+    pub(crate) fn as_int(&self) -> Option<i64>
         ensures { result ≡ int_in (val_of self.now) }
     {
         match self {

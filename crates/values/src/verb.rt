@@ -97,7 +97,7 @@ impl Verb {
     }
 
     /// Its text, as a slice.
-    pub fn as_str(&self) -> &str
+    pub(crate) fn as_str(&self) -> &str
         ensures { result.now ≡ self.now }
     {
         self.text.as_str()

@@ -20,3 +20,6 @@ write_list-returns t c =
     after_last c.push_str-2.result _ _ _ _ c.push_str-2.ensures.bytes
     (between_brackets (string_bytes c.args.out.now) (string_bytes c.push_str.new.self) (string_bytes c.loop-item.out) _ c.in_ok-push_str.ensures.bytes
     (shown_end _ (string_bytes c.loop-item.out) c.loop-item.separator.now c.args.items.now c.loop-item.item-index c.loop-item-test.false c.loop-item.invariant.0))
+
+pub write_value-returns-in-Object : goal.write_value-returns-in-Object
+write_value-returns-in-Object t c = search rules

@@ -1,5 +1,5 @@
 use Rattle.std.proofs.Common.{rules}
-use Rattle.ids.proofs.text.Text.len.Goals as goal
+use Rattle.erules.proofs.results.data_end.Goals as goal
 
 pub returns : goal.returns
 returns c = search rules
