@@ -5,10 +5,10 @@ use Rattle.std.proofs.lemmas.Slice.Eq.{bytes_eq-Decides}
 use Rattle.std.specs.Prelude.{IfOk, vec_len, Vec}
 use Rattle.std.specs.declared.alloc.Global.{Global}
 use Rattle.std.specs.Str.{bytes_eq}
-use Rattle.kernele.specs.Tree.{Name, Tree, Trees, while_tree, for_tree}
-use Rattle.kernele.specs.declared.tree.Pattern.TheVariants as pattern
-use Rattle.scopes.specs.Scope.{own_names}
-use Rattle.scopes.specs.Free.{free, free_in, is_among, without, distinct}
+use Rattle.kernele.specs.Tree.{Name, Tree}
+use Rattle.scopes.specs.Free.{free, is_among, without, distinct}
+use Rattle.scopes.specs.Parts.{Part, first, second, third, part_names, part_free}
+use Rattle.scopes.proofs.Constructs.{free_in_parts}
 use Rattle.scopes.specs.Found.{with_new, with_all_new}
 use Rattle.scopes.specs.declared.naming.TopName.{TopName}
 
@@ -33,13 +33,27 @@ truncated_once {was = was} n xs outer added back = back ∙ (λ i. take (outer i
 pub truncated : {was now all last : List TopName} (n : ℕ) (xs ys : List TopName) → n ≡ length was → now ≡ was ++ xs → all ≡ now ++ ys → last ≡ take n all → last ≡ was
 truncated {was = was} n xs ys outer entered added back = back ∙ (λ i. take (outer i) ((added ∙ ap (λ names. names ++ ys) entered ∙ append_assoc was xs ys) i)) ∙ take-append_seam was (xs ++ ys)
 
--- what is found in a block that begins with no name
-pub plainly : (was : List Name) (block : List TopName → List Name) (inside : List TopName) {now : List Name} → now ≡ with_all_new was (block (inside ++ [])) → now ≡ with_all_new was (block inside)
-plainly was block inside found = found ∙ ap (λ names. with_all_new was (block names)) (append-nil inside)
+-- what is found in the third part of a tree behind the others, is found in the tree
+pub found_left : (t : Tree) (inside : List TopName) (was : List Name) {one two three : Part} {behind last : List TopName} {now all : List Name}
+    → one ≡ first t → behind ≡ inside ++ part_names one → now ≡ with_all_new was (part_free one inside)
+    → two ≡ second t → last ≡ behind ++ part_names two → all ≡ with_all_new now (part_free two behind)
+    → three ≡ third t → with_all_new all (part_free three last) ≡ with_all_new was (free t inside)
+found_left t inside was {one = one} {two = two} {three = three} is defined found next more found' end =
+    (λ i. with_all_new (found' i) (part_free three (more i)))
+    ∙ (λ i. with_all_new (with_all_new (found i) (part_free two (defined i))) (part_free three (defined i ++ part_names two)))
+    ∙ (λ i. with_all_new (with_all_new (with_all_new was (part_free (is i) inside)) (part_free (next i) (inside ++ part_names (is i)))) (part_free (end i) ((inside ++ part_names (is i)) ++ part_names (next i))))
+    ∙ ap (λ names. with_all_new names last_free) (sym (all_new_two was first_free second_free))
+    ∙ sym (all_new_two was (first_free ++ second_free) last_free)
+    ∙ ap (with_all_new was) (sym (free_in_parts t inside))
+  where
+    first_free : List Name
+    first_free = part_free (first t) inside
 
--- a loop that binds nothing
-pub binds_nothing : (t : Tree) (ts : Trees) (names : List TopName) → free (for_tree pattern.Ignore t ts) names ≡ free (while_tree t ts) names
-binds_nothing t ts names = ap (λ inside. free t names ++ free_in ts inside) (append-nil (names ++ own_names t))
+    second_free : List Name
+    second_free = part_free (second t) (inside ++ part_names (first t))
+
+    last_free : List Name
+    last_free = part_free (third t) ((inside ++ part_names (first t)) ++ part_names (second t))
 
 -- what holds anyway holds of a success
 pub holds_anyway : {T E P : Type 0} (r : Result T E) → P → IfOk r (λ _. P)

@@ -3,5 +3,5 @@ pub mod Names
 pub mod Counts
 pub mod Growth
 pub mod Finding
-pub mod Parts
+pub mod Constructs
 pub mod Methods

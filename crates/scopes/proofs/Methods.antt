@@ -1,16 +1,16 @@
 -- The methods of an object, checked one after the other, and what stands in a block.
-use Rattle.std.proofs.Common.{◌≡◌, Bool, false, cond, Result, Ok, Err, subst, ℕ, ◌+◌, ◌<◌, List, [], ◌∷◌, ◌++◌, length, get_or, take, drop, map, ap, sym, ◌∙◌}
+use Rattle.std.proofs.Common.{◌≡◌, Bool, false, cond, Ok, Err, ℕ, ◌+◌, ◌<◌, List, [], ◌∷◌, ◌++◌, length, get_or, take, drop, map, ap, sym, ◌∙◌}
 use Rattle.std.proofs.lemmas.List.{map_more}
-use Rattle.kernele.specs.Tree.{Name}
+use Rattle.kernele.specs.Tree.{Name, Trees}
 use Rattle.kernele.specs.View.{trees_of, methods_of}
 use Rattle.kernele.proofs.Walks.{methods_from}
 use Rattle.kernele.specs.declared.tree.Method.{Method}
 use Rattle.kernele.specs.declared.tree.Pattern.{Pattern}
-use Rattle.scopes.specs.Scope.{Scopes, Checked, in_turn, entered, in_block, left_for, all_bound, checked_all, checked_methods, checked_taking, has_signature, duplicate_name}
-use Rattle.scopes.specs.Check.{Gives, Refuses, MayRefuse, signature_of, method_checked}
+use Rattle.scopes.specs.Scope.{Scopes, in_turn, in_block, checked_all, checked_methods, checked_taking, has_signature, duplicate_name}
+use Rattle.scopes.specs.Check.{Refuses, MayRefuse, signature_of, method_checked}
+use Rattle.scopes.specs.Parts.{patterns_bound, checked_behind}
 use Rattle.scopes.specs.declared.checking.CheckFault.{CheckFault}
 use Rattle.scopes.specs.declared.checking.CheckFault.TheVariants as fault
-use Rattle.scopes.proofs.Refusals.{refuses_in_block}
 
 -- what the methods from an index on give is what the one there gives, and then those behind it
 pub methods_next : (ms : List Method) (i : ℕ) (m : Method) (s : Scopes) → i < length ms → m ≡ get_or ms i m
@@ -30,17 +30,11 @@ twice_refused fault.TooLong twice x s h = absurd (cc)
 twice_refused fault.Memory twice x s h = tt
 
 -- a new method gives what its block gives
-pub method_is_new : (earlier : List Method) (m : Method) (s : Scopes) → has_signature (map signature_of earlier) (signature_of m) ≡ false
+method_is_new : (earlier : List Method) (m : Method) (s : Scopes) → has_signature (map signature_of earlier) (signature_of m) ≡ false
     → method_checked earlier m s ≡ in_block (checked_taking m.parameters.value.items (checked_all (trees_of m.body.value.items))) s
 method_is_new earlier m s new = ap (λ b. in_turn (cond b (Err (duplicate_name m.verb)) (Ok s)) (in_block (checked_taking m.parameters.value.items (checked_all (trees_of m.body.value.items))))) new
 
--- what stands in a block gives what the block gives
-block_gives : (r : Result (Unit {0}) CheckFault) (inside : Scopes → Checked) (s after : Scopes) → Gives r after (inside (entered s)) → Gives r s (in_block inside s)
-block_gives (Ok done) inside s after h = ap (left_for s) h
-block_gives (Err f) inside s after h = refuses_in_block f inside s h
-
--- the same behind parameters
-pub taking_gives : (r : Result (Unit {0}) CheckFault) (ps : List Pattern) {qs : List Pattern} (body : Scopes → Checked) (s : Scopes) {inner : Scopes} (middle after : Scopes) → inner ≡ entered s → qs ≡ ps → all_bound qs inner ≡ Ok middle → Gives r after (body middle)
-    → Gives r s (in_block (checked_taking ps body) s)
-taking_gives r ps body s middle after begins same bound h =
-    block_gives r (checked_taking ps body) s after (subst (Gives r after) (sym (ap (λ o. in_turn o body) ((λ i. all_bound (sym same i) (sym begins i)) ∙ bound))) h)
+-- the same from the slices of its parameters and its body
+pub block_is_left : (earlier : List Method) (m : Method) (s : Scopes) {ps : List Pattern} {body : Trees} → has_signature (map signature_of earlier) (signature_of m) ≡ false → ps ≡ m.parameters.value.items → body ≡ trees_of m.body.value.items
+    → method_checked earlier m s ≡ in_block (checked_behind (patterns_bound ps) (checked_all body)) s
+block_is_left earlier m s new same all = method_is_new earlier m s new ∙ λ i. in_block (checked_taking (sym same i) (checked_all (sym all i))) s

@@ -3,3 +3,4 @@ pub mod Check
 pub mod Free
 pub mod Found
 pub mod Room
+pub mod Parts

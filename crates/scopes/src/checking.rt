@@ -1,14 +1,15 @@
 // The check of a program before it is evaluated.
-ghost use Rattle.std.specs.Prelude.{◌≡◌, ◌++◌, map, false, Some, Ok, IsOk, IfOk, IfErr, OnOk, MatchResult};
+ghost use Rattle.std.specs.Prelude.{◌≡◌, ◌++◌, [], map, false, Some, Ok, IsOk, IfOk, IfErr, OnOk, MatchResult};
 ghost use Rattle.std.specs.Fmt.{WritesOnOk};
-ghost use Rattle.kernele.specs.Tree.{if_tree, for_tree, try_tree, object_tree};
 ghost use Rattle.kernele.specs.View.{tree_of, trees_of, methods_of, program_of};
-ghost use Rattle.scopes.specs.Scope.{checked, checked_all, checked_program, found, assigned, added, bound, all_bound, entered, in_block, checked_with, same_signature, has_signature, script_scopes, asked_scopes, kind_in, with_name};
-ghost use Rattle.scopes.specs.Check.{Gives, Refuses, fault_text, MayRefuse, names_of, scopes_of, scopes_in, scopes_with, signature_of, method_checked};
+ghost use Rattle.scopes.specs.Scope.{checked, checked_all, checked_methods, checked_program, found, assigned, added, bound, all_bound, entered, in_block, same_signature, has_signature, script_scopes, asked_scopes, kind_in, with_name};
+ghost use Rattle.scopes.specs.Check.{Gives, Refuses, fault_text, MayRefuse, names_of, scopes_of, scopes_in, scopes_with, signature_of};
+ghost use Rattle.scopes.specs.Parts.{part_checked, part_in, binding_checked, binding_in, checked_behind};
 ghost use Rattle.scopes.specs.declared.checking.CheckFault.TheVariants.{Memory};
 
 use crate::count::{Room, behind_all};
 use crate::naming::{Kind, TopName};
+use crate::parts::{Binding, Part, first_part, second_part, third_part};
 use ids::text::Text;
 use kernele::tree::{Expr, Method, Pattern, Program};
 use std::alloc::{AllocError, AllocFailed, Global};
@@ -243,123 +244,50 @@ fn check_all(trees: &[Expr], scopes: &mut Scopes) -> Result<(), CheckFault>
 fn check_expr(e: &Expr, scopes: &mut Scopes) -> Result<(), CheckFault>
     ensures { Gives result (scopes_in scopes.new) (checked (tree_of e.now) (scopes_in scopes.old)) }
 {
-    match e {
-        Expr::Null | Expr::Bool(_) | Expr::Int(_) | Expr::Text(_) => Ok(()),
-        Expr::Noun(name) => check_noun(name, scopes),
-        Expr::Def(pattern, value) => {
-            check_expr(value, scopes)?;
-            check_pattern(pattern, scopes)
-        }
-        Expr::Var(name, value) => {
-            check_expr(value, scopes)?;
-            scopes.add(name, Kind::Variable)
-        }
-        Expr::Assign(name, value) => {
-            check_expr(value, scopes)?;
-            check_assigned(name, scopes)
-        }
-        Expr::Call(receiver, _, args) => {
-            check_expr(receiver, scopes)?;
-            check_all(args, scopes)
-        }
-        Expr::List(items) => check_all(items, scopes),
-        Expr::Same(left, right) => {
-            check_expr(left, scopes)?;
-            check_expr(right, scopes)
-        }
-        Expr::DefList(patterns, value) => {
-            check_expr(value, scopes)?;
-            check_patterns(patterns, scopes)
-        }
-        Expr::Hide(body) => check_block(&Pattern::Ignore, body, scopes),
-        Expr::If(condition, first, second) => check_if(condition, first, second, scopes),
-        Expr::While(condition, body) => check_loop(&Pattern::Ignore, condition, body, scopes),
-        Expr::For(pattern, list, body) => check_loop(pattern, list, body, scopes),
-        Expr::Try(body, pattern, handler) => check_try(body, pattern, handler, scopes),
-        Expr::Throw(problem) => check_expr(problem, scopes),
-        Expr::Object(pattern, methods) => check_object(pattern, methods, scopes),
-        Expr::Escape(name, body) => check_block(&Pattern::Name(name.share()?), body, scopes),
+    check_part(first_part(e), scopes)?;
+    check_part(second_part(e), scopes)?;
+    check_part(third_part(e), scopes)
+}
+
+#[cycle(check)]
+fn check_part(part: Part<'_>, scopes: &mut Scopes) -> Result<(), CheckFault>
+    ensures { Gives result (scopes_in scopes.new) (part_checked (part_in part.entry) (scopes_in scopes.old)) }
+{
+    match part {
+        Part::Nothing | Part::Target(_, _) => Ok(()),
+        Part::Noun(name) => check_noun(name, scopes),
+        Part::Assign(name) => check_assigned(name, scopes),
+        Part::Evaluate(e) => check_expr(e, scopes),
+        Part::EvaluateAll(trees) => check_all(trees, scopes),
+        Part::Bind(binding) => check_binding(binding, scopes),
+        Part::Block(binding, body) => check_block(binding, body, scopes),
+        Part::Methods(methods) => check_methods(methods, scopes),
     }
 }
 
+/// Checks a block in a scope of its own, which begins with some names.
 #[cycle(check)]
-fn check_if(
-    condition: &Expr,
-    first: &[Expr],
-    second: &[Expr],
-    scopes: &mut Scopes,
-) -> Result<(), CheckFault>
-    ensures { Gives result (scopes_in scopes.new) (checked (if_tree (tree_of condition.now) (trees_of first.now) (trees_of second.now)) (scopes_in scopes.old)) }
+fn check_block(binding: Binding<'_>, body: &[Expr], scopes: &Scopes<'_>) -> Result<(), CheckFault>
+    ensures { Gives result (scopes_in scopes.now) (in_block (checked_behind (binding_in binding.entry) (checked_all (trees_of body.now))) (scopes_in scopes.now)) }
 {
-    check_expr(condition, scopes)?;
-    check_block(&Pattern::Ignore, first, scopes)?;
-    check_block(&Pattern::Ignore, second, scopes)
+    let mut inner = scopes.enter();
+    check_binding(binding, &mut inner)?;
+    check_all(body, &mut inner)
 }
 
-/// Checks a loop over a list; one that has a condition in its place binds nothing.
+/// Checks the methods of an object, each behind the earlier ones.
 #[cycle(check)]
-fn check_loop(
-    pattern: &Pattern,
-    list: &Expr,
-    body: &[Expr],
-    scopes: &mut Scopes,
-) -> Result<(), CheckFault>
-    ensures { Gives result (scopes_in scopes.new) (checked (for_tree pattern.now (tree_of list.now) (trees_of body.now)) (scopes_in scopes.old)) }
+fn check_methods(methods: &[Method], scopes: &Scopes<'_>) -> Result<(), CheckFault>
+    ensures { Gives result (scopes_in scopes.now) (checked_methods [] (methods_of methods.now) (scopes_in scopes.now)) }
 {
-    check_expr(list, scopes)?;
-    check_block(pattern, body, scopes)
-}
-
-#[cycle(check)]
-fn check_try(
-    body: &[Expr],
-    pattern: &Pattern,
-    handler: &[Expr],
-    scopes: &mut Scopes,
-) -> Result<(), CheckFault>
-    ensures { Gives result (scopes_in scopes.new) (checked (try_tree (trees_of body.now) pattern.now (trees_of handler.now)) (scopes_in scopes.old)) }
-{
-    check_block(&Pattern::Ignore, body, scopes)?;
-    check_block(pattern, handler, scopes)
-}
-
-/// Checks an object: its own name, and then its methods.
-#[cycle(check)]
-fn check_object(
-    pattern: &Pattern,
-    methods: &[Method],
-    scopes: &mut Scopes,
-) -> Result<(), CheckFault>
-    ensures { Gives result (scopes_in scopes.new) (checked (object_tree pattern.now (methods_of methods.now)) (scopes_in scopes.old)) }
-{
-    check_pattern(pattern, scopes)?;
     let mut index = 0;
     while index < methods.len() {
-        check_method(&methods[index], &methods[..index], scopes)?;
+        let method = &methods[index];
+        check_is_new(&methods[..index], method)?;
+        check_block(Binding::Patterns(&method.parameters), &method.body, scopes)?;
         index += 1;
     }
     Ok(())
-}
-
-/// Checks a method behind the earlier ones of its object, in a scope of its own, which begins with the names of the parameters.
-#[cycle(check)]
-fn check_method(method: &Method, earlier: &[Method], scopes: &Scopes<'_>) -> Result<(), CheckFault>
-    ensures { Gives result (scopes_in scopes.now) (method_checked earlier.now method.now (scopes_in scopes.now)) }
-{
-    check_is_new(earlier, method)?;
-    let mut inner = scopes.enter();
-    check_patterns(&method.parameters, &mut inner)?;
-    check_all(&method.body, &mut inner)
-}
-
-/// Checks a block in a scope of its own, which begins with what a pattern binds.
-#[cycle(check)]
-fn check_block(pattern: &Pattern, body: &[Expr], scopes: &Scopes<'_>) -> Result<(), CheckFault>
-    ensures { Gives result (scopes_in scopes.now) (in_block (checked_with pattern.now (checked_all (trees_of body.now))) (scopes_in scopes.now)) }
-{
-    let mut inner = scopes.enter();
-    check_pattern(pattern, &mut inner)?;
-    check_all(body, &mut inner)
 }
 
 fn check_noun(name: &Text, scopes: &mut Scopes) -> Result<(), CheckFault>
@@ -400,6 +328,18 @@ fn is_found_as(one: &Method, other: &Method) -> bool
     ensures { result ≡ same_signature (signature_of one.now) (signature_of other.now) }
 {
     one.verb == other.verb && one.parameters.len() == other.parameters.len()
+}
+
+fn check_binding(binding: Binding<'_>, scopes: &mut Scopes) -> Result<(), CheckFault>
+    ensures { Gives result (scopes_in scopes.new) (binding_checked (binding_in binding.entry) (scopes_in scopes.old)) }
+{
+    match binding {
+        Binding::Nothing => Ok(()),
+        Binding::Definition(name) => scopes.add(name, Kind::Definition),
+        Binding::Variable(name) => scopes.add(name, Kind::Variable),
+        Binding::Pattern(pattern) => check_pattern(pattern, scopes),
+        Binding::Patterns(patterns) => check_patterns(patterns, scopes),
+    }
 }
 
 fn check_patterns(patterns: &[Pattern], scopes: &mut Scopes) -> Result<(), CheckFault>

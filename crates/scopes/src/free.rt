@@ -1,12 +1,13 @@
 // The names that an object captures.
 ghost use Rattle.std.specs.Prelude.{◌≡◌, ◌++◌, IfOk, OnOk};
 ghost use Rattle.kernele.specs.View.{tree_of, trees_of, methods_of};
-ghost use Rattle.kernele.specs.Tree.{assign, if_tree, for_tree, try_tree, object_tree};
-ghost use Rattle.scopes.specs.Scope.{own_names, own_names_in, name_of};
-ghost use Rattle.scopes.specs.Free.{captures, free, free_in, occurring, defines as defined_by, is_among as among_those};
+ghost use Rattle.scopes.specs.Scope.{own_names, own_names_in};
+ghost use Rattle.scopes.specs.Free.{captures, free, free_in, free_of, occurring, defines as defined_by, is_among as among_those};
 ghost use Rattle.scopes.specs.Found.{with_all_new};
+ghost use Rattle.scopes.specs.Parts.{part_in, part_names, part_free, binding_in, binding_names};
 
-use crate::naming::{Kind, TopName, add_all_bound, add_bound, add_name, add_names};
+use crate::naming::{TopName, add_binding, add_bound, add_names};
+use crate::parts::{Binding, Part, first_part, second_part, third_part};
 use ids::text::Text;
 use kernele::tree::{Expr, Method, Pattern};
 use std::alloc::{AllocError, Global};
@@ -21,7 +22,8 @@ pub fn captured_names(
 {
     let mut inside = Vec::new(alloc);
     let mut found = Vec::new(alloc);
-    find_in_object(pattern, methods, &mut inside, &mut found)?;
+    add_bound(pattern, &mut inside)?;
+    find_in_methods(methods, &mut inside, &mut found)?;
     Ok(found)
 }
 
@@ -31,41 +33,30 @@ fn find_in(e: &Expr, inside: &mut Vec<TopName>, found: &mut Vec<Text>) -> Result
     ensures inside { OnOk result (inside.new.items ≡ inside.old.items ++ own_names (tree_of e.now)) }
     ensures found { OnOk result (found.new.items ≡ with_all_new found.old.items (free (tree_of e.now) inside.old.items)) }
 {
-    match e {
-        Expr::Null | Expr::Bool(_) | Expr::Int(_) | Expr::Text(_) => Ok(()),
-        Expr::Noun(name) => add_occurring(name, inside, found),
-        Expr::Def(pattern, value) => {
-            find_in(value, inside, found)?;
-            add_bound(pattern, inside)
-        }
-        Expr::Var(name, value) => {
-            find_in(value, inside, found)?;
-            add_name(name, Kind::Variable, inside)
-        }
-        Expr::Assign(name, value) => find_in_assigned(name, value, inside, found),
-        Expr::Call(receiver, _, args) => {
-            find_in(receiver, inside, found)?;
-            find_in_all(args, inside, found)
-        }
-        Expr::List(items) => find_in_all(items, inside, found),
-        Expr::Same(left, right) => {
-            find_in(left, inside, found)?;
-            find_in(right, inside, found)
-        }
-        Expr::DefList(patterns, value) => {
-            find_in(value, inside, found)?;
-            add_all_bound(patterns, inside)
-        }
-        Expr::Hide(body) => find_in_block(&Pattern::Ignore, body, inside, found),
-        Expr::If(condition, first, second) => find_in_if(condition, first, second, inside, found),
-        Expr::While(test, body) => find_in_loop(&Pattern::Ignore, test, body, inside, found),
-        Expr::For(pattern, list, body) => find_in_loop(pattern, list, body, inside, found),
-        Expr::Try(body, pattern, handler) => find_in_try(body, pattern, handler, inside, found),
-        Expr::Throw(problem) => find_in(problem, inside, found),
-        Expr::Object(pattern, methods) => find_in_object(pattern, methods, inside, found),
-        Expr::Escape(name, body) => {
-            find_in_block(&Pattern::Name(name.share()?), body, inside, found)
-        }
+    find_in_part(first_part(e), inside, found)?;
+    find_in_part(second_part(e), inside, found)?;
+    find_in_part(third_part(e), inside, found)
+}
+
+/// The same of a part of an expression.
+#[cycle(free)]
+fn find_in_part(
+    part: Part<'_>,
+    inside: &mut Vec<TopName>,
+    found: &mut Vec<Text>,
+) -> Result<(), AllocError>
+    ensures inside { OnOk result (inside.new.items ≡ inside.old.items ++ part_names (part_in part.entry)) }
+    ensures found { OnOk result (found.new.items ≡ with_all_new found.old.items (part_free (part_in part.entry) inside.old.items)) }
+{
+    match part {
+        Part::Nothing | Part::Assign(_) => Ok(()),
+        Part::Noun(name) => add_occurring(name, inside, found),
+        Part::Target(name, value) => find_target(name, value, inside, found),
+        Part::Evaluate(e) => find_in(e, inside, found),
+        Part::EvaluateAll(trees) => find_in_all(trees, inside, found),
+        Part::Bind(binding) => add_binding(binding, inside),
+        Part::Block(binding, body) => find_in_block(binding, body, inside, found),
+        Part::Methods(methods) => find_in_methods(methods, inside, found),
     }
 }
 
@@ -85,106 +76,54 @@ fn find_in_all(
     Ok(())
 }
 
-/// The name stands first in the text, and is looked up behind the value.
+/// The same of methods: the parameters of a method are defined in its body alone.
 #[cycle(free)]
-fn find_in_assigned(
+fn find_in_methods(
+    methods: &[Method],
+    inside: &mut Vec<TopName>,
+    found: &mut Vec<Text>,
+) -> Result<(), AllocError>
+    ensures inside { OnOk result (inside.new.items ≡ inside.old.items) }
+    ensures found { OnOk result (found.new.items ≡ with_all_new found.old.items (free_of (methods_of methods.now) inside.old.items)) }
+{
+    for method in methods {
+        let parameters = Binding::Patterns(&method.parameters);
+        find_in_block(parameters, &method.body, inside, found)?;
+    }
+    Ok(())
+}
+
+/// The same of a block that begins with some names; what it defines ends with it.
+#[cycle(free)]
+fn find_in_block(
+    binding: Binding<'_>,
+    body: &[Expr],
+    inside: &mut Vec<TopName>,
+    found: &mut Vec<Text>,
+) -> Result<(), AllocError>
+    ensures inside { OnOk result (inside.new.items ≡ inside.old.items) }
+    ensures found { OnOk result (found.new.items ≡ with_all_new found.old.items (free_in (trees_of body.now) (inside.old.items ++ binding_names (binding_in binding.entry)))) }
+{
+    let outer = inside.len();
+    add_binding(binding, inside)?;
+    find_in_all(body, inside, found)?;
+    inside.truncate(outer);
+    Ok(())
+}
+
+/// Adds a name that stands before an expression and is looked up behind it.
+fn find_target(
     name: &Text,
     value: &Expr,
     inside: &mut Vec<TopName>,
     found: &mut Vec<Text>,
 ) -> Result<(), AllocError>
-    ensures inside { OnOk result (inside.new.items ≡ inside.old.items ++ own_names (tree_of value.now)) }
-    ensures found { OnOk result (found.new.items ≡ with_all_new found.old.items (free (assign name.now (tree_of value.now)) inside.old.items)) }
+    ensures inside { OnOk result (inside.new.items ≡ inside.old.items) }
+    ensures found { OnOk result (found.new.items ≡ with_all_new found.old.items (occurring name.now (inside.old.items ++ own_names (tree_of value.now)))) }
 {
     let outer = inside.len();
     add_names(value, inside)?;
     add_occurring(name, inside, found)?;
-    inside.truncate(outer);
-    find_in(value, inside, found)
-}
-
-#[cycle(free)]
-fn find_in_if(
-    condition: &Expr,
-    first: &[Expr],
-    second: &[Expr],
-    inside: &mut Vec<TopName>,
-    found: &mut Vec<Text>,
-) -> Result<(), AllocError>
-    ensures inside { OnOk result (inside.new.items ≡ inside.old.items ++ own_names (tree_of condition.now)) }
-    ensures found { OnOk result (found.new.items ≡ with_all_new found.old.items (free (if_tree (tree_of condition.now) (trees_of first.now) (trees_of second.now)) inside.old.items)) }
-{
-    find_in(condition, inside, found)?;
-    find_in_block(&Pattern::Ignore, first, inside, found)?;
-    find_in_block(&Pattern::Ignore, second, inside, found)
-}
-
-/// The same of a loop over a list; one that has a condition in its place binds nothing.
-#[cycle(free)]
-fn find_in_loop(
-    pattern: &Pattern,
-    list: &Expr,
-    body: &[Expr],
-    inside: &mut Vec<TopName>,
-    found: &mut Vec<Text>,
-) -> Result<(), AllocError>
-    ensures inside { OnOk result (inside.new.items ≡ inside.old.items ++ own_names (tree_of list.now)) }
-    ensures found { OnOk result (found.new.items ≡ with_all_new found.old.items (free (for_tree pattern.now (tree_of list.now) (trees_of body.now)) inside.old.items)) }
-{
-    find_in(list, inside, found)?;
-    find_in_block(pattern, body, inside, found)
-}
-
-#[cycle(free)]
-fn find_in_try(
-    body: &[Expr],
-    pattern: &Pattern,
-    handler: &[Expr],
-    inside: &mut Vec<TopName>,
-    found: &mut Vec<Text>,
-) -> Result<(), AllocError>
-    ensures inside { OnOk result (inside.new.items ≡ inside.old.items) }
-    ensures found { OnOk result (found.new.items ≡ with_all_new found.old.items (free (try_tree (trees_of body.now) pattern.now (trees_of handler.now)) inside.old.items)) }
-{
-    find_in_block(&Pattern::Ignore, body, inside, found)?;
-    find_in_block(pattern, handler, inside, found)
-}
-
-/// The same of an object: its own name is defined in its methods and behind it, the parameters of a method in its body alone.
-#[cycle(free)]
-fn find_in_object(
-    pattern: &Pattern,
-    methods: &[Method],
-    inside: &mut Vec<TopName>,
-    found: &mut Vec<Text>,
-) -> Result<(), AllocError>
-    ensures inside { OnOk result (inside.new.items ≡ inside.old.items ++ name_of pattern.now) }
-    ensures found { OnOk result (found.new.items ≡ with_all_new found.old.items (free (object_tree pattern.now (methods_of methods.now)) inside.old.items)) }
-{
-    add_bound(pattern, inside)?;
-    let outer = inside.len();
-    for method in methods {
-        add_all_bound(&method.parameters, inside)?;
-        find_in_all(&method.body, inside, found)?;
-        inside.truncate(outer);
-    }
-    Ok(())
-}
-
-/// The same of a block that begins with what a pattern binds; what it defines ends with it.
-#[cycle(free)]
-fn find_in_block(
-    pattern: &Pattern,
-    body: &[Expr],
-    inside: &mut Vec<TopName>,
-    found: &mut Vec<Text>,
-) -> Result<(), AllocError>
-    ensures inside { OnOk result (inside.new.items ≡ inside.old.items) }
-    ensures found { OnOk result (found.new.items ≡ with_all_new found.old.items (free_in (trees_of body.now) (inside.old.items ++ name_of pattern.now))) }
-{
-    let outer = inside.len();
-    add_bound(pattern, inside)?;
-    find_in_all(body, inside, found)?;
     inside.truncate(outer);
     Ok(())
 }

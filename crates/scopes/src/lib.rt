@@ -5,6 +5,7 @@ mod checking;
 mod count;
 mod free;
 mod naming;
+mod parts;
 
 pub use checking::{CheckFault, Outer, check};
 pub use free::captured_names;

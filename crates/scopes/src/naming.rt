@@ -2,7 +2,9 @@
 ghost use Rattle.std.specs.Prelude.{◌≡◌, [], ◌∷◌, ◌++◌, IfOk, OnOk};
 ghost use Rattle.kernele.specs.View.{tree_of, trees_of, program_of};
 ghost use Rattle.scopes.specs.Scope.{own_names, own_names_in, name_of, names_of_all, AddsOwnNames};
+ghost use Rattle.scopes.specs.Parts.{part_in, part_names, binding_in, binding_names};
 
+use crate::parts::{Binding, Part, first_part, second_part, third_part};
 use ids::text::Text;
 use kernele::tree::{Expr, Pattern, Program};
 use std::alloc::{AllocError, Global};
@@ -46,41 +48,42 @@ fn add_all_names(trees: &[Expr], names: &mut Vec<TopName>) -> Result<(), AllocEr
 pub(crate) fn add_names(e: &Expr, names: &mut Vec<TopName>) -> Result<(), AllocError>
     ensures { OnOk result (names.new.items ≡ names.old.items ++ own_names (tree_of e.now)) }
 {
-    match e {
-        Expr::Null | Expr::Bool(_) | Expr::Int(_) | Expr::Text(_) | Expr::Noun(_) => Ok(()),
-        Expr::Def(pattern, value) => {
-            add_names(value, names)?;
-            add_bound(pattern, names)
-        }
-        Expr::Var(name, value) => {
-            add_names(value, names)?;
-            add_name(name, Kind::Variable, names)
-        }
-        Expr::DefList(patterns, value) => {
-            add_names(value, names)?;
-            add_all_bound(patterns, names)
-        }
-        Expr::Assign(_, value) | Expr::Throw(value) => add_names(value, names),
-        Expr::Hide(_) | Expr::Try(_, _, _) | Expr::Escape(_, _) => Ok(()),
-        Expr::Object(pattern, _) => add_bound(pattern, names),
-        Expr::If(condition, _, _) | Expr::While(condition, _) => add_names(condition, names),
-        Expr::For(_, list, _) => add_names(list, names),
-        Expr::Call(receiver, _, args) => {
-            add_names(receiver, names)?;
-            add_all_names(args, names)
-        }
-        Expr::List(items) => add_all_names(items, names),
-        Expr::Same(left, right) => {
-            add_names(left, names)?;
-            add_names(right, names)
-        }
+    add_part_names(first_part(e), names)?;
+    add_part_names(second_part(e), names)?;
+    add_part_names(third_part(e), names)
+}
+
+#[cycle(names)]
+fn add_part_names(part: Part<'_>, names: &mut Vec<TopName>) -> Result<(), AllocError>
+    ensures { OnOk result (names.new.items ≡ names.old.items ++ part_names (part_in part.entry)) }
+{
+    match part {
+        Part::Evaluate(e) => add_names(e, names),
+        Part::EvaluateAll(trees) => add_all_names(trees, names),
+        Part::Bind(binding) => add_binding(binding, names),
+        Part::Nothing
+        | Part::Noun(_)
+        | Part::Target(_, _)
+        | Part::Assign(_)
+        | Part::Block(_, _)
+        | Part::Methods(_) => Ok(()),
     }
 }
 
-pub(crate) fn add_all_bound(
-    patterns: &[Pattern],
-    names: &mut Vec<TopName>,
-) -> Result<(), AllocError>
+/// Adds the names of a binding.
+pub(crate) fn add_binding(binding: Binding<'_>, names: &mut Vec<TopName>) -> Result<(), AllocError>
+    ensures { OnOk result (names.new.items ≡ names.old.items ++ binding_names (binding_in binding.entry)) }
+{
+    match binding {
+        Binding::Nothing => Ok(()),
+        Binding::Definition(name) => add_name(name, Kind::Definition, names),
+        Binding::Variable(name) => add_name(name, Kind::Variable, names),
+        Binding::Pattern(pattern) => add_bound(pattern, names),
+        Binding::Patterns(patterns) => add_all_bound(patterns, names),
+    }
+}
+
+fn add_all_bound(patterns: &[Pattern], names: &mut Vec<TopName>) -> Result<(), AllocError>
     ensures { OnOk result (names.new.items ≡ names.old.items ++ names_of_all patterns.now) }
 {
     for pattern in patterns {
@@ -98,7 +101,7 @@ pub(crate) fn add_bound(pattern: &Pattern, names: &mut Vec<TopName>) -> Result<(
     }
 }
 
-pub(crate) fn add_name(name: &Text, kind: Kind, names: &mut Vec<TopName>) -> Result<(), AllocError>
+fn add_name(name: &Text, kind: Kind, names: &mut Vec<TopName>) -> Result<(), AllocError>
     ensures { OnOk result (names.new.items ≡ names.old.items ++ record { name = name.now; kind = kind } ∷ []) }
 {
     let name = name.share()?;

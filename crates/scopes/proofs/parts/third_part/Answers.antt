@@ -1,0 +1,7 @@
+use Rattle.std.proofs.Common.{sym, ap, refl}
+use Rattle.scopes.specs.Parts.{third}
+use Rattle.kernele.proofs.Walks.{tree_is_if}
+use Rattle.scopes.proofs.parts.third_part.Goals as goal
+
+pub returns-in-If : goal.returns-in-If
+returns-in-If c = sym (ap third (tree_is_if c.in-If.field-0 c.in-If.field-1 c.in-If.body c.in-If.is refl refl refl c.deref.ensures c.deref-in-If.ensures.value))
