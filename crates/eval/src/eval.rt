@@ -1,25 +1,24 @@
 // Evaluation: one small function for each construct; those that have blocks are in `control`.
-ghost use Rattle.std.specs.Prelude.{◌≡◌, ◌≤◌, IfOk};
-ghost use Rattle.kernele.specs.Tree.{define, define_list, variable, assign as assign_tree, list_tree, same_tree, throw_tree};
-ghost use Rattle.code.specs.Frames.{fits, place_in};
+ghost use Rattle.std.specs.Prelude.{◌≡◌, ◌≤◌, IfOk, Some};
+ghost use Rattle.kernele.specs.Tree.{list_tree, same_tree};
+ghost use Rattle.code.specs.Frames.{fits};
 ghost use Rattle.code.specs.View.{tree_of_code, trees_of_codes};
 ghost use Rattle.erules.specs.Fits.{fits_at, all_fit_at, frame_behind};
 ghost use Rattle.values.specs.Data.{null};
 ghost use Rattle.erules.specs.Rules.{Ends, Runs, Args, Items};
 ghost use Rattle.erules.specs.View.{at, end_of, gather_of};
+ghost use Rattle.eval.specs.Sides.{right_side};
 
 use crate::calling::{eval_call, eval_escape};
 use crate::control::{eval_block, eval_for, eval_if, eval_try, eval_while};
-use code::code::{Code, Place};
-use eobjects::nouns::{assign, bind_parts, declare, match_pattern, noun_end};
+use crate::right::take;
+use code::code::Code;
+use eobjects::nouns::noun_end;
 use eobjects::objects::define_object;
 use eobjects::quick::{quick_setting, set};
 use erules::end::{Abandon, End, Gathered, Halt};
 use erules::results::{int_end, list_end, text_end};
-use erules::wanted::thrown;
 use erules::working::{DEEPEST, Working};
-use ids::text::Text;
-use kernele::tree::Pattern;
 use std::alloc::AllocError;
 use std::sync::Arc;
 use values::sameness::same;
@@ -54,19 +53,19 @@ pub fn eval(w: &mut Working, e: &Code, level: u32) -> Result<End, AllocError>
         Code::Int(n) => Ok(int_end(*n)),
         Code::Text(text) => text_end(w.alloc, text),
         Code::Noun(name, place) => noun_end(w, name, *place),
-        Code::Def(pattern, right) => eval_def(w, pattern, right, level),
-        Code::Var(name, right) => eval_var(w, name, right, level),
-        Code::Assign(name, place, right) => eval_assign(w, name, *place, right, level),
+        Code::Def(_, right)
+        | Code::Var(_, right)
+        | Code::Assign(_, _, right)
+        | Code::DefList(_, right)
+        | Code::Throw(right) => eval_right(w, e, right, level),
         Code::Call(receiver, verb, args) => eval_call(w, receiver, verb, args, level),
         Code::List(items) => eval_list(w, items, level),
         Code::Same(left, right) => eval_same(w, left, right, level),
-        Code::DefList(patterns, right) => eval_def_list(w, patterns, right, level),
         Code::Hide(body) => eval_block(w, body, level + 1),
         Code::If(condition, first, second) => eval_if(w, condition, first, second, level),
         Code::While(condition, body) => eval_while(w, condition, body, level),
         Code::For(pattern, list, body) => eval_for(w, pattern, list, body, level),
         Code::Try(body, pattern, handler) => eval_try(w, body, pattern, handler, level),
-        Code::Throw(problem) => eval_throw(w, problem, level),
         Code::Object(pattern, captures, methods, index) => {
             define_object(w, pattern, captures, methods, index)
         }
@@ -74,65 +73,16 @@ pub fn eval(w: &mut Working, e: &Code, level: u32) -> Result<End, AllocError>
     }
 }
 
+/// Evaluates the right side of an expression that has one, and has the expression take its value.
 #[cycle(evaluate)]
-fn eval_def(
-    w: &mut Working,
-    pattern: &Pattern,
-    right: &Arc<Code>,
-    level: u32,
-) -> Result<End, AllocError>
+fn eval_right(w: &mut Working, e: &Code, right: &Arc<Code>, level: u32) -> Result<End, AllocError>
     requires level { level ≤ 1000 }
-    requires fits { fits_at (at w.old) right.now.value }
-    ensures { IfOk result (λ o. Runs level (define pattern.now (tree_of_code right.now.value))
-        (at w.old) (end_of o) (at w.new)) }
+    requires side { right_side e.now ≡ Some right.now.value }
+    requires fits { fits_at (at w.old) e.now }
+    ensures { IfOk result (λ o. Runs level (tree_of_code e.now) (at w.old) (end_of o) (at w.new)) }
 {
-    let v = value!(eval(w, right, level + 1)?);
-    match_pattern(w, pattern, &v)?;
-    Ok(End::Value(v))
-}
-
-#[cycle(evaluate)]
-fn eval_def_list(
-    w: &mut Working,
-    patterns: &Arc<Vec<Pattern>>,
-    right: &Arc<Code>,
-    level: u32,
-) -> Result<End, AllocError>
-    requires level { level ≤ 1000 }
-    requires fits { fits_at (at w.old) right.now.value }
-    ensures { IfOk result (λ o. Runs level (define_list patterns.now.value.items (tree_of_code right.now.value))
-        (at w.old) (end_of o) (at w.new)) }
-{
-    let v = value!(eval(w, right, level + 1)?);
-    bind_parts(w, patterns, v)
-}
-
-#[cycle(evaluate)]
-fn eval_var(w: &mut Working, name: &Text, right: &Arc<Code>, level: u32) -> Result<End, AllocError>
-    requires level { level ≤ 1000 }
-    requires fits { fits_at (at w.old) right.now.value }
-    ensures { IfOk result (λ o. Runs level (variable name.now (tree_of_code right.now.value))
-        (at w.old) (end_of o) (at w.new)) }
-{
-    let v = value!(eval(w, right, level + 1)?);
-    declare(w, name, v)
-}
-
-#[cycle(evaluate)]
-fn eval_assign(
-    w: &mut Working,
-    name: &Text,
-    place: Place,
-    right: &Arc<Code>,
-    level: u32,
-) -> Result<End, AllocError>
-    requires level { level ≤ 1000 }
-    requires fits { fits_at (at w.old) right.now.value × (place ≡ place_in (frame_behind (at w.old) right.now.value) name.now) }
-    ensures { IfOk result (λ o. Runs level (assign_tree name.now (tree_of_code right.now.value))
-        (at w.old) (end_of o) (at w.new)) }
-{
-    let v = value!(eval(w, right, level + 1)?);
-    assign(w, name, place, v)
+    let value = value!(eval(w, right, level + 1)?);
+    take(w, e, value)
 }
 
 #[cycle(evaluate)]
@@ -161,17 +111,6 @@ fn eval_same(
     let l = value!(eval(w, left, level + 1)?);
     let r = value!(eval(w, right, level + 1)?);
     Ok(End::Value(Value::Bool(same(&l, &r))))
-}
-
-#[cycle(evaluate)]
-fn eval_throw(w: &mut Working, problem: &Arc<Code>, level: u32) -> Result<End, AllocError>
-    requires level { level ≤ 1000 }
-    requires fits { fits_at (at w.old) problem.now.value }
-    ensures { IfOk result (λ o. Runs level (throw_tree (tree_of_code problem.now.value))
-        (at w.old) (end_of o) (at w.new)) }
-{
-    let v = value!(eval(w, problem, level + 1)?);
-    thrown(w.alloc, &v)
 }
 
 /// Evaluates arguments or items of a list from left to right.

@@ -6,3 +6,4 @@
 pub mod calling;
 pub mod control;
 pub mod eval;
+mod right;

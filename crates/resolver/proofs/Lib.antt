@@ -2,3 +2,4 @@ pub mod Places
 pub mod Growing
 pub mod Made
 pub mod Ranks
+pub mod Sides

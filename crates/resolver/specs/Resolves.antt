@@ -1,8 +1,10 @@
 -- What resolving gives: code that stands for the tree, fits the frame that it was resolved for, and leaves the frame behind the tree.
-use Rattle.std.specs.Prelude.{◌≡◌, ◌++◌, Bool, false, List}
+use Rattle.std.specs.Prelude.{◌≡◌, ◌++◌, Bool, false, List, Option, Some, None}
 use Rattle.kernele.specs.Tree.{Tree, Trees, Methods}
 use Rattle.kernele.specs.View.{trees_of}
 use Rattle.scopes.specs.Scope.{names_of_all}
+use Rattle.kernele.specs.declared.tree.Expr as tree
+use Rattle.kernele.specs.declared.tree.Expr.{Expr}
 use Rattle.kernele.specs.declared.tree.Method.{Method}
 use Rattle.code.specs.declared.code.Code.{Code}
 use Rattle.code.specs.declared.code.MethodCode.{MethodCode}
@@ -36,3 +38,12 @@ pub record ResolvesMethod (frame : Frame) (m : Method) (c : MethodCode) : Type 0
   pub verb : c.verb ≡ m.verb
   pub parameters : c.parameters.value.items ≡ m.parameters.value.items
   pub body : ResolvesBlock (frame ++ only_names (names_of_all m.parameters.value.items)) (trees_of m.body.value.items) c.body.value.items
+
+-- the right side of a definition, a variable, an assignment and a throw
+abbrev pub right_side : Expr → Option Expr
+right_side (tree.Def' pattern p e) = Some e
+right_side (tree.Var' x p e) = Some e
+right_side (tree.Assign' x p e) = Some e
+right_side (tree.DefList' patterns p e) = Some e
+right_side (tree.Throw' p e) = Some e
+right_side _ = None

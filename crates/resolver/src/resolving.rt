@@ -1,12 +1,13 @@
 // Resolving a program: one small function for each construct. The frame holds the names that stand where the walk is, the oldest first.
-ghost use Rattle.std.specs.Prelude.{◌≡◌, [], ◌∷◌, ◌++◌, Bool, IfOk, OnOk};
-ghost use Rattle.kernele.specs.Tree.{define, variable, assign, call, list_tree, same_tree, define_list, hide, if_tree, while_tree, for_tree, try_tree, throw_tree, object_tree, escape_tree};
+ghost use Rattle.std.specs.Prelude.{◌≡◌, [], ◌++◌, Bool, IfOk, IsSome, OnOk, Some};
+ghost use Rattle.kernele.specs.Tree.{call, same_tree, if_tree, while_tree, for_tree, try_tree, object_tree, escape_tree};
 ghost use Rattle.kernele.specs.View.{tree_of, trees_of, methods_of, program_of};
 ghost use Rattle.scopes.specs.Scope.{name_of};
 ghost use Rattle.code.specs.View.{trees_of_codes};
-ghost use Rattle.code.specs.Frames.{fits_all, only_names};
+ghost use Rattle.code.specs.Frames.{Frame, fits_all, only_names};
 ghost use Rattle.code.specs.Props.{fits_all-prop};
-ghost use Rattle.resolver.specs.Resolves.{Resolves, ResolvesAll, ResolvesBlock, ResolvesMethods};
+ghost use Rattle.resolver.specs.Resolves.{Resolves, ResolvesAll, ResolvesBlock, ResolvesMethods, right_side};
+ghost use Rattle.kernele.specs.declared.tree.Expr.{Expr};
 
 use crate::frame::{add_all_bound, add_bound, add_name, find_place, place_all};
 use code::code::{Code, MethodCode};
@@ -52,17 +53,16 @@ fn resolve_expr(
         Expr::Int(n) => Ok(Code::Int(*n)),
         Expr::Text(text) => Ok(Code::Text(text.share()?)),
         Expr::Noun(name) => Ok(Code::Noun(name.share()?, find_place(frame, name))),
-        Expr::Def(pattern, right) => resolve_def(alloc, pattern, right, own_scope, frame),
-        Expr::Var(name, right) => resolve_var(alloc, name, right, own_scope, frame),
-        Expr::Assign(name, right) => resolve_assign(alloc, name, right, own_scope, frame),
+        Expr::Def(_, right)
+        | Expr::Var(_, right)
+        | Expr::Assign(_, right)
+        | Expr::DefList(_, right)
+        | Expr::Throw(right) => resolve_right(alloc, e, right, own_scope, frame),
         Expr::Call(receiver, verb, args) => {
             resolve_call(alloc, receiver, verb, args, own_scope, frame)
         }
         Expr::List(items) => Ok(Code::List(resolve_row(alloc, items, own_scope, frame)?)),
         Expr::Same(left, right) => resolve_same(alloc, left, right, own_scope, frame),
-        Expr::DefList(patterns, right) => {
-            resolve_def_list(alloc, patterns, right, own_scope, frame)
-        }
         Expr::Hide(body) => Ok(Code::Hide(resolve_block(alloc, body, frame)?)),
         Expr::If(condition, first, second) => {
             resolve_if(alloc, condition, first, second, own_scope, frame)
@@ -72,7 +72,6 @@ fn resolve_expr(
             resolve_for(alloc, pattern, list, body, own_scope, frame)
         }
         Expr::Try(body, pattern, handler) => resolve_try(alloc, body, pattern, handler, frame),
-        Expr::Throw(problem) => Ok(Code::Throw(resolve_part(alloc, problem, own_scope, frame)?)),
         Expr::Object(pattern, methods) => {
             resolve_object(alloc, pattern, methods, own_scope, frame)
         }
@@ -146,50 +145,52 @@ fn resolve_bound_block(
     Ok(codes)
 }
 
+/// What has a right side stands behind it: there it defines its names, and there a name that it assigns is looked up.
 #[cycle(resolve)]
-fn resolve_def(
+fn resolve_right(
     alloc: Global,
-    pattern: &Pattern,
+    e: &Expr,
     right: &Arc<Expr>,
     own_scope: bool,
     frame: &mut Vec<Text>,
 ) -> Result<Code, AllocError>
-    ensures { IfOk result (λ c. Resolves own_scope frame.old.items (define pattern.now (tree_of right.now.value)) c frame.new.items) }
+    requires { right_side e.now ≡ Some right.now.value }
+    ensures { IfOk result (λ c. Resolves own_scope frame.old.items (tree_of e.now) c frame.new.items) }
 {
     let right = resolve_part(alloc, right, own_scope, frame)?;
-    add_bound(pattern, own_scope, frame)?;
-    Ok(Code::Def(pattern.share()?, right))
+    with_right(e, right, own_scope, frame)
 }
 
-#[cycle(resolve)]
-fn resolve_var(
-    alloc: Global,
-    name: &Text,
-    right: &Arc<Expr>,
+/// The code of an expression whose right side has been resolved.
+fn with_right(
+    e: &Expr,
+    right: Arc<Code>,
     own_scope: bool,
     frame: &mut Vec<Text>,
 ) -> Result<Code, AllocError>
-    ensures { IfOk result (λ c. Resolves own_scope frame.old.items (variable name.now (tree_of right.now.value)) c frame.new.items) }
+    requires { IsSome (right_side e.now) }
+    ensures { IfOk result (λ c. (before : Frame) (r : Expr) → right_side e.now ≡ Some r → Resolves own_scope before (tree_of r) right.value frame.old.items → Resolves own_scope before (tree_of e.now) c frame.new.items) }
 {
-    let right = resolve_part(alloc, right, own_scope, frame)?;
-    add_name(name, own_scope, frame)?;
-    Ok(Code::Var(name.share()?, right))
-}
-
-/// The name is looked up behind its right side.
-#[cycle(resolve)]
-fn resolve_assign(
-    alloc: Global,
-    name: &Text,
-    right: &Arc<Expr>,
-    own_scope: bool,
-    frame: &mut Vec<Text>,
-) -> Result<Code, AllocError>
-    ensures { IfOk result (λ c. Resolves own_scope frame.old.items (assign name.now (tree_of right.now.value)) c frame.new.items) }
-{
-    let value = resolve_part(alloc, right, own_scope, frame)?;
-    let place = find_place(frame, name);
-    Ok(Code::Assign(name.share()?, place, value))
+    match e {
+        Expr::Def(pattern, _) => {
+            add_bound(pattern, own_scope, frame)?;
+            Ok(Code::Def(pattern.share()?, right))
+        }
+        Expr::Var(name, _) => {
+            add_name(name, own_scope, frame)?;
+            Ok(Code::Var(name.share()?, right))
+        }
+        Expr::Assign(name, _) => {
+            let place = find_place(frame, name);
+            Ok(Code::Assign(name.share()?, place, right))
+        }
+        Expr::DefList(patterns, _) => {
+            add_all_bound(patterns, own_scope, frame)?;
+            Ok(Code::DefList(Arc::try_clone(patterns)?, right))
+        }
+        Expr::Throw(_) => Ok(Code::Throw(right)),
+        _ => unreachable!(),
+    }
 }
 
 #[cycle(resolve)]
@@ -221,21 +222,6 @@ fn resolve_same(
     let left = resolve_part(alloc, left, own_scope, frame)?;
     let right = resolve_part(alloc, right, own_scope, frame)?;
     Ok(Code::Same(left, right))
-}
-
-#[cycle(resolve)]
-fn resolve_def_list(
-    alloc: Global,
-    patterns: &Arc<Vec<Pattern>>,
-    right: &Arc<Expr>,
-    own_scope: bool,
-    frame: &mut Vec<Text>,
-) -> Result<Code, AllocError>
-    ensures { IfOk result (λ c. Resolves own_scope frame.old.items (define_list patterns.now.value.items (tree_of right.now.value)) c frame.new.items) }
-{
-    let right = resolve_part(alloc, right, own_scope, frame)?;
-    add_all_bound(patterns, own_scope, frame)?;
-    Ok(Code::DefList(Arc::try_clone(patterns)?, right))
 }
 
 #[cycle(resolve)]

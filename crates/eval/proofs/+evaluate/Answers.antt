@@ -9,13 +9,13 @@ use Rattle.values.specs.View.{val_of}
 use Rattle.erules.specs.Outcomes.{halted, value}
 use Rattle.erules.specs.View.{at, end_of, halt_of, choice_view, listing_view}
 use Rattle.eobjects.specs.View.{target_view}
-use Rattle.erules.specs.Rules.{at_budget, at_depth, run_null, run_bool, run_int, run_text, run_noun, run_define, run_variable, run_assign, run_call_receiver, run_call_gives, run_list, run_same_left, run_same, goes, run_define_list, run_hide, run_throw, run_if_goes, run_if_ends, run_while_again, run_while_halts, run_while_done, run_while_ends, run_for, run_for_ends, run_try, run_try_caught, run_object, args_halt}
-use Rattle.erules.proofs.Steps.{node, child, tested, children, slice_of, if_both, runs_as, runs_to, ends_to, parts_run, args_begin, args_pushed, args_more, args_no_more, args_end, args_done, args_as, only_one, one_arg, items_more, items_no_more, items_end, blocks, taking, taking_ending, each, block_end, taking_end, each_more, each_no_more, each_end, next_round}
+use Rattle.erules.specs.Rules.{at_budget, at_depth, at_node, run_null, run_bool, run_int, run_text, run_noun, run_call_receiver, run_call_gives, run_list, run_same_left, run_same, goes, run_hide, run_if_goes, run_if_ends, run_while_again, run_while_halts, run_while_done, run_while_ends, run_for, run_for_ends, run_try, run_try_caught, run_object, args_halt}
+use Rattle.erules.proofs.Steps.{node, child, tested, children, slice_of, if_both, runs_as, runs_to, ends_to, args_begin, args_pushed, args_more, args_no_more, args_end, args_done, args_as, only_one, one_arg, items_more, items_no_more, items_end, blocks, taking, taking_ending, each, block_end, taking_end, each_more, each_no_more, each_end, next_round}
 use Rattle.eval.proofs.Halted.{ItemsHalt, all_done, halts_as, items_halted, both_halt, block_halts, halting, to_the_end}
 use Rattle.eval.proofs.Entered.{call_leads, leads_as, entered, call_entered, as_many, escape_over}
 use Rattle.erules.proofs.Scopes.{truncated, truncated-length}
 use Rattle.erules.proofs.Added.{goes_add, block_stays, taking_stays}
-use Rattle.erules.proofs.Fitting.{fits_then, all_fit_then, chosen_fits, repeated_fits, placed_then, parts_fit, block_fits, entry_fits, round_fits, fits_from}
+use Rattle.erules.proofs.Fitting.{fits_then, all_fit_then, chosen_fits, repeated_fits, parts_fit, block_fits, entry_fits, round_fits, fits_from}
 use Rattle.code.proofs.Fitting.{fits-Call, fits-List, fits-Hide, fits-If, fits-While, fits-For, fits-Try, fits-Object, fits-Escape}
 use Rattle.code.specs.Frames.{only_names}
 use Rattle.scopes.specs.Scope.{name_of}
@@ -24,6 +24,7 @@ use Rattle.erules.specs.Locals.{locals_of}
 use Rattle.erules.specs.Fits.{fits_at, all_fit_at}
 use Rattle.erules.proofs.Grown.{round_grow}
 use Rattle.erules.proofs.Spent.{condition_less, block_left}
+use Rattle.eval.proofs.Sides.{runs_right, halts_right, right_fits, right_placed, side_of}
 use Rattle.eval.proofs.+evaluate.Goals as goal
 use Rattle.eval.proofs.+evaluate.Goals.{control::run_block-then-done-items, control::run_block-else-done-items+in_ok-ended}
 
@@ -48,15 +49,6 @@ eval::eval-returns-in-Text t c = IfOk-weaker _ _ _ (λ o h. node _ {a = at c.arg
 pub eval::eval-returns-in-Noun : goal.eval::eval-returns-in-Noun
 eval::eval-returns-in-Noun t c = IfOk-weaker _ _ _ (λ o h. node _ {a = at c.args.w.now} (ap tree_of_code c.in-Noun.is) (runs_as run_noun h) (omega arith) c.if-level-gt-DEEPEST.false) c.noun_end.ensures
 
-pub eval::eval-returns-in-Def : goal.eval::eval-returns-in-Def
-eval::eval-returns-in-Def t c = IfOk-weaker _ _ _ (λ o h. node _ (ap tree_of_code c.in-Def.is) h (omega arith) c.if-level-gt-DEEPEST.false) c.eval_def.ensures
-
-pub eval::eval-returns-in-Var : goal.eval::eval-returns-in-Var
-eval::eval-returns-in-Var t c = IfOk-weaker _ _ _ (λ o h. node _ (ap tree_of_code c.in-Var.is) h (omega arith) c.if-level-gt-DEEPEST.false) c.eval_var.ensures
-
-pub eval::eval-returns-in-Assign : goal.eval::eval-returns-in-Assign
-eval::eval-returns-in-Assign t c = IfOk-weaker _ _ _ (λ o h. node _ (ap tree_of_code c.in-Assign.is) h (omega arith) c.if-level-gt-DEEPEST.false) c.eval_assign.ensures
-
 pub eval::eval-returns-in-Call : goal.eval::eval-returns-in-Call
 eval::eval-returns-in-Call t c = IfOk-weaker _ _ _ (λ o h. node _ (ap tree_of_code c.in-Call.is ∙ tree_of_code-Call c.in-Call.receiver c.in-Call.verb c.in-Call.args) h (omega arith) c.if-level-gt-DEEPEST.false) c.eval_call.ensures
 
@@ -66,23 +58,23 @@ eval::eval-returns-in-List t c = IfOk-weaker _ _ _ (λ o h. node _ (ap tree_of_c
 pub eval::eval-returns-in-Same : goal.eval::eval-returns-in-Same
 eval::eval-returns-in-Same t c = IfOk-weaker _ _ _ (λ o h. node _ (ap tree_of_code c.in-Same.is) h (omega arith) c.if-level-gt-DEEPEST.false) c.eval_same.ensures
 
-pub eval::eval_def-returns : goal.eval::eval_def-returns
-eval::eval_def-returns t c = rw c.in_ok-match_pattern.ensures (run_define (child c.deref.ensures c.in-Value.is c.in_ok-value.ensures))
+pub eval::eval-eval_right-requires : goal.eval::eval-eval_right-requires
+eval::eval-eval_right-requires t c = (search rules, (search rules, (side_of c.in-Def.right c.in-Def.is, search rules)))
 
-pub eval::eval_def-returns-in-Halt : goal.eval::eval_def-returns-in-Halt
-eval::eval_def-returns-in-Halt t c = run_define (child c.deref.ensures c.in-Halt.is c.in_ok-value.ensures)
+pub eval::eval-returns-in-Def : goal.eval::eval-returns-in-Def
+eval::eval-returns-in-Def t c = IfOk-weaker _ _ _ (λ o h. at_node (omega arith) c.if-level-gt-DEEPEST.false h) c.eval_right.ensures
 
-pub eval::eval_var-returns-in-Halt : goal.eval::eval_var-returns-in-Halt
-eval::eval_var-returns-in-Halt t c = run_variable (child c.deref.ensures c.in-Halt.is c.in_ok-value.ensures)
+pub eval::eval_right-returns-in-Halt : goal.eval::eval_right-returns-in-Halt
+eval::eval_right-returns-in-Halt t c = halts_right c.args.e.now c.requires.side (child c.deref.ensures c.in-Halt.is c.in_ok-value.ensures)
 
-pub eval::eval_var-returns : goal.eval::eval_var-returns
-eval::eval_var-returns t c = if_both _ _ _ _ (λ o p q. runs_to (run_variable (child c.deref.ensures c.in-Value.is c.in_ok-value.ensures)) p q) c.declare.ensures.ends c.declare.ensures.makes
+pub eval::eval_right-returns : goal.eval::eval_right-returns
+eval::eval_right-returns t c = if_both _ _ _ _ (λ o p q. runs_to (runs_right c.args.e.now c.requires.side (child c.deref.ensures c.in-Value.is c.in_ok-value.ensures)) p q) c.take.ensures.ends c.take.ensures.place
 
-pub eval::eval_assign-returns-in-Halt : goal.eval::eval_assign-returns-in-Halt
-eval::eval_assign-returns-in-Halt t c = run_assign (child c.deref.ensures c.in-Halt.is c.in_ok-value.ensures)
+pub eval::eval_right-eval-requires : goal.eval::eval_right-eval-requires
+eval::eval_right-eval-requires t c = (search rules, subst (fits_at (at c.args.w.now)) (sym c.deref.ensures) (right_fits c.args.e.now (at c.args.w.now) c.requires.side c.requires.fits))
 
-pub eval::eval_assign-returns : goal.eval::eval_assign-returns
-eval::eval_assign-returns t c = if_both _ _ _ _ (λ o p q. runs_to (run_assign (child c.deref.ensures c.in-Value.is c.in_ok-value.ensures)) p q) c.assign.ensures.ends c.assign.ensures.writes
+pub eval::eval_right-take-requires : goal.eval::eval_right-take-requires
+eval::eval_right-take-requires t c = right_placed c.args.e.now c.requires.side c.requires.fits (child c.deref.ensures c.in-Value.is c.in_ok-value.ensures)
 
 pub eval::eval_args-loop-arg-init : goal.eval::eval_args-loop-arg-init
 eval::eval_args-loop-arg-init t c = (λ g b h. args_begin c.new-values.ensures.items h, c.requires.fits)
@@ -128,9 +120,6 @@ eval::eval_same-returns-in-Halt-2 t c = run_same (child c.deref.ensures c.in-Val
 pub eval::eval_same-returns : goal.eval::eval_same-returns
 eval::eval_same-returns t c = runs_as (run_same (child c.deref.ensures c.in-Value.is c.in_ok-value.ensures) (child c.deref-2.ensures c.in-Value-2.is c.in_ok-value-2.ensures)) (search rules)
 
-pub eval::eval-returns-in-DefList : goal.eval::eval-returns-in-DefList
-eval::eval-returns-in-DefList t c = IfOk-weaker _ _ _ (λ o h. node _ (ap tree_of_code c.in-DefList.is) h (omega arith) c.if-level-gt-DEEPEST.false) c.eval_def_list.ensures
-
 pub eval::eval-returns-in-Hide : goal.eval::eval-returns-in-Hide
 eval::eval-returns-in-Hide t c = IfOk-weaker c.eval_block.result _ _ (λ o h. node _ {a = at c.args.w.now} {b = at c.eval_block.new.w} (ap tree_of_code c.in-Hide.is ∙ tree_of_code-Hide c.in-Hide.body) (run_hide (blocks {o = o} {p = o} (slice_of c.deref-in-Hide.ensures.value c.deref.ensures) refl h)) (omega arith) c.if-level-gt-DEEPEST.false) c.eval_block.ensures
 
@@ -145,21 +134,6 @@ eval::eval-returns-in-For t c = IfOk-weaker _ _ _ (λ o h. node _ (ap tree_of_co
 
 pub eval::eval-returns-in-Try : goal.eval::eval-returns-in-Try
 eval::eval-returns-in-Try t c = IfOk-weaker _ _ _ (λ o h. node _ (ap tree_of_code c.in-Try.is ∙ tree_of_code-Try c.in-Try.body c.in-Try.pattern c.in-Try.handler) h (omega arith) c.if-level-gt-DEEPEST.false) c.eval_try.ensures
-
-pub eval::eval-returns-in-Throw : goal.eval::eval-returns-in-Throw
-eval::eval-returns-in-Throw t c = IfOk-weaker _ _ _ (λ o h. node _ (ap tree_of_code c.in-Throw.is) h (omega arith) c.if-level-gt-DEEPEST.false) c.eval_throw.ensures
-
-pub eval::eval_def_list-returns-in-Halt : goal.eval::eval_def_list-returns-in-Halt
-eval::eval_def_list-returns-in-Halt t c = run_define_list (child c.deref.ensures c.in-Halt.is c.in_ok-value.ensures)
-
-pub eval::eval_def_list-returns : goal.eval::eval_def_list-returns
-eval::eval_def_list-returns t c = if_both _ _ _ _ (λ o p q. parts_run (slice_of c.deref-3.ensures.value c.deref-2.ensures) (child c.deref.ensures c.in-Value.is c.in_ok-value.ensures) p q) c.bind_parts.ensures.ends c.bind_parts.ensures.binds
-
-pub eval::eval_throw-returns-in-Halt : goal.eval::eval_throw-returns-in-Halt
-eval::eval_throw-returns-in-Halt t c = run_throw (child c.deref.ensures c.in-Halt.is c.in_ok-value.ensures)
-
-pub eval::eval_throw-returns : goal.eval::eval_throw-returns
-eval::eval_throw-returns t c = IfOk-weaker _ _ _ (λ o h. runs_as (run_throw (child c.deref.ensures c.in-Value.is c.in_ok-value.ensures)) h) c.thrown.ensures
 
 pub eval::eval_items-loop-item-preserved : goal.eval::eval_items-loop-item-preserved
 eval::eval_items-loop-item-preserved t c = (
@@ -318,9 +292,6 @@ eval::eval_args-eval-requires t c = (search rules, (fits_from _ _ c.args.args.no
 pub eval::eval_items-eval_item-requires : goal.eval::eval_items-eval_item-requires
 eval::eval_items-eval_item-requires t c = (search rules, (fits_from _ _ c.args.items.now c.loop-item.item-index _ c.loop-item-test.true c.item-item.is c.loop-item.invariant.1).0)
 
-pub eval::eval_assign-assign-requires : goal.eval::eval_assign-assign-requires
-eval::eval_assign-assign-requires t c = placed_then c.args.name.now (child c.deref.ensures c.in-Value.is c.in_ok-value.ensures) c.requires.fits.1
-
 pub eval::eval_same-eval-requires-2 : goal.eval::eval_same-eval-requires-2
 eval::eval_same-eval-requires-2 t c = (search rules, fits_then c.deref-2.ensures (child c.deref.ensures c.in-Value.is c.in_ok-value.ensures) c.requires.fits.1)
 
@@ -417,18 +388,6 @@ eval::eval_args-returns-in_err-push-in-Value t c = claims_nothing c.from_residua
 pub eval::eval_args-returns-in_err-v : goal.eval::eval_args-returns-in_err-v
 eval::eval_args-returns-in_err-v t c = claims_nothing c.from_residual.result _ c.from_residual.ensures.0
 
-pub eval::eval_assign-returns-in_err-value : goal.eval::eval_assign-returns-in_err-value
-eval::eval_assign-returns-in_err-value t c = claims_nothing c.from_residual.result _ c.from_residual.ensures.0
-
-pub eval::eval_def-returns-in_err-match_pattern : goal.eval::eval_def-returns-in_err-match_pattern
-eval::eval_def-returns-in_err-match_pattern t c = claims_nothing c.from_residual-in_err-match_pattern.result _ c.from_residual-in_err-match_pattern.ensures.0
-
-pub eval::eval_def-returns-in_err-value : goal.eval::eval_def-returns-in_err-value
-eval::eval_def-returns-in_err-value t c = claims_nothing c.from_residual.result _ c.from_residual.ensures.0
-
-pub eval::eval_def_list-returns-in_err-value : goal.eval::eval_def_list-returns-in_err-value
-eval::eval_def_list-returns-in_err-value t c = claims_nothing c.from_residual.result _ c.from_residual.ensures.0
-
 pub eval::eval_item-returns-in_err-set-in-Some : goal.eval::eval_item-returns-in_err-set-in-Some
 eval::eval_item-returns-in_err-set-in-Some t c = claims_nothing c.from_residual.result _ c.from_residual.ensures.0
 
@@ -438,14 +397,11 @@ eval::eval_items-returns-in_err-v t c = claims_nothing c.from_residual.result _ 
 pub eval::eval_list-returns-in_err-gathered : goal.eval::eval_list-returns-in_err-gathered
 eval::eval_list-returns-in_err-gathered t c = claims_nothing c.from_residual.result _ c.from_residual.ensures.0
 
+pub eval::eval_right-returns-in_err-value : goal.eval::eval_right-returns-in_err-value
+eval::eval_right-returns-in_err-value t c = claims_nothing c.from_residual.result _ c.from_residual.ensures.0
+
 pub eval::eval_same-returns-in_err-value : goal.eval::eval_same-returns-in_err-value
 eval::eval_same-returns-in_err-value t c = claims_nothing c.from_residual.result _ c.from_residual.ensures.0
 
 pub eval::eval_same-returns-in_err-value-2 : goal.eval::eval_same-returns-in_err-value-2
 eval::eval_same-returns-in_err-value-2 t c = claims_nothing c.from_residual-in_err-value-2.result _ c.from_residual-in_err-value-2.ensures.0
-
-pub eval::eval_throw-returns-in_err-value : goal.eval::eval_throw-returns-in_err-value
-eval::eval_throw-returns-in_err-value t c = claims_nothing c.from_residual.result _ c.from_residual.ensures.0
-
-pub eval::eval_var-returns-in_err-value : goal.eval::eval_var-returns-in_err-value
-eval::eval_var-returns-in_err-value t c = claims_nothing c.from_residual.result _ c.from_residual.ensures.0

@@ -41,15 +41,6 @@ decreases-control::eval_block l = 6 * (1001 - l.level) + 3
 abbrev pub decreases-control::eval_taking : goal.decreases-control::eval_taking
 decreases-control::eval_taking l = 6 * (1001 - l.level) + 3
 
-abbrev pub decreases-eval::eval_def : goal.decreases-eval::eval_def
-decreases-eval::eval_def l = 6 * (1000 - l.level) + 5
-
-abbrev pub decreases-eval::eval_var : goal.decreases-eval::eval_var
-decreases-eval::eval_var l = 6 * (1000 - l.level) + 5
-
-abbrev pub decreases-eval::eval_assign : goal.decreases-eval::eval_assign
-decreases-eval::eval_assign l = 6 * (1000 - l.level) + 5
-
 abbrev pub decreases-calling::eval_call : goal.decreases-calling::eval_call
 decreases-calling::eval_call l = 6 * (1000 - l.level) + 5
 
@@ -68,17 +59,14 @@ decreases-calling::eval_target l = 6 * (1001 - l.level) + 3
 abbrev pub decreases-calling::eval_with_one : goal.decreases-calling::eval_with_one
 decreases-calling::eval_with_one l = 6 * (1001 - l.level) + 1
 
+abbrev pub decreases-eval::eval_right : goal.decreases-eval::eval_right
+decreases-eval::eval_right l = 6 * (1000 - l.level) + 5
+
 abbrev pub decreases-eval::eval_list : goal.decreases-eval::eval_list
 decreases-eval::eval_list l = 6 * (1000 - l.level) + 5
 
 abbrev pub decreases-eval::eval_same : goal.decreases-eval::eval_same
 decreases-eval::eval_same l = 6 * (1000 - l.level) + 5
-
-abbrev pub decreases-eval::eval_def_list : goal.decreases-eval::eval_def_list
-decreases-eval::eval_def_list l = 6 * (1000 - l.level) + 5
-
-abbrev pub decreases-eval::eval_throw : goal.decreases-eval::eval_throw
-decreases-eval::eval_throw l = 6 * (1000 - l.level) + 5
 
 abbrev pub decreases-control::eval_if : goal.decreases-control::eval_if
 decreases-control::eval_if l = 6 * (1000 - l.level) + 5

@@ -13,10 +13,17 @@ use Rattle.code.specs.declared.code.MethodCode.{MethodCode}
 use Rattle.resolver.proofs.Growing.{truncated}
 use Rattle.resolver.proofs.Made.{resolved_as, resolved_call, resolved_list, resolved_hide, resolved_if, resolved_while, resolved_for, resolved_try, resolved_escape, resolved_object, resolved_block, all_more, all_pushed, all_end, all_done, methods_more, methods_pushed, methods_end, methods_done}
 use Rattle.resolver.proofs.Ranks.{part_nodes, method_nodes}
+use Rattle.resolver.proofs.Sides.{side_of, right_resolved}
 use Rattle.resolver.proofs.resolving.+resolve.Goals as goal
 
 pub resolve_expr-resolve_call-requires : goal.resolve_expr-resolve_call-requires
 resolve_expr-resolve_call-requires t c = (omega (arith, ap nodes (ap tree_of c.in-Call.is ∙ tree_of-Call c.in-Call.receiver c.in-Call.verb c.in-Call.args)), tt)
+
+pub resolve_expr-resolve_right-requires : goal.resolve_expr-resolve_right-requires
+resolve_expr-resolve_right-requires t c = (search rules, side_of c.in-Def.right c.in-Def.is)
+
+pub resolve_right-returns : goal.resolve_right-returns
+resolve_right-returns t c = right_resolved c.with_right.result c.with_right.new.frame.items c.args.e.now c.with_right.ensures c.requires c.in_ok-right.ensures
 
 pub resolve_expr-resolve_row-requires : goal.resolve_expr-resolve_row-requires
 resolve_expr-resolve_row-requires t c = (omega (arith, ap nodes (ap tree_of c.in-List.is ∙ tree_of-List c.in-List.items)), tt)

@@ -29,17 +29,8 @@ decreases-resolve_methods l = 6 * nodes_of (methods_of l.methods.now) + 4
 abbrev pub decreases-resolve_object : goal.decreases-resolve_object
 decreases-resolve_object l = 6 * nodes_of (methods_of l.methods.now.value.items) + 5
 
-abbrev pub decreases-resolve_def : goal.decreases-resolve_def
-decreases-resolve_def l = 6 * nodes (tree_of l.right.now.value) + 5
-
-abbrev pub decreases-resolve_var : goal.decreases-resolve_var
-decreases-resolve_var l = 6 * nodes (tree_of l.right.now.value) + 5
-
-abbrev pub decreases-resolve_assign : goal.decreases-resolve_assign
-decreases-resolve_assign l = 6 * nodes (tree_of l.right.now.value) + 5
-
-abbrev pub decreases-resolve_def_list : goal.decreases-resolve_def_list
-decreases-resolve_def_list l = 6 * nodes (tree_of l.right.now.value) + 5
+abbrev pub decreases-resolve_right : goal.decreases-resolve_right
+decreases-resolve_right l = 6 * nodes (tree_of l.right.now.value) + 5
 
 abbrev pub decreases-resolve_call : goal.decreases-resolve_call
 decreases-resolve_call l = 6 * (nodes (tree_of l.receiver.now.value) + nodes_in (trees_of l.args.now.value.items)) + 5
