@@ -1,7 +1,8 @@
 -- On what a fault tells.
-use Rattle.std.proofs.Common.{◌≡◌, Err, Result, ap, sym, subst}
+use Rattle.std.proofs.Common.{◌≡◌, Ok, Err, Result, ap, sym, subst, ◌∙◌}
 use Rattle.scopes.specs.Scope.{Scopes, Checked, in_turn, entered, in_block, left_for}
 use Rattle.scopes.specs.Check.{Refuses, Gives}
+use Rattle.scopes.specs.Parts.{Binding, binding_checked, checked_behind}
 use Rattle.scopes.specs.declared.checking.CheckFault.{CheckFault}
 use Rattle.scopes.specs.declared.checking.CheckFault.TheVariants as fault
 
@@ -30,3 +31,13 @@ refuses_same f r s e h = subst (Refuses f) (sym e) h
 -- where the first of two is refused, so are both
 pub fails : {result : Result (Unit {0}) CheckFault} {f : CheckFault} {whole : Checked} (first : Checked) (next : Scopes → Checked) (s : Scopes) → (e : CheckFault) × (result ≡ Err e) × (e ≡ f) → whole ≡ in_turn first next → Refuses f first → Gives result s whole
 fails first next s failed is h = rw (failed.1, failed.2) (refuses_same _ _ _ is (refuses_in_turn _ first next h))
+
+-- what stands in a block gives what the block gives
+block_gives : (r : Result (Unit {0}) CheckFault) (inside : Scopes → Checked) (s after : Scopes) → Gives r after (inside (entered s)) → Gives r s (in_block inside s)
+block_gives (Ok done) inside s after h = ap (left_for s) h
+block_gives (Err f) inside s after h = refuses_in_block f inside s h
+
+-- the same of what stands there behind a binding
+pub behind_gives : (r : Result (Unit {0}) CheckFault) (b : Binding) (body : Scopes → Checked) (s : Scopes) {inner middle : Scopes} (after : Scopes) → inner ≡ entered s → binding_checked b inner ≡ Ok middle → Gives r after (body middle) → Gives r s (in_block (checked_behind b body) s)
+behind_gives r b body s after begins bound h =
+    block_gives r (checked_behind b body) s after (subst (Gives r after) (sym (ap (λ o. in_turn o body) (ap (binding_checked b) (sym begins) ∙ bound))) h)

@@ -4,10 +4,10 @@ use Rattle.kernele.specs.View.{tree_of, trees_of, methods_of}
 use Rattle.kernele.proofs.Walks.{trees_from, no_trees_from, no_methods_from, body_is}
 use Rattle.scopes.specs.Scope.{in_turn, checked_all, checked_methods, depth_in}
 use Rattle.scopes.specs.Check.{scopes_in, signature_of}
-use Rattle.scopes.specs.Parts.{binding_in, checked_behind}
-use Rattle.scopes.proofs.Constructs.{first_left, second_left, third_left, item_depth, body_depth}
+use Rattle.scopes.specs.Parts.{part_in, binding_in, checked_behind}
+use Rattle.scopes.proofs.Constructs.{first_left, second_left, third_left, part_depth, first_is_lower, second_is_lower, third_is_lower, item_depth, body_depth}
 use Rattle.scopes.proofs.Methods.{methods_next, block_is_left, twice_refused}
-use Rattle.scopes.proofs.Refusals.{refuses_in_turn, refuses_in_block, fails}
+use Rattle.scopes.proofs.Refusals.{refuses_in_turn, refuses_in_block, fails, behind_gives}
 use Rattle.scopes.proofs.checking.+check.Goals as goal
 
 pub check_all-check_expr-requires : goal.check_all-check_expr-requires
@@ -83,3 +83,40 @@ check_methods-returns-in_err-check_block t c =
 pub check_methods-returns : goal.check_methods-returns
 check_methods-returns t c =
     c.loop-index.invariant ∙ ap (λ ms. checked_methods (map signature_of (take c.loop-index.index c.args.methods.now)) ms (scopes_in c.args.scopes.now)) (no_methods_from c.args.methods.now c.loop-index.index c.loop-index-test.false)
+
+pub check_expr-check_part-requires : goal.check_expr-check_part-requires
+check_expr-check_part-requires t c =
+    let lower = first_is_lower (tree_of c.args.e.now) in
+    let is = ap part_depth c.first_part.ensures in
+    (omega arith, tt)
+
+pub check_expr-check_part-requires-2 : goal.check_expr-check_part-requires-2
+check_expr-check_part-requires-2 t c =
+    let lower = second_is_lower (tree_of c.args.e.now) in
+    let is = ap part_depth c.second_part.ensures in
+    (omega arith, tt)
+
+pub check_expr-check_part-requires-3 : goal.check_expr-check_part-requires-3
+check_expr-check_part-requires-3 t c =
+    let lower = third_is_lower (tree_of c.args.e.now) in
+    let is = ap part_depth c.third_part.ensures in
+    (omega arith, tt)
+
+pub check_part-check_expr-requires : goal.check_part-check_expr-requires
+check_part-check_expr-requires t c = let is = ap (λ p. part_depth (part_in p)) c.in-Evaluate.is in (omega arith, tt)
+
+pub check_part-check_all-requires : goal.check_part-check_all-requires
+check_part-check_all-requires t c = let is = ap (λ p. part_depth (part_in p)) c.in-EvaluateAll.is in (omega arith, tt)
+
+pub check_part-check_block-requires : goal.check_part-check_block-requires
+check_part-check_block-requires t c = let is = ap (λ p. part_depth (part_in p)) c.in-Block.is in (omega arith, tt)
+
+pub check_part-check_methods-requires : goal.check_part-check_methods-requires
+check_part-check_methods-requires t c = let is = ap (λ p. part_depth (part_in p)) c.in-Methods.is in (omega arith, tt)
+
+pub check_block-check_all-requires : goal.check_block-check_all-requires
+check_block-check_all-requires t c = (omega arith, tt)
+
+pub check_block-returns : goal.check_block-returns
+check_block-returns t c =
+    behind_gives c.check_all.result (binding_in c.args.binding) (checked_all (trees_of c.args.body.now)) (scopes_in c.args.scopes.now) (scopes_in c.check_all.new.scopes) c.enter-inner.ensures c.in_ok-check_binding.ensures c.check_all.ensures

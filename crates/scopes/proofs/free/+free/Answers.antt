@@ -3,10 +3,12 @@ use Rattle.std.proofs.lemmas.Result.{IfOk-equal}
 use Rattle.scopes.specs.Scope.{own_names, own_names_in, names_of_all, depth_in}
 use Rattle.scopes.specs.Free.{free, free_in, free_of}
 use Rattle.scopes.specs.Found.{with_all_new}
+use Rattle.scopes.specs.Parts.{part_in, binding_in, binding_names}
+use Rattle.ids.proofs.Failing.{claims_nothing}
 use Rattle.kernele.specs.View.{tree_of, trees_of, methods_of}
-use Rattle.kernele.proofs.Walks.{trees_from, append_more, methods_from, body_is}
-use Rattle.scopes.proofs.Constructs.{names_left, item_depth, body_depth}
-use Rattle.scopes.proofs.Finding.{found_left, then_found}
+use Rattle.kernele.proofs.Walks.{trees_from, no_trees_from, append_more, append_end, methods_from, no_methods_from, body_is}
+use Rattle.scopes.proofs.Constructs.{names_left, part_depth, first_is_lower, second_is_lower, third_is_lower, item_depth, body_depth}
+use Rattle.scopes.proofs.Finding.{found_left, then_found, as_long, truncated}
 use Rattle.scopes.proofs.free.+free.Goals as goal
 
 pub find_in-returns-clause-inside : goal.find_in-returns-clause-inside
@@ -51,3 +53,94 @@ find_in_methods-loop-method-preserved t c =
           (c.in_ok-find_in_block.ensures.found ∙ λ i. with_all_new c.loop-method.found.items (free_in (body i) (was ++ names_of_all (parameters i)))) c.in_ok-find_in_block.ensures.inside
           ∙ ap (λ ms. with_all_new c.loop-method.found.items (free_of ms was)) (sym next) ∙ c.loop-method.invariant.found;
     }
+
+pub find_in-find_in_part-requires : goal.find_in-find_in_part-requires
+find_in-find_in_part-requires t c =
+    let lower = first_is_lower (tree_of c.args.e.now) in
+    let is = ap part_depth c.first_part.ensures in
+    (omega arith, tt)
+
+pub find_in-find_in_part-requires-2 : goal.find_in-find_in_part-requires-2
+find_in-find_in_part-requires-2 t c =
+    let lower = second_is_lower (tree_of c.args.e.now) in
+    let is = ap part_depth c.second_part.ensures in
+    (omega arith, tt)
+
+pub find_in-find_in_part-requires-3 : goal.find_in-find_in_part-requires-3
+find_in-find_in_part-requires-3 t c =
+    let lower = third_is_lower (tree_of c.args.e.now) in
+    let is = ap part_depth c.third_part.ensures in
+    (omega arith, tt)
+
+pub find_in-returns-in_err-find_in_part-clause-inside : goal.find_in-returns-in_err-find_in_part-clause-inside
+find_in-returns-in_err-find_in_part-clause-inside t c = claims_nothing c.from_residual.result _ c.from_residual.ensures.0
+
+pub find_in-returns-in_err-find_in_part-2-clause-inside : goal.find_in-returns-in_err-find_in_part-2-clause-inside
+find_in-returns-in_err-find_in_part-2-clause-inside t c = claims_nothing c.from_residual-in_err-find_in_part-2.result _ c.from_residual-in_err-find_in_part-2.ensures.0
+
+pub find_in_all-returns-in_err-find_in-clause-inside : goal.find_in_all-returns-in_err-find_in-clause-inside
+find_in_all-returns-in_err-find_in-clause-inside t c = claims_nothing c.from_residual.result _ c.from_residual.ensures.0
+
+pub find_in_block-returns-in_err-add_binding-clause-inside : goal.find_in_block-returns-in_err-add_binding-clause-inside
+find_in_block-returns-in_err-add_binding-clause-inside t c = claims_nothing c.from_residual.result _ c.from_residual.ensures.0
+
+pub find_in_block-returns-in_err-find_in_all-clause-inside : goal.find_in_block-returns-in_err-find_in_all-clause-inside
+find_in_block-returns-in_err-find_in_all-clause-inside t c = claims_nothing c.from_residual-in_err-find_in_all.result _ c.from_residual-in_err-find_in_all.ensures.0
+
+pub find_in_methods-returns-in_err-find_in_block-clause-inside : goal.find_in_methods-returns-in_err-find_in_block-clause-inside
+find_in_methods-returns-in_err-find_in_block-clause-inside t c = claims_nothing c.from_residual.result _ c.from_residual.ensures.0
+
+pub find_in-returns-in_err-find_in_part-clause-found : goal.find_in-returns-in_err-find_in_part-clause-found
+find_in-returns-in_err-find_in_part-clause-found t c = claims_nothing c.from_residual.result _ c.from_residual.ensures.0
+
+pub find_in-returns-in_err-find_in_part-2-clause-found : goal.find_in-returns-in_err-find_in_part-2-clause-found
+find_in-returns-in_err-find_in_part-2-clause-found t c = claims_nothing c.from_residual-in_err-find_in_part-2.result _ c.from_residual-in_err-find_in_part-2.ensures.0
+
+pub find_in_all-returns-in_err-find_in-clause-found : goal.find_in_all-returns-in_err-find_in-clause-found
+find_in_all-returns-in_err-find_in-clause-found t c = claims_nothing c.from_residual.result _ c.from_residual.ensures.0
+
+pub find_in_block-returns-in_err-add_binding-clause-found : goal.find_in_block-returns-in_err-add_binding-clause-found
+find_in_block-returns-in_err-add_binding-clause-found t c = claims_nothing c.from_residual.result _ c.from_residual.ensures.0
+
+pub find_in_block-returns-in_err-find_in_all-clause-found : goal.find_in_block-returns-in_err-find_in_all-clause-found
+find_in_block-returns-in_err-find_in_all-clause-found t c = claims_nothing c.from_residual-in_err-find_in_all.result _ c.from_residual-in_err-find_in_all.ensures.0
+
+pub find_in_methods-returns-in_err-find_in_block-clause-found : goal.find_in_methods-returns-in_err-find_in_block-clause-found
+find_in_methods-returns-in_err-find_in_block-clause-found t c = claims_nothing c.from_residual.result _ c.from_residual.ensures.0
+
+pub find_in_all-returns-clause-inside : goal.find_in_all-returns-clause-inside
+find_in_all-returns-clause-inside t c = append_end own_names_in refl c.args.trees.now c.loop-tree.tree-index c.loop-tree-test.false c.loop-tree.invariant.inside
+
+pub find_in_all-returns-clause-found : goal.find_in_all-returns-clause-found
+find_in_all-returns-clause-found t c =
+    sym (ap (λ ts. with_all_new c.loop-tree.found.items (free_in ts c.loop-tree.inside.items)) (no_trees_from c.args.trees.now c.loop-tree.tree-index c.loop-tree-test.false)) ∙ c.loop-tree.invariant.found
+
+pub find_in_block-returns-clause-inside : goal.find_in_block-returns-clause-inside
+find_in_block-returns-clause-inside t c =
+    truncated c.len-outer.result (binding_names (binding_in c.args.binding)) (own_names_in (trees_of c.args.body.now)) (as_long c.args.inside.now c.len-outer.ensures) c.in_ok-add_binding.ensures c.in_ok-find_in_all.ensures.inside c.truncate.ensures.items
+
+pub find_in_block-returns-clause-found : goal.find_in_block-returns-clause-found
+find_in_block-returns-clause-found t c =
+    c.in_ok-find_in_all.ensures.found ∙ ap (λ bs. with_all_new c.args.found.now.items (free_in (trees_of c.args.body.now) bs)) c.in_ok-add_binding.ensures
+
+pub find_in_methods-returns-clause-inside : goal.find_in_methods-returns-clause-inside
+find_in_methods-returns-clause-inside t c = c.loop-method.invariant.inside
+
+pub find_in_methods-returns-clause-found : goal.find_in_methods-returns-clause-found
+find_in_methods-returns-clause-found t c =
+    sym (ap (λ ms. with_all_new c.loop-method.found.items (free_of ms c.loop-method.inside.items)) (no_methods_from c.args.methods.now c.loop-method.method-index c.loop-method-test.false)) ∙ c.loop-method.invariant.found
+
+pub find_in_block-find_in_all-requires : goal.find_in_block-find_in_all-requires
+find_in_block-find_in_all-requires t c = (omega arith, tt)
+
+pub find_in_part-find_in-requires : goal.find_in_part-find_in-requires
+find_in_part-find_in-requires t c = let is = ap (λ p. part_depth (part_in p)) c.in-Evaluate.is in (omega arith, tt)
+
+pub find_in_part-find_in_all-requires : goal.find_in_part-find_in_all-requires
+find_in_part-find_in_all-requires t c = let is = ap (λ p. part_depth (part_in p)) c.in-EvaluateAll.is in (omega arith, tt)
+
+pub find_in_part-find_in_block-requires : goal.find_in_part-find_in_block-requires
+find_in_part-find_in_block-requires t c = let is = ap (λ p. part_depth (part_in p)) c.in-Block.is in (omega arith, tt)
+
+pub find_in_part-find_in_methods-requires : goal.find_in_part-find_in_methods-requires
+find_in_part-find_in_methods-requires t c = let is = ap (λ p. part_depth (part_in p)) c.in-Methods.is in (omega arith, tt)

@@ -1,10 +1,11 @@
-use Rattle.std.proofs.Common.{refl, ◌∙◌, arith}
+use Rattle.std.proofs.Common.{refl, ap, ◌∙◌, arith}
 use Rattle.std.proofs.lemmas.Result.{IfOk-equal}
 use Rattle.scopes.specs.Scope.{own_names, own_names_in}
+use Rattle.scopes.specs.Parts.{part_in}
 use Rattle.kernele.specs.View.{tree_of}
 use Rattle.kernele.proofs.Walks.{append_more, append_end}
 use Rattle.ids.proofs.Failing.{claims_nothing}
-use Rattle.scopes.proofs.Constructs.{names_left, item_depth}
+use Rattle.scopes.proofs.Constructs.{names_left, part_depth, first_is_lower, second_is_lower, third_is_lower, item_depth}
 use Rattle.scopes.proofs.naming.+names.Goals as goal
 
 pub add_all_names-add_names-requires : goal.add_all_names-add_names-requires
@@ -31,3 +32,27 @@ pub add_names-returns : goal.add_names-returns
 add_names-returns t c =
     IfOk-equal c.add_part_names-3.result _ _ _ c.add_part_names-3.ensures
     (names_left (tree_of c.args.e.now) c.args.names.now.items c.first_part.ensures c.in_ok-add_part_names.ensures c.second_part.ensures c.in_ok-add_part_names-2.ensures c.third_part.ensures)
+
+pub add_names-add_part_names-requires : goal.add_names-add_part_names-requires
+add_names-add_part_names-requires t c =
+    let lower = first_is_lower (tree_of c.args.e.now) in
+    let is = ap part_depth c.first_part.ensures in
+    (omega arith, tt)
+
+pub add_names-add_part_names-requires-2 : goal.add_names-add_part_names-requires-2
+add_names-add_part_names-requires-2 t c =
+    let lower = second_is_lower (tree_of c.args.e.now) in
+    let is = ap part_depth c.second_part.ensures in
+    (omega arith, tt)
+
+pub add_names-add_part_names-requires-3 : goal.add_names-add_part_names-requires-3
+add_names-add_part_names-requires-3 t c =
+    let lower = third_is_lower (tree_of c.args.e.now) in
+    let is = ap part_depth c.third_part.ensures in
+    (omega arith, tt)
+
+pub add_part_names-add_names-requires : goal.add_part_names-add_names-requires
+add_part_names-add_names-requires t c = let is = ap (λ p. part_depth (part_in p)) c.in-Evaluate.is in (omega arith, tt)
+
+pub add_part_names-add_all_names-requires : goal.add_part_names-add_all_names-requires
+add_part_names-add_all_names-requires t c = let is = ap (λ p. part_depth (part_in p)) c.in-EvaluateAll.is in (omega arith, tt)
