@@ -1,10 +1,38 @@
-use Rattle.std.proofs.Common.{◌≡◌, ℕ, List, [], ◌∷◌, refl, ap, subst, ◌∙◌, ◌++◌, append_assoc, rules, string_bytes, codes, OnOk}
+use Rattle.std.proofs.Common.{◌≡◌, ℕ, List, [], ◌∷◌, refl, ap, sym, subst, ◌∙◌, ◌++◌, append_assoc, rules, string_bytes, codes, OnOk}
 use Rattle.std.proofs.lemmas.Result.{IfOk-equal}
-use Rattle.kernele.specs.Spelling.{led_by, spelled_items, spelled_methods, methods_in_braces, method_text}
+use Rattle.kernele.specs.Spelling.{led_by, joined, as_part, spelled, spelled_parts, spelled_items, spelled_methods, methods_in_braces, method_text}
 use Rattle.kernele.specs.View.{tree_of, trees_of, methods_of}
 use Rattle.kernele.proofs.Views.{tree_of-Call, tree_of-List, tree_of-Hide, tree_of-If, tree_of-While, tree_of-For, tree_of-Try, tree_of-Escape}
-use Rattle.kernele.proofs.Walks.{tree_is_object, braces, methods_more, methods_end}
+use Rattle.kernele.proofs.Walks.{tree_is_object, braces, append_more, append_end, methods_more, methods_end}
+use Rattle.kernele.proofs.Halves.{written_in_two}
 use Rattle.kernele.proofs.printing.+print.Goals as goal
+
+pub write_expr-returns : goal.write_expr-returns
+write_expr-returns t c =
+    rw (← written_in_two (string_bytes c.args.out.now) (tree_of c.args.e.now)) (search (rules, IfOk-equal, append_assoc))
+
+pub write_parts-loop-part-preserved : goal.write_parts-loop-part-preserved
+write_parts-loop-part-preserved t c =
+    append_more (λ ts. led_by (codes ", ") (spelled_parts ts)) (λ t. codes ", " ++ as_part t (spelled t)) (λ t ts. refl) (string_bytes c.loop-part.out) c.in-Some.rest.now c.loop-part.part-index c.part-item.result c.loop-part-test.true c.part-item.is (search (rules, append_assoc))
+    ∙ c.loop-part.invariant
+
+pub write_parts-returns : goal.write_parts-returns
+write_parts-returns t c =
+    let written = append_end (λ ts. led_by (codes ", ") (spelled_parts ts)) refl c.in-Some.rest.now c.loop-part.part-index c.loop-part-test.false c.loop-part.invariant in
+    let slice : c.deref-2.result.now ≡ c.args.parts.now.value.items = c.deref-2.ensures.value ∙ ap (λ v. v.items) c.deref.ensures in
+    rw (ap (λ xs. joined (codes ", ") (spelled_parts (trees_of xs))) (sym slice ∙ c.in-Some.ensures.cases.0)) (search (rules, IfOk-equal, append_assoc, written))
+
+pub write_items-loop-item-preserved : goal.write_items-loop-item-preserved
+write_items-loop-item-preserved t c =
+    append_more (λ ts. led_by (codes "; ") (spelled_items ts)) (λ t. codes "; " ++ spelled t) (λ t ts. refl) (string_bytes c.loop-item.out) c.in-Some.rest.now c.loop-item.item-index c.item-item.result c.loop-item-test.true c.item-item.is (search (rules, append_assoc))
+    ∙ c.loop-item.invariant
+
+pub write_items-returns-after-loop-item : goal.write_items-returns-after-loop-item
+write_items-returns-after-loop-item t c =
+    let written = append_end (λ ts. led_by (codes "; ") (spelled_items ts)) refl c.in-Some.rest.now c.loop-item.item-index c.loop-item-test.false c.loop-item.invariant in
+    written ∙ ap (λ s. s ++ led_by (codes "; ") (spelled_items (trees_of c.in-Some.rest.now))) c.in_ok-write_expr.ensures
+    ∙ append_assoc (string_bytes c.args.out.now) (spelled (tree_of c.in-Some.first.now)) (led_by (codes "; ") (spelled_items (trees_of c.in-Some.rest.now)))
+    ∙ ap (λ xs. string_bytes c.args.out.now ++ joined (codes "; ") (spelled_items (trees_of xs))) (sym c.in-Some.ensures.cases.0)
 
 pub write_beginning-returns-in-List : goal.write_beginning-returns-in-List
 write_beginning-returns-in-List t c =
