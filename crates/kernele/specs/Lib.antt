@@ -1,3 +1,4 @@
 pub mod Tree
 pub mod View
 pub mod Spelling
+pub mod Halves

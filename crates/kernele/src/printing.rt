@@ -1,14 +1,15 @@
 // The canonical spelling of a program.
 ghost use Rattle.std.specs.Prelude.{◌≡◌, ◌++◌, IfOk, OnOk, string_bytes, codes, map, true};
-ghost use Rattle.kernele.specs.Tree.{bool_tree, define, define_list, variable, assign, call, list_tree, same_tree, if_tree, while_tree, for_tree, try_tree, throw_tree, object_tree, escape_tree};
 ghost use Rattle.kernele.specs.View.{tree_of, trees_of, methods_of, program_of};
-ghost use Rattle.kernele.specs.Spelling.{spelling, spelled, spelled_parts, spelled_items, spelled_methods, joined, bracketed, in_braces, methods_in_braces, method_text, bound_name, needs_brackets as brackets_test, is_bare_receiver as bare_receiver_test, as_part, as_receiver, message};
+ghost use Rattle.kernele.specs.Spelling.{spelling, spelled, spelled_parts, spelled_items, spelled_methods, joined, bracketed, in_braces, methods_in_braces, bound_name, needs_brackets as brackets_test, is_bare_receiver as bare_receiver_test, as_part, as_receiver, message};
+ghost use Rattle.kernele.specs.Halves.{beginning, rest_of};
 
 use crate::tree::{Expr, Method, Pattern, Program};
 use ids::quote::write_quoted;
 use ids::text::Text;
 use std::alloc::{AllocError, Global};
 use std::fmt::Write;
+use std::sync::Arc;
 
 /// A program in its canonical spelling.
 pub fn print(alloc: Global, program: &Program) -> Result<String, AllocError>
@@ -39,146 +40,102 @@ fn write_items(items: &[Expr], out: &mut String) -> Result<(), AllocError>
 fn write_expr(e: &Expr, out: &mut String) -> Result<(), AllocError>
     ensures { OnOk result (string_bytes out.new ≡ string_bytes out.old ++ spelled (tree_of e.now)) }
 {
+    write_beginning(e, out)?;
+    write_rest(e, out)
+}
+
+/// Writes what an expression begins with, up to the first expression, block or name in it.
+#[cycle(print)]
+fn write_beginning(e: &Expr, out: &mut String) -> Result<(), AllocError>
+    ensures { OnOk result (string_bytes out.new ≡ string_bytes out.old ++ beginning (tree_of e.now)) }
+{
     match e {
         Expr::Null => out.push_str("null"),
-        Expr::Bool(b) => write_bool(*b, out),
+        Expr::Bool(true) => out.push_str("true"),
+        Expr::Bool(false) => out.push_str("false"),
         Expr::Int(n) => write!(out, "{n}"),
         Expr::Text(text) => write_quoted(text.as_str(), out),
-        Expr::Noun(name) => out.push_str(name.as_str()),
-        Expr::Def(pattern, value) => write_binding("def ", bound_text(pattern), value, out),
-        Expr::Var(name, value) => write_binding("var ", name.as_str(), value, out),
-        Expr::Assign(name, value) => write_binding("", name.as_str(), value, out),
-        Expr::Call(receiver, verb, args) => write_call(receiver, verb, args, out),
+        Expr::Noun(name) | Expr::Assign(name, _) => out.push_str(name.as_str()),
+        Expr::Def(pattern, _) | Expr::Object(pattern, _) => write_bound("def ", pattern, out),
+        Expr::Var(name, _) => write_name("var ", name, out),
+        Expr::Call(receiver, _, _) => write_receiver(receiver, out),
         Expr::List(items) => write_parts("[", items, "]", out),
-        Expr::Same(left, right) => write_same(left, right, out),
-        Expr::DefList(patterns, value) => {
-            write_def_list_head(patterns, out)?;
-            write_part(value, out)
-        }
-        Expr::Hide(body) => write_block(body, out),
-        Expr::If(condition, first, second) => write_if(condition, first, second, out),
-        Expr::While(condition, body) => {
-            write_enclosed("while (", condition, ") ", out)?;
-            write_block(body, out)
-        }
-        Expr::For(pattern, list, body) => write_for(pattern, list, body, out),
-        Expr::Try(body, pattern, handler) => write_try(body, pattern, handler, out),
-        Expr::Throw(problem) => write_enclosed("throw(", problem, ")", out),
-        Expr::Object(pattern, methods) => write_object(pattern, methods, out),
-        Expr::Escape(name, body) => {
-            write_escape_head(name, out)?;
-            write_block(body, out)
-        }
+        Expr::Same(left, _) => write_part("(", left, out),
+        Expr::DefList(patterns, _) => write_patterns("def [", patterns, out),
+        Expr::Hide(body) => write_block("", body, out),
+        Expr::If(condition, _, _) => write_part("if (", condition, out),
+        Expr::While(condition, _) => write_part("while (", condition, out),
+        Expr::For(pattern, _, _) => write_bound("for ", pattern, out),
+        Expr::Try(body, _, _) => write_block("try ", body, out),
+        Expr::Throw(problem) => write_part("throw(", problem, out),
+        Expr::Escape(name, _) => write_name("escape ", name, out),
     }
 }
 
-/// Writes a definition or an assignment of one name.
+/// Writes what stands behind that.
 #[cycle(print)]
-fn write_binding(
-    opening: &str,
-    name: &str,
-    value: &Expr,
-    out: &mut String,
-) -> Result<(), AllocError>
-    ensures { OnOk result (string_bytes out.new ≡ string_bytes out.old ++ opening.now ++ name.now ++ codes " := " ++ as_part (tree_of value.now) (spelled (tree_of value.now))) }
+fn write_rest(e: &Expr, out: &mut String) -> Result<(), AllocError>
+    ensures { OnOk result (string_bytes out.new ≡ string_bytes out.old ++ rest_of (tree_of e.now)) }
 {
-    out.push_str(opening)?;
-    out.push_str(name)?;
-    out.push_str(" := ")?;
-    write_part(value, out)
+    match e {
+        Expr::Null
+        | Expr::Bool(_)
+        | Expr::Int(_)
+        | Expr::Text(_)
+        | Expr::Noun(_)
+        | Expr::List(_)
+        | Expr::Hide(_) => Ok(()),
+        Expr::Def(_, value) | Expr::Var(_, value) | Expr::Assign(_, value) => {
+            write_part(" := ", value, out)
+        }
+        Expr::Call(_, verb, args) => {
+            write_name(".", verb, out)?;
+            write_parts("(", args, ")", out)
+        }
+        Expr::Same(_, right) => {
+            write_part(" == ", right, out)?;
+            out.push_str(")")
+        }
+        Expr::DefList(_, value) => write_part("] := ", value, out),
+        Expr::If(_, first, second) => {
+            write_block(") ", first, out)?;
+            write_block(" else ", second, out)
+        }
+        Expr::While(_, body) => write_block(") ", body, out),
+        Expr::For(_, list, body) => {
+            write_part(" in ", list, out)?;
+            write_block(" ", body, out)
+        }
+        Expr::Try(_, pattern, handler) => {
+            write_bound(" catch ", pattern, out)?;
+            write_block(" ", handler, out)
+        }
+        Expr::Throw(_) => out.push_str(")"),
+        Expr::Object(_, methods) => write_methods(methods, out),
+        Expr::Escape(_, body) => write_block(" ", body, out),
+    }
 }
 
+/// Writes methods in braces, a space before each and before the braces.
 #[cycle(print)]
-fn write_call(
-    receiver: &Expr,
-    verb: &Text,
-    args: &[Expr],
-    out: &mut String,
-) -> Result<(), AllocError>
-    ensures { OnOk result (string_bytes out.new ≡ string_bytes out.old ++ spelled (call (tree_of receiver.now) verb.now (trees_of args.now))) }
+fn write_methods(methods: &[Method], out: &mut String) -> Result<(), AllocError>
+    ensures { OnOk result (string_bytes out.new ≡ string_bytes out.old ++ codes " " ++ methods_in_braces (spelled_methods (methods_of methods.now))) }
 {
-    write_bracketed(!is_bare_receiver(receiver), receiver, out)?;
-    out.push_str(".")?;
-    out.push_str(verb.as_str())?;
-    write_parts("(", args, ")", out)
-}
-
-#[cycle(print)]
-fn write_same(left: &Expr, right: &Expr, out: &mut String) -> Result<(), AllocError>
-    ensures { OnOk result (string_bytes out.new ≡ string_bytes out.old ++ spelled (same_tree (tree_of left.now) (tree_of right.now))) }
-{
-    out.push_str("(")?;
-    write_part(left, out)?;
-    out.push_str(" == ")?;
-    write_part(right, out)?;
-    out.push_str(")")
-}
-
-#[cycle(print)]
-fn write_if(
-    condition: &Expr,
-    first: &[Expr],
-    second: &[Expr],
-    out: &mut String,
-) -> Result<(), AllocError>
-    ensures { OnOk result (string_bytes out.new ≡ string_bytes out.old ++ spelled (if_tree (tree_of condition.now) (trees_of first.now) (trees_of second.now))) }
-{
-    write_enclosed("if (", condition, ") ", out)?;
-    write_block(first, out)?;
-    out.push_str(" else ")?;
-    write_block(second, out)
-}
-
-#[cycle(print)]
-fn write_for(
-    pattern: &Pattern,
-    list: &Expr,
-    body: &[Expr],
-    out: &mut String,
-) -> Result<(), AllocError>
-    ensures { OnOk result (string_bytes out.new ≡ string_bytes out.old ++ spelled (for_tree pattern.now (tree_of list.now) (trees_of body.now))) }
-{
-    out.push_str("for ")?;
-    out.push_str(bound_text(pattern))?;
-    out.push_str(" in ")?;
-    write_part(list, out)?;
-    out.push_str(" ")?;
-    write_block(body, out)
-}
-
-#[cycle(print)]
-fn write_try(
-    body: &[Expr],
-    pattern: &Pattern,
-    handler: &[Expr],
-    out: &mut String,
-) -> Result<(), AllocError>
-    ensures { OnOk result (string_bytes out.new ≡ string_bytes out.old ++ spelled (try_tree (trees_of body.now) pattern.now (trees_of handler.now))) }
-{
-    out.push_str("try ")?;
-    write_block(body, out)?;
-    write_catch(pattern, out)?;
-    write_block(handler, out)
-}
-
-/// Writes an object, a space before each of its methods.
-#[cycle(print)]
-fn write_object(pattern: &Pattern, methods: &[Method], out: &mut String) -> Result<(), AllocError>
-    ensures { OnOk result (string_bytes out.new ≡ string_bytes out.old ++ spelled (object_tree pattern.now (methods_of methods.now))) }
-{
-    write_object_head(pattern, out)?;
+    out.push_str(" {")?;
     for method in methods {
         write_method_head(&method.verb, &method.parameters, out)?;
-        write_block(&method.body, out)?;
+        write_block(" ", &method.body, out)?;
     }
     out.push_str(" }")
 }
 
-/// Writes a block in its braces.
+/// Writes a word, and a block in its braces behind it.
 #[cycle(print)]
-fn write_block(items: &[Expr], out: &mut String) -> Result<(), AllocError>
-    ensures { OnOk result (string_bytes out.new ≡ string_bytes out.old ++ in_braces (spelled_items (trees_of items.now))) }
+fn write_block(word: &str, body: &Arc<Vec<Expr>>, out: &mut String) -> Result<(), AllocError>
+    ensures { OnOk result (string_bytes out.new ≡ string_bytes out.old ++ word.now ++ in_braces (spelled_items (trees_of body.now.value.items))) }
 {
+    out.push_str(word)?;
+    let items = body.as_slice();
     if items.is_empty() {
         return out.push_str("{ }");
     }
@@ -191,45 +148,38 @@ fn write_block(items: &[Expr], out: &mut String) -> Result<(), AllocError>
 #[cycle(print)]
 fn write_parts(
     opening: &str,
-    parts: &[Expr],
+    parts: &Arc<Vec<Expr>>,
     closing: &str,
     out: &mut String,
 ) -> Result<(), AllocError>
-    ensures { OnOk result (string_bytes out.new ≡ string_bytes out.old ++ opening.now ++ joined (codes ", ") (spelled_parts (trees_of parts.now)) ++ closing.now) }
+    ensures { OnOk result (string_bytes out.new ≡ string_bytes out.old ++ opening.now ++ joined (codes ", ") (spelled_parts (trees_of parts.now.value.items)) ++ closing.now) }
 {
-    out.push_str(opening)?;
     let Some((first, rest)) = parts.split_first() else {
+        out.push_str(opening)?;
         return out.push_str(closing);
     };
-    write_part(first, out)?;
+    write_part(opening, first, out)?;
     for part in rest {
-        out.push_str(", ")?;
-        write_part(part, out)?;
+        write_part(", ", part, out)?;
     }
     out.push_str(closing)
 }
 
-/// Writes a part of another expression between two texts.
+/// Writes a word, and a part of another expression behind it.
 #[cycle(print)]
-fn write_enclosed(
-    opening: &str,
-    e: &Expr,
-    closing: &str,
-    out: &mut String,
-) -> Result<(), AllocError>
-    ensures { OnOk result (string_bytes out.new ≡ string_bytes out.old ++ opening.now ++ as_part (tree_of e.now) (spelled (tree_of e.now)) ++ closing.now) }
+fn write_part(word: &str, e: &Expr, out: &mut String) -> Result<(), AllocError>
+    ensures { OnOk result (string_bytes out.new ≡ string_bytes out.old ++ word.now ++ as_part (tree_of e.now) (spelled (tree_of e.now))) }
 {
-    out.push_str(opening)?;
-    write_part(e, out)?;
-    out.push_str(closing)
+    out.push_str(word)?;
+    write_bracketed(needs_brackets(e), e, out)
 }
 
-/// Writes a part of another expression.
+/// Writes what a call is made on.
 #[cycle(print)]
-fn write_part(e: &Expr, out: &mut String) -> Result<(), AllocError>
-    ensures { OnOk result (string_bytes out.new ≡ string_bytes out.old ++ as_part (tree_of e.now) (spelled (tree_of e.now))) }
+fn write_receiver(e: &Expr, out: &mut String) -> Result<(), AllocError>
+    ensures { OnOk result (string_bytes out.new ≡ string_bytes out.old ++ as_receiver (tree_of e.now) (spelled (tree_of e.now))) }
 {
-    write_bracketed(needs_brackets(e), e, out)
+    write_bracketed(!is_bare_receiver(e), e, out)
 }
 
 /// Writes an expression, in round brackets where they are wanted.
@@ -245,73 +195,46 @@ fn write_bracketed(wanted: bool, e: &Expr, out: &mut String) -> Result<(), Alloc
     out.push_str(")")
 }
 
-/// Writes the definition of names for a list, up to its value.
-fn write_def_list_head(patterns: &[Pattern], out: &mut String) -> Result<(), AllocError>
-    ensures { OnOk result (string_bytes out.new ≡ string_bytes out.old ++ codes "def [" ++ joined (codes ", ") (map bound_name patterns.now) ++ codes "] := ") }
-{
-    out.push_str("def [")?;
-    write_patterns(patterns, out)?;
-    out.push_str("] := ")
-}
-
-/// Writes what stands between the two blocks of a `try`.
-fn write_catch(pattern: &Pattern, out: &mut String) -> Result<(), AllocError>
-    ensures { OnOk result (string_bytes out.new ≡ string_bytes out.old ++ codes " catch " ++ bound_name pattern.now ++ codes " ") }
-{
-    out.push_str(" catch ")?;
-    out.push_str(bound_text(pattern))?;
-    out.push_str(" ")
-}
-
-/// Writes an object up to its methods.
-fn write_object_head(pattern: &Pattern, out: &mut String) -> Result<(), AllocError>
-    ensures { OnOk result (string_bytes out.new ≡ string_bytes out.old ++ codes "def " ++ bound_name pattern.now ++ codes " {") }
-{
-    out.push_str("def ")?;
-    out.push_str(bound_text(pattern))?;
-    out.push_str(" {")
-}
-
 /// Writes a method up to its block, behind a space.
 fn write_method_head(
     verb: &Text,
     parameters: &[Pattern],
     out: &mut String,
 ) -> Result<(), AllocError>
-    ensures { OnOk result (string_bytes out.new ≡ string_bytes out.old ++ codes " method " ++ message verb.now (map bound_name parameters.now) ++ codes " ") }
+    ensures { OnOk result (string_bytes out.new ≡ string_bytes out.old ++ codes " method " ++ message verb.now (map bound_name parameters.now)) }
 {
     out.push_str(" method ")?;
     out.push_str(verb.as_str())?;
-    out.push_str("(")?;
-    write_patterns(parameters, out)?;
-    out.push_str(") ")
+    write_patterns("(", parameters, out)?;
+    out.push_str(")")
 }
 
-/// Writes an escape up to its block.
-fn write_escape_head(name: &Text, out: &mut String) -> Result<(), AllocError>
-    ensures { OnOk result (string_bytes out.new ≡ string_bytes out.old ++ codes "escape " ++ name.now ++ codes " ") }
+/// Writes a word, and a name behind it.
+fn write_name(word: &str, name: &Text, out: &mut String) -> Result<(), AllocError>
+    ensures { OnOk result (string_bytes out.new ≡ string_bytes out.old ++ word.now ++ name.now) }
 {
-    out.push_str("escape ")?;
-    out.push_str(name.as_str())?;
-    out.push_str(" ")
+    out.push_str(word)?;
+    out.push_str(name.as_str())
 }
 
-fn write_bool(b: bool, out: &mut String) -> Result<(), AllocError>
-    ensures { OnOk result (string_bytes out.new ≡ string_bytes out.old ++ spelled (bool_tree b)) }
+/// Writes a word, and behind it what a pattern binds.
+fn write_bound(word: &str, pattern: &Pattern, out: &mut String) -> Result<(), AllocError>
+    ensures { OnOk result (string_bytes out.new ≡ string_bytes out.old ++ word.now ++ bound_name pattern.now) }
 {
-    out.push_str(if b { "true" } else { "false" })
+    out.push_str(word)?;
+    out.push_str(bound_text(pattern))
 }
 
-/// Writes patterns, with commas between them.
-fn write_patterns(patterns: &[Pattern], out: &mut String) -> Result<(), AllocError>
-    ensures { OnOk result (string_bytes out.new ≡ string_bytes out.old ++ joined (codes ", ") (map bound_name patterns.now)) }
+/// Writes a word, and patterns behind it, with commas between them.
+fn write_patterns(word: &str, patterns: &[Pattern], out: &mut String) -> Result<(), AllocError>
+    ensures { OnOk result (string_bytes out.new ≡ string_bytes out.old ++ word.now ++ joined (codes ", ") (map bound_name patterns.now)) }
 {
-    if let Some((first, rest)) = patterns.split_first() {
-        out.push_str(bound_text(first))?;
-        for pattern in rest {
-            out.push_str(", ")?;
-            out.push_str(bound_text(pattern))?;
-        }
+    let Some((first, rest)) = patterns.split_first() else {
+        return out.push_str(word);
+    };
+    write_bound(word, first, out)?;
+    for pattern in rest {
+        write_bound(", ", pattern, out)?;
     }
     Ok(())
 }
