@@ -1,5 +1,5 @@
 -- An accepted event keeps the journal good.
-use Rattle.std.proofs.Common.{◌≡◌, ℕ, ◌+◌, ◌≤◌, ◌<◌, Bool, true, false, ◌||◌, List, [], ◌∷◌, ◌++◌, map, reverse, refl, sym, ap, ◌∙◌, subst, le_refl}
+use Rattle.std.proofs.Common.{◌≡◌, ℕ, ◌+◌, ◌≤◌, ◌<◌, Bool, true, false, ◌||◌, List, [], ◌∷◌, ◌++◌, map, reverse, refl, sym, ap, ◌∙◌, subst, le_refl, Some, None}
 use Rattle.std.proofs.Math.Logic.{∥∥₁_elim, ∥∥₁_map, ∥∥₁_prop}
 use Rattle.std.specs.List.{AllByRecursion}
 use Rattle.std.proofs.lemmas.List.{map-append}
@@ -9,9 +9,19 @@ use Rattle.history.proofs.Lists.{all_of}
 use Rattle.history.proofs.Changes.{sound_same}
 use Rattle.history.proofs.Naming.{causes_named_reversed, causes_below_reversed, appended_named, appended}
 use Rattle.ids.specs.declared.names.EventName.{EventName}
-use Rattle.ids.specs.declared.names.CellKey.{CellKey}
-use Rattle.world.specs.World.{World, empty}
-use Rattle.world.specs.Events.{Event, Foot, Does, events}
+use Rattle.ids.specs.declared.names.MsgId.{MsgId}
+use Rattle.ids.specs.declared.names.CellKey.TheVariants as key
+use Rattle.kernele.specs.Tree.{Name, Trees}
+use Rattle.kernele.specs.View.{program_of}
+use Rattle.kernele.specs.declared.tree.Program.{Program}
+use Rattle.heap.specs.State.{State}
+use Rattle.world.specs.World.{Vat, Message, World, empty, vat_named}
+use Rattle.world.specs.Events.{Act, birth, ask, turn, Event, Foot, Turns, Does, births, asks, turns, birth_foot, ask_foot, turn_foot, events}
+use Rattle.world.specs.Effects.{turn_of, Holds, Affects, Brings}
+use Rattle.world.specs.declared.cells.Cells.{Cells}
+use Rattle.world.specs.declared.step.Delivered.{Delivered}
+use Rattle.world.specs.declared.effects.Effects.{Effects}
+use Rattle.world.specs.declared.effects.Effects.TheVariants as effects
 use Rattle.journal.specs.Journal.{Line, causes_in}
 use Rattle.book.specs.Books.{Book, line_of, Kept, Stands}
 use Rattle.book.specs.Calls.{touched, new_line, Enters}
@@ -64,19 +74,42 @@ pub stands_entered : (e : Event) (f : Foot) (old new : Book) → Stands old → 
 stands_entered e f old new h n =
     ∥∥₁_elim h ∥∥₁_prop (λ (es, k). ∥∥₁_map n.does (λ d. (entry_over e f old.journal ∷ es, kept_entered e f old new es k d n)))
 
--- what is entered is the event's line, with its cells and its causes
-pub enters : (e g : Event) (f : Foot) (old new : Book) (cells wrote : List CellKey) → e.name.0 ≡ old.next → new.next ≡ old.next + 1 → ∥ Does e old.world f ∥₁
-    → new.world ≡ after events f old.world
-    → new.journal ≡ old.journal ++ record { event = g; touched = cells; written = wrote; causes = causes_in cells old.journal; live = true } ∷ []
-    → g ≡ e → cells ≡ touched f → wrote ≡ map (λ p. p.0) f.writes → new.redoable ≡ [] → Enters e f old new
-enters e g f old new cells wrote named drawn does step entered is touches writes redoable = record {
-  named = named;
-  drawn = drawn;
-  does = does;
-  step = step;
-  entered = entered ∙ (λ i. old.journal ++ record { event = is i; touched = touches i; written = writes i; causes = causes_in (touches i) old.journal; live = true } ∷ []);
-  redoable = redoable;
+-- an event that brings these effects is entered with its cells and its causes
+pub enters : (e : Event) (it : Effects) (f : Foot) (old new : Book) (cells : Cells) → e.name.0 ≡ old.next → new.next ≡ old.next + 1
+    → ((g : Foot) → Affects e.name it old.world g → new.world ≡ after events g old.world)
+    → ((w : World) (g : Foot) → Affects e.name it w g → (cells.touched.items ≡ touched g) × (cells.written.items ≡ map (λ p. p.0) g.writes))
+    → new.journal ≡ old.journal ++ record { event = e; touched = cells.touched.items; written = cells.written.items; causes = causes_in cells.touched.items old.journal; live = true } ∷ []
+    → new.redoable ≡ [] → Brings e it old.world f → Enters e f old new
+enters e it f old new cells named drawn steps keys entered redoable b =
+    let k = keys old.world f b.affects in
+    record {
+      named = named;
+      drawn = drawn;
+      does = b.does;
+      step = steps f b.affects;
+      entered = entered ∙ (λ i. old.journal ++ record { event = e; touched = k.0 i; written = k.1 i; causes = causes_in (k.0 i) old.journal; live = true } ∷ []);
+      redoable = redoable;
+    }
+
+-- a birth under a name that is free, an asked program of a vat that is there, and the turn of a message that is ready are
+-- possible, and bring their effects
+pub birth_brings : (e : EventName) (x y z : Name) (script : Program) (p : Trees) (w : World) → w (key.Name x) ≡ None → y ≡ x → p ≡ program_of script → z ≡ x
+    → Brings (record { name = e; act = birth y p }) (effects.Birth z script) w (birth_foot e x (program_of script))
+birth_brings e x y z script p w free named same shared = record {
+  does = ∣ subst (λ (a : Act). Does (record { name = e; act = a }) w (birth_foot e x (program_of script))) (λ i. birth (sym named i) (sym same i)) (births free) ∣₁;
+  affects = (ap (λ (n : Name). w (key.Name n)) shared ∙ free, λ i. birth_foot e (sym shared i) (program_of script));
 }
+
+pub ask_brings : (e : EventName) (x y z : Name) (v : Vat) (program : Program) (p : Trees) (w : World) → vat_named w x ≡ Some v → y ≡ x → p ≡ program_of program → z ≡ x
+    → Brings (record { name = e; act = ask y p }) (effects.Ask z v.number program) w (ask_foot e x v.number (program_of program))
+ask_brings e x y z v program p w there named same shared = record {
+  does = ∣ subst (λ (a : Act). Does (record { name = e; act = a }) w (ask_foot e x v.number (program_of program))) (λ i. ask (sym named i) (sym same i)) (asks there) ∣₁;
+  affects = λ i. ask_foot e (sym shared i) v.number (program_of program);
+}
+
+pub turn_brings : (e : EventName) (m : MsgId) (n : ℕ) (d : Delivered) (g : Message) (x : Name) (s : State) (w : World) → Holds w m d g x s → ∥ Turns e w m n (turn_of d g x s) ∥₁
+    → Brings (record { name = e; act = turn m n }) (effects.Turn m d) w (turn_foot e m (turn_of d g x s))
+turn_brings e m n d g x s w h t = record { does = ∥∥₁_map t (λ u. turns u); affects = (g, x, s, h, refl) }
 
 -- the same world and journal stand too
 pub stands_so : (w v : World) (lines others : List Line) (next : ℕ) (names : List EventName) → v ≡ w → others ≡ lines

@@ -1,5 +1,6 @@
 // The book: the world, the journal that made it, and the names that are not drawn yet.
 ghost use Rattle.std.specs.Prelude.{◌≡◌, ◌≤◌, ◌+◌, ◌++◌, ℕ, List, [], ◌∷◌, true, None, Some, IfOk, IfErr, OnOk, OnErr, length, filter};
+ghost use Rattle.std.specs.Option.{option_map};
 ghost use Rattle.ids.specs.declared.names.CellKey.TheVariants as key;
 ghost use Rattle.kernele.specs.View.{program_of};
 ghost use Rattle.scopes.specs.Check.{scopes_of};
@@ -7,7 +8,8 @@ ghost use Rattle.scopes.specs.Scope.{checked_program};
 ghost use Rattle.scopes.specs.declared.naming.TopName.{TopName};
 ghost use Rattle.turn.specs.View.{ended_of};
 ghost use Rattle.world.specs.World.{vat_named};
-ghost use Rattle.world.specs.Events.{Turn, Turns, birth, ask, turn, birth_foot, ask_foot, turn_foot};
+ghost use Rattle.world.specs.Events.{Foot, Turn, Turns, birth, ask, turn, birth_foot, ask_foot, turn_foot};
+ghost use Rattle.world.specs.Effects.{Brings, turn_end};
 ghost use Rattle.journal.specs.Journal.{Line, live_events, causes_in, chosen, undone_in, redone_in, Cone};
 ghost use Rattle.book.specs.Refusals.{birth_refusal, ask_refusal, turn_refusal, ready_refusal, full_refusal, check_refusal, taken_refusal, undo_refusal, redo_refusal, cone_refusal};
 ghost use Rattle.book.specs.Books.{blank, PlainRun, Stands};
@@ -24,16 +26,16 @@ use crate::rerun::plain_run;
 use crate::undoing::{check_redo, check_undo, cone};
 use ids::names::{EventName, MsgId, VatNo};
 use ids::text::Text;
-use journal::entry::{Entry, Mark, count_of};
+use journal::entry::{Entry, Mark};
 use journal::journal::Journal;
 use kernele::tree::Program;
 use scopes::{CheckFault, Outer, check};
 use std::alloc::{AllocError, Global};
 use turn::delivery::Ended;
-use world::cells::{cells_of_ask, cells_of_birth, cells_of_turn};
+use world::effects::Effects;
 use world::event::{Action, Event};
 use world::ready::{Unready, ready};
-use world::step::{StepFault, deliver, enter_ask, enter_birth, enter_turn};
+use world::step::{StepFault, deliver};
 use world::world::World;
 
 /// The greatest name that an event may have.
@@ -125,6 +127,31 @@ impl Book {
         Ok(EventName(self.next))
     }
 
+    /// Enters an event with these effects, or changes nothing. Answers how the turn ended, if it was one.
+    fn enter(&mut self, event: Event, effects: Effects) -> Result<Option<Ended>, AllocError>
+        requires named { event.name.0 ≡ self.old.next }
+        requires in_range { self.old.next ≤ 4294967295 }
+        requires possible { (f : Foot) × Brings (event_of event) effects (world_of self.old.world) f }
+        ensures ok { OnOk result ((f : Foot) → Brings (event_of event) effects (world_of self.old.world) f → Enters (event_of event) f (book_of self.old) (book_of self.new)) }
+        ensures ended { IfOk result (λ ended. option_map ended_of ended ≡ turn_end effects) }
+        ensures unchanged { OnErr result (book_of self.new ≡ book_of self.old) }
+    {
+        let name = event.name;
+        let cells = effects.cells(self.alloc, name)?;
+        self.journal.add(event, cells)?;
+        match effects.apply(self.alloc, &mut self.world, name) {
+            Ok(ended) => {
+                self.next += 1;
+                self.redoable.clear();
+                Ok(ended)
+            }
+            Err(error) => {
+                self.journal.remove_last();
+                Err(error)
+            }
+        }
+    }
+
     fn check_free(&self, name: &Text) -> Result<(), BookFault>
         ensures ok { OnOk result (world_of self.now.world (key.Name name.now) ≡ None) }
         ensures err { IfErr result (λ fault. Tells fault (taken_refusal name.now (vat_named (world_of self.now.world) name.now))) }
@@ -157,23 +184,13 @@ impl Book {
     {
         let event = self.admit_birth(name, &script)?;
         let action = Action::Birth(name.share()?, script.share()?);
-        let cells = cells_of_birth(self.alloc, event, name)?;
+        let effects = Effects::Birth(name.share()?, script);
         let entered = Event {
             name: event,
             action,
         };
-        self.journal.add(entered, cells)?;
-        match enter_birth(self.alloc, &mut self.world, event, name, script) {
-            Ok(()) => {
-                self.next += 1;
-                self.redoable.clear();
-                Ok(event)
-            }
-            Err(_) => {
-                self.journal.remove_last();
-                Err(BookFault::Memory)
-            }
-        }
+        self.enter(entered, effects)?;
+        Ok(event)
     }
 
     /// The name of an asked program that may be entered, and its vat.
@@ -201,23 +218,13 @@ impl Book {
     {
         let (event, number) = self.admit_ask(name, &program)?;
         let action = Action::Ask(name.share()?, program.share()?);
-        let cells = cells_of_ask(self.alloc, event, name)?;
+        let effects = Effects::Ask(name.share()?, number, program);
         let entered = Event {
             name: event,
             action,
         };
-        self.journal.add(entered, cells)?;
-        match enter_ask(&mut self.world, event, number, program) {
-            Ok(()) => {
-                self.next += 1;
-                self.redoable.clear();
-                Ok(event)
-            }
-            Err(_) => {
-                self.journal.remove_last();
-                Err(BookFault::Memory)
-            }
-        }
+        self.enter(entered, effects)?;
+        Ok(event)
     }
 
     /// Runs the turn of a message, with at most this many steps, and enters what it did.
@@ -235,22 +242,13 @@ impl Book {
         };
         let event = self.next_event()?;
         let delivered = deliver(event, message, budget, waiting, number, home)?;
-        let cells = cells_of_turn(self.alloc, message, &delivered)?;
         let entered = Event {
             name: event,
             action: Action::Turn(message, budget),
         };
-        self.journal.add(entered, cells)?;
-        match enter_turn(&mut self.world, event, message, delivered) {
-            Ok(ended) => {
-                self.next += 1;
-                self.redoable.clear();
-                Ok(Turned { event, ended })
-            }
-            Err(_) => {
-                self.journal.remove_last();
-                Err(BookFault::Memory)
-            }
+        match self.enter(entered, Effects::Turn(message, delivered))? {
+            Some(ended) => Ok(Turned { event, ended }),
+            None => unreachable!(),
         }
     }
 
@@ -268,8 +266,7 @@ impl Book {
             return Ok(0);
         }
         let redoable = Vec::from_slice(self.alloc, events)?;
-        let count = count_of(self.journal.entries(), events);
-        self.journal.mark(events, Mark::Undone);
+        let count = self.journal.mark(events, Mark::Undone);
         match plain_run(self.alloc, self.journal.entries()) {
             Ok(world) => {
                 self.world = world;
@@ -297,8 +294,7 @@ impl Book {
         if events.is_empty() {
             return Ok(0);
         }
-        let count = count_of(self.journal.entries(), events);
-        self.journal.mark(events, Mark::Live);
+        let count = self.journal.mark(events, Mark::Live);
         match plain_run(self.alloc, self.journal.entries()) {
             Ok(world) => {
                 self.world = world;

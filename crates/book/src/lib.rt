@@ -3,5 +3,5 @@
 
 pub mod book;
 pub mod fault;
-pub mod rerun;
+mod rerun;
 mod undoing;

@@ -12,7 +12,7 @@ use world::step::{StepFault, step};
 use world::world::World;
 
 /// The world that the live events of these entries lead to from the empty one, one after another.
-pub fn plain_run(alloc: Global, entries: &[Entry]) -> Result<World, StepFault>
+pub(crate) fn plain_run(alloc: Global, entries: &[Entry]) -> Result<World, StepFault>
     ensures ok { IfOk result (λ world. PlainRun (live_events (lines_of entries.now)) (world_of world)) }
     ensures err { IfErr result (λ fault. TellsRun (live_events (lines_of entries.now)) fault) }
 {

@@ -1,9 +1,11 @@
 -- Lists whose first items are changed, and lines that are marked.
-use Rattle.std.proofs.Common.{◌≡◌, ℕ, suc, zero, ◌+◌, ◌<◌, ◌≤◌, List, [], ◌∷◌, Bool, true, false, refl, ap, sym, ◌∙◌, map, set, length, get_or, arith, add-one}
+use Rattle.std.proofs.Common.{◌≡◌, ℕ, suc, zero, ◌+◌, ◌<◌, ◌≤◌, List, [], ◌∷◌, Bool, true, false, refl, ap, sym, ◌∙◌, map, set, length, get_or, take, cond, arith, add-one}
 use Rattle.std.specs.Prelude.{◌||◌, ◌&&◌, not}
 use Rattle.ids.specs.declared.names.EventName.{EventName}
-use Rattle.std.proofs.lemmas.List.{map-set, length-map}
-use Rattle.journal.specs.Journal.{Line, among}
+use Rattle.std.specs.List.{filter}
+use Rattle.std.proofs.lemmas.List.{map-set, length-map, take_all}
+use Rattle.std.proofs.lemmas.List.Filters.{length-filter_more}
+use Rattle.journal.specs.Journal.{Line, among, chosen}
 use Rattle.journal.specs.EntryView.{is_live, line_of, lines_of, marked_line, marked_in}
 use Rattle.journal.specs.declared.entry.Entry.{Entry}
 use Rattle.journal.specs.declared.entry.Mark.{Mark}
@@ -53,22 +55,33 @@ stays_here es i x e = ap (λ (y : Entry). set es i y) (sym e)
 pub marked_here : (m : Mark) (es : List Entry) (i : ℕ) (x : Entry) → x ≡ get_or es i x → set es i (record (get_or es i x) { mark = m }) ≡ set es i (record x { mark = m })
 marked_here m es i x e = ap (λ (y : Entry). set es i (record y { mark = m })) (sym e)
 
+-- the line of the entry that was read is one of those before
+line_there : (f : Line → Line) (start : List Line) (was : List Entry) (i : ℕ) (x : Entry) → lines_of was ≡ partly f i start → x ≡ get_or was i x → line_of x ≡ get_or start i (line_of x)
+line_there f start was i x invariant read = ap line_of read ∙ sym (get_or_lines was i x) ∙ ap (λ ls. get_or ls i (line_of x)) invariant ∙ partly_there f start i (line_of x)
+
+is_within : (f : Line → Line) (start : List Line) (was : List Entry) (i : ℕ) → i < length was → lines_of was ≡ partly f i start → i < length start
+is_within f start was i h invariant = omega (arith, h, length_partly f i start, ap length invariant, length-map was line_of)
+
 -- one more entry is marked
 pub marked : (f : Line → Line) (start : List Line) (was now : List Entry) (i : ℕ) (x y : Entry) → i < length was → lines_of was ≡ partly f i start → x ≡ get_or was i x → now ≡ set was i y → line_of y ≡ f (line_of x) → lines_of now ≡ partly f (i + 1) start
 marked f start was now i x y h invariant read written changed =
     ap lines_of written
     ∙ map-set line_of was i y
-    ∙ ap (λ l. set (lines_of was) i l) (changed ∙ ap f there)
+    ∙ ap (λ l. set (lines_of was) i l) (changed ∙ ap f (line_there f start was i x invariant read))
     ∙ ap (λ ls. set ls i (f (get_or start i (line_of x)))) invariant
-    ∙ rw add-one (partly_next f start i (line_of x) within)
-  where
-    there : line_of x ≡ get_or start i (line_of x)
-    there = ap line_of read ∙ sym (get_or_lines was i x) ∙ ap (λ ls. get_or ls i (line_of x)) invariant ∙ partly_there f start i (line_of x)
+    ∙ rw add-one (partly_next f start i (line_of x) (is_within f start was i h invariant))
 
-    within : i < length start
-    within = omega (arith, h, length_partly f i start, ap length invariant, length-map was line_of)
+-- one more entry is counted where it is among these
+pub counted : (names : List EventName) (f : Line → Line) (start : List Line) (was : List Entry) (i n m : ℕ) (x : Entry) (b : Bool) → i < length was → lines_of was ≡ partly f i start → x ≡ get_or was i x
+    → among names x.event.name ≡ b → n ≡ length (filter (chosen names) (take i start)) → m ≡ n + cond b 1 0 → m ≡ length (filter (chosen names) (take (i + 1) start))
+counted names f start was i n m x b h invariant read is so_far more =
+    let here : b ≡ chosen names (get_or start i (line_of x)) = sym is ∙ ap (chosen names) (line_there f start was i x invariant read) in
+    more ∙ (λ j. so_far j + cond (here j) 1 0) ∙ sym (length-filter_more (chosen names) start i (line_of x) (is_within f start was i h invariant))
 
 -- at the end all are
+pub counted_all : (names : List EventName) (start : List Entry) (i n : ℕ) → length start ≤ i → n ≡ length (filter (chosen names) (take i (lines_of start))) → n ≡ length (filter (chosen names) (lines_of start))
+counted_all names start i n h so_far = so_far ∙ ap (λ (ls : List Line). length (filter (chosen names) ls)) (take_all i (lines_of start) (omega (arith, length-map start line_of)))
+
 pub marked_all : (m : Mark) (names : List EventName) (start now : List Entry) (i : ℕ) → length start ≤ i → lines_of now ≡ partly (marked_line m names) i (lines_of start) → lines_of now ≡ marked_in m names (lines_of start)
 marked_all m names start now i h invariant = invariant ∙ partly_all (marked_line m names) (lines_of start) i (omega (arith, length-map start line_of))
 

@@ -80,26 +80,17 @@ pub fn is_entered(entries: &[Entry], name: EventName) -> bool
     false
 }
 
-/// How many of the entries are among these events.
-pub fn count_of(entries: &[Entry], names: &[EventName]) -> usize
-    ensures { result ≡ length (filter (chosen names.now) (lines_of entries.now)) }
+/// Gives these events a mark, and answers how many of the entries are among them.
+pub(crate) fn mark_those(entries: &mut [Entry], names: &[EventName], mark: Mark) -> usize
+    ensures marked { lines_of entries.new ≡ marked_in mark names.now (lines_of entries.old) }
+    ensures count { result ≡ length (filter (chosen names.now) (lines_of entries.old)) }
 {
     let mut count = 0;
-    for entry in entries {
+    for entry in entries.iter_mut() {
         if is_among(names, entry.event.name) {
+            entry.mark = mark;
             count += 1;
         }
     }
     count
-}
-
-/// Gives these events a mark.
-pub(crate) fn mark_those(entries: &mut [Entry], names: &[EventName], mark: Mark)
-    ensures { lines_of entries.new ≡ marked_in mark names.now (lines_of entries.old) }
-{
-    for entry in entries.iter_mut() {
-        if is_among(names, entry.event.name) {
-            entry.mark = mark;
-        }
-    }
 }

@@ -1,7 +1,8 @@
 // The journal: the entries of all events, in the order in which they were accepted.
-ghost use Rattle.std.specs.Prelude.{◌≡◌, ◌++◌, ◌∷◌, List, [], true, IfOk, OnOk, OnErr};
+ghost use Rattle.std.specs.Prelude.{◌≡◌, ◌++◌, ◌∷◌, List, [], true, IfOk, OnOk, OnErr, length};
+ghost use Rattle.std.specs.List.{filter};
 ghost use Rattle.journal.specs.EntryView.{lines_of, marked_in};
-ghost use Rattle.journal.specs.Journal.{causes_in};
+ghost use Rattle.journal.specs.Journal.{causes_in, chosen};
 ghost use Rattle.journal.specs.WritersView.{Indexed};
 ghost use Rattle.world.specs.EventView.{event_of};
 
@@ -84,10 +85,11 @@ impl Journal {
         }
     }
 
-    /// Gives events a mark.
-    pub fn mark(&mut self, names: &[EventName], mark: Mark)
-        ensures { lines_of (entries_of self.new) ≡ marked_in mark names.now (lines_of (entries_of self.old)) }
+    /// Gives events a mark, and answers how many of the entries are among them.
+    pub fn mark(&mut self, names: &[EventName], mark: Mark) -> usize
+        ensures marked { lines_of (entries_of self.new) ≡ marked_in mark names.now (lines_of (entries_of self.old)) }
+        ensures count { result ≡ length (filter (chosen names.now) (lines_of (entries_of self.old))) }
     {
-        mark_those(&mut self.entries, names, mark);
+        mark_those(&mut self.entries, names, mark)
     }
 }

@@ -1,6 +1,8 @@
 -- On single steps of the world.
-use Rattle.std.proofs.Common.{◌≡◌, ℕ, cond, List, [], ◌∷◌, ◌++◌, map, Option, Some, None, refl, sym, ap, ◌∙◌}
+use Rattle.std.proofs.Common.{◌≡◌, ℕ, cond, List, [], ◌∷◌, ◌++◌, map, Option, Some, None, refl, sym, ap, ◌∙◌, subst}
 use Rattle.std.proofs.Math.Logic.{∥∥₁_map}
+use Rattle.std.specs.Prelude.{IfOk, Result, Ok, Err}
+use Rattle.std.specs.declared.alloc.AllocError.{AllocError}
 use Rattle.kernele.specs.Tree.{Name, Trees}
 use Rattle.ids.specs.declared.names.EventName.{EventName}
 use Rattle.ids.specs.declared.names.VatNo.{VatNo}
@@ -9,15 +11,22 @@ use Rattle.ids.specs.declared.names.CellKey.TheVariants as key
 use Rattle.heap.specs.State.{State}
 use Rattle.erules.specs.Outcomes.{End, value, halt, thrown, ejected, abandoned}
 use Rattle.turn.specs.Turn.{Outcome, Delivers}
-use Rattle.history.specs.Subject.{written}
+use Rattle.history.specs.Subject.{written, touched}
+use Rattle.kernele.specs.declared.tree.Program.{Program}
+use Rattle.turn.specs.View.{outcome_of}
 use Rattle.ids.specs.declared.names.PromId.{PromId}
 use Rattle.ids.specs.declared.names.CellKey.{CellKey}
 use Rattle.world.specs.World.{Vat, Place, at_vat, done, Message, Content, home, message, published, World, vat_named, message_in}
-use Rattle.world.specs.Events.{Foot, Turn, Turns, InOrder, birth, ask, turn, new_state, done_and_published, Does, births, asks, turns, events}
+use Rattle.world.specs.Events.{Foot, Turn, Turns, InOrder, birth, ask, turn, new_state, done_and_published, turn_foot, Does, births, asks, turns, events}
 use Rattle.std.specs.Option.{option_or}
 use Rattle.world.specs.Ready.{awaits, misplaced, without_home, unready, unready_message}
 use Rattle.world.specs.declared.ready.Unready.TheVariants as why
-use Rattle.world.specs.Steps.{turn_cells}
+use Rattle.world.specs.Steps.{birth_cells, ask_cells, turn_cells, turn_reads}
+use Rattle.world.specs.Effects.{turn_of, Holds, Affects}
+use Rattle.world.specs.declared.step.Delivered.{Delivered}
+use Rattle.world.specs.declared.cells.Cells.{Cells}
+use Rattle.world.specs.declared.effects.Effects.{Effects}
+use Rattle.world.specs.declared.effects.Effects.TheVariants as effects
 
 -- the keys of what a turn writes
 pub turn_keys : (v : VatNo) (x : Name) (s : State) (e : EventName) (m : MsgId) (g : Message) (r : Outcome) (o : End)
@@ -54,6 +63,22 @@ pub is_turn : (e : EventName) (w : World) (m : MsgId) (n : ℕ) (t : Turn) → w
     → w (key.State t.vat) ≡ Some (home t.name t.state) → ∥ Delivers t.message.delivery e t.vat t.state n t.outcome ∥₁ → ∥ Turns e w m n t ∥₁
 is_turn e w m n t waiting there in_order at_home d = ∥∥₁_map d (λ h. record { waiting = waiting; there = there; in_order = in_order; at_home = at_home; delivers = h })
 
+-- a world in which a message is ready holds what its turn was run on
+pub ready_holds : (w : World) (m : MsgId) (d : Delivered) (g : Message) (x : Name) (s : State) (v : VatNo) → w (key.Msg m) ≡ Some (message g) → w (key.State v) ≡ Some (home x s)
+    → (d.number ≡ v) × (d.after ≡ g.after) × (d.promise ≡ g.result) → Holds w m d g x s
+ready_holds w m d g x s v waiting at_home same = record {
+  waiting = waiting;
+  after = sym same.1;
+  promise = sym same.2;
+  at_home = ap (λ (u : VatNo). w (key.State u)) same.0 ∙ at_home;
+}
+
+-- what was delivered of a message that is ready is a turn
+pub ready_turn : (e : EventName) (w : World) (m : MsgId) (n : ℕ) (d : Delivered) (g : Message) (x : Name) (s : State) (v : VatNo) → Holds w m d g x s → g.place ≡ at_vat v → InOrder w g.after → d.number ≡ v
+    → ∥ Delivers g.delivery e v s n (outcome_of d.outcome) ∥₁ → ∥ Turns e w m n (turn_of d g x s) ∥₁
+ready_turn e w m n d g x s v h there in_order same ran =
+    is_turn e w m n (turn_of d g x s) h.waiting (there ∙ ap at_vat (sym same)) in_order h.at_home (subst (λ (u : VatNo). ∥ Delivers g.delivery e u s n (outcome_of d.outcome) ∥₁) (sym same) ran)
+
 -- what is written by a turn that was settled
 pub settled : (o : End) (left : List (CellKey × Content)) (v : VatNo) (x : Name) (s : State) (e : EventName) (m : MsgId) (g : Message) (r : Outcome) (p : PromId) (w u : World)
     → new_state v x s o ≡ left → g.result ≡ p
@@ -61,3 +86,37 @@ pub settled : (o : End) (left : List (CellKey × Content)) (v : VatNo) (x : Name
     → u ≡ written events (new_state v x s o ++ done_and_published e m g r) w
 settled o left v x s e m g r p w u is same h =
     h ∙ (λ i. written events (sym is i ++ (key.Msg m, message (record g { place = done e })) ∷ (key.Board (sym same i), published r.result) ∷ []) w)
+
+-- these are the cells of the footprint that the effects have
+abbrev pub CellsOf : EventName → Effects → Cells → Type 0
+CellsOf e it cells = (w : World) (f : Foot) → Affects e it w f → (cells.touched.items ≡ touched events f) × (cells.written.items ≡ map (λ p. p.0) f.writes)
+
+pub birth_keys : (e : EventName) (x : Name) (script : Program) (cells : Cells) → (cells.touched.items ≡ birth_cells e x) × (cells.written.items ≡ birth_cells e x) → CellsOf e (effects.Birth x script) cells
+birth_keys e x script cells h w f is = (h.0 ∙ ap (λ (g : Foot). touched events g) (sym is.1), h.1 ∙ ap (λ (g : Foot). map (λ p. p.0) g.writes) (sym is.1))
+
+pub ask_keys : (e : EventName) (x : Name) (v : VatNo) (program : Program) (cells : Cells) → (cells.touched.items ≡ key.Name x ∷ ask_cells e) × (cells.written.items ≡ ask_cells e)
+    → CellsOf e (effects.Ask x v program) cells
+ask_keys e x v program cells h w f is = (h.0 ∙ ap (λ (g : Foot). touched events g) (sym is), h.1 ∙ ap (λ (g : Foot). map (λ p. p.0) g.writes) (sym is))
+
+-- the cells that a turn writes
+abbrev keys_of : MsgId → Delivered → List CellKey
+keys_of m d = turn_cells d.number m d.promise (outcome_of d.outcome).end
+
+written_keys : (e : EventName) (m : MsgId) (d : Delivered) (g : Message) (x : Name) (s : State) → g.result ≡ d.promise
+    → keys_of m d ≡ map (λ p. p.0) (turn_foot e m (turn_of d g x s)).writes
+written_keys e m d g x s is =
+    let r = outcome_of d.outcome in
+    ap (λ (p : PromId). turn_cells d.number m p r.end) (sym is) ∙ sym (turn_keys d.number x r.state e m g r r.end)
+
+delivered_keys : (e : EventName) (m : MsgId) (d : Delivered) (cells : Cells) → cells.touched.items ≡ turn_reads d.number d.after ++ keys_of m d → cells.written.items ≡ keys_of m d
+    → CellsOf e (effects.Turn m d) cells
+delivered_keys e m d cells reads writes w f (g, x, s, h, is) =
+    let keys = written_keys e m d g x s h.promise in (
+      reads ∙ (λ i. turn_reads d.number (sym h.after i) ++ keys i) ∙ ap (λ (f : Foot). touched events f) (sym is),
+      writes ∙ keys ∙ ap (λ (f : Foot). map (λ p. p.0) f.writes) (sym is),
+    )
+
+pub turn_has_keys : (r : Result Cells AllocError) (e : EventName) (m : MsgId) (d : Delivered) → IfOk r (λ cells. cells.touched.items ≡ turn_reads d.number d.after ++ keys_of m d)
+    → IfOk r (λ cells. cells.written.items ≡ keys_of m d) → IfOk r (CellsOf e (effects.Turn m d))
+turn_has_keys (Ok cells) e m d reads writes = delivered_keys e m d cells reads writes
+turn_has_keys (Err error) e m d reads writes = reads

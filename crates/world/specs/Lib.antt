@@ -4,3 +4,4 @@ pub mod Ready
 pub mod Steps
 pub mod View
 pub mod EventView
+pub mod Effects

@@ -17,7 +17,11 @@ pub struct Cells {
 }
 
 /// The cells of a birth.
-pub fn cells_of_birth(alloc: Global, event: EventName, name: &Text) -> Result<Cells, AllocError>
+pub(crate) fn cells_of_birth(
+    alloc: Global,
+    event: EventName,
+    name: &Text,
+) -> Result<Cells, AllocError>
     ensures { IfOk result (λ cells. (cells.touched.items ≡ birth_cells event name.now) × (cells.written.items ≡ birth_cells event name.now)) }
 {
     Ok(Cells {
@@ -37,7 +41,11 @@ fn birth_keys(alloc: Global, event: EventName, name: &Text) -> Result<Vec<CellKe
 }
 
 /// The cells of an asked program.
-pub fn cells_of_ask(alloc: Global, event: EventName, name: &Text) -> Result<Cells, AllocError>
+pub(crate) fn cells_of_ask(
+    alloc: Global,
+    event: EventName,
+    name: &Text,
+) -> Result<Cells, AllocError>
     ensures { IfOk result (λ cells. (cells.touched.items ≡ key.Name name.now ∷ ask_cells event) × (cells.written.items ≡ ask_cells event)) }
 {
     let mut touched = Vec::new(alloc);
@@ -64,7 +72,11 @@ fn add_turn_keys(
 }
 
 /// The cells of a turn that was run.
-pub fn cells_of_turn(alloc: Global, name: MsgId, delivered: &Delivered) -> Result<Cells, AllocError>
+pub(crate) fn cells_of_turn(
+    alloc: Global,
+    name: MsgId,
+    delivered: &Delivered,
+) -> Result<Cells, AllocError>
     ensures touched { IfOk result (λ cells. cells.touched.items ≡ turn_reads delivered.now.number delivered.now.after ++ turn_cells delivered.now.number name delivered.now.promise (outcome_of delivered.now.outcome).end) }
     ensures written { IfOk result (λ cells. cells.written.items ≡ turn_cells delivered.now.number name delivered.now.promise (outcome_of delivered.now.outcome).end) }
 {

@@ -2,6 +2,7 @@
 #![tactic(auto)]
 
 pub mod cells;
+pub mod effects;
 pub mod event;
 pub mod ready;
 pub mod step;

@@ -70,7 +70,7 @@ fn first_promise(event: EventName, home: VatNo) -> PromId
 }
 
 /// Enters a birth in the world, or changes nothing.
-pub fn enter_birth(
+pub(crate) fn enter_birth(
     alloc: Global,
     world: &mut World,
     event: EventName,
@@ -98,7 +98,7 @@ pub fn enter_birth(
 }
 
 /// Enters an asked program in the world, or changes nothing.
-pub fn enter_ask(
+pub(crate) fn enter_ask(
     world: &mut World,
     event: EventName,
     number: VatNo,
@@ -177,7 +177,7 @@ pub(crate) fn is_abandoned(ended: &Ended) -> bool
 }
 
 /// Enters a turn that was run in the world, or changes nothing. An abandoned turn leaves its vat as it was.
-pub fn enter_turn(
+pub(crate) fn enter_turn(
     world: &mut World,
     event: EventName,
     name: MsgId,
