@@ -3,11 +3,11 @@ use Rattle.std.proofs.lemmas.Result.{IfOk-equal}
 use Rattle.scopes.specs.Scope.{own_names, own_names_in, names_of_all, depth_in}
 use Rattle.scopes.specs.Free.{free, free_in, free_of}
 use Rattle.scopes.specs.Found.{with_all_new}
-use Rattle.scopes.specs.Parts.{part_in, binding_in, binding_names}
+use Rattle.scopes.specs.Parts.{part_in, part_depth, binding_in, binding_names}
 use Rattle.ids.proofs.Failing.{claims_nothing}
 use Rattle.kernele.specs.View.{tree_of, trees_of, methods_of}
 use Rattle.kernele.proofs.Walks.{trees_from, no_trees_from, append_more, append_end, methods_from, no_methods_from, body_is}
-use Rattle.scopes.proofs.Constructs.{names_left, part_depth, first_is_lower, second_is_lower, third_is_lower, item_depth, body_depth}
+use Rattle.scopes.proofs.Constructs.{names_left, first_is_lower, second_is_lower, third_is_lower, item_depth, body_depth}
 use Rattle.scopes.proofs.Finding.{found_left, then_found, as_long, truncated}
 use Rattle.scopes.proofs.free.+free.Goals as goal
 
