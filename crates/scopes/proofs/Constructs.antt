@@ -1,5 +1,5 @@
 -- What a construct does to names, part after part: the parts from the references to them, what the parts give together, and how deep they are.
-use Rattle.std.proofs.Common.{◌≡◌, ◌⊎◌, inl, inr, ℕ, zero, suc, ◌<◌, ◌≤◌, List, [], ◌∷◌, ◌++◌, Ok, Err, length, get_or, drop, ap, sym, refl, ◌∙◌, arith, append-nil, append_assoc}
+use Rattle.std.proofs.Common.{◌≡◌, ◌⊎◌, inl, inr, ℕ, zero, suc, ◌+◌, ◌<◌, ◌≤◌, max, List, [], ◌∷◌, ◌++◌, Ok, Err, length, get_or, drop, ap, sym, refl, ◌∙◌, arith, append-nil, append_assoc}
 use Rattle.kernele.specs.Tree.{Tree, null_tree, bool_tree, int_tree, text_tree, noun, define, variable, assign, call, list_tree, same_tree, define_list, hide, if_tree, while_tree, for_tree, try_tree, throw_tree, object_tree, escape_tree}
 use Rattle.kernele.specs.View.{tree_of, trees_of, methods_of}
 use Rattle.kernele.proofs.Walks.{tree_is_hide, tree_is_if, tree_is_while, tree_is_for, tree_is_try, trees_from, methods_from, no_trees_from, no_methods_from}
@@ -10,9 +10,9 @@ use Rattle.kernele.specs.declared.tree.Pattern.{Pattern}
 use Rattle.std.specs.declared.sync.Arc.{Arc}
 use Rattle.std.specs.declared.vec.Vec.{Vec}
 use Rattle.std.specs.declared.alloc.Global.{Global}
-use Rattle.scopes.specs.Scope.{Scopes, Checked, in_turn, checked, depth, depth_in, depth_of, own_names}
+use Rattle.scopes.specs.Scope.{Scopes, Checked, in_turn, checked, nodes, depth, depth_in, depth_of, own_names}
 use Rattle.scopes.specs.Free.{free}
-use Rattle.scopes.specs.Parts.{no_names_bound, pattern_bound, Part, nothing, look_up, target, assign_to, evaluate, evaluate_all, bind, block, methods, first, second, third, part_checked, part_names, part_free}
+use Rattle.scopes.specs.Parts.{no_names_bound, pattern_bound, Part, nothing, block, first, second, third, part_checked, part_names, part_free, part_nodes, part_depth}
 use Rattle.scopes.specs.declared.naming.TopName.{TopName}
 
 -- the first part of what begins with a block that begins with no names
@@ -130,84 +130,60 @@ free_in_parts (throw_tree e) bs = simp append-nil
 free_in_parts (object_tree p ms) bs = simp append-nil
 free_in_parts (escape_tree x body) bs = simp append-nil
 
--- how deep a part is
-abbrev pub part_depth : Part → ℕ
-part_depth nothing = 0
-part_depth (look_up x) = 0
-part_depth (target x e) = 0
-part_depth (assign_to x) = 0
-part_depth (evaluate e) = depth e
-part_depth (evaluate_all es) = depth_in es
-part_depth (bind b) = 0
-part_depth (block b body) = depth_in body
-part_depth (methods ms) = depth_of ms
+-- a tree is a node, and what its parts have
+pub nodes_in_parts : (t : Tree) → nodes t ≡ 1 + (part_nodes (first t) + (part_nodes (second t) + part_nodes (third t)))
+nodes_in_parts null_tree = omega arith
+nodes_in_parts (bool_tree b) = omega arith
+nodes_in_parts (int_tree z) = omega arith
+nodes_in_parts (text_tree s) = omega arith
+nodes_in_parts (noun x) = omega arith
+nodes_in_parts (define p e) = omega arith
+nodes_in_parts (variable x e) = omega arith
+nodes_in_parts (assign x e) = omega arith
+nodes_in_parts (call r verb args) = omega arith
+nodes_in_parts (list_tree items) = omega arith
+nodes_in_parts (same_tree l r) = omega arith
+nodes_in_parts (define_list ps e) = omega arith
+nodes_in_parts (hide body) = omega arith
+nodes_in_parts (if_tree c one other) = omega arith
+nodes_in_parts (while_tree c body) = omega arith
+nodes_in_parts (for_tree p e body) = omega arith
+nodes_in_parts (try_tree body p handler) = omega arith
+nodes_in_parts (throw_tree e) = omega arith
+nodes_in_parts (object_tree p ms) = omega arith
+nodes_in_parts (escape_tree x body) = omega arith
 
--- the parts of a tree are less deep
+-- its parts stand below it
+pub depth_in_parts : (t : Tree) → depth t ≡ 1 + max (part_depth (first t)) (max (part_depth (second t)) (part_depth (third t)))
+depth_in_parts null_tree = omega arith
+depth_in_parts (bool_tree b) = omega arith
+depth_in_parts (int_tree z) = omega arith
+depth_in_parts (text_tree s) = omega arith
+depth_in_parts (noun x) = omega arith
+depth_in_parts (define p e) = omega arith
+depth_in_parts (variable x e) = omega arith
+depth_in_parts (assign x e) = omega arith
+depth_in_parts (call r verb args) = omega arith
+depth_in_parts (list_tree items) = omega arith
+depth_in_parts (same_tree l r) = omega arith
+depth_in_parts (define_list ps e) = omega arith
+depth_in_parts (hide body) = omega arith
+depth_in_parts (if_tree c one other) = omega arith
+depth_in_parts (while_tree c body) = omega arith
+depth_in_parts (for_tree p e body) = omega arith
+depth_in_parts (try_tree body p handler) = omega arith
+depth_in_parts (throw_tree e) = omega arith
+depth_in_parts (object_tree p ms) = omega arith
+depth_in_parts (escape_tree x body) = omega arith
+
 pub first_is_lower : (t : Tree) → part_depth (first t) < depth t
-first_is_lower null_tree = omega arith
-first_is_lower (bool_tree b) = omega arith
-first_is_lower (int_tree z) = omega arith
-first_is_lower (text_tree s) = omega arith
-first_is_lower (noun x) = omega arith
-first_is_lower (define p e) = omega arith
-first_is_lower (variable x e) = omega arith
-first_is_lower (assign x e) = omega arith
-first_is_lower (call r verb args) = omega arith
-first_is_lower (list_tree items) = omega arith
-first_is_lower (same_tree l r) = omega arith
-first_is_lower (define_list ps e) = omega arith
-first_is_lower (hide body) = omega arith
-first_is_lower (if_tree c one other) = omega arith
-first_is_lower (while_tree c body) = omega arith
-first_is_lower (for_tree p e body) = omega arith
-first_is_lower (try_tree body p handler) = omega arith
-first_is_lower (throw_tree e) = omega arith
-first_is_lower (object_tree p ms) = omega arith
-first_is_lower (escape_tree x body) = omega arith
+first_is_lower t = let is = depth_in_parts t in omega arith
 
 pub second_is_lower : (t : Tree) → part_depth (second t) < depth t
-second_is_lower null_tree = omega arith
-second_is_lower (bool_tree b) = omega arith
-second_is_lower (int_tree z) = omega arith
-second_is_lower (text_tree s) = omega arith
-second_is_lower (noun x) = omega arith
-second_is_lower (define p e) = omega arith
-second_is_lower (variable x e) = omega arith
-second_is_lower (assign x e) = omega arith
-second_is_lower (call r verb args) = omega arith
-second_is_lower (list_tree items) = omega arith
-second_is_lower (same_tree l r) = omega arith
-second_is_lower (define_list ps e) = omega arith
-second_is_lower (hide body) = omega arith
-second_is_lower (if_tree c one other) = omega arith
-second_is_lower (while_tree c body) = omega arith
-second_is_lower (for_tree p e body) = omega arith
-second_is_lower (try_tree body p handler) = omega arith
-second_is_lower (throw_tree e) = omega arith
-second_is_lower (object_tree p ms) = omega arith
-second_is_lower (escape_tree x body) = omega arith
+second_is_lower t = let is = depth_in_parts t in omega arith
 
 pub third_is_lower : (t : Tree) → part_depth (third t) < depth t
-third_is_lower null_tree = omega arith
-third_is_lower (bool_tree b) = omega arith
-third_is_lower (int_tree z) = omega arith
-third_is_lower (text_tree s) = omega arith
-third_is_lower (noun x) = omega arith
-third_is_lower (define p e) = omega arith
-third_is_lower (variable x e) = omega arith
-third_is_lower (assign x e) = omega arith
-third_is_lower (call r verb args) = omega arith
-third_is_lower (list_tree items) = omega arith
-third_is_lower (same_tree l r) = omega arith
-third_is_lower (define_list ps e) = omega arith
-third_is_lower (hide body) = omega arith
-third_is_lower (if_tree c one other) = omega arith
-third_is_lower (while_tree c body) = omega arith
-third_is_lower (for_tree p e body) = omega arith
-third_is_lower (try_tree body p handler) = omega arith
-third_is_lower (throw_tree e) = omega arith
-third_is_lower (object_tree p ms) = omega arith
-third_is_lower (escape_tree x body) = omega arith
+third_is_lower t = let is = depth_in_parts t in omega arith
 
 -- trees from an index on are no deeper than all
 drop_depth : (xs : List Expr) (i : ℕ) → depth_in (trees_of (drop i xs)) ≤ depth_in (trees_of xs)

@@ -1,42 +1,17 @@
 -- Counting nodes and depth.
-use Rattle.std.proofs.Common.{◌≡◌, ◌⊎◌, inl, inr, ℕ, ◌+◌, ◌-◌, ◌≤◌, max, List, Option, Some, None, Bool, true, false, ◌||◌, cond, ap, sym, ◌∙◌, refl, arith}
+use Rattle.std.proofs.Common.{◌≡◌, ℕ, ◌+◌, ◌-◌, ◌≤◌, max, Option, Some, None, Bool, true, false, ◌||◌, cond, ap, sym, ◌∙◌, refl, arith}
 use Rattle.std.proofs.lemmas.Bool.Decides.{nat_tests}
 use Rattle.std.specs.Prelude.{nat_lt}
-use Rattle.kernele.specs.Tree.{Name, Tree, null_tree, bool_tree, int_tree, text_tree, noun, define, variable, assign, call, list_tree, same_tree, define_list, hide, if_tree, while_tree, for_tree, try_tree, throw_tree, object_tree, escape_tree, Trees}
-use Rattle.kernele.specs.View.{tree_of, trees_of}
-use Rattle.kernele.proofs.Walks.{tree_is_call, tree_is_list, tree_is_hide, tree_is_while, tree_is_for, tree_is_escape}
-use Rattle.kernele.specs.declared.tree.Expr as code
-use Rattle.kernele.specs.declared.tree.Expr.{Expr}
-use Rattle.kernele.specs.declared.tree.Pattern.{Pattern}
-use Rattle.std.specs.declared.sync.Arc.{Arc}
-use Rattle.std.specs.declared.vec.Vec.{Vec}
-use Rattle.std.specs.declared.alloc.Global.{Global}
+use Rattle.kernele.specs.Tree.{Tree, Trees}
 use Rattle.scopes.specs.Scope.{nodes, nodes_in, depth, depth_in, Scopes, Checked, checked_all, checked_program}
+use Rattle.scopes.specs.Parts.{Part, first, second, third, part_nodes, part_depth}
 use Rattle.scopes.specs.Room.{room_behind}
 use Rattle.scopes.specs.declared.count.Room.{Room}
+use Rattle.scopes.proofs.Constructs.{nodes_in_parts, depth_in_parts}
 
 -- a tree is a node
-pub some_node : (t : Tree) → 1 ≤ nodes t
-some_node null_tree = omega arith
-some_node (bool_tree b) = omega arith
-some_node (int_tree z) = omega arith
-some_node (text_tree s) = omega arith
-some_node (noun x) = omega arith
-some_node (define p e) = omega arith
-some_node (variable x e) = omega arith
-some_node (assign x e) = omega arith
-some_node (call r verb args) = omega arith
-some_node (list_tree items) = omega arith
-some_node (same_tree l r) = omega arith
-some_node (define_list ps e) = omega arith
-some_node (hide body) = omega arith
-some_node (if_tree c first second) = omega arith
-some_node (while_tree c body) = omega arith
-some_node (for_tree p e body) = omega arith
-some_node (try_tree body p handler) = omega arith
-some_node (throw_tree e) = omega arith
-some_node (object_tree p ms) = omega arith
-some_node (escape_tree x body) = omega arith
+some_node : (t : Tree) → 1 ≤ nodes t
+some_node t = omega (arith, nodes_in_parts t)
 
 -- where so many levels may stand, and a tree was too deep already or one part or another is, all of it is too deep
 deeper : (already : Bool) (levels d e : ℕ) → ((already || nat_lt levels d) || nat_lt levels e) ≡ (already || nat_lt levels (max d e))
@@ -90,30 +65,57 @@ pub none_behind : (levels : ℕ) (o : Option Room) (t : Tree) → None ≡ room_
 none_behind levels o t h = none_more levels o (nodes t - 1) (depth t) h ∙ ap (λ n. room_behind levels o n (depth t)) (omega (arith, some_node t))
 
 -- what is left behind a tree, from what is left behind the node on it and behind what stands below it
-pub behind_whole : (levels : ℕ) {below : ℕ} (o : Option Room) {passed : Option Room} (n d : ℕ) {whole deep : ℕ} → below ≡ levels - 1 → passed ≡ room_behind levels o 1 1 → whole ≡ 1 + n → deep ≡ 1 + d
+behind_whole : (levels : ℕ) {below : ℕ} (o : Option Room) {passed : Option Room} (n d : ℕ) {whole deep : ℕ} → below ≡ levels - 1 → passed ≡ room_behind levels o 1 1 → whole ≡ 1 + n → deep ≡ 1 + d
     → room_behind below passed n d ≡ room_behind levels o whole deep
 behind_whole levels {below = below} o n d under node more lower =
     ap (λ r. room_behind below r n d) node ∙ behind_below levels below o n d under ∙ (λ i. room_behind levels o (sym more i) (sym lower i))
 
--- a tree that is a node with so many nodes below it, in so many levels
-pub record Holds (t : Tree) (n d : ℕ) : Type 0 where
-  pub many : nodes t ≡ 1 + n
-  pub deep : depth t ≡ 1 + d
+-- what is left behind a tree, from what is left behind the node on it and then behind each of its parts
+pub behind_parts : (levels : ℕ) {below : ℕ} (o : Option Room) {passed after then_left last : Option Room} (t : Tree) {one two three : Part} → below ≡ levels - 1 → passed ≡ room_behind levels o 1 1
+    → one ≡ first t → after ≡ room_behind below passed (part_nodes one) (part_depth one)
+    → two ≡ second t → then_left ≡ room_behind below after (part_nodes two) (part_depth two)
+    → three ≡ third t → last ≡ room_behind below then_left (part_nodes three) (part_depth three)
+    → last ≡ room_behind levels o (nodes t) (depth t)
+behind_parts levels {below = below} o {passed = passed} t under node is left next left' end left'' =
+    left'' ∙ (λ i. room_behind below (left' i) (part_nodes (end i)) (part_depth (end i)))
+    ∙ (λ i. room_behind below (room_behind below (left i) (part_nodes (next i)) (part_depth (next i))) n'' d'')
+    ∙ (λ i. room_behind below (room_behind below (room_behind below passed (part_nodes (is i)) (part_depth (is i))) n' d') n'' d'')
+    ∙ behind_both below (room_behind below passed n d) n' d' n'' d''
+    ∙ behind_both below passed n d (n' + n'') (max d' d'')
+    ∙ behind_whole levels o (n + (n' + n'')) (max d (max d' d'')) under node (nodes_in_parts t) (depth_in_parts t)
+  where
+    n : ℕ
+    n = part_nodes (first t)
 
--- one with a list of trees
-pub holds_list : {e : Expr} {v : Vec Expr Global} {xs : List Expr} (items : Arc (Vec Expr Global) Global) → (e ≡ code.List items) ⊎ ((e ≡ code.Hide items) ⊎ ((x : Name) × (e ≡ code.Escape x items)))
-    → v ≡ items.value → xs ≡ v.items → Holds (tree_of e) (nodes_in (trees_of xs)) (depth_in (trees_of xs))
-holds_list items (inl is) held slice = let t = tree_is_list items is held slice in record { many = ap nodes t; deep = ap depth t }
-holds_list items (inr (inl is)) held slice = let t = tree_is_hide items is held slice in record { many = ap nodes t; deep = ap depth t }
-holds_list items (inr (inr is)) held slice = let t = tree_is_escape is.0 items is.1 refl held slice in record { many = ap nodes t; deep = ap depth t }
+    n' : ℕ
+    n' = part_nodes (second t)
 
--- one with a tree and a list of trees
-pub holds_first : {e x : Expr} {v : Vec Expr Global} {xs : List Expr} (first : Arc Expr Global) (rest : Arc (Vec Expr Global) Global)
-    → ((name : Name) × (e ≡ code.Call first name rest)) ⊎ ((e ≡ code.While first rest) ⊎ ((p : Pattern) × (e ≡ code.For p first rest)))
-    → x ≡ first.value → v ≡ rest.value → xs ≡ v.items → Holds (tree_of e) (nodes (tree_of x) + nodes_in (trees_of xs)) (max (depth (tree_of x)) (depth_in (trees_of xs)))
-holds_first first rest (inl is) one held slice = let t = tree_is_call first is.0 rest is.1 one held slice in record { many = ap nodes t ∙ omega arith; deep = ap depth t }
-holds_first first rest (inr (inl is)) one held slice = let t = tree_is_while first rest is one held slice in record { many = ap nodes t ∙ omega arith; deep = ap depth t }
-holds_first first rest (inr (inr is)) one held slice = let t = tree_is_for is.0 first rest is.1 refl one held slice in record { many = ap nodes t ∙ omega arith; deep = ap depth t }
+    n'' : ℕ
+    n'' = part_nodes (third t)
+
+    d : ℕ
+    d = part_depth (first t)
+
+    d' : ℕ
+    d' = part_depth (second t)
+
+    d'' : ℕ
+    d'' = part_depth (third t)
+
+-- behind no nodes is left what was left before them
+not_deeper : (already : Bool) (levels : ℕ) → already ≡ (already || nat_lt levels 0)
+not_deeper true levels = refl
+not_deeper false levels = grind (arith, nat_tests)
+
+none_more_than : (k : ℕ) → false ≡ nat_lt k 0
+none_more_than k = grind (arith, nat_tests)
+
+none_taken : (k : ℕ) → k ≡ k - 0
+none_taken k = omega arith
+
+pub behind_none : (levels : ℕ) (o : Option Room) → o ≡ room_behind levels o 0 0
+behind_none levels None = refl
+behind_none levels (Some room) = λ i. cond (none_more_than room.nodes i) None (Some (record { nodes = none_taken room.nodes i; too_deep = not_deeper room.too_deep levels i }))
 
 -- a program that leaves room, in which no tree was too deep, is refused for its names alone
 in_room : (over deep : Bool) (room whole : Room) (x y z : Checked) → Some room ≡ cond over None (Some whole) → deep ≡ whole.too_deep → room.too_deep ≡ false → cond over x (cond deep y z) ≡ z

@@ -17,19 +17,11 @@ pub all_new_two : (xs ys zs : List Name) → with_all_new xs (ys ++ zs) ≡ with
 all_new_two xs [] zs = refl
 all_new_two xs (y ∷ ys) zs = all_new_two (with_new xs y) ys zs
 
--- the names of a part, and those behind it
-pub then_inside : (was one two : List TopName) {now whole : List TopName} → now ≡ was ++ one → whole ≡ one ++ two → now ++ two ≡ was ++ whole
-then_inside was one two h is = ap (λ names. names ++ two) h ∙ append_assoc was one two ∙ ap (λ names. was ++ names) (sym is)
-
 -- a list of names is as long as its vector says
 pub as_long : (names : Vec TopName Global) {n : ℕ} → n ≡ vec_len names → n ≡ length names.items
 as_long names e = search rules
 
 -- what was added is taken away again
-pub truncated_once : {was all last : List TopName} (n : ℕ) (xs : List TopName) → n ≡ length was → all ≡ was ++ xs → last ≡ take n all → last ≡ was
-truncated_once {was = was} n xs outer added back = back ∙ (λ i. take (outer i) (added i)) ∙ take-append_seam was xs
-
--- what was added twice is taken away again
 pub truncated : {was now all last : List TopName} (n : ℕ) (xs ys : List TopName) → n ≡ length was → now ≡ was ++ xs → all ≡ now ++ ys → last ≡ take n all → last ≡ was
 truncated {was = was} n xs ys outer entered added back = back ∙ (λ i. take (outer i) ((added ∙ ap (λ names. names ++ ys) entered ∙ append_assoc was xs ys) i)) ∙ take-append_seam was (xs ++ ys)
 

@@ -1,4 +1,4 @@
--- The methods of an object, checked one after the other, and what stands in a block.
+-- The methods of an object, checked one after the other.
 use Rattle.std.proofs.Common.{◌≡◌, Bool, false, cond, Ok, Err, ℕ, ◌+◌, ◌<◌, List, [], ◌∷◌, ◌++◌, length, get_or, take, drop, map, ap, sym, ◌∙◌}
 use Rattle.std.proofs.lemmas.List.{map_more}
 use Rattle.kernele.specs.Tree.{Name, Trees}
@@ -6,11 +6,15 @@ use Rattle.kernele.specs.View.{trees_of, methods_of}
 use Rattle.kernele.proofs.Walks.{methods_from}
 use Rattle.kernele.specs.declared.tree.Method.{Method}
 use Rattle.kernele.specs.declared.tree.Pattern.{Pattern}
-use Rattle.scopes.specs.Scope.{Scopes, in_turn, in_block, checked_all, checked_methods, checked_taking, has_signature, duplicate_name}
-use Rattle.scopes.specs.Check.{Refuses, MayRefuse, signature_of, method_checked}
+use Rattle.scopes.specs.Scope.{Scopes, in_turn, in_block, checked_all, checked_methods, checked_taking, new_method, Checked, has_signature, duplicate_name}
+use Rattle.scopes.specs.Check.{Refuses, MayRefuse, signature_of}
 use Rattle.scopes.specs.Parts.{patterns_bound, checked_behind}
 use Rattle.scopes.specs.declared.checking.CheckFault.{CheckFault}
 use Rattle.scopes.specs.declared.checking.CheckFault.TheVariants as fault
+
+-- a method behind the earlier ones of its object: it must be new, and stands in a block behind its parameters
+abbrev pub method_checked : List Method → Method → Scopes → Checked
+method_checked earlier m s = in_turn (new_method (map signature_of earlier) (signature_of m) s) (in_block (checked_taking m.parameters.value.items (checked_all (trees_of m.body.value.items))))
 
 -- what the methods from an index on give is what the one there gives, and then those behind it
 pub methods_next : (ms : List Method) (i : ℕ) (m : Method) (s : Scopes) → i < length ms → m ≡ get_or ms i m

@@ -1,12 +1,11 @@
 -- What the check's values stand for.
-use Rattle.std.specs.Prelude.{◌≡◌, ℕ, List, ◌++◌, map, length, Bool, true, Result, Ok, Err, codes, MatchResult}
+use Rattle.std.specs.Prelude.{◌≡◌, ℕ, List, ◌++◌, length, Bool, true, Result, Ok, Err, codes, MatchResult}
 use Rattle.std.specs.Ordering.{nat_cmp}
 use Rattle.std.specs.Cmp.Lexicographic.{slice_cmp}
 use Rattle.std.specs.Option.{option_or}
 use Rattle.std.specs.BTreeMap.{BTreeMap, get}
 use Rattle.kernele.specs.Tree.{Name}
-use Rattle.kernele.specs.View.{trees_of}
-use Rattle.scopes.specs.Scope.{Names, Scopes, Signature, kind_in, unbound, assign_to_def, duplicate_name, too_deep, too_long, Checked, in_turn, in_block, new_method, checked_taking, checked_all}
+use Rattle.scopes.specs.Scope.{Names, Scopes, Signature, kind_in, unbound, assign_to_def, duplicate_name, too_deep, too_long, Checked}
 use Rattle.kernele.specs.declared.tree.Method.{Method}
 use Rattle.scopes.specs.declared.naming.Kind.{Kind}
 use Rattle.scopes.specs.declared.checking.CheckFault.{CheckFault}
@@ -50,10 +49,6 @@ MayRefuse f twice x = (twice ≡ true) × (f ≡ fault.DuplicateName x)
 -- how a method is found
 abbrev pub signature_of : Method → Signature
 signature_of m = (m.verb, length m.parameters.value.items)
-
--- a method behind the earlier ones of its object: it must be new, and stands in a block behind its parameters
-abbrev pub method_checked : List Method → Method → Scopes → Checked
-method_checked earlier m s = in_turn (new_method (map signature_of earlier) (signature_of m) s) (in_block (checked_taking m.parameters.value.items (checked_all (trees_of m.body.value.items))))
 
 -- the scopes that are left are those of the definition, or the fault is its refusal
 abbrev pub Gives : Result (Unit {0}) CheckFault → Scopes → Checked → Type 0

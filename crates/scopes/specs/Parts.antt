@@ -1,9 +1,9 @@
 -- What a construct does to names, part after part, in the order in which it is evaluated.
-use Rattle.std.specs.Prelude.{List, [], ◌∷◌, ◌++◌, Ok}
+use Rattle.std.specs.Prelude.{ℕ, List, [], ◌∷◌, ◌++◌, Ok}
 use Rattle.kernele.specs.Tree.{Name, Tree, null_tree, bool_tree, int_tree, text_tree, noun, define, variable, assign, call, list_tree, same_tree, define_list, hide, if_tree, while_tree, for_tree, try_tree, throw_tree, object_tree, escape_tree, Trees, Methods}
 use Rattle.kernele.specs.View.{tree_of, trees_of, methods_of}
 use Rattle.kernele.specs.declared.tree.Pattern.{Pattern}
-use Rattle.scopes.specs.Scope.{Scopes, Checked, in_turn, in_block, found, assigned, added, bound, all_bound, checked, checked_all, checked_methods, defined_name, variable_name, name_of, names_of_all, own_names, own_names_in}
+use Rattle.scopes.specs.Scope.{Scopes, Checked, in_turn, in_block, found, assigned, added, bound, all_bound, checked, checked_all, checked_methods, defined_name, variable_name, name_of, names_of_all, own_names, own_names_in, nodes, nodes_in, nodes_of, depth, depth_in, depth_of}
 use Rattle.scopes.specs.Free.{free, free_in, free_of, occurring}
 use Rattle.scopes.specs.declared.naming.TopName.{TopName}
 use Rattle.scopes.specs.declared.parts.Binding.{Binding as CodeBinding}
@@ -159,3 +159,27 @@ part_free (evaluate_all es) bs = free_in es bs
 part_free (bind b) bs = []
 part_free (block b body) bs = free_in body (bs ++ binding_names b)
 part_free (methods ms) bs = free_of ms bs
+
+-- how many nodes a part has
+abbrev pub part_nodes : Part → ℕ
+part_nodes nothing = 0
+part_nodes (look_up x) = 0
+part_nodes (target x e) = 0
+part_nodes (assign_to x) = 0
+part_nodes (evaluate e) = nodes e
+part_nodes (evaluate_all es) = nodes_in es
+part_nodes (bind b) = 0
+part_nodes (block b body) = nodes_in body
+part_nodes (methods ms) = nodes_of ms
+
+-- how deep a part is
+abbrev pub part_depth : Part → ℕ
+part_depth nothing = 0
+part_depth (look_up x) = 0
+part_depth (target x e) = 0
+part_depth (assign_to x) = 0
+part_depth (evaluate e) = depth e
+part_depth (evaluate_all es) = depth_in es
+part_depth (bind b) = 0
+part_depth (block b body) = depth_in body
+part_depth (methods ms) = depth_of ms

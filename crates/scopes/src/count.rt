@@ -3,7 +3,9 @@ ghost use Rattle.std.specs.Prelude.{◌≡◌};
 ghost use Rattle.kernele.specs.View.{tree_of, trees_of, methods_of};
 ghost use Rattle.scopes.specs.Scope.{nodes, nodes_in, nodes_of, depth, depth_in, depth_of};
 ghost use Rattle.scopes.specs.Room.{room_behind};
+ghost use Rattle.scopes.specs.Parts.{part_in, part_nodes, part_depth};
 
+use crate::parts::{Part, first_part, second_part, third_part};
 use kernele::tree::{Expr, Method};
 
 /// What is left of the limits behind some trees.
@@ -33,26 +35,23 @@ fn behind_tree(e: &Expr, levels: u32, room: Option<Room>) -> Option<Room>
 {
     let room = Some(behind_node(levels, room)?);
     let below = levels.saturating_sub(1);
-    match e {
-        Expr::Null | Expr::Bool(_) | Expr::Int(_) | Expr::Text(_) | Expr::Noun(_) => room,
-        Expr::Def(_, value)
-        | Expr::Var(_, value)
-        | Expr::Assign(_, value)
-        | Expr::DefList(_, value)
-        | Expr::Throw(value) => behind_tree(value, below, room),
-        Expr::Same(left, right) => behind_tree(right, below, behind_tree(left, below, room)),
-        Expr::Call(first, _, rest) | Expr::While(first, rest) | Expr::For(_, first, rest) => {
-            behind_all(rest, below, behind_tree(first, below, room))
-        }
-        Expr::List(items) | Expr::Hide(items) | Expr::Escape(_, items) => {
-            behind_all(items, below, room)
-        }
-        Expr::If(condition, first, second) => {
-            let room = behind_tree(condition, below, room);
-            behind_all(second, below, behind_all(first, below, room))
-        }
-        Expr::Try(body, _, handler) => behind_all(handler, below, behind_all(body, below, room)),
-        Expr::Object(_, methods) => behind_methods(methods, below, room),
+    let room = behind_part(first_part(e), below, room);
+    let room = behind_part(second_part(e), below, room);
+    behind_part(third_part(e), below, room)
+}
+
+/// The same of a part of a tree.
+#[cycle(count)]
+fn behind_part(part: Part<'_>, levels: u32, room: Option<Room>) -> Option<Room>
+    ensures { result ≡ room_behind levels room (part_nodes (part_in part.entry)) (part_depth (part_in part.entry)) }
+{
+    match part {
+        Part::Evaluate(e) => behind_tree(e, levels, room),
+        Part::EvaluateAll(trees) => behind_all(trees, levels, room),
+        Part::Block(_, body) => behind_all(body, levels, room),
+        Part::Methods(methods) => behind_methods(methods, levels, room),
+        Part::Nothing | Part::Noun(_) | Part::Target(_, _) | Part::Assign(_) | Part::Bind(_) =>
+            room,
     }
 }
 

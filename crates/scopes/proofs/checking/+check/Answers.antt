@@ -4,8 +4,8 @@ use Rattle.kernele.specs.View.{tree_of, trees_of, methods_of}
 use Rattle.kernele.proofs.Walks.{trees_from, no_trees_from, no_methods_from, body_is}
 use Rattle.scopes.specs.Scope.{in_turn, checked_all, checked_methods, depth_in}
 use Rattle.scopes.specs.Check.{scopes_in, signature_of}
-use Rattle.scopes.specs.Parts.{part_in, binding_in, checked_behind}
-use Rattle.scopes.proofs.Constructs.{first_left, second_left, third_left, part_depth, first_is_lower, second_is_lower, third_is_lower, item_depth, body_depth}
+use Rattle.scopes.specs.Parts.{part_in, part_depth, binding_in, checked_behind}
+use Rattle.scopes.proofs.Constructs.{first_left, second_left, third_left, first_is_lower, second_is_lower, third_is_lower, item_depth, body_depth}
 use Rattle.scopes.proofs.Methods.{methods_next, block_is_left, twice_refused}
 use Rattle.scopes.proofs.Refusals.{refuses_in_turn, refuses_in_block, fails, behind_gives}
 use Rattle.scopes.proofs.checking.+check.Goals as goal

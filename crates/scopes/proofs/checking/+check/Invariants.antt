@@ -2,8 +2,7 @@ use Rattle.std.proofs.Common.{◌≡◌, ◌+◌, ◌*◌, [], drop, take, map, 
 use Rattle.kernele.specs.View.{tree_of, trees_of, methods_of}
 use Rattle.scopes.specs.Scope.{checked_all, checked_methods, depth, depth_in, depth_of}
 use Rattle.scopes.specs.Check.{scopes_in, signature_of}
-use Rattle.scopes.specs.Parts.{part_in}
-use Rattle.scopes.proofs.Constructs.{part_depth}
+use Rattle.scopes.specs.Parts.{part_in, part_depth}
 use Rattle.scopes.proofs.checking.+check.Given as goal
 
 -- what the trees that are left give here is what all give

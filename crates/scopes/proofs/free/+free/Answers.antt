@@ -1,14 +1,14 @@
-use Rattle.std.proofs.Common.{refl, ap, sym, ◌∙◌, ◌+◌, ◌++◌, drop, arith}
+use Rattle.std.proofs.Common.{refl, ap, sym, ◌∙◌, ◌+◌, ◌++◌, drop, arith, append-nil}
 use Rattle.std.proofs.lemmas.Result.{IfOk-equal}
 use Rattle.scopes.specs.Scope.{own_names, own_names_in, names_of_all, depth_in}
 use Rattle.scopes.specs.Free.{free, free_in, free_of}
 use Rattle.scopes.specs.Found.{with_all_new}
-use Rattle.scopes.specs.Parts.{part_in, binding_in, binding_names}
+use Rattle.scopes.specs.Parts.{part_in, part_depth, binding_in, binding_names, part_names, part_free}
 use Rattle.ids.proofs.Failing.{claims_nothing}
 use Rattle.kernele.specs.View.{tree_of, trees_of, methods_of}
 use Rattle.kernele.proofs.Walks.{trees_from, no_trees_from, append_more, append_end, methods_from, no_methods_from, body_is}
-use Rattle.scopes.proofs.Constructs.{names_left, part_depth, first_is_lower, second_is_lower, third_is_lower, item_depth, body_depth}
-use Rattle.scopes.proofs.Finding.{found_left, then_found, as_long, truncated}
+use Rattle.scopes.proofs.Constructs.{names_left, first_is_lower, second_is_lower, third_is_lower, item_depth, body_depth}
+use Rattle.scopes.proofs.Finding.{found_left, then_found, holds_anyway, as_long, truncated}
 use Rattle.scopes.proofs.free.+free.Goals as goal
 
 pub find_in-returns-clause-inside : goal.find_in-returns-clause-inside
@@ -144,3 +144,39 @@ find_in_part-find_in_block-requires t c = let is = ap (λ p. part_depth (part_in
 
 pub find_in_part-find_in_methods-requires : goal.find_in_part-find_in_methods-requires
 find_in_part-find_in_methods-requires t c = let is = ap (λ p. part_depth (part_in p)) c.in-Methods.is in (omega arith, tt)
+
+pub find_in_part-returns-in-Noun-clause-inside : goal.find_in_part-returns-in-Noun-clause-inside
+find_in_part-returns-in-Noun-clause-inside t c = holds_anyway c.add_occurring.result (sym (append-nil c.args.inside.now.items) ∙ ap (λ p. c.args.inside.now.items ++ part_names (part_in p)) (sym c.in-Noun.is))
+
+pub find_in_part-returns-in-Target-clause-inside : goal.find_in_part-returns-in-Target-clause-inside
+find_in_part-returns-in-Target-clause-inside t c = IfOk-equal c.find_target.result _ _ _ c.find_target.ensures.inside (sym (append-nil c.args.inside.now.items) ∙ ap (λ p. c.args.inside.now.items ++ part_names (part_in p)) (sym c.in-Target.is))
+
+pub find_in_part-returns-in-Block-clause-inside : goal.find_in_part-returns-in-Block-clause-inside
+find_in_part-returns-in-Block-clause-inside t c = IfOk-equal c.find_in_block.result _ _ _ c.find_in_block.ensures.inside (sym (append-nil c.args.inside.now.items) ∙ ap (λ p. c.args.inside.now.items ++ part_names (part_in p)) (sym c.in-Block.is))
+
+pub find_in_part-returns-in-Methods-clause-inside : goal.find_in_part-returns-in-Methods-clause-inside
+find_in_part-returns-in-Methods-clause-inside t c = IfOk-equal c.find_in_methods.result _ _ _ c.find_in_methods.ensures.inside (sym (append-nil c.args.inside.now.items) ∙ ap (λ p. c.args.inside.now.items ++ part_names (part_in p)) (sym c.in-Methods.is))
+
+pub find_in_part-returns-in-Bind-clause-found : goal.find_in_part-returns-in-Bind-clause-found
+find_in_part-returns-in-Bind-clause-found t c = holds_anyway c.add_binding.result (ap (λ p. with_all_new c.args.found.now.items (part_free (part_in p) c.args.inside.now.items)) (sym c.in-Bind.is))
+
+pub find_in_part-returns-in-Target-clause-found : goal.find_in_part-returns-in-Target-clause-found
+find_in_part-returns-in-Target-clause-found t c = IfOk-equal c.find_target.result _ _ _ c.find_target.ensures.found (ap (λ p. with_all_new c.args.found.now.items (part_free (part_in p) c.args.inside.now.items)) (sym c.in-Target.is))
+
+pub find_in_part-returns-in-Block-clause-found : goal.find_in_part-returns-in-Block-clause-found
+find_in_part-returns-in-Block-clause-found t c = IfOk-equal c.find_in_block.result _ _ _ c.find_in_block.ensures.found (ap (λ p. with_all_new c.args.found.now.items (part_free (part_in p) c.args.inside.now.items)) (sym c.in-Block.is))
+
+pub find_in_part-returns-in-Methods-clause-found : goal.find_in_part-returns-in-Methods-clause-found
+find_in_part-returns-in-Methods-clause-found t c = IfOk-equal c.find_in_methods.result _ _ _ c.find_in_methods.ensures.found (ap (λ p. with_all_new c.args.found.now.items (part_free (part_in p) c.args.inside.now.items)) (sym c.in-Methods.is))
+
+pub find_in_part-returns-in-Evaluate-clause-found : goal.find_in_part-returns-in-Evaluate-clause-found
+find_in_part-returns-in-Evaluate-clause-found t c = IfOk-equal c.find_in.result _ _ _ c.find_in.ensures.found (ap (λ p. with_all_new c.args.found.now.items (part_free (part_in p) c.args.inside.now.items)) (sym c.in-Evaluate.is))
+
+pub find_in_part-returns-in-EvaluateAll-clause-found : goal.find_in_part-returns-in-EvaluateAll-clause-found
+find_in_part-returns-in-EvaluateAll-clause-found t c = IfOk-equal c.find_in_all.result _ _ _ c.find_in_all.ensures.found (ap (λ p. with_all_new c.args.found.now.items (part_free (part_in p) c.args.inside.now.items)) (sym c.in-EvaluateAll.is))
+
+pub find_in_part-returns-in-Evaluate-clause-inside : goal.find_in_part-returns-in-Evaluate-clause-inside
+find_in_part-returns-in-Evaluate-clause-inside t c = IfOk-equal c.find_in.result _ _ _ c.find_in.ensures.inside (ap (λ p. c.args.inside.now.items ++ part_names (part_in p)) (sym c.in-Evaluate.is))
+
+pub find_in_part-returns-in-EvaluateAll-clause-inside : goal.find_in_part-returns-in-EvaluateAll-clause-inside
+find_in_part-returns-in-EvaluateAll-clause-inside t c = IfOk-equal c.find_in_all.result _ _ _ c.find_in_all.ensures.inside (ap (λ p. c.args.inside.now.items ++ part_names (part_in p)) (sym c.in-EvaluateAll.is))

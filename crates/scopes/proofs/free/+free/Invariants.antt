@@ -3,8 +3,7 @@ use Rattle.kernele.specs.View.{tree_of, trees_of, methods_of}
 use Rattle.scopes.specs.Scope.{own_names_in, depth, depth_in, depth_of}
 use Rattle.scopes.specs.Free.{free_in, free_of}
 use Rattle.scopes.specs.Found.{with_all_new}
-use Rattle.scopes.specs.Parts.{part_in}
-use Rattle.scopes.proofs.Constructs.{part_depth}
+use Rattle.scopes.specs.Parts.{part_in, part_depth}
 use Rattle.scopes.proofs.free.+free.Given as goal
 
 -- what is found, and what the trees that are left give

@@ -1,11 +1,11 @@
 use Rattle.std.proofs.Common.{refl, ap, ◌∙◌, arith}
 use Rattle.std.proofs.lemmas.Result.{IfOk-equal}
 use Rattle.scopes.specs.Scope.{own_names, own_names_in}
-use Rattle.scopes.specs.Parts.{part_in}
+use Rattle.scopes.specs.Parts.{part_in, part_depth}
 use Rattle.kernele.specs.View.{tree_of}
 use Rattle.kernele.proofs.Walks.{append_more, append_end}
 use Rattle.ids.proofs.Failing.{claims_nothing}
-use Rattle.scopes.proofs.Constructs.{names_left, part_depth, first_is_lower, second_is_lower, third_is_lower, item_depth}
+use Rattle.scopes.proofs.Constructs.{names_left, first_is_lower, second_is_lower, third_is_lower, item_depth}
 use Rattle.scopes.proofs.naming.+names.Goals as goal
 
 pub add_all_names-add_names-requires : goal.add_all_names-add_names-requires

@@ -1,8 +1,7 @@
 use Rattle.std.proofs.Common.{◌≡◌, ◌+◌, ◌*◌, ◌++◌, drop}
 use Rattle.kernele.specs.View.{tree_of, trees_of}
 use Rattle.scopes.specs.Scope.{own_names_in, depth, depth_in}
-use Rattle.scopes.specs.Parts.{part_in}
-use Rattle.scopes.proofs.Constructs.{part_depth}
+use Rattle.scopes.specs.Parts.{part_in, part_depth}
 use Rattle.scopes.proofs.naming.+names.Given as goal
 
 -- the names so far, and those of the trees that are left
