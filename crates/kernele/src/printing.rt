@@ -1,7 +1,7 @@
 // The canonical spelling of a program.
 ghost use Rattle.std.specs.Prelude.{◌≡◌, ◌++◌, IfOk, OnOk, string_bytes, codes, map, true};
 ghost use Rattle.kernele.specs.View.{tree_of, trees_of, methods_of, program_of};
-ghost use Rattle.kernele.specs.Spelling.{spelling, spelled, spelled_parts, spelled_items, spelled_methods, joined, bracketed, in_braces, methods_in_braces, bound_name, needs_brackets as brackets_test, is_bare_receiver as bare_receiver_test, as_part, as_receiver, message};
+ghost use Rattle.kernele.specs.Spelling.{spelling, spelled, spelled_parts, spelled_items, spelled_methods, joined, bracketed, in_braces, methods_in_braces, bound_name, needs_brackets as brackets_test, is_bare_receiver as bare_receiver_test, as_part, message};
 ghost use Rattle.kernele.specs.Halves.{beginning, rest_of};
 
 use crate::tree::{Expr, Method, Pattern, Program};
@@ -58,7 +58,7 @@ fn write_beginning(e: &Expr, out: &mut String) -> Result<(), AllocError>
         Expr::Noun(name) | Expr::Assign(name, _) => out.push_str(name.as_str()),
         Expr::Def(pattern, _) | Expr::Object(pattern, _) => write_bound("def ", pattern, out),
         Expr::Var(name, _) => write_name("var ", name, out),
-        Expr::Call(receiver, _, _) => write_receiver(receiver, out),
+        Expr::Call(receiver, _, _) => write_bracketed(!is_bare_receiver(receiver), receiver, out),
         Expr::List(items) => write_parts("[", items, "]", out),
         Expr::Same(left, _) => write_part("(", left, out),
         Expr::DefList(patterns, _) => write_patterns("def [", patterns, out),
@@ -119,7 +119,7 @@ fn write_rest(e: &Expr, out: &mut String) -> Result<(), AllocError>
 /// Writes methods in braces, a space before each and before the braces.
 #[cycle(print)]
 fn write_methods(methods: &[Method], out: &mut String) -> Result<(), AllocError>
-    ensures { OnOk result (string_bytes out.new ≡ string_bytes out.old ++ codes " " ++ methods_in_braces (spelled_methods (methods_of methods.now))) }
+    ensures { OnOk result (string_bytes out.new ≡ string_bytes out.old ++ (codes " " ++ methods_in_braces (spelled_methods (methods_of methods.now)))) }
 {
     out.push_str(" {")?;
     for method in methods {
@@ -132,7 +132,7 @@ fn write_methods(methods: &[Method], out: &mut String) -> Result<(), AllocError>
 /// Writes a word, and a block in its braces behind it.
 #[cycle(print)]
 fn write_block(word: &str, body: &Arc<Vec<Expr>>, out: &mut String) -> Result<(), AllocError>
-    ensures { OnOk result (string_bytes out.new ≡ string_bytes out.old ++ word.now ++ in_braces (spelled_items (trees_of body.now.value.items))) }
+    ensures { OnOk result (string_bytes out.new ≡ string_bytes out.old ++ (word.now ++ in_braces (spelled_items (trees_of body.now.value.items)))) }
 {
     out.push_str(word)?;
     let items = body.as_slice();
@@ -152,7 +152,7 @@ fn write_parts(
     closing: &str,
     out: &mut String,
 ) -> Result<(), AllocError>
-    ensures { OnOk result (string_bytes out.new ≡ string_bytes out.old ++ opening.now ++ joined (codes ", ") (spelled_parts (trees_of parts.now.value.items)) ++ closing.now) }
+    ensures { OnOk result (string_bytes out.new ≡ string_bytes out.old ++ (opening.now ++ joined (codes ", ") (spelled_parts (trees_of parts.now.value.items)) ++ closing.now)) }
 {
     let Some((first, rest)) = parts.split_first() else {
         out.push_str(opening)?;
@@ -168,18 +168,10 @@ fn write_parts(
 /// Writes a word, and a part of another expression behind it.
 #[cycle(print)]
 fn write_part(word: &str, e: &Expr, out: &mut String) -> Result<(), AllocError>
-    ensures { OnOk result (string_bytes out.new ≡ string_bytes out.old ++ word.now ++ as_part (tree_of e.now) (spelled (tree_of e.now))) }
+    ensures { OnOk result (string_bytes out.new ≡ string_bytes out.old ++ (word.now ++ as_part (tree_of e.now) (spelled (tree_of e.now)))) }
 {
     out.push_str(word)?;
     write_bracketed(needs_brackets(e), e, out)
-}
-
-/// Writes what a call is made on.
-#[cycle(print)]
-fn write_receiver(e: &Expr, out: &mut String) -> Result<(), AllocError>
-    ensures { OnOk result (string_bytes out.new ≡ string_bytes out.old ++ as_receiver (tree_of e.now) (spelled (tree_of e.now))) }
-{
-    write_bracketed(!is_bare_receiver(e), e, out)
 }
 
 /// Writes an expression, in round brackets where they are wanted.
@@ -201,7 +193,7 @@ fn write_method_head(
     parameters: &[Pattern],
     out: &mut String,
 ) -> Result<(), AllocError>
-    ensures { OnOk result (string_bytes out.new ≡ string_bytes out.old ++ codes " method " ++ message verb.now (map bound_name parameters.now)) }
+    ensures { OnOk result (string_bytes out.new ≡ string_bytes out.old ++ (codes " method " ++ message verb.now (map bound_name parameters.now))) }
 {
     out.push_str(" method ")?;
     out.push_str(verb.as_str())?;
@@ -211,7 +203,7 @@ fn write_method_head(
 
 /// Writes a word, and a name behind it.
 fn write_name(word: &str, name: &Text, out: &mut String) -> Result<(), AllocError>
-    ensures { OnOk result (string_bytes out.new ≡ string_bytes out.old ++ word.now ++ name.now) }
+    ensures { OnOk result (string_bytes out.new ≡ string_bytes out.old ++ (word.now ++ name.now)) }
 {
     out.push_str(word)?;
     out.push_str(name.as_str())
@@ -219,7 +211,7 @@ fn write_name(word: &str, name: &Text, out: &mut String) -> Result<(), AllocErro
 
 /// Writes a word, and behind it what a pattern binds.
 fn write_bound(word: &str, pattern: &Pattern, out: &mut String) -> Result<(), AllocError>
-    ensures { OnOk result (string_bytes out.new ≡ string_bytes out.old ++ word.now ++ bound_name pattern.now) }
+    ensures { OnOk result (string_bytes out.new ≡ string_bytes out.old ++ (word.now ++ bound_name pattern.now)) }
 {
     out.push_str(word)?;
     out.push_str(bound_text(pattern))
@@ -227,7 +219,7 @@ fn write_bound(word: &str, pattern: &Pattern, out: &mut String) -> Result<(), Al
 
 /// Writes a word, and patterns behind it, with commas between them.
 fn write_patterns(word: &str, patterns: &[Pattern], out: &mut String) -> Result<(), AllocError>
-    ensures { OnOk result (string_bytes out.new ≡ string_bytes out.old ++ word.now ++ joined (codes ", ") (map bound_name patterns.now)) }
+    ensures { OnOk result (string_bytes out.new ≡ string_bytes out.old ++ (word.now ++ joined (codes ", ") (map bound_name patterns.now))) }
 {
     let Some((first, rest)) = patterns.split_first() else {
         return out.push_str(word);

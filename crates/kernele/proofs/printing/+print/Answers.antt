@@ -13,7 +13,7 @@ write_expr-returns t c =
 
 pub write_parts-loop-part-preserved : goal.write_parts-loop-part-preserved
 write_parts-loop-part-preserved t c =
-    append_more (λ ts. led_by (codes ", ") (spelled_parts ts)) (λ t. codes ", " ++ as_part t (spelled t)) (λ t ts. refl) (string_bytes c.loop-part.out) c.in-Some.rest.now c.loop-part.part-index c.part-item.result c.loop-part-test.true c.part-item.is (search (rules, append_assoc))
+    append_more (λ ts. led_by (codes ", ") (spelled_parts ts)) (λ t. codes ", " ++ as_part t (spelled t)) (λ t ts. refl) (string_bytes c.loop-part.out) c.in-Some.rest.now c.loop-part.part-index c.part-item.result c.loop-part-test.true c.part-item.is c.in_ok-write_part-2.ensures
     ∙ c.loop-part.invariant
 
 pub write_parts-returns : goal.write_parts-returns
@@ -36,15 +36,15 @@ write_items-returns-after-loop-item t c =
 
 pub write_beginning-returns-in-List : goal.write_beginning-returns-in-List
 write_beginning-returns-in-List t c =
-    rw (ap tree_of c.in-List.is ∙ tree_of-List c.in-List.items) (search (rules, IfOk-equal, append_assoc))
+    rw (ap tree_of c.in-List.is ∙ tree_of-List c.in-List.items) c.write_parts.ensures
 
 pub write_beginning-returns-in-Hide : goal.write_beginning-returns-in-Hide
 write_beginning-returns-in-Hide t c =
-    rw (ap tree_of c.in-Hide.is ∙ tree_of-Hide c.in-Hide.body) (search (rules, IfOk-equal, append_assoc))
+    rw (ap tree_of c.in-Hide.is ∙ tree_of-Hide c.in-Hide.body) c.write_block.ensures
 
 pub write_beginning-returns-in-Try : goal.write_beginning-returns-in-Try
 write_beginning-returns-in-Try t c =
-    rw (ap tree_of c.in-Try.is ∙ tree_of-Try c.in-Try.body c.in-Try.field-1 c.in-Try.field-2) (search (rules, IfOk-equal, append_assoc))
+    rw (ap tree_of c.in-Try.is ∙ tree_of-Try c.in-Try.body c.in-Try.field-1 c.in-Try.field-2) c.write_block-in-Try.ensures
 
 pub write_rest-returns-in_ok-write_name-in-Call : goal.write_rest-returns-in_ok-write_name-in-Call
 write_rest-returns-in_ok-write_name-in-Call t c =
@@ -56,7 +56,7 @@ write_rest-returns-in_ok-write_block-in-If t c =
 
 pub write_rest-returns-in-While : goal.write_rest-returns-in-While
 write_rest-returns-in-While t c =
-    rw (ap tree_of c.in-While.is ∙ tree_of-While c.in-While.field-0 c.in-While.body) (search (rules, IfOk-equal, append_assoc))
+    rw (ap tree_of c.in-While.is ∙ tree_of-While c.in-While.field-0 c.in-While.body) c.write_block-in-While.ensures
 
 pub write_rest-returns-in_ok-write_part-in-For : goal.write_rest-returns-in_ok-write_part-in-For
 write_rest-returns-in_ok-write_part-in-For t c =
@@ -68,11 +68,11 @@ write_rest-returns-in_ok-write_bound-in-Try t c =
 
 pub write_rest-returns-in-Escape : goal.write_rest-returns-in-Escape
 write_rest-returns-in-Escape t c =
-    rw (ap tree_of c.in-Escape.is ∙ tree_of-Escape c.in-Escape.field-0 c.in-Escape.body) (search (rules, IfOk-equal, append_assoc))
+    rw (ap tree_of c.in-Escape.is ∙ tree_of-Escape c.in-Escape.field-0 c.in-Escape.body) c.write_block-in-Escape.ensures
 
 pub write_rest-returns-in-Object : goal.write_rest-returns-in-Object
 write_rest-returns-in-Object t c =
-    rw (tree_is_object c.in-Object.field-0 c.in-Object.methods c.in-Object.is refl c.deref-in-Object.ensures c.deref-in-Object-2.ensures.value) (search (rules, IfOk-equal, append_assoc))
+    rw (tree_is_object c.in-Object.field-0 c.in-Object.methods c.in-Object.is refl c.deref-in-Object.ensures c.deref-in-Object-2.ensures.value) c.write_methods.ensures
 
 pub write_block-returns : goal.write_block-returns
 write_block-returns t c =
@@ -85,7 +85,7 @@ write_methods-loop-method-preserved t c =
     ∙ c.loop-method.invariant
 
 -- methods in braces, a space before each and before the braces
-methods_text : (was : List ℕ) (methods : List (List ℕ)) → was ++ codes " {" ++ led_by (codes " ") methods ++ codes " }" ≡ was ++ codes " " ++ methods_in_braces methods
+methods_text : (was : List ℕ) (methods : List (List ℕ)) → was ++ codes " {" ++ led_by (codes " ") methods ++ codes " }" ≡ was ++ (codes " " ++ methods_in_braces methods)
 methods_text was [] = simp append_assoc
 methods_text was (s ∷ rest) = search (rules, append_assoc)
 

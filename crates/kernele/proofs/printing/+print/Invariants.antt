@@ -37,9 +37,6 @@ decreases-write_bracketed l = 6 * the_size l.e.now + 2
 abbrev pub decreases-write_part : goal.decreases-write_part
 decreases-write_part l = 6 * the_size l.e.now + 3
 
-abbrev pub decreases-write_receiver : goal.decreases-write_receiver
-decreases-write_receiver l = 6 * the_size l.e.now + 3
-
 abbrev pub decreases-write_block : goal.decreases-write_block
 decreases-write_block l = 6 * most (λ e. the_size e) l.body.now.value.items + 3
 
