@@ -22,7 +22,7 @@ use Rattle.std.specs.Option.{option_or}
 use Rattle.world.specs.Ready.{awaits, misplaced, without_home, unready, unready_message}
 use Rattle.world.specs.declared.ready.Unready.TheVariants as why
 use Rattle.world.specs.Steps.{birth_cells, ask_cells, turn_cells, turn_reads}
-use Rattle.world.specs.Effects.{turn_of, Holds, Affects}
+use Rattle.world.specs.Effects.{turn_of, Holds, Affects, Unborn}
 use Rattle.world.specs.declared.step.Delivered.{Delivered}
 use Rattle.world.specs.declared.cells.Cells.{Cells}
 use Rattle.world.specs.declared.effects.Effects.{Effects}
@@ -86,6 +86,12 @@ pub settled : (o : End) (left : List (CellKey × Content)) (v : VatNo) (x : Name
     → u ≡ written events (new_state v x s o ++ done_and_published e m g r) w
 settled o left v x s e m g r p w u is same h =
     h ∙ (λ i. written events (sym is i ++ (key.Msg m, message (record g { place = done e })) ∷ (key.Board (sym same i), published r.result) ∷ []) w)
+
+-- where effects have a footprint, a birth's name is free
+pub unborn : (it : Effects) (e : EventName) (w : World) (f : Foot) → Affects e it w f → Unborn it w
+unborn (effects.Birth x script) e w f h = h.0
+unborn (effects.Ask x v program) e w f h = tt
+unborn (effects.Turn m d) e w f h = tt
 
 -- these are the cells of the footprint that the effects have
 abbrev pub CellsOf : EventName → Effects → Cells → Type 0

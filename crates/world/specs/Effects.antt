@@ -31,6 +31,12 @@ Affects e (effects.Birth x script) w f = (w (key.Name x) ≡ None) × (f ≡ bir
 Affects e (effects.Ask x v program) w f = f ≡ ask_foot e x v (program_of program)
 Affects e (effects.Turn m d) w f = (g : Message) × (x : Name) × (s : State) × Holds w m d g x s × (f ≡ turn_foot e m (turn_of d g x s))
 
+-- a birth's name is free
+abbrev pub Unborn : Effects → World → Type 0
+Unborn (effects.Birth x script) w = w (key.Name x) ≡ None
+Unborn (effects.Ask x v program) w = Unit {0}
+Unborn (effects.Turn m d) w = Unit {0}
+
 -- how the turn ended, if it was one
 abbrev pub turn_end : Effects → Option End
 turn_end (effects.Birth x script) = None

@@ -4,7 +4,7 @@ ghost use Rattle.std.specs.Option.{option_map};
 ghost use Rattle.history.specs.Subject.{after as after_event, touched as touched_by};
 ghost use Rattle.turn.specs.View.{ended_of};
 ghost use Rattle.world.specs.World as model;
-ghost use Rattle.world.specs.Effects.{Affects, turn_end};
+ghost use Rattle.world.specs.Effects.{Affects, Unborn, turn_end};
 ghost use Rattle.world.specs.Events.{Foot, events};
 ghost use Rattle.world.specs.View.{world_of};
 
@@ -29,7 +29,7 @@ pub enum Effects {
 }
 
 impl Effects {
-    /// The cells that they touch and write where this event brings them.
+    /// The cells that an event with these effects touches and writes.
     pub fn cells(&self, alloc: Global, event: EventName) -> Result<Cells, AllocError>
         ensures { IfOk result (λ cells. (w : model.World) (f : Foot) → Affects event self.now w f → (cells.touched.items ≡ touched_by events f) × (cells.written.items ≡ map (λ p. p.0) f.writes)) }
     {
@@ -40,14 +40,14 @@ impl Effects {
         }
     }
 
-    /// Enters them in the world, or changes nothing. Answers how the turn ended, if it was one.
+    /// Enters an event with these effects in the world, or changes nothing. Answers how the turn ended, if it was one.
     pub fn apply(
         self,
         alloc: Global,
         world: &mut World,
         event: EventName,
     ) -> Result<Option<Ended>, AllocError>
-        requires possible { (f : Foot) × Affects event self (world_of world.old) f }
+        requires free { Unborn self (world_of world.old) }
         ensures ok { OnOk result ((f : Foot) → Affects event self (world_of world.old) f → world_of world.new ≡ after_event events f (world_of world.old)) }
         ensures ended { IfOk result (λ ended. option_map ended_of ended ≡ turn_end self) }
         ensures err { OnErr result (world_of world.new ≡ world_of world.old) }

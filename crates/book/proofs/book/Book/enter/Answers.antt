@@ -5,6 +5,7 @@ use Rattle.journal.specs.EntryView.{lines_of}
 use Rattle.journal.specs.JournalView.{entries_of}
 use Rattle.world.specs.EventView.{event_of}
 use Rattle.world.specs.View.{world_of}
+use Rattle.world.proofs.Steps.{unborn}
 use Rattle.book.proofs.Entering.{enters, stands_entered, stands_so}
 use Rattle.book.proofs.book.Book.enter.Goals as goal
 
@@ -35,3 +36,6 @@ pub returns-in-Err-clause-unchanged : goal.returns-in-Err-clause-unchanged
 returns-in-Err-clause-unchanged c =
     let s = c.in_ok-add.ensures.shorter in
     λ i. record { world = c.in-Err.ensures.err i; journal = lines_of (c.remove_last.ensures (entries_of c.args.self.now.journal) s.0 s.1 i); next = c.args.self.now.next; redoable = c.args.self.now.redoable.items }
+
+pub apply-requires : goal.apply-requires
+apply-requires c = record { free = unborn c.args.effects c.args.event.name (world_of c.args.self.now.world) c.requires.possible.0 c.requires.possible.1.affects }
