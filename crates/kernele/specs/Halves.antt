@@ -5,7 +5,7 @@ use Rattle.ids.specs.Quoted.{quoted}
 use Rattle.kernele.specs.Tree.{Tree, null_tree, bool_tree, int_tree, text_tree, noun, define, variable, assign, call, list_tree, same_tree, define_list, hide, if_tree, while_tree, for_tree, try_tree, throw_tree, object_tree, escape_tree}
 use Rattle.kernele.specs.Spelling.{joined, bound_name, as_part, as_receiver, message, in_braces, methods_in_braces, spelled, spelled_parts, spelled_items, spelled_methods}
 
--- up to the first tree or block in it, or the first name
+-- up to and with the first tree, block or name in it
 abbrev pub beginning : Tree → List ℕ
 beginning null_tree = codes "null"
 beginning (bool_tree b) = if b then codes "true" else codes "false"
@@ -28,6 +28,7 @@ beginning (throw_tree e) = codes "throw(" ++ as_part e (spelled e)
 beginning (object_tree p ms) = codes "def " ++ bound_name p
 beginning (escape_tree x body) = codes "escape " ++ x
 
+-- what stands behind that
 abbrev pub rest_of : Tree → List ℕ
 rest_of null_tree = []
 rest_of (bool_tree b) = []

@@ -44,7 +44,7 @@ fn write_expr(e: &Expr, out: &mut String) -> Result<(), AllocError>
     write_rest(e, out)
 }
 
-/// Writes what an expression begins with, up to the first expression, block or name in it.
+/// Writes what an expression begins with, up to and with the first expression, block or name in it.
 #[cycle(print)]
 fn write_beginning(e: &Expr, out: &mut String) -> Result<(), AllocError>
     ensures { OnOk result (string_bytes out.new ≡ string_bytes out.old ++ beginning (tree_of e.now)) }
