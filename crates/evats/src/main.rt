@@ -4,6 +4,7 @@
 mod options;
 
 use options::{Options, Parsed, parse};
+use std::alloc::Global;
 use std::io::{Read, Write};
 use std::process::ExitCode;
 use std::rt::Runtime;
@@ -25,6 +26,12 @@ fn input<R: Runtime + AllocGlobal>(rt: &R, file: Option<&str>) -> Result<Vec<u8>
     }
 }
 
+/// The replies to all commands. It promises nothing, so neither does the closure that a thread is made with, which is
+/// proved the sooner.
+fn answers(alloc: Global, bytes: &[u8], limits: Limits) -> Result<(Vec<u8>, Summary), Fault> {
+    replies(alloc, bytes, limits)
+}
+
 /// The replies to all commands, made on a stack of their own.
 fn replies_of<R: Runtime + AllocGlobal + Threads>(
     rt: &R,
@@ -32,7 +39,7 @@ fn replies_of<R: Runtime + AllocGlobal + Threads>(
     limits: Limits,
 ) -> Result<(Vec<u8>, Summary), Fault> {
     let alloc = rt.alloc();
-    let answering = move || replies(alloc, &bytes, limits);
+    let answering = move || answers(alloc, &bytes, limits);
     match Builder::new().stack_size(STACK).spawn(rt, answering) {
         Ok(thread) => thread.join(rt),
         // The stack is memory too.
