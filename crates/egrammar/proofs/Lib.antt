@@ -8,3 +8,4 @@ pub mod Plainly
 pub mod Retold
 pub mod Spellable
 pub mod Once
+pub mod Shorter

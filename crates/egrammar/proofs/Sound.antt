@@ -302,7 +302,7 @@ module _ (within : Within)
   sound_items : (a : List Token) (x : Trees × List Token) → items_at within a ≡ Some x → Items a x.0 x.1
   sound_items = commas_sound (λ t. and_then t none) snoc within.expression Items Disjunction inside (λ a r t h. items_one h) (λ a b r ts t h k. items_and h k)
 
-  sound_args : (c : Bracket) (a : List Token) (x : Trees × List Token) → args_at within c a ≡ Some x → Args a x.0 (token.Sign (close_sign c) ∷ x.1)
+  pub sound_args : (c : Bracket) (a : List Token) (x : Trees × List Token) → args_at within c a ≡ Some x → Args a x.0 (token.Sign (close_sign c) ∷ x.1)
   sound_args = closed_sound none (items_at within) Args Items sound_items (λ r. args_none) (λ a r ts h. args_some h)
 
   sound_variable : (a : List Token) (n : Name × List Token) (x : Tree × List Token) → assigned_at a ≡ Some n → within.expression n.1 ≡ Some x → Expr (token.Word word.Var ∷ a) (variable n.0 x.0) x.1
@@ -356,7 +356,7 @@ module _ (within : Within)
         ]
       ]
 
-  sound_expr : (a : List Token) (x : Tree × List Token) → expr_at within a ≡ Some x → Expr a x.0 x.1
+  pub sound_expr : (a : List Token) (x : Tree × List Token) → expr_at within a ≡ Some x → Expr a x.0 x.1
   sound_expr a x e = elim (if_is (is_at_word is_return_word a) (return_at within (rest_of a)) (given_at within a) e) [
     | inl h ↦ subst (λ z. Expr z x.0 x.1) (sym (word_front is_return_word word.Return return_word a h.0)) (sound_return (rest_of a) x h.1)
     | inr h ↦ sound_given a x h.1
@@ -372,7 +372,7 @@ module _ (within : Within)
         (begun_separated a g.0.1 f.0 (snoc ts g.0.0) (begun_and a b g.0.1 ts g.0.0 w h.0 (sound_expr b g.0 g.1)) f.1)
   ]
 
-  sound_block : (a : List Token) (x : Trees × List Token) → block_at within a ≡ Some x → Block a x.0 x.1
+  pub sound_block : (a : List Token) (x : Trees × List Token) → block_at within a ≡ Some x → Block a x.0 x.1
   sound_block a x e =
       begun_block a (skip_semicolons a) x.1 x.0 (skip_is a)
       (repeat_sound (block_next within) (Begun (skip_semicolons a)) (block_step (skip_semicolons a)) (length a) none (skip_semicolons a) x (begun_none refl) e)
@@ -383,7 +383,7 @@ module _ (within : Within)
       let p = past_is (is_close bracket.Curly) sign.CloseCurly (close_is bracket.Curly) g.0 x g.2 in
       subst (λ ts. Block a ts (token.Sign sign.CloseCurly ∷ x.1)) p.1 (subst (λ r. Block a g.0.0 r) p.0 (sound_block a g.0 g.1))
 
-  sound_braced : (a : List Token) (x : Trees × List Token) → braced_at within a ≡ Some x → Braced a x.0 x.1
+  pub sound_braced : (a : List Token) (x : Trees × List Token) → braced_at within a ≡ Some x → Braced a x.0 x.1
   sound_braced a x e = elim (if_is (is_open bracket.Curly (sign_in a)) (block_past_at within (rest_of a)) None e) [
     | inl h ↦ subst (λ z. Braced z x.0 x.1) (sym (sign_front a (open_is bracket.Curly (sign_in a) h.0))) (braced (sound_block_past (rest_of a) x h.1))
     | inr h ↦ absurd (none_some h.1)
@@ -485,7 +485,7 @@ module _ (within : Within)
       subst (λ z. Method (token.Word word.Method ∷ z) x.0 x.1) (sym (verb_front a g.0 g.1))
       (subst (λ y. Method (token.Word word.Method ∷ token.Name g.0.0 ∷ token.Sign sign.OpenRound ∷ g.0.1) y.0 y.1) (some_same k.2) (method_plain (sound_pattern_list bracket.Round g.0.1 f.0 f.1) (sound_braced f.0.1 k.0 k.1)))
 
-  sound_method_word : (a : List Token) (returns : Bool) (x : MethodTree × List Token) → is_at_word is_method_word a ≡ true → is_at_word is_to_word a ≡ returns → taking_at within returns (rest_of a) ≡ Some x → Method a x.0 x.1
+  pub sound_method_word : (a : List Token) (returns : Bool) (x : MethodTree × List Token) → is_at_word is_method_word a ≡ true → is_at_word is_to_word a ≡ returns → taking_at within returns (rest_of a) ≡ Some x → Method a x.0 x.1
   sound_method_word a true x h k e = subst (λ z. Method z x.0 x.1) (sym (word_front is_to_word word.To to_word a k)) (sound_to (rest_of a) x e)
   sound_method_word a false x h k e = subst (λ z. Method z x.0 x.1) (sym (method_front a h k)) (sound_plain (rest_of a) x e)
 
@@ -601,7 +601,7 @@ module _ (within : Within)
       let g = bind_some (primary_at within a) (λ y. repeat (postfix_next within) (length y.1) y.0 y.1) e in
       repeat_sound (postfix_next within) (Postfix a) (postfix_step a) (length g.0.1) g.0.0 g.0.1 x (postfix_primary (sound_primary a g.0 g.1)) g.2
 
-  sound_unary : (a : List Token) (x : Tree × List Token) → unary_at within a ≡ Some x → Unary a x.0 x.1
+  pub sound_unary : (a : List Token) (x : Tree × List Token) → unary_at within a ≡ Some x → Unary a x.0 x.1
   sound_unary a x e = elim (or_else_is (front prefix_operator a) (postfix_at within a) (λ o. postfix_at within (rest_of a) >>= λ x. Some (call x.0 (prefix_verb o) none, x.1)) e) [
     | inl h ↦ unary_postfix (sound_postfix a x h.1)
     | inr h ↦
@@ -610,13 +610,13 @@ module _ (within : Within)
         subst (λ z. Unary z x.0 x.1) (sym f.1) (subst (λ y. Unary (token.Sign f.0 ∷ rest_of a) y.0 y.1) (some_same g.2) (unary_prefix f.2 (sound_postfix (rest_of a) g.0 g.1)))
   ]
 
-  sound_product : (a : List Token) (x : Tree × List Token) → product_at within a ≡ Some x → Product a x.0 x.1
+  pub sound_product : (a : List Token) (x : Tree × List Token) → product_at within a ≡ Some x → Product a x.0 x.1
   sound_product = operands_sound product_operator (unary_at within) Product Unary sound_unary (λ a r t p. product_unary p) (λ a b r t u s o w e p. product_more w e p)
 
-  sound_sum : (a : List Token) (x : Tree × List Token) → sum_at within a ≡ Some x → Sum a x.0 x.1
+  pub sound_sum : (a : List Token) (x : Tree × List Token) → sum_at within a ≡ Some x → Sum a x.0 x.1
   sound_sum = operands_sound sum_operator (product_at within) Sum Product sound_product (λ a r t p. sum_product p) (λ a b r t u s o w e p. sum_more w e p)
 
-  sound_comparison : (a : List Token) (x : Tree × List Token) → comparison_at within a ≡ Some x → Comparison a x.0 x.1
+  pub sound_comparison : (a : List Token) (x : Tree × List Token) → comparison_at within a ≡ Some x → Comparison a x.0 x.1
   sound_comparison a x e =
       let g = bind_some (sum_at within a) (λ x. or_else (front comparison_operator x.1) (Some x) (λ o. sum_at within (rest_of x.1) >>= λ y. Some (joined o x.0 y.0, y.1))) e in
       elim (or_else_is (front comparison_operator g.0.1) (Some g.0) (λ o. sum_at within (rest_of g.0.1) >>= λ y. Some (joined o g.0.0 y.0, y.1)) g.2) [
@@ -627,20 +627,20 @@ module _ (within : Within)
             subst (λ y. Comparison a y.0 y.1) (some_same f.2) (comparison_two (subst (λ r. Sum a g.0.0 r) i.1 (sound_sum a g.0 g.1)) i.2 (sound_sum (rest_of g.0.1) f.0 f.1))
       ]
 
-  sound_conjunction : (a : List Token) (x : Tree × List Token) → conjunction_at within a ≡ Some x → Conjunction a x.0 x.1
+  pub sound_conjunction : (a : List Token) (x : Tree × List Token) → conjunction_at within a ≡ Some x → Conjunction a x.0 x.1
   sound_conjunction = operands_sound and_operator (comparison_at within) Conjunction Comparison sound_comparison (λ a r t p. conjunction_comparison p) (λ a b r t u s o w e p. conjunction_more w e p)
 
-  sound_disjunction : (a : List Token) (x : Tree × List Token) → disjunction_at within a ≡ Some x → Disjunction a x.0 x.1
+  pub sound_disjunction : (a : List Token) (x : Tree × List Token) → disjunction_at within a ≡ Some x → Disjunction a x.0 x.1
   sound_disjunction = operands_sound or_operator (conjunction_at within) Disjunction Conjunction sound_conjunction (λ a r t p. disjunction_conjunction p) (λ a b r t u s o w e p. disjunction_more w e p)
 
 mutual
   unfolding within_at
 
-  sound_expression : (n : ℕ) (a : List Token) (x : Tree × List Token) → (within_at n).expression a ≡ Some x → Disjunction a x.0 x.1
+  pub sound_expression : (n : ℕ) (a : List Token) (x : Tree × List Token) → (within_at n).expression a ≡ Some x → Disjunction a x.0 x.1
   sound_expression zero a x e = absurd (none_some e)
   sound_expression (suc n) a x e = sound_disjunction (within_at n) (sound_expression n) (sound_conditional n) a x e
 
-  sound_conditional : (n : ℕ) (a : List Token) (x : Tree × List Token) → (within_at n).conditional a ≡ Some x → Conditional a x.0 x.1
+  pub sound_conditional : (n : ℕ) (a : List Token) (x : Tree × List Token) → (within_at n).conditional a ≡ Some x → Conditional a x.0 x.1
   sound_conditional zero a x e = absurd (none_some e)
   sound_conditional (suc n) a x e = sound_if (within_at n) (sound_expression n) (sound_conditional n) a x e
 

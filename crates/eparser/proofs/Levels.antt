@@ -1,9 +1,10 @@
 -- Each level of operators, from the level of its operands.
-use Rattle.std.proofs.Common.{◌≡◌, List, true, false, Some, None, refl, ap, subst}
+use Rattle.std.proofs.Common.{◌≡◌, ℕ, ◌<◌, List, length, true, false, Some, None, refl, ap, subst}
 use Rattle.etoken.specs.declared.token.Token.{Token}
 use Rattle.kernele.specs.Tree.{Tree}
 use Rattle.esigns.specs.Signs.{operator_of, product_operator}
-use Rattle.egrammar.specs.Reading.{or_else, Within, unary_at, operands_from, comparison_from}
+use Rattle.egrammar.specs.Reading.{or_else, Within, within_at, unary_at, operands_from, comparison_from}
+use Rattle.egrammar.proofs.Shorter.{shorter_unary, shorter_product, shorter_sum, shorter_comparison, shorter_conjunction, shorter_disjunction}
 use Rattle.esigns.specs.declared.stop.Stop.{Stop}
 use Rattle.esigns.specs.declared.stop.Stop.TheVariants as stop
 use Rattle.esigns.specs.declared.operator.Level.{Level}
@@ -96,3 +97,12 @@ module _ (within : Within) where
     pub behind_fails : (e : Stop) (l k : Level) → tighter l ≡ Some k → Fails e (level_from k within t a) → Fails e (level_from l within t a)
     behind_fails stop.Unexpected l k e f = behind_none l k e f
     behind_fails stop.Memory l k e f = tt
+
+-- operands are tokens
+pub shorter_level : (n : ℕ) (l : Level) (a : List Token) {t : Tree} {r : List Token} → level_at l (within_at n) a ≡ Some (t, r) → length r < length a
+shorter_level n level.Disjunction a e = shorter_disjunction n a e
+shorter_level n level.Conjunction a e = shorter_conjunction n a e
+shorter_level n level.Comparison a e = shorter_comparison n a e
+shorter_level n level.Sum a e = shorter_sum n a e
+shorter_level n level.Product a e = shorter_product n a e
+shorter_level n level.Unary a e = shorter_unary n a e

@@ -1,9 +1,13 @@
 // Blocks, and what begins with a word and has blocks.
-ghost use Rattle.std.specs.Prelude.{◌≡◌, ◌≤◌, length, OnOk};
+ghost use Rattle.std.specs.Prelude.{◌≡◌, OnOk};
 ghost use Rattle.egrammar.specs.Reading as reading;
 ghost use Rattle.egrammar.specs.Reading.{rest_of, within_at};
-ghost use Rattle.eparser.specs.View.{left_of, Advances, IsNoLonger, Gives, GivesShared, GivesMany, GivesPlain, GoesTo};
+ghost use Rattle.kernele.specs.View.{tree_of, trees_of};
+ghost use Rattle.eparser.specs.Heads.{head_at, caught_at};
+ghost use Rattle.eparser.specs.View.{left_of, IsNoLonger, Gives, GivesShared, GivesMany, GivesPlain, GivesHead, GoesTo, GoesPast, PutsItem};
 
+use crate::head::Head;
+use crate::made;
 use crate::reader::Reader;
 use enodes::nodes;
 use esigns::operator::Bracket;
@@ -34,6 +38,14 @@ impl<'a> Reader<'a> {
         Ok(())
     }
 
+    /// Puts an item of a block behind those before it, and goes past what parts it from the next.
+    fn put_item(&mut self, items: &mut Vec<Expr>, item: Expr) -> Result<(), Stop>
+        ensures { PutsItem result self.old items.old.items item self.new items.new.items }
+    {
+        items.push(item)?;
+        self.separator()
+    }
+
     /// The items of a block, up to its end, where parts lie within one another at most `left` deep.
     ///
     /// # Errors
@@ -48,115 +60,136 @@ impl<'a> Reader<'a> {
         self.skip_semicolons();
         'more: while !self.at_block_end() {
             let item = self.expr(left)?;
-            items.push(item)?;
-            self.separator()?;
+            self.put_item(&mut items, item)?;
         }
-        Ok(items)
-    }
-
-    /// A block and the brace behind it.
-    #[cycle(read)]
-    pub(crate) fn block_past(&mut self, left: usize) -> Result<Vec<Expr>, Stop>
-        ensures gives { GivesMany result self.old self.new (reading.block_past_at (within_at left)) }
-        ensures shorter { OnOk result (IsNoLonger self.old self.new) }
-    {
-        let items = self.block(left)?;
-        if !self.at_close(Bracket::Curly) {
-            return Err(Stop::Unexpected);
-        }
-        self.skip();
         Ok(items)
     }
 
     /// A block in its braces.
     #[cycle(read)]
     pub(crate) fn braced(&mut self, left: usize) -> Result<Vec<Expr>, Stop>
-        ensures gives { GivesMany result self.old self.new (reading.braced_at (within_at left)) }
-        ensures shorter { OnOk result (Advances self.old self.new) }
+        ensures { GivesMany result self.old self.new (reading.braced_at (within_at left)) }
     {
-        if !self.at_open(Bracket::Curly) {
-            return Err(Stop::Unexpected);
-        }
-        self.skip();
-        self.block_past(left)
+        self.open(Bracket::Curly)?;
+        let items = self.block(left)?;
+        self.close(Bracket::Curly)?;
+        Ok(items)
+    }
+
+    /// The bracket behind a condition.
+    fn closed_condition(&mut self, condition: Expr) -> Result<Arc<Expr>, Stop>
+        ensures { GivesShared result self.old self.new (λ a. reading.past (reading.is_close Bracket.Round) (tree_of condition, a)) }
+    {
+        let condition = Arc::new(self.alloc, condition)?;
+        self.close(Bracket::Round)?;
+        Ok(condition)
     }
 
     /// An expression in round brackets.
     #[cycle(read)]
     fn condition(&mut self, left: usize) -> Result<Arc<Expr>, Stop>
-        ensures gives { GivesShared result self.old self.new (reading.condition_at (within_at left)) }
-        ensures shorter { OnOk result (Advances self.old self.new) }
+        ensures { GivesShared result self.old self.new (reading.condition_at (within_at left)) }
     {
-        if !self.at_open(Bracket::Round) {
-            return Err(Stop::Unexpected);
-        }
-        self.skip();
+        self.open(Bracket::Round)?;
         let condition = self.expression(left)?;
-        let condition = Arc::new(self.alloc, condition)?;
-        if !self.at_close(Bracket::Round) {
-            return Err(Stop::Unexpected);
-        }
-        self.skip();
-        Ok(condition)
+        self.closed_condition(condition)
     }
 
     /// What begins with the word in front and is no literal, if an expression may.
     #[cycle(read)]
     pub(crate) fn control(&mut self, left: usize, word: Reserved) -> Result<Expr, Stop>
-        ensures gives { Gives result self.old self.new (λ a. reading.control_at (within_at left) word (rest_of a)) }
-        ensures shorter { OnOk result (length (left_of self.new) ≤ length (rest_of (left_of self.old))) }
+        ensures { Gives result self.old self.new (λ a. reading.control_at (within_at left) word (rest_of a)) }
     {
         match word {
             Reserved::If => {
                 self.skip();
                 self.conditional(left)
             }
-            Reserved::While => {
-                self.skip();
-                self.while_loop(left)
-            }
-            Reserved::For => {
-                self.skip();
-                self.for_loop(left)
-            }
-            Reserved::Try => {
-                self.skip();
-                self.try_catch(left)
-            }
             Reserved::Throw => {
                 self.skip();
                 let problem = self.condition(left)?;
                 Ok(nodes::throw(problem))
             }
-            Reserved::Escape => {
-                self.skip();
-                self.escape(left)
-            }
             Reserved::Def => {
                 self.skip();
                 self.object(left)
+            }
+            _ => {
+                let head = self.head(left, word)?;
+                let body = self.braced(left)?;
+                head.whole(self.alloc, body)
+            }
+        }
+    }
+
+    /// What begins with the word in front, up to its last block, if that word has one.
+    #[cycle(read)]
+    #[inline(never)]
+    fn head(&mut self, left: usize, word: Reserved) -> Result<Head, Stop>
+        ensures { GivesHead result self.old self.new (λ a. head_at (within_at left) word (rest_of a)) }
+    {
+        match word {
+            Reserved::While => {
+                self.skip();
+                Ok(Head::While(self.condition(left)?))
+            }
+            Reserved::For => {
+                self.skip();
+                let pattern = self.each()?;
+                let list = self.expression(left)?;
+                Head::each(self.alloc, pattern, list)
+            }
+            Reserved::Try => {
+                self.skip();
+                let body = self.braced(left)?;
+                self.caught(body)
+            }
+            Reserved::Escape => {
+                self.skip();
+                Ok(Head::Escape(self.name()?))
             }
             _ => Err(Stop::Unexpected),
         }
     }
 
+    /// A pattern and the `in` behind it.
+    fn each(&mut self) -> Result<Pattern, Stop>
+        ensures { GivesPlain result self.old self.new reading.each_at }
+    {
+        let pattern = self.pattern()?;
+        if !self.at_in() {
+            return Err(Stop::Unexpected);
+        }
+        self.skip();
+        Ok(pattern)
+    }
+
+    /// The `catch` and the pattern behind the block of a `try`.
+    fn caught(&mut self, body: Vec<Expr>) -> Result<Head, Stop>
+        ensures { GivesHead result self.old self.new (λ a. caught_at (trees_of body.items, a)) }
+    {
+        if !self.at_catch() {
+            return Err(Stop::Unexpected);
+        }
+        self.skip();
+        Ok(Head::Try(body, self.pattern()?))
+    }
+
     /// What stands behind `if`.
     #[cycle(read)]
     fn conditional(&mut self, left: usize) -> Result<Expr, Stop>
-        ensures gives { Gives result self.old self.new (reading.if_at (within_at left)) }
-        ensures shorter { OnOk result (IsNoLonger self.old self.new) }
+        ensures { Gives result self.old self.new (reading.if_at (within_at left)) }
     {
         let condition = self.condition(left)?;
         let first = self.braced(left)?;
         let second = self.second(left)?;
-        Ok(nodes::choose(self.alloc, condition, first, second)?)
+        made::choice(self.alloc, condition, first, second)
     }
 
     /// The second block, if there is one: an `if` behind `else` is all of it.
     #[cycle(read)]
     fn second(&mut self, left: usize) -> Result<Vec<Expr>, Stop>
-        ensures gives { GivesMany result self.old self.new (reading.else_at (within_at left)) }
-        ensures shorter { OnOk result (IsNoLonger self.old self.new) }
+        ensures { GivesMany result self.old self.new (reading.else_at (within_at left)) }
     {
         if !self.at_else() {
             return Ok(Vec::new(self.alloc));
@@ -170,59 +203,6 @@ impl<'a> Reader<'a> {
         }
         self.skip();
         let inner = self.conditional(left - 1)?;
-        Ok(nodes::one(self.alloc, inner)?)
-    }
-
-    /// What stands behind `while`.
-    #[cycle(read)]
-    fn while_loop(&mut self, left: usize) -> Result<Expr, Stop>
-        ensures gives { Gives result self.old self.new (reading.while_at (within_at left)) }
-        ensures shorter { OnOk result (IsNoLonger self.old self.new) }
-    {
-        let condition = self.condition(left)?;
-        let body = self.braced(left)?;
-        Ok(nodes::repeat_while(self.alloc, condition, body)?)
-    }
-
-    /// A pattern and the `in` behind it.
-    fn each(&mut self) -> Result<Pattern, Stop>
-        ensures gives { GivesPlain result self.old self.new reading.each_at }
-        ensures shorter { OnOk result (IsNoLonger self.old self.new) }
-    {
-        let pattern = self.pattern()?;
-        if !self.at_in() {
-            return Err(Stop::Unexpected);
-        }
-        self.skip();
-        Ok(pattern)
-    }
-
-    /// What stands behind `for`.
-    #[cycle(read)]
-    fn for_loop(&mut self, left: usize) -> Result<Expr, Stop>
-        ensures gives { Gives result self.old self.new (reading.for_at (within_at left)) }
-        ensures shorter { OnOk result (IsNoLonger self.old self.new) }
-    {
-        let pattern = self.each()?;
-        let list = self.expression(left)?;
-        let list = Arc::new(self.alloc, list)?;
-        let body = self.braced(left)?;
-        Ok(nodes::repeat_for(self.alloc, pattern, list, body)?)
-    }
-
-    /// What stands behind `try`.
-    #[cycle(read)]
-    fn try_catch(&mut self, left: usize) -> Result<Expr, Stop>
-        ensures gives { Gives result self.old self.new (reading.try_at (within_at left)) }
-        ensures shorter { OnOk result (IsNoLonger self.old self.new) }
-    {
-        let body = self.braced(left)?;
-        if !self.at_catch() {
-            return Err(Stop::Unexpected);
-        }
-        self.skip();
-        let pattern = self.pattern()?;
-        let handler = self.braced(left)?;
-        Ok(nodes::try_catch(self.alloc, body, pattern, handler)?)
+        made::one(self.alloc, inner)
     }
 }

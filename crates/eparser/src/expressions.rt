@@ -6,11 +6,11 @@ ghost use Rattle.egrammar.specs.Reading as reading;
 ghost use Rattle.egrammar.specs.Reading.{within_at};
 ghost use Rattle.esigns.specs.Signs.{operator_of};
 ghost use Rattle.eparser.specs.Levels.{level_at, level_from};
-ghost use Rattle.eparser.specs.View.{Advances, IsNoLonger, Gives, GivesPlain};
+ghost use Rattle.eparser.specs.View.{IsNoLonger, Gives, GivesPlain};
 
 use crate::level::{joins_two, tighter};
+use crate::made;
 use crate::reader::Reader;
-use eforms::operators;
 use enodes::nodes;
 use esigns::operator::{Bracket, Level, Link};
 use esigns::stop::Stop;
@@ -47,8 +47,7 @@ impl<'a> Reader<'a> {
     /// such part is behind at least one token of the one around it, so the number of tokens is always enough.
     #[cycle(read)]
     pub(crate) fn expression(&mut self, left: usize) -> Result<Expr, Stop>
-        ensures gives { Gives result self.old self.new (within_at left).expression }
-        ensures shorter { OnOk result (Advances self.old self.new) }
+        ensures { Gives result self.old self.new (within_at left).expression }
     {
         if left == 0 {
             return Err(Stop::Unexpected);
@@ -59,10 +58,12 @@ impl<'a> Reader<'a> {
     /// Operands and the operators of a level between them.
     #[cycle(read)]
     fn operands(&mut self, left: usize, level: Level) -> Result<Expr, Stop>
-        ensures gives { Gives result self.old self.new (level_at level (within_at left)) }
-        ensures shorter { OnOk result (Advances self.old self.new) }
+        ensures { Gives result self.old self.new (level_at level (within_at left)) }
     {
-        let first = self.unary(left)?;
+        let prefix = self.prefix();
+        let operand = self.primary(left)?;
+        let operand = self.postfix_from(left, operand)?;
+        let first = made::prefixed(self.alloc, prefix, operand)?;
         self.operands_from(left, level, first)
     }
 
@@ -70,8 +71,7 @@ impl<'a> Reader<'a> {
     #[cycle(read)]
     #[inline(never)]
     fn operands_from(&mut self, left: usize, level: Level, first: Expr) -> Result<Expr, Stop>
-        ensures gives { Gives result self.old self.new (level_from level (within_at left) (tree_of first)) }
-        ensures shorter { OnOk result (IsNoLonger self.old self.new) }
+        ensures { Gives result self.old self.new (level_from level (within_at left) (tree_of first)) }
     {
         let Some(tighter) = tighter(level) else {
             return Ok(first);
@@ -93,15 +93,14 @@ impl<'a> Reader<'a> {
         tighter: Level,
         first: Expr,
     ) -> Result<Expr, Stop>
-        ensures gives { Gives result self.old self.new (reading.operands_from (operator_of level) (level_at tighter (within_at left)) (tree_of first)) }
-        ensures shorter { OnOk result (IsNoLonger self.old self.new) }
+        ensures { Gives result self.old self.new (reading.operands_from (operator_of level) (level_at tighter (within_at left)) (tree_of first)) }
     {
         let mut joined = first;
         'more: while let Some(operator) = self.operator(level) {
             self.skip();
             let whole = Arc::new(self.alloc, joined)?;
             let right = self.operands(left, tighter)?;
-            joined = operators::join(self.alloc, whole, operator, right)?;
+            joined = made::joined(self.alloc, whole, operator, right)?;
         }
         Ok(joined)
     }
@@ -109,8 +108,7 @@ impl<'a> Reader<'a> {
     #[cycle(read)]
     #[inline(never)]
     fn comparison_from(&mut self, left: usize, first: Expr) -> Result<Expr, Stop>
-        ensures gives { Gives result self.old self.new (reading.comparison_from (within_at left) (tree_of first)) }
-        ensures shorter { OnOk result (IsNoLonger self.old self.new) }
+        ensures { Gives result self.old self.new (reading.comparison_from (within_at left) (tree_of first)) }
     {
         let Some(operator) = self.operator(Level::Comparison) else {
             return Ok(first);
@@ -118,36 +116,13 @@ impl<'a> Reader<'a> {
         self.skip();
         let first = Arc::new(self.alloc, first)?;
         let second = self.operands(left, Level::Sum)?;
-        Ok(operators::join(self.alloc, first, operator, second)?)
-    }
-
-    #[cycle(read)]
-    fn unary(&mut self, left: usize) -> Result<Expr, Stop>
-        ensures gives { Gives result self.old self.new (reading.unary_at (within_at left)) }
-        ensures shorter { OnOk result (Advances self.old self.new) }
-    {
-        let Some(operator) = self.prefix_operator() else {
-            return self.postfix(left);
-        };
-        self.skip();
-        let operand = self.postfix(left)?;
-        Ok(operators::prefixed(self.alloc, operator, operand)?)
-    }
-
-    #[cycle(read)]
-    fn postfix(&mut self, left: usize) -> Result<Expr, Stop>
-        ensures gives { Gives result self.old self.new (reading.postfix_at (within_at left)) }
-        ensures shorter { OnOk result (Advances self.old self.new) }
-    {
-        let first = self.primary(left)?;
-        self.postfix_from(left, first)
+        made::joined(self.alloc, first, operator, second)
     }
 
     #[cycle(read)]
     #[inline(never)]
     fn postfix_from(&mut self, left: usize, first: Expr) -> Result<Expr, Stop>
-        ensures gives { Gives result self.old self.new (reading.postfix_from (within_at left) (tree_of first)) }
-        ensures shorter { OnOk result (IsNoLonger self.old self.new) }
+        ensures { Gives result self.old self.new (reading.postfix_from (within_at left) (tree_of first)) }
     {
         let mut postfix = first;
         'more: while let Some(link) = self.link() {

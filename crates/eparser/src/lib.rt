@@ -3,7 +3,9 @@
 
 mod blocks;
 mod expressions;
+mod head;
 mod level;
+mod made;
 mod objects;
 mod peek;
 mod primaries;

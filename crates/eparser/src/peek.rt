@@ -4,6 +4,7 @@ ghost use Rattle.esigns.specs.Signs.{link_of, operator_of, prefix_operator};
 ghost use Rattle.egrammar.specs.Reading as reading;
 ghost use Rattle.egrammar.specs.Reading.{front, sign_in};
 ghost use Rattle.egrammar.specs.View.{plain};
+ghost use Rattle.eparser.specs.Heads.{behind};
 ghost use Rattle.eparser.specs.View.{left_of, word_in};
 
 use crate::reader::Reader;
@@ -20,6 +21,18 @@ fn front_sign(tokens: &[Placed]) -> Option<Sign>
     }
 }
 
+fn opens_list(sign: Option<Sign>) -> bool
+    ensures { result ≡ reading.is_open Bracket.Square sign }
+{
+    matches!(sign, Some(Sign::OpenSquare))
+}
+
+fn is_becomes(sign: Option<Sign>) -> bool
+    ensures { result ≡ reading.is_becomes sign }
+{
+    matches!(sign, Some(Sign::Becomes))
+}
+
 /// Whether a list of patterns is in front, or one pattern and `:=`.
 fn is_bound(tokens: &[Placed]) -> bool
     ensures { result ≡ reading.is_bound (plain tokens.now) }
@@ -27,8 +40,7 @@ fn is_bound(tokens: &[Placed]) -> bool
     let Some((_, rest)) = tokens.split_first() else {
         return false;
     };
-    matches!(front_sign(tokens), Some(Sign::OpenSquare))
-        || matches!(front_sign(rest), Some(Sign::Becomes))
+    opens_list(front_sign(tokens)) || is_becomes(front_sign(rest))
 }
 
 /// Whether an operand begins with a word.
@@ -101,10 +113,20 @@ impl<'a> Reader<'a> {
         level.operator(self.sign()?)
     }
 
-    pub(crate) fn prefix_operator(&self) -> Option<Prefix>
+    fn prefix_operator(&self) -> Option<Prefix>
         ensures { result ≡ front prefix_operator (left_of self.now) }
     {
         Prefix::of(self.sign()?)
+    }
+
+    /// Goes past the operator before an operand, if there is one.
+    pub(crate) fn prefix(&mut self) -> Option<Prefix>
+        ensures is { result ≡ front prefix_operator (left_of self.old) }
+        ensures past { left_of self.new ≡ behind result (left_of self.old) }
+    {
+        let prefix = self.prefix_operator()?;
+        self.skip();
+        Some(prefix)
     }
 
     /// What makes a call of what was read, if that goes on.
@@ -190,7 +212,7 @@ impl<'a> Reader<'a> {
         let Some((first, rest)) = self.rest.split_first() else {
             return false;
         };
-        matches!(first.token, Token::Name(_)) && matches!(front_sign(rest), Some(Sign::Becomes))
+        matches!(first.token, Token::Name(_)) && is_becomes(front_sign(rest))
     }
 
     pub(crate) fn at_comma(&self) -> bool
@@ -208,7 +230,7 @@ impl<'a> Reader<'a> {
     pub(crate) fn at_becomes(&self) -> bool
         ensures { result ≡ reading.is_becomes (sign_in (left_of self.now)) }
     {
-        matches!(self.sign(), Some(Sign::Becomes))
+        is_becomes(self.sign())
     }
 
     pub(crate) fn at_open(&self, bracket: Bracket) -> bool

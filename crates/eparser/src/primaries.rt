@@ -1,11 +1,12 @@
 // Expressions without operators, and what stands in brackets.
-ghost use Rattle.std.specs.Prelude.{◌≡◌, ◌≤◌, length, OnOk};
+ghost use Rattle.kernele.specs.View.{tree_of};
 ghost use Rattle.egrammar.specs.Reading as reading;
 ghost use Rattle.egrammar.specs.Reading.{rest_of, within_at};
-ghost use Rattle.eparser.specs.View.{left_of, Advances, IsNoLonger, Gives, GivesMany};
+ghost use Rattle.eparser.specs.View.{Gives, GivesMany};
 
+use crate::made;
 use crate::reader::Reader;
-use eforms::{methods, words};
+use eforms::words;
 use enodes::nodes;
 use esigns::operator::Bracket;
 use esigns::stop::Stop;
@@ -13,44 +14,29 @@ use etoken::token::{Sign, Token};
 use kernele::tree::Expr;
 
 impl<'a> Reader<'a> {
-    /// Arguments, and the closing bracket.
+    /// Arguments with commas between them, and the closing bracket.
     #[cycle(read)]
     pub(crate) fn args(&mut self, left: usize, bracket: Bracket) -> Result<Vec<Expr>, Stop>
-        ensures gives { GivesMany result self.old self.new (reading.args_at (within_at left) bracket) }
-        ensures shorter { OnOk result (IsNoLonger self.old self.new) }
+        ensures { GivesMany result self.old self.new (reading.args_at (within_at left) bracket) }
     {
         if self.at_close(bracket) {
             self.skip();
             return Ok(Vec::new(self.alloc));
         }
-        let items = self.items(left)?;
-        if !self.at_close(bracket) {
-            return Err(Stop::Unexpected);
-        }
-        self.skip();
-        Ok(items)
-    }
-
-    /// One expression or more, with commas between them.
-    #[cycle(read)]
-    fn items(&mut self, left: usize) -> Result<Vec<Expr>, Stop>
-        ensures gives { GivesMany result self.old self.new (reading.items_at (within_at left)) }
-        ensures shorter { OnOk result (Advances self.old self.new) }
-    {
         let first = self.expression(left)?;
-        let mut items = nodes::one(self.alloc, first)?;
+        let mut items = made::one(self.alloc, first)?;
         'more: while self.at_comma() {
             self.skip();
             let item = self.expression(left)?;
             items.push(item)?;
         }
+        self.close(bracket)?;
         Ok(items)
     }
 
     #[cycle(read)]
     pub(crate) fn primary(&mut self, left: usize) -> Result<Expr, Stop>
-        ensures gives { Gives result self.old self.new (reading.primary_at (within_at left)) }
-        ensures shorter { OnOk result (Advances self.old self.new) }
+        ensures { Gives result self.old self.new (reading.primary_at (within_at left)) }
     {
         let Some((first, rest)) = self.rest.split_first() else {
             return Err(Stop::Unexpected);
@@ -84,63 +70,64 @@ impl<'a> Reader<'a> {
     /// What begins with the sign in front, if an expression may.
     #[cycle(read)]
     fn bracketed(&mut self, left: usize, sign: Sign) -> Result<Expr, Stop>
-        ensures gives { Gives result self.old self.new (λ a. reading.bracket_at (within_at left) sign (rest_of a)) }
-        ensures shorter { OnOk result (length (left_of self.new) ≤ length (rest_of (left_of self.old))) }
+        ensures { Gives result self.old self.new (λ a. reading.bracket_at (within_at left) sign (rest_of a)) }
     {
         match sign {
             Sign::OpenRound => {
                 self.skip();
                 let inner = self.expr(left)?;
-                if !self.at_close(Bracket::Round) {
-                    // By a call: to let go of an expression in place takes code for each of its kinds.
-                    drop(inner);
-                    return Err(Stop::Unexpected);
-                }
-                self.skip();
-                Ok(inner)
+                self.closed(inner)
             }
             Sign::OpenSquare => {
                 self.skip();
                 let items = self.args(left, Bracket::Square)?;
-                Ok(nodes::list(self.alloc, items)?)
+                made::list(self.alloc, items)
             }
             Sign::OpenCurly => {
                 self.skip();
-                let body = self.block_past(left)?;
-                Ok(nodes::hide(self.alloc, body)?)
+                let body = self.block(left)?;
+                self.close(Bracket::Curly)?;
+                made::hidden(self.alloc, body)
             }
             _ => Err(Stop::Unexpected),
         }
     }
 
+    /// The bracket behind an expression in round brackets.
+    fn closed(&mut self, inner: Expr) -> Result<Expr, Stop>
+        ensures { Gives result self.old self.new (λ a. reading.past (reading.is_close Bracket.Round) (tree_of inner, a)) }
+    {
+        if !self.at_close(Bracket::Round) {
+            return Err(Stop::Unexpected);
+        }
+        self.skip();
+        Ok(inner)
+    }
+
     /// An expression, and what it is given to, if it is given to anything.
     #[cycle(read)]
     pub(crate) fn expr(&mut self, left: usize) -> Result<Expr, Stop>
-        ensures gives { Gives result self.old self.new (reading.expr_at (within_at left)) }
-        ensures shorter { OnOk result (Advances self.old self.new) }
+        ensures { Gives result self.old self.new (reading.expr_at (within_at left)) }
     {
         if self.at_return() {
             self.skip();
             return self.returned(left);
         }
-        let Some(target) = self.target()? else {
-            return self.expression(left);
-        };
+        let target = self.target()?;
         let value = self.expression(left)?;
-        Ok(nodes::give(self.alloc, target, value)?)
+        made::given(self.alloc, target, value)
     }
 
     /// What stands behind `return`.
     #[cycle(read)]
     #[inline(never)]
     fn returned(&mut self, left: usize) -> Result<Expr, Stop>
-        ensures gives { Gives result self.old self.new (reading.return_at (within_at left)) }
-        ensures shorter { OnOk result (IsNoLonger self.old self.new) }
+        ensures { Gives result self.old self.new (reading.return_at (within_at left)) }
     {
         if !self.at_operand() {
-            return Ok(methods::returned(self.alloc, Expr::Null)?);
+            return made::returned(self.alloc, Expr::Null);
         }
         let value = self.expression(left)?;
-        Ok(methods::returned(self.alloc, value)?)
+        made::returned(self.alloc, value)
     }
 }

@@ -2,7 +2,7 @@
 ghost use Rattle.std.specs.Prelude.{◌≡◌, OnOk};
 ghost use Rattle.egrammar.specs.Reading as reading;
 ghost use Rattle.egrammar.specs.Reading.{rest_of};
-ghost use Rattle.eparser.specs.View.{left_of, Advances, IsNoLonger, GivesPlain, GivesPatterns, GivesPlace};
+ghost use Rattle.eparser.specs.View.{left_of, Advances, IsNoLonger, GivesPlain, GivesPatterns, GivesPlace, GoesPast};
 
 use enodes::target::Target;
 use esigns::operator::Bracket;
@@ -28,6 +28,28 @@ impl<'a> Reader<'a> {
         if let Some((_, rest)) = self.rest.split_first() {
             self.rest = rest;
         }
+    }
+
+    /// Goes past an opening bracket.
+    pub(crate) fn open(&mut self, bracket: Bracket) -> Result<(), Stop>
+        ensures { GoesPast result self.old self.new (reading.is_open bracket) }
+    {
+        if !self.at_open(bracket) {
+            return Err(Stop::Unexpected);
+        }
+        self.skip();
+        Ok(())
+    }
+
+    /// Goes past a closing bracket.
+    pub(crate) fn close(&mut self, bracket: Bracket) -> Result<(), Stop>
+        ensures { GoesPast result self.old self.new (reading.is_close bracket) }
+    {
+        if !self.at_close(bracket) {
+            return Err(Stop::Unexpected);
+        }
+        self.skip();
+        Ok(())
     }
 
     /// A name, such as a verb.

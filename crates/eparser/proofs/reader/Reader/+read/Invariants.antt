@@ -1,4 +1,4 @@
-use Rattle.std.proofs.Common.{length, ◌*◌, ◌+◌, ◌<◌, ◌≤◌}
+use Rattle.std.proofs.Common.{length, ◌*◌, ◌+◌}
 use Rattle.eforms.specs.Forms.{snoc}
 use Rattle.egrammar.specs.Reading.{within_at, operand_next, operands_from, postfix_from, postfix_next, items_at, commas_next, block_at, block_next, methods_at, methods_next}
 use Rattle.egrammar.specs.View.{plain}
@@ -10,9 +10,6 @@ use Rattle.eparser.proofs.reader.Reader.+read.Given as goal
 
 abbrev pub decreases-expression : goal.decreases-expression
 decreases-expression l = 64 * l.left + 0
-
-abbrev pub decreases-items : goal.decreases-items
-decreases-items l = 64 * l.left + 1
 
 abbrev pub decreases-returned : goal.decreases-returned
 decreases-returned l = 64 * l.left + 1
@@ -29,38 +26,17 @@ decreases-args l = 64 * l.left + 2
 abbrev pub decreases-block : goal.decreases-block
 decreases-block l = 64 * l.left + 3
 
-abbrev pub decreases-block_past : goal.decreases-block_past
-decreases-block_past l = 64 * l.left + 4
-
 abbrev pub decreases-braced : goal.decreases-braced
 decreases-braced l = 64 * l.left + 5
 
-abbrev pub decreases-while_loop : goal.decreases-while_loop
-decreases-while_loop l = 64 * l.left + 6
-
-abbrev pub decreases-for_loop : goal.decreases-for_loop
-decreases-for_loop l = 64 * l.left + 6
-
-abbrev pub decreases-escape : goal.decreases-escape
-decreases-escape l = 64 * l.left + 6
-
-abbrev pub decreases-function : goal.decreases-function
-decreases-function l = 64 * l.left + 6
+abbrev pub decreases-head : goal.decreases-head
+decreases-head l = 64 * l.left + 6
 
 abbrev pub decreases-second : goal.decreases-second
 decreases-second l = 64 * l.left + 7
 
-abbrev pub decreases-try_catch : goal.decreases-try_catch
-decreases-try_catch l = 64 * l.left + 7
-
-abbrev pub decreases-method : goal.decreases-method
-decreases-method l = 64 * l.left + 7
-
 abbrev pub decreases-conditional : goal.decreases-conditional
 decreases-conditional l = 64 * l.left + 8
-
-abbrev pub decreases-methods : goal.decreases-methods
-decreases-methods l = 64 * l.left + 8
 
 abbrev pub decreases-members : goal.decreases-members
 decreases-members l = 64 * l.left + 10
@@ -80,12 +56,6 @@ decreases-primary l = 64 * l.left + 15
 abbrev pub decreases-postfix_from : goal.decreases-postfix_from
 decreases-postfix_from l = 64 * l.left + 15
 
-abbrev pub decreases-postfix : goal.decreases-postfix
-decreases-postfix l = 64 * l.left + 16
-
-abbrev pub decreases-unary : goal.decreases-unary
-decreases-unary l = 64 * l.left + 17
-
 abbrev pub decreases-operands : goal.decreases-operands
 decreases-operands l = 64 * l.left + 4 * rank l.level + 21
 
@@ -99,46 +69,36 @@ abbrev pub decreases-comparison_from : goal.decreases-comparison_from
 decreases-comparison_from l = 64 * l.left + 30
 
 abbrev pub invariant-postfix_from-more : goal.invariant-postfix_from-more
-invariant-postfix_from-more l = record {
-  comes : Turns (postfix_next (within_at l.left)) (postfix_from (within_at l.left) (tree_of l.fn.first) (plain l.fn.self.rest.now)) (tree_of l.postfix) (plain l.self.rest.now);
-  shorter : length (plain l.self.rest.now) ≤ length (plain l.fn.self.rest.now);
-}
+invariant-postfix_from-more l =
+    Turns (postfix_next (within_at l.left)) (postfix_from (within_at l.left) (tree_of l.fn.first) (plain l.fn.self.rest.now)) (tree_of l.postfix) (plain l.self.rest.now)
 
 abbrev pub decreases-postfix_from-more : goal.decreases-postfix_from-more
 decreases-postfix_from-more l = length (plain l.self.rest.now)
 
-abbrev pub invariant-items-more : goal.invariant-items-more
-invariant-items-more l = record {
-  comes : Turns (commas_next snoc (within_at l.left).expression) (items_at (within_at l.left) (plain l.fn.self.rest.now)) (trees_of l.items.items) (plain l.self.rest.now);
-  shorter : length (plain l.self.rest.now) < length (plain l.fn.self.rest.now);
-}
+abbrev pub invariant-args-more : goal.invariant-args-more
+invariant-args-more l =
+    Turns (commas_next snoc (within_at l.left).expression) (items_at (within_at l.left) (plain l.fn.self.rest.now)) (trees_of l.items.items) (plain l.self.rest.now)
 
-abbrev pub decreases-items-more : goal.decreases-items-more
-decreases-items-more l = length (plain l.self.rest.now)
+abbrev pub decreases-args-more : goal.decreases-args-more
+decreases-args-more l = length (plain l.self.rest.now)
 
 abbrev pub invariant-block-more : goal.invariant-block-more
-invariant-block-more l = record {
-  comes : Turns (block_next (within_at l.left)) (block_at (within_at l.left) (plain l.fn.self.rest.now)) (trees_of l.items.items) (plain l.self.rest.now);
-  shorter : length (plain l.self.rest.now) ≤ length (plain l.fn.self.rest.now);
-}
+invariant-block-more l =
+    Turns (block_next (within_at l.left)) (block_at (within_at l.left) (plain l.fn.self.rest.now)) (trees_of l.items.items) (plain l.self.rest.now)
 
 abbrev pub decreases-block-more : goal.decreases-block-more
 decreases-block-more l = length (plain l.self.rest.now)
 
-abbrev pub invariant-methods-more : goal.invariant-methods-more
-invariant-methods-more l = record {
-  comes : Turns (methods_next (within_at l.left)) (methods_at (within_at l.left) (plain l.fn.self.rest.now)) (methods_of l.methods.items) (plain l.self.rest.now);
-  shorter : length (plain l.self.rest.now) ≤ length (plain l.fn.self.rest.now);
-}
+abbrev pub invariant-members-more : goal.invariant-members-more
+invariant-members-more l =
+    Turns (methods_next (within_at l.left)) (methods_at (within_at l.left) (plain l.fn.self.rest.now)) (methods_of l.methods.items) (plain l.self.rest.now)
 
-abbrev pub decreases-methods-more : goal.decreases-methods-more
-decreases-methods-more l = length (plain l.self.rest.now)
+abbrev pub decreases-members-more : goal.decreases-members-more
+decreases-members-more l = length (plain l.self.rest.now)
 
 abbrev pub invariant-joined_from-more : goal.invariant-joined_from-more
-invariant-joined_from-more l = record {
-  comes : Turns (operand_next (operator_of l.level) (level_at l.tighter (within_at l.left))) (operands_from (operator_of l.level) (level_at l.tighter (within_at l.left)) (tree_of l.fn.first) (plain l.fn.self.rest.now)) (tree_of l.joined) (plain l.self.rest.now);
-  shorter : length (plain l.self.rest.now) ≤ length (plain l.fn.self.rest.now);
-}
+invariant-joined_from-more l =
+    Turns (operand_next (operator_of l.level) (level_at l.tighter (within_at l.left))) (operands_from (operator_of l.level) (level_at l.tighter (within_at l.left)) (tree_of l.fn.first) (plain l.fn.self.rest.now)) (tree_of l.joined) (plain l.self.rest.now)
 
 abbrev pub decreases-joined_from-more : goal.decreases-joined_from-more
 decreases-joined_from-more l = length (plain l.self.rest.now)
