@@ -1,4 +1,5 @@
-// Evaluation: one small function for each construct; those that have blocks are in `control`.
+// Evaluation: one small function for all constructs that have a right side alone, and one for each other; those that have
+// blocks are in `control`, what becomes of a right side's value is in `right`.
 ghost use Rattle.std.specs.Prelude.{◌≡◌, ◌≤◌, IfOk, Some};
 ghost use Rattle.kernele.specs.Tree.{list_tree, same_tree};
 ghost use Rattle.code.specs.Frames.{fits};

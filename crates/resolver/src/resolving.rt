@@ -1,4 +1,5 @@
-// Resolving a program: one small function for each construct. The frame holds the names that stand where the walk is, the oldest first.
+// Resolving a program: one small function for all constructs that have a right side alone, and one for each other. The frame
+// holds the names that stand where the walk is, the oldest first.
 ghost use Rattle.std.specs.Prelude.{◌≡◌, [], ◌++◌, Bool, IfOk, IsSome, OnOk, Some};
 ghost use Rattle.kernele.specs.Tree.{call, same_tree, if_tree, while_tree, for_tree, try_tree, object_tree, escape_tree};
 ghost use Rattle.kernele.specs.View.{tree_of, trees_of, methods_of, program_of};
