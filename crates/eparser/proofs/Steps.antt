@@ -2,7 +2,6 @@
 use Rattle.std.proofs.Common.{◌≡◌, List, false, Option, Some, Result, Ok, Err, sym, ap, ◌∙◌}
 use Rattle.std.specs.declared.alloc.Global.{Global}
 use Rattle.std.specs.declared.sync.Arc.{Arc}
-use Rattle.std.specs.declared.vec.Vec.{Vec}
 use Rattle.etoken.specs.declared.token.Token.{Token}
 use Rattle.etoken.specs.declared.token.Sign as signs
 use Rattle.kernele.specs.declared.tree.Expr.{Expr}
@@ -16,9 +15,8 @@ use Rattle.egrammar.proofs.Turns.{Turns}
 use Rattle.egrammar.proofs.Steps.{operand_fail, postfix_fail, block_part_fail}
 use Rattle.esigns.specs.declared.stop.Stop.{Stop}
 use Rattle.esigns.specs.declared.stop.Stop.TheVariants as stop
-use Rattle.eparser.specs.declared.head.Head.{Head}
 use Rattle.eparser.specs.declared.reader.Reader.{Reader}
-use Rattle.eparser.specs.View.{left_of, Fails, Gives, GivesShared, GivesMany, GivesHead}
+use Rattle.eparser.specs.View.{left_of, Fails, Gives, GivesShared}
 
 -- what is read behind a first part is what is read of the whole
 pub gives_behind : (r : Result Expr Stop) (old between new : Reader) (whole part : List Token → Read Tree) → whole (left_of old) ≡ part (left_of between) → Gives r between new part → Gives r old new whole
@@ -26,20 +24,10 @@ gives_behind (Ok e) old between new whole part h g = h ∙ g
 gives_behind (Err stop.Unexpected) old between new whole part h g = h ∙ g
 gives_behind (Err stop.Memory) old between new whole part h g = tt
 
-pub gives_many_behind : (r : Result (Vec Expr Global) Stop) (old between new : Reader) (whole part : List Token → Read Trees) → whole (left_of old) ≡ part (left_of between) → GivesMany r between new part → GivesMany r old new whole
-gives_many_behind (Ok e) old between new whole part h g = h ∙ g
-gives_many_behind (Err stop.Unexpected) old between new whole part h g = h ∙ g
-gives_many_behind (Err stop.Memory) old between new whole part h g = tt
-
 pub gives_shared_behind : (r : Result (Arc Expr Global) Stop) (old between new : Reader) (whole part : List Token → Read Tree) → whole (left_of old) ≡ part (left_of between) → GivesShared r between new part → GivesShared r old new whole
 gives_shared_behind (Ok e) old between new whole part h g = h ∙ g
 gives_shared_behind (Err stop.Unexpected) old between new whole part h g = h ∙ g
 gives_shared_behind (Err stop.Memory) old between new whole part h g = tt
-
-pub gives_head_behind : (r : Result Head Stop) (old between new : Reader) (whole part : List Token → Read (Trees → Tree)) → whole (left_of old) ≡ part (left_of between) → GivesHead r between new part → GivesHead r old new whole
-gives_head_behind (Ok e) old between new whole part h g = h ∙ g
-gives_head_behind (Err stop.Unexpected) old between new whole part h g = h ∙ g
-gives_head_behind (Err stop.Memory) old between new whole part h g = tt
 
 module _ (of : signs.Sign → Option Operator) (part : List Token → Read Tree) where
   pub operand_fails : (e : Stop) {read : Read Tree} {t : Tree} {a : List Token} (b : List Token) {o : Operator}
