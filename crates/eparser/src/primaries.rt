@@ -111,14 +111,23 @@ impl<'a> Reader<'a> {
     {
         if self.at_return() {
             self.skip();
-            if !self.at_operand() {
-                return made::returned(self.alloc, Expr::Null);
-            }
-            let operand = self.expression(left)?;
-            return made::returned(self.alloc, operand);
+            return self.returned(left);
         }
         let target = self.target()?;
         let value = self.expression(left)?;
         made::given(self.alloc, target, value)
+    }
+
+    /// What stands behind `return`.
+    #[cycle(read)]
+    #[inline(never)]
+    fn returned(&mut self, left: usize) -> Result<Expr, Stop>
+        ensures { Gives result self.old self.new (reading.return_at (within_at left)) }
+    {
+        if !self.at_operand() {
+            return made::returned(self.alloc, Expr::Null);
+        }
+        let value = self.expression(left)?;
+        made::returned(self.alloc, value)
     }
 }

@@ -14,7 +14,7 @@ use Rattle.eparser.proofs.Parts.{expression_gives, expression_none, else_if_is, 
 use Rattle.eparser.specs.Heads.{head_at}
 use Rattle.eparser.specs.Levels.{level_at, level_from}
 use Rattle.eforms.specs.Forms.{snoc}
-use Rattle.egrammar.specs.Reading.{past, is_close, rest_of, control_at, commas_next, condition_at, comparison_from, else_at, expr_at, if_at, members_at, object_at, operand_next, operands_from, postfix_next, within_at}
+use Rattle.egrammar.specs.Reading.{past, is_close, rest_of, control_at, commas_next, condition_at, comparison_from, else_at, expr_at, if_at, members_at, object_at, operand_next, operands_from, postfix_next, return_at, within_at}
 use Rattle.egrammar.specs.View.{plain}
 use Rattle.kernele.specs.View.{tree_of}
 use Rattle.eparser.proofs.reader.Reader.+read.Goals as goal
@@ -240,7 +240,14 @@ expr-returns-in_err-value t c =
 
 pub expr-returns : goal.expr-returns
 expr-returns t c =
-    makes c.given.result c.args.self.now c.expression-2.new.self (expr_at (within_at c.args.left)) c.given.ensures (given_is (within_at c.args.left) c.in_ok-target.target c.args.self.now c.target.new.self (sym c.at_return.ensures ∙ c.if-at_return.false) c.in_ok-target.ensures.gives c.in_ok-value.ensures)
+    makes c.given.result c.args.self.now c.expression.new.self (expr_at (within_at c.args.left)) c.given.ensures (given_is (within_at c.args.left) c.in_ok-target.target c.args.self.now c.target.new.self (sym c.at_return.ensures ∙ c.if-at_return.false) c.in_ok-target.ensures.gives c.in_ok-value.ensures)
+
+pub returned-returns-then-not-at_operand : goal.returned-returns-then-not-at_operand
+returned-returns-then-not-at_operand t c = makes c.returned.result c.args.self.now c.args.self.now (return_at (within_at c.args.left)) c.returned.ensures (rw (sym c.at_operand.ensures ∙ c.if-not-at_operand.true))
+
+pub returned-returns : goal.returned-returns
+returned-returns t c =
+    makes c.returned-2.result c.args.self.now c.expression.new.self (return_at (within_at c.args.left)) c.returned-2.ensures (rw (sym c.at_operand.ensures ∙ c.if-not-at_operand.false, c.in_ok-value.ensures))
 
 pub control-returns-in_err-head-in_default : goal.control-returns-in_err-head-in_default
 control-returns-in_err-head-in_default t c =

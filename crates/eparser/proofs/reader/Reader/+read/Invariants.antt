@@ -11,6 +11,9 @@ use Rattle.eparser.proofs.reader.Reader.+read.Given as goal
 abbrev pub decreases-expression : goal.decreases-expression
 decreases-expression l = 64 * l.left + 0
 
+abbrev pub decreases-returned : goal.decreases-returned
+decreases-returned l = 64 * l.left + 1
+
 abbrev pub decreases-condition : goal.decreases-condition
 decreases-condition l = 64 * l.left + 1
 
