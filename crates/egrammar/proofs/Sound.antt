@@ -383,7 +383,7 @@ module _ (within : Within)
       let p = past_is (is_close bracket.Curly) sign.CloseCurly (close_is bracket.Curly) g.0 x g.2 in
       subst (λ ts. Block a ts (token.Sign sign.CloseCurly ∷ x.1)) p.1 (subst (λ r. Block a g.0.0 r) p.0 (sound_block a g.0 g.1))
 
-  pub sound_braced : (a : List Token) (x : Trees × List Token) → braced_at within a ≡ Some x → Braced a x.0 x.1
+  sound_braced : (a : List Token) (x : Trees × List Token) → braced_at within a ≡ Some x → Braced a x.0 x.1
   sound_braced a x e = elim (if_is (is_open bracket.Curly (sign_in a)) (block_past_at within (rest_of a)) None e) [
     | inl h ↦ subst (λ z. Braced z x.0 x.1) (sym (sign_front a (open_is bracket.Curly (sign_in a) h.0))) (braced (sound_block_past (rest_of a) x h.1))
     | inr h ↦ absurd (none_some h.1)

@@ -4,7 +4,7 @@ ghost use Rattle.egrammar.specs.Reading as reading;
 ghost use Rattle.egrammar.specs.Reading.{rest_of, within_at};
 ghost use Rattle.kernele.specs.View.{tree_of, trees_of};
 ghost use Rattle.eparser.specs.Heads.{head_at, caught_at};
-ghost use Rattle.eparser.specs.View.{left_of, IsNoLonger, Gives, GivesShared, GivesMany, GivesPlain, GivesHead, GoesTo, GoesPast, PutsItem};
+ghost use Rattle.eparser.specs.View.{left_of, IsNoLonger, Gives, GivesShared, GivesMany, GivesPlain, GivesHead, GoesTo, PutsItem};
 
 use crate::head::Head;
 use crate::made;

@@ -1,6 +1,6 @@
 // Expressions by how tightly their operators bind. What goes on behind an operand is read apart from the operand, so that
 // few and small frames lie on the stack below one, as in `for a in for b in ..`, which nests without brackets.
-ghost use Rattle.std.specs.Prelude.{◌≡◌, OnOk};
+ghost use Rattle.std.specs.Prelude.{OnOk};
 ghost use Rattle.kernele.specs.View.{tree_of};
 ghost use Rattle.egrammar.specs.Reading as reading;
 ghost use Rattle.egrammar.specs.Reading.{within_at};

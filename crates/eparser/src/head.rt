@@ -1,8 +1,6 @@
 // What stands before a last block, which is read behind it.
-ghost use Rattle.std.specs.Prelude.{◌≡◌};
-ghost use Rattle.kernele.specs.View.{tree_of, trees_of, methods_of};
+ghost use Rattle.kernele.specs.View.{tree_of, trees_of};
 ghost use Rattle.kernele.specs.Tree.{for_tree};
-ghost use Rattle.egrammar.specs.Grammar.{put_method};
 ghost use Rattle.eparser.specs.Heads.{whole_of, whole_method};
 ghost use Rattle.eparser.specs.View.{Makes, MakesHead, PutsMethod};
 

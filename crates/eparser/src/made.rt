@@ -1,7 +1,6 @@
 // Nodes of trees, where want of memory ends the reading. They stand apart from the recursion, since each further way out of one
 // of its functions is dear to prove.
-ghost use Rattle.std.specs.Prelude.{◌≡◌};
-ghost use Rattle.kernele.specs.Tree.{call as call_tree, list_tree, hide as hide_tree, if_tree, object_tree};
+ghost use Rattle.kernele.specs.Tree.{list_tree, hide as hide_tree, if_tree, object_tree};
 ghost use Rattle.kernele.specs.View.{tree_of, trees_of, methods_of};
 ghost use Rattle.eforms.specs.Forms.{alone, joined as joined_trees, return_tree, function_tree};
 ghost use Rattle.eparser.specs.Heads.{given_to, prefixed as prefixed_tree};
@@ -12,7 +11,6 @@ use enodes::nodes;
 use enodes::target::Target;
 use esigns::operator::{Operator, Prefix};
 use esigns::stop::Stop;
-use ids::text::Text;
 use kernele::tree::{Expr, Method, Pattern};
 use std::alloc::Global;
 use std::sync::Arc;
