@@ -31,6 +31,7 @@ use values::value::Value;
 const MAX_SLOTS: usize = 4096;
 
 /// The value of a noun: a slot gives what it holds.
+#[inline(always)]
 pub fn noun_end(w: &Working, name: &Text, place: Place) -> Result<End, AllocError>
     requires { place ≡ place_in (frame_at (at w.now)) name.now }
     ensures { IfOk result (λ o. end_of o

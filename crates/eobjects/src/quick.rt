@@ -53,6 +53,7 @@ pub fn quick_value(
 }
 
 /// Whether a condition holds that is a call on integers at hand, where there are steps for its three nodes.
+#[inline(always)]
 pub fn quick_truth(w: &Working, condition: &Code, level: u32) -> Option<bool>
     requires { fits_at (at w.now) condition.now }
     ensures steps { IfSome result (λ holds. 3 ≤ w.now.steps) }
@@ -69,6 +70,7 @@ pub fn quick_truth(w: &Working, condition: &Code, level: u32) -> Option<bool>
 }
 
 /// What an assignment sets whose right side is a call on integers at hand, where there are steps for its four nodes.
+#[inline(always)]
 pub fn quick_setting(w: &Working, item: &Code, level: u32) -> Option<Setting>
     requires { fits_at (at w.now) item.now }
     ensures steps { IfSome result (λ s. 4 ≤ w.now.steps) }
@@ -91,6 +93,7 @@ pub fn quick_setting(w: &Working, item: &Code, level: u32) -> Option<Setting>
 }
 
 /// Assigns, in four steps. Gives the integer as a value.
+#[inline(always)]
 pub fn set(w: &mut Working, setting: Setting) -> Result<Value, AllocError>
     requires { 4 ≤ w.old.steps }
     ensures value { IfOk result (λ v. val_of v ≡ int setting.integer) }
@@ -137,6 +140,7 @@ fn called(w: &Working, e: &Code) -> Option<Value>
 }
 
 /// What a call is made on and its argument, where it has one argument and both are integers at hand.
+#[inline(always)]
 fn operands(w: &Working, receiver: &Code, args: &[Code]) -> Option<(i64, i64)>
     requires { fits_at (at w.now) receiver.now × fits_all w.now.own_scope (frame_behind (at w.now) receiver.now) args.now }
     ensures { IfSome result (λ p. Operands (at w.now) (tree_of_code receiver.now) (trees_of_codes args.now) p.0 p.1) }
@@ -150,6 +154,7 @@ fn operands(w: &Working, receiver: &Code, args: &[Code]) -> Option<(i64, i64)>
 }
 
 /// The integer that a literal or a noun gives, if it gives one.
+#[inline(always)]
 fn integer_at(w: &Working, e: &Code) -> Option<i64>
     requires { fits_at (at w.now) e.now }
     ensures { IfSome result (λ n. Leaf (at w.now) (tree_of_code e.now) (int n)) }
@@ -162,6 +167,7 @@ fn integer_at(w: &Working, e: &Code) -> Option<i64>
 }
 
 /// The integer that a noun stands for, if it stands for one.
+#[inline(always)]
 fn integer_of(w: &Working, name: &Text, place: Place) -> Option<i64>
     requires { place ≡ place_in (frame_at (at w.now)) name.now }
     ensures { IfSome result (λ n. noun_end (draft_of w.now.draft) name.now (sought name.now (at w.now)) ≡ value_end (int n)) }

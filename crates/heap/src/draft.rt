@@ -92,7 +92,7 @@ impl Draft {
     }
 
     /// What a slot holds.
-    #[inline]
+    #[inline(always)]
     pub fn read_slot(&self, slot: SlotId) -> Option<&Value>
         ensures { option_map (λ v. held (val_of v.now)) result
             ≡ read (draft_of self.now) (slot_cell slot) }
@@ -121,7 +121,7 @@ impl Draft {
     }
 
     /// Lets a slot hold a value. Without memory for a new one the state stays as it was.
-    #[inline]
+    #[inline(always)]
     pub fn write_slot(&mut self, slot: SlotId, value: Value) -> Result<(), AllocError>
         ensures ok { OnOk result
             (draft_of self.new ≡ write (draft_of self.old) (slot_cell slot) (held (val_of value))) }

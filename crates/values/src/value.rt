@@ -34,6 +34,7 @@ pub enum Answer {
 
 impl Value {
     /// The same value, shared.
+    #[inline]
     pub fn share(&self) -> Result<Value, AllocError>
         ensures { IfOk result (λ v. val_of v ≡ val_of self.now) }
     {
