@@ -60,9 +60,6 @@ class Program:
     def pattern(self):
         return "_" if self.chance(0.12) else self.fresh()
 
-    def patterns(self, most):
-        return [self.pattern() for _ in range(self.random.randint(0, most))]
-
     def joined(self, items):
         separators = ["; ", "; ", "\n", " ;\n", ";;", "\n\n "]
         return "".join((self.random.choice(separators) if place else "") + item for place, item in enumerate(items))
@@ -73,10 +70,10 @@ class Program:
         self.scopes.pop()
         return f"{{ {self.joined(items if not first else [first, *items])} }}"
 
-    def bound(self, write, most=1):
-        """What is written with patterns, and a block in whose scope they are."""
+    def bound(self, write, count=1):
+        """What is written with so many patterns, and a block in whose scope they are."""
         self.scopes.append({})
-        patterns = [self.pattern() for _ in range(most)]
+        patterns = [self.pattern() for _ in range(count)]
         self.scopes.pop()
         return write(", ".join(patterns)) + " " + self.block(*(it for it in patterns if it != "_"))
 
