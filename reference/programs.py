@@ -4,7 +4,8 @@ import re
 NAMES = [*"abcdxyfgo"]
 OBJECT_VERBS = ["run", "add", "get", "with", "size", "not", "negate", "m", "up"]
 VERBS = [*OBJECT_VERBS, "subtract", "multiply", "floorDivide", "lessThan", "atMost", "moreThan", "atLeast"]
-LEAVES = ["0", "1", "2", "3", "7", "10", "9223372036854775807", "true", "false", "null", '"a"', '""', '"é\\n"', '"x\\"y"', "[]"]
+LEAVES = ["0", "1", "2", "3", "7", "10", "9223372036854775807", "true", "false", "null", '"a"', '""', '"é\\n"', '"x\\"y"',
+          "[]"]
 WORDS = """def var method to return if else while for in escape try catch when true Ref throw ( ) [ ] { } , ; . <- -> := ==
 < + - ! _ x 1 "t" & ? é / 99999999999999999999 " \\""".split() + ["\n", "#c\n"]
 TOKEN = re.compile(r'"(?:[^"\\]|\\.)*"|\w+|<-|->|:=|==|!=|<=|>=|&&|\|\||//|\s+|.', re.S)
