@@ -3,11 +3,11 @@ use Rattle.std.proofs.Common.{◌≡◌, ℕ, ◌+◌, ◌≤◌, ◌<◌, Bool,
 use Rattle.std.proofs.Math.Logic.{∥∥₁_elim, ∥∥₁_map, ∥∥₁_prop}
 use Rattle.std.specs.List.{AllByRecursion}
 use Rattle.std.proofs.lemmas.List.{map-append}
-use Rattle.history.specs.Subject.{after}
-use Rattle.history.specs.Journal.{Entry, live_set, both, named, Good, Named, Sound, NamesCauses, new_entry, causes_of}
-use Rattle.history.proofs.Lists.{all_of}
-use Rattle.history.proofs.Changes.{sound_same}
-use Rattle.history.proofs.Naming.{causes_named_reversed, causes_below_reversed, appended_named, appended}
+use Rattle.reruns.specs.Subject.{after}
+use Rattle.reruns.specs.Journal.{Entry, live_set, both, named, Good, Named, Sound, NamesCauses, new_entry, causes_of}
+use Rattle.reruns.proofs.Lists.{all_of}
+use Rattle.reruns.proofs.Changes.{sound_same}
+use Rattle.reruns.proofs.Naming.{causes_named_reversed, causes_below_reversed, appended_named, appended}
 use Rattle.ids.specs.declared.names.EventName.{EventName}
 use Rattle.ids.specs.declared.names.MsgId.{MsgId}
 use Rattle.ids.specs.declared.names.CellKey.TheVariants as key
@@ -18,7 +18,7 @@ use Rattle.heap.specs.State.{State}
 use Rattle.world.specs.World.{Vat, Message, World, empty, vat_named}
 use Rattle.world.specs.Events.{Act, birth, ask, turn, Event, Foot, Turns, Does, births, asks, turns, birth_foot, ask_foot, turn_foot, events}
 use Rattle.world.specs.Effects.{turn_of, Holds, Affects, Brings}
-use Rattle.world.specs.declared.cells.Cells.{Cells}
+use Rattle.world.specs.declared.keys.Cells.{Cells}
 use Rattle.world.specs.declared.step.Delivered.{Delivered}
 use Rattle.world.specs.declared.effects.Effects.{Effects}
 use Rattle.world.specs.declared.effects.Effects.TheVariants as effects

@@ -4,8 +4,8 @@ use Rattle.std.proofs.Math.Bool.{Bool-set}
 use Rattle.std.proofs.Math.Logic.{∥∥₁_elim}
 use Rattle.std.specs.List.{AllByRecursion}
 use Rattle.std.proofs.lemmas.List.{map-append}
-use Rattle.history.specs.Journal.{Entry, name_of as entry_name, caused, is_in, Distinct, Ordered}
-use Rattle.history.proofs.Lists.{all_both, all_mapped, all_reversed}
+use Rattle.reruns.specs.Journal.{Entry, name_of as entry_name, caused, is_in, Distinct, Ordered}
+use Rattle.reruns.proofs.Lists.{all_both, all_mapped, all_reversed}
 use Rattle.ids.specs.declared.names.EventName.{EventName}
 use Rattle.world.specs.Events.{events}
 use Rattle.journal.specs.Journal.{Line, name_of, among}

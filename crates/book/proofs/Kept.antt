@@ -4,10 +4,10 @@ use Rattle.std.proofs.Math.Logic.{∥∥₁_elim, ∥∥₁_map}
 use Rattle.std.specs.List.{list_any, list_all, AllByRecursion}
 use Rattle.std.proofs.lemmas.Bool.{or_left, or_right}
 use Rattle.std.proofs.lemmas.List.{reverse-reverse}
-use Rattle.history.specs.Journal.{Entry, live_set, without, both, named, is_in, marked, over, Good, Named, Sound, Closed as ClosedSet, Part}
-use Rattle.history.proofs.Lists.{all_of, all_map, all_reversed}
-use Rattle.history.proofs.Changes.{undone, redone, sound_same, sound_before_undo}
-use Rattle.history.proofs.Marks.{named_marked}
+use Rattle.reruns.specs.Journal.{Entry, live_set, without, both, named, is_in, marked, over, Good, Named, Sound, Closed as ClosedSet, Part}
+use Rattle.reruns.proofs.Lists.{all_of, all_map, all_reversed}
+use Rattle.reruns.proofs.Changes.{undone, redone, sound_same, sound_before_undo}
+use Rattle.reruns.proofs.Marks.{named_marked}
 use Rattle.ids.specs.declared.names.EventName.{EventName}
 use Rattle.world.specs.World.{World, empty}
 use Rattle.world.specs.Events.{events}

@@ -2,7 +2,7 @@
 use Rattle.std.proofs.Common.{◌≡◌, Bool, true, false, cond, List, [], ◌∷◌, ◌++◌, map, filter, reverse, sym, ap, ◌∙◌, subst}
 use Rattle.std.proofs.Math.Logic.{∥∥₁_elim, ∥∥₁_map, ∥∥₁_prop}
 use Rattle.std.proofs.lemmas.List.{reverse-append}
-use Rattle.history.specs.Subject.{Run, run_none, run_more, after}
+use Rattle.reruns.specs.Subject.{Run, run_none, run_more, after}
 use Rattle.world.specs.World.{World, empty}
 use Rattle.world.specs.Events.{Event, Foot, Does, events}
 use Rattle.journal.specs.Journal.{Line, live_events}

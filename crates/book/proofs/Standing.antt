@@ -2,10 +2,10 @@
 use Rattle.std.proofs.Common.{◌≡◌, ℕ, ◌==◌, Bool, ◌&&◌, ◌||◌, not, List, [], map, filter, reverse, refl, sym, ap, ◌∙◌, subst}
 use Rattle.std.proofs.Math.Logic.{∥∥₁_elim, ∥∥₁_prop}
 use Rattle.std.proofs.lemmas.List.{reverse-reverse}
-use Rattle.history.specs.Subject.{Run, meets}
-use Rattle.history.specs.Journal.{Entry, live_set, without, both, named, marked, Good, causes_of}
-use Rattle.history.proofs.Core.{runs_are_one}
-use Rattle.history.proofs.Changes.{good_run}
+use Rattle.reruns.specs.Subject.{Run, meets}
+use Rattle.reruns.specs.Journal.{Entry, live_set, without, both, named, marked, Good, causes_of}
+use Rattle.reruns.proofs.Core.{runs_are_one}
+use Rattle.reruns.proofs.Changes.{good_run}
 use Rattle.ids.specs.declared.names.EventName.{EventName}
 use Rattle.world.specs.World.{World, empty}
 use Rattle.world.specs.Events.{Event, Foot, events}

@@ -1,9 +1,9 @@
 -- The book: what has happened so far, and the headline about it.
 use Rattle.std.specs.Prelude.{◌≡◌, ◌<◌, ℕ, List, [], map, reverse}
 use Rattle.std.specs.List.{AllByRecursion}
-use Rattle.history.specs.Subject.{Run}
-use Rattle.history.specs.Subject as history
-use Rattle.history.specs.Journal.{Entry, live_set, both, named, Good, Named, Sound}
+use Rattle.reruns.specs.Subject.{Run}
+use Rattle.reruns.specs.Subject as history
+use Rattle.reruns.specs.Journal.{Entry, live_set, both, named, Good, Named, Sound}
 use Rattle.ids.specs.declared.names.EventName.{EventName}
 use Rattle.world.specs.World.{World, empty}
 use Rattle.world.specs.Events.{Event, events}

@@ -1,6 +1,6 @@
 -- What the accepted calls of a book do.
 use Rattle.std.specs.Prelude.{◌≡◌, ◌+◌, true, List, [], ◌∷◌, ◌++◌, map, None}
-use Rattle.history.specs.Subject as history
+use Rattle.reruns.specs.Subject as history
 use Rattle.ids.specs.declared.names.EventName.{EventName}
 use Rattle.ids.specs.declared.names.CellKey.{CellKey}
 use Rattle.world.specs.Events.{Event, Foot, Does, events}

@@ -241,7 +241,7 @@ impl Book {
             Err(unready) => return Err(unready_fault(message, unready)),
         };
         let event = self.next_event()?;
-        let delivered = deliver(event, message, budget, waiting, number, home)?;
+        let delivered = deliver(self.alloc, event, message, budget, waiting, number, home)?;
         let entered = Event {
             name: event,
             action: Action::Turn(message, budget),

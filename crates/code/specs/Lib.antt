@@ -3,3 +3,4 @@ pub mod Index
 pub mod Frames
 pub mod Props
 pub mod Newest
+pub mod Sameness

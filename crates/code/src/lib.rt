@@ -4,4 +4,5 @@
 
 pub mod code;
 pub mod index;
+pub mod sameness;
 pub mod theorems;

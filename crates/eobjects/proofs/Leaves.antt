@@ -1,5 +1,5 @@
 -- Leaves, calls on them, and assignments of these.
-use Rattle.std.proofs.Common.{arith, ◌≡◌, ℕ, ◌+◌, ◌-◌, ◌<◌, ◌≤◌, ℤ, List, [], ◌∷◌, length, get_or, Some, refl, sym, ap, ◌∙◌, subst}
+use Rattle.std.proofs.Common.{arith, ◌≡◌, ℕ, ◌+◌, ◌-◌, ◌<◌, ◌≤◌, ℤ, List, [], ◌∷◌, length, get_or, Option, Some, None, true, refl, sym, ap, ◌∙◌, subst}
 use Rattle.ids.specs.declared.names.SlotId.{SlotId}
 use Rattle.kernele.specs.Tree.{Name, Tree, Trees, int_tree, noun, call, assign, none, and_then}
 use Rattle.code.specs.Frames.{after, fits_all, place_in}
@@ -8,22 +8,45 @@ use Rattle.code.specs.declared.code.Code.{Code}
 use Rattle.code.specs.declared.code.Place.{Place}
 use Rattle.values.specs.Data.{Val, int, null, no_vals, and_val, gives}
 use Rattle.values.specs.Replies.{data_reply}
-use Rattle.heap.specs.State.{frame_of, slot_cell, held, write}
+use Rattle.heap.specs.State.{Bind, slot, lookup, frame_of, slot_cell, held, read}
 use Rattle.erules.specs.At.{At}
 use Rattle.erules.specs.Fits.{all_fit_at, fits_at, frame_at, frame_behind}
-use Rattle.eobjects.specs.Leaves.{Leaf, Operands, AtHand, GoesOn}
+use Rattle.eobjects.specs.Leaves.{StandsAtHand, GivesAtHand, Leaf, Operands, AtHand, GoesOn}
 use Rattle.erules.specs.Outcomes.{value, reply_end}
 use Rattle.erules.specs.Rules as rules
-use Rattle.erules.specs.Rules.{assigned, assigned_end, noun_end, sought, sought_slot, begun, Ends, at_node, Runs, run_int, run_noun, run_assign, run_call_gives, args_none, args_next}
+use Rattle.erules.specs.Rules.{reached, put, slot_in, sought_in, seeking, slot_read, noun_read, slot_put, held_end, assigned_end, noun_end, sought_slot, begun, Ends, at_node, Runs, run_int, run_noun, run_assign, run_call_gives, args_none, args_next}
+use Rattle.eobjects.proofs.Reached.{reached_already}
 use Rattle.erules.proofs.Steps.{runs_as, runs_to, items_more}
 use Rattle.erules.proofs.Fitting.{all_fit_then, placed_then}
+
+-- to seek a name and to read a noun take no step
+sought_left : (x : Name) (m : Option Bind) (n : ℕ) (a : At) → sought_in x m (record a { left = n }) ≡ record (sought_in x m a) { left = n }
+sought_left x (Some b) n a = refl
+sought_left x None n a = refl
+
+seeking_left : (x : Name) (n : ℕ) (a : At) → seeking x (record a { left = n }) ≡ record (seeking x a) { left = n }
+seeking_left x n a = sought_left x (lookup a.nouns x) n a
+
+slot_left : (i : Option SlotId) (n : ℕ) (a : At) → slot_read i (record a { left = n }) ≡ record (slot_read i a) { left = n }
+slot_left (Some i) n a = refl
+slot_left None n a = refl
+
+noun_left : (x : Name) (n : ℕ) (a : At) → noun_read x (record a { left = n }) ≡ record (noun_read x a) { left = n }
+noun_left x n a = ap (slot_read (sought_slot x a)) (seeking_left x n a) ∙ slot_left (sought_slot x a) n (seeking x a)
+
+-- a noun whose slot was touched before is at hand
+pub slot_at_hand : (x : Name) (i : SlotId) (v : Val) (a : At) → StandsAtHand x (slot i) a → a.touched (slot_cell i) ≡ true → read a.state (slot_cell i) ≡ Some (held v) → GivesAtHand x v a
+slot_at_hand x i v a h touched is = (
+  ap (noun_end a.state x) h.0 ∙ ap (held_end x) is,
+  ap (λ i. slot_read (slot_in i) (seeking x a)) h.0 ∙ ap (reached (slot_cell i)) h.1 ∙ reached_already (slot_cell i) a touched,
+)
 
 -- an integer and a noun that has a value are leaves
 pub integer_leaf : (a : At) (e : Code) (z y : ℤ) → tree_of_code e ≡ int_tree z → y ≡ z → Leaf a (tree_of_code e) (int y)
 integer_leaf a e z y is same = λ k n. subst (λ t. Runs k t (record a { left = n }) (value (int y)) (record a { left = n })) (sym is) (runs_as run_int (ap (λ x. value (int x)) same))
 
-pub noun_leaf : (a : At) (e : Code) (x : Name) (v : Val) → tree_of_code e ≡ noun x → noun_end a.state x (sought x a) ≡ value v → Leaf a (tree_of_code e) v
-noun_leaf a e x v is h = λ k n. subst (λ t. Runs k t (record a { left = n }) (value v) (record a { left = n })) (sym is) (runs_as run_noun (sym h))
+pub noun_leaf : (a : At) (e : Code) (x : Name) (v : Val) → tree_of_code e ≡ noun x → GivesAtHand x v a → Leaf a (tree_of_code e) v
+noun_leaf a e x v is h = λ k n. subst (λ t. Runs k t (record a { left = n }) (value v) (record a { left = n })) (sym is) (runs_to run_noun (sym h.0) (sym (noun_left x n a ∙ ap (λ (b : At). record b { left = n }) h.1)))
 
 -- what fits behind a leaf fits where the leaf stands
 pub leaf_fits : (a : At) (e : Code) {v : Val} (es : List Code) → Leaf a (tree_of_code e) v → fits_all a.own_scope (after a.own_scope (tree_of_code e) (frame_of a.nouns)) es → all_fit_at a es
@@ -79,10 +102,6 @@ pub code_at_hand : (a : At) (e : Code) (r s : Code) {es fs : List Code} {verb : 
 code_at_hand a e r s {fs = fs} {verb = verb} {x = x} {y = y} {v = v} is f g both m n h =
     subst (λ t. AtHand a t 3 v) (sym is) (call_at_hand a (subst (λ c. Operands a (tree_of_code c) (trees_of_codes fs) x y) f (subst (λ cs. Operands a (tree_of_code r) (trees_of_codes cs) x y) g both)) (reply_as verb m n h))
 
--- a tree that is at hand ends so
-pub hand_ends : (a : At) {t : Tree} {k steps : ℕ} {v : Val} → AtHand a t steps v → steps ≤ a.left → k < 1000 → Ends k t a (value v) (record a { left = a.left - steps })
-hand_ends a {k = k} at_hand enough deep = at_hand k a.left deep enough
-
 fourth : (n : ℕ) → n - 4 ≡ n - 1 - 3
 fourth n = omega arith
 
@@ -91,16 +110,18 @@ pub placed_at_hand : (a : At) (c d : Code) {p : Place} {v : Val} (x : Name) → 
 placed_at_hand a c d {p = p} {v = v} x same at_hand h = placed_then x (subst (λ e. AtHand a (tree_of_code e) 3 v) same at_hand 1 3 (omega arith) (omega arith)) h
 
 -- an assignment of an integer that is at hand
-pub set_at_hand : (a : At) (e c d : Code) {x : Name} {k : ℕ} {y z : ℤ} {i : SlotId} → tree_of_code e ≡ assign x (tree_of_code d) → c ≡ d → AtHand a (tree_of_code c) 3 (int z) → y ≡ z → 4 ≤ a.left → k < 999 → sought_slot x a ≡ Some i
-    → Ends k (tree_of_code e) a (value (int y)) (record a { state = write a.state (slot_cell i) (held (int y)); left = a.left - 4 })
+pub set_at_hand : (a : At) (e c d : Code) {x : Name} {k : ℕ} {y z : ℤ} {i : SlotId} → tree_of_code e ≡ assign x (tree_of_code d) → c ≡ d → AtHand a (tree_of_code c) 3 (int z) → y ≡ z → 4 ≤ a.left → k < 999 → StandsAtHand x (slot i) a
+    → Ends k (tree_of_code e) a (value (int y)) (record (put (slot_cell i) (held (int y)) a) { left = a.left - 4 })
 set_at_hand a e c d {x = x} {k = k} {y = y} {z = z} {i = i} is same at_hand f enough deep there =
     let b : At = record a { left = a.left - 1 - 3 } in
     let right : AtHand a (tree_of_code d) 3 (int y) = subst (λ z. AtHand a (tree_of_code d) 3 (int z)) (sym f) (subst (λ e. AtHand a (tree_of_code e) 3 (int z)) same at_hand) in
-    subst (λ t. Ends k t a (value (int y)) (record a { state = write a.state (slot_cell i) (held (int y)); left = a.left - 4 })) (sym is)
+    let found : sought_slot x a ≡ Some i = ap slot_in there.0 in
+    let sought : seeking x b ≡ b = seeking_left x b.left a ∙ ap (λ (z : At). record z { left = b.left }) there.1 in
+    subst (λ t. Ends k t a (value (int y)) (record (put (slot_cell i) (held (int y)) a) { left = a.left - 4 })) (sym is)
     (at_node (omega (arith, enough)) (omega (arith, deep))
     (runs_to (run_assign (right (k + 1) (a.left - 1) (omega (arith, deep)) (omega (arith, enough))))
-    (sym (ap (assigned_end x (value (int y))) there))
-    (ap (λ n. record a { state = write a.state (slot_cell i) (held (int y)); left = n }) (fourth a.left) ∙ sym (ap (λ j. assigned (value (int y)) j b) there))))
+    (sym (ap (assigned_end x (value (int y))) found))
+    (ap (λ n. record (put (slot_cell i) (held (int y)) a) { left = n }) (fourth a.left) ∙ sym (λ j. slot_put (int y) (found j) (sought j)))))
 
 -- no item is done yet
 pub none_done : {k : ℕ} (items : List Code) (a : At) → GoesOn k items 0 a a

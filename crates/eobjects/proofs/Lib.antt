@@ -1,4 +1,6 @@
 mod Methods
+mod Reached
 mod Places
 mod Leaves
 mod Drafted
+mod Ending

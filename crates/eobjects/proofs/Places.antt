@@ -1,5 +1,6 @@
 -- What a name stands for is at its place.
 use Rattle.std.proofs.Common.{◌≡◌, ℕ, ◌<◌, List, [], ◌∷◌, length, get_or, Option, Some, None, Bool, true, false, cond, refl, sym, ap, ◌∙◌, add-one, arith}
+use Rattle.std.specs.Prelude.{IfSome}
 use Rattle.std.specs.Option.{option_map}
 use Rattle.std.specs.Str.{bytes_eq}
 use Rattle.kernele.specs.Tree.{Name}
@@ -11,7 +12,10 @@ use Rattle.heap.specs.View.{bind_of}
 use Rattle.erules.specs.Locals.{local_names, locals_after, locals_of}
 use Rattle.erules.proofs.Locals.{frame_of_locals}
 use Rattle.erules.specs.declared.local.Local.{Local}
-use Rattle.erules.specs.Rules.{found, top_bind}
+use Rattle.erules.specs.At.{At}
+use Rattle.erules.specs.Rules.{found, top_bind, reached, sought_in}
+use Rattle.eobjects.specs.Leaves.{StandsAtHand}
+use Rattle.eobjects.proofs.Reached.{reached_already}
 
 abbrev position : Option ℕ → ℕ
 position (Some i) = i
@@ -78,3 +82,23 @@ top_found f None m e = ap top_bind e
 pub found_outside : {A : Type 0} (f : A → Bind) (r : Option A) (xs : List Local) (x : Name) (p : Place) (s : State) → p ≡ place_in (frame_of (locals_of xs)) x → p ≡ place.Top → option_map (λ b. bound (f b)) r ≡ read s (top x)
     → option_map f r ≡ found s x (lookup (locals_of xs) x)
 found_outside f r xs x p s h e is = top_found f r (read s (top x)) is ∙ sym (ap (found s x) (unseen [] xs x (told xs x p place.Top h e)))
+
+-- to seek a name that is in the frame touches nothing ..
+seen_inside : (xs : List Local) (x : Name) (i : ℕ) (a : At) → newest (local_names xs) x ≡ Some i → sought_in x (lookup (locals_of xs) x) a ≡ a
+seen_inside [] x i a e = absurd (cc)
+seen_inside (y ∷ ys) x i a e = ap (λ m. sought_in x m a) (seen [] (y ∷ ys) x i y e)
+
+pub sought_inside : (xs : List Local) (x : Name) (p : Place) (i : ℕ) (a : At) → p ≡ place_in (frame_of (locals_of xs)) x → p ≡ place.Frame i → a ≡ sought_in x (lookup (locals_of xs) x) a
+sought_inside xs x p i a h e = sym (seen_inside xs x i a (told xs x p (place.Frame i) h e))
+
+-- .. and of any other its top noun
+pub sought_outside : (xs : List Local) (x : Name) (p : Place) (a : At) → p ≡ place_in (frame_of (locals_of xs)) x → p ≡ place.Top → reached (top x) a ≡ sought_in x (lookup (locals_of xs) x) a
+sought_outside xs x p a h e = sym (ap (λ m. sought_in x m a) (unseen [] xs x (told xs x p place.Top h e)))
+
+-- a top noun that was touched before is at hand
+pub peeked_outside : {A : Type 0} (f : A → Bind) (r : Option A) (xs : List Local) (x : Name) (p : Place) (a : At) → p ≡ place_in (frame_of (locals_of xs)) x → p ≡ place.Top → a.nouns ≡ locals_of xs
+    → IfSome r (λ b. a.touched (top x) ≡ true) → IfSome r (λ b. read a.state (top x) ≡ Some (bound (f b))) → IfSome r (λ b. StandsAtHand x (f b) a)
+peeked_outside f (Some b) xs x p a h e ns touched holds =
+    let unknown : lookup a.nouns x ≡ None = ap (λ ns. lookup ns x) ns ∙ unseen [] xs x (told xs x p place.Top h e) in
+    (ap (found a.state x) unknown ∙ ap top_bind holds, ap (λ m. sought_in x m a) unknown ∙ reached_already (top x) a touched)
+peeked_outside f None xs x p a h e ns touched holds = tt

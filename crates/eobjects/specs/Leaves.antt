@@ -1,12 +1,21 @@
 -- What is evaluated without an end: leaves, and calls on them.
-use Rattle.std.specs.Prelude.{◌≡◌, ◌≤◌, ◌<◌, ◌-◌, ℕ, ℤ, List, drop}
-use Rattle.kernele.specs.Tree.{Tree, Trees, none, and_then}
+use Rattle.std.specs.Prelude.{◌≡◌, ◌≤◌, ◌<◌, ◌-◌, ℕ, ℤ, Some, List, drop}
+use Rattle.kernele.specs.Tree.{Name, Tree, Trees, none, and_then}
 use Rattle.code.specs.View.{trees_of_codes}
 use Rattle.code.specs.declared.code.Code.{Code}
 use Rattle.values.specs.Data.{Val, int, null}
+use Rattle.heap.specs.State.{Bind}
 use Rattle.erules.specs.At.{At}
 use Rattle.erules.specs.Outcomes.{End, value}
-use Rattle.erules.specs.Rules.{Ends, Items, Runs}
+use Rattle.erules.specs.Rules.{sought, seeking, noun_end, noun_read, Ends, Items, Runs}
+
+-- a name stands for this, and to seek it touches no cell that was not touched before
+abbrev pub StandsAtHand : Name → Bind → At → Type 0
+StandsAtHand x b a = (sought x a ≡ Some b) × (seeking x a ≡ a)
+
+-- a noun gives this value, and to read it touches no cell that was not touched before
+abbrev pub GivesAtHand : Name → Val → At → Type 0
+GivesAtHand x v a = (noun_end a.state x (sought x a) ≡ value v) × (noun_read x a ≡ a)
 
 -- a tree gives this value at every level and with any steps left, and changes nothing
 abbrev pub Leaf : At → Tree → Val → Type 0

@@ -1,7 +1,7 @@
 // Calls: what they lead to, and how a method is entered and left.
 ghost use Rattle.std.specs.Prelude.{◌≡◌, [], IfOk};
 ghost use Rattle.values.specs.View.{val_of, vals_of};
-ghost use Rattle.erules.specs.Rules.{callee_of, callee_target, target_of, inside};
+ghost use Rattle.erules.specs.Rules.{callee_of, callee_target, callee_read, target_of, called, inside};
 ghost use Rattle.erules.specs.Locals.{locals_of};
 ghost use Rattle.erules.specs.View.{at, gather_of};
 ghost use Rattle.eobjects.specs.View.{callee_view, target_view};
@@ -43,7 +43,7 @@ pub fn call_target(
 ) -> Result<Target, AllocError>
     ensures target { IfOk result (λ t. target_view t
         ≡ target_of (val_of receiver) verb.now (gather_of gathered) (at w.old)) }
-    ensures place { at w.new ≡ at w.old }
+    ensures reads { IfOk result (λ t. at w.new ≡ called (val_of receiver) (gather_of gathered) (at w.old)) }
 {
     match gathered {
         Gathered::Values(args) => value_target(w, &receiver, verb, args.as_slice()),
@@ -60,7 +60,7 @@ pub fn value_target(
 ) -> Result<Target, AllocError>
     ensures target { IfOk result (λ t. target_view t
         ≡ callee_target (callee_of (val_of receiver.now)) (val_of receiver.now) verb.now (vals_of args.now) (at w.old)) }
-    ensures place { at w.new ≡ at w.old }
+    ensures reads { IfOk result (λ t. at w.new ≡ callee_read (callee_of (val_of receiver.now)) (at w.old)) }
 {
     match called_on(receiver) {
         Callee::Object(id) => object_target(w, id, verb, args),

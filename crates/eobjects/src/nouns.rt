@@ -7,7 +7,7 @@ ghost use Rattle.code.specs.Frames.{place_in};
 ghost use Rattle.erules.specs.Fits.{frame_at};
 ghost use Rattle.heap.specs.State.{read, slot_cell};
 ghost use Rattle.erules.specs.Outcomes.{value as value_end};
-ghost use Rattle.erules.specs.Rules.{binding as binding_of, matched, matched_all, taken, parts_of, parts_bound, parts_end, sought, sought_slot, held_end, undefined_noun};
+ghost use Rattle.erules.specs.Rules.{binding as binding_of, matched, matched_all, taken, parts_of, parts_bound, parts_end, reached, seeking, noun_read, sought, sought_slot, held_end, undefined_noun};
 ghost use Rattle.erules.specs.Rules.{declared, declared_end, assigned, assigned_end};
 ghost use Rattle.erules.specs.Rules.{noun_end as noun_end_of};
 ghost use Rattle.heap.specs.View.{bind_of};
@@ -32,22 +32,30 @@ const MAX_SLOTS: usize = 4096;
 
 /// The value of a noun: a slot gives what it holds.
 #[inline(always)]
-pub fn noun_end(w: &Working, name: &Text, place: Place) -> Result<End, AllocError>
-    requires { place ≡ place_in (frame_at (at w.now)) name.now }
-    ensures { IfOk result (λ o. end_of o
-        ≡ noun_end_of (draft_of w.now.draft) name.now (sought name.now (at w.now))) }
+pub fn noun_end(w: &mut Working, name: &Text, place: Place) -> Result<End, AllocError>
+    requires { place ≡ place_in (frame_at (at w.old)) name.now }
+    ensures ends { IfOk result (λ o. end_of o
+        ≡ noun_end_of (draft_of w.old.draft) name.now (sought name.now (at w.old))) }
+    ensures reads { IfOk result (λ o. at w.new ≡ noun_read name.now (at w.old)) }
 {
+    reach_name(w, name, place)?;
     match seek(w, name, place) {
         Some(Binding::Fixed(value)) => Ok(End::Value(value.share()?)),
-        Some(Binding::Slot(slot)) => slot_end(w, *slot, name),
+        Some(Binding::Slot(slot)) => {
+            let slot = *slot;
+            slot_end(w, slot, name)
+        }
         None => undefined(w.alloc, name),
     }
 }
 
-fn slot_end(w: &Working, slot: SlotId, name: &Text) -> Result<End, AllocError>
-    ensures { IfOk result (λ o. end_of o
-        ≡ held_end name.now (read (draft_of w.now.draft) (slot_cell slot))) }
+/// What a slot gives that is read.
+fn slot_end(w: &mut Working, slot: SlotId, name: &Text) -> Result<End, AllocError>
+    ensures ends { IfOk result (λ o. end_of o
+        ≡ held_end name.now (read (draft_of w.old.draft) (slot_cell slot))) }
+    ensures reads { IfOk result (λ o. at w.new ≡ reached (slot_cell slot) (at w.old)) }
 {
+    w.draft.reach_slot(slot)?;
     match w.draft.read_slot(slot) {
         Some(value) => Ok(End::Value(value.share()?)),
         None => undefined(w.alloc, name),
@@ -63,6 +71,18 @@ pub(crate) fn undefined(alloc: Global, name: &Text) -> Result<End, AllocError>
     Ok(End::Halt(Halt::Thrown(Text::from_string(problem)?)))
 }
 
+/// Reads the top noun's cell of a name that is in no scope.
+#[inline(always)]
+pub(crate) fn reach_name(w: &mut Working, name: &Text, place: Place) -> Result<(), AllocError>
+    requires { place ≡ place_in (frame_at (at w.old)) name.now }
+    ensures { OnOk result (at w.new ≡ seeking name.now (at w.old)) }
+{
+    match place {
+        Place::Frame(_) => Ok(()),
+        Place::Top => w.draft.reach_top(name),
+    }
+}
+
 /// What a name stands for: its newest meaning in the scopes, which is at its place, else the vat's top noun.
 #[inline(always)]
 pub(crate) fn seek<'a>(w: &'a Working, name: &Text, place: Place) -> Option<&'a Binding>
@@ -76,7 +96,7 @@ pub(crate) fn seek<'a>(w: &'a Working, name: &Text, place: Place) -> Option<&'a 
 }
 
 /// The slot that a name stands for.
-pub(crate) fn seek_slot(w: &Working, name: &Text, place: Place) -> Option<SlotId>
+fn seek_slot(w: &Working, name: &Text, place: Place) -> Option<SlotId>
     requires { place ≡ place_in (frame_at (at w.now)) name.now }
     ensures { result ≡ sought_slot name.now (at w.now) }
 {
@@ -173,8 +193,9 @@ pub fn assign(w: &mut Working, name: &Text, place: Place, value: Value) -> Resul
     ensures ends { IfOk result (λ o. end_of o
         ≡ assigned_end name.now (value_end (val_of value)) (sought_slot name.now (at w.old))) }
     ensures writes { IfOk result (λ o. at w.new
-        ≡ assigned (value_end (val_of value)) (sought_slot name.now (at w.old)) (at w.old)) }
+        ≡ assigned name.now (value_end (val_of value)) (at w.old)) }
 {
+    reach_name(w, name, place)?;
     match seek_slot(w, name, place) {
         Some(slot) => {
             w.draft.write_slot(slot, value.share()?)?;

@@ -11,7 +11,7 @@ ghost use Rattle.code.specs.View.{methods_of_codes};
 ghost use Rattle.values.specs.Data.{object as object_value};
 ghost use Rattle.values.specs.View.{val_of, vals_of};
 ghost use Rattle.heap.specs.State.{object_cell, read};
-ghost use Rattle.erules.specs.Rules.{captured, all_captured, capture_of, has_object_room, placed, placed_end};
+ghost use Rattle.erules.specs.Rules.{reached, captured, all_captured, all_sought, capture_of, capturing, has_object_room, placed, placed_end};
 ghost use Rattle.erules.specs.Rules.{with_object, object_end, named, named_all, method_in};
 ghost use Rattle.erules.specs.Rules.{method_target as method_target_of, object_target as object_target_of};
 ghost use Rattle.heap.specs.View.{bind_of, nouns_of, object_of};
@@ -21,7 +21,7 @@ ghost use Rattle.erules.specs.View.{at, end_of};
 ghost use Rattle.eobjects.specs.View.{capture_view, target_view};
 
 use crate::calls::empty_frame;
-use crate::nouns::{match_pattern, seek, undefined};
+use crate::nouns::{match_pattern, reach_name, seek, undefined};
 use code::code::{Capture as CaptureCode, MethodCode};
 use code::index::{MethodIndex, share_index};
 use erules::end::{Abandon, End, Halt};
@@ -73,7 +73,8 @@ pub fn define_object(
         ≡ object_end (capture_of pattern.now (methods_of_codes methods.now.value.items) (at w.old)) (at w.old)) }
     ensures makes { IfOk result (λ o. at w.new
         ≡ with_object pattern.now (methods_of_codes methods.now.value.items)
-        (capture_of pattern.now (methods_of_codes methods.now.value.items) (at w.old)) (at w.old)) }
+        (capture_of pattern.now (methods_of_codes methods.now.value.items) (at w.old))
+        (capturing pattern.now (methods_of_codes methods.now.value.items) (at w.old))) }
 {
     let capture = capture_all(w, captures.as_slice())?;
     match capture {
@@ -83,13 +84,15 @@ pub fn define_object(
 }
 
 /// Captures names from the left, up to the first that stands for nothing. A variable is captured as its slot.
-fn capture_all(w: &Working, captures: &[CaptureCode]) -> Result<Capture, AllocError>
-    requires { all_placed (frame_at (at w.now)) captures.now }
-    ensures { IfOk result (λ c. capture_view c ≡ all_captured (captured []) (captured_names_of captures.now) (at w.now)) }
+fn capture_all(w: &mut Working, captures: &[CaptureCode]) -> Result<Capture, AllocError>
+    requires { all_placed (frame_at (at w.old)) captures.now }
+    ensures captures { IfOk result (λ c. capture_view c ≡ all_captured (captured []) (captured_names_of captures.now) (at w.old)) }
+    ensures reads { IfOk result (λ c. at w.new ≡ all_sought (captured []) (captured_names_of captures.now) (at w.old)) }
 {
     let mut nouns = Vec::new(w.alloc);
     let mut rest = captures;
     while let Some((first, others)) = rest.split_first() {
+        reach_name(w, &first.name, first.place)?;
         match seek(w, &first.name, first.place) {
             Some(binding) => add_noun(&mut nouns, &first.name, binding.share()?)?,
             None => return Ok(Capture::Missing(first.name.share()?)),
@@ -157,7 +160,7 @@ fn make(
     })
 }
 
-/// What a call on an object leads to.
+/// What a call on an object leads to, which reads the object.
 pub(crate) fn object_target(
     w: &mut Working,
     id: ObjId,
@@ -166,8 +169,9 @@ pub(crate) fn object_target(
 ) -> Result<Target, AllocError>
     ensures target { IfOk result (λ t. target_view t
         ≡ object_target_of id (read (draft_of w.old.draft) (object_cell id)) verb.now (vals_of args.now)) }
-    ensures place { at w.new ≡ at w.old }
+    ensures reads { IfOk result (λ t. at w.new ≡ reached (object_cell id) (at w.old)) }
 {
+    w.draft.reach_object(id)?;
     let frame = empty_frame(w);
     match w.draft.object(id) {
         Some(object) => method_target(w.alloc, frame, id, object, verb, args),

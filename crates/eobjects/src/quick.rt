@@ -1,19 +1,19 @@
 // What integers at hand, in literals and nouns, make possible without an end: they share, make and leave nothing.
+// A noun is at hand where the cells that it stands in were touched before: then nothing more is touched.
 ghost use Rattle.std.specs.Prelude.{◌≡◌, ◌≤◌, ◌-◌, IfOk, IfSome, drop, length};
 ghost use Rattle.kernele.specs.Tree.{call};
 ghost use Rattle.code.specs.View.{tree_of_code, trees_of_codes};
 ghost use Rattle.code.specs.Frames.{fits_all, place_in};
 ghost use Rattle.values.specs.Data.{bool, int};
 ghost use Rattle.values.specs.View.{val_of};
-ghost use Rattle.heap.specs.Drafts.{draft_of};
-ghost use Rattle.heap.specs.State.{held, slot_cell, write};
+ghost use Rattle.heap.specs.State.{held, slot, slot_cell};
+ghost use Rattle.heap.specs.View.{bind_of};
 ghost use Rattle.erules.specs.Fits.{all_fit_at, fits_at, frame_at, frame_behind};
-ghost use Rattle.eobjects.specs.Leaves.{AtHand, GoesOn, Leaf, Operands};
+ghost use Rattle.eobjects.specs.Leaves.{AtHand, GivesAtHand, GoesOn, Leaf, Operands, StandsAtHand};
 ghost use Rattle.erules.specs.Outcomes.{value as value_end};
-ghost use Rattle.erules.specs.Rules.{Ends, Runs, noun_end, sought};
+ghost use Rattle.erules.specs.Rules.{Ends, Runs, put};
 ghost use Rattle.erules.specs.View.{at};
 
-use crate::nouns::{seek, seek_slot};
 use code::code::{Code, Place};
 use erules::working::{DEEPEST, Working};
 use heap::state::Binding;
@@ -75,7 +75,7 @@ pub fn quick_setting(w: &Working, item: &Code, level: u32) -> Option<Setting>
     requires { fits_at (at w.now) item.now }
     ensures steps { IfSome result (λ s. 4 ≤ w.now.steps) }
     ensures ends { IfSome result (λ s. Ends level (tree_of_code item.now) (at w.now) (value_end (int s.integer))
-        (record (at w.now) { state = write (draft_of w.now.draft) (slot_cell s.slot) (held (int s.integer)); left = w.now.steps - 4 })) }
+        (record (put (slot_cell s.slot) (held (int s.integer)) (at w.now)) { left = w.now.steps - 4 })) }
 {
     match item {
         Code::Assign(name, place, right) => {
@@ -85,7 +85,7 @@ pub fn quick_setting(w: &Working, item: &Code, level: u32) -> Option<Setting>
             let Some(Value::Int(integer)) = called(w, right) else {
                 return None;
             };
-            let slot = seek_slot(w, name, *place)?;
+            let slot = slot_of(w, name, *place)?;
             Some(Setting { slot, integer })
         }
         _ => None,
@@ -98,7 +98,7 @@ pub fn set(w: &mut Working, setting: Setting) -> Result<Value, AllocError>
     requires { 4 ≤ w.old.steps }
     ensures value { IfOk result (λ v. val_of v ≡ int setting.integer) }
     ensures place { IfOk result (λ v. at w.new
-        ≡ record (at w.old) { state = write (draft_of w.old.draft) (slot_cell setting.slot) (held (int setting.integer)); left = w.old.steps - 4 }) }
+        ≡ record (put (slot_cell setting.slot) (held (int setting.integer)) (at w.old)) { left = w.old.steps - 4 }) }
 {
     w.draft
         .write_slot(setting.slot, Value::Int(setting.integer))?;
@@ -166,15 +166,39 @@ fn integer_at(w: &Working, e: &Code) -> Option<i64>
     }
 }
 
-/// The integer that a noun stands for, if it stands for one.
+/// What a name stands for, if that is in a scope or its top noun was touched before.
+#[inline(always)]
+fn peek<'a>(w: &'a Working, name: &Text, place: Place) -> Option<&'a Binding>
+    requires { place ≡ place_in (frame_at (at w.now)) name.now }
+    ensures { IfSome result (λ b. StandsAtHand name.now (bind_of b.now) (at w.now)) }
+{
+    match place {
+        Place::Frame(i) => Some(&w.nouns[i].binding),
+        Place::Top => w.draft.peek_top(name),
+    }
+}
+
+/// The slot that a name stands for, if it is found so.
+#[inline(always)]
+fn slot_of(w: &Working, name: &Text, place: Place) -> Option<SlotId>
+    requires { place ≡ place_in (frame_at (at w.now)) name.now }
+    ensures { IfSome result (λ i. StandsAtHand name.now (slot i) (at w.now)) }
+{
+    match peek(w, name, place) {
+        Some(Binding::Slot(slot)) => Some(*slot),
+        _ => None,
+    }
+}
+
+/// The integer that a noun stands for, if it stands for one and is found so.
 #[inline(always)]
 fn integer_of(w: &Working, name: &Text, place: Place) -> Option<i64>
     requires { place ≡ place_in (frame_at (at w.now)) name.now }
-    ensures { IfSome result (λ n. noun_end (draft_of w.now.draft) name.now (sought name.now (at w.now)) ≡ value_end (int n)) }
+    ensures { IfSome result (λ n. GivesAtHand name.now (int n) (at w.now)) }
 {
-    match seek(w, name, place) {
+    match peek(w, name, place) {
         Some(Binding::Fixed(Value::Int(n))) => Some(*n),
-        Some(Binding::Slot(slot)) => match w.draft.read_slot(*slot) {
+        Some(Binding::Slot(slot)) => match w.draft.peek_slot(*slot) {
             Some(Value::Int(n)) => Some(*n),
             _ => None,
         },

@@ -3,6 +3,7 @@ use Rattle.std.proofs.Common.{◌≡◌, ℕ, List, [], ◌∷◌, ◌++◌, Boo
 use Rattle.std.proofs.lemmas.List.{map-append}
 use Rattle.ids.specs.declared.names.SlotId.{SlotId}
 use Rattle.kernele.specs.Tree.{Name, Tree, Trees, Methods}
+use Rattle.scopes.specs.Free.{captures}
 use Rattle.scopes.specs.Scope.{defined_name, variable_name, name_of, names_of_all, own_names, own_names_in}
 use Rattle.scopes.specs.declared.naming.TopName.{TopName}
 use Rattle.kernele.specs.declared.tree.Pattern.{Pattern}
@@ -13,6 +14,8 @@ use Rattle.values.specs.Replies.{items_in, list_reply, text_in}
 use Rattle.heap.specs.State.{Bind, fixed, slot, Object, frame_of}
 use Rattle.erules.specs.At.{At}
 use Rattle.erules.specs.Outcomes.{End, value, halt, Gather, values, halted, reply_end}
+use Rattle.erules.specs.Rules.{seeking, noun_read, slot_put, capturing, called}
+use Rattle.erules.proofs.Seeking.{Reads, seeking_reads, noun_reads, captures_read, called_reads}
 use Rattle.erules.specs.Rules.{begun, Listing, listed, unlisted, listing_by, listing_of, taken, parts_of, parts_bound, parts_end, mismatch, as_many, again, bound_in, matched, matched_all, next_slot, has_room, slot_made, variable_made, variable_end, assigned, assigned_end, Capture, captured, missing, capture_of, next_object, has_object_room, object_made, placed, placed_end, with_object, object_end, leaving, escaped, sought_slot}
 use Rattle.erules.specs.Rules.{Target, gives, enters, callee_of, callee_target, target_of, list_end, same_end, Choice, goes, ends, bool_in, choice_by, choice_of, thrown_by, thrown_end, next_ejector, escape_end}
 use Rattle.erules.specs.Rules.{Ends, at_budget, at_depth, at_node, Runs, run_null, run_bool, run_int, run_text, run_noun, run_define, run_variable, run_assign, run_call_receiver, run_call_gives, run_call_enters, run_list, run_same_left, run_same, run_define_list, run_hide, run_throw, run_if_goes, run_if_ends, run_while_again, run_while_halts, run_while_done, run_while_ends, run_for, run_for_ends, run_try, run_try_caught, run_object, run_escape, Args, args_none, args_next, args_halt, Block, in_block, Taking, in_taking, Each, each_none, each_next, each_halt}
@@ -69,6 +72,11 @@ adds_both ts us a b c h g = (
 -- what comes behind adds nothing
 adds_on : (ts : List TopName) (a b c : At) → Adds ts a b → c.nouns ≡ b.nouns → c.own_scope ≡ b.own_scope → Adds ts a c
 adds_on ts a b c h n o = (ap frame_of n ∙ h.0, o ∙ h.1)
+
+-- the same behind any end
+end_on : (o : End) (ts : List TopName) (a b c : At) → EndAdds o ts a b → c.nouns ≡ b.nouns → c.own_scope ≡ b.own_scope → EndAdds o ts a c
+end_on (value v) ts a b c h n own = adds_on ts a b c h n own
+end_on (halt s) ts a b c h n own = tt
 
 -- any end, where the names are there in any case
 end_adds : (o : End) (ts : List TopName) (a b : At) → Adds ts a b → EndAdds o ts a b
@@ -128,17 +136,22 @@ made_adds : (room : Bool) (x : Name) (v : Val) (a : At) → EndAdds (variable_en
 made_adds true x v a = bound_adds a.own_scope (variable_name x) (slot (next_slot a)) (slot_made v a) refl
 made_adds false x v a = tt
 
-placed_adds : (room : Bool) (p : Pattern) (o : Object) (a : At) → EndAdds (placed_end room a) (name_of p) a (placed room p o a)
-placed_adds true p o a = matched_adds p (object (next_object a)) (object_made o a)
-placed_adds false p o a = tt
+placed_adds : (room : Bool) (p : Pattern) (o : Object) (a b : At) → b.nouns ≡ a.nouns → b.own_scope ≡ a.own_scope → EndAdds (placed_end room a) (name_of p) a (placed room p o b)
+placed_adds true p o a b n own = begun_adds (value (object (next_object a))) (name_of p) a b (matched p (object (next_object b)) (object_made o b)) n own (matched_adds p (object (next_object b)) (object_made o b))
+placed_adds false p o a b n own = tt
 
-object_adds : (p : Pattern) (ms : Methods) (c : Capture) (a : At) → EndAdds (object_end c a) (name_of p) a (with_object p ms c a)
-object_adds p ms (captured ns) a = placed_adds (has_object_room a) p (record { own = p; captured = ns; methods = ms }) a
-object_adds p ms (missing x) a = tt
+object_adds : (p : Pattern) (ms : Methods) (c : Capture) (a b : At) → Reads a b → EndAdds (object_end c a) (name_of p) a (with_object p ms c b)
+object_adds p ms (captured ns) a b e =
+    let o : Object = record { own = p; captured = ns; methods = ms } in
+    subst (λ z. EndAdds (placed_end (has_object_room a) a) (name_of p) a (placed (has_object_room z) p o z)) (sym e) (placed_adds (has_object_room a) p o a (record a { touched = b.touched }) refl refl)
+object_adds p ms (missing x) a b e = tt
 
-assigned_adds : (x : Name) (v : Val) (i : Option SlotId) (ts : List TopName) (a b : At) → Adds ts a b → EndAdds (assigned_end x (value v) i) ts a (assigned (value v) i b)
-assigned_adds x v (Some i) ts a b h = h
-assigned_adds x v None ts a b h = tt
+slot_adds : (x : Name) (v : Val) (i : Option SlotId) (ts : List TopName) (a b : At) → Adds ts a b → EndAdds (assigned_end x (value v) i) ts a (slot_put v i b)
+slot_adds x v (Some i) ts a b h = h
+slot_adds x v None ts a b h = tt
+
+assigned_adds : (x : Name) (v : Val) (ts : List TopName) (a b : At) → Adds ts a b → EndAdds (assigned_end x (value v) (sought_slot x b)) ts a (assigned x (value v) b)
+assigned_adds x v ts a b h = slot_adds x v (sought_slot x b) ts a (seeking x b) (adds_on ts a b (seeking x b) h (ap (λ c. c.nouns) (seeking_reads x b)) (ap (λ c. c.own_scope) (seeking_reads x b)))
 
 target_adds : (t : Target) (ts : List TopName) (a b : At) → Adds ts a b → TargetAdds t ts a b
 target_adds (gives o) ts a b h = end_adds o ts a b h
@@ -200,17 +213,18 @@ mutual
   runs_add {a = a} {o = o} run_bool = stays o a a refl refl
   runs_add {a = a} {o = o} run_int = stays o a a refl refl
   runs_add {a = a} {o = o} run_text = stays o a a refl refl
-  runs_add {a = a} {o = o} run_noun = stays o a a refl refl
+  runs_add {o = o} (run_noun {x = x} {a = a}) = stays o a (noun_read x a) (ap (λ b. b.nouns) (noun_reads x a)) (ap (λ b. b.own_scope) (noun_reads x a))
   runs_add (run_define {p = p} {e = e} {a = a} {b = b} {o = value v} r) = adds_both (own_names e) (name_of p) a b (matched p v b) (ends_add r) (matched_adds p v b)
   runs_add (run_define {o = halt h} r) = tt
   runs_add (run_variable {x = x} {e = e} {a = a} {b = b} {o = value v} r) =
       then_adds (variable_end (has_room b) v) (own_names e) (variable_name x ∷ []) a b (variable_made (has_room b) x v b) (ends_add r) (made_adds (has_room b) x v b)
   runs_add (run_variable {o = halt h} r) = tt
-  runs_add (run_assign {x = x} {e = e} {a = a} {b = b} {o = value v} r) = assigned_adds x v (sought_slot x b) (own_names e) a b (ends_add r)
+  runs_add (run_assign {x = x} {e = e} {a = a} {b = b} {o = value v} r) = assigned_adds x v (own_names e) a b (ends_add r)
   runs_add (run_assign {o = halt h} r) = tt
   runs_add (run_call_receiver r) = tt
-  runs_add (run_call_gives {r = r} {verb = verb} {args = ts} {a = a} {b = b} {c = c} {v = v} {g = g} p u e) =
-      subst (λ t. TargetAdds t (own_names r ++ own_names_in ts) a c) e (call_adds v verb g (own_names r) (own_names_in ts) a b c (ends_add p) (args_add u))
+  runs_add (run_call_gives {r = r} {verb = verb} {args = ts} {a = a} {b = b} {c = c} {v = v} {g = g} {o = o} p u e) =
+      let h : EndAdds o (own_names r ++ own_names_in ts) a c = subst (λ t. TargetAdds t (own_names r ++ own_names_in ts) a c) e (call_adds v verb g (own_names r) (own_names_in ts) a b c (ends_add p) (args_add u)) in
+      end_on o (own_names r ++ own_names_in ts) a c (called v g c) h (ap (λ b. b.nouns) (called_reads v g c)) (ap (λ b. b.own_scope) (called_reads v g c))
   runs_add (run_call_enters {r = r} {verb = verb} {args = ts} {a = a} {b = b} {c = c} {d = d} {v = v} {g = g} {o = o} p u e q) =
       end_adds o (own_names r ++ own_names_in ts) a (leaving c d) (subst (λ t. TargetAdds t (own_names r ++ own_names_in ts) a c) e (call_adds v verb g (own_names r) (own_names_in ts) a b c (ends_add p) (args_add u)))
   runs_add (run_list {ts = ts} {a = a} {b = b} {g = g} u) = list_adds g (own_names_in ts) a b (args_add u)
@@ -235,7 +249,7 @@ mutual
   runs_add (run_for_ends {e = e} {a = a} {b = b} {o = o} r f) = subst (λ l. ListingAdds l (own_names e) a b) f (listing_adds o (own_names e) a b (ends_add r))
   runs_add {a = a} {b = b} {o = o} (run_try q e) = stays o a b (block_stays q).0 (block_stays q).1
   runs_add (run_try_caught {a = a} {d = d} {q = o} q e w) = stays o a d ((taking_stays w).0 ∙ (block_stays q).0) ((taking_stays w).1 ∙ (block_stays q).1)
-  runs_add (run_object {p = p} {ms = ms} {a = a}) = object_adds p ms (capture_of p ms a) a
+  runs_add (run_object {p = p} {ms = ms} {a = a}) = object_adds p ms (capture_of p ms a) a (capturing p ms a) (captures_read (captured []) (captures p ms) a)
   runs_add (run_escape {a = a} {b = b} {o = o} q) = stays (escape_end (next_ejector a) o) a (escaped a b) (taking_stays q).0 (taking_stays q).1
 
   pub args_add : {k : ℕ} {ts : Trees} {a b : At} {g : Gather} → Args k ts a g b → GatherAdds g (own_names_in ts) a b

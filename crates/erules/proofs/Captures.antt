@@ -1,5 +1,5 @@
 -- On what objects capture, and on the names that a method begins with.
-use Rattle.std.proofs.Common.{◌≡◌, ℕ, ◌+◌, ◌<◌, ◌≤◌, List, [], ◌∷◌, ◌++◌, length, drop, get_or, Option, Some, None, true, false, ◌&&◌, cond, refl, sym, ap, ◌∙◌, subst, suc, add-one, append_assoc, append-nil}
+use Rattle.std.proofs.Common.{arith, Bool, ◌≡◌, ℕ, ◌+◌, ◌<◌, ◌≤◌, List, [], ◌∷◌, ◌++◌, length, drop, get_or, Option, Some, None, true, false, ◌&&◌, cond, refl, sym, ap, ◌∙◌, subst, suc, add-one, append_assoc, append-nil}
 use Rattle.std.specs.Prelude.{Result, IfOk}
 use Rattle.std.proofs.Math.Seq.{drop-cons}
 use Rattle.std.proofs.lemmas.List.{drop_all}
@@ -13,37 +13,27 @@ use Rattle.ids.specs.declared.names.ObjId.{ObjId}
 use Rattle.values.specs.Data.{Vals, object}
 use Rattle.values.specs.View.{val_of, vals_of}
 use Rattle.values.specs.declared.value.Value.{Value}
-use Rattle.heap.specs.State.{Bind, Nouns, Object, frame_of}
+use Rattle.heap.specs.State.{Bind, Nouns, Object, Cells, frame_of}
 use Rattle.erules.specs.At.{At}
 use Rattle.heap.specs.View.{bind_of, nouns_after}
 use Rattle.heap.specs.declared.state.Noun.{Noun}
 use Rattle.erules.proofs.Patterns.{as_many-true, as_many-false}
-use Rattle.erules.specs.Rules.{sought, Capture, captured, missing, and_captured, all_captured, capture_of, named, named_all, method_in, as_many, next_object, has_object_room, object_made, placed, with_object, matched, given}
+use Rattle.erules.specs.Rules.{sought, seeking, Capture, captured, missing, and_captured, all_captured, all_sought, named, named_all, method_in, as_many, next_object, has_object_room, object_made, placed, with_object, matched, given}
+use Rattle.erules.specs.Outcomes.{End}
+use Rattle.erules.specs.Rules.{capturing, placed_end, object_end}
 use Rattle.erules.proofs.Scopes.{room}
+use Rattle.erules.proofs.Seeking.{captures_read}
+use Rattle.code.specs.Frames.{captured_names_of}
+use Rattle.code.specs.declared.code.Capture.{Capture as CaptureCode}
 
 -- behind a name that stands for nothing, nothing is captured
-pub missing_stays : (y : Name) (xs : List Name) (a : At) → all_captured (missing y) xs a ≡ missing y
+missing_stays : (y : Name) (xs : List Name) (a : At) → all_captured (missing y) xs a ≡ missing y
 missing_stays y [] a = refl
-missing_stays y (x ∷ xs) a = missing_stays y xs a
+missing_stays y (x ∷ xs) a = refl
 
--- one more name is captured
-pub captured_more : (ns : Nouns) (xs : List Name) (i : ℕ) (x : Name) (b : Bind) (a : At) → i < length xs → x ≡ get_or xs i x → sought x a ≡ Some b
-    → all_captured (captured ns) (drop i xs) a ≡ all_captured (captured ((x, b) ∷ ns)) (drop (i + 1) xs) a
-captured_more ns xs i x b a h e f =
-    rw add-one (ap (λ ys. all_captured (captured ns) ys a) (drop-cons xs i x h ∙ ap (λ y. y ∷ drop (suc i) xs) (sym e))
-    ∙ ap (λ m. all_captured (and_captured (captured ns) x m) (drop (suc i) xs) a) f)
-
--- a name stands for nothing
-pub captured_not : (ns : Nouns) (xs : List Name) (i : ℕ) (x : Name) (a : At) → i < length xs → x ≡ get_or xs i x → sought x a ≡ None
-    → all_captured (captured ns) (drop i xs) a ≡ missing x
-captured_not ns xs i x a h e f =
-    ap (λ ys. all_captured (captured ns) ys a) (drop-cons xs i x h ∙ ap (λ y. y ∷ drop (suc i) xs) (sym e))
-    ∙ ap (λ m. all_captured (and_captured (captured ns) x m) (drop (suc i) xs) a) f
-    ∙ missing_stays x (drop (suc i) xs) a
-
--- no name is left
-pub captured_end : (c : Capture) (xs : List Name) (i : ℕ) (a : At) → length xs ≤ i → all_captured c (drop i xs) a ≡ c
-captured_end c xs i a h = ap (λ ys. all_captured c ys a) (drop_all i xs h)
+missing_seeks : (y : Name) (xs : List Name) (a : At) → all_sought (missing y) xs a ≡ a
+missing_seeks y [] a = refl
+missing_seeks y (x ∷ xs) a = refl
 
 -- one more pattern takes its value
 pub named_more : (ps : List Pattern) (vs : List Value) (i : ℕ) (p : Pattern) (v : Value) (ns : Nouns) → i < length ps → i < length vs → p ≡ get_or ps i p → v ≡ get_or vs i v
@@ -83,24 +73,22 @@ method_other rest others m verb vs e p q =
     sym (ap (λ ms. method_in (methods_of_codes ms) verb (vals_of vs)) e
     ∙ (λ i. cond (p i && as_many-false m.parameters.value.items vs q i) (Some (m.parameters.value.items, trees_of_codes m.body.value.items)) (method_in (methods_of_codes others) verb (vals_of vs))))
 
--- what is captured of the names that were found free
-pub captures_all : (p : Pattern) {xs ys : List Name} {ss ts : List MethodCode} (a : At) → xs ≡ ys → ys ≡ captures p (methods_of_codes ss) → ss ≡ ts → all_captured (captured []) xs a ≡ capture_of p (methods_of_codes ts) a
-captures_all p a e f g = ap (λ zs. all_captured (captured []) zs a) (e ∙ f ∙ ap (λ ms. captures p (methods_of_codes ms)) g)
+-- what is made of what is captured, where names were sought for it
+pub object_by : {X E : Type 0} (r : Result X E) (p : Pattern) (ms : Methods) (c d : Capture) (a b z : At) → c ≡ d → a ≡ b → IfOk r (λ x. z ≡ with_object p ms c a) → IfOk r (λ x. z ≡ with_object p ms d b)
+object_by r p ms c d a b z q e h = subst (λ m. IfOk r (λ x. z ≡ with_object p ms m b)) q (subst (λ y. IfOk r (λ x. z ≡ with_object p ms c y)) e h)
 
--- what is made of what is captured
-pub object_by : {X E : Type 0} (r : Result X E) (p : Pattern) (ms : Methods) (c d : Capture) (a z : At) → c ≡ d → IfOk r (λ x. z ≡ with_object p ms c a) → IfOk r (λ x. z ≡ with_object p ms d a)
-object_by r p ms c d a z q h = subst (λ m. IfOk r (λ x. z ≡ with_object p ms m a)) q h
+placed_ends : (room : Bool) (a : At) (q : Cells) → placed_end room (record a { touched = q }) ≡ placed_end room a
+placed_ends true a q = refl
+placed_ends false a q = refl
+
+-- and it ends so
+pub object_ends : {X E : Type 0} (r : Result X E) (f : X → End) (p : Pattern) (ms : Methods) (ns : Nouns) (d : Capture) (a b : At) → captured ns ≡ d → b ≡ capturing p ms a → IfOk r (λ x. f x ≡ placed_end (has_object_room b) b) → IfOk r (λ x. f x ≡ object_end d a)
+object_ends r f p ms ns d a b q e h =
+    let reads : b ≡ record a { touched = (capturing p ms a).touched } = e ∙ captures_read (captured []) (captures p ms) a in
+    subst (λ m. IfOk r (λ x. f x ≡ object_end m a)) q
+    (subst (λ o. IfOk r (λ x. f x ≡ o)) (ap (λ (z : At). placed_end (has_object_room z) z) reads ∙ placed_ends (has_object_room a) a (capturing p ms a).touched) h)
 
 -- ---- the loops
-
-pub capture_step : (ns ms : Nouns) (xs : List Name) (i : ℕ) (x : Name) (b c : Bind) (a : At) (all : Capture) → i < length xs → x ≡ get_or xs i x → Some b ≡ sought x a → c ≡ b → ms ≡ ((x, c) ∷ ns)
-    → all_captured (captured ns) (drop i xs) a ≡ all → all_captured (captured ms) (drop (i + 1) xs) a ≡ all
-capture_step ns ms xs i x b c a all h e f g m p =
-    ap (λ ks. all_captured (captured ks) (drop (i + 1) xs) a) (m ∙ ap (λ d. (x, d) ∷ ns) g)
-    ∙ sym (captured_more ns xs i x b a h e (sym f)) ∙ p
-
-pub capture_stops : (ns : Nouns) (xs : List Name) (i : ℕ) (x y : Name) (a : At) (all : Capture) → i < length xs → x ≡ get_or xs i x → None ≡ sought x a → y ≡ x → all_captured (captured ns) (drop i xs) a ≡ all → missing y ≡ all
-capture_stops ns xs i x y a all h e f g p = ap missing g ∙ sym (captured_not ns xs i x a h e (sym f)) ∙ p
 
 pub copy_step : (ns ms : Nouns) (xs : List Noun) (i : ℕ) (n : Noun) (c : Bind) (all : Nouns) → i < length xs → n ≡ get_or xs i n → c ≡ bind_of n.binding → ms ≡ ((n.name, c) ∷ ns)
     → nouns_after ns (drop i xs) ≡ all → nouns_after ms (drop (i + 1) xs) ≡ all
@@ -117,14 +105,28 @@ given_none [] h g = absurd (h refl)
 given_none (v ∷ []) h g = absurd (g refl)
 given_none (v ∷ w ∷ vs) h g = refl
 
+-- what a capture comes to, and where it stands then
+pub record Captures (c : Capture) (xs : List Name) (a : At) (all : Capture) (z : At) : Type 0 where
+  pub names : all_captured c xs a ≡ all
+  pub place : all_sought c xs a ≡ z
+
 -- the next name stands for nothing
-pub capture_ends : (ns : Nouns) (x y : Name) (xs : List Name) (a : At) (all : Capture) → None ≡ sought x a → y ≡ x → all_captured (captured ns) (x ∷ xs) a ≡ all → missing y ≡ all
-capture_ends ns x y xs a all n e h = ap missing e ∙ sym (missing_stays x xs a) ∙ ap (λ m. all_captured (and_captured (captured ns) x m) xs a) n ∙ h
+pub capture_ends : (ns : Nouns) (x y : Name) (xs : List Name) (a b : At) (all : Capture) (z : At) → None ≡ sought x a → y ≡ x → b ≡ seeking x a → Captures (captured ns) (x ∷ xs) a all z → (missing y ≡ all) × (b ≡ z)
+capture_ends ns x y xs a b all z n e g h = (
+  ap missing e ∙ sym (missing_stays x xs (seeking x a)) ∙ ap (λ m. all_captured (and_captured (captured ns) x m) xs (seeking x a)) n ∙ h.names,
+  g ∙ sym (missing_seeks x xs (seeking x a)) ∙ ap (λ m. all_sought (and_captured (captured ns) x m) xs (seeking x a)) n ∙ h.place,
+)
 
 -- the next name stands for something
-pub capture_goes : (ns ms : Nouns) (x : Name) (b d : Bind) (xs : List Name) (a : At) (all : Capture) → Some b ≡ sought x a → d ≡ b → ms ≡ (x, d) ∷ ns → all_captured (captured ns) (x ∷ xs) a ≡ all → all_captured (captured ms) xs a ≡ all
-capture_goes ns ms x b d xs a all s e m h =
-    ap (λ ns. all_captured (captured ns) xs a) (m ∙ ap (λ b. (x, b) ∷ ns) e) ∙ ap (λ m. all_captured (and_captured (captured ns) x m) xs a) s ∙ h
+pub capture_goes : (ns ms : Nouns) (x : Name) (m d : Bind) (xs : List Name) (a b : At) (all : Capture) (z : At) → Some m ≡ sought x a → d ≡ m → ms ≡ (x, d) ∷ ns → b ≡ seeking x a → Captures (captured ns) (x ∷ xs) a all z → Captures (captured ms) xs b all z
+capture_goes ns ms x m d xs a b all z s e f g h =
+    let c : captured ms ≡ and_captured (captured ns) x (sought x a) = ap captured (f ∙ ap (λ b. (x, b) ∷ ns) e) ∙ ap (and_captured (captured ns) x) s in
+    record { names = (λ i. all_captured (c i) xs (g i)) ∙ h.names; place = (λ i. all_sought (c i) xs (g i)) ∙ h.place }
+
+-- no name is left
+pub capture_done : (ns : Nouns) (all : Capture) (cs : List CaptureCode) (a : At) {z : At} → length cs ≡ 0 → Captures (captured ns) (captured_names_of cs) a all z → (captured ns ≡ all) × (a ≡ z)
+capture_done ns all [] a e h = (h.names, h.place)
+capture_done ns all (x ∷ xs) a e h = absurd (omega (arith, e))
 
 not_missing : (ms : Nouns) (x : Name) → captured ms ≡ missing x → ⊥
 not_missing ms x e = cc
@@ -141,4 +143,4 @@ captured_more_frame ns ms x xs a None more h = absurd (not_missing ms x (h ∙ m
 -- what is captured has the names that are wanted
 pub captured_frame : (ns ms : Nouns) (xs : List Name) (a : At) → captured ms ≡ all_captured (captured ns) xs a → frame_of ms ≡ frame_of ns ++ xs
 captured_frame ns ms [] a h = ap (λ c. frame_of (nouns_in ns c)) h ∙ sym (append-nil (frame_of ns))
-captured_frame ns ms (x ∷ xs) a h = captured_more_frame ns ms x xs a (sought x a) (λ b. captured_frame ((x, b) ∷ ns) ms xs a) h
+captured_frame ns ms (x ∷ xs) a h = captured_more_frame ns ms x xs (seeking x a) (sought x a) (λ b. captured_frame ((x, b) ∷ ns) ms xs (seeking x a)) h

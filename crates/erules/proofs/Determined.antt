@@ -6,7 +6,7 @@ use Rattle.values.specs.Data.{Val, null, text, Vals, no_vals}
 use Rattle.heap.specs.State.{Nouns}
 use Rattle.erules.specs.At.{At}
 use Rattle.erules.specs.Outcomes.{Halt, End, value, halt, Gather, values, halted}
-use Rattle.erules.specs.Rules.{Listing, listed, unlisted, listing_of, parts_of, parts_bound, parts_end, Choice, goes, ends, choice_of, chosen, thrown_end, caught, leaving, again, sought_slot, defined, declared, declared_end, assigned, assigned_end, Target, gives, enters, target_of, inside, next_ejector, escaped, escape_end, list_end, same_end, gather_first, Ends, at_budget, at_depth, at_node, Runs, run_null, run_bool, run_int, run_text, run_noun, run_define, run_variable, run_assign, run_call_receiver, run_call_gives, run_call_enters, run_list, run_same_left, run_same, run_define_list, run_hide, run_throw, run_if_goes, run_if_ends, run_while_again, run_while_halts, run_while_done, run_while_ends, run_for, run_for_ends, run_try, run_try_caught, run_object, run_escape, Args, args_none, args_next, args_halt, Items, items_none, items_next, items_halt, Block, in_block, Taking, in_taking, Each, each_none, each_next, each_halt}
+use Rattle.erules.specs.Rules.{Listing, listed, unlisted, listing_of, parts_of, parts_bound, parts_end, Choice, goes, ends, choice_of, chosen, thrown_end, caught, leaving, again, sought_slot, defined, declared, declared_end, assigned, assigned_end, Target, gives, enters, target_of, called, inside, next_ejector, escaped, escape_end, list_end, same_end, gather_first, Ends, at_budget, at_depth, at_node, Runs, run_null, run_bool, run_int, run_text, run_noun, run_define, run_variable, run_assign, run_call_receiver, run_call_gives, run_call_enters, run_list, run_same_left, run_same, run_define_list, run_hide, run_throw, run_if_goes, run_if_ends, run_while_again, run_while_halts, run_while_done, run_while_ends, run_for, run_for_ends, run_try, run_try_caught, run_object, run_escape, Args, args_none, args_next, args_halt, Items, items_none, items_next, items_halt, Block, in_block, Taking, in_taking, Each, each_none, each_next, each_halt}
 
 -- the same end, at the same place
 pub record Same {A : Type 0} (o p : A) (b c : At) : Type 0 where
@@ -126,6 +126,10 @@ bodies_same e = ap body_in e
 targets_meet : (verb : Name) {v w : Val} {g h : Gather} {b c : At} {x y : Target} → v ≡ w → Same g h b c → target_of v verb g b ≡ x → target_of w verb h c ≡ y → x ≡ y
 targets_meet verb p z e f = sym e ∙ (λ i. target_of (p i) verb (z.end i) (z.place i)) ∙ f
 
+-- where calls stand that are the same
+called_same : {v w : Val} {g h : Gather} {b c : At} → v ≡ w → Same g h b c → called v g b ≡ called w h c
+called_same p z = λ i. called (p i) (z.end i) (z.place i)
+
 -- what one function gives of two ends that are the same
 meet : {A : Type 0} {o p : End} {b c : At} {x y : A} (f : End → A) → Same o p b c → f o ≡ x → f p ≡ y → x ≡ y
 meet f t e g = sym e ∙ ap f t.end ∙ g
@@ -177,7 +181,7 @@ mutual
   runs_same run_noun run_noun = alike
   runs_same (run_define {p = p} r) (run_define s) = along (λ o b. o) (λ o b. defined p o b) (ends_same r s)
   runs_same (run_variable {x = x} r) (run_variable s) = along (λ o b. declared_end o b) (λ o b. declared x o b) (ends_same r s)
-  runs_same (run_assign {x = x} r) (run_assign s) = along (λ o b. assigned_end x o (sought_slot x b)) (λ o b. assigned o (sought_slot x b) b) (ends_same r s)
+  runs_same (run_assign {x = x} r) (run_assign s) = along (λ o b. assigned_end x o (sought_slot x b)) (λ o b. assigned x o b) (ends_same r s)
   runs_same (run_call_receiver r) (run_call_receiver s) = ends_same r s
   runs_same (run_call_receiver r) (run_call_gives s u f) = absurd (value_halt (sym (ends_same r s).end))
   runs_same (run_call_receiver r) (run_call_enters s u f w) = absurd (value_halt (sym (ends_same r s).end))
@@ -185,14 +189,14 @@ mutual
   runs_same (run_call_gives {verb = verb} r q e) (run_call_gives s u f) =
       let t = ends_same r s in
       let z = args_same q (args_at t.place u) in
-      record { end = gives_same (targets_meet verb (value_same t.end) z e f); place = z.place }
+      record { end = gives_same (targets_meet verb (value_same t.end) z e f); place = called_same (value_same t.end) z }
   runs_same (run_call_gives {verb = verb} r q e) (run_call_enters s u f w) = let t = ends_same r s in absurd (gives_enters (targets_meet verb (value_same t.end) (args_same q (args_at t.place u)) e f))
   runs_same (run_call_enters r q e v) (run_call_receiver s) = absurd (value_halt (ends_same r s).end)
   runs_same (run_call_enters {verb = verb} r q e v) (run_call_gives s u f) = let t = ends_same r s in absurd (gives_enters (sym (targets_meet verb (value_same t.end) (args_same q (args_at t.place u)) e f)))
   runs_same (run_call_enters {verb = verb} r q e v) (run_call_enters s u f w) =
       let t = ends_same r s in
       let z = args_same q (args_at t.place u) in
-      let y = items_same v (method_at (targets_meet verb (value_same t.end) z e f) z.place w) in
+      let y = items_same v (method_at (targets_meet verb (value_same t.end) z e f) (called_same (value_same t.end) z) w) in
       record { end = y.end; place = λ i. leaving (z.place i) (y.place i) }
   runs_same (run_list r) (run_list s) = along (λ g b. list_end g) (λ g b. b) (args_same r s)
   runs_same (run_same_left r) (run_same_left s) = ends_same r s

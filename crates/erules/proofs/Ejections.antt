@@ -1,5 +1,5 @@
 -- A value on its way to an Escape leaves only what is evaluated inside that Escape.
-use Rattle.std.proofs.Common.{◌≡◌, ℕ, List, ◌∷◌, Bool, true, false, Option, Some, None, cond, refl, sym, ◌∙◌, subst}
+use Rattle.std.proofs.Common.{◌≡◌, ℕ, List, ◌∷◌, Bool, true, false, Option, Some, None, cond, refl, sym, ap, ◌∙◌, subst}
 use Rattle.std.specs.Prelude.{codes}
 use Rattle.std.specs.Str.{bytes_eq}
 use Rattle.ids.specs.declared.names.EjId.{EjId}
@@ -15,6 +15,7 @@ use Rattle.erules.specs.Outcomes.{thrown, ejected, abandoned, End, value, halt, 
 use Rattle.erules.specs.Rules.{sought, sought_slot, held_end, noun_end, mismatch, Listing, listed, unlisted, listing_by, listing_of, taken, parts_of, parts_end, has_room, variable_end, declared_end, assigned_end, gather_first}
 use Rattle.erules.specs.Rules.{Capture, captured, missing, capture_of, has_object_room, placed_end, object_end, Target, gives, enters, method_in, no_such_method, method_target, object_target, same_ejector, is_open, ejects, given, ejection, Callee, on_object, on_ejector, on_datum, callee_of, callee_target, target_of, next_ejector, escape_end}
 use Rattle.erules.specs.Rules.{list_end, same_end, Choice, goes, ends, bool_in, choice_by, choice_of, thrown_by, thrown_end, entering, Ends, at_budget, at_depth, at_node, Runs, run_null, run_bool, run_int, run_text, run_noun, run_define, run_variable, run_assign, run_call_receiver, run_call_gives, run_call_enters, run_list, run_same_left, run_same, run_define_list, run_hide, run_throw, run_if_goes, run_if_ends, run_while_again, run_while_halts, run_while_done, run_while_ends, run_for, run_for_ends, run_try, run_try_caught, run_object, run_escape, Args, args_none, args_next, args_halt, Items, items_none, items_next, items_halt, Block, in_block, Taking, in_taking, Each, each_none, each_next, each_halt}
+use Rattle.erules.proofs.Seeking.{called_reads}
 use Rattle.erules.proofs.Opened.{ends_opened, args_opened, block_opened, taking_opened, matched_opened}
 
 -- an end that is an ejection is of one of these ejectors
@@ -213,7 +214,7 @@ mutual
   runs_inside (run_call_receiver r) = ends_inside r
   runs_inside (run_call_gives {verb = verb} {c = c} {v = v} {g = g} {o = o} r u e) =
       carried o (args_opened u ∙ ends_opened r) (target_carried c.opened e (target_inside v verb g c (gather_carried g (sym (args_opened u)) (args_inside u))))
-  runs_inside (run_call_enters {o = o} r u e q) = carried o (args_opened u ∙ ends_opened r) (items_inside q)
+  runs_inside (run_call_enters {c = c} {v = v} {g = g} {o = o} r u e q) = carried o (ap (λ b. b.opened) (called_reads v g c) ∙ (args_opened u ∙ ends_opened r)) (items_inside q)
   runs_inside (run_list {a = a} {g = g} r) = list_inside g a.opened (args_inside r)
   runs_inside (run_same_left r) = ends_inside r
   runs_inside (run_same {a = a} {v = v} {o = o} r u) = same_inside v o a.opened (carried o (ends_opened r) (ends_inside u))

@@ -79,10 +79,6 @@ entered_fits : (p : Pattern) (v : Val) (a : At) (es : List Code) → fits_all fa
 entered_fits (pattern.Name x) v a es h = h
 entered_fits pattern.Ignore v a es h = subst (λ f. fits_all false f es) (append-nil (frame_of a.nouns)) h
 
--- a block that takes a value begins with the names of its pattern
-pub taken_fits : (p : Pattern) (v : Val) (a b c : At) (es : List Code) → b ≡ entering a → c ≡ matched p v b → fits_all false (frame_of a.nouns ++ only_names (name_of p)) es → fits_all c.own_scope (frame_of c.nouns) es
-taken_fits p v a b c es e f h = subst (λ c. fits_all c.own_scope (frame_of c.nouns) es) (sym (f ∙ ap (matched p v) e)) (entered_fits p v a es h)
-
 -- the first of the methods fits, and so do the others
 pub first_fits : (f : Frame) (rest others : List MethodCode) (m : MethodCode) → rest ≡ m ∷ others → fits_methods f rest → fits_all false (f ++ only_names (names_of_all m.parameters.value.items)) m.body.value.items
 first_fits f rest others m e h = (subst (fits_methods f) e h).0

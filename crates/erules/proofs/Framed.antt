@@ -1,306 +1,417 @@
--- On a state that agrees on the cells touched, a tree ends the same and touches the same cells.
-use Rattle.std.proofs.Common.{◌≡◌, ℕ, ◌+◌, List, [], ◌∷◌, ◌++◌, Option, Some, None, Bool, true, false, cond, refl, sym, ap, ◌∙◌, subst}
+-- In a state that agrees on the cells touched, a tree ends the same and touches the same cells.
+use Rattle.std.proofs.Common.{◌≡◌, ℕ, ◌+◌, List, [], ◌∷◌, Option, Some, None, Bool, true, false, cond, refl, sym, ap, ◌∙◌, subst}
+use Rattle.std.proofs.lemmas.Bool.{or_left}
+use Rattle.std.proofs.lemmas.Slice.Eq.{bytes_eq-Decides}
+use Rattle.std.specs.Ordering.{is_eq, ordering_reverse}
+use Rattle.std.specs.declared.cmp.Ordering.{Ordering}
+use Rattle.std.specs.declared.cmp.Ordering.TheVariants.{Less, Equal, Greater}
+use Rattle.ids.specs.Cells.{slot_cmp, object_cmp}
 use Rattle.ids.specs.declared.names.SlotId.{SlotId}
-use Rattle.kernele.specs.Tree.{Name, Tree, Trees, noun, define, variable, assign, define_list, object_tree, Methods}
+use Rattle.kernele.specs.Tree.{Name, Tree, Trees, noun, assign, object_tree, Methods}
 use Rattle.scopes.specs.Free.{captures}
 use Rattle.kernele.specs.declared.tree.Pattern.{Pattern}
 use Rattle.kernele.specs.declared.tree.Pattern.TheVariants as pattern
-use Rattle.values.specs.Data.{Val, object, Vals}
-use Rattle.heap.specs.State.{Bind, fixed, slot, lookup, Object, Cell, top, slot_cell, object_cell, Content, bound, held, made, same_cell, State, write}
+use Rattle.values.specs.Data.{Val, null, object, Vals, no_vals, and_val}
+use Rattle.heap.specs.State.{Bind, Nouns, fixed, slot, lookup, Object, Cell, top, slot_cell, object_cell, Content, bound, held, made, same_cell, State, write, Cells}
+use Rattle.heap.proofs.Cells.{slot_cmp_total, object_cmp_total}
 use Rattle.erules.specs.At.{At}
 use Rattle.erules.specs.Outcomes.{End, value, halt, Gather, values, halted}
-use Rattle.erules.specs.Rules.{Listing, listed, unlisted, parts_of, parts_bound, parts_end, matched_all, top_bind, found, sought, slot_in, sought_slot, held_end, noun_end, bound_in, defined, next_slot, has_room, slot_made, variable_made, variable_end, declared, declared_end, assigned, assigned_end, matched, Capture, captured, missing, and_captured, all_captured, capture_of, next_object, has_object_room, object_made, placed, placed_end, with_object, object_end, Callee, on_object, on_ejector, on_datum, callee_of, callee_target, object_target, target_of, Ends, at_budget, at_depth, at_node, Runs, run_null, run_bool, run_int, run_text, run_noun, run_define, run_variable, run_assign, run_call_receiver, run_call_gives, run_call_enters, run_list, run_same_left, run_same, run_define_list, run_hide, run_throw, run_if_goes, run_if_ends, run_while_again, run_while_halts, run_while_done, run_while_ends, run_for, run_for_ends, run_try, run_try_caught, run_object, run_escape, Args, args_none, args_next, args_halt, Items, items_none, items_next, items_halt, Block, in_block, Taking, in_taking, Each, each_none, each_next, each_halt}
-use Rattle.erules.proofs.Captures.{missing_stays}
-use Rattle.erules.proofs.Patterns.{matched_moved, matched_kept, all_moved, all_kept}
-use Rattle.erules.specs.Touched.{Touch, got, put, sought_touched, read_touched, set_touched, noun_touched, assigned_touched, bound_touched, defined_touched, all_touched, parts_touched, variable_touched, declared_touched, capture_touched, placed_touched, with_object_touched, object_touched, callee_touched, called_touched, ends_touched, runs_touched, args_touched, items_touched, block_touched, taking_touched, each_touched, Agree, in_state}
+use Rattle.erules.specs.Rules.{reached, put, sought_in, seeking, slot_read, slot_put, noun_read, Listing, listed, unlisted, parts_of, parts_bound, matched_all, top_bind, found, sought, slot_in, sought_slot, held_end, noun_end, bound_in, defined, next_slot, has_room, slot_made, variable_made, declared, declared_end, assigned, assigned_end, matched}
+use Rattle.erules.specs.Rules.{Capture, captured, missing, and_captured, all_captured, all_sought, capture_of, capturing, next_object, has_object_room, object_made, placed, placed_end, with_object, object_end, Callee, on_object, on_ejector, on_datum, callee_of, callee_target, callee_read, called, object_target, target_of, inside}
+use Rattle.erules.specs.Rules.{Ends, at_budget, at_depth, at_node, Runs, run_null, run_bool, run_int, run_text, run_noun, run_define, run_variable, run_assign, run_call_receiver, run_call_gives, run_call_enters, run_list, run_same_left, run_same, run_define_list, run_hide, run_throw, run_if_goes, run_if_ends, run_while_again, run_while_halts, run_while_done, run_while_ends, run_for, run_for_ends, run_try, run_try_caught, run_object, run_escape, Args, args_none, args_next, args_halt, Items, items_none, items_next, items_halt, Block, in_block, Taking, in_taking, Each, each_none, each_next, each_halt}
+use Rattle.erules.specs.Laws.{in_state, AgreeOn, with_cells, IsWithin}
+use Rattle.erules.proofs.Reached.{Onward, defined_later, declared_later, assigned_later, parts_later, ends_later, runs_later, args_later, items_later, block_later, taking_later, each_later, read_later, slot_later, captures_later, object_later, called_later}
+use Rattle.erules.proofs.Steps.{runs_as, runs_to}
 
--- the same evaluation from the state t in place of s: where it ends, its derivation, its cells, and that it keeps what agrees
-pub record Framed (D : State → Type 0) (touch : (u : State) → D u → List Touch) (s s' t : State) (ls : List Touch) : Type 0 where
-  pub after : State
-  pub run : D after
-  pub same : touch after run ≡ ls
-  pub kept : (c : Cell) → t c ≡ s c → after c ≡ s' c
+-- the same in turns that begin with the state w
+module _ (w : State) where
+  -- the same place in another state
+  abbrev there : State → At → At
+  there t a = in_state w t a
 
-agree_left : (xs ys : List Touch) (t s : State) → Agree (xs ++ ys) t s → Agree xs t s
-agree_left [] ys t s h = tt
-agree_left (got c ∷ xs) ys t s h = (h.0, agree_left xs ys t s h.1)
-agree_left (put c ∷ xs) ys t s h = (h.0, agree_left xs ys t s h.1)
+  -- the same from the state u in place of s: where it ends, that it does, and that it keeps what agrees
+  pub record Framed (D : State → Type 0) (s s' u : State) : Type 0 where
+    pub after : State
+    pub run : D after
+    pub kept : (c : Cell) → u c ≡ s c → after c ≡ s' c
 
-agree_right : (xs ys : List Touch) (t s : State) → Agree (xs ++ ys) t s → Agree ys t s
-agree_right [] ys t s h = h
-agree_right (got c ∷ xs) ys t s h = agree_right xs ys t s h.1
-agree_right (put c ∷ xs) ys t s h = agree_right xs ys t s h.1
+  -- what is done to a place is done to it in the state u alike
+  record Follows (f : At → At) (a : At) (u : State) : Type 0 where
+    after : State
+    place : f (there u a) ≡ there after (f a)
+    kept : (c : Cell) → u c ≡ a.state c → after c ≡ (f a).state c
 
-agree_kept : (xs : List Touch) (t s u v : State) → ((c : Cell) → t c ≡ s c → u c ≡ v c) → Agree xs t s → Agree xs u v
-agree_kept [] t s u v k h = tt
-agree_kept (got c ∷ xs) t s u v k h = (k c h.0, agree_kept xs t s u v k h.1)
-agree_kept (put c ∷ xs) t s u v k h = (k c h.0, agree_kept xs t s u v k h.1)
+  -- the frames of each form
+  abbrev EndsFrame : (k : ℕ) (t : Tree) (a : At) (o : End) (b : At) (u : State) → Type 0
+  EndsFrame k t a o b u = Framed (λ s. Ends k t (there u a) o (there s b)) a.state b.state u
 
-write_kept : (t s : State) (d : Cell) (x : Content) (c : Cell) → t c ≡ s c → write t d x c ≡ write s d x c
-write_kept t s d x c e = ap (λ y. cond (same_cell d c) (Some x) y) e
+  abbrev RunsFrame : (k : ℕ) (t : Tree) (a : At) (o : End) (b : At) (u : State) → Type 0
+  RunsFrame k t a o b u = Framed (λ s. Runs k t (there u a) o (there s b)) a.state b.state u
 
-found_framed : (x : Name) (l : Option Bind) (t s : State) → Agree (sought_touched x l) t s → found t x l ≡ found s x l
-found_framed x (Some b) t s h = refl
-found_framed x None t s h = ap top_bind h.0
+  abbrev ArgsFrame : (k : ℕ) (ts : Trees) (a : At) (g : Gather) (b : At) (u : State) → Type 0
+  ArgsFrame k ts a g b u = Framed (λ s. Args k ts (there u a) g (there s b)) a.state b.state u
 
-noun_framed : (x : Name) (m : Option Bind) (t s : State) → Agree (read_touched (slot_in m)) t s → noun_end t x m ≡ noun_end s x m
-noun_framed x (Some (fixed v)) t s h = refl
-noun_framed x (Some (slot i)) t s h = ap (held_end x) h.0
-noun_framed x None t s h = refl
+  abbrev ItemsFrame : (k : ℕ) (v : Val) (ts : Trees) (a : At) (o : End) (b : At) (u : State) → Type 0
+  ItemsFrame k v ts a o b u = Framed (λ s. Items k v ts (there u a) o (there s b)) a.state b.state u
 
--- the frames of each form
-abbrev EndsFrame : (k : ℕ) (t : Tree) (a : At) (o : End) (b : At) (u : State) → List Touch → Type 0
-EndsFrame k t a o b u ls = Framed (λ s. Ends k t (in_state u a) o (in_state s b)) (λ s r. ends_touched r) a.state b.state u ls
+  abbrev BlockFrame : (k : ℕ) (ts : Trees) (a : At) (o : End) (b : At) (u : State) → Type 0
+  BlockFrame k ts a o b u = Framed (λ s. Block k ts (there u a) o (there s b)) a.state b.state u
 
-abbrev RunsFrame : (k : ℕ) (t : Tree) (a : At) (o : End) (b : At) (u : State) → List Touch → Type 0
-RunsFrame k t a o b u ls = Framed (λ s. Runs k t (in_state u a) o (in_state s b)) (λ s r. runs_touched r) a.state b.state u ls
+  abbrev TakingFrame : (k : ℕ) (p : Pattern) (v : Val) (ts : Trees) (a : At) (o : End) (b : At) (u : State) → Type 0
+  TakingFrame k p v ts a o b u = Framed (λ s. Taking k p v ts (there u a) o (there s b)) a.state b.state u
 
-abbrev ArgsFrame : (k : ℕ) (ts : Trees) (a : At) (g : Gather) (b : At) (u : State) → List Touch → Type 0
-ArgsFrame k ts a g b u ls = Framed (λ s. Args k ts (in_state u a) g (in_state s b)) (λ s r. args_touched r) a.state b.state u ls
+  abbrev EachFrame : (k : ℕ) (p : Pattern) (ts : Trees) (vs : Vals) (a : At) (o : End) (b : At) (u : State) → Type 0
+  EachFrame k p ts vs a o b u = Framed (λ s. Each k p ts vs (there u a) o (there s b)) a.state b.state u
 
-abbrev ItemsFrame : (k : ℕ) (v : Val) (ts : Trees) (a : At) (o : End) (b : At) (u : State) → List Touch → Type 0
-ItemsFrame k v ts a o b u ls = Framed (λ s. Items k v ts (in_state u a) o (in_state s b)) (λ s r. items_touched r) a.state b.state u ls
+  -- ---- agreement
 
-abbrev BlockFrame : (k : ℕ) (ts : Trees) (a : At) (o : End) (b : At) (u : State) → List Touch → Type 0
-BlockFrame k ts a o b u ls = Framed (λ s. Block k ts (in_state u a) o (in_state s b)) (λ s r. block_touched r) a.state b.state u ls
+  -- states that agree on the cells touched in the end agree on those touched before
+  before : {p q p' q' : Cells} {s s' v v' : State} (u t : State) → Onward p q s v p' q' s' v' → AgreeOn p' u t → AgreeOn p u t
+  before u t g h = λ c e. h c (g.touched c e)
 
-abbrev TakingFrame : (k : ℕ) (p : Pattern) (v : Val) (ts : Trees) (a : At) (o : End) (b : At) (u : State) → List Touch → Type 0
-TakingFrame k p v ts a o b u ls = Framed (λ s. Taking k p v ts (in_state u a) o (in_state s b)) (λ s r. taking_touched r) a.state b.state u ls
+  -- and so do the states behind them
+  behind : {q : Cells} (u s v t : State) → ((c : Cell) → u c ≡ s c → v c ≡ t c) → AgreeOn q u s → AgreeOn q v t
+  behind u s v t kept h = λ c e. kept c (h c e)
 
-abbrev EachFrame : (k : ℕ) (p : Pattern) (ts : Trees) (vs : Vals) (a : At) (o : End) (b : At) (u : State) → List Touch → Type 0
-EachFrame k p ts vs a o b u ls = Framed (λ s. Each k p ts vs (in_state u a) o (in_state s b)) (λ s r. each_touched r) a.state b.state u ls
+  its_own : (o : Ordering) → o ≡ ordering_reverse o → is_eq o ≡ true
+  its_own Less e = absurd (cc)
+  its_own Equal e = refl
+  its_own Greater e = absurd (cc)
 
--- a noun stands for the same, so the same slot is read
-noun_case : (k : ℕ) (x : Name) (a : At) (u : State) → Agree (noun_touched x a) u a.state → RunsFrame k (noun x) a (noun_end a.state x (sought x a)) a u (noun_touched x a)
-noun_case k x a u h =
-    let e : found u x (lookup a.nouns x) ≡ found a.state x (lookup a.nouns x) = found_framed x (lookup a.nouns x) u a.state (agree_left (sought_touched x (lookup a.nouns x)) (read_touched (sought_slot x a)) u a.state h) in
-    let g : noun_end u x (sought x a) ≡ noun_end a.state x (sought x a) = noun_framed x (sought x a) u a.state (agree_right (sought_touched x (lookup a.nouns x)) (read_touched (sought_slot x a)) u a.state h) in
-    subst (λ o. RunsFrame k (noun x) a o a u (noun_touched x a)) (ap (noun_end u x) e ∙ g)
-    (record { after = u; run = run_noun; same = ap (λ m. sought_touched x (lookup a.nouns x) ++ read_touched (slot_in m)) e; kept = λ c q. q })
+  same_itself : (c : Cell) → same_cell c c ≡ true
+  same_itself (top x) = (bytes_eq-Decides x x).1 refl
+  same_itself (slot_cell i) = its_own (slot_cmp i i) (slot_cmp_total.antisymm i i)
+  same_itself (object_cell i) = its_own (object_cmp i i) (object_cmp_total.antisymm i i)
 
--- what is made of a right side's end, where what is written is framed too
-wrapped : (k : ℕ) (t e : Tree) (a : At) (o p : End) (b c : At) (u : State) (ls more : List Touch) (f : EndsFrame (k + 1) e a o b u ls) (after : State) (run : Runs k t (in_state u a) p (in_state after c))
-    → runs_touched run ≡ ends_touched f.run ++ more → ((d : Cell) → f.after d ≡ b.state d → after d ≡ c.state d) → RunsFrame k t a p c u (ls ++ more)
-wrapped k t e a o p b c u ls more f after run m kept = record { after = after; run = run; same = m ∙ ap (λ l. l ++ more) f.same; kept = λ d q. kept d (f.kept d q) }
+  -- states agree on a cell that was reached
+  on_reached : (c : Cell) (a : At) (u t : State) → AgreeOn (reached c a).touched u t → u c ≡ t c
+  on_reached c a u t h = h c (or_left (same_cell c c) (a.touched c) (same_itself c))
 
--- a name bound where the innermost scope is known
-bound_case : (own : Bool) (k : ℕ) (x : Name) (e : Tree) (a : At) (v : Val) (b : At) (u : State) (ls : List Touch) (f : EndsFrame (k + 1) e a (value v) b u ls) (run : Runs k (define (pattern.Name x) e) (in_state u a) (value v) (bound_in own x (fixed v) (in_state f.after b))) → runs_touched run ≡ ends_touched f.run ++ bound_touched own x → RunsFrame k (define (pattern.Name x) e) a (value v) (bound_in own x (fixed v) b) u (ls ++ bound_touched own x)
-bound_case true k x e a v b u ls f run m = wrapped k (define (pattern.Name x) e) e a (value v) (value v) b (bound_in true x (fixed v) b) u ls (bound_touched true x) f (write f.after (top x) (bound (fixed v))) run m (λ c q. write_kept f.after b.state (top x) (bound (fixed v)) c q)
-bound_case false k x e a v b u ls f run m = wrapped k (define (pattern.Name x) e) e a (value v) (value v) b (bound_in false x (fixed v) b) u ls [] f f.after run m (λ c q. q)
+  -- ---- what follows alike
 
-define_case : (k : ℕ) (p : Pattern) (e : Tree) (a : At) (o : End) (b : At) (u : State) (ls : List Touch) → EndsFrame (k + 1) e a o b u ls → RunsFrame k (define p e) a o (defined p o b) u (ls ++ defined_touched p o b)
-define_case k p e a (halt h) b u ls f = wrapped k (define p e) e a (halt h) (halt h) b b u ls [] f f.after (run_define f.run) refl (λ c q. q)
-define_case k pattern.Ignore e a (value v) b u ls f = wrapped k (define pattern.Ignore e) e a (value v) (value v) b b u ls [] f f.after (run_define f.run) refl (λ c q. q)
-define_case k (pattern.Name x) e a (value v) b u ls f = bound_case b.own_scope k x e a v b u ls f (run_define f.run) refl
+  unmoved : {a : At} {u : State} → Follows (λ a. a) a u
+  unmoved {u = u} = record { after = u; place = refl; kept = λ c h. h }
 
--- a slot is written in both states alike
-slot_kept : (t s : State) (i : SlotId) (v : Val) (c : Cell) → t c ≡ s c → write t (slot_cell i) (held v) c ≡ write s (slot_cell i) (held v) c
-slot_kept t s i v c e = write_kept t s (slot_cell i) (held v) c e
+  both_follow : {f g : At → At} {a : At} {u : State} (p : Follows f a u) → Follows g (f a) p.after → Follows (λ a. g (f a)) a u
+  both_follow {g = g} p q = record { after = q.after; place = ap g p.place ∙ q.place; kept = λ c h. q.kept c (p.kept c h) }
 
--- a variable made where the innermost scope is known
-slot_case : (own : Bool) (k : ℕ) (x : Name) (e : Tree) (a : At) (v : Val) (b : At) (u : State) (ls : List Touch) (f : EndsFrame (k + 1) e a (value v) b u ls) (run : Runs k (variable x e) (in_state u a) (value v) (bound_in own x (slot (next_slot b)) (slot_made v (in_state f.after b))))
-    → runs_touched run ≡ ends_touched f.run ++ (put (slot_cell (next_slot b)) ∷ bound_touched own x) → RunsFrame k (variable x e) a (value v) (bound_in own x (slot (next_slot b)) (slot_made v b)) u (ls ++ (put (slot_cell (next_slot b)) ∷ bound_touched own x))
-slot_case true k x e a v b u ls f run m =
-    wrapped k (variable x e) e a (value v) (value v) b (bound_in true x (slot (next_slot b)) (slot_made v b)) u ls (put (slot_cell (next_slot b)) ∷ bound_touched true x) f
-    (write (write f.after (slot_cell (next_slot b)) (held v)) (top x) (bound (slot (next_slot b)))) run m
-    (λ c q. write_kept (write f.after (slot_cell (next_slot b)) (held v)) (write b.state (slot_cell (next_slot b)) (held v)) (top x) (bound (slot (next_slot b))) c (slot_kept f.after b.state (next_slot b) v c q))
-slot_case false k x e a v b u ls f run m =
-    wrapped k (variable x e) e a (value v) (value v) b (bound_in false x (slot (next_slot b)) (slot_made v b)) u ls (put (slot_cell (next_slot b)) ∷ []) f
-    (write f.after (slot_cell (next_slot b)) (held v)) run m (λ c q. slot_kept f.after b.state (next_slot b) v c q)
+  written_alike : (u s : State) (d : Cell) (x : Content) (c : Cell) → u c ≡ s c → write u d x c ≡ write s d x c
+  written_alike u s d x c e = ap (λ y. cond (same_cell d c) (Some x) y) e
 
--- a variable, where it is known whether there is room for it
-made_case : (room : Bool) (k : ℕ) (x : Name) (e : Tree) (a : At) (v : Val) (b : At) (u : State) (ls : List Touch) (f : EndsFrame (k + 1) e a (value v) b u ls) (run : Runs k (variable x e) (in_state u a) (variable_end room v) (variable_made room x v (in_state f.after b)))
-    → runs_touched run ≡ ends_touched f.run ++ variable_touched room x (in_state f.after b) → RunsFrame k (variable x e) a (variable_end room v) (variable_made room x v b) u (ls ++ variable_touched room x b)
-made_case true k x e a v b u ls f run m = slot_case b.own_scope k x e a v b u ls f run m
-made_case false k x e a v b u ls f run m = wrapped k (variable x e) e a (value v) (variable_end false v) b b u ls [] f f.after run m (λ c q. q)
+  put_follows : (d : Cell) (x : Content) (a : At) (u : State) → Follows (put d x) a u
+  put_follows d x a u = record { after = write u d x; place = refl; kept = λ c h. written_alike u a.state d x c h }
 
-declare_case : (k : ℕ) (x : Name) (e : Tree) (a : At) (o : End) (b : At) (u : State) (ls : List Touch) → EndsFrame (k + 1) e a o b u ls → RunsFrame k (variable x e) a (declared_end o b) (declared x o b) u (ls ++ declared_touched x o b)
-declare_case k x e a (value v) b u ls f = made_case (has_room b) k x e a v b u ls f (run_variable f.run) refl
-declare_case k x e a (halt h) b u ls f = wrapped k (variable x e) e a (halt h) (halt h) b b u ls [] f f.after (run_variable f.run) refl (λ c q. q)
+  bound_follows : (own : Bool) (x : Name) (b : Bind) (a : At) (u : State) → Follows (bound_in own x b) a u
+  bound_follows true x b a u = put_follows (top x) (bound b) a u
+  bound_follows false x b a u = record { after = u; place = refl; kept = λ c h. h }
 
--- an assignment, where it is known for which slot its noun stands
-set_case : (i : Option SlotId) (k : ℕ) (x : Name) (e : Tree) (a : At) (v : Val) (b : At) (u : State) (ls gs : List Touch) (f : EndsFrame (k + 1) e a (value v) b u ls) (run : Runs k (assign x e) (in_state u a) (assigned_end x (value v) i) (assigned (value v) i (in_state f.after b)))
-    → runs_touched run ≡ ends_touched f.run ++ (gs ++ set_touched i) → RunsFrame k (assign x e) a (assigned_end x (value v) i) (assigned (value v) i b) u (ls ++ (gs ++ set_touched i))
-set_case (Some i) k x e a v b u ls gs f run m = wrapped k (assign x e) e a (value v) (value v) b (assigned (value v) (Some i) b) u ls (gs ++ set_touched (Some i)) f (write f.after (slot_cell i) (held v)) run m (λ c q. slot_kept f.after b.state i v c q)
-set_case None k x e a v b u ls gs f run m = wrapped k (assign x e) e a (value v) (assigned_end x (value v) None) b b u ls (gs ++ []) f f.after run m (λ c q. q)
+  -- a pattern's name is bound in the innermost scope, which is the same
+  named_follows : (own : Bool) (x : Name) (v : Val) (a : At) (u : State) → Follows (bound_in own x (fixed v)) a u → a.own_scope ≡ own → Follows (matched (pattern.Name x) v) a u
+  named_follows own x v a u p e = record {
+    after = p.after;
+    place = ap (λ o. bound_in o x (fixed v) (there u a)) e ∙ p.place ∙ ap (λ o. there p.after (bound_in o x (fixed v) a)) (sym e);
+    kept = λ c h. p.kept c h ∙ ap (λ o. (bound_in o x (fixed v) a).state c) (sym e);
+  }
 
-assign_case : (k : ℕ) (x : Name) (e : Tree) (a : At) (o : End) (b : At) (u : State) (ls : List Touch) (f : EndsFrame (k + 1) e a o b u ls) → Agree (assigned_touched x o b) f.after b.state
-    → RunsFrame k (assign x e) a (assigned_end x o (sought_slot x b)) (assigned o (sought_slot x b) b) u (ls ++ assigned_touched x o b)
-assign_case k x e a (value v) b u ls f h =
-    let g : found f.after x (lookup b.nouns x) ≡ found b.state x (lookup b.nouns x) = found_framed x (lookup b.nouns x) f.after b.state (agree_left (sought_touched x (lookup b.nouns x)) (set_touched (sought_slot x b)) f.after b.state h) in
-    subst (λ i. RunsFrame k (assign x e) a (assigned_end x (value v) i) (assigned (value v) i b) u (ls ++ (sought_touched x (lookup b.nouns x) ++ set_touched i))) (ap slot_in g)
-    (set_case (slot_in (found f.after x (lookup b.nouns x))) k x e a v b u ls (sought_touched x (lookup b.nouns x)) f (run_assign f.run) refl)
-assign_case k x e a (halt j) b u ls f h = wrapped k (assign x e) e a (halt j) (halt j) b b u ls [] f f.after (run_assign f.run) refl (λ c q. q)
+  matched_follows : (p : Pattern) (v : Val) (a : At) (u : State) → Follows (matched p v) a u
+  matched_follows (pattern.Name x) v a u = named_follows a.own_scope x v a u (bound_follows a.own_scope x (fixed v) a u) refl
+  matched_follows pattern.Ignore v a u = unmoved
 
--- the same, where the place in the other state is known only by an equation
-moved_case : (k : ℕ) (t e : Tree) (a : At) (o p : End) (b c : At) (u : State) (ls more : List Touch) (f : EndsFrame (k + 1) e a o b u ls) (after : State) (d : At) → d ≡ in_state after c → (run : Runs k t (in_state u a) p d)
-    → runs_touched run ≡ ends_touched f.run ++ more → ((x : Cell) → f.after x ≡ b.state x → after x ≡ c.state x) → RunsFrame k t a p c u (ls ++ more)
-moved_case k t e a o p b c u ls more f after d q run m kept =
-    subst (λ z. (run : Runs k t (in_state u a) p z) → runs_touched run ≡ ends_touched f.run ++ more → RunsFrame k t a p c u (ls ++ more)) (sym q)
-    (λ run m. wrapped k t e a o p b c u ls more f after run m kept) run m
+  defined_follows : (p : Pattern) (o : End) (a : At) (u : State) → Follows (defined p o) a u
+  defined_follows p (value v) a u = matched_follows p v a u
+  defined_follows p (halt h) a u = unmoved
 
--- a list of patterns, where it is known what it takes
-parts_case : (l : Listing) (k : ℕ) (ps : List Pattern) (e : Tree) (a : At) (o : End) (b : At) (u : State) (ls : List Touch) (f : EndsFrame (k + 1) e a o b u ls) (run : Runs k (define_list ps e) (in_state u a) (parts_end o l) (parts_bound ps l (in_state f.after b)))
-    → runs_touched run ≡ ends_touched f.run ++ parts_touched ps l (in_state f.after b) → RunsFrame k (define_list ps e) a (parts_end o l) (parts_bound ps l b) u (ls ++ parts_touched ps l b)
-parts_case (listed vs) k ps e a o b u ls f run m =
-    moved_case k (define_list ps e) e a o o b (matched_all ps vs b) u ls (all_touched b.own_scope ps vs) f (matched_all ps vs (in_state f.after b)).state (matched_all ps vs (in_state f.after b)) (all_moved ps vs b f.after) run m
-    (λ c q. all_kept ps vs b f.after c q)
-parts_case (unlisted p) k ps e a o b u ls f run m = wrapped k (define_list ps e) e a o p b b u ls [] f f.after run m (λ c q. q)
+  all_follow : (ps : List Pattern) (vs : Vals) (a : At) (u : State) → Follows (matched_all ps vs) a u
+  all_follow [] vs a u = unmoved
+  all_follow (p ∷ ps) no_vals a u = unmoved
+  all_follow (p ∷ ps) (and_val v vs) a u =
+      let m = matched_follows p v a u in
+      both_follow {f = matched p v} {g = matched_all ps vs} m (all_follow ps vs (matched p v a) m.after)
 
--- the same names are captured ..
-capture_framed : (c : Capture) (xs : List Name) (a : At) (u : State) → Agree (capture_touched c xs a) u a.state → all_captured c xs (in_state u a) ≡ all_captured c xs a
-capture_framed c [] a u h = refl
-capture_framed (captured ns) (x ∷ xs) a u h =
-    let e : sought x (in_state u a) ≡ sought x a = found_framed x (lookup a.nouns x) u a.state (agree_left (sought_touched x (lookup a.nouns x)) (capture_touched (and_captured (captured ns) x (sought x a)) xs a) u a.state h) in
-    ap (λ m. all_captured (and_captured (captured ns) x m) xs (in_state u a)) e
-    ∙ capture_framed (and_captured (captured ns) x (sought x a)) xs a u (agree_right (sought_touched x (lookup a.nouns x)) (capture_touched (and_captured (captured ns) x (sought x a)) xs a) u a.state h)
-capture_framed (missing y) (x ∷ xs) a u h = missing_stays y xs (in_state u a) ∙ sym (missing_stays y xs a)
+  parts_follow : (ps : List Pattern) (l : Listing) (a : At) (u : State) → Follows (parts_bound ps l) a u
+  parts_follow ps (listed vs) a u = all_follow ps vs a u
+  parts_follow ps (unlisted o) a u = unmoved
 
--- .. and the same cells are read for them
-capture_touches : (c : Capture) (xs : List Name) (a : At) (u : State) → Agree (capture_touched c xs a) u a.state → capture_touched c xs (in_state u a) ≡ capture_touched c xs a
-capture_touches c [] a u h = refl
-capture_touches (captured ns) (x ∷ xs) a u h =
-    let e : sought x (in_state u a) ≡ sought x a = found_framed x (lookup a.nouns x) u a.state (agree_left (sought_touched x (lookup a.nouns x)) (capture_touched (and_captured (captured ns) x (sought x a)) xs a) u a.state h) in
-    ap (λ m. sought_touched x (lookup a.nouns x) ++ capture_touched (and_captured (captured ns) x m) xs (in_state u a)) e
-    ∙ ap (λ ls. sought_touched x (lookup a.nouns x) ++ ls) (capture_touches (and_captured (captured ns) x (sought x a)) xs a u (agree_right (sought_touched x (lookup a.nouns x)) (capture_touched (and_captured (captured ns) x (sought x a)) xs a) u a.state h))
-capture_touches (missing y) (x ∷ xs) a u h = refl
+  -- a variable, where it is known whether there is room for it and which scope is the innermost
+  slot_follows : (own : Bool) (x : Name) (v : Val) (a : At) (u : State) → Follows (λ a. bound_in own x (slot (next_slot a)) (slot_made v a)) a u
+  slot_follows true x v a u = record {
+    after = write (write u (slot_cell (next_slot a)) (held v)) (top x) (bound (slot (next_slot a)));
+    place = refl;
+    kept = λ c h. written_alike (write u (slot_cell (next_slot a)) (held v)) (slot_made v a).state (top x) (bound (slot (next_slot a))) c (written_alike u a.state (slot_cell (next_slot a)) (held v) c h);
+  }
+  slot_follows false x v a u = record { after = write u (slot_cell (next_slot a)) (held v); place = refl; kept = λ c h. written_alike u a.state (slot_cell (next_slot a)) (held v) c h }
 
--- an object that is made, where it is known whether there is room for it
-placed_case : (room : Bool) (k : ℕ) (p : Pattern) (ms : Methods) (o : Object) (a : At) (u : State) (ls : List Touch) (run : Runs k (object_tree p ms) (in_state u a) (placed_end room (in_state u a)) (placed room p o (in_state u a)))
-    → runs_touched run ≡ ls ++ placed_touched room p (in_state u a) → RunsFrame k (object_tree p ms) a (placed_end room a) (placed room p o a) u (ls ++ placed_touched room p a)
-placed_case true k p ms o a u ls run m =
-    let t : State = write u (object_cell (next_object a)) (made o) in
-    let v : Val = object (next_object a) in
-    let b : At = object_made o a in
-    let after : State = (matched p v (in_state t b)).state in
-    subst (λ z. (run : Runs k (object_tree p ms) (in_state u a) (placed_end true a) z) → runs_touched run ≡ ls ++ placed_touched true p a → RunsFrame k (object_tree p ms) a (placed_end true a) (matched p v b) u (ls ++ placed_touched true p a))
-    (sym (matched_moved p v b t))
-    (λ run m. record { after = after; run = run; same = m; kept = λ c q. matched_kept p v b t c (write_kept u a.state (object_cell (next_object a)) (made o) c q) }) run m
-placed_case false k p ms o a u ls run m = record { after = u; run = run; same = m; kept = λ c q. q }
+  -- what is done by a case is done alike where each case is
+  by_case : {A : Type 0} (f : A → At → At) (g : At → A) (a : At) (u : State) → g (there u a) ≡ g a → Follows (f (g a)) a u → Follows (λ a. f (g a) a) a u
+  by_case f g a u e p = record { after = p.after; place = ap (λ q. f q (there u a)) e ∙ p.place; kept = p.kept }
 
--- the same, where it is known what is captured
-captured_case : (c : Capture) (k : ℕ) (p : Pattern) (ms : Methods) (a : At) (u : State) (ls : List Touch) (run : Runs k (object_tree p ms) (in_state u a) (object_end c (in_state u a)) (with_object p ms c (in_state u a)))
-    → runs_touched run ≡ ls ++ with_object_touched p c (in_state u a) → RunsFrame k (object_tree p ms) a (object_end c a) (with_object p ms c a) u (ls ++ with_object_touched p c a)
-captured_case (captured ns) k p ms a u ls run m = placed_case (has_object_room a) k p ms (record { own = p; captured = ns; methods = ms }) a u ls run m
-captured_case (missing x) k p ms a u ls run m = record { after = u; run = run; same = m; kept = λ c q. q }
+  variable_follows : (room : Bool) (x : Name) (v : Val) (a : At) (u : State) → Follows (variable_made room x v) a u
+  variable_follows true x v a u = by_case (λ own a. bound_in own x (slot (next_slot a)) (slot_made v a)) (λ a. a.own_scope) a u refl (slot_follows a.own_scope x v a u)
+  variable_follows false x v a u = unmoved
 
-object_case : (k : ℕ) (p : Pattern) (ms : Methods) (a : At) (u : State) → Agree (object_touched p ms a) u a.state → RunsFrame k (object_tree p ms) a (object_end (capture_of p ms a) a) (with_object p ms (capture_of p ms a) a) u (object_touched p ms a)
-object_case k p ms a u h =
-    let ls : List Touch = capture_touched (captured []) (captures p ms) a in
-    let g : Agree ls u a.state = agree_left ls (with_object_touched p (capture_of p ms a) a) u a.state h in
-    subst (λ c. RunsFrame k (object_tree p ms) a (object_end c a) (with_object p ms c a) u (ls ++ with_object_touched p c a)) (capture_framed (captured []) (captures p ms) a u g)
-    (captured_case (capture_of p ms (in_state u a)) k p ms a u ls run_object (ap (λ l. l ++ with_object_touched p (capture_of p ms (in_state u a)) (in_state u a)) (capture_touches (captured []) (captures p ms) a u g)))
+  declared_follows : (x : Name) (o : End) (a : At) (u : State) → Follows (declared x o) a u
+  declared_follows x (value v) a u = by_case (λ room a. variable_made room x v a) has_room a u refl (variable_follows (has_room a) x v a u)
+  declared_follows x (halt h) a u = unmoved
 
--- a call leads to the same
-callee_framed : (m : Callee) (v : Val) (verb : Name) (vs : Vals) (a : At) (u : State) → Agree (callee_touched m) u a.state → callee_target m v verb vs (in_state u a) ≡ callee_target m v verb vs a
-callee_framed (on_object i) v verb vs a u h = ap (λ x. object_target i x verb vs) h.0
-callee_framed (on_ejector j) v verb vs a u h = refl
-callee_framed on_datum v verb vs a u h = refl
+  declared_ends : (o : End) (a : At) (u : State) → declared_end o a ≡ declared_end o (there u a)
+  declared_ends (value v) a u = refl
+  declared_ends (halt h) a u = refl
 
-target_framed : (v : Val) (verb : Name) (g : Gather) (a : At) (u : State) → Agree (called_touched v g) u a.state → target_of v verb g (in_state u a) ≡ target_of v verb g a
-target_framed v verb (values vs) a u h = callee_framed (callee_of v) v verb vs a u h
-target_framed v verb (halted j) a u h = refl
+  sought_follows : (x : Name) (m : Option Bind) (a : At) (u : State) → Follows (sought_in x m) a u
+  sought_follows x (Some b) a u = unmoved
+  sought_follows x None a u = record { after = u; place = refl; kept = λ c h. h }
 
-mutual
-  pub ends_framed : {k : ℕ} {t : Tree} {a b : At} {o : End} (r : Ends k t a o b) (u : State) → Agree (ends_touched r) u a.state → EndsFrame k t a o b u (ends_touched r)
-  ends_framed (at_budget h) u m = record { after = u; run = at_budget h; same = refl; kept = λ c e. e }
-  ends_framed (at_depth h g) u m = record { after = u; run = at_depth h g; same = refl; kept = λ c e. e }
-  ends_framed (at_node h g r) u m = let f = runs_framed r u m in record { after = f.after; run = at_node h g f.run; same = f.same; kept = f.kept }
+  seeking_follows : (x : Name) (a : At) (u : State) → Follows (seeking x) a u
+  seeking_follows x a u = by_case (λ m a. sought_in x m a) (λ a. lookup a.nouns x) a u refl (sought_follows x (lookup a.nouns x) a u)
 
-  pub runs_framed : {k : ℕ} {t : Tree} {a b : At} {o : End} (r : Runs k t a o b) (u : State) → Agree (runs_touched r) u a.state → RunsFrame k t a o b u (runs_touched r)
-  runs_framed run_null u m = record { after = u; run = run_null; same = refl; kept = λ c e. e }
-  runs_framed run_bool u m = record { after = u; run = run_bool; same = refl; kept = λ c e. e }
-  runs_framed run_int u m = record { after = u; run = run_int; same = refl; kept = λ c e. e }
-  runs_framed run_text u m = record { after = u; run = run_text; same = refl; kept = λ c e. e }
-  runs_framed (run_noun {k = k} {x = x} {a = a}) u m = noun_case k x a u m
-  runs_framed (run_define {k = k} {p = p} {e = e} {a = a} {b = b} {o = o} r) u m = define_case k p e a o b u (ends_touched r) (ends_framed r u (agree_left (ends_touched r) (defined_touched p o b) u a.state m))
-  runs_framed (run_variable {k = k} {x = x} {e = e} {a = a} {b = b} {o = o} r) u m = declare_case k x e a o b u (ends_touched r) (ends_framed r u (agree_left (ends_touched r) (declared_touched x o b) u a.state m))
-  runs_framed (run_assign {k = k} {x = x} {e = e} {a = a} {b = b} {o = o} r) u m =
-      let f = ends_framed r u (agree_left (ends_touched r) (assigned_touched x o b) u a.state m) in
-      assign_case k x e a o b u (ends_touched r) f (agree_kept (assigned_touched x o b) u a.state f.after b.state f.kept (agree_right (ends_touched r) (assigned_touched x o b) u a.state m))
-  runs_framed (run_call_receiver r) u m = let f = ends_framed r u m in record { after = f.after; run = run_call_receiver f.run; same = f.same; kept = f.kept }
-  runs_framed (run_call_gives {verb = verb} {a = a} {b = b} {c = c} {v = v} {g = g} r q e) u m =
-      let l = agree_left (ends_touched r ++ args_touched q) (called_touched v g) u a.state m in
-      let f = ends_framed r u (agree_left (ends_touched r) (args_touched q) u a.state l) in
-      let h = args_framed q f.after (agree_kept (args_touched q) u a.state f.after b.state f.kept (agree_right (ends_touched r) (args_touched q) u a.state l)) in
-      let t = target_framed v verb g c h.after (agree_kept (called_touched v g) u a.state h.after c.state (λ x z. h.kept x (f.kept x z)) (agree_right (ends_touched r ++ args_touched q) (called_touched v g) u a.state m)) in
-      record { after = h.after; run = run_call_gives f.run h.run (t ∙ e); same = λ i. (f.same i ++ h.same i) ++ called_touched v g; kept = λ x z. h.kept x (f.kept x z) }
-  runs_framed (run_call_enters {verb = verb} {a = a} {b = b} {c = c} {v = v} {g = g} r q e w) u m =
-      let n = agree_left ((ends_touched r ++ args_touched q) ++ called_touched v g) (items_touched w) u a.state m in
-      let l = agree_left (ends_touched r ++ args_touched q) (called_touched v g) u a.state n in
-      let f = ends_framed r u (agree_left (ends_touched r) (args_touched q) u a.state l) in
-      let h = args_framed q f.after (agree_kept (args_touched q) u a.state f.after b.state f.kept (agree_right (ends_touched r) (args_touched q) u a.state l)) in
-      let t = target_framed v verb g c h.after (agree_kept (called_touched v g) u a.state h.after c.state (λ x z. h.kept x (f.kept x z)) (agree_right (ends_touched r ++ args_touched q) (called_touched v g) u a.state n)) in
-      let y = items_framed w h.after (agree_kept (items_touched w) u a.state h.after c.state (λ x z. h.kept x (f.kept x z)) (agree_right ((ends_touched r ++ args_touched q) ++ called_touched v g) (items_touched w) u a.state m)) in
-      record { after = y.after; run = run_call_enters f.run h.run (t ∙ e) y.run; same = λ i. ((f.same i ++ h.same i) ++ called_touched v g) ++ y.same i; kept = λ x z. y.kept x (h.kept x (f.kept x z)) }
-  runs_framed (run_list r) u m = let f = args_framed r u m in record { after = f.after; run = run_list f.run; same = f.same; kept = f.kept }
-  runs_framed (run_same_left r) u m = let f = ends_framed r u m in record { after = f.after; run = run_same_left f.run; same = f.same; kept = f.kept }
-  runs_framed (run_same {a = a} {b = b} r q) u m =
-      let f = ends_framed r u (agree_left (ends_touched r) (ends_touched q) u a.state m) in
-      let g = ends_framed q f.after (agree_kept (ends_touched q) u a.state f.after b.state f.kept (agree_right (ends_touched r) (ends_touched q) u a.state m)) in
-      record { after = g.after; run = run_same f.run g.run; same = λ i. f.same i ++ g.same i; kept = λ c h. g.kept c (f.kept c h) }
-  runs_framed (run_define_list {k = k} {ps = ps} {e = e} {a = a} {b = b} {o = o} r) u m =
-      let f = ends_framed r u (agree_left (ends_touched r) (parts_touched ps (parts_of ps o) b) u a.state m) in
-      parts_case (parts_of ps o) k ps e a o b u (ends_touched r) f (run_define_list f.run) refl
-  runs_framed (run_hide q) u m = let f = block_framed q u m in record { after = f.after; run = run_hide f.run; same = f.same; kept = f.kept }
-  runs_framed (run_throw r) u m = let f = ends_framed r u m in record { after = f.after; run = run_throw f.run; same = f.same; kept = f.kept }
-  runs_framed (run_if_goes {a = a} {b = b} r e q) u m =
-      let f = ends_framed r u (agree_left (ends_touched r) (block_touched q) u a.state m) in
-      let g = block_framed q f.after (agree_kept (block_touched q) u a.state f.after b.state f.kept (agree_right (ends_touched r) (block_touched q) u a.state m)) in
-      record { after = g.after; run = run_if_goes f.run e g.run; same = λ i. f.same i ++ g.same i; kept = λ c h. g.kept c (f.kept c h) }
-  runs_framed (run_if_ends r e) u m = let f = ends_framed r u m in record { after = f.after; run = run_if_ends f.run e; same = f.same; kept = f.kept }
-  runs_framed (run_while_again {a = a} {b = b} {d = d} r e q w) u m =
-      let l = agree_left (ends_touched r ++ block_touched q) (runs_touched w) u a.state m in
-      let f = ends_framed r u (agree_left (ends_touched r) (block_touched q) u a.state l) in
-      let g = block_framed q f.after (agree_kept (block_touched q) u a.state f.after b.state f.kept (agree_right (ends_touched r) (block_touched q) u a.state l)) in
-      let h = runs_framed w g.after (agree_kept (runs_touched w) u a.state g.after d.state (λ c x. g.kept c (f.kept c x)) (agree_right (ends_touched r ++ block_touched q) (runs_touched w) u a.state m)) in
-      record { after = h.after; run = run_while_again f.run e g.run h.run; same = λ i. (f.same i ++ g.same i) ++ h.same i; kept = λ c x. h.kept c (g.kept c (f.kept c x)) }
-  runs_framed (run_while_halts {a = a} {b = b} r e q) u m =
-      let f = ends_framed r u (agree_left (ends_touched r) (block_touched q) u a.state m) in
-      let g = block_framed q f.after (agree_kept (block_touched q) u a.state f.after b.state f.kept (agree_right (ends_touched r) (block_touched q) u a.state m)) in
-      record { after = g.after; run = run_while_halts f.run e g.run; same = λ i. f.same i ++ g.same i; kept = λ c h. g.kept c (f.kept c h) }
-  runs_framed (run_while_done r e) u m = let f = ends_framed r u m in record { after = f.after; run = run_while_done f.run e; same = f.same; kept = f.kept }
-  runs_framed (run_while_ends r e) u m = let f = ends_framed r u m in record { after = f.after; run = run_while_ends f.run e; same = f.same; kept = f.kept }
-  runs_framed (run_for {a = a} {b = b} r e q) u m =
-      let f = ends_framed r u (agree_left (ends_touched r) (each_touched q) u a.state m) in
-      let g = each_framed q f.after (agree_kept (each_touched q) u a.state f.after b.state f.kept (agree_right (ends_touched r) (each_touched q) u a.state m)) in
-      record { after = g.after; run = run_for f.run e g.run; same = λ i. f.same i ++ g.same i; kept = λ c h. g.kept c (f.kept c h) }
-  runs_framed (run_for_ends r e) u m = let f = ends_framed r u m in record { after = f.after; run = run_for_ends f.run e; same = f.same; kept = f.kept }
-  runs_framed (run_try q e) u m = let f = block_framed q u m in record { after = f.after; run = run_try f.run e; same = f.same; kept = f.kept }
-  runs_framed (run_try_caught {a = a} {b = b} q e w) u m =
-      let f = block_framed q u (agree_left (block_touched q) (taking_touched w) u a.state m) in
-      let g = taking_framed w f.after (agree_kept (taking_touched w) u a.state f.after b.state f.kept (agree_right (block_touched q) (taking_touched w) u a.state m)) in
-      record { after = g.after; run = run_try_caught f.run e g.run; same = λ i. f.same i ++ g.same i; kept = λ c h. g.kept c (f.kept c h) }
-  runs_framed (run_object {k = k} {p = p} {ms = ms} {a = a}) u m = object_case k p ms a u m
-  runs_framed (run_escape q) u m = let f = taking_framed q u m in record { after = f.after; run = run_escape f.run; same = f.same; kept = f.kept }
+  -- a name stands for the same in a state that agrees where it is sought
+  found_alike : (x : Name) (m : Option Bind) (a : At) (u t : State) → AgreeOn (sought_in x m a).touched u t → found u x m ≡ found t x m
+  found_alike x (Some b) a u t h = refl
+  found_alike x None a u t h = ap top_bind (on_reached (top x) a u t h)
 
-  pub args_framed : {k : ℕ} {ts : Trees} {a b : At} {g : Gather} (r : Args k ts a g b) (u : State) → Agree (args_touched r) u a.state → ArgsFrame k ts a g b u (args_touched r)
-  args_framed args_none u m = record { after = u; run = args_none; same = refl; kept = λ c e. e }
-  args_framed (args_next {a = a} {b = b} r q) u m =
-      let f = ends_framed r u (agree_left (ends_touched r) (args_touched q) u a.state m) in
-      let g = args_framed q f.after (agree_kept (args_touched q) u a.state f.after b.state f.kept (agree_right (ends_touched r) (args_touched q) u a.state m)) in
-      record { after = g.after; run = args_next f.run g.run; same = λ i. f.same i ++ g.same i; kept = λ c h. g.kept c (f.kept c h) }
-  args_framed (args_halt r) u m = let f = ends_framed r u m in record { after = f.after; run = args_halt f.run; same = f.same; kept = f.kept }
+  sought_alike : (x : Name) (a : At) (u : State) → AgreeOn (seeking x a).touched u a.state → sought x (there u a) ≡ sought x a
+  sought_alike x a u h = found_alike x (lookup a.nouns x) a u a.state h
 
-  pub items_framed : {k : ℕ} {v : Val} {ts : Trees} {a b : At} {o : End} (r : Items k v ts a o b) (u : State) → Agree (items_touched r) u a.state → ItemsFrame k v ts a o b u (items_touched r)
-  items_framed items_none u m = record { after = u; run = items_none; same = refl; kept = λ c e. e }
-  items_framed (items_next {a = a} {b = b} r q) u m =
-      let f = ends_framed r u (agree_left (ends_touched r) (items_touched q) u a.state m) in
-      let g = items_framed q f.after (agree_kept (items_touched q) u a.state f.after b.state f.kept (agree_right (ends_touched r) (items_touched q) u a.state m)) in
-      record { after = g.after; run = items_next f.run g.run; same = λ i. f.same i ++ g.same i; kept = λ c h. g.kept c (f.kept c h) }
-  items_framed (items_halt r) u m = let f = ends_framed r u m in record { after = f.after; run = items_halt f.run; same = f.same; kept = f.kept }
+  -- ---- the rules
 
-  pub block_framed : {k : ℕ} {ts : Trees} {a b : At} {o : End} (r : Block k ts a o b) (u : State) → Agree (block_touched r) u a.state → BlockFrame k ts a o b u (block_touched r)
-  block_framed (in_block r) u m = let f = items_framed r u m in record { after = f.after; run = in_block f.run; same = f.same; kept = f.kept }
+  -- what is made of a right side's end
+  tail : {k : ℕ} {t e : Tree} (a : At) {b : At} {o p : End} {u : State} (f : At → At) (r : EndsFrame (k + 1) e a o b u) → Follows f b r.after → Runs k t (there u a) p (f (there r.after b)) → RunsFrame k t a p (f b) u
+  tail a f r g run = record { after = g.after; run = runs_to run refl (sym g.place); kept = λ c h. g.kept c (r.kept c h) }
 
-  pub taking_framed : {k : ℕ} {p : Pattern} {v : Val} {ts : Trees} {a b : At} {o : End} (r : Taking k p v ts a o b) (u : State) → Agree (taking_touched r) u a.state → TakingFrame k p v ts a o b u (taking_touched r)
-  taking_framed (in_taking {p = pattern.Name x} {v = v} {a = a} r) u m = let f = items_framed r u m in record { after = f.after; run = in_taking {p = pattern.Name x} {v = v} {a = in_state u a} f.run; same = f.same; kept = f.kept }
-  taking_framed (in_taking {p = pattern.Ignore} {v = v} {a = a} r) u m = let f = items_framed r u m in record { after = f.after; run = in_taking {p = pattern.Ignore} {v = v} {a = in_state u a} f.run; same = f.same; kept = f.kept }
+  slot_read_follows : (i : Option SlotId) (a : At) (u : State) → Follows (slot_read i) a u
+  slot_read_follows (Some i) a u = record { after = u; place = refl; kept = λ c h. h }
+  slot_read_follows None a u = unmoved
 
-  pub each_framed : {k : ℕ} {p : Pattern} {ts : Trees} {vs : Vals} {a b : At} {o : End} (r : Each k p ts vs a o b) (u : State) → Agree (each_touched r) u a.state → EachFrame k p ts vs a o b u (each_touched r)
-  each_framed each_none u m = record { after = u; run = each_none; same = refl; kept = λ c e. e }
-  each_framed (each_next {a = a} {b = b} r q) u m =
-      let f = taking_framed r u (agree_left (taking_touched r) (each_touched q) u a.state m) in
-      let g = each_framed q f.after (agree_kept (each_touched q) u a.state f.after b.state f.kept (agree_right (taking_touched r) (each_touched q) u a.state m)) in
-      record { after = g.after; run = each_next f.run g.run; same = λ i. f.same i ++ g.same i; kept = λ c h. g.kept c (f.kept c h) }
-  each_framed (each_halt r) u m = let f = taking_framed r u m in record { after = f.after; run = each_halt f.run; same = f.same; kept = f.kept }
+  slot_put_follows : (v : Val) (i : Option SlotId) (a : At) (u : State) → Follows (slot_put v i) a u
+  slot_put_follows v (Some i) a u = put_follows (slot_cell i) (held v) a u
+  slot_put_follows v None a u = unmoved
+
+  -- a noun gives the same, once its slot is read
+  noun_alike : (x : Name) (m : Option Bind) (a : At) (u t : State) → AgreeOn (slot_read (slot_in m) a).touched u t → noun_end u x m ≡ noun_end t x m
+  noun_alike x (Some (fixed v)) a u t h = refl
+  noun_alike x (Some (slot i)) a u t h = ap (held_end x) (on_reached (slot_cell i) a u t h)
+  noun_alike x None a u t h = refl
+
+  noun_case : (k : ℕ) (x : Name) (a : At) (u : State) → AgreeOn (noun_read x a).touched u a.state → RunsFrame k (noun x) a (noun_end a.state x (sought x a)) (noun_read x a) u
+  noun_case k x a u h =
+      let e : sought x (there u a) ≡ sought x a = sought_alike x a u (before u a.state (read_later (sought_slot x a) (seeking x a)) h) in
+      let o : noun_end u x (sought x (there u a)) ≡ noun_end a.state x (sought x a) = ap (noun_end u x) e ∙ noun_alike x (sought x a) (seeking x a) u a.state h in
+      let m : Follows (seeking x) a u = seeking_follows x a u in
+      let f : Follows (noun_read x) a u =
+      by_case (λ i a. slot_read i (seeking x a)) (sought_slot x) a u (ap slot_in e) (both_follow {f = seeking x} {g = slot_read (sought_slot x a)} m (slot_read_follows (sought_slot x a) (seeking x a) m.after)) in
+      record { after = f.after; run = runs_to run_noun (sym o) (sym f.place); kept = f.kept }
+
+  assign_case : (k : ℕ) (x : Name) (e : Tree) (a : At) (o : End) (b : At) (u : State) (r : EndsFrame (k + 1) e a o b u) → AgreeOn (assigned x o b).touched r.after b.state → RunsFrame k (assign x e) a (assigned_end x o (sought_slot x b)) (assigned x o b) u
+  assign_case k x e a (value v) b u r h =
+      let q : sought_slot x (there r.after b) ≡ sought_slot x b = ap slot_in (sought_alike x b r.after (before r.after b.state (slot_later v (sought_slot x b) (seeking x b)) h)) in
+      let m : Follows (seeking x) b r.after = seeking_follows x b r.after in
+      let f : Follows (assigned x (value v)) b r.after =
+      by_case (λ i a. slot_put v i (seeking x a)) (sought_slot x) b r.after q (both_follow {f = seeking x} {g = slot_put v (sought_slot x b)} m (slot_put_follows v (sought_slot x b) (seeking x b) m.after)) in
+      tail a (assigned x (value v)) r f (subst (λ i. Runs k (assign x e) (there u a) (assigned_end x (value v) i) (assigned x (value v) (there r.after b))) q (run_assign r.run))
+  assign_case k x e a (halt j) b u r h = tail a {b = b} (λ a. a) r unmoved (run_assign r.run)
+
+  -- the same names are captured ..
+  captures_alike : (c : Capture) (xs : List Name) (a : At) (u : State) → AgreeOn (all_sought c xs a).touched u a.state → all_captured c xs (there u a) ≡ all_captured c xs a
+  captures_alike c [] a u h = refl
+  captures_alike (captured ns) (x ∷ xs) a u h =
+      let m : Follows (seeking x) a u = seeking_follows x a u in
+      let c : Capture = and_captured (captured ns) x (sought x a) in
+      let e : sought x (there u a) ≡ sought x a = sought_alike x a u (before u a.state (captures_later c xs (seeking x a)) h) in
+      ap (λ s. all_captured (and_captured (captured ns) x s) xs (seeking x (there u a))) e ∙ ap (all_captured c xs) m.place
+      ∙ captures_alike c xs (seeking x a) m.after (behind u a.state m.after (seeking x a).state m.kept h)
+  captures_alike (missing y) (x ∷ xs) a u h = refl
+
+  -- .. and the same are sought
+  captures_follow : (c : Capture) (xs : List Name) (a : At) (u : State) → AgreeOn (all_sought c xs a).touched u a.state → Follows (all_sought c xs) a u
+  captures_follow c [] a u h = unmoved
+  captures_follow (captured ns) (x ∷ xs) a u h =
+      let m : Follows (seeking x) a u = seeking_follows x a u in
+      let c : Capture = and_captured (captured ns) x (sought x a) in
+      let e : sought x (there u a) ≡ sought x a = sought_alike x a u (before u a.state (captures_later c xs (seeking x a)) h) in
+      by_case (λ s a. all_sought (and_captured (captured ns) x s) xs (seeking x a)) (sought x) a u e
+      (both_follow {f = seeking x} {g = all_sought c xs} m (captures_follow c xs (seeking x a) m.after (behind u a.state m.after (seeking x a).state m.kept h)))
+  captures_follow (missing y) (x ∷ xs) a u h = unmoved
+
+  placed_follows : (room : Bool) (p : Pattern) (o : Object) (a : At) (u : State) → Follows (placed room p o) a u
+  placed_follows true p o a u =
+      let m : Follows (object_made o) a u = record { after = write u (object_cell (next_object a)) (made o); place = refl; kept = λ c h. written_alike u a.state (object_cell (next_object a)) (made o) c h } in
+      let f : Follows (λ b. matched p (object (next_object a)) (object_made o b)) a u = both_follow {f = object_made o} {g = matched p (object (next_object a))} m (matched_follows p (object (next_object a)) (object_made o a) m.after) in
+      record { after = f.after; place = f.place; kept = f.kept }
+  placed_follows false p o a u = unmoved
+
+  object_follows : (p : Pattern) (ms : Methods) (c : Capture) (a : At) (u : State) → Follows (with_object p ms c) a u
+  object_follows p ms (captured ns) a u = let o : Object = record { own = p; captured = ns; methods = ms } in by_case (λ room a. placed room p o a) has_object_room a u refl (placed_follows (has_object_room a) p o a u)
+  object_follows p ms (missing x) a u = unmoved
+
+  placed_ends : (room : Bool) (a : At) (u : State) → placed_end room (there u a) ≡ placed_end room a
+  placed_ends true a u = refl
+  placed_ends false a u = refl
+
+  object_ends : (c : Capture) (a : At) (u : State) → object_end c (there u a) ≡ object_end c a
+  object_ends (captured ns) a u = placed_ends (has_object_room a) a u
+  object_ends (missing x) a u = refl
+
+  object_case : (k : ℕ) (p : Pattern) (ms : Methods) (a : At) (u : State) → AgreeOn (with_object p ms (capture_of p ms a) (capturing p ms a)).touched u a.state
+      → RunsFrame k (object_tree p ms) a (object_end (capture_of p ms a) a) (with_object p ms (capture_of p ms a) (capturing p ms a)) u
+  object_case k p ms a u h =
+      let c : Capture = capture_of p ms a in
+      let g : AgreeOn (capturing p ms a).touched u a.state = before u a.state (object_later p ms c (capturing p ms a)) h in
+      let e : capture_of p ms (there u a) ≡ c = captures_alike (captured []) (captures p ms) a u g in
+      let m : Follows (capturing p ms) a u = captures_follow (captured []) (captures p ms) a u g in
+      let f : Follows (λ a. with_object p ms (capture_of p ms a) (capturing p ms a)) a u =
+      by_case (λ c a. with_object p ms c (capturing p ms a)) (capture_of p ms) a u e (both_follow {f = capturing p ms} {g = with_object p ms c} m (object_follows p ms c (capturing p ms a) m.after)) in
+      let o : object_end (capture_of p ms (there u a)) (there u a) ≡ object_end c a = ap (λ c. object_end c (there u a)) e ∙ object_ends c a u in
+      record { after = f.after; run = runs_to run_object (sym o) (sym f.place); kept = f.kept }
+
+  -- a call leads to the same
+  callee_alike : (m : Callee) (v : Val) (verb : Name) (vs : Vals) (a : At) (u : State) → AgreeOn (callee_read m a).touched u a.state → callee_target m v verb vs (there u a) ≡ callee_target m v verb vs a
+  callee_alike (on_object i) v verb vs a u h = ap (λ x. object_target i x verb vs) (on_reached (object_cell i) a u a.state h)
+  callee_alike (on_ejector j) v verb vs a u h = refl
+  callee_alike on_datum v verb vs a u h = refl
+
+  target_alike : (v : Val) (verb : Name) (g : Gather) (a : At) (u : State) → AgreeOn (called v g a).touched u a.state → target_of v verb g (there u a) ≡ target_of v verb g a
+  target_alike v verb (values vs) a u h = callee_alike (callee_of v) v verb vs a u h
+  target_alike v verb (halted j) a u h = refl
+
+  callee_follows : (m : Callee) (a : At) (u : State) → Follows (callee_read m) a u
+  callee_follows (on_object i) a u = record { after = u; place = refl; kept = λ c h. h }
+  callee_follows (on_ejector j) a u = unmoved
+  callee_follows on_datum a u = unmoved
+
+  called_follows : (v : Val) (g : Gather) (a : At) (u : State) → Follows (called v g) a u
+  called_follows v (values vs) a u = callee_follows (callee_of v) a u
+  called_follows v (halted j) a u = unmoved
+
+  -- a method's block, from the same place
+  inside_at : {k : ℕ} {ns : Nouns} {ts : Trees} {a b d : At} {o : End} → a ≡ b → Items k null ts (inside ns b) o d → Items k null ts (inside ns a) o d
+  inside_at {k = k} {ns = ns} {ts = ts} {d = d} {o = o} e r = subst (λ z. Items k null ts (inside ns z) o d) (sym e) r
+
+  mutual
+    pub ends_framed : {k : ℕ} {t : Tree} {a b : At} {o : End} → Ends k t a o b → (u : State) → AgreeOn b.touched u a.state → EndsFrame k t a o b u
+    ends_framed (at_budget h) u m = record { after = u; run = at_budget h; kept = λ c e. e }
+    ends_framed (at_depth h g) u m = record { after = u; run = at_depth h g; kept = λ c e. e }
+    ends_framed (at_node h g r) u m = let f = runs_framed r u m in record { after = f.after; run = at_node h g f.run; kept = f.kept }
+
+    pub runs_framed : {k : ℕ} {t : Tree} {a b : At} {o : End} → Runs k t a o b → (u : State) → AgreeOn b.touched u a.state → RunsFrame k t a o b u
+    runs_framed run_null u m = record { after = u; run = run_null; kept = λ c e. e }
+    runs_framed run_bool u m = record { after = u; run = run_bool; kept = λ c e. e }
+    runs_framed run_int u m = record { after = u; run = run_int; kept = λ c e. e }
+    runs_framed run_text u m = record { after = u; run = run_text; kept = λ c e. e }
+    runs_framed (run_noun {k = k} {x = x} {a = a}) u m = noun_case k x a u m
+    runs_framed (run_define {p = p} {a = a} {b = b} {o = o} r) u m =
+        let f = ends_framed r u (before u a.state (defined_later p o b) m) in
+        tail a (defined p o) f (defined_follows p o b f.after) (run_define f.run)
+    runs_framed (run_variable {x = x} {a = a} {b = b} {o = o} r) u m =
+        let f = ends_framed r u (before u a.state (declared_later x o b) m) in
+        tail a (declared x o) f (declared_follows x o b f.after) (runs_as (run_variable f.run) (declared_ends o b f.after))
+    runs_framed (run_assign {k = k} {x = x} {e = e} {a = a} {b = b} {o = o} r) u m =
+        let f = ends_framed r u (before u a.state (assigned_later x o b) m) in
+        assign_case k x e a o b u f (behind u a.state f.after b.state f.kept m)
+    runs_framed (run_call_receiver r) u m = let f = ends_framed r u m in record { after = f.after; run = run_call_receiver f.run; kept = f.kept }
+    runs_framed (run_call_gives {verb = verb} {a = a} {b = b} {c = c} {v = v} {g = g} r q e) u m =
+        let l = before u a.state (called_later v g c) m in
+        let f = ends_framed r u (before u a.state (args_later q) l) in
+        let h = args_framed q f.after (behind u a.state f.after b.state f.kept l) in
+        let both : (x : Cell) → u x ≡ a.state x → h.after x ≡ c.state x = λ x z. h.kept x (f.kept x z) in
+        let y = called_follows v g c h.after in
+        let run = run_call_gives {c = there h.after c} f.run h.run (target_alike v verb g c h.after (behind u a.state h.after c.state both m) ∙ e) in
+        record { after = y.after; run = runs_to run refl (sym y.place); kept = λ x z. y.kept x (both x z) }
+    runs_framed (run_call_enters {verb = verb} {a = a} {b = b} {c = c} {d = d} {v = v} {g = g} r q e w) u m =
+        let n = before u a.state (items_later w) m in
+        let l = before u a.state (called_later v g c) n in
+        let f = ends_framed r u (before u a.state (args_later q) l) in
+        let h = args_framed q f.after (behind u a.state f.after b.state f.kept l) in
+        let both : (x : Cell) → u x ≡ a.state x → h.after x ≡ c.state x = λ x z. h.kept x (f.kept x z) in
+        let y = called_follows v g c h.after in
+        let all : (x : Cell) → u x ≡ a.state x → y.after x ≡ (called v g c).state x = λ x z. y.kept x (both x z) in
+        let i = items_framed w y.after (behind u a.state y.after (called v g c).state all m) in
+        let inner = inside_at {a = called v g (there h.after c)} {b = there y.after (called v g c)} {d = there i.after d} y.place i.run in
+        record { after = i.after; run = run_call_enters {c = there h.after c} {d = there i.after d} f.run h.run (target_alike v verb g c h.after (behind u a.state h.after c.state both n) ∙ e) inner; kept = λ x z. i.kept x (all x z) }
+    runs_framed (run_list r) u m = let f = args_framed r u m in record { after = f.after; run = run_list f.run; kept = f.kept }
+    runs_framed (run_same_left r) u m = let f = ends_framed r u m in record { after = f.after; run = run_same_left f.run; kept = f.kept }
+    runs_framed (run_same {a = a} {b = b} r q) u m =
+        let f = ends_framed r u (before u a.state (ends_later q) m) in
+        let g = ends_framed q f.after (behind u a.state f.after b.state f.kept m) in
+        record { after = g.after; run = run_same f.run g.run; kept = λ c h. g.kept c (f.kept c h) }
+    runs_framed (run_define_list {ps = ps} {a = a} {b = b} {o = o} r) u m =
+        let f = ends_framed r u (before u a.state (parts_later ps (parts_of ps o) b) m) in
+        tail a (parts_bound ps (parts_of ps o)) f (parts_follow ps (parts_of ps o) b f.after) (run_define_list f.run)
+    runs_framed (run_hide q) u m = let f = block_framed q u m in record { after = f.after; run = run_hide f.run; kept = f.kept }
+    runs_framed (run_throw r) u m = let f = ends_framed r u m in record { after = f.after; run = run_throw f.run; kept = f.kept }
+    runs_framed (run_if_goes {a = a} {b = b} r e q) u m =
+        let f = ends_framed r u (before u a.state (block_later q) m) in
+        let g = block_framed q f.after (behind u a.state f.after b.state f.kept m) in
+        record { after = g.after; run = run_if_goes f.run e g.run; kept = λ c h. g.kept c (f.kept c h) }
+    runs_framed (run_if_ends r e) u m = let f = ends_framed r u m in record { after = f.after; run = run_if_ends f.run e; kept = f.kept }
+    runs_framed (run_while_again {a = a} {b = b} {d = d} {e = z} r e q w) u m =
+        let l = before u a.state (runs_later w) m in
+        let f = ends_framed r u (before u a.state (block_later q) l) in
+        let g = block_framed q f.after (behind u a.state f.after b.state f.kept l) in
+        let both : (c : Cell) → u c ≡ a.state c → g.after c ≡ d.state c = λ c x. g.kept c (f.kept c x) in
+        let h = runs_framed w g.after (behind u a.state g.after d.state both m) in
+        record { after = h.after; run = run_while_again {d = there g.after d} {e = there h.after z} f.run e g.run h.run; kept = λ c x. h.kept c (both c x) }
+    runs_framed (run_while_halts {a = a} {b = b} r e q) u m =
+        let f = ends_framed r u (before u a.state (block_later q) m) in
+        let g = block_framed q f.after (behind u a.state f.after b.state f.kept m) in
+        record { after = g.after; run = run_while_halts f.run e g.run; kept = λ c h. g.kept c (f.kept c h) }
+    runs_framed (run_while_done r e) u m = let f = ends_framed r u m in record { after = f.after; run = run_while_done f.run e; kept = f.kept }
+    runs_framed (run_while_ends r e) u m = let f = ends_framed r u m in record { after = f.after; run = run_while_ends f.run e; kept = f.kept }
+    runs_framed (run_for {a = a} {b = b} r e q) u m =
+        let f = ends_framed r u (before u a.state (each_later q) m) in
+        let g = each_framed q f.after (behind u a.state f.after b.state f.kept m) in
+        record { after = g.after; run = run_for f.run e g.run; kept = λ c h. g.kept c (f.kept c h) }
+    runs_framed (run_for_ends r e) u m = let f = ends_framed r u m in record { after = f.after; run = run_for_ends f.run e; kept = f.kept }
+    runs_framed (run_try q e) u m = let f = block_framed q u m in record { after = f.after; run = run_try f.run e; kept = f.kept }
+    runs_framed (run_try_caught {a = a} {b = b} q e w) u m =
+        let f = block_framed q u (before u a.state (taking_later w) m) in
+        let g = taking_framed w f.after (behind u a.state f.after b.state f.kept m) in
+        record { after = g.after; run = run_try_caught f.run e g.run; kept = λ c h. g.kept c (f.kept c h) }
+    runs_framed (run_object {k = k} {p = p} {ms = ms} {a = a}) u m = object_case k p ms a u m
+    runs_framed (run_escape q) u m = let f = taking_framed q u m in record { after = f.after; run = run_escape f.run; kept = f.kept }
+
+    pub args_framed : {k : ℕ} {ts : Trees} {a b : At} {g : Gather} → Args k ts a g b → (u : State) → AgreeOn b.touched u a.state → ArgsFrame k ts a g b u
+    args_framed args_none u m = record { after = u; run = args_none; kept = λ c e. e }
+    args_framed (args_next {a = a} {b = b} r q) u m =
+        let f = ends_framed r u (before u a.state (args_later q) m) in
+        let g = args_framed q f.after (behind u a.state f.after b.state f.kept m) in
+        record { after = g.after; run = args_next f.run g.run; kept = λ c h. g.kept c (f.kept c h) }
+    args_framed (args_halt r) u m = let f = ends_framed r u m in record { after = f.after; run = args_halt f.run; kept = f.kept }
+
+    pub items_framed : {k : ℕ} {v : Val} {ts : Trees} {a b : At} {o : End} → Items k v ts a o b → (u : State) → AgreeOn b.touched u a.state → ItemsFrame k v ts a o b u
+    items_framed items_none u m = record { after = u; run = items_none; kept = λ c e. e }
+    items_framed (items_next {a = a} {b = b} r q) u m =
+        let f = ends_framed r u (before u a.state (items_later q) m) in
+        let g = items_framed q f.after (behind u a.state f.after b.state f.kept m) in
+        record { after = g.after; run = items_next f.run g.run; kept = λ c h. g.kept c (f.kept c h) }
+    items_framed (items_halt r) u m = let f = ends_framed r u m in record { after = f.after; run = items_halt f.run; kept = f.kept }
+
+    pub block_framed : {k : ℕ} {ts : Trees} {a b : At} {o : End} → Block k ts a o b → (u : State) → AgreeOn b.touched u a.state → BlockFrame k ts a o b u
+    block_framed (in_block r) u m = let f = items_framed r u m in record { after = f.after; run = in_block f.run; kept = f.kept }
+
+    pub taking_framed : {k : ℕ} {p : Pattern} {v : Val} {ts : Trees} {a b : At} {o : End} → Taking k p v ts a o b → (u : State) → AgreeOn b.touched u a.state → TakingFrame k p v ts a o b u
+    taking_framed (in_taking {p = pattern.Name x} {v = v} {a = a} r) u m = let f = items_framed r u m in record { after = f.after; run = in_taking {p = pattern.Name x} {v = v} {a = there u a} f.run; kept = f.kept }
+    taking_framed (in_taking {p = pattern.Ignore} {v = v} {a = a} r) u m = let f = items_framed r u m in record { after = f.after; run = in_taking {p = pattern.Ignore} {v = v} {a = there u a} f.run; kept = f.kept }
+
+    pub each_framed : {k : ℕ} {p : Pattern} {ts : Trees} {vs : Vals} {a b : At} {o : End} → Each k p ts vs a o b → (u : State) → AgreeOn b.touched u a.state → EachFrame k p ts vs a o b u
+    each_framed each_none u m = record { after = u; run = each_none; kept = λ c e. e }
+    each_framed (each_next {a = a} {b = b} r q) u m =
+        let f = taking_framed r u (before u a.state (each_later q) m) in
+        let g = each_framed q f.after (behind u a.state f.after b.state f.kept m) in
+        record { after = g.after; run = each_next f.run g.run; kept = λ c h. g.kept c (f.kept c h) }
+    each_framed (each_halt r) u m = let f = taking_framed r u m in record { after = f.after; run = each_halt f.run; kept = f.kept }
+
+  -- ---- what is written
+
+  cell_alike : (q : Bool) {X : Type 0} (v b u : X) → (q ≡ true → v ≡ b) → (q ≡ false → v ≡ u) → v ≡ cond q b u
+  cell_alike true v b u h g = h refl
+  cell_alike false v b u h g = g refl
+
+  -- the cells that are written are as they were left in the other state, and the rest as they were
+  left : {D : State → Type 0} {s s' u : State} (q : Cells) (f : Framed D s s' u) → ((c : Cell) → q c ≡ true → u c ≡ s c) → ((c : Cell) → q c ≡ false → f.after c ≡ u c) → D (with_cells q s' u)
+  left {D = D} {s' = s'} {u = u} q f m g = subst D (λ i c. cell_alike (q c) (f.after c) (s' c) (u c) (λ h. f.kept c (m c h)) (g c) i) f.run
+
+  pub ends_written : {k : ℕ} {t : Tree} {a b : At} {o : End} → Ends k t a o b → IsWithin a.written a.touched → (u : State) → AgreeOn b.touched u a.state → Ends k t (there u a) o (there (with_cells b.written b.state u) b)
+  ends_written {b = b} r w u m = let f = ends_framed r u m in left b.written f (λ c h. m c ((ends_later r).within w c h)) (ends_later f.run).stays
+
+  pub items_written : {k : ℕ} {v : Val} {ts : Trees} {a b : At} {o : End} → Items k v ts a o b → IsWithin a.written a.touched → (u : State) → AgreeOn b.touched u a.state → Items k v ts (there u a) o (there (with_cells b.written b.state u) b)
+  items_written {b = b} r w u m = let f = items_framed r u m in left b.written f (λ c h. m c ((items_later r).within w c h)) (items_later f.run).stays

@@ -2,12 +2,15 @@
 use Rattle.std.proofs.Common.{◌≡◌, ℕ, List, [], ◌∷◌, ◌++◌, Bool, true, false, Option, Some, None, refl, sym, ap, ◌∙◌, append_assoc}
 use Rattle.ids.specs.declared.names.SlotId.{SlotId}
 use Rattle.kernele.specs.Tree.{Name, Tree, Trees, Methods}
+use Rattle.scopes.specs.Free.{captures}
 use Rattle.kernele.specs.declared.tree.Pattern.{Pattern}
 use Rattle.kernele.specs.declared.tree.Pattern.TheVariants as pattern
 use Rattle.values.specs.Data.{Val, object, Vals, no_vals, and_val}
 use Rattle.heap.specs.State.{Bind, fixed, slot, Nouns, Object}
 use Rattle.erules.specs.At.{At}
 use Rattle.erules.specs.Outcomes.{End, value, halt, Gather}
+use Rattle.erules.specs.Rules.{seeking, noun_read, slot_put, capturing, called}
+use Rattle.erules.proofs.Seeking.{seeking_reads, noun_reads, captures_read, called_reads}
 use Rattle.erules.specs.Rules.{Listing, listed, unlisted, parts_of, parts_bound, again, bound_in, matched, matched_all, defined, next_slot, has_room, slot_made, variable_made, declared, assigned, Capture, captured, missing, capture_of, next_object, has_object_room, object_made, placed, with_object, leaving, escaped, sought_slot, Ends, at_budget, at_depth, at_node, Runs, run_null, run_bool, run_int, run_text, run_noun, run_define, run_variable, run_assign, run_call_receiver, run_call_gives, run_call_enters, run_list, run_same_left, run_same, run_define_list, run_hide, run_throw, run_if_goes, run_if_ends, run_while_again, run_while_halts, run_while_done, run_while_ends, run_for, run_for_ends, run_try, run_try_caught, run_object, run_escape, Args, args_none, args_next, args_halt, Items, items_none, items_next, items_halt, Block, in_block, Taking, in_taking, Each, each_none, each_next, each_halt}
 
 -- newer names stand before those that were there
@@ -49,10 +52,13 @@ declared_grow : (x : Name) (o : End) (a : At) → Grown a (declared x o a)
 declared_grow x (value v) a = made_grow (has_room a) x v a
 declared_grow x (halt h) a = same a a refl
 
-assigned_grow : (o : End) (i : Option SlotId) (a : At) → Grown a (assigned o i a)
-assigned_grow (value v) (Some i) a = same a (assigned (value v) (Some i) a) refl
-assigned_grow (value v) None a = same a a refl
-assigned_grow (halt h) i a = same a a refl
+slot_names : (v : Val) (i : Option SlotId) (a : At) → (slot_put v i a).nouns ≡ a.nouns
+slot_names v (Some i) a = refl
+slot_names v None a = refl
+
+pub assigned_names : (x : Name) (o : End) (a : At) → (assigned x o a).nouns ≡ a.nouns
+assigned_names x (value v) a = slot_names v (sought_slot x a) (seeking x a) ∙ ap (λ b. b.nouns) (seeking_reads x a)
+assigned_names x (halt h) a = refl
 
 placed_grow : (room : Bool) (p : Pattern) (o : Object) (a : At) → Grown a (placed room p o a)
 placed_grow true p o a = matched_grow p (object (next_object a)) (object_made o a)
@@ -85,12 +91,12 @@ mutual
   runs_grow {a = a} {b = b} run_bool = same a b refl
   runs_grow {a = a} {b = b} run_int = same a b refl
   runs_grow {a = a} {b = b} run_text = same a b refl
-  runs_grow {a = a} {b = b} run_noun = same a b refl
+  runs_grow (run_noun {x = x} {a = a}) = same a (noun_read x a) (ap (λ b. b.nouns) (noun_reads x a))
   runs_grow (run_define {p = p} {a = a} {b = b} {o = o} r) = both a b (defined p o b) (ends_grow r) (defined_grow p o b)
   runs_grow (run_variable {x = x} {a = a} {b = b} {o = o} r) = both a b (declared x o b) (ends_grow r) (declared_grow x o b)
-  runs_grow (run_assign {x = x} {a = a} {b = b} {o = o} r) = both a b (assigned o (sought_slot x b) b) (ends_grow r) (assigned_grow o (sought_slot x b) b)
+  runs_grow (run_assign {x = x} {a = a} {b = b} {o = o} r) = both a b (assigned x o b) (ends_grow r) (same b (assigned x o b) (assigned_names x o b))
   runs_grow (run_call_receiver r) = ends_grow r
-  runs_grow (run_call_gives {a = a} {b = b} {c = c} r u e) = both a b c (ends_grow r) (args_grow u)
+  runs_grow (run_call_gives {a = a} {b = b} {c = c} {v = v} {g = g} r u e) = both a c (called v g c) (both a b c (ends_grow r) (args_grow u)) (same c (called v g c) (ap (λ b. b.nouns) (called_reads v g c)))
   runs_grow (run_call_enters {a = a} {b = b} {c = c} {d = d} r u e q) = both a c (leaving c d) (both a b c (ends_grow r) (args_grow u)) (same c (leaving c d) refl)
   runs_grow (run_list r) = args_grow r
   runs_grow (run_same_left r) = ends_grow r
@@ -108,7 +114,7 @@ mutual
   runs_grow (run_for_ends r e) = ends_grow r
   runs_grow {a = a} {b = b} (run_try q e) = same a b (block_names q)
   runs_grow (run_try_caught {a = a} {d = d} q e w) = same a d (taking_names w ∙ block_names q)
-  runs_grow (run_object {p = p} {ms = ms} {a = a}) = object_grow p ms (capture_of p ms a) a
+  runs_grow (run_object {p = p} {ms = ms} {a = a}) = both a (capturing p ms a) (with_object p ms (capture_of p ms a) (capturing p ms a)) (same a (capturing p ms a) (ap (λ b. b.nouns) (captures_read (captured []) (captures p ms) a))) (object_grow p ms (capture_of p ms a) (capturing p ms a))
   runs_grow (run_escape {a = a} {b = b} q) = same a (escaped a b) (taking_names q)
 
   pub args_grow : {k : ℕ} {ts : Trees} {a b : At} {g : Gather} → Args k ts a g b → Grown a b

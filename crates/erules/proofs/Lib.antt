@@ -8,8 +8,9 @@ pub mod Framed
 pub mod Grown
 pub mod Opened
 pub mod Patterns
+pub mod Reached
+pub mod Seeking
 pub mod Scopes
 pub mod Spent
 pub mod Steps
-pub mod Unwritten
 pub mod Locals

@@ -1,13 +1,16 @@
 -- Escapes: behind a tree as many are begun as before it, and only they are ended.
-use Rattle.std.proofs.Common.{◌≡◌, ℕ, List, [], ◌∷◌, Bool, true, false, Option, Some, None, refl, ◌∙◌}
+use Rattle.std.proofs.Common.{◌≡◌, ℕ, List, [], ◌∷◌, Bool, true, false, Option, Some, None, refl, ap, ◌∙◌}
 use Rattle.ids.specs.declared.names.SlotId.{SlotId}
 use Rattle.kernele.specs.Tree.{Name, Tree, Trees, Methods}
+use Rattle.scopes.specs.Free.{captures}
 use Rattle.kernele.specs.declared.tree.Pattern.{Pattern}
 use Rattle.kernele.specs.declared.tree.Pattern.TheVariants as pattern
 use Rattle.values.specs.Data.{Val, object, Vals, no_vals, and_val}
 use Rattle.heap.specs.State.{Bind, fixed, slot, Object}
 use Rattle.erules.specs.At.{At}
 use Rattle.erules.specs.Outcomes.{End, value, halt, Gather}
+use Rattle.erules.specs.Rules.{seeking, slot_put, capturing}
+use Rattle.erules.proofs.Seeking.{seeking_reads, noun_reads, captures_read, called_reads}
 use Rattle.erules.specs.Rules.{sought_slot, bound_in, matched, matched_all, defined, Listing, listed, unlisted, parts_of, parts_bound, next_slot, has_room, slot_made, variable_made, declared, assigned}
 use Rattle.erules.specs.Rules.{Capture, captured, missing, capture_of, next_object, has_object_room, object_made, placed, with_object}
 use Rattle.erules.specs.Rules.{entering, Ends, at_budget, at_depth, at_node, Runs, run_null, run_bool, run_int, run_text, run_noun, run_define, run_variable, run_assign, run_call_receiver, run_call_gives, run_call_enters, run_list, run_same_left, run_same, run_define_list, run_hide, run_throw, run_if_goes, run_if_ends, run_while_again, run_while_halts, run_while_done, run_while_ends, run_for, run_for_ends, run_try, run_try_caught, run_object, run_escape, Args, args_none, args_next, args_halt, Items, items_none, items_next, items_halt, Block, in_block, Taking, in_taking, Each, each_none, each_next, each_halt}
@@ -41,10 +44,13 @@ declared_opened : (x : Name) (o : End) (a : At) → (declared x o a).opened ≡ 
 declared_opened x (value v) a = variable_opened (has_room a) x v a
 declared_opened x (halt h) a = refl
 
-assigned_opened : (o : End) (i : Option SlotId) (a : At) → (assigned o i a).opened ≡ a.opened
-assigned_opened (value v) (Some i) a = refl
-assigned_opened (value v) None a = refl
-assigned_opened (halt h) i a = refl
+slot_opened : (v : Val) (i : Option SlotId) (a : At) → (slot_put v i a).opened ≡ a.opened
+slot_opened v (Some i) a = refl
+slot_opened v None a = refl
+
+assigned_opened : (x : Name) (o : End) (a : At) → (assigned x o a).opened ≡ a.opened
+assigned_opened x (value v) a = slot_opened v (sought_slot x a) (seeking x a) ∙ ap (λ b. b.opened) (seeking_reads x a)
+assigned_opened x (halt h) a = refl
 
 placed_opened : (room : Bool) (p : Pattern) (o : Object) (a : At) → (placed room p o a).opened ≡ a.opened
 placed_opened true p o a = matched_opened p (object (next_object a)) (object_made o a)
@@ -66,13 +72,13 @@ mutual
   runs_opened run_bool = refl
   runs_opened run_int = refl
   runs_opened run_text = refl
-  runs_opened run_noun = refl
+  runs_opened (run_noun {x = x} {a = a}) = ap (λ b. b.opened) (noun_reads x a)
   runs_opened (run_define {p = p} {b = b} {o = o} r) = defined_opened p o b ∙ ends_opened r
   runs_opened (run_variable {x = x} {b = b} {o = o} r) = declared_opened x o b ∙ ends_opened r
-  runs_opened (run_assign {x = x} {b = b} {o = o} r) = assigned_opened o (sought_slot x b) b ∙ ends_opened r
+  runs_opened (run_assign {x = x} {b = b} {o = o} r) = assigned_opened x o b ∙ ends_opened r
   runs_opened (run_call_receiver r) = ends_opened r
-  runs_opened (run_call_gives r u e) = args_opened u ∙ ends_opened r
-  runs_opened (run_call_enters r u e q) = items_opened q ∙ (args_opened u ∙ ends_opened r)
+  runs_opened (run_call_gives {c = c} {v = v} {g = g} r u e) = ap (λ b. b.opened) (called_reads v g c) ∙ (args_opened u ∙ ends_opened r)
+  runs_opened (run_call_enters {c = c} {v = v} {g = g} r u e q) = items_opened q ∙ (ap (λ b. b.opened) (called_reads v g c) ∙ (args_opened u ∙ ends_opened r))
   runs_opened (run_list r) = args_opened r
   runs_opened (run_same_left r) = ends_opened r
   runs_opened (run_same r u) = ends_opened u ∙ ends_opened r
@@ -89,7 +95,7 @@ mutual
   runs_opened (run_for_ends r e) = ends_opened r
   runs_opened (run_try q e) = block_opened q
   runs_opened (run_try_caught q e w) = taking_opened w ∙ block_opened q
-  runs_opened (run_object {p = p} {ms = ms} {a = a}) = object_opened p ms (capture_of p ms a) a
+  runs_opened (run_object {p = p} {ms = ms} {a = a}) = object_opened p ms (capture_of p ms a) (capturing p ms a) ∙ ap (λ b. b.opened) (captures_read (captured []) (captures p ms) a)
   runs_opened (run_escape q) = refl
 
   pub args_opened : {k : ℕ} {ts : Trees} {a b : At} {g : Gather} → Args k ts a g b → b.opened ≡ a.opened

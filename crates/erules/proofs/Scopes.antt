@@ -1,15 +1,15 @@
 -- On the names of scopes, of which the program pushes the newest at the end.
-use Rattle.std.proofs.Common.{◌≡◌, ℕ, ◌+◌, ◌<◌, ltb, arith, List, [], ◌∷◌, ◌++◌, length, take, drop, length-append, length-drop, append_assoc, Option, Some, None, true, false, refl, sym, ap, ◌∙◌}
+use Rattle.std.proofs.Common.{◌≡◌, ℕ, ◌+◌, ◌<◌, ltb, arith, List, [], ◌∷◌, ◌++◌, length, take, drop, length-append, length-drop, append_assoc, Some, None, true, false, refl, sym, ap, ◌∙◌}
 use Rattle.std.specs.Prelude.{Result, Ok, Err, IfOk}
 use Rattle.std.proofs.lemmas.List.{take-append-drop, length-take-le}
 use Rattle.std.proofs.lemmas.Bool.Decides.{nat_tests}
 use Rattle.ids.specs.declared.names.SlotId.{SlotId}
 use Rattle.kernele.specs.Tree.{Name}
 use Rattle.values.specs.Data.{Val}
-use Rattle.heap.specs.State.{Bind, slot, Nouns, top, slot_cell, bound, held, State, write}
+use Rattle.heap.specs.State.{Bind, slot, Nouns, top, slot_cell, bound, held}
 use Rattle.erules.specs.At.{At}
 use Rattle.erules.specs.Outcomes.{value}
-use Rattle.erules.specs.Rules.{binding, bound_in, next_slot, slot_made, with_slot, variable_made, declared, assigned}
+use Rattle.erules.specs.Rules.{put, sought_slot, seeking, slot_put, binding, bound_in, next_slot, slot_made, with_slot, variable_made, declared, assigned}
 use Rattle.heap.specs.View.{bind_of}
 use Rattle.erules.specs.Locals.{locals_after, locals_of}
 use Rattle.erules.specs.declared.local.Local.{Local}
@@ -23,8 +23,8 @@ pub locals_of-push : (xs : List Local) (n : Local) → locals_of (xs ++ n ∷ []
 locals_of-push xs n = locals_after-append [] xs (n ∷ [])
 
 -- in the script's own scope a name is bound by a write of its cell
-pub bound_on_top : (x : Name) (b : Bind) (a : At) (s : State) → a.own_scope ≡ true → s ≡ write a.state (top x) (bound b) → record a { state = s } ≡ binding x b a
-bound_on_top x b a s h e = ap (λ u. record a { state = u }) e ∙ sym (ap (λ o. bound_in o x b a) h)
+pub bound_on_top : (x y : Name) (b : Bind) (a z : At) → a.own_scope ≡ true → z ≡ put (top y) (bound b) a → y ≡ x → z ≡ binding x b a
+bound_on_top x y b a z h e n = e ∙ ap (λ x. put (top x) (bound b) a) n ∙ sym (ap (λ o. bound_in o x b a) h)
 
 -- in any other scope it is the newest name
 pub bound_inside : (x : Name) (b : Bind) (a : At) (ns : Nouns) → a.own_scope ≡ false → ns ≡ ((x, b) ∷ a.nouns) → record a { nouns = ns } ≡ binding x b a
@@ -35,13 +35,13 @@ pub if_any : {X E P : Type 0} (r : Result X E) → P → IfOk r (λ x. P)
 if_any (Ok x) p = p
 if_any (Err e) p = tt
 
--- an assignment to a slot
-pub assigned_there : (v w : Val) (i : SlotId) (l : Option SlotId) (a : At) (s : State) → l ≡ Some i → s ≡ write a.state (slot_cell i) (held w) → w ≡ v → record a { state = s } ≡ assigned (value v) l a
-assigned_there v w i l a s h e p = ap (λ u. record a { state = u }) (e ∙ ap (λ x. write a.state (slot_cell i) (held x)) p) ∙ sym (ap (λ m. assigned (value v) m a) h)
+-- an assignment to a slot, once its noun was sought
+pub assigned_there : (x : Name) (v w : Val) (i : SlotId) (a b c : At) → sought_slot x a ≡ Some i → b ≡ seeking x a → c ≡ put (slot_cell i) (held w) b → w ≡ v → c ≡ assigned x (value v) a
+assigned_there x v w i a b c h g e p = e ∙ (λ j. put (slot_cell i) (held (p j)) (g j)) ∙ sym (ap (λ m. slot_put v m (seeking x a)) h)
 
 -- an assignment to what is no slot
-pub assigned_nowhere : (v : Val) (l : Option SlotId) (a : At) → l ≡ None → a ≡ assigned (value v) l a
-assigned_nowhere v l a h = sym (ap (λ m. assigned (value v) m a) h)
+pub assigned_nowhere : (x : Name) (v : Val) (a b : At) → sought_slot x a ≡ None → b ≡ seeking x a → b ≡ assigned x (value v) a
+assigned_nowhere x v a b h g = g ∙ sym (ap (λ m. slot_put v m (seeking x a)) h)
 
 pub room : (n : ℕ) → n < 4096 → ltb n 4096 ≡ true
 room n h = grind (arith, nat_tests)

@@ -1,13 +1,16 @@
 -- Steps are only spent.
-use Rattle.std.proofs.Common.{◌≡◌, ℕ, ◌<◌, ◌≤◌, List, [], ◌∷◌, Bool, true, false, Option, Some, None, refl, ◌∙◌, arith}
+use Rattle.std.proofs.Common.{◌≡◌, ℕ, ◌<◌, ◌≤◌, List, [], ◌∷◌, Bool, true, false, Option, Some, None, refl, ap, ◌∙◌, arith}
 use Rattle.ids.specs.declared.names.SlotId.{SlotId}
 use Rattle.kernele.specs.Tree.{Name, Tree, Trees, Methods}
+use Rattle.scopes.specs.Free.{captures}
 use Rattle.kernele.specs.declared.tree.Pattern.{Pattern}
 use Rattle.kernele.specs.declared.tree.Pattern.TheVariants as pattern
 use Rattle.values.specs.Data.{Val, object, Vals, no_vals, and_val}
 use Rattle.heap.specs.State.{Bind, fixed, slot, Object}
 use Rattle.erules.specs.At.{At}
 use Rattle.erules.specs.Outcomes.{End, value, halt, Gather}
+use Rattle.erules.specs.Rules.{seeking, slot_put, capturing}
+use Rattle.erules.proofs.Seeking.{seeking_reads, noun_reads, captures_read, called_reads}
 use Rattle.erules.specs.Rules.{Listing, listed, unlisted, parts_of, parts_bound, choice_of, goes, entering, bound_in, matched, matched_all, defined, next_slot, has_room, slot_made, variable_made, declared, assigned, Capture, captured, missing, capture_of, next_object, has_object_room, object_made, placed, with_object, sought_slot, Ends, at_budget, at_depth, at_node, Runs, run_null, run_bool, run_int, run_text, run_noun, run_define, run_variable, run_assign, run_call_receiver, run_call_gives, run_call_enters, run_list, run_same_left, run_same, run_define_list, run_hide, run_throw, run_if_goes, run_if_ends, run_while_again, run_while_halts, run_while_done, run_while_ends, run_for, run_for_ends, run_try, run_try_caught, run_object, run_escape, Args, args_none, args_next, args_halt, Items, items_none, items_next, items_halt, Block, in_block, Taking, in_taking, Each, each_none, each_next, each_halt}
 
 bound_left : (own : Bool) (x : Name) (b : Bind) (a : At) → (bound_in own x b a).left ≡ a.left
@@ -39,10 +42,13 @@ declared_left : (x : Name) (o : End) (a : At) → (declared x o a).left ≡ a.le
 declared_left x (value v) a = made_left (has_room a) x v a
 declared_left x (halt h) a = refl
 
-assigned_left : (o : End) (i : Option SlotId) (a : At) → (assigned o i a).left ≡ a.left
-assigned_left (value v) (Some i) a = refl
-assigned_left (value v) None a = refl
-assigned_left (halt h) i a = refl
+slot_left : (v : Val) (i : Option SlotId) (a : At) → (slot_put v i a).left ≡ a.left
+slot_left v (Some i) a = refl
+slot_left v None a = refl
+
+assigned_left : (x : Name) (o : End) (a : At) → (assigned x o a).left ≡ a.left
+assigned_left x (value v) a = slot_left v (sought_slot x a) (seeking x a) ∙ ap (λ b. b.left) (seeking_reads x a)
+assigned_left x (halt h) a = refl
 
 placed_left : (room : Bool) (p : Pattern) (o : Object) (a : At) → (placed room p o a).left ≡ a.left
 placed_left true p o a = matched_left p (object (next_object a)) (object_made o a)
@@ -63,13 +69,13 @@ mutual
   runs_left run_bool = omega arith
   runs_left run_int = omega arith
   runs_left run_text = omega arith
-  runs_left run_noun = omega arith
+  runs_left (run_noun {x = x} {a = a}) = omega (arith, ap (λ b. b.left) (noun_reads x a))
   runs_left (run_define {p = p} {b = b} {o = o} r) = omega (arith, ends_left r, defined_left p o b)
   runs_left (run_variable {x = x} {b = b} {o = o} r) = omega (arith, ends_left r, declared_left x o b)
-  runs_left (run_assign {x = x} {b = b} {o = o} r) = omega (arith, ends_left r, assigned_left o (sought_slot x b) b)
+  runs_left (run_assign {x = x} {b = b} {o = o} r) = omega (arith, ends_left r, assigned_left x o b)
   runs_left (run_call_receiver r) = ends_left r
-  runs_left (run_call_gives r u e) = omega (arith, ends_left r, args_left u)
-  runs_left (run_call_enters r u e q) = omega (arith, ends_left r, args_left u, items_left q)
+  runs_left (run_call_gives {c = c} {v = v} {g = g} r u e) = omega (arith, ends_left r, args_left u, ap (λ b. b.left) (called_reads v g c))
+  runs_left (run_call_enters {c = c} {v = v} {g = g} r u e q) = omega (arith, ends_left r, args_left u, ap (λ b. b.left) (called_reads v g c), items_left q)
   runs_left (run_list r) = args_left r
   runs_left (run_same_left r) = ends_left r
   runs_left (run_same r u) = omega (arith, ends_left r, ends_left u)
@@ -86,7 +92,7 @@ mutual
   runs_left (run_for_ends r e) = ends_left r
   runs_left (run_try q e) = block_left q
   runs_left (run_try_caught q e w) = omega (arith, block_left q, taking_left w)
-  runs_left (run_object {p = p} {ms = ms} {a = a}) = omega (arith, object_left p ms (capture_of p ms a) a)
+  runs_left (run_object {p = p} {ms = ms} {a = a}) = omega (arith, object_left p ms (capture_of p ms a) (capturing p ms a), ap (λ b. b.left) (captures_read (captured []) (captures p ms) a))
   runs_left (run_escape q) = taking_left q
 
   pub args_left : {k : ℕ} {ts : Trees} {a b : At} {g : Gather} → Args k ts a g b → b.left ≤ a.left

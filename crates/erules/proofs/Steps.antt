@@ -3,7 +3,7 @@ use Rattle.std.proofs.Common.{arith, ◌≡◌, ℕ, ◌+◌, ◌<◌, ◌≤◌
 use Rattle.std.specs.Prelude.{Result, Ok, Err, IfOk}
 use Rattle.std.proofs.Math.Seq.{drop-cons}
 use Rattle.std.proofs.lemmas.List.{drop_all}
-use Rattle.kernele.specs.Tree.{Tree, define_list, Trees, none, and_then}
+use Rattle.kernele.specs.Tree.{Tree, Trees, none, and_then}
 use Rattle.code.specs.View.{tree_of_code, trees_of_codes}
 use Rattle.code.specs.declared.code.Code.{Code}
 use Rattle.values.specs.Data.{Val, null, Vals, and_val, no_vals}
@@ -11,7 +11,7 @@ use Rattle.values.specs.View.{val_of, vals_of}
 use Rattle.values.specs.declared.value.Value.{Value}
 use Rattle.erules.specs.At.{At}
 use Rattle.erules.specs.Outcomes.{End, Halt, value, halt, Gather, values, halted}
-use Rattle.erules.specs.Rules.{parts_of, parts_bound, parts_end, run_define_list, entering, leaving, again, matched, Ends, at_node, Runs, begun, Args, args_none, args_next, args_halt, Items, items_none, items_next, items_halt, Block, in_block, Taking, in_taking, Each, each_none, each_next, each_halt}
+use Rattle.erules.specs.Rules.{entering, leaving, again, matched, Ends, at_node, Runs, begun, Args, args_none, args_next, args_halt, Items, items_none, items_next, items_halt, Block, in_block, Taking, in_taking, Each, each_none, each_next, each_halt}
 use Rattle.erules.specs.Locals.{locals_of}
 use Rattle.erules.specs.View.{at, end_of, gather_of}
 use Rattle.erules.proofs.Scopes.{truncated}
@@ -113,10 +113,6 @@ ends_to {k = k} {t = t} {a = a} {c = c} {p = p} r e f = subst (λ o. Ends k t a 
 pub runs_to : {k : ℕ} {t : Tree} {a b c : At} {o p : End} → Runs k t a p b → o ≡ p → c ≡ b → Runs k t a o c
 runs_to {k = k} {t = t} {a = a} {c = c} {p = p} r e f = subst (λ o. Runs k t a o c) (sym e) (subst (λ d. Runs k t a p d) (sym f) r)
 
--- a definition with a list of patterns, of which the program has a slice
-pub parts_run : {k : ℕ} {ps qs : List Pattern} {e : Tree} {a b c : At} {o p : End} → ps ≡ qs → Ends (k + 1) e a o b → p ≡ parts_end o (parts_of ps o) → c ≡ parts_bound ps (parts_of ps o) b → Runs k (define_list qs e) a p c
-parts_run {b = b} {o = o} q r f g = runs_to (run_define_list r) (f ∙ ap (λ ps. parts_end o (parts_of ps o)) q) (g ∙ ap (λ ps. parts_bound ps (parts_of ps o) b) q)
-
 -- a slice of what an `Arc` holds
 pub slice_of : {X : Type 0} {s : List X} {v u : Vec X Global} → s ≡ v.items → v ≡ u → s ≡ u.items
 slice_of e f = e ∙ ap (λ v. v.items) f
@@ -129,10 +125,6 @@ if_both (Err e) P Q R h p q = tt
 -- a block's items, where its block is known
 pub blocks : {xs ys : List Code} {o p : code.End} {k : ℕ} {a b : At} → xs ≡ ys → o ≡ p → Block k (trees_of_codes xs) a (end_of o) b → Block k (trees_of_codes ys) a (end_of p) b
 blocks {ys = ys} {o = o} {k = k} {a = a} {b = b} same is r = subst (λ q. Block k (trees_of_codes ys) a (end_of q) b) is (subst (λ x. Block k (trees_of_codes x) a (end_of o) b) same r)
-
--- the same, where its end is known by an equation
-pub block_ending : {xs ys : List Code} {o p : End} {k : ℕ} {a b : At} → xs ≡ ys → o ≡ p → Block k (trees_of_codes xs) a o b → Block k (trees_of_codes ys) a p b
-block_ending {ys = ys} {o = o} {k = k} {a = a} {b = b} same is r = subst (λ q. Block k (trees_of_codes ys) a q b) is (subst (λ x. Block k (trees_of_codes x) a o b) same r)
 
 pub taking : {xs ys : List Code} {k : ℕ} {p : Pattern} {v w : Val} {a b : At} {o : End} → xs ≡ ys → v ≡ w → Taking k p v (trees_of_codes xs) a o b → Taking k p w (trees_of_codes ys) a o b
 taking {ys = ys} {k = k} {p = p} {v = v} {a = a} {b = b} {o = o} same is r = subst (λ w. Taking k p w (trees_of_codes ys) a o b) is (subst (λ x. Taking k p v (trees_of_codes x) a o b) same r)

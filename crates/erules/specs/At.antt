@@ -3,11 +3,12 @@ use Rattle.std.specs.Prelude.{ℕ, Bool, List}
 use Rattle.ids.specs.declared.names.EventName.{EventName}
 use Rattle.ids.specs.declared.names.VatNo.{VatNo}
 use Rattle.ids.specs.declared.names.EjId.{EjId}
-use Rattle.heap.specs.State.{Nouns, State}
+use Rattle.heap.specs.State.{Nouns, State, Cells}
 
 -- where an evaluation stands: the names of the scopes entered so far, whether the innermost scope is the script's own,
--- the state, the steps left, the turn's event and its vat, how many slots, objects and ejectors the turn has made,
--- and the ejectors whose Escape is being evaluated, the newest first
+-- the state, the steps left, the turn's event, its vat and the state that it began with, how many slots, objects and ejectors the turn has made,
+-- the ejectors whose Escape is being evaluated, the newest first,
+-- the cells of the vat that the turn has read or written so far, and those of them that it has written
 pub record At : Type 0 where
   pub nouns : Nouns
   pub own_scope : Bool
@@ -15,7 +16,10 @@ pub record At : Type 0 where
   pub left : ℕ
   pub event : EventName
   pub vat : VatNo
+  pub began : State
   pub slots : ℕ
   pub objects : ℕ
   pub ejectors : ℕ
   pub opened : List EjId
+  pub touched : Cells
+  pub written : Cells

@@ -1,28 +1,58 @@
 -- The laws of evaluation.
-use Rattle.std.specs.Prelude.{◌≡◌, ℕ, ◌≤◌, ◌++◌, true}
+use Rattle.std.specs.Prelude.{◌≡◌, ℕ, ◌≤◌, ◌++◌, true, false, cond}
 use Rattle.ids.specs.declared.names.EjId.{EjId}
 use Rattle.kernele.specs.Tree.{Tree}
 use Rattle.values.specs.Data.{Val}
 use Rattle.code.specs.Frames.{after}
-use Rattle.heap.specs.State.{Nouns, frame_of, Cell, State}
+use Rattle.heap.specs.State.{Nouns, frame_of, Cell, State, Cells}
 use Rattle.erules.specs.At.{At}
 use Rattle.erules.specs.Outcomes.{End, value, ejected, halt}
 use Rattle.erules.specs.Rules.{Ends, is_open}
-use Rattle.erules.specs.Touched.{ends_touched, Agree, NotPut, in_state}
 
--- a tree has at most one outcome: one end, one state, the same names and steps left
+-- the same place in another state, of a turn that began with yet another one
+abbrev pub in_state : State → State → At → At
+in_state w t a = record a { began = w; state = t }
+
+-- each cell of one set is one of the other
+abbrev pub IsWithin : Cells → Cells → Type 0
+IsWithin p q = (c : Cell) → p c ≡ true → q c ≡ true
+
+-- two states agree on a set of cells
+abbrev pub AgreeOn : Cells → State → State → Type 0
+AgreeOn q t s = (c : Cell) → q c ≡ true → t c ≡ s c
+
+-- a state, with these cells as another state has them
+abbrev pub with_cells : Cells → State → State → State
+with_cells q t s = λ c. cond (q c) (t c) (s c)
+
+-- a tree has at most one outcome: one end, one state, the same names, steps left and cells touched
 abbrev pub AtMostOneOutcome : Type 0
 AtMostOneOutcome = (k : ℕ) (t : Tree) (a b c : At) (o p : End) → Ends k t a o b → Ends k t a p c → (o ≡ p) × (b ≡ c)
 
--- in a state that agrees on the cells touched, a tree ends the same and touches the same cells,
+-- what was touched before a tree is touched behind it, and what was written is written;
+-- and where all that was written was touched, all that is written is touched
+abbrev pub TouchedGrows : Type 0
+TouchedGrows = (k : ℕ) (t : Tree) (a b : At) (o : End) → Ends k t a o b
+    → IsWithin a.touched b.touched × IsWithin a.written b.written × (IsWithin a.written a.touched → IsWithin b.written b.touched)
+
+-- in a state that agrees on the cells touched, whatever the turn began with, a tree ends the same, and touches and writes the same cells;
 -- and whatever cells agreed before agree after
 abbrev pub Frame : Type 0
-Frame = (k : ℕ) (t : Tree) (a b : At) (o : End) (r : Ends k t a o b) (u : State) → Agree (ends_touched r) u a.state →
-    (v : State) × (s : Ends k t (in_state u a) o (in_state v b)) × (ends_touched s ≡ ends_touched r) × ((c : Cell) → u c ≡ a.state c → v c ≡ b.state c)
+Frame = (k : ℕ) (t : Tree) (a b : At) (o : End) → Ends k t a o b → (w u : State) → AgreeOn b.touched u a.state
+    → (v : State) × Ends k t (in_state w u a) o (in_state w v b) × ((c : Cell) → u c ≡ a.state c → v c ≡ b.state c)
 
--- a cell that a tree did not write is as it was
+-- a cell that is not written is as it was
 abbrev pub OthersStay : Type 0
-OthersStay = (k : ℕ) (t : Tree) (a b : At) (o : End) (r : Ends k t a o b) (c : Cell) → NotPut c (ends_touched r) → b.state c ≡ a.state c
+OthersStay = (k : ℕ) (t : Tree) (a b : At) (o : End) → Ends k t a o b → (c : Cell) → b.written c ≡ false → b.state c ≡ a.state c
+
+-- so in a state that agrees on the cells touched, a tree leaves the cells that are written as it leaves them here, and the others as they were
+abbrev pub WritesAlike : Type 0
+WritesAlike = (k : ℕ) (t : Tree) (a b : At) (o : End) → Ends k t a o b → IsWithin a.written a.touched → (w u : State) → AgreeOn b.touched u a.state
+    → Ends k t (in_state w u a) o (in_state w (with_cells b.written b.state u) b)
+
+-- a tree leaves the state that its turn began with
+abbrev pub BeginningStays : Type 0
+BeginningStays = (k : ℕ) (t : Tree) (a b : At) (o : End) → Ends k t a o b → b.began ≡ a.began
 
 -- a tree gives no step back
 abbrev pub StepsOnlyFall : Type 0

@@ -3,6 +3,5 @@ pub mod Fits
 pub mod Outcomes
 pub mod Rules
 pub mod View
-pub mod Touched
 pub mod Laws
 pub mod Locals

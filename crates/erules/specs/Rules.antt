@@ -13,13 +13,21 @@ use Rattle.kernele.specs.declared.tree.Pattern.TheVariants as pattern
 use Rattle.values.specs.Data.{Val, null, bool, int, text, broken, object, ejector, Vals, no_vals, and_val}
 use Rattle.values.specs.Replies.{no_method, data_reply, list_reply, text_reply, text_in, items_in}
 use Rattle.values.specs.Same.{same_as}
-use Rattle.heap.specs.State.{Bind, fixed, slot, Nouns, lookup, Object, top, slot_cell, object_cell, Content, bound, held, made, State, read, write}
+use Rattle.heap.specs.State.{Bind, fixed, slot, Nouns, lookup, Object, top, slot_cell, object_cell, Cell, Content, bound, held, made, State, read, write, also}
 use Rattle.erules.specs.At.{At}
 use Rattle.erules.specs.Outcomes.{budget_spent, too_deep, too_large, Halt, thrown, ejected, abandoned, End, value, halt, Gather, values, halted, reply_end}
 
 -- a step was taken
 abbrev pub begun : At → At
 begun a = record a { left = a.left - 1 }
+
+-- a cell is read: from now on it is touched
+abbrev pub reached : Cell → At → At
+reached c a = record a { touched = also c a.touched }
+
+-- a cell is written, and so touched
+abbrev pub put : Cell → Content → At → At
+put c x a = record a { state = write a.state c x; touched = also c a.touched; written = also c a.written }
 
 -- a name that nothing defined throws
 abbrev pub undefined_noun : Name → End
@@ -39,6 +47,14 @@ found s x None = top_bind (read s (top x))
 
 abbrev pub sought : Name → At → Option Bind
 sought x a = found a.state x (lookup a.nouns x)
+
+-- a name of no scope is sought in its top noun's cell
+abbrev pub sought_in : Name → Option Bind → At → At
+sought_in x (Some b) a = a
+sought_in x None a = reached (top x) a
+
+abbrev pub seeking : Name → At → At
+seeking x a = sought_in x (lookup a.nouns x) a
 
 -- the slot that a name stands for
 abbrev pub slot_in : Option Bind → Option SlotId
@@ -62,9 +78,17 @@ noun_end s x (Some (fixed v)) = value v
 noun_end s x (Some (slot i)) = held_end x (read s (slot_cell i))
 noun_end s x None = undefined_noun x
 
+-- and its slot, where it stands for one, is read
+abbrev pub slot_read : Option SlotId → At → At
+slot_read (Some i) a = reached (slot_cell i) a
+slot_read None a = a
+
+abbrev pub noun_read : Name → At → At
+noun_read x a = slot_read (sought_slot x a) (seeking x a)
+
 -- a name is bound in the innermost scope: the script's own scope is the vat's top nouns
 abbrev pub bound_in : Bool → Name → Bind → At → At
-bound_in true x b a = record a { state = write a.state (top x) (bound b) }
+bound_in true x b a = put (top x) (bound b) a
 bound_in false x b a = record a { nouns = (x, b) ∷ a.nouns }
 
 abbrev pub binding : Name → Bind → At → At
@@ -137,7 +161,7 @@ next_slot a = record { event = a.event; index = a.slots; vat = a.vat }
 
 -- a new slot holds the value
 abbrev pub slot_made : Val → At → At
-slot_made v a = record a { state = write a.state (slot_cell (next_slot a)) (held v); slots = a.slots + 1 }
+slot_made v a = record (put (slot_cell (next_slot a)) (held v) a) { slots = a.slots + 1 }
 
 -- a name is bound to a new slot
 abbrev pub with_slot : Name → Val → At → At
@@ -165,11 +189,15 @@ abbrev pub declared_end : End → At → End
 declared_end (value v) a = variable_end (has_room a) v
 declared_end (halt h) a = halt h
 
--- an assignment writes into the slot that its noun stands for, once its right side has given a value
-abbrev pub assigned : End → Option SlotId → At → At
-assigned (value v) (Some i) a = record a { state = write a.state (slot_cell i) (held v) }
-assigned (value v) None a = a
-assigned (halt h) i a = a
+-- a value is written into a slot, where there is one
+abbrev pub slot_put : Val → Option SlotId → At → At
+slot_put v (Some i) a = put (slot_cell i) (held v) a
+slot_put v None a = a
+
+-- an assignment seeks its noun once its right side has given a value, and writes into the slot that it stands for
+abbrev pub assigned : Name → End → At → At
+assigned x (value v) a = slot_put v (sought_slot x a) (seeking x a)
+assigned x (halt h) a = a
 
 -- a noun that stands for no slot throws as an undefined one does: the check refuses a program that assigns to a definition
 abbrev pub assigned_end : Name → End → Option SlotId → End
@@ -191,11 +219,21 @@ and_captured (missing y) x m = missing y
 -- names are captured from the left, up to the first that stands for nothing
 abbrev pub all_captured : Capture → List Name → At → Capture
 all_captured c [] a = c
-all_captured c (x ∷ xs) a = all_captured (and_captured c x (sought x a)) xs a
+all_captured (captured ns) (x ∷ xs) a = all_captured (and_captured (captured ns) x (sought x a)) xs (seeking x a)
+all_captured (missing y) (x ∷ xs) a = missing y
+
+-- and each of these is sought
+abbrev pub all_sought : Capture → List Name → At → At
+all_sought c [] a = a
+all_sought (captured ns) (x ∷ xs) a = all_sought (and_captured (captured ns) x (sought x a)) xs (seeking x a)
+all_sought (missing y) (x ∷ xs) a = a
 
 -- what an object captures: the names that are free in its methods
 abbrev pub capture_of : Pattern → Methods → At → Capture
 capture_of p ms a = all_captured (captured []) (captures p ms) a
+
+abbrev pub capturing : Pattern → Methods → At → At
+capturing p ms a = all_sought (captured []) (captures p ms) a
 
 -- the object that a turn makes next: they are numbered from 0 in order of making
 abbrev pub next_object : At → ObjId
@@ -207,7 +245,7 @@ has_object_room a = ltb a.objects 4096
 
 -- an object is made
 abbrev pub object_made : Object → At → At
-object_made o a = record a { state = write a.state (object_cell (next_object a)) (made o); objects = a.objects + 1 }
+object_made o a = record (put (object_cell (next_object a)) (made o) a) { objects = a.objects + 1 }
 
 -- and its pattern takes it, where there is room for one more; without room the turn is abandoned
 abbrev pub placed : Bool → Pattern → Object → At → At
@@ -314,6 +352,16 @@ abbrev pub target_of : Val → Name → Gather → At → Target
 target_of v verb (values vs) a = callee_target (callee_of v) v verb vs a
 target_of v verb (halted h) a = gives (halt h)
 
+-- a call on an object reads the object, whether it has the method or not
+abbrev pub callee_read : Callee → At → At
+callee_read (on_object i) a = reached (object_cell i) a
+callee_read (on_ejector j) a = a
+callee_read on_datum a = a
+
+abbrev pub called : Val → Gather → At → At
+called v (values vs) a = callee_read (callee_of v) a
+called v (halted h) a = a
+
 -- the ejector that a turn makes next: they are numbered from 0 in order of making, and never counted against a limit
 abbrev pub next_ejector : At → EjId
 next_ejector a = record { event = a.event; index = a.ejectors; vat = a.vat }
@@ -419,13 +467,13 @@ mutual
     run_bool : {k : ℕ} {b : Bool} {a : At} → Runs k (bool_tree b) a (value (bool b)) a
     run_int : {k : ℕ} {z : ℤ} {a : At} → Runs k (int_tree z) a (value (int z)) a
     run_text : {k : ℕ} {s : Name} {a : At} → Runs k (text_tree s) a (reply_end (text_reply s)) a
-    run_noun : {k : ℕ} {x : Name} {a : At} → Runs k (noun x) a (noun_end a.state x (sought x a)) a
+    run_noun : {k : ℕ} {x : Name} {a : At} → Runs k (noun x) a (noun_end a.state x (sought x a)) (noun_read x a)
     run_define : {k : ℕ} {p : Pattern} {e : Tree} {a b : At} {o : End} → Ends (k + 1) e a o b → Runs k (define p e) a o (defined p o b)
     run_variable : {k : ℕ} {x : Name} {e : Tree} {a b : At} {o : End} → Ends (k + 1) e a o b → Runs k (variable x e) a (declared_end o b) (declared x o b)
-    run_assign : {k : ℕ} {x : Name} {e : Tree} {a b : At} {o : End} → Ends (k + 1) e a o b → Runs k (assign x e) a (assigned_end x o (sought_slot x b)) (assigned o (sought_slot x b) b)
+    run_assign : {k : ℕ} {x : Name} {e : Tree} {a b : At} {o : End} → Ends (k + 1) e a o b → Runs k (assign x e) a (assigned_end x o (sought_slot x b)) (assigned x o b)
     run_call_receiver : {k : ℕ} {r : Tree} {verb : Name} {args : Trees} {a b : At} {h : Halt} → Ends (k + 1) r a (halt h) b → Runs k (call r verb args) a (halt h) b
-    run_call_gives : {k : ℕ} {r : Tree} {verb : Name} {args : Trees} {a b c : At} {v : Val} {g : Gather} {o : End} → Ends (k + 1) r a (value v) b → Args (k + 1) args b g c → target_of v verb g c ≡ gives o → Runs k (call r verb args) a o c
-    run_call_enters : {k : ℕ} {r : Tree} {verb : Name} {args : Trees} {a b c d : At} {v : Val} {g : Gather} {ns : Nouns} {body : Trees} {o : End} → Ends (k + 1) r a (value v) b → Args (k + 1) args b g c → target_of v verb g c ≡ enters ns body → Items (k + 1) null body (inside ns c) o d → Runs k (call r verb args) a o (leaving c d)
+    run_call_gives : {k : ℕ} {r : Tree} {verb : Name} {args : Trees} {a b c : At} {v : Val} {g : Gather} {o : End} → Ends (k + 1) r a (value v) b → Args (k + 1) args b g c → target_of v verb g c ≡ gives o → Runs k (call r verb args) a o (called v g c)
+    run_call_enters : {k : ℕ} {r : Tree} {verb : Name} {args : Trees} {a b c d : At} {v : Val} {g : Gather} {ns : Nouns} {body : Trees} {o : End} → Ends (k + 1) r a (value v) b → Args (k + 1) args b g c → target_of v verb g c ≡ enters ns body → Items (k + 1) null body (inside ns (called v g c)) o d → Runs k (call r verb args) a o (leaving c d)
     run_list : {k : ℕ} {ts : Trees} {a b : At} {g : Gather} → Args (k + 1) ts a g b → Runs k (list_tree ts) a (list_end g) b
     run_same_left : {k : ℕ} {l r : Tree} {a b : At} {h : Halt} → Ends (k + 1) l a (halt h) b → Runs k (same_tree l r) a (halt h) b
     run_same : {k : ℕ} {l r : Tree} {a b c : At} {v : Val} {o : End} → Ends (k + 1) l a (value v) b → Ends (k + 1) r b o c → Runs k (same_tree l r) a (same_end v o) c
@@ -442,7 +490,7 @@ mutual
     run_for_ends : {k : ℕ} {p : Pattern} {e : Tree} {body : Trees} {a b : At} {o q : End} → Ends (k + 1) e a o b → listing_of o ≡ unlisted q → Runs k (for_tree p e body) a q b
     run_try : {k : ℕ} {body : Trees} {p : Pattern} {handler : Trees} {a b : At} {o : End} → Block (k + 1) body a o b → caught o ≡ None → Runs k (try_tree body p handler) a o b
     run_try_caught : {k : ℕ} {body : Trees} {p : Pattern} {handler : Trees} {a b d : At} {o q : End} {problem : Name} → Block (k + 1) body a o b → caught o ≡ Some problem → Taking (k + 1) p (text problem) handler b q d → Runs k (try_tree body p handler) a q d
-    run_object : {k : ℕ} {p : Pattern} {ms : Methods} {a : At} → Runs k (object_tree p ms) a (object_end (capture_of p ms a) a) (with_object p ms (capture_of p ms a) a)
+    run_object : {k : ℕ} {p : Pattern} {ms : Methods} {a : At} → Runs k (object_tree p ms) a (object_end (capture_of p ms a) a) (with_object p ms (capture_of p ms a) (capturing p ms a))
     run_escape : {k : ℕ} {x : Name} {body : Trees} {a b : At} {o : End} → Taking (k + 1) (pattern.Name x) (ejector (next_ejector a)) body (escaping a) o b → Runs k (escape_tree x body) a (escape_end (next_ejector a) o) (escaped a b)
 
   -- trees from left to right, as arguments or as the items of a list

@@ -4,7 +4,7 @@ use Rattle.ids.specs.declared.names.EjId.{EjId}
 use Rattle.values.specs.View.{val_of, vals_of}
 use Rattle.erules.specs.At.{At}
 use Rattle.erules.specs.Locals.{locals_of}
-use Rattle.heap.specs.Drafts.{draft_of, counts_of}
+use Rattle.heap.specs.Drafts.{draft_of, counts_of, began_with, touched_of, written_of}
 use Rattle.erules.specs.Outcomes.{Cause, budget_spent, too_deep, too_large, Halt, thrown, ejected, abandoned, End, value, halt, Gather, values, halted}
 use Rattle.erules.specs.Rules.{Choice, goes, ends, Listing, listed, unlisted}
 use Rattle.erules.specs.declared.wanted.Choosing.{Choosing}
@@ -49,7 +49,7 @@ opened_of items = ejectors_after [] items
 
 -- where the program stands
 abbrev pub at : Working → At
-at w = record { nouns = locals_of w.nouns.items; own_scope = w.own_scope; state = draft_of w.draft; left = w.steps; event = (counts_of w.draft).event; vat = (counts_of w.draft).vat; slots = (counts_of w.draft).slots; objects = (counts_of w.draft).objects; ejectors = w.ejectors; opened = opened_of w.opened.items }
+at w = record { nouns = locals_of w.nouns.items; own_scope = w.own_scope; state = draft_of w.draft; left = w.steps; event = (counts_of w.draft).event; vat = (counts_of w.draft).vat; began = began_with w.draft; slots = (counts_of w.draft).slots; objects = (counts_of w.draft).objects; ejectors = w.ejectors; opened = opened_of w.opened.items; touched = touched_of w.draft; written = written_of w.draft }
 
 -- what a condition leads to, and what stands where a list is wanted
 abbrev pub choice_view : Choosing → Choice

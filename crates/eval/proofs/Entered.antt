@@ -1,10 +1,10 @@
 -- From the rules of calls and of Escapes to what the program's functions ensure.
-use Rattle.std.proofs.Common.{◌≡◌, ℕ, ◌+◌, Bool, List, length, take, subst, sym, ap, ◌∙◌, rules}
+use Rattle.std.proofs.Common.{◌≡◌, ℕ, ◌+◌, Bool, List, length, take, subst, refl, sym, ap, ◌∙◌, rules}
 use Rattle.std.specs.Prelude.{Result, Ok, Err, IfOk, Vec, vec_len}
 use Rattle.std.specs.declared.alloc.Global.{Global}
 use Rattle.ids.specs.declared.names.EjId.{EjId}
 use Rattle.kernele.specs.Tree.{Name, Tree, Trees, call, escape_tree}
-use Rattle.code.specs.View.{trees_of_codes}
+use Rattle.code.specs.View.{tree_of_code, trees_of_codes}
 use Rattle.code.specs.declared.code.Code.{Code}
 use Rattle.kernele.specs.declared.tree.Pattern.{Pattern}
 use Rattle.kernele.specs.declared.tree.Pattern.TheVariants as pattern
@@ -12,13 +12,16 @@ use Rattle.values.specs.Data.{Val, null, ejector}
 use Rattle.heap.specs.State.{Nouns}
 use Rattle.erules.specs.At.{At}
 use Rattle.erules.specs.Outcomes.{End, value, Gather}
-use Rattle.erules.specs.Rules.{Target, inside, leaving, enters, target_of, next_ejector, escaping, escape_end, Ends, Runs, run_call_enters, run_escape, Args, Items, Taking}
+use Rattle.erules.specs.Rules.{Target, inside, leaving, gives, enters, target_of, called, next_ejector, escaping, escape_end, Ends, Runs, run_call_gives, run_call_enters, run_escape, Args, Items, Taking}
 use Rattle.erules.specs.Locals.{locals_of}
 use Rattle.erules.specs.View.{at, opened_of}
 use Rattle.erules.specs.declared.local.Local.{Local}
 use Rattle.erules.specs.declared.working.Working.{Working}
 use Rattle.erules.proofs.Opened.{taking_opened}
+use Rattle.erules.proofs.Seeking.{called_reads}
+use Rattle.erules.proofs.Steps.{runs_to, args_as}
 use Rattle.erules.proofs.Ejectors.{opened_truncated}
+use Rattle.eval.specs.Leading.{Leads}
 
 -- what a method's block does, where the caller's names come back behind it
 abbrev pub Enters : ℕ → Trees → Nouns → At → End → At → Type 0
@@ -28,10 +31,26 @@ pub entered : {k : ℕ} {ts bodies : Trees} {o : End} → bodies ≡ ts → (ns 
     → z ≡ record (at u) { nouns = locals_of names; own_scope = own } → Enters k ts ns (at w) o z
 entered {k = k} {ts = ts} {o = o} d ns w u {b = b} e f q r h = (at u, subst (λ x. Items k null ts x o (at u)) q (subst (λ us. Items k null us b o (at u)) d r), h ∙ (λ i. record (at u) { nouns = locals_of (e i); own_scope = f i }))
 
+-- a call reads no name: behind it are those of before
+left_behind : (v : Val) (g : Gather) (y c d : At) → y ≡ called v g c → leaving y d ≡ leaving c d
+left_behind v g y c d e = ap (λ z. leaving z d) (e ∙ called_reads v g c)
+
+-- a call whose parts are known otherwise
+pub call_as : {k : ℕ} {r s : Code} {verb : Name} {xs ys : List Code} {a b : At} {o : End} → r ≡ s → xs ≡ ys → Runs k (call (tree_of_code r) verb (trees_of_codes xs)) a o b → Runs k (call (tree_of_code s) verb (trees_of_codes ys)) a o b
+call_as {k = k} {s = s} {verb = verb} {xs = xs} {a = a} {b = b} {o = o} e f h =
+    subst (λ xs. Runs k (call (tree_of_code s) verb (trees_of_codes xs)) a o b) f (subst (λ r. Runs k (call (tree_of_code r) verb (trees_of_codes xs)) a o b) e h)
+
+-- a call whose target is an end
+pub call_given : {k : ℕ} {r : Tree} {verb : Name} {xs ys : List Code} {a b z : At} {v : Val} {m : Target} {o : End} → xs ≡ ys → Ends (k + 1) r a (value v) b → Leads (k + 1) (trees_of_codes xs) v verb b m z → m ≡ gives o → Runs k (call r verb (trees_of_codes ys)) a o z
+call_given same p l e = runs_to (run_call_gives p (args_as same l.args) (sym l.target ∙ e)) refl l.place
+
 -- a call that enters a method
-pub call_entered : {k : ℕ} {r : Tree} {verb : Name} {args : Trees} {a b c z : At} {v : Val} {g : Gather} {ns : Nouns} {body : Trees} {o : End} → Ends (k + 1) r a (value v) b → Args (k + 1) args b g c → target_of v verb g c ≡ enters ns body
-    → Enters (k + 1) body ns c o z → Runs k (call r verb args) a o z
-call_entered {k = k} {r = r} {verb = verb} {args = args} {a = a} {o = o} p u e h = subst (λ z. Runs k (call r verb args) a o z) (sym h.2) (run_call_enters p u e h.1)
+pub call_entered : {k : ℕ} {r : Tree} {verb : Name} {xs ys : List Code} {a b y z : At} {v : Val} {m : Target} {ns : Nouns} {body : Trees} {o : End} → xs ≡ ys → Ends (k + 1) r a (value v) b → Leads (k + 1) (trees_of_codes xs) v verb b m y → m ≡ enters ns body
+    → Enters (k + 1) body ns y o z → Runs k (call r verb (trees_of_codes ys)) a o z
+call_entered {k = k} {y = y} {v = v} {ns = ns} {body = body} {o = o} same p l e h =
+    let place = l.place in
+    runs_to (run_call_enters {c = l.behind} {d = h.0} p (args_as same l.args) (sym l.target ∙ e) (subst (λ y. Items (k + 1) null body (inside ns y) o h.0) place h.1)) refl
+    (h.2 ∙ left_behind v l.gather y l.behind h.0 place)
 
 -- as many Escapes are being evaluated as their vector says
 pub as_many : (opened : Vec EjId Global) {n : ℕ} → n ≡ vec_len opened → n ≡ length opened.items
@@ -49,13 +68,11 @@ escape_over {k = k} {ts = ts} {o = o} x xs w u {q = q} {j = j} {b = b} {z = z} {
     subst (λ p. Runs k (escape_tree x ts) (at w) p z) (sym (m ∙ ap (λ j. escape_end j o) e))
     (subst (λ z. Runs k (escape_tree x ts) (at w) (escape_end (next_ejector (at w)) o) z) (sym (h ∙ ap (λ is. record (at u) { opened = is }) (opened_truncated w.opened.items u.opened.items n (next_ejector (at w)) l (taking_opened taken)))) (run_escape taken))
 
--- what a call leads to, and how its arguments ended
-abbrev pub Leads : ℕ → Trees → Val → Name → At → Target → At → Type 0
-Leads k ts v verb a m b = (g : Gather) × Args k ts a g b × (m ≡ target_of v verb g b)
-
-pub call_leads : {X E : Type 0} {k : ℕ} {ts : Trees} {a b z : At} {g : Gather} (r : Result X E) (view : X → Target) (v : Val) (verb : Name) → Args k ts a g b → IfOk r (λ x. view x ≡ target_of v verb g b) → z ≡ b → IfOk r (λ x. Leads k ts v verb a (view x) z)
-call_leads {k = k} {ts = ts} {a = a} {g = g} (Ok x) view v verb u h p = subst (λ z. Leads k ts v verb a (view x) z) (sym p) (g, u, h)
-call_leads (Err e) view v verb u h p = tt
+-- a call leads where its arguments have been evaluated
+pub call_leads : {X E : Type 0} {k : ℕ} {ts : Trees} {a b : At} {g : Gather} (r : Result X E) (view : X → Target) (v : Val) (verb : Name) (z : At) → Args k ts a g b → IfOk r (λ x. view x ≡ target_of v verb g b) → IfOk r (λ x. z ≡ called v g b)
+    → IfOk r (λ x. Leads k ts v verb a (view x) z)
+call_leads {b = b} {g = g} (Ok x) view v verb z u h p = record { gather = g; behind = b; args = u; target = h; place = p }
+call_leads (Err e) view v verb z u h p = tt
 
 -- the same, where the arguments are known otherwise
 pub leads_as : {X E : Type 0} {ts us : Trees} (r : Result X E) (view : X → Target) (k : ℕ) (v : Val) (verb : Name) (a b : At) → ts ≡ us → IfOk r (λ x. Leads k ts v verb a (view x) b) → IfOk r (λ x. Leads k us v verb a (view x) b)

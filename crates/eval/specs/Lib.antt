@@ -1,2 +1,3 @@
 pub mod Halting
+pub mod Leading
 pub mod Sides

@@ -29,7 +29,7 @@ taken_end _ o a = o
 abbrev pub taken_at : Code → End → At → At
 taken_at (code.Def' pattern p e) o a = defined pattern o a
 taken_at (code.Var' x p e) o a = declared x o a
-taken_at (code.Assign' x at p e) o a = assigned o (sought_slot x a) a
+taken_at (code.Assign' x at p e) o a = assigned x o a
 taken_at (code.DefList' patterns p e) o a = parts_bound patterns.value.items (parts_of patterns.value.items o) a
 taken_at _ o a = a
 

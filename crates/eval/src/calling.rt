@@ -6,12 +6,12 @@ ghost use Rattle.erules.specs.Fits.{fits_at, all_fit_at, frame_at, frame_behind}
 ghost use Rattle.code.specs.View.{tree_of_code, trees_of_codes};
 ghost use Rattle.values.specs.Data.{null};
 ghost use Rattle.erules.specs.At.{At};
-ghost use Rattle.erules.specs.Outcomes.{Gather};
 ghost use Rattle.values.specs.View.{val_of};
-ghost use Rattle.erules.specs.Rules.{Runs, Args, Items, inside, leaving, target_of};
+ghost use Rattle.erules.specs.Rules.{Runs, Items, inside, leaving};
 ghost use Rattle.erules.specs.Locals.{locals_of};
 ghost use Rattle.erules.specs.View.{at, end_of};
 ghost use Rattle.eobjects.specs.View.{target_view};
+ghost use Rattle.eval.specs.Leading.{Leads};
 
 use crate::control::eval_taking;
 use crate::eval::{eval, eval_args, eval_items};
@@ -93,8 +93,7 @@ fn eval_target(
 ) -> Result<Target, AllocError>
     requires level { level ≤ 1001 }
     requires fits { all_fit_at (at w.old) args.now }
-    ensures { IfOk result (λ t. (g : Gather) × Args level (trees_of_codes args.now) (at w.old) g (at w.new)
-        × (target_view t ≡ target_of (val_of receiver) verb.now g (at w.new))) }
+    ensures { IfOk result (λ t. Leads level (trees_of_codes args.now) (val_of receiver) verb.now (at w.old) (target_view t) (at w.new)) }
 {
     if args.len() == 1 {
         return eval_with_one(w, &receiver, verb, &args[0], level);
@@ -114,8 +113,7 @@ fn eval_with_one(
 ) -> Result<Target, AllocError>
     requires level { level ≤ 1001 }
     requires fits { fits_at (at w.old) arg.now }
-    ensures { IfOk result (λ t. (g : Gather) × Args level (and_then (tree_of_code arg.now) none) (at w.old) g (at w.new)
-        × (target_view t ≡ target_of (val_of receiver.now) verb.now g (at w.new))) }
+    ensures { IfOk result (λ t. Leads level (and_then (tree_of_code arg.now) none) (val_of receiver.now) verb.now (at w.old) (target_view t) (at w.new)) }
 {
     match eval(w, arg, level)? {
         End::Value(value) => value_target(w, receiver, verb, slice::from_ref(&value)),

@@ -1,3 +1,6 @@
 pub mod Cells
 pub mod Names
 pub mod Overlaid
+pub mod Reaching
+pub mod Alike
+pub mod Drafting

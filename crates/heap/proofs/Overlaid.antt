@@ -1,6 +1,6 @@
 -- On a state with what a turn made over it.
 use Rattle.std.proofs.Common.{◌≡◌, ℕ, ◌<◌, List, [], ◌∷◌, ◌++◌, length, get_or, set, Option, Some, None, Bool, true, false, cond, refl, sym, ap, ◌∙◌, suc, zero, arith}
-use Rattle.std.specs.Prelude.{◌==◌, ◌&&◌, ltb}
+use Rattle.std.specs.Prelude.{◌==◌, ◌&&◌, ◌||◌, ltb, is_some}
 use Rattle.std.specs.List.{slice_get}
 use Rattle.std.specs.Ordering.{nat_cmp, ordering_then, is_eq}
 use Rattle.std.specs.declared.cmp.Ordering.{Ordering}
@@ -14,9 +14,9 @@ use Rattle.ids.specs.declared.names.SlotId.{SlotId}
 use Rattle.ids.specs.declared.names.ObjId.{ObjId}
 use Rattle.values.specs.declared.value.Value.{Value}
 use Rattle.values.specs.View.{val_of}
-use Rattle.heap.specs.State.{Cell, top, slot_cell, object_cell, Content, held, made, State, write}
+use Rattle.heap.specs.State.{Cell, top, slot_cell, object_cell, Content, held, made, State, Cells, also, same_cell, write}
 use Rattle.heap.specs.View.{object_of}
-use Rattle.heap.specs.Drafts.{is_of, own_item, over, with_slots, with_objects}
+use Rattle.heap.specs.Drafts.{is_of, own_item, over, with_slots, with_objects, and_slots, and_objects}
 use Rattle.heap.specs.declared.made.Made.{Made}
 
 -- ---- numbers
@@ -273,3 +273,145 @@ objects_kept e v xs rest x s t n p l w =
     ∙ objects_beneath e v rest s (record { event = e; index = length rest; vat = v }) (made (object_of x)) (none_either_way (is_of e v e v) (slice_get rest (length rest)) (slice_get_past rest (length rest) (omega arith)))
     ∙ sym (objects_placed e v rest (rest ++ x ∷ []) s (length rest) x (get_pushed rest x))
     ∙ sym (ap (λ xs. with_objects e v xs s) p)
+
+-- ---- sets of cells
+
+some_over : {X : Type 0} (f : X → Content) (y : Option X) → is_some (over f y None) ≡ is_some y
+some_over f (Some x) = refl
+some_over f None = refl
+
+some_cond : {X : Type 0} (b : Bool) (x : X) (y : Option X) → is_some (cond b (Some x) y) ≡ (b || is_some y)
+some_cond true x y = refl
+some_cond false x y = refl
+
+-- there is an item of a number once one of this number is x
+is_placed : {X : Type 0} (f : X → Content) (a v b w i j : ℕ) (xs ys : List X) (x : X) → slice_get ys j ≡ cond (i == j) (Some x) (slice_get xs j)
+    → is_some (own_item ((a == b) && (v == w)) ys j) ≡ (same_numbers a i v b j w || is_some (own_item ((a == b) && (v == w)) xs j))
+is_placed f a v b w i j xs ys x e =
+    sym (some_over f (own_item ((a == b) && (v == w)) ys j))
+    ∙ ap is_some (placed f a v b w i j xs ys x None e)
+    ∙ some_cond (same_numbers a i v b j w) (f x) (over f (own_item ((a == b) && (v == w)) xs j) None)
+    ∙ ap (λ p. same_numbers a i v b j w || p) (some_over f (own_item ((a == b) && (v == w)) xs j))
+
+or_before : (a b c : Bool) → ((a || b) || c) ≡ (a || (b || c))
+or_before true b c = refl
+or_before false b c = refl
+
+or_between : (a b c : Bool) → (a || (b || c)) ≡ (b || (a || c))
+or_between true true c = refl
+or_between true false c = refl
+or_between false b c = refl
+
+slot_in_set : (e : EventName) (v : VatNo) (xs ys : List Value) (q : Cells) (i : ℕ) (x : Value) → ((j : ℕ) → slice_get ys j ≡ cond (i == j) (Some x) (slice_get xs j)) → (c : Cell)
+    → and_slots e v ys q c ≡ also (slot_cell (record { event = e; index = i; vat = v })) (and_slots e v xs q) c
+slot_in_set e v xs ys q i x h (top y) = refl
+slot_in_set e v xs ys q i x h (slot_cell t) =
+    ap (λ p. p || q (slot_cell t)) (is_placed (λ x. held (val_of x)) e.0 v.0.0 t.event.0 t.vat.0.0 i t.index xs ys x (h t.index))
+    ∙ or_before (same_numbers e.0 i v.0.0 t.event.0 t.index t.vat.0.0) (is_some (own_item (is_of e v t.event t.vat) xs t.index)) (q (slot_cell t))
+slot_in_set e v xs ys q i x h (object_cell t) = refl
+
+object_in_set : (e : EventName) (v : VatNo) (xs ys : List Made) (q : Cells) (i : ℕ) (x : Made) → ((j : ℕ) → slice_get ys j ≡ cond (i == j) (Some x) (slice_get xs j)) → (c : Cell)
+    → and_objects e v ys q c ≡ also (object_cell (record { event = e; index = i; vat = v })) (and_objects e v xs q) c
+object_in_set e v xs ys q i x h (top y) = refl
+object_in_set e v xs ys q i x h (slot_cell t) = refl
+object_in_set e v xs ys q i x h (object_cell t) =
+    ap (λ p. p || q (object_cell t)) (is_placed (λ m. made (object_of m)) e.0 v.0.0 t.event.0 t.vat.0.0 i t.index xs ys x (h t.index))
+    ∙ or_before (same_numbers e.0 i v.0.0 t.event.0 t.index t.vat.0.0) (is_some (own_item (is_of e v t.event t.vat) xs t.index)) (q (object_cell t))
+
+slots_swap : (e : EventName) (v : VatNo) (xs : List Value) (q : Cells) (k c : Cell) → and_slots e v xs (also k q) c ≡ also k (and_slots e v xs q) c
+slots_swap e v xs q k (top y) = refl
+slots_swap e v xs q k (slot_cell t) = or_between (is_some (own_item (is_of e v t.event t.vat) xs t.index)) (same_cell k (slot_cell t)) (q (slot_cell t))
+slots_swap e v xs q k (object_cell t) = refl
+
+objects_swap : (e : EventName) (v : VatNo) (xs : List Made) (q : Cells) (k c : Cell) → and_objects e v xs (also k q) c ≡ also k (and_objects e v xs q) c
+objects_swap e v xs q k (top y) = refl
+objects_swap e v xs q k (slot_cell t) = refl
+objects_swap e v xs q k (object_cell t) = or_between (is_some (own_item (is_of e v t.event t.vat) xs t.index)) (same_cell k (object_cell t)) (q (object_cell t))
+
+-- a cell is touched beneath
+pub touched_beneath : (e : EventName) (v : VatNo) (xs : List Value) (os : List Made) (q r : Cells) (k : Cell) → r ≡ also k q
+    → and_objects e v os (and_slots e v xs r) ≡ also k (and_objects e v os (and_slots e v xs q))
+touched_beneath e v xs os q r k h =
+    ap (λ r. and_objects e v os (and_slots e v xs r)) h
+    ∙ ap (and_objects e v os) (λ i c. slots_swap e v xs q k c i)
+    ∙ (λ i c. objects_swap e v os (and_slots e v xs q) k c i)
+
+-- one more slot is touched
+pub slot_touched : (e : EventName) (v : VatNo) (xs ys : List Value) (os : List Made) (q : Cells) (x : Value) (n : ℕ) → n ≡ length xs → ys ≡ xs ++ x ∷ []
+    → and_objects e v os (and_slots e v ys q) ≡ also (slot_cell (record { event = e; index = n; vat = v })) (and_objects e v os (and_slots e v xs q))
+slot_touched e v xs ys os q x n l p =
+    ap (λ ys. and_objects e v os (and_slots e v ys q)) p
+    ∙ ap (and_objects e v os) (λ i c. slot_in_set e v xs (xs ++ x ∷ []) q (length xs) x (get_pushed xs x) c i)
+    ∙ (λ i c. objects_swap e v os (and_slots e v xs q) (slot_cell (record { event = e; index = length xs; vat = v })) c i)
+    ∙ sym (ap (λ n. also (slot_cell (record { event = e; index = n; vat = v })) (and_objects e v os (and_slots e v xs q))) l)
+
+-- an own slot is touched when it is written
+pub own_touched : (e : EventName) (v : VatNo) (xs : List Value) (os : List Made) (q : Cells) (i : SlotId) (x : Value) (n : ℕ) (r : Bool) → n ≡ length xs → r ≡ (is_of e v i.event i.vat && ltb i.index n) → r ≡ true
+    → and_objects e v os (and_slots e v (set xs i.index x) q) ≡ also (slot_cell i) (and_objects e v os (and_slots e v xs q))
+own_touched e v xs os q i x n r l t h =
+    let there = own_there (is_of e v i.event i.vat) i.index n r t h in
+    ap (and_objects e v os) (λ k c. slot_in_set e v xs (set xs i.index x) q i.index x (λ j. get_replaced xs i.index x j (omega (arith, there.1, l))) c k)
+    ∙ (λ k c. objects_swap e v os (and_slots e v xs q) (slot_cell (record { event = e; index = i.index; vat = v })) c k)
+    ∙ ap (λ i. also (slot_cell i) (and_objects e v os (and_slots e v xs q))) (own_slot e v i there.0)
+
+-- one more object is touched
+pub object_touched : (e : EventName) (v : VatNo) (xs ys : List Made) (q : Cells) (x : Made) (n : ℕ) → n ≡ length xs → ys ≡ xs ++ x ∷ []
+    → and_objects e v ys q ≡ also (object_cell (record { event = e; index = n; vat = v })) (and_objects e v xs q)
+object_touched e v xs ys q x n l p =
+    ap (λ ys. and_objects e v ys q) p
+    ∙ (λ i c. object_in_set e v xs (xs ++ x ∷ []) q (length xs) x (get_pushed xs x) c i)
+    ∙ sym (ap (λ n. also (object_cell (record { event = e; index = n; vat = v })) (and_objects e v xs q)) l)
+
+set_of_no_slots : (e : EventName) (v : VatNo) (q : Cells) (c : Cell) → and_slots e v [] q c ≡ q c
+set_of_no_slots e v q (top y) = refl
+set_of_no_slots e v q (slot_cell t) = ap (λ p. is_some p || q (slot_cell t)) (none_either_way (is_of e v t.event t.vat) None refl)
+set_of_no_slots e v q (object_cell t) = refl
+
+set_of_no_objects : (e : EventName) (v : VatNo) (q : Cells) (c : Cell) → and_objects e v [] q c ≡ q c
+set_of_no_objects e v q (top y) = refl
+set_of_no_objects e v q (slot_cell t) = refl
+set_of_no_objects e v q (object_cell t) = ap (λ p. is_some p || q (object_cell t)) (none_either_way (is_of e v t.event t.vat) None refl)
+
+-- no slots, and no objects, are no cells more
+pub no_slots_touched : (e : EventName) (v : VatNo) (xs : List Value) (q : Cells) → xs ≡ [] → and_slots e v xs q ≡ q
+no_slots_touched e v xs q h = ap (λ xs. and_slots e v xs q) h ∙ (λ i c. set_of_no_slots e v q c i)
+
+pub no_objects_touched : (e : EventName) (v : VatNo) (xs : List Made) (q : Cells) → xs ≡ [] → and_objects e v xs q ≡ q
+no_objects_touched e v xs q h = ap (λ xs. and_objects e v xs q) h ∙ (λ i c. set_of_no_objects e v q c i)
+
+-- the newest slot, or object, goes to the set beneath
+pub slots_set_kept : (e : EventName) (v : VatNo) (xs rest : List Value) (x : Value) (q r : Cells) (n : ℕ) → xs ≡ rest ++ x ∷ [] → n ≡ length rest → r ≡ also (slot_cell (record { event = e; index = n; vat = v })) q
+    → and_slots e v rest r ≡ and_slots e v xs q
+slots_set_kept e v xs rest x q r n p l w =
+    ap (and_slots e v rest) (w ∙ ap (λ n. also (slot_cell (record { event = e; index = n; vat = v })) q) l)
+    ∙ (λ i c. slots_swap e v rest q (slot_cell (record { event = e; index = length rest; vat = v })) c i)
+    ∙ sym (λ i c. slot_in_set e v rest (rest ++ x ∷ []) q (length rest) x (get_pushed rest x) c i)
+    ∙ sym (ap (λ xs. and_slots e v xs q) p)
+
+pub objects_set_kept : (e : EventName) (v : VatNo) (xs rest : List Made) (x : Made) (q r : Cells) (n : ℕ) → xs ≡ rest ++ x ∷ [] → n ≡ length rest → r ≡ also (object_cell (record { event = e; index = n; vat = v })) q
+    → and_objects e v rest r ≡ and_objects e v xs q
+objects_set_kept e v xs rest x q r n p l w =
+    ap (and_objects e v rest) (w ∙ ap (λ n. also (object_cell (record { event = e; index = n; vat = v })) q) l)
+    ∙ (λ i c. objects_swap e v rest q (object_cell (record { event = e; index = length rest; vat = v })) c i)
+    ∙ sym (λ i c. object_in_set e v rest (rest ++ x ∷ []) q (length rest) x (get_pushed rest x) c i)
+    ∙ sym (ap (λ xs. and_objects e v xs q) p)
+
+-- the cells that have contents are the same where the contents are
+pub same_set : (w u : State) → w ≡ u → ◌≡◌ {A = Cells} (λ c. is_some (w c)) (λ c. is_some (u c))
+same_set w u h = λ i c. is_some (h i c)
+
+-- what was written into one cell more was written there too
+pub written_also : (k : Cell) (x : Content) (w u : State) → u ≡ write w k x → (λ c. is_some (u c)) ≡ also k (λ c. is_some (w c))
+written_also k x w u h = same_set u (write w k x) h ∙ (λ i c. some_cond (same_cell k c) x (w c) i)
+
+-- what is over a cell stands there, whatever is beneath
+over_alike : {X : Type 0} (f : X → Content) (y : Option X) (w c : Option Content) (x : Content) → (w ≡ Some x → c ≡ Some x) → over f y w ≡ Some x → over f y c ≡ Some x
+over_alike f None w c x h e = h e
+over_alike f (Some y) w c x h e = e
+
+-- a cell that a turn wrote holds what it wrote there
+pub holds_what_was_written : (e : EventName) (v : VatNo) (xs : List Value) (os : List Made) (w s : State) → ((c : Cell) (x : Content) → w c ≡ Some x → s c ≡ Some x)
+    → (c : Cell) (x : Content) → with_objects e v os (with_slots e v xs w) c ≡ Some x → with_objects e v os (with_slots e v xs s) c ≡ Some x
+holds_what_was_written e v xs os w s h (top y) x is = h (top y) x is
+holds_what_was_written e v xs os w s h (slot_cell i) x is = over_alike (λ v. held (val_of v)) (own_item (is_of e v i.event i.vat) xs i.index) (w (slot_cell i)) (s (slot_cell i)) x (h (slot_cell i) x) is
+holds_what_was_written e v xs os w s h (object_cell i) x is = over_alike (λ m. made (object_of m)) (own_item (is_of e v i.event i.vat) os i.index) (w (object_cell i)) (s (object_cell i)) x (h (object_cell i) x) is

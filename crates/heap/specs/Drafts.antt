@@ -1,12 +1,15 @@
 -- What a vat's state under a turn stands for.
-use Rattle.std.specs.Prelude.{ℕ, Bool, Option, Some, None, List, length, cond, ◌==◌, ◌&&◌}
+use Rattle.std.specs.Prelude.{ℕ, Bool, Option, Some, None, is_some, List, length, cond, ◌==◌, ◌&&◌, ◌||◌}
+use Rattle.std.specs.Arc.{arc_value}
 use Rattle.std.specs.List.{slice_get}
 use Rattle.ids.specs.declared.names.EventName.{EventName}
 use Rattle.ids.specs.declared.names.VatNo.{VatNo}
 use Rattle.values.specs.declared.value.Value.{Value}
 use Rattle.values.specs.View.{val_of}
-use Rattle.heap.specs.State.{top, slot_cell, object_cell, Content, held, made, State}
+use Rattle.heap.specs.State.{top, slot_cell, object_cell, Content, held, made, State, Cells}
 use Rattle.heap.specs.View.{object_of, state_of}
+use Rattle.heap.specs.Found.{touched_in, writes_in}
+use Rattle.heap.specs.Reaches.{state_in}
 use Rattle.heap.specs.declared.made.Made.{Made}
 use Rattle.heap.specs.declared.draft.Draft.{Draft}
 
@@ -35,9 +38,36 @@ with_objects e v objects s (top x) = s (top x)
 with_objects e v objects s (slot_cell i) = s (slot_cell i)
 with_objects e v objects s (object_cell i) = over (λ m. made (object_of m)) (own_item (is_of e v i.event i.vat) objects i.index) (s (object_cell i))
 
+-- a set of cells, and the slots that a turn made
+abbrev pub and_slots : EventName → VatNo → List Value → Cells → Cells
+and_slots e v slots q (top x) = q (top x)
+and_slots e v slots q (slot_cell i) = is_some (own_item (is_of e v i.event i.vat) slots i.index) || q (slot_cell i)
+and_slots e v slots q (object_cell i) = q (object_cell i)
+
+-- the same of the objects that it made
+abbrev pub and_objects : EventName → VatNo → List Made → Cells → Cells
+and_objects e v objects q (top x) = q (top x)
+and_objects e v objects q (slot_cell i) = q (slot_cell i)
+and_objects e v objects q (object_cell i) = is_some (own_item (is_of e v i.event i.vat) objects i.index) || q (object_cell i)
+
 -- a vat's state under a turn
 abbrev pub draft_of : Draft → State
-draft_of d = with_objects d.event d.vat d.objects.items (with_slots d.event d.vat d.slots.items (state_of d.base))
+draft_of d = with_objects d.event d.vat d.objects.items (with_slots d.event d.vat d.slots.items (state_in d.base))
+
+-- the state that the turn began with
+abbrev pub began_with : Draft → State
+began_with d = state_of (arc_value d.base.state)
+
+-- the cells that the turn has touched
+abbrev pub touched_of : Draft → Cells
+touched_of d = and_objects d.event d.vat d.objects.items (and_slots d.event d.vat d.slots.items (touched_in d.base.footprint))
+
+-- what the turn has written into each cell, and which it has written
+abbrev pub writes_of : Draft → State
+writes_of d = with_objects d.event d.vat d.objects.items (with_slots d.event d.vat d.slots.items (writes_in d.base.footprint))
+
+abbrev pub written_of : Draft → Cells
+written_of d c = is_some (writes_of d c)
 
 -- what names a turn's next slot and its next object: its event, its vat, and how many of each it has made
 pub record Counts : Type 0 where

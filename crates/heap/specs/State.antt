@@ -1,5 +1,5 @@
 -- The state of a vat: a finite map from cells to contents.
-use Rattle.std.specs.Prelude.{Bool, false, Option, Some, None, List, [], ◌∷◌, ◌++◌, cond}
+use Rattle.std.specs.Prelude.{Bool, false, ◌||◌, Option, Some, None, List, [], ◌∷◌, ◌++◌, cond}
 use Rattle.std.specs.Str.{bytes_eq}
 use Rattle.std.specs.Ordering.{is_eq}
 use Rattle.ids.specs.Cells.{slot_cmp, object_cmp}
@@ -68,3 +68,14 @@ read s c = s c
 
 abbrev pub write : State → Cell → Content → State
 write s c x = λ d. cond (same_cell c d) (Some x) (s d)
+
+-- a set of cells
+abbrev pub Cells : Type 0
+Cells = Cell → Bool
+
+abbrev pub no_cells : Cells
+no_cells c = false
+
+-- a set with one cell more
+abbrev pub also : Cell → Cells → Cells
+also c q = λ d. same_cell c d || q d

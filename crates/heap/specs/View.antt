@@ -1,9 +1,11 @@
 -- What the program's states stand for.
-use Rattle.std.specs.Prelude.{Option, List, [], ◌∷◌}
+use Rattle.std.specs.Prelude.{Bool, Option, List, [], ◌∷◌, nat_eq}
 use Rattle.std.specs.Option.{option_map}
 use Rattle.std.specs.Ordering.{nat_cmp}
-use Rattle.std.specs.Cmp.Lexicographic.{slice_cmp}
+use Rattle.std.specs.Cmp.Lexicographic.{slice_cmp, pointwise}
 use Rattle.std.specs.BTreeMap.{BTreeMap, get}
+use Rattle.ids.specs.KeyLaws.{same_three}
+use Rattle.cells.specs.Seen.{Seen, seen}
 use Rattle.ids.specs.Cells.{slot_cmp, object_cmp}
 use Rattle.ids.specs.declared.names.SlotId.{SlotId}
 use Rattle.ids.specs.declared.names.ObjId.{ObjId}
@@ -11,7 +13,7 @@ use Rattle.kernele.specs.Tree.{Name}
 use Rattle.code.specs.View.{methods_of_codes}
 use Rattle.values.specs.declared.value.Value.{Value}
 use Rattle.values.specs.View.{val_of}
-use Rattle.heap.specs.State.{Bind, fixed, slot, Nouns, Object, top, slot_cell, object_cell, Content, bound, held, made, State}
+use Rattle.heap.specs.State.{Bind, fixed, slot, Nouns, Object, Cell, top, slot_cell, object_cell, Content, bound, held, made, State}
 use Rattle.heap.specs.declared.state.VatState.{VatState}
 use Rattle.heap.specs.declared.state.Binding.{Binding}
 use Rattle.heap.specs.declared.state.Binding.TheVariants as binding
@@ -44,12 +46,26 @@ slots_of slots i = option_map (λ v. held (val_of v)) (get slot_cmp slots i)
 abbrev pub objects_of : BTreeMap ObjId Made → ObjId → Option Content
 objects_of objects i = option_map (λ m. made (object_of m)) (get object_cmp objects i)
 
--- maps of top nouns, of slots and of objects, as cells
-abbrev pub cells_of : BTreeMap Name Binding → BTreeMap SlotId Value → BTreeMap ObjId Made → State
-cells_of nouns slots objects (top x) = tops_of nouns x
-cells_of nouns slots objects (slot_cell i) = slots_of slots i
-cells_of nouns slots objects (object_cell i) = objects_of objects i
+-- whether two keys are the same, as the program tests it
+abbrev pub same_name : Name → Name → Bool
+same_name x y = pointwise nat_eq x y
+
+abbrev pub same_slot : SlotId → SlotId → Bool
+same_slot i j = same_three i.event.0 j.event.0 i.index j.index i.vat.0.0 j.vat.0.0
+
+abbrev pub same_object : ObjId → ObjId → Bool
+same_object i j = same_three i.event.0 j.event.0 i.index j.index i.vat.0.0 j.vat.0.0
+
+-- a content and its last writer, where the content stands for this
+abbrev pub told : {V C : Type 0} → (V → C) → Seen V → Seen C
+told f x = (option_map f x.0, x.1)
+
+-- what a vat's cells hold, and who wrote them last
+abbrev pub seen_in : VatState → Cell → Seen Content
+seen_in s (top x) = told (λ b. bound (bind_of b)) (seen same_name s.tops x)
+seen_in s (slot_cell i) = told (λ v. held (val_of v)) (seen same_slot s.slots i)
+seen_in s (object_cell i) = told (λ m. made (object_of m)) (seen same_object s.objects i)
 
 -- a vat's state
 abbrev pub state_of : VatState → State
-state_of s = cells_of s.nouns s.slots s.objects
+state_of s c = (seen_in s c).0

@@ -1,19 +1,22 @@
 // A vat's state under a turn.
-ghost use Rattle.std.specs.Prelude.{◌≡◌, ◌<◌, ◌≤◌, ◌+◌, ◌&&◌, IfOk, OnOk, OnErr, length, ltb};
+ghost use Rattle.std.specs.Prelude.{◌≡◌, ◌<◌, ◌≤◌, ◌+◌, ◌&&◌, true, Some, IfOk, IfSome, OnOk, OnErr, length, ltb};
+ghost use Rattle.std.specs.Arc.{arc_value};
 ghost use Rattle.std.specs.Option.{option_map};
 
 use crate::made::Made;
+use crate::reach::{Footprint, Reach};
 use crate::state::{Binding, VatState};
 use ids::names::{EjId, EventName, ObjId, SlotId, VatNo};
 use ids::text::Text;
-use std::alloc::AllocError;
+use std::alloc::{AllocError, Global};
+use std::sync::Arc;
 use values::value::Value;
 
-/// A vat's state under a turn: what the turn makes stands apart, by its number.
+/// A vat's state under a turn, which says what the turn touched of it. What the turn makes stands apart, by its number.
 #[derive(Drop)]
 pub struct Draft {
-    /// The state that the turn began with, with what it wrote there.
-    base: VatState,
+    /// The state that the turn began with, and what it touched there.
+    base: Reach,
     event: EventName,
     vat: VatNo,
     /// The turn's own slots, by their number.
@@ -25,19 +28,23 @@ pub struct Draft {
 }
 
 impl Draft {
-    ghost use Rattle.heap.specs.State.{top, slot_cell, object_cell, bound, held, made, read, write};
+    ghost use Rattle.heap.specs.State.{top, slot_cell, object_cell, bound, held, made, read, write, also, no_cells};
     ghost use Rattle.heap.specs.View.{bind_of, object_of, state_of};
-    ghost use Rattle.heap.specs.Drafts.{is_of, with_slots, with_objects, draft_of, counts_of};
+    ghost use Rattle.heap.specs.Found.{Found, touched_in, writes_in};
+    ghost use Rattle.heap.specs.Reaches.{state_in};
+    ghost use Rattle.heap.specs.Drafts.{is_of, with_slots, with_objects, and_slots, and_objects, draft_of, counts_of, touched_of, writes_of, written_of, began_with};
     ghost use Rattle.values.specs.View.{val_of};
 
-    /// The state of a vat in which this event begins, of which it has made nothing yet.
-    pub fn new(state: VatState, event: EventName, vat: VatNo) -> Draft
-        ensures state { draft_of result ≡ state_of state }
+    /// A state in which this event begins in this vat, of which it has made nothing yet.
+    pub fn new(alloc: Global, state: Arc<VatState>, event: EventName, vat: VatNo) -> Draft
+        ensures state { draft_of result ≡ state_of (arc_value state) }
+        ensures touched { touched_of result ≡ no_cells }
+        ensures written { written_of result ≡ no_cells }
         ensures counts { counts_of result ≡ record { event = event; vat = vat; slots = 0; objects = 0 } }
+        ensures began { began_with result ≡ state_of (arc_value state) }
     {
-        let alloc = state.allocator();
         Draft {
-            base: state,
+            base: Reach::new(alloc, state),
             event,
             vat,
             slots: Vec::new(alloc),
@@ -73,7 +80,7 @@ impl Draft {
         self.objects.len()
     }
 
-    /// What a top noun stands for.
+    /// What a top noun stands for. It touches nothing.
     pub fn top(&self, name: &Text) -> Option<&Binding>
         ensures { option_map (λ b. bound (bind_of b.now)) result
             ≡ read (draft_of self.now) (top name.now) }
@@ -81,17 +88,39 @@ impl Draft {
         self.base.top(name)
     }
 
+    /// What a top noun that was touched before stands for.
+    pub fn peek_top(&self, name: &Text) -> Option<&Binding>
+        ensures touched { IfSome result (λ b. touched_of self.now (top name.now) ≡ true) }
+        ensures content { IfSome result (λ b. read (draft_of self.now) (top name.now) ≡ Some (bound (bind_of b.now))) }
+    {
+        self.base.touched_top(name)
+    }
+
+    /// Touches a top noun. Fails only for want of memory.
+    pub fn reach_top(&mut self, name: &Text) -> Result<(), AllocError>
+        ensures state { draft_of self.new ≡ draft_of self.old }
+        ensures touched { OnOk result (touched_of self.new ≡ also (top name.now) (touched_of self.old)) }
+        ensures written { written_of self.new ≡ written_of self.old }
+        ensures counts { counts_of self.new ≡ counts_of self.old }
+        ensures began { began_with self.new ≡ began_with self.old }
+    {
+        self.base.reach_top(name)
+    }
+
     /// Binds a top noun. Without memory for a new one the state stays as it was.
     pub fn bind_top(&mut self, name: Text, binding: Binding) -> Result<(), AllocError>
         ensures ok { OnOk result
             (draft_of self.new ≡ write (draft_of self.old) (top name) (bound (bind_of binding))) }
+        ensures touched { OnOk result (touched_of self.new ≡ also (top name) (touched_of self.old)) }
+        ensures written { OnOk result (written_of self.new ≡ also (top name) (written_of self.old)) }
         ensures err { OnErr result (draft_of self.new ≡ draft_of self.old) }
         ensures counts { counts_of self.new ≡ counts_of self.old }
+        ensures began { began_with self.new ≡ began_with self.old }
     {
-        self.base.bind_top(name, binding)
+        self.base.write_top(name, binding)
     }
 
-    /// What a slot holds.
+    /// What a slot holds. It touches nothing.
     #[inline(always)]
     pub fn read_slot(&self, slot: SlotId) -> Option<&Value>
         ensures { option_map (λ v. held (val_of v.now)) result
@@ -100,7 +129,36 @@ impl Draft {
         if self.is_own(slot.event, slot.vat, slot.index, self.slots.len()) {
             Some(&self.slots[slot.index as usize])
         } else {
-            self.base.read_slot(slot)
+            self.base.slot(slot)
+        }
+    }
+
+    /// What a slot that was touched before holds.
+    #[inline(always)]
+    pub fn peek_slot(&self, slot: SlotId) -> Option<&Value>
+        ensures touched { IfSome result (λ v. touched_of self.now (slot_cell slot) ≡ true) }
+        ensures content { IfSome result (λ v. read (draft_of self.now) (slot_cell slot) ≡ Some (held (val_of v.now))) }
+    {
+        if self.is_own(slot.event, slot.vat, slot.index, self.slots.len()) {
+            Some(&self.slots[slot.index as usize])
+        } else {
+            self.base.touched_slot(slot)
+        }
+    }
+
+    /// Touches a slot. Fails only for want of memory.
+    #[inline]
+    pub fn reach_slot(&mut self, slot: SlotId) -> Result<(), AllocError>
+        ensures state { draft_of self.new ≡ draft_of self.old }
+        ensures touched { OnOk result (touched_of self.new ≡ also (slot_cell slot) (touched_of self.old)) }
+        ensures written { written_of self.new ≡ written_of self.old }
+        ensures counts { counts_of self.new ≡ counts_of self.old }
+        ensures began { began_with self.new ≡ began_with self.old }
+    {
+        if self.is_own(slot.event, slot.vat, slot.index, self.slots.len()) {
+            Ok(())
+        } else {
+            self.base.reach_slot(slot)
         }
     }
 
@@ -109,7 +167,10 @@ impl Draft {
         requires { length self.old.slots.items < 4294967295 }
         ensures named { IfOk result (λ i. i ≡ record { event = self.old.event; index = length self.old.slots.items; vat = self.old.vat }) }
         ensures made { IfOk result (λ i. draft_of self.new ≡ write (draft_of self.old) (slot_cell i) (held (val_of value))) }
+        ensures touched { IfOk result (λ i. touched_of self.new ≡ also (slot_cell i) (touched_of self.old)) }
+        ensures written { IfOk result (λ i. written_of self.new ≡ also (slot_cell i) (written_of self.old)) }
         ensures counts { IfOk result (λ i. counts_of self.new ≡ record (counts_of self.old) { slots = length self.old.slots.items + 1 }) }
+        ensures began { began_with self.new ≡ began_with self.old }
     {
         let slot = SlotId {
             event: self.event,
@@ -125,8 +186,11 @@ impl Draft {
     pub fn write_slot(&mut self, slot: SlotId, value: Value) -> Result<(), AllocError>
         ensures ok { OnOk result
             (draft_of self.new ≡ write (draft_of self.old) (slot_cell slot) (held (val_of value))) }
+        ensures touched { OnOk result (touched_of self.new ≡ also (slot_cell slot) (touched_of self.old)) }
+        ensures written { OnOk result (written_of self.new ≡ also (slot_cell slot) (written_of self.old)) }
         ensures err { OnErr result (draft_of self.new ≡ draft_of self.old) }
         ensures counts { counts_of self.new ≡ counts_of self.old }
+        ensures began { began_with self.new ≡ began_with self.old }
     {
         if self.is_own(slot.event, slot.vat, slot.index, self.slots.len()) {
             self.slots[slot.index as usize] = value;
@@ -136,7 +200,7 @@ impl Draft {
         }
     }
 
-    /// What an object is.
+    /// What an object is. It touches nothing.
     #[inline]
     pub fn object(&self, object: ObjId) -> Option<&Made>
         ensures { option_map (λ m. made (object_of m.now)) result
@@ -149,12 +213,31 @@ impl Draft {
         }
     }
 
+    /// Touches an object. Fails only for want of memory.
+    #[inline]
+    pub fn reach_object(&mut self, object: ObjId) -> Result<(), AllocError>
+        ensures state { draft_of self.new ≡ draft_of self.old }
+        ensures touched { OnOk result (touched_of self.new ≡ also (object_cell object) (touched_of self.old)) }
+        ensures written { written_of self.new ≡ written_of self.old }
+        ensures counts { counts_of self.new ≡ counts_of self.old }
+        ensures began { began_with self.new ≡ began_with self.old }
+    {
+        if self.is_own(object.event, object.vat, object.index, self.objects.len()) {
+            Ok(())
+        } else {
+            self.base.reach_object(object)
+        }
+    }
+
     /// Makes the turn's next object.
     pub fn new_object(&mut self, object: Made) -> Result<ObjId, AllocError>
         requires { length self.old.objects.items < 4294967295 }
         ensures named { IfOk result (λ i. i ≡ record { event = self.old.event; index = length self.old.objects.items; vat = self.old.vat }) }
         ensures made { IfOk result (λ i. draft_of self.new ≡ write (draft_of self.old) (object_cell i) (made (object_of object))) }
+        ensures touched { IfOk result (λ i. touched_of self.new ≡ also (object_cell i) (touched_of self.old)) }
+        ensures written { IfOk result (λ i. written_of self.new ≡ also (object_cell i) (written_of self.old)) }
         ensures counts { IfOk result (λ i. counts_of self.new ≡ record (counts_of self.old) { objects = length self.old.objects.items + 1 }) }
+        ensures began { began_with self.new ≡ began_with self.old }
     {
         let id = ObjId {
             event: self.event,
@@ -165,9 +248,11 @@ impl Draft {
         Ok(id)
     }
 
-    /// The state that the turn leaves, with what it made.
-    pub fn finish(self) -> Result<VatState, AllocError>
-        ensures { IfOk result (λ s. state_of s ≡ draft_of self) }
+    /// What the turn touched, with what it found and what it wrote: all that it made is written there.
+    pub fn finish(self) -> Result<Footprint, AllocError>
+        ensures touched { IfOk result (λ r. touched_in r ≡ touched_of self) }
+        ensures written { IfOk result (λ r. writes_in r ≡ writes_of self) }
+        ensures found { IfOk result (λ r. Found r (began_with self)) }
     {
         let Draft {
             base,
@@ -177,7 +262,8 @@ impl Draft {
             objects,
         } = self;
         let base = Draft::keep_slots(base, event, vat, slots)?;
-        Draft::keep_objects(base, event, vat, objects)
+        let base = Draft::keep_objects(base, event, vat, objects)?;
+        Ok(base.into_footprint())
     }
 
     /// Whether a cell is of the turn and its number is one of so many that were made.
@@ -190,13 +276,15 @@ impl Draft {
 
     /// A state with the slots of a turn, the newest first, so that those that are left keep their numbers.
     fn keep_slots(
-        mut base: VatState,
+        mut base: Reach,
         event: EventName,
         vat: VatNo,
         mut slots: Vec<Value>,
-    ) -> Result<VatState, AllocError>
+    ) -> Result<Reach, AllocError>
         requires { length slots.items ≤ 4294967295 }
-        ensures { IfOk result (λ s. state_of s ≡ with_slots event vat slots.items (state_of base)) }
+        ensures touched { IfOk result (λ r. touched_in r.footprint ≡ and_slots event vat slots.items (touched_in base.footprint)) }
+        ensures written { IfOk result (λ r. writes_in r.footprint ≡ with_slots event vat slots.items (writes_in base.footprint)) }
+        ensures beneath { IfOk result (λ r. r.state ≡ base.state) }
     {
         while let Some(value) = slots.pop() {
             let index = slots.len() as u32;
@@ -207,17 +295,19 @@ impl Draft {
 
     /// A state with the objects of a turn, the newest first as well.
     fn keep_objects(
-        mut base: VatState,
+        mut base: Reach,
         event: EventName,
         vat: VatNo,
         mut objects: Vec<Made>,
-    ) -> Result<VatState, AllocError>
+    ) -> Result<Reach, AllocError>
         requires { length objects.items ≤ 4294967295 }
-        ensures { IfOk result (λ s. state_of s ≡ with_objects event vat objects.items (state_of base)) }
+        ensures touched { IfOk result (λ r. touched_in r.footprint ≡ and_objects event vat objects.items (touched_in base.footprint)) }
+        ensures written { IfOk result (λ r. writes_in r.footprint ≡ with_objects event vat objects.items (writes_in base.footprint)) }
+        ensures beneath { IfOk result (λ r. r.state ≡ base.state) }
     {
         while let Some(object) = objects.pop() {
             let index = objects.len() as u32;
-            base.keep_object(ObjId { event, index, vat }, object)?;
+            base.write_object(ObjId { event, index, vat }, object)?;
         }
         Ok(base)
     }

@@ -4,4 +4,6 @@
 
 pub mod draft;
 pub mod made;
+pub mod reach;
+pub mod sameness;
 pub mod state;

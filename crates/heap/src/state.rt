@@ -1,13 +1,15 @@
 // The state of a vat.
-ghost use Rattle.std.specs.Prelude.{◌≡◌, OnOk, OnErr, IfOk};
-ghost use Rattle.std.specs.BTreeMap.{Updates};
+ghost use Rattle.std.specs.Prelude.{◌≡◌, None, IfOk};
 ghost use Rattle.std.specs.Option.{option_map};
 ghost use Rattle.kernele.specs.Tree.{Name};
-ghost use Rattle.heap.specs.State.{top, slot_cell, object_cell, bound, held, made, nothing, read, write};
-ghost use Rattle.heap.specs.View.{bind_of, object_of, tops_of, slots_of, objects_of, state_of};
+ghost use Rattle.ids.specs.declared.names.SlotId.{SlotId};
+ghost use Rattle.ids.specs.declared.names.ObjId.{ObjId};
+ghost use Rattle.heap.specs.State.{top, slot_cell, object_cell, bound, held, made, nothing, read, Cell};
+ghost use Rattle.heap.specs.View.{bind_of, object_of, tops_of, slots_of, objects_of, state_of, seen_in};
 ghost use Rattle.values.specs.View.{val_of};
 
 use crate::made::Made;
+use cells::store::CellStore;
 use code::index::share_index;
 use ids::names::{ObjId, SlotId};
 use ids::text::Text;
@@ -35,6 +37,14 @@ impl Binding {
     }
 }
 
+impl Clone for Binding {
+    ghost is_clone = { λ a b. bind_of b ≡ bind_of a };
+
+    fn clone(&self) -> Result<Binding, AllocError> {
+        self.share()
+    }
+}
+
 /// A name of a scope, and what it stands for.
 #[derive(Drop)]
 pub struct Noun {
@@ -44,7 +54,7 @@ pub struct Noun {
 
 impl Made {
     /// The same object, whose names, methods and index are shared. Fails only for want of memory.
-    pub(crate) fn share(&self) -> Result<Made, AllocError>
+    pub fn share(&self) -> Result<Made, AllocError>
         ensures { IfOk result (λ m. object_of m ≡ object_of self.now) }
     {
         Ok(Made {
@@ -56,47 +66,70 @@ impl Made {
     }
 }
 
-/// What a state holds.
-#[derive(Clone, Copy)]
-pub struct Contents<'a> {
-    /// The top nouns with what they stand for, in order of bytes.
-    pub nouns: &'a BTreeMap<Text, Binding>,
-    /// The slots with what they hold, in order of their names.
-    pub slots: &'a BTreeMap<SlotId, Value>,
-    /// The objects with what they are, in order of their names.
-    pub objects: &'a BTreeMap<ObjId, Made>,
+impl Clone for Made {
+    ghost is_clone = { λ a b. object_of b ≡ object_of a };
+
+    fn clone(&self) -> Result<Made, AllocError> {
+        self.share()
+    }
 }
 
-/// A vat's state: what its top nouns stand for, what its variables' slots hold, and what its objects are.
+/// What a state holds, in order.
+#[derive(Drop)]
+pub struct Contents {
+    /// The top nouns with what they stand for, in order of bytes.
+    pub nouns: BTreeMap<Text, Binding>,
+    /// The slots with what they hold, in order of their names.
+    pub slots: BTreeMap<SlotId, Value>,
+    /// The objects with what they are, in order of their names.
+    pub objects: BTreeMap<ObjId, Made>,
+}
+
+/// A vat's state: what its top nouns stand for, what its variables' slots hold, and what its objects are, each with the
+/// event that wrote it last.
 pub struct VatState {
-    alloc: Global,
-    nouns: BTreeMap<Text, Binding>,
-    slots: BTreeMap<SlotId, Value>,
-    objects: BTreeMap<ObjId, Made>,
+    pub tops: CellStore<Text, Binding>,
+    pub slots: CellStore<SlotId, Value>,
+    pub objects: CellStore<ObjId, Made>,
 }
 
 // By hand, so that what drops one elsewhere calls this and is not proved anew for all that it holds.
 impl Drop for VatState {
     fn drop(self) {
         let VatState {
-            alloc: _,
-            nouns: _,
+            tops: _,
             slots: _,
             objects: _,
         } = self;
     }
 }
 
+impl Clone for VatState {
+    ghost use Rattle.std.specs.Prelude.{◌≡◌};
+    ghost use Rattle.heap.specs.State.{Cell};
+    ghost use Rattle.heap.specs.View.{seen_in};
+
+    ghost is_clone = { λ s t. (c : Cell) → seen_in t c ≡ seen_in s c };
+
+    fn clone(&self) -> Result<VatState, AllocError> {
+        Ok(VatState {
+            tops: self.tops.clone()?,
+            slots: self.slots.clone()?,
+            objects: self.objects.clone()?,
+        })
+    }
+}
+
 impl VatState {
     /// The state of a new vat.
     pub fn new(alloc: Global) -> VatState
-        ensures { state_of result ≡ nothing }
+        ensures seen { (c : Cell) → seen_in result c ≡ (None, None) }
+        ensures state { state_of result ≡ nothing }
     {
         VatState {
-            alloc,
-            nouns: BTreeMap::new(alloc),
-            slots: BTreeMap::new(alloc),
-            objects: BTreeMap::new(alloc),
+            tops: CellStore::new(alloc),
+            slots: CellStore::new(alloc),
+            objects: CellStore::new(alloc),
         }
     }
 
@@ -105,35 +138,15 @@ impl VatState {
         ensures { option_map (λ b. bound (bind_of b.now)) result
             ≡ read (state_of self.now) (top name.now) }
     {
-        self.nouns.get(name)
-    }
-
-    /// Binds a top noun. Without memory for a new one the state stays as it was.
-    pub(crate) fn bind_top(&mut self, name: Text, binding: Binding) -> Result<(), AllocError>
-        ensures ok { OnOk result
-            (state_of self.new ≡ write (state_of self.old) (top name) (bound (bind_of binding))) }
-        ensures err { OnErr result (state_of self.new ≡ state_of self.old) }
-    {
-        self.nouns.insert(name, binding)?;
-        Ok(())
+        self.tops.get(name)
     }
 
     /// What a slot holds.
-    pub(crate) fn read_slot(&self, slot: SlotId) -> Option<&Value>
+    pub(crate) fn slot(&self, slot: SlotId) -> Option<&Value>
         ensures { option_map (λ v. held (val_of v.now)) result
             ≡ read (state_of self.now) (slot_cell slot) }
     {
         self.slots.get(&slot)
-    }
-
-    /// Lets a slot hold a value. Without memory for a new one the state stays as it was.
-    pub(crate) fn write_slot(&mut self, slot: SlotId, value: Value) -> Result<(), AllocError>
-        ensures ok { OnOk result
-            (state_of self.new ≡ write (state_of self.old) (slot_cell slot) (held (val_of value))) }
-        ensures err { OnErr result (state_of self.new ≡ state_of self.old) }
-    {
-        self.slots.insert(slot, value)?;
-        Ok(())
     }
 
     /// What an object is.
@@ -144,98 +157,46 @@ impl VatState {
         self.objects.get(&object)
     }
 
-    /// Lets an object be this. Without memory for a new one the state stays as it was.
-    pub(crate) fn keep_object(&mut self, id: ObjId, object: Made) -> Result<(), AllocError>
-        ensures ok { OnOk result
-            (state_of self.new ≡ write (state_of self.old) (object_cell id) (made (object_of object))) }
-        ensures err { OnErr result (state_of self.new ≡ state_of self.old) }
+    /// What a top noun stands for, shared. Fails only for want of memory.
+    pub(crate) fn found_top(&self, name: &Text) -> Result<Option<Binding>, AllocError>
+        ensures { IfOk result (λ b. option_map (λ b. bound (bind_of b)) b ≡ state_of self.now (top name.now)) }
     {
-        self.objects.insert(id, object)?;
-        Ok(())
-    }
-
-    /// An equal state of its own, whose values and objects are shared. Fails only for want of memory.
-    pub fn try_copy(&self) -> Result<VatState, AllocError>
-        ensures { IfOk result (λ s. state_of s ≡ state_of self.now) }
-    {
-        Ok(VatState {
-            alloc: self.alloc,
-            nouns: copied_nouns(self.alloc, &self.nouns)?,
-            slots: copied_slots(self.alloc, &self.slots)?,
-            objects: copied_objects(self.alloc, &self.objects)?,
-        })
-    }
-
-    /// All that it holds.
-    pub fn contents(&self) -> Contents<'_>
-        ensures nouns { (x : Name) → tops_of result.nouns.now x ≡ read (state_of self.now) (top x) }
-        ensures slots { (i : SlotId) → slots_of result.slots.now i ≡ read (state_of self.now) (slot_cell i) }
-        ensures objects { (i : ObjId) → objects_of result.objects.now i ≡ read (state_of self.now) (object_cell i) }
-    {
-        Contents {
-            nouns: &self.nouns,
-            slots: &self.slots,
-            objects: &self.objects,
+        match self.top(name) {
+            Some(binding) => Ok(Some(binding.share()?)),
+            None => Ok(None),
         }
     }
 
-    /// What new values of this vat are allocated with.
-    pub fn allocator(&self) -> Global
-        ensures { result ≡ self.now.alloc }
+    /// What a slot holds, shared. Fails only for want of memory.
+    pub(crate) fn found_slot(&self, slot: SlotId) -> Result<Option<Value>, AllocError>
+        ensures { IfOk result (λ v. option_map (λ v. held (val_of v)) v ≡ state_of self.now (slot_cell slot)) }
     {
-        self.alloc
+        match self.slot(slot) {
+            Some(value) => Ok(Some(value.share()?)),
+            None => Ok(None),
+        }
     }
-}
 
-/// Sets a key of a map, whatever it had.
-fn put<K: Ord + Drop, V: Drop>(map: &mut BTreeMap<K, V>, key: K, value: V) -> Result<(), AllocError>
-    ensures { OnOk result (Updates K.cmp map.old map.new key (Some value)) }
-{
-    map.insert(key, value)?;
-    Ok(())
-}
-
-fn copied_nouns(
-    alloc: Global,
-    nouns: &BTreeMap<Text, Binding>,
-) -> Result<BTreeMap<Text, Binding>, AllocError>
-    ensures { IfOk result (λ m. tops_of m ≡ tops_of nouns.now) }
-{
-    let mut copy = BTreeMap::new(alloc);
-    let mut entries = nouns.iter();
-    // From the last one on, so that what is copied is just what stands behind the entries left.
-    while let Some((name, binding)) = entries.next_back() {
-        put(&mut copy, name.share()?, binding.share()?)?;
+    /// What an object is, shared. Fails only for want of memory.
+    pub(crate) fn found_object(&self, object: ObjId) -> Result<Option<Made>, AllocError>
+        ensures { IfOk result (λ m. option_map (λ m. made (object_of m)) m ≡ state_of self.now (object_cell object)) }
+    {
+        match self.object(object) {
+            Some(made) => Ok(Some(made.share()?)),
+            None => Ok(None),
+        }
     }
-    Ok(copy)
-}
 
-fn copied_slots(
-    alloc: Global,
-    slots: &BTreeMap<SlotId, Value>,
-) -> Result<BTreeMap<SlotId, Value>, AllocError>
-    ensures { IfOk result (λ m. slots_of m ≡ slots_of slots.now) }
-{
-    let mut copy = BTreeMap::new(alloc);
-    let mut entries = slots.iter();
-    // From the last one on, as above.
-    while let Some((slot, value)) = entries.next_back() {
-        put(&mut copy, *slot, value.share()?)?;
+    /// All that it holds, shared, in order. Fails only for want of memory.
+    pub fn contents(&self, alloc: Global) -> Result<Contents, AllocError>
+        ensures nouns { IfOk result (λ all. (x : Name) → tops_of all.nouns x ≡ read (state_of self.now) (top x)) }
+        ensures slots { IfOk result (λ all. (i : SlotId) → slots_of all.slots i ≡ read (state_of self.now) (slot_cell i)) }
+        ensures objects { IfOk result (λ all. (i : ObjId) → objects_of all.objects i ≡ read (state_of self.now) (object_cell i)) }
+    {
+        Ok(Contents {
+            nouns: self.tops.in_order(alloc)?,
+            slots: self.slots.in_order(alloc)?,
+            objects: self.objects.in_order(alloc)?,
+        })
     }
-    Ok(copy)
-}
-
-fn copied_objects(
-    alloc: Global,
-    objects: &BTreeMap<ObjId, Made>,
-) -> Result<BTreeMap<ObjId, Made>, AllocError>
-    ensures { IfOk result (λ m. objects_of m ≡ objects_of objects.now) }
-{
-    let mut copy = BTreeMap::new(alloc);
-    let mut entries = objects.iter();
-    // From the last one on, as above.
-    while let Some((id, object)) = entries.next_back() {
-        put(&mut copy, *id, object.share()?)?;
-    }
-    Ok(copy)
 }

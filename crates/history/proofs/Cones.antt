@@ -1,19 +1,11 @@
 -- The cone of an entry is the least closed set that has it.
 use Rattle.std.proofs.Common.{◌≡◌, ◌≢◌, ℕ, Bool, true, false, cond, ◌&&◌, ◌||◌, ◌==◌, List, [], ◌∷◌, ⊎_elim, ◌∙◌, refl, sym, ne_eqb, eq-eqb, eqb-true}
 use Rattle.std.specs.List.{list_any, AllByRecursion}
-use Rattle.std.proofs.lemmas.Bool.{or_left, or_right, or_cases, and_parts, and_from, false≢true, both_ways}
+use Rattle.std.proofs.lemmas.Bool.{or_left, or_right, or_cases, and_parts, and_from, both_ways}
 use Rattle.history.specs.Subject.{Subject}
-use Rattle.history.specs.Journal.{Entry, name_of, is_in, caused, Part, Distinct, Closed}
+use Rattle.history.specs.Journal.{Entry, name_of, is_in, caused, Part, Distinct, Ordered, Closed, HasNoneOutside}
 use Rattle.history.specs.Cone.{cone, in_cone}
-use Rattle.history.proofs.Lists.{all_map, all_both, all_of}
-
-any_found : {A : Type 0} (test : A → Bool) (xs : List A) → AllByRecursion (λ a. test a ≡ true → list_any test xs ≡ true) xs
-any_found test [] = tt
-any_found test (x ∷ xs) = (λ h. or_left _ _ h, all_map _ _ xs (λ a ih h. or_right (test x) _ (ih h)) (any_found test xs))
-
-any_gives : {A : Type 0} (P : Type 0) (test : A → Bool) (xs : List A) → list_any test xs ≡ true → AllByRecursion (λ a. test a ≡ true → P) xs → P
-any_gives P test [] h g = absurd (false≢true h)
-any_gives P test (x ∷ xs) h (g, gs) = ⊎_elim g (λ q. any_gives P test xs q gs) (or_cases (test x) _ h)
+use Rattle.history.proofs.Lists.{all_map, all_both, all_of, any_found, any_gives}
 
 -- a name that is put before others names no other
 skipped : (b : Bool) (ns : List ℕ) (m n : ℕ) → m ≢ n → is_in (cond b (m ∷ ns) ns) n ≡ is_in ns n
@@ -62,7 +54,8 @@ module _ (s : Subject) where
   cone_unnamed t root n (e ∷ es) (ne, h) = skipped ((name_of s e == root) || (t e && comes t root e es)) (cone s t root es) (name_of s e) n ne ∙ cone_unnamed t root n es h
 
   -- an entry is in the cone where it is its root, or a member that comes of it
-  head_of : (t : Entry s → Bool) (root : ℕ) (e : Entry s) (es : List (Entry s)) → AllByRecursion (λ a. name_of s a ≢ name_of s e) es → in_cone s t root (e ∷ es) e ≡ true → ((name_of s e == root) || (t e && comes t root e es)) ≡ true
+  head_of : (t : Entry s → Bool) (root : ℕ) (e : Entry s) (es : List (Entry s)) → AllByRecursion (λ a. name_of s a ≢ name_of s e) es → in_cone s t root (e ∷ es) e ≡ true
+      → ((name_of s e == root) || (t e && comes t root e es)) ≡ true
   head_of t root e es ne h = only ((name_of s e == root) || (t e && comes t root e es)) (cone_unnamed t root (name_of s e) es ne) h
     where
       only : (b : Bool) → is_in (cone s t root es) (name_of s e) ≡ false → is_in (cond b (name_of s e ∷ cone s t root es) (cone s t root es)) (name_of s e) ≡ true → b ≡ true
@@ -86,3 +79,27 @@ module _ (s : Subject) where
 
   pub cone_part : (t : Entry s → Bool) (root : ℕ) (es : List (Entry s)) → Distinct s es → AllByRecursion (λ a. name_of s a ≡ root → t a ≡ true) es → Part (in_cone s t root es) t es
   cone_part t root es h b = cone_least t t root es h (closed_self t es) b
+
+-- closed sets are those that no member outside has one of as a cause
+module _ (s : Subject) (t c : Entry s → Bool) where
+  not_cause : (x b : Bool) → b ≡ false → (x ≡ true → b ≡ true) → x ≡ false
+  not_cause false b h g = refl
+  not_cause true b h g = absurd (both_ways _ h (g refl))
+
+  pub closed_outside : (es : List (Entry s)) → AllByRecursion (λ a. caused s a a ≡ false) es → Ordered s es → Closed s t c es → HasNoneOutside s t c es
+  closed_outside [] own order h = tt
+  closed_outside (e ∷ es) (mine, own) (newer, order) (p, h) = (
+    λ member out. (λ _. mine, all_map _ _ es (λ a q is. not_cause (caused s e a) (c e) out (q is)) (p member)),
+    all_both _ _ _ es (λ a no rest member out. (λ _. no, rest member out)) newer (closed_outside es own order h),
+  )
+
+  pub outside_closed : (es : List (Entry s)) → HasNoneOutside s t c es → Closed s t c es
+  outside_closed [] h = tt
+  outside_closed (e ∷ es) (p, h) = (
+    λ member. go member (c e) refl,
+    outside_closed es (all_map _ _ es (λ a q member out. (q member out).1) h),
+  )
+    where
+      go : t e ≡ true → (b : Bool) → c e ≡ b → AllByRecursion (λ a. c a ≡ true → caused s e a ≡ true → b ≡ true) es
+      go member true is = all_of _ es (λ a q cause. refl)
+      go member false is = all_map _ _ es (λ a no q cause. absurd (both_ways _ (no q) cause)) (p member is).1

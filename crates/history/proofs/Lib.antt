@@ -1,6 +1,14 @@
 pub mod Lists
+pub mod Cells
+pub mod Writing
 pub mod Core
-pub mod Changes
 pub mod Marks
+pub mod Changes
 pub mod Naming
 pub mod Cones
+pub mod Exchanges
+pub mod Rows
+pub mod Swaps
+pub mod Chaining
+pub mod Walking
+pub mod Standing

@@ -1,10 +1,10 @@
 -- Names: the causes that are computed are the causes, and a new name is no older entry's cause.
-use Rattle.std.proofs.Common.{◌≡◌, ◌≢◌, ℕ, ◌+◌, ◌<◌, ◌≤◌, Bool, true, false, cond, ◌&&◌, ◌==◌, List, [], ◌∷◌, map, filter, reverse, ◌∙◌, refl, sym, arith, ne_eqb, eq-eqb}
+use Rattle.std.proofs.Common.{◌≡◌, ◌≢◌, ℕ, ◌+◌, ◌<◌, ◌≤◌, Bool, true, false, cond, ◌&&◌, ◌==◌, List, [], ◌∷◌, map, filter, reverse, Option, ◌∙◌, refl, sym, arith, ne_eqb, eq-eqb}
 use Rattle.std.specs.List.{AllByRecursion}
 use Rattle.std.proofs.lemmas.Bool.{or_left}
 use Rattle.std.proofs.lemmas.List.Sorted.{list_any-IsPermutation, IsPermutation-reverse}
 use Rattle.history.specs.Subject.{Subject, Laws, World, Foot, after, meets}
-use Rattle.history.specs.Journal.{Entry, name_of, is_in, named, caused, live_set, Good, Distinct, Below, Named, causes_of, NamesCauses, new_entry}
+use Rattle.history.specs.Journal.{Entry, name_of, is_in, named, caused, live_set, Good, Distinct, Below, Earlier, Named, causes_of, NamesCauses, new_entry}
 use Rattle.history.proofs.Lists.{all_map, all_both, all_reversed}
 use Rattle.history.proofs.Changes.{appended_good}
 
@@ -18,7 +18,7 @@ pub named_reversed : (ns : List ℕ) (m : ℕ) → is_in (reverse ns) m ≡ is_i
 named_reversed ns m = sym (list_any-IsPermutation (λ n. n == m) ns (reverse ns) (IsPermutation-reverse ns))
 
 module _ (s : Subject) where
-  none_named : (p : Entry s → Bool) (m : ℕ) (es : List (Entry s)) → AllByRecursion (λ a. name_of s a ≢ m) es → is_in (map (name_of s) (filter p es)) m ≡ false
+  pub none_named : (p : Entry s → Bool) (m : ℕ) (es : List (Entry s)) → AllByRecursion (λ a. name_of s a ≢ m) es → is_in (map (name_of s) (filter p es)) m ≡ false
   none_named p m [] h = refl
   none_named p m (e ∷ es) (ne, h) = elim (p e) as (λ b. is_in (map (name_of s) (cond b (e ∷ filter p es) (filter p es))) m ≡ false) [
     | true ↦ rw (ne_eqb (name_of s e) m ne) (none_named p m es h)
@@ -64,18 +64,25 @@ module _ (s : Subject) where
   fresh : (next : ℕ) (e : Entry s) (es : List (Entry s)) → Below s next es → next ≤ name_of s e → AllByRecursion (λ a. caused s a e ≡ false) es
   fresh next e es h le = all_map _ _ es (λ a b. above (name_of s e) a.causes (all_map _ _ a.causes (λ n lt. omega (arith, lt, le)) b.1)) h
 
+  -- no entry is a cause of its own
+  pub own : (es : List (Entry s)) → Earlier s es → AllByRecursion (λ a. caused s a a ≡ false) es
+  own es h = all_map _ _ es (λ a q. above (name_of s a) a.causes q) h
+
   -- names stay apart at an append
-  pub appended_named : {next : ℕ} {es : List (Entry s)} (e : s.Event) (f : Foot s) (ns : List ℕ) → Named s next es → next ≤ s.name e → AllByRecursion (λ n. n < next) ns → Named s (s.name e + 1) (new_entry s e f ns ∷ es)
-  appended_named {es = es} e f ns h le below = record {
+  pub appended_named : {next : ℕ} {es : List (Entry s)} (e : s.Event) (f : Foot s) (ns : List ℕ) (ls : List (s.Key × Option ℕ)) → Named s next es → next ≤ s.name e
+      → AllByRecursion (λ n. n < next) ns → Named s (s.name e + 1) (new_entry s e f ns ls ∷ es)
+  appended_named {es = es} e f ns ls h le below = record {
     distinct = (all_map _ _ es (λ a b is. omega (arith, b.0, le, is)) h.below, h.distinct);
     below = (
       (omega arith, all_map _ _ ns (λ n lt. omega (arith, lt, le)) below),
       all_map _ _ es (λ a b. (omega (arith, b.0, le), all_map _ _ a.causes (λ n lt. omega (arith, lt, le)) b.1)) h.below,
     );
+    earlier = (all_map _ _ ns (λ n lt. omega (arith, lt, le)) below, h.earlier);
   }
 
 module _ (s : Subject) (l : Laws s) where
   -- an event that is possible is appended with its footprint and the names of its causes
-  pub appended : {start w : World s} {next : ℕ} {es : List (Entry s)} (e : s.Event) (f : Foot s) (ns : List ℕ) → Good s start (live_set s) es w → Named s next es → s.Does e w f → next ≤ s.name e → NamesCauses s ns f es →
-      Good s start (live_set s) (new_entry s e f ns ∷ es) (after s f w)
-  appended {next = next} {es = es} e f ns g h d le causes = appended_good s l e f ns g d causes (fresh s next (new_entry s e f ns) es h.below le)
+  pub appended : {start w : World s} {next : ℕ} {es : List (Entry s)} (e : s.Event) (f : Foot s) (ns : List ℕ) (ls : List (s.Key × Option ℕ)) → Good s start (live_set s) es w → Named s next es
+      → s.Does e w f → next ≤ s.name e → NamesCauses s ns f es →
+      Good s start (live_set s) (new_entry s e f ns ls ∷ es) (after s f w)
+  appended {next = next} {es = es} e f ns ls g h d le causes = appended_good s l e f ns ls g d causes (fresh s next (new_entry s e f ns ls) es h.below le)

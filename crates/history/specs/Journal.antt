@@ -1,18 +1,21 @@
 -- A journal: entries of events, the newest first, of which some are live. A set of entries is a test.
-use Rattle.std.specs.Prelude.{◌≡◌, ◌≢◌, ℕ, ◌<◌, Bool, true, false, cond, ◌&&◌, ◌||◌, ◌==◌, not, List, [], ◌∷◌, map, filter}
+use Rattle.std.specs.Prelude.{◌≡◌, ◌≢◌, ℕ, ◌<◌, Bool, true, false, cond, ◌&&◌, ◌||◌, ◌==◌, not, List, [], ◌∷◌, Option, map, filter}
 use Rattle.std.specs.List.{list_any, AllByRecursion}
 use Rattle.history.specs.Subject.{Subject, World, Foot, after, meets}
 
--- an event, what it read and wrote when it was made, the names of its causes, and whether it is live
+-- an event, what it read and wrote when it was made, the names of its causes, whether it is live, and the last writers of then of the cells that it touches
 pub record Entry (s : Subject) : Type 0 where
   pub event : s.Event
   pub foot : Foot s
   pub causes : List ℕ
   pub live : Bool
+  pub lasts : List (s.Key × Option ℕ)
 
+-- the name of its event
 abbrev pub name_of : (s : Subject) → Entry s → ℕ
 name_of s e = s.name e.event
 
+-- a number is among these
 abbrev pub is_in : List ℕ → ℕ → Bool
 is_in ns m = list_any (λ n. n == m) ns
 
@@ -92,10 +95,15 @@ Distinct s (e ∷ es) = AllByRecursion (λ a. name_of s a ≢ name_of s e) es ×
 abbrev pub Below : (s : Subject) → ℕ → List (Entry s) → Type 0
 Below s next es = AllByRecursion (λ a. (name_of s a < next) × AllByRecursion (λ n. n < next) a.causes) es
 
--- names are distinct, and those from this number on are free
+-- the causes of each entry have smaller names than it
+abbrev pub Earlier : (s : Subject) → List (Entry s) → Type 0
+Earlier s es = AllByRecursion (λ a. AllByRecursion (λ n. n < name_of s a) a.causes) es
+
+-- names are distinct and greater than those of the causes, and those from this number on are free
 pub record Named (s : Subject) (next : ℕ) (es : List (Entry s)) : Type 0 where
   pub distinct : Distinct s es
   pub below : Below s next es
+  pub earlier : Earlier s es
 
 -- the live entries that wrote a cell that this footprint touches: the names of its causes, the newest first
 abbrev pub causes_of : (s : Subject) → Foot s → List (Entry s) → List ℕ
@@ -106,10 +114,14 @@ abbrev pub NamesCauses : (s : Subject) → List ℕ → Foot s → List (Entry s
 NamesCauses s ns f es = AllByRecursion (λ a. named s ns a ≡ (a.live && meets s a.foot f)) es
 
 -- the entry of a new event
-abbrev pub new_entry : (s : Subject) → s.Event → Foot s → List ℕ → Entry s
-new_entry s e f ns = record { event = e; foot = f; causes = ns; live = true }
+abbrev pub new_entry : (s : Subject) → s.Event → Foot s → List ℕ → List (s.Key × Option ℕ) → Entry s
+new_entry s e f ns ls = record { event = e; foot = f; causes = ns; live = true; lasts = ls }
 
 -- a set has each member of t that has one of its members as a cause
 abbrev pub Closed : (s : Subject) → (Entry s → Bool) → (Entry s → Bool) → List (Entry s) → Type 0
 Closed s t c [] = Unit {0}
 Closed s t c (e ∷ es) = (t e ≡ true → AllByRecursion (λ a. c a ≡ true → caused s e a ≡ true → c e ≡ true) es) × Closed s t c es
+
+-- no member of t outside a set has one of the set as a cause
+abbrev pub HasNoneOutside : (s : Subject) → (Entry s → Bool) → (Entry s → Bool) → List (Entry s) → Type 0
+HasNoneOutside s t c es = AllByRecursion (λ e. t e ≡ true → c e ≡ false → AllByRecursion (λ a. c a ≡ true → caused s e a ≡ false) es) es

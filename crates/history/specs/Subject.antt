@@ -33,6 +33,15 @@ abbrev pub written : (s : Subject) → List (s.Key × s.Content) → World s →
 written s [] w = w
 written s (p ∷ ps) w = λ k. cond (s.same p.0 k) (Some p.1) (written s ps w k)
 
+-- what a list has of a cell: the first item of the cell counts
+abbrev pub found : (s : Subject) → {X : Type 0} → List (s.Key × X) → s.Key → Option X
+found s [] k = None
+found s (p ∷ ps) k = cond (s.same p.0 k) (Some p.1) (found s ps k)
+
+-- what an event with this footprint writes in a cell
+abbrev pub new : (s : Subject) → Foot s → s.Key → Option s.Content
+new s f k = found s f.writes k
+
 -- the world after an event with this footprint
 abbrev pub after : (s : Subject) → Foot s → World s → World s
 after s f w = written s f.writes w
@@ -52,12 +61,17 @@ meets s f g = list_any (λ p. touches s g p.0) f.writes
 abbrev pub Agree : (s : Subject) → Foot s → World s → World s → Type 0
 Agree s f w v = AllByRecursion (λ k. v k ≡ w k) (touched s f)
 
+-- two footprints touch the same cells, and write the same
+pub record Alike (s : Subject) (f g : Foot s) : Type 0 where
+  pub touch : (k : s.Key) → touches s f k ≡ touches s g k
+  pub write : (k : s.Key) → new s f k ≡ new s g k
+
 -- What a subject has to prove. law is the one law: an event depends on no cell but those that it touches
 pub record Laws (s : Subject) : Type 0 where
   pub same_exact : (a b : s.Key) → s.same a b ≡ true → a ≡ b
   pub same_self : (a : s.Key) → s.same a a ≡ true
   pub law : (e : s.Event) (f : Foot s) (w v : World s) → s.Does e w f → Agree s f w v → s.Does e v f
-  pub once : (e : s.Event) (w : World s) (f g : Foot s) → s.Does e w f → s.Does e w g → f ≡ g
+  pub once : (e : s.Event) (w : World s) (f g : Foot s) → s.Does e w f → s.Does e w g → Alike s f g
 
 -- the events of a list, the newest first, are possible one after another, and lead from a world to a world
 pub data Run (s : Subject) (start : World s) : List s.Event → World s → Type 0 where

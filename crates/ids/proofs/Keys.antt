@@ -8,11 +8,14 @@ use Rattle.std.specs.declared.cmp.Ordering.TheVariants.{Less, Equal, Greater}
 use Rattle.std.proofs.lemmas.Map.Lookups.{CmpEqualImpliesEq, exact_pairs, exact_unsigned, exact_bytes}
 use Rattle.ids.specs.declared.names.ObjId.{ObjId}
 use Rattle.ids.specs.declared.names.EjId.{EjId}
+use Rattle.ids.specs.declared.names.SlotId.{SlotId}
+use Rattle.ids.specs.declared.names.MsgId.{MsgId}
+use Rattle.ids.specs.declared.names.PromId.{PromId}
 use Rattle.ids.specs.declared.names.CellKey.{CellKey}
 use Rattle.ids.specs.declared.names.CellKey.TheVariants as key
-use Rattle.ids.specs.Cells.{vat_cmp, message_cmp, promise_cmp, object_cmp, ejector_cmp, same_key}
+use Rattle.ids.specs.Cells.{vat_cmp, message_cmp, promise_cmp, slot_cmp, object_cmp, ejector_cmp, same_key}
 
-equal : (o : Ordering) → is_eq o ≡ true → o ≡ Equal
+pub equal : (o : Ordering) → is_eq o ≡ true → o ≡ Equal
 equal Less h = cc
 equal Equal h = refl
 equal Greater h = cc
@@ -32,6 +35,12 @@ unfolding pair_cmp
 exact_promises p q h =
     ap (λ (x : ℕ × (ℕ × ℕ)). record { event = record { 0 = x.0 }; index = x.1.0; home = record { 0 = record { 0 = x.1.1 } } })
     (exact_pairs nat_cmp pair_cmp exact_unsigned (exact_pairs nat_cmp nat_cmp exact_unsigned exact_unsigned) (p.event.0, (p.index, p.home.0.0)) (q.event.0, (q.index, q.home.0.0)) h)
+
+pub exact_slots : CmpEqualImpliesEq slot_cmp
+unfolding pair_cmp
+exact_slots s t h =
+    ap (λ (x : ℕ × (ℕ × ℕ)). record { event = record { 0 = x.0 }; index = x.1.0; vat = record { 0 = record { 0 = x.1.1 } } })
+    (exact_pairs nat_cmp pair_cmp exact_unsigned (exact_pairs nat_cmp nat_cmp exact_unsigned exact_unsigned) (s.event.0, (s.index, s.vat.0.0)) (t.event.0, (t.index, t.vat.0.0)) h)
 
 pub exact_objects : CmpEqualImpliesEq object_cmp
 unfolding pair_cmp
@@ -64,19 +73,29 @@ same_key_exact (key.Board p) (key.Name y) h = cc
 same_key_exact (key.Board p) (key.State w) h = cc
 same_key_exact (key.Board p) (key.Msg n) h = cc
 
-equal_self : (n : ℕ) → nat_cmp n n ≡ Equal
+pub equal_self : (n : ℕ) → nat_cmp n n ≡ Equal
 equal_self n = sym (nat_cmp_is n n Equal refl)
 
 bytes_self : (xs : List ℕ) → slice_cmp nat_cmp xs xs ≡ Equal
 bytes_self [] = refl
 bytes_self (x ∷ xs) = ap (λ o. ordering_then o (slice_cmp nat_cmp xs xs)) (equal_self x) ∙ bytes_self xs
 
+-- a slot, a message and a promise have the names of themselves
+pub slot_self : (s : SlotId) → is_eq (slot_cmp s s) ≡ true
+slot_self s = ap is_eq (ap (λ c. ordering_then c (ordering_then (nat_cmp s.index s.index) (vat_cmp s.vat s.vat))) (equal_self s.event.0) ∙ ap (λ c. ordering_then c (vat_cmp s.vat s.vat)) (equal_self s.index) ∙ equal_self s.vat.0.0)
+
+pub message_self : (m : MsgId) → is_eq (message_cmp m m) ≡ true
+message_self m = ap is_eq (ap (λ o. ordering_then o (nat_cmp m.index m.index)) (equal_self m.event.0) ∙ equal_self m.index)
+
+pub promise_self : (p : PromId) → is_eq (promise_cmp p p) ≡ true
+promise_self p = ap is_eq (ap (λ o. ordering_then o (ordering_then (nat_cmp p.index p.index) (vat_cmp p.home p.home))) (equal_self p.event.0) ∙ ap (λ o. ordering_then o (vat_cmp p.home p.home)) (equal_self p.index) ∙ equal_self p.home.0.0)
+
 -- a key is the same as itself
 pub same_key_self : (k : CellKey) → same_key k k ≡ true
 same_key_self (key.Name x) = ap is_eq (bytes_self x)
 same_key_self (key.State v) = ap is_eq (equal_self v.0.0)
-same_key_self (key.Msg m) = ap is_eq (ap (λ o. ordering_then o (nat_cmp m.index m.index)) (equal_self m.event.0) ∙ equal_self m.index)
-same_key_self (key.Board p) = ap is_eq (ap (λ o. ordering_then o (ordering_then (nat_cmp p.index p.index) (vat_cmp p.home p.home))) (equal_self p.event.0) ∙ ap (λ o. ordering_then o (vat_cmp p.home p.home)) (equal_self p.index) ∙ equal_self p.home.0.0)
+same_key_self (key.Msg m) = message_self m
+same_key_self (key.Board p) = promise_self p
 
 -- an object has the name of itself
 pub object_self : (o : ObjId) → is_eq (object_cmp o o) ≡ true

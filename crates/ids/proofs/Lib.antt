@@ -1,3 +1,4 @@
 pub mod Keys
+pub mod CellKeys
 pub mod Quoting
 pub mod Failing

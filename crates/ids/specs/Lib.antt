@@ -1,3 +1,5 @@
 pub mod Quoted
 pub mod Names
 pub mod Cells
+pub mod KeyLaws
+pub mod CellKeys

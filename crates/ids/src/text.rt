@@ -71,6 +71,14 @@ impl Text {
     }
 }
 
+impl Clone for Text {
+    ghost is_clone = { λ x y. y ≡ x };
+
+    fn clone(&self) -> Result<Text, AllocError> {
+        self.share()
+    }
+}
+
 impl PartialEq for Text {
     ghost eq = { λ x y. pointwise nat_eq x y };
 

@@ -10,8 +10,8 @@ use crate::entry::{Entry, Mark, live_names, mark_those};
 use crate::writers::Writers;
 use ids::names::{CellKey, EventName};
 use std::alloc::{AllocError, Global};
-use world::cells::Cells;
 use world::event::Event;
+use world::keys::Cells;
 
 /// The entries of all events, with an index of who wrote which cell.
 #[derive(Drop)]

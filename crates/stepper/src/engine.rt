@@ -122,7 +122,7 @@ impl Engine {
     fn show(&mut self) -> Result<(), AllocError>
         ensures { OnOk result (Happens self.old self.new (λ b r s d. Answers self.old.budget b commands.show r s d)) }
     {
-        self.written.world(self.book.world())
+        self.written.world(self.alloc, self.book.world())
     }
 
     fn journal(&mut self) -> Result<(), AllocError>

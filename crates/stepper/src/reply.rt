@@ -82,10 +82,10 @@ impl Written {
     }
 
     /// The world is shown.
-    pub(crate) fn world(&mut self, world: &World) -> Result<(), AllocError>
+    pub(crate) fn world(&mut self, alloc: Global, world: &World) -> Result<(), AllocError>
         ensures { OnOk result (AddsText self.old self.new (Shows (world_of world.now))) }
     {
-        write_world(world, &mut self.text)
+        write_world(alloc, world, &mut self.text)
     }
 
     /// The journal is listed.

@@ -20,7 +20,7 @@ use heap::state::Binding;
 use ids::names::{MsgId, ObjId, PromId, SlotId, VatNo};
 use ids::text::Text;
 use kernele::tree::Pattern;
-use std::alloc::AllocError;
+use std::alloc::{AllocError, Global};
 use std::collections::BTreeMap;
 use values::showing::write_value;
 use values::value::Value;
@@ -109,24 +109,28 @@ fn write_vat(number: VatNo, name: &Text, out: &mut String) -> Result<(), AllocEr
 }
 
 /// Writes a vat, its top nouns, its slots and its objects.
-fn write_home(number: VatNo, home: &Home, out: &mut String) -> Result<(), AllocError>
+fn write_home(alloc: Global, number: VatNo, home: &Home, out: &mut String) -> Result<(), AllocError>
     ensures { OnOk result (HomeWritten number home.now (string_bytes out.old) (string_bytes out.new)) }
 {
     write_vat(number, &home.name, out)?;
-    let contents = home.state.contents();
-    write_nouns(contents.nouns, out)?;
-    write_slots(contents.slots, out)?;
-    write_objects(contents.objects, out)?;
+    let contents = home.state.contents(alloc)?;
+    write_nouns(&contents.nouns, out)?;
+    write_slots(&contents.slots, out)?;
+    write_objects(&contents.objects, out)?;
     Ok(())
 }
 
 /// Writes the vats in order of birth, each with its top nouns, slots and objects.
-fn write_homes(homes: &BTreeMap<VatNo, Home>, out: &mut String) -> Result<(), AllocError>
+fn write_homes(
+    alloc: Global,
+    homes: &BTreeMap<VatNo, Home>,
+    out: &mut String,
+) -> Result<(), AllocError>
     ensures written { OnOk result (HomesWritten (homes_in homes.now) (string_bytes out.old) (string_bytes out.new)) }
     ensures listed { OnOk result (Lists vat_cmp (λ v. option_map home_of (get vat_cmp homes.now v)) (homes_in homes.now)) }
 {
     for (number, home) in homes.iter() {
-        write_home(*number, home, out)?;
+        write_home(alloc, *number, home, out)?;
     }
     Ok(())
 }
@@ -194,11 +198,11 @@ fn write_board(board: &BTreeMap<PromId, Value>, out: &mut String) -> Result<(), 
 }
 
 /// Writes the world: its vats by birth, its messages and what was published in order of their names.
-pub(crate) fn write_world(world: &World, out: &mut String) -> Result<(), AllocError>
+pub(crate) fn write_world(alloc: Global, world: &World, out: &mut String) -> Result<(), AllocError>
     ensures { OnOk result ((text : List ℕ) × Shows (world_of world.now) text × (string_bytes out.new ≡ string_bytes out.old ++ text)) }
 {
     let contents = world.contents();
-    write_homes(contents.homes, out)?;
+    write_homes(alloc, contents.homes, out)?;
     write_messages(contents.messages, world, out)?;
     write_board(contents.board, out)?;
     Ok(())

@@ -1,22 +1,22 @@
 -- The laws of turns, from those of evaluation.
-use Rattle.std.proofs.Common.{◌≡◌, ℕ, ◌≤◌, List, Bool, true, false, refl}
+use Rattle.std.proofs.Common.{◌≡◌, ℕ, ◌≤◌, Bool, true, false, cond, refl, subst}
 use Rattle.ids.specs.declared.names.EventName.{EventName}
 use Rattle.ids.specs.declared.names.VatNo.{VatNo}
 use Rattle.ids.specs.declared.names.EjId.{EjId}
 use Rattle.kernele.specs.Tree.{Trees}
 use Rattle.values.specs.Data.{Val, null}
-use Rattle.heap.specs.State.{Cell, State}
+use Rattle.heap.specs.State.{Cell, State, Cells, no_cells}
 use Rattle.erules.specs.At.{At}
 use Rattle.erules.specs.Outcomes.{End, value, halt, thrown, ejected, abandoned}
 use Rattle.erules.specs.Rules.{Items}
 use Rattle.turn.specs.Turn.{Delivery, Outcome, outcome, settled, kept, start, Delivers, opens, asks}
-use Rattle.erules.specs.Touched.{Touch, Agree, NotPut}
-use Rattle.turn.specs.Touched.{delivery_touched}
+use Rattle.erules.specs.Laws.{IsWithin, AgreeOn, with_cells}
+use Rattle.turn.specs.Touched.{delivery_touched, delivery_written}
 use Rattle.erules.proofs.Determined.{Same, items_same}
 use Rattle.erules.proofs.Ejections.{items_inside}
-use Rattle.erules.proofs.Framed.{Framed, items_framed}
+use Rattle.erules.proofs.Framed.{items_written}
+use Rattle.erules.proofs.Reached.{items_later}
 use Rattle.erules.proofs.Spent.{items_left}
-use Rattle.erules.proofs.Unwritten.{items_un}
 
 outcome_same : (s : State) {o p : End} {b c : At} → Same o p b c → outcome s (settled o) b ≡ outcome s (settled p) c
 outcome_same s t = λ i. outcome s (settled (t.end i)) (t.place i)
@@ -25,19 +25,34 @@ pub delivery_same : {d : Delivery} {e : EventName} {v : VatNo} {s : State} {n : 
 delivery_same (opens {s = s} r) (opens q) = outcome_same s (items_same r q)
 delivery_same (asks {s = s} r) (asks q) = outcome_same s (items_same r q)
 
--- what is kept of two states that agree where the others did
-kept_agrees : (o : End) (u s t b : State) (c : Cell) → u c ≡ s c → t c ≡ b c → kept o u t c ≡ kept o s b c
-kept_agrees (value v) u s t b c p q = q
-kept_agrees (halt (thrown problem)) u s t b c p q = q
-kept_agrees (halt (ejected j v)) u s t b c p q = q
-kept_agrees (halt (abandoned why)) u s t b c p q = p
+-- at the beginning of a turn nothing is written, and so all that is written is touched
+begins_within : IsWithin no_cells no_cells
+begins_within c h = h
 
-abbrev DeliveryFrames : (d : Delivery) (e : EventName) (v : VatNo) (s : State) (n : ℕ) (o : Outcome) (u : State) → List Touch → Type 0
-DeliveryFrames d e v s n o u ls = Framed (λ t. Delivers d e v u n (record o { state = t })) (λ t r. delivery_touched r) s o.state u ls
+pub delivery_within : {d : Delivery} {e : EventName} {v : VatNo} {s : State} {n : ℕ} {o : Outcome} (r : Delivers d e v s n o) → IsWithin (delivery_written r) (delivery_touched r)
+delivery_within (opens r) = (items_later r).within begins_within
+delivery_within (asks r) = (items_later r).within begins_within
 
-pub delivery_framed : {d : Delivery} {e : EventName} {v : VatNo} {s : State} {n : ℕ} {o : Outcome} (r : Delivers d e v s n o) (u : State) → Agree (delivery_touched r) u s → DeliveryFrames d e v s n o u (delivery_touched r)
-delivery_framed (opens {s = s} {o = o} {b = b} r) u m = let f = items_framed r u m in record { after = kept (settled o) u f.after; run = opens f.run; same = f.same; kept = λ c h. kept_agrees (settled o) u s f.after b.state c h (f.kept c h) }
-delivery_framed (asks {s = s} {o = o} {b = b} r) u m = let f = items_framed r u m in record { after = kept (settled o) u f.after; run = asks f.run; same = f.same; kept = λ c h. kept_agrees (settled o) u s f.after b.state c h (f.kept c h) }
+unwritten : (q : Bool) {X : Type 0} (s u : X) → (q ≡ true → u ≡ s) → u ≡ cond q s u
+unwritten true s u h = h refl
+unwritten false s u h = refl
+
+-- what is kept of what was written, in another state that agrees on it
+kept_alike : (o : End) (q : Cells) (s b u : State) → AgreeOn q u s → kept o u (with_cells q b u) ≡ with_cells q (kept o s b) u
+kept_alike (value v) q s b u h = refl
+kept_alike (halt (thrown problem)) q s b u h = refl
+kept_alike (halt (ejected j v)) q s b u h = refl
+kept_alike (halt (abandoned why)) q s b u h = λ i c. unwritten (q c) (s c) (u c) (h c) i
+
+-- the same delivery to another state: it touches and writes the same cells
+abbrev pub DeliveryFrames : {d : Delivery} {e : EventName} {v : VatNo} {s : State} {n : ℕ} {o : Outcome} → Delivers d e v s n o → State → State → Type 0
+DeliveryFrames {d = d} {e = e} {v = v} {n = n} {o = o} r u t = (q : Delivers d e v u n (record o { state = t })) × (delivery_touched q ≡ delivery_touched r) × (delivery_written q ≡ delivery_written r)
+
+pub delivery_framed : {d : Delivery} {e : EventName} {v : VatNo} {s : State} {n : ℕ} {o : Outcome} (r : Delivers d e v s n o) (u : State) → AgreeOn (delivery_touched r) u s → DeliveryFrames r u (with_cells (delivery_written r) o.state u)
+delivery_framed (opens {s = s} {o = o} {b = b} r) u m =
+    subst (DeliveryFrames (opens r) u) (kept_alike (settled o) b.written s b.state u (λ c h. m c ((items_later r).within begins_within c h))) (opens (items_written u r begins_within u m), refl, refl)
+delivery_framed (asks {s = s} {o = o} {b = b} r) u m =
+    subst (DeliveryFrames (asks r) u) (kept_alike (settled o) b.written s b.state u (λ c h. m c ((items_later r).within begins_within c h))) (asks (items_written u r begins_within u m), refl, refl)
 
 pub delivery_left : {d : Delivery} {e : EventName} {v : VatNo} {s : State} {n : ℕ} {o : Outcome} → Delivers d e v s n o → o.left ≤ n
 delivery_left (opens r) = items_left r
@@ -49,9 +64,9 @@ kept_un (halt (thrown problem)) s t c e = e
 kept_un (halt (ejected j v)) s t c e = e
 kept_un (halt (abandoned why)) s t c e = refl
 
-pub delivery_un : {d : Delivery} {e : EventName} {v : VatNo} {s : State} {n : ℕ} {o : Outcome} (r : Delivers d e v s n o) (c : Cell) → NotPut c (delivery_touched r) → o.state c ≡ s c
-delivery_un (opens {s = s} {o = o} {b = b} r) c n = kept_un (settled o) s b.state c (items_un r c n)
-delivery_un (asks {s = s} {o = o} {b = b} r) c n = kept_un (settled o) s b.state c (items_un r c n)
+pub delivery_un : {d : Delivery} {e : EventName} {v : VatNo} {s : State} {n : ℕ} {o : Outcome} (r : Delivers d e v s n o) (c : Cell) → delivery_written r c ≡ false → o.state c ≡ s c
+delivery_un (opens {s = s} {o = o} {b = b} r) c h = kept_un (settled o) s b.state c ((items_later r).stays c h)
+delivery_un (asks {s = s} {o = o} {b = b} r) c h = kept_un (settled o) s b.state c ((items_later r).stays c h)
 
 false_true : false ≡ true → ⊥
 false_true e = cc

@@ -1,5 +1,5 @@
 -- The laws of turns.
-use Rattle.std.specs.Prelude.{◌≡◌, ℕ, ◌≤◌, Bool}
+use Rattle.std.specs.Prelude.{◌≡◌, ℕ, ◌≤◌, Bool, false}
 use Rattle.ids.specs.declared.names.EventName.{EventName}
 use Rattle.ids.specs.declared.names.VatNo.{VatNo}
 use Rattle.ids.specs.declared.names.EjId.{EjId}
@@ -10,21 +10,26 @@ use Rattle.erules.specs.At.{At}
 use Rattle.erules.specs.Outcomes.{ejected, halt}
 use Rattle.erules.specs.Rules.{Items}
 use Rattle.turn.specs.Turn.{Delivery, Outcome, Delivers, start}
-use Rattle.erules.specs.Touched.{Agree, NotPut}
-use Rattle.turn.specs.Touched.{delivery_touched}
+use Rattle.erules.specs.Laws.{IsWithin, AgreeOn, with_cells}
+use Rattle.turn.specs.Touched.{delivery_touched, delivery_written}
 
 -- a delivery has at most one outcome
 abbrev pub AtMostOneDelivery : Type 0
 AtMostOneDelivery = (d : Delivery) (e : EventName) (v : VatNo) (s : State) (n : ℕ) (o p : Outcome) → Delivers d e v s n o → Delivers d e v s n p → o ≡ p
 
--- the same of a delivery: its result, its end and the steps left are the same, and it touches the same cells
+-- what a delivery writes it touches
+abbrev pub WritesAreTouched : Type 0
+WritesAreTouched = (d : Delivery) (e : EventName) (v : VatNo) (s : State) (n : ℕ) (o : Outcome) (r : Delivers d e v s n o) → IsWithin (delivery_written r) (delivery_touched r)
+
+-- in a state that agrees on the cells touched, a delivery has the same result, the same end and the same steps left, and touches
+-- and writes the same cells; it leaves those that are written as it leaves them here, and the others as they were
 abbrev pub DeliveryFrame : Type 0
-DeliveryFrame = (d : Delivery) (e : EventName) (v : VatNo) (s : State) (n : ℕ) (o : Outcome) (r : Delivers d e v s n o) (u : State) → Agree (delivery_touched r) u s →
-    (t : State) × (q : Delivers d e v u n (record o { state = t })) × (delivery_touched q ≡ delivery_touched r) × ((c : Cell) → u c ≡ s c → t c ≡ o.state c)
+DeliveryFrame = (d : Delivery) (e : EventName) (v : VatNo) (s : State) (n : ℕ) (o : Outcome) (r : Delivers d e v s n o) (u : State) → AgreeOn (delivery_touched r) u s
+    → (q : Delivers d e v u n (record o { state = with_cells (delivery_written r) o.state u })) × (delivery_touched q ≡ delivery_touched r) × (delivery_written q ≡ delivery_written r)
 
 -- a cell that a delivery did not write is as it was
 abbrev pub OthersStayInTurns : Type 0
-OthersStayInTurns = (d : Delivery) (e : EventName) (v : VatNo) (s : State) (n : ℕ) (o : Outcome) (r : Delivers d e v s n o) (c : Cell) → NotPut c (delivery_touched r) → o.state c ≡ s c
+OthersStayInTurns = (d : Delivery) (e : EventName) (v : VatNo) (s : State) (n : ℕ) (o : Outcome) (r : Delivers d e v s n o) (c : Cell) → delivery_written r c ≡ false → o.state c ≡ s c
 
 -- a delivery leaves no more steps than its budget
 abbrev pub WithinBudget : Type 0

@@ -1,4 +1,5 @@
 pub mod Turn
-pub mod View
 pub mod Touched
+pub mod View
+pub mod Runs
 pub mod Laws

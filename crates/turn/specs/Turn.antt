@@ -5,7 +5,7 @@ use Rattle.ids.specs.declared.names.VatNo.{VatNo}
 use Rattle.kernele.specs.Tree.{Trees}
 use Rattle.values.specs.Data.{Val, null, broken}
 use Rattle.values.specs.Replies.{limited}
-use Rattle.heap.specs.State.{State}
+use Rattle.heap.specs.State.{State, no_cells}
 use Rattle.erules.specs.At.{At}
 use Rattle.erules.specs.Outcomes.{thrown, ejected, abandoned, reason, End, value, halt, reply_end}
 use Rattle.erules.specs.Rules.{Items}
@@ -23,9 +23,9 @@ pub record Outcome : Type 0 where
   pub end : End
   pub left : ℕ
 
--- where a turn of a vat begins: no names but the top nouns, the whole budget, nothing made, and no Escape begun
+-- where a turn of a vat begins: no names but the top nouns, the whole budget, nothing made, no Escape begun, and no cell touched
 abbrev pub start : Bool → EventName → VatNo → State → ℕ → At
-start own e v s budget = record { nouns = []; own_scope = own; state = s; left = budget; event = e; vat = v; slots = 0; objects = 0; ejectors = 0; opened = [] }
+start own e v s budget = record { nouns = []; own_scope = own; state = s; left = budget; event = e; vat = v; began = s; slots = 0; objects = 0; ejectors = 0; opened = []; touched = no_cells; written = no_cells }
 
 -- a value past the limits of a value ends the turn with a problem, and so would a value on its way to an Escape,
 -- which does not leave its Escape and so no turn

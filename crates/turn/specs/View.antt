@@ -1,10 +1,15 @@
 -- What the program's deliveries and outcomes stand for.
+use Rattle.std.specs.Prelude.{◌≡◌, ℕ, is_some}
+use Rattle.ids.specs.declared.names.EventName.{EventName}
+use Rattle.ids.specs.declared.names.VatNo.{VatNo}
 use Rattle.kernele.specs.View.{program_of}
 use Rattle.values.specs.View.{val_of}
 use Rattle.erules.specs.Outcomes.{thrown, abandoned, End, value, halt}
-use Rattle.heap.specs.View.{state_of}
+use Rattle.heap.specs.State.{State, Cells}
+use Rattle.heap.specs.Found.{Found, left_by, touched_in, writes_in}
 use Rattle.erules.specs.View.{cause_of}
-use Rattle.turn.specs.Turn.{Delivery, opening, asked, Outcome}
+use Rattle.turn.specs.Turn.{Delivery, opening, asked, Outcome, kept, Delivers}
+use Rattle.turn.specs.Touched.{delivery_touched, delivery_written}
 use Rattle.turn.specs.declared.delivery.Delivery as code-delivery
 use Rattle.turn.specs.declared.delivery.Delivery.TheVariants as code-deliveries
 use Rattle.turn.specs.declared.delivery.Ended.{Ended}
@@ -20,5 +25,15 @@ ended_of (code-ended.Value v) = value (val_of v)
 ended_of (code-ended.Problem problem) = halt (thrown problem)
 ended_of (code-ended.Abandoned why) = halt (abandoned (cause_of why))
 
-abbrev pub outcome_of : code-outcome.Outcome → Outcome
-outcome_of o = record { state = state_of o.state; result = val_of o.result; end = ended_of o.ended; left = o.steps }
+-- the outcome of a turn that was begun in this state: what it wrote over it, unless it was abandoned
+abbrev pub outcome_on : code-outcome.Outcome → State → Outcome
+outcome_on o u = record { state = kept (ended_of o.ended) u (left_by o.footprint u); result = val_of o.result; end = ended_of o.ended; left = o.steps }
+
+-- the cells that it wrote, also where that is not kept
+abbrev pub written_by : code-outcome.Outcome → Cells
+written_by o c = is_some (writes_in o.footprint c)
+
+-- on each state that agrees with what was found, a delivery has this outcome, and touches and writes just these cells
+abbrev pub Meets : Delivery → EventName → VatNo → ℕ → code-outcome.Outcome → Type 0
+Meets d e v n o = (u : State) → Found o.footprint u
+    → ∥ ((r : Delivers d e v u n (outcome_on o u)) × (delivery_touched r ≡ touched_in o.footprint) × (delivery_written r ≡ written_by o)) ∥₁

@@ -1,27 +1,31 @@
 // One delivery to a vat, and what it leaves.
 ghost use Rattle.std.specs.Prelude.{◌≡◌, IfOk};
+ghost use Rattle.std.specs.Arc.{arc_value};
 ghost use Rattle.kernele.specs.View.{program_of};
 ghost use Rattle.values.specs.Data.{null};
 ghost use Rattle.values.specs.View.{val_of};
 ghost use Rattle.erules.specs.At.{At};
 ghost use Rattle.erules.specs.Outcomes.{End as ModelEnd};
 ghost use Rattle.erules.specs.Rules.{Items};
-ghost use Rattle.turn.specs.Turn.{Delivers, start, settled, published as published_of, kept, outcome};
-ghost use Rattle.heap.specs.Drafts.{draft_of};
+ghost use Rattle.turn.specs.Turn.{start, settled, published as published_of};
+ghost use Rattle.heap.specs.Found.{Found};
 ghost use Rattle.heap.specs.View.{state_of};
 ghost use Rattle.erules.specs.View.{at, end_of};
-ghost use Rattle.turn.specs.View.{ended_of, delivery_of, outcome_of};
+ghost use Rattle.turn.specs.View.{ended_of, delivery_of, Meets};
+ghost use Rattle.turn.specs.Runs.{RunsTo};
 
 use erules::end::{Abandon, End, Halt};
 use erules::working::Working;
 use eval::eval::eval_items;
 use heap::draft::Draft;
+use heap::reach::Footprint;
 use heap::state::VatState;
 use ids::names::{EventName, VatNo};
 use ids::text::Text;
 use kernele::tree::Program;
 use resolver::resolve;
 use std::alloc::{AllocError, Global};
+use std::sync::Arc;
 use values::limits::is_within_limits;
 use values::value::Value;
 
@@ -46,8 +50,8 @@ pub enum Ended {
 /// What a turn leaves.
 #[derive(Drop)]
 pub struct Outcome {
-    /// The vat's state after it.
-    pub state: VatState,
+    /// What it found in each cell of the vat that it touched, and what it wrote there.
+    pub footprint: Footprint,
     /// What the result promise is published as.
     pub result: Value,
     pub ended: Ended,
@@ -69,38 +73,39 @@ impl Delivery {
 
 /// Runs a turn of a vat in this state, which itself stays as it is. Fails only for want of memory.
 pub fn deliver(
+    alloc: Global,
     delivery: &Delivery,
     event: EventName,
     vat: VatNo,
-    state: &VatState,
+    state: &Arc<VatState>,
     budget: u32,
 ) -> Result<Outcome, AllocError>
-    ensures { IfOk result (λ o.
-        Delivers (delivery_of delivery.now) event vat (state_of state.now) budget (outcome_of o)) }
+    ensures found { IfOk result (λ o. Found o.footprint (state_of (arc_value state.now))) }
+    ensures meets { IfOk result (λ o. Meets (delivery_of delivery.now) event vat budget o) }
 {
     match delivery {
-        Delivery::Opening(program) => run_program(program, true, event, vat, state, budget),
-        Delivery::Asked(program) => run_program(program, false, event, vat, state, budget),
+        Delivery::Opening(program) => run_program(alloc, program, true, event, vat, state, budget),
+        Delivery::Asked(program) => run_program(alloc, program, false, event, vat, state, budget),
     }
 }
 
 fn run_program(
+    alloc: Global,
     program: &Program,
     own_scope: bool,
     event: EventName,
     vat: VatNo,
-    state: &VatState,
+    state: &Arc<VatState>,
     budget: u32,
 ) -> Result<Outcome, AllocError>
     ensures { IfOk result (λ r. (o : ModelEnd) × (b : At)
-        × Items 1 null (program_of program.now) (start own_scope event vat (state_of state.now) budget) o b
-        × (outcome_of r ≡ outcome (state_of state.now) (settled o) b)) }
+        × Items 1 null (program_of program.now) (start own_scope event vat (state_of (arc_value state.now)) budget) o b
+        × RunsTo r (settled o) b) }
 {
-    let alloc = state.allocator();
     let resolved = resolve(alloc, program, own_scope)?;
     let mut w = Working {
         alloc,
-        draft: Draft::new(state.try_copy()?, event, vat),
+        draft: Draft::new(alloc, Arc::try_clone(state)?, event, vat),
         own_scope,
         nouns: Vec::new(alloc),
         spare: Vec::new(alloc),
@@ -109,20 +114,28 @@ fn run_program(
         opened: Vec::new(alloc),
     };
     let end = eval_items(&mut w, &resolved.items, 1)?;
-    finish(state, w, end)
+    finish(w, end)
 }
 
 /// The outcome of a turn that ended so.
-fn finish(old: &VatState, w: Working, end: End) -> Result<Outcome, AllocError>
-    ensures { IfOk result (λ r.
-        outcome_of r ≡ outcome (state_of old.now) (settled (end_of end)) (at w)) }
+fn finish(w: Working, end: End) -> Result<Outcome, AllocError>
+    ensures { IfOk result (λ r. RunsTo r (settled (end_of end)) (at w)) }
 {
-    let steps = w.steps;
-    let ended = settle(w.alloc, end)?;
-    let result = published(w.alloc, &ended)?;
-    let state = state_after(old, w.draft, &ended)?;
+    let Working {
+        alloc,
+        draft,
+        own_scope: _,
+        nouns: _,
+        spare: _,
+        steps,
+        ejectors: _,
+        opened: _,
+    } = w;
+    let ended = settle(alloc, end)?;
+    let result = published(alloc, &ended)?;
+    let footprint = draft.finish()?;
     Ok(Outcome {
-        state,
+        footprint,
         result,
         ended,
         steps,
@@ -157,16 +170,5 @@ fn published(alloc: Global, ended: &Ended) -> Result<Value, AllocError>
         Ended::Value(value) => value.share(),
         Ended::Problem(problem) => Ok(Value::Broken(problem.share()?)),
         Ended::Abandoned(why) => Ok(Value::Broken(Text::new(alloc, why.reason())?)),
-    }
-}
-
-/// The new state, or the old one where the turn was abandoned.
-fn state_after(old: &VatState, new: Draft, ended: &Ended) -> Result<VatState, AllocError>
-    ensures { IfOk result (λ s.
-        state_of s ≡ kept (ended_of ended.now) (state_of old.now) (draft_of new)) }
-{
-    match ended {
-        Ended::Value(_) | Ended::Problem(_) => new.finish(),
-        Ended::Abandoned(_) => old.try_copy(),
     }
 }

@@ -1,10 +1,11 @@
 // What holds of turns.
-ghost use Rattle.turn.specs.Laws.{AtMostOneDelivery, DeliveryFrame, OthersStayInTurns, WithinBudget, NoEjectionLeavesATurn};
+ghost use Rattle.turn.specs.Laws.{AtMostOneDelivery, WritesAreTouched, DeliveryFrame, OthersStayInTurns, WithinBudget, NoEjectionLeavesATurn};
 
-/// A delivery has at most one outcome. It depends on no cell but those that it touches, leaves each that it does not
+/// A delivery has at most one outcome. What it writes it touches. It depends on no cell but those that it touches, leaves each that it does not
 /// write, and leaves no more steps than its budget. No value on its way to an Escape leaves the program of a turn.
 pub fn turns_are_lawful()
     ensures one_outcome { AtMostOneDelivery }
+    ensures writes_are_touched { WritesAreTouched }
     ensures frame { DeliveryFrame }
     ensures others_stay { OthersStayInTurns }
     ensures within_budget { WithinBudget }

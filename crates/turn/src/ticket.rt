@@ -1,32 +1,36 @@
 // A turn that is checked out: carried away, run once, and handed back.
 ghost use Rattle.std.specs.Prelude.{◌≡◌, IfOk, IfErr};
-ghost use Rattle.turn.specs.Turn.{Delivers};
+ghost use Rattle.std.specs.Arc.{arc_value};
+ghost use Rattle.heap.specs.Found.{Found, found-prop};
 ghost use Rattle.heap.specs.View.{state_of};
-ghost use Rattle.turn.specs.View.{delivery_of, outcome_of};
+ghost use Rattle.turn.specs.View.{delivery_of, Meets};
 
 use crate::delivery::{Delivery, Outcome, deliver};
 use heap::state::VatState;
 use ids::names::{EventName, MsgId, VatNo};
-use std::alloc::AllocError;
+use std::alloc::{AllocError, Global};
+use std::sync::Arc;
 
-/// A turn to be run: its event, its message, its vat and the vat's copied state, what is delivered, and the budget.
+/// A turn to be run: its event, its message, its vat and the vat's state, shared, what is delivered, and the budget.
 #[derive(Drop)]
 pub struct Out {
+    pub alloc: Global,
     pub event: EventName,
     pub message: MsgId,
     pub vat: VatNo,
-    pub state: VatState,
+    pub state: Arc<VatState>,
     pub delivery: Delivery,
     pub budget: u32,
 }
 
-/// A turn that was run: what it carried, unchanged, and the outcome of just that.
+/// A turn that was run: what it carried, unchanged, and its outcome, which is that of the delivery on every state that agrees with
+/// what the turn found in the cells that it touched.
 #[derive(Drop)]
 pub struct Ran {
     pub carried: Out,
     pub outcome: Outcome,
-    pub ghost delivered: { ∥ Delivers (delivery_of carried.delivery) carried.event carried.vat
-        (state_of carried.state) carried.budget (outcome_of outcome) ∥₁ },
+    pub ghost found: { Found outcome.footprint (state_of (arc_value carried.state)) } by { found-prop outcome.footprint (state_of (arc_value carried.state)) },
+    pub ghost met: { Meets (delivery_of carried.delivery) carried.event carried.vat carried.budget outcome },
 }
 
 /// A turn checked out of a book. It must be spent: run and committed, or discarded.
@@ -49,6 +53,7 @@ impl Ticket<Out> {
     {
         let Ticket { stage } = self;
         match deliver(
+            stage.alloc,
             &stage.delivery,
             stage.event,
             stage.vat,

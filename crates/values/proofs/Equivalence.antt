@@ -8,18 +8,18 @@ use Rattle.values.specs.Data.{Val, null, bool, int, text, list, object, ejector,
 use Rattle.values.specs.Same.{same_as, same_items, same_bool, same_int}
 use Rattle.values.specs.Laws.{SameBothWays, SameAsAThird}
 
-bool_itself : (b : Bool) → same_bool b b ≡ true
+pub bool_itself : (b : Bool) → same_bool b b ≡ true
 bool_itself true = refl
 bool_itself false = refl
 
-int_itself : (z : ℤ) → same_int z z ≡ true
+pub int_itself : (z : ℤ) → same_int z z ≡ true
 int_itself (pos n) = eq-eqb n n refl
 int_itself (negsuc n) = eq-eqb n n refl
 
-bytes_itself : (s : List ℕ) → bytes_eq s s ≡ true
+pub bytes_itself : (s : List ℕ) → bytes_eq s s ≡ true
 bytes_itself s = (bytes_eq-Decides s s).1 refl
 
-both : (p q : Bool) → p ≡ true → q ≡ true → (p && q) ≡ true
+pub both : (p q : Bool) → p ≡ true → q ≡ true → (p && q) ≡ true
 both p q e f = ap (λ x. x && q) e ∙ f
 
 mutual
@@ -37,22 +37,22 @@ mutual
   items_itself no_vals = refl
   items_itself (and_val v vs) = both _ _ (itself v) (items_itself vs)
 
-bool_equal : (a b : Bool) → same_bool a b ≡ true → a ≡ b
+pub bool_equal : (a b : Bool) → same_bool a b ≡ true → a ≡ b
 bool_equal true b e = sym e
 bool_equal false true e = absurd (false≢true e)
 bool_equal false false e = refl
 
-int_equal : (y z : ℤ) → same_int y z ≡ true → y ≡ z
+pub int_equal : (y z : ℤ) → same_int y z ≡ true → y ≡ z
 int_equal (pos m) (pos n) e = ap pos (eqb-true m n e)
 int_equal (pos m) (negsuc n) e = absurd (false≢true e)
 int_equal (negsuc m) (pos n) e = absurd (false≢true e)
 int_equal (negsuc m) (negsuc n) e = ap negsuc (eqb-true m n e)
 
-first_of_both : (p q : Bool) → (p && q) ≡ true → p ≡ true
+pub first_of_both : (p q : Bool) → (p && q) ≡ true → p ≡ true
 first_of_both true q e = refl
 first_of_both false q e = e
 
-second_of_both : (p q : Bool) → (p && q) ≡ true → q ≡ true
+pub second_of_both : (p q : Bool) → (p && q) ≡ true → q ≡ true
 second_of_both true q e = e
 second_of_both false q e = absurd (false≢true e)
 

@@ -82,3 +82,11 @@ impl Value {
         }
     }
 }
+
+impl Clone for Value {
+    ghost is_clone = { λ v w. val_of w ≡ val_of v };
+
+    fn clone(&self) -> Result<Value, AllocError> {
+        self.share()
+    }
+}

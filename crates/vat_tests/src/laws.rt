@@ -1,7 +1,7 @@
 // There is a subject for which the laws of undo hold, and the theorems are about it.
-ghost use Rattle.history.specs.Example.{sums, sums_laws};
+ghost use Rattle.reruns.specs.Example.{sums, sums_laws};
 
-use history::{Undoable, undo_is_lawful};
+use reruns::{Undoable, undo_is_lawful};
 
 struct Sums;
 

@@ -3,11 +3,13 @@
 use crate::tables::{expect_text, row};
 use ereader::read;
 use heap::draft::Draft;
+use heap::reach::Footprint;
 use heap::state::{Binding, VatState};
 use ids::names::{EventName, MsgId, VatNo};
 use ids::text::Text;
 use kernele::tree::Program;
 use std::process::Abort;
+use std::sync::Arc;
 use turn::delivery::{Delivery, Ended, Outcome};
 use turn::ticket::{Out, Ticket};
 use values::showing::show;
@@ -24,15 +26,21 @@ fn program(rt: &(impl Abort + AllocGlobal), text: &str) -> Program {
 }
 
 /// Runs a turn by a ticket, with a budget of 2,000 steps.
-fn run(rt: &impl Abort, state: VatState, event: u64, delivery: Delivery) -> Outcome {
+fn run(
+    rt: &(impl Abort + AllocGlobal),
+    state: &Arc<VatState>,
+    event: u64,
+    delivery: Delivery,
+) -> Outcome {
     let ticket = Ticket::new(Out {
+        alloc: rt.alloc(),
         event: EventName(event),
         message: MsgId {
             event: EventName(1),
             index: 0,
         },
         vat: ALICE,
-        state,
+        state: Arc::try_clone(state).expect(rt, "no memory"),
         delivery,
         budget: 2000,
     });
@@ -45,16 +53,34 @@ fn run(rt: &impl Abort, state: VatState, event: u64, delivery: Delivery) -> Outc
     }
 }
 
+/// A state with what an event wrote in it.
+fn written(
+    rt: &(impl Abort + AllocGlobal),
+    state: &VatState,
+    event: u64,
+    footprint: Footprint,
+) -> Arc<VatState> {
+    let mut after = state.clone().expect(rt, "no memory");
+    footprint
+        .write_into(&mut after, EventName(event))
+        .expect(rt, "no memory");
+    Arc::new(rt.alloc(), after).expect(rt, "no memory")
+}
+
 /// The state of a vat where the noun `gone` is broken by the problem "lost", once its script has run.
-fn after_script(rt: &(impl Abort + AllocGlobal), script: &str) -> VatState {
-    let mut state = Draft::new(VatState::new(rt.alloc()), EventName(1), ALICE);
-    let lost = Value::Broken(Text::new(rt.alloc(), "lost").expect(rt, "no memory"));
-    let gone = Text::new(rt.alloc(), "gone").expect(rt, "no memory");
-    state
+fn after_script(rt: &(impl Abort + AllocGlobal), script: &str) -> Arc<VatState> {
+    let alloc = rt.alloc();
+    let empty = Arc::new(alloc, VatState::new(alloc)).expect(rt, "no memory");
+    let begun = Arc::try_clone(&empty).expect(rt, "no memory");
+    let mut draft = Draft::new(alloc, begun, EventName(1), ALICE);
+    let lost = Value::Broken(Text::new(alloc, "lost").expect(rt, "no memory"));
+    let gone = Text::new(alloc, "gone").expect(rt, "no memory");
+    draft
         .bind_top(gone, Binding::Fixed(lost))
         .expect(rt, "no memory");
-    let state = state.finish().expect(rt, "no memory");
-    run(rt, state, 2, Delivery::Opening(program(rt, script))).state
+    let state = written(rt, &empty, 1, draft.finish().expect(rt, "no memory"));
+    let opened = run(rt, &state, 2, Delivery::Opening(program(rt, script)));
+    written(rt, &state, 2, opened.footprint)
 }
 
 /// How a turn ended: its value, its problem behind `!`, or why it was abandoned.
@@ -69,10 +95,9 @@ fn ended(rt: &(impl Abort + AllocGlobal), ended: &Ended) -> String {
 }
 
 /// How the turn ends that a text is asked in.
-fn asked(rt: &(impl Abort + AllocGlobal), state: &VatState, text: &str) -> String {
+fn asked(rt: &(impl Abort + AllocGlobal), state: &Arc<VatState>, text: &str) -> String {
     let delivery = Delivery::Asked(program(rt, text));
     let shared = delivery.share().expect(rt, "no memory");
-    let state = state.try_copy().expect(rt, "no memory");
     ended(rt, &run(rt, state, 4, shared).ended)
 }
 

@@ -1,7 +1,7 @@
 -- Each kind of event obeys the law of undo: it depends on no cell but those that it touches.
 use Rattle.std.proofs.Common.{◌≡◌, ℕ, List, ◌++◌, map, Option, Some, None, unwrap_or, refl, sym, ap, ◌∙◌, subst}
 use Rattle.std.specs.List.{AllByRecursion}
-use Rattle.history.specs.Subject.{Laws, Agree}
+use Rattle.reruns.specs.Subject.{Laws, Agree}
 use Rattle.ids.specs.declared.names.EventName.{EventName}
 use Rattle.ids.specs.declared.names.VatNo.{VatNo}
 use Rattle.ids.specs.declared.names.MsgId.{MsgId}

@@ -1,3 +1,4 @@
+pub mod Leaving
 pub mod Worlds
 pub mod Law
 pub mod Sets

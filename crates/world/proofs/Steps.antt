@@ -11,9 +11,9 @@ use Rattle.ids.specs.declared.names.CellKey.TheVariants as key
 use Rattle.heap.specs.State.{State}
 use Rattle.erules.specs.Outcomes.{End, value, halt, thrown, ejected, abandoned}
 use Rattle.turn.specs.Turn.{Outcome, Delivers}
-use Rattle.history.specs.Subject.{written, touched}
+use Rattle.reruns.specs.Subject.{written, touched}
 use Rattle.kernele.specs.declared.tree.Program.{Program}
-use Rattle.turn.specs.View.{outcome_of}
+use Rattle.world.specs.Left.{left_of}
 use Rattle.ids.specs.declared.names.PromId.{PromId}
 use Rattle.ids.specs.declared.names.CellKey.{CellKey}
 use Rattle.world.specs.World.{Vat, Place, at_vat, done, Message, Content, home, message, published, World, vat_named, message_in}
@@ -24,7 +24,7 @@ use Rattle.world.specs.declared.ready.Unready.TheVariants as why
 use Rattle.world.specs.Steps.{birth_cells, ask_cells, turn_cells, turn_reads}
 use Rattle.world.specs.Effects.{turn_of, Holds, Affects, Unborn}
 use Rattle.world.specs.declared.step.Delivered.{Delivered}
-use Rattle.world.specs.declared.cells.Cells.{Cells}
+use Rattle.world.specs.declared.keys.Cells.{Cells}
 use Rattle.world.specs.declared.effects.Effects.{Effects}
 use Rattle.world.specs.declared.effects.Effects.TheVariants as effects
 
@@ -75,9 +75,9 @@ ready_holds w m d g x s v waiting at_home same = record {
 
 -- what was delivered of a message that is ready is a turn
 pub ready_turn : (e : EventName) (w : World) (m : MsgId) (n : ℕ) (d : Delivered) (g : Message) (x : Name) (s : State) (v : VatNo) → Holds w m d g x s → g.place ≡ at_vat v → InOrder w g.after → d.number ≡ v
-    → ∥ Delivers g.delivery e v s n (outcome_of d.outcome) ∥₁ → ∥ Turns e w m n (turn_of d g x s) ∥₁
+    → ∥ Delivers g.delivery e v s n (left_of d.outcome) ∥₁ → ∥ Turns e w m n (turn_of d g x s) ∥₁
 ready_turn e w m n d g x s v h there in_order same ran =
-    is_turn e w m n (turn_of d g x s) h.waiting (there ∙ ap at_vat (sym same)) in_order h.at_home (subst (λ (u : VatNo). ∥ Delivers g.delivery e u s n (outcome_of d.outcome) ∥₁) (sym same) ran)
+    is_turn e w m n (turn_of d g x s) h.waiting (there ∙ ap at_vat (sym same)) in_order h.at_home (subst (λ (u : VatNo). ∥ Delivers g.delivery e u s n (left_of d.outcome) ∥₁) (sym same) ran)
 
 -- what is written by a turn that was settled
 pub settled : (o : End) (left : List (CellKey × Content)) (v : VatNo) (x : Name) (s : State) (e : EventName) (m : MsgId) (g : Message) (r : Outcome) (p : PromId) (w u : World)
@@ -106,12 +106,12 @@ ask_keys e x v program cells h w f is = (h.0 ∙ ap (λ (g : Foot). touched even
 
 -- the cells that a turn writes
 abbrev keys_of : MsgId → Delivered → List CellKey
-keys_of m d = turn_cells d.number m d.promise (outcome_of d.outcome).end
+keys_of m d = turn_cells d.number m d.promise (left_of d.outcome).end
 
 written_keys : (e : EventName) (m : MsgId) (d : Delivered) (g : Message) (x : Name) (s : State) → g.result ≡ d.promise
     → keys_of m d ≡ map (λ p. p.0) (turn_foot e m (turn_of d g x s)).writes
 written_keys e m d g x s is =
-    let r = outcome_of d.outcome in
+    let r = left_of d.outcome in
     ap (λ (p : PromId). turn_cells d.number m p r.end) (sym is) ∙ sym (turn_keys d.number x r.state e m g r r.end)
 
 delivered_keys : (e : EventName) (m : MsgId) (d : Delivered) (cells : Cells) → cells.touched.items ≡ turn_reads d.number d.after ++ keys_of m d → cells.written.items ≡ keys_of m d

@@ -50,6 +50,22 @@ pub homes_put : (w : code.World) (m : BTreeMap VatNo Home) (n : VatNo) (h : Home
     → world_of (record w { homes = m }) ≡ put (key.State n) (home_of h) (world_of w)
 homes_put w m n h u = λ i d. homes_at w m n h u d i
 
+none_cond : {A B : Type 0} (f : A → B) (b : Bool) (o : Option A) → option_map f (cond b None o) ≡ cond b None (option_map f o)
+none_cond f true o = refl
+none_cond f false o = refl
+
+cleared_at : (w : code.World) (m : BTreeMap VatNo Home) (n : VatNo) → ((q : VatNo) → get vat_cmp m q ≡ cond (is_eq (vat_cmp n q)) None (get vat_cmp w.homes q))
+    → (d : CellKey) → world_of (record w { homes = m }) d ≡ clear (key.State n) (world_of w) d
+cleared_at w m n u (key.Name x) = refl
+cleared_at w m n u (key.State v) = ap (option_map home_of) (u v) ∙ none_cond home_of (is_eq (vat_cmp n v)) (get vat_cmp w.homes v)
+cleared_at w m n u (key.Msg g) = refl
+cleared_at w m n u (key.Board p) = refl
+
+-- a vat's state was taken from the others
+pub homes_cleared : (w : code.World) (m : BTreeMap VatNo Home) (n : VatNo) → ((q : VatNo) → get vat_cmp m q ≡ cond (is_eq (vat_cmp n q)) None (get vat_cmp w.homes q))
+    → world_of (record w { homes = m }) ≡ clear (key.State n) (world_of w)
+homes_cleared w m n u = λ i d. cleared_at w m n u d i
+
 -- what holds anyway holds where there is an error
 pub on_err : {A E P : Type 0} (r : Result A E) → P → OnErr r P
 on_err (Ok x) p = tt

@@ -4,7 +4,7 @@ use Rattle.kernele.specs.Tree.{Name}
 use Rattle.kernele.specs.View.{program_of}
 use Rattle.heap.specs.State.{State}
 use Rattle.erules.specs.Outcomes.{End}
-use Rattle.turn.specs.View.{outcome_of}
+use Rattle.world.specs.Left.{left_of}
 use Rattle.ids.specs.declared.names.EventName.{EventName}
 use Rattle.ids.specs.declared.names.MsgId.{MsgId}
 use Rattle.ids.specs.declared.names.CellKey.TheVariants as key
@@ -16,7 +16,7 @@ use Rattle.world.specs.declared.effects.Effects.TheVariants as effects
 
 -- the turn that was run of this message, in a vat with this name and state
 abbrev pub turn_of : Delivered → Message → Name → State → Turn
-turn_of d g x s = record { message = g; vat = d.number; name = x; state = s; outcome = outcome_of d.outcome }
+turn_of d g x s = record { message = g; vat = d.number; name = x; state = s; outcome = left_of d.outcome }
 
 -- a world holds what the turn was run on: the message, and the vat's name and state
 pub record Holds (w : World) (m : MsgId) (d : Delivered) (g : Message) (x : Name) (s : State) : Type 0 where
@@ -41,7 +41,7 @@ Unborn (effects.Turn m d) w = Unit {0}
 abbrev pub turn_end : Effects → Option End
 turn_end (effects.Birth x script) = None
 turn_end (effects.Ask x v program) = None
-turn_end (effects.Turn m d) = Some (outcome_of d.outcome).end
+turn_end (effects.Turn m d) = Some (left_of d.outcome).end
 
 -- in this world the event is possible and has these effects, with this footprint
 pub record Brings (e : Event) (it : Effects) (w : World) (f : Foot) : Type 0 where

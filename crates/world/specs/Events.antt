@@ -5,7 +5,7 @@ use Rattle.scopes.specs.Scope.{own_names_in}
 use Rattle.heap.specs.State.{State, nothing}
 use Rattle.erules.specs.Outcomes.{End, value, halt, thrown, ejected, abandoned}
 use Rattle.turn.specs.Turn.{opening, asked, Outcome, Delivers}
-use Rattle.history.specs.Subject.{Footprint, Subject}
+use Rattle.reruns.specs.Subject.{Footprint, Subject}
 use Rattle.ids.specs.Cells.{same_key}
 use Rattle.ids.specs.declared.names.EventName.{EventName}
 use Rattle.ids.specs.declared.names.VatNo.{VatNo}

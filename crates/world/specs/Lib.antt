@@ -1,5 +1,6 @@
 pub mod World
 pub mod Events
+pub mod Left
 pub mod Ready
 pub mod Steps
 pub mod View

@@ -1,14 +1,14 @@
 // What an event does, worked out before it is entered.
 ghost use Rattle.std.specs.Prelude.{◌≡◌, map, IfOk, OnOk, OnErr};
 ghost use Rattle.std.specs.Option.{option_map};
-ghost use Rattle.history.specs.Subject.{after as after_event, touched as touched_by};
+ghost use Rattle.reruns.specs.Subject.{after as after_event, touched as touched_by};
 ghost use Rattle.turn.specs.View.{ended_of};
 ghost use Rattle.world.specs.World as model;
 ghost use Rattle.world.specs.Effects.{Affects, Unborn, turn_end};
 ghost use Rattle.world.specs.Events.{Foot, events};
 ghost use Rattle.world.specs.View.{world_of};
 
-use crate::cells::{Cells, cells_of_ask, cells_of_birth, cells_of_turn};
+use crate::keys::{Cells, cells_of_ask, cells_of_birth, cells_of_turn};
 use crate::step::{Delivered, enter_ask, enter_birth, enter_turn};
 use crate::world::World;
 use ids::names::{EventName, MsgId, VatNo};

@@ -1,12 +1,13 @@
 // One step of the world: what each kind of event does.
 ghost use Rattle.std.specs.Prelude.{◌≡◌, ◌++◌, List, ℕ, [], ◌∷◌, None, Some, IfOk, IfErr, OnOk, OnErr};
-ghost use Rattle.history.specs.Subject.{after as after_event};
+ghost use Rattle.reruns.specs.Subject.{after as after_event};
 ghost use Rattle.ids.specs.declared.names.CellKey.TheVariants as key;
 ghost use Rattle.kernele.specs.View.{program_of};
 ghost use Rattle.heap.specs.State.{State};
 ghost use Rattle.turn.specs.Turn.{Delivers};
 ghost use Rattle.heap.specs.View.{state_of};
-ghost use Rattle.turn.specs.View.{ended_of, delivery_of, outcome_of};
+ghost use Rattle.turn.specs.View.{ended_of, delivery_of};
+ghost use Rattle.world.specs.Left.{left_of};
 ghost use Rattle.world.specs.World as model;
 ghost use Rattle.world.specs.World.{home, at_vat, done_in, message_of as message_in_world, message as message_content};
 ghost use Rattle.world.specs.Events.{Foot, Does, events, birth, ask, turn, InOrder, birth_foot, ask_foot, turn_foot, is_abandoned as is_abandoned_end, first_message as message_of_event, first_promise as promise_of_event};
@@ -16,6 +17,7 @@ ghost use Rattle.world.specs.EventView.{event_of};
 ghost use Rattle.world.specs.View.{world_of, place_of, message_of};
 
 use crate::event::{Action, Event};
+use crate::left::{Left, leave};
 use crate::ready::ready;
 use crate::world::{Home, Message, Place, Vat, World};
 use heap::state::VatState;
@@ -24,7 +26,8 @@ use ids::text::Text;
 use kernele::tree::Program;
 use scopes::top_names;
 use std::alloc::{AllocError, AllocFailed, Global};
-use turn::delivery::{Delivery, Ended, Outcome};
+use std::sync::Arc;
+use turn::delivery::{Delivery, Ended};
 use turn::ticket::{Out, Ran, Ticket};
 
 /// Why an event was not done.
@@ -123,7 +126,7 @@ pub struct Delivered {
     pub number: VatNo,
     pub after: Option<MsgId>,
     pub promise: PromId,
-    pub outcome: Outcome,
+    pub outcome: Left,
 }
 
 fn run(ticket: Ticket<Out>) -> Result<Ran, AllocError>
@@ -140,6 +143,7 @@ fn run(ticket: Ticket<Out>) -> Result<Ran, AllocError>
 
 /// Runs the turn of a message that is ready, on a copy of its vat's state.
 pub fn deliver(
+    alloc: Global,
     event: EventName,
     name: MsgId,
     budget: u32,
@@ -148,13 +152,14 @@ pub fn deliver(
     home: &Home,
 ) -> Result<Delivered, AllocError>
     ensures same { IfOk result (λ d. (d.number ≡ number) × (d.after ≡ message.now.after) × (d.promise ≡ message.now.result)) }
-    ensures run { IfOk result (λ d. ∥ Delivers (delivery_of message.now.delivery) event number (state_of home.now.state) budget (outcome_of d.outcome) ∥₁) }
+    ensures run { IfOk result (λ d. ∥ Delivers (delivery_of message.now.delivery) event number (state_of home.now.state) budget (left_of d.outcome) ∥₁) }
 {
     let ticket = Ticket::new(Out {
         event,
         vat: number,
         message: name,
-        state: home.state.try_copy()?,
+        alloc,
+        state: Arc::new(alloc, home.state.clone()?)?,
         delivery: message.delivery.share()?,
         budget,
     });
@@ -162,6 +167,7 @@ pub fn deliver(
         carried: _,
         outcome,
     } = run(ticket)?;
+    let outcome = leave(&home.state, event, outcome)?;
     Ok(Delivered {
         number,
         after: message.after,
@@ -183,8 +189,8 @@ pub(crate) fn enter_turn(
     name: MsgId,
     delivered: Delivered,
 ) -> Result<Ended, AllocError>
-    ensures ok { OnOk result ((g : model.Message) (x : List ℕ) (s : State) → world_of world.old (key.Msg name) ≡ Some (message_content g) → g.result ≡ delivered.promise → world_of world.old (key.State delivered.number) ≡ Some (home x s) → world_of world.new ≡ after_event events (turn_foot event name (record { message = g; vat = delivered.number; name = x; state = s; outcome = outcome_of delivered.outcome })) (world_of world.old)) }
-    ensures ended { IfOk result (λ e. ended_of e ≡ (outcome_of delivered.outcome).end) }
+    ensures ok { OnOk result ((g : model.Message) (x : List ℕ) (s : State) → world_of world.old (key.Msg name) ≡ Some (message_content g) → g.result ≡ delivered.promise → world_of world.old (key.State delivered.number) ≡ Some (home x s) → world_of world.new ≡ after_event events (turn_foot event name (record { message = g; vat = delivered.number; name = x; state = s; outcome = left_of delivered.outcome })) (world_of world.old)) }
+    ensures ended { IfOk result (λ e. ended_of e ≡ (left_of delivered.outcome).end) }
     ensures err { OnErr result (world_of world.new ≡ world_of world.old) }
 {
     let Delivered {
@@ -193,7 +199,7 @@ pub(crate) fn enter_turn(
         promise,
         outcome,
     } = delivered;
-    let Outcome {
+    let Left {
         state,
         result,
         ended,
@@ -240,14 +246,20 @@ fn step_ask(
     Ok(())
 }
 
-fn step_turn(world: &mut World, event: EventName, name: MsgId, budget: u32) -> Result<(), StepFault>
+fn step_turn(
+    alloc: Global,
+    world: &mut World,
+    event: EventName,
+    name: MsgId,
+    budget: u32,
+) -> Result<(), StepFault>
     ensures ok { OnOk result ((f : Foot) × ∥ Does (record { name = event; act = turn name budget }) (world_of world.old) f ∥₁ × (world_of world.new ≡ after_event events f (world_of world.old))) }
     ensures err { IfErr result (λ fault. TellsStep (record { name = event; act = turn name budget }) (world_of world.old) fault) }
 {
     let Ok((message, number, home)) = ready(world, name) else {
         return Err(StepFault::Impossible);
     };
-    let delivered = deliver(event, name, budget, message, number, home)?;
+    let delivered = deliver(alloc, event, name, budget, message, number, home)?;
     enter_turn(world, event, name, delivered)?;
     Ok(())
 }
@@ -260,6 +272,6 @@ pub fn step(alloc: Global, world: &mut World, event: &Event) -> Result<(), StepF
     match &event.action {
         Action::Birth(name, script) => step_birth(alloc, world, event.name, name, script),
         Action::Ask(name, program) => step_ask(world, event.name, name, program),
-        Action::Turn(message, budget) => step_turn(world, event.name, *message, *budget),
+        Action::Turn(message, budget) => step_turn(alloc, world, event.name, *message, *budget),
     }
 }

@@ -9,10 +9,10 @@ use Rattle.values.specs.View.{val_of}
 use Rattle.erules.specs.Outcomes.{halted, value}
 use Rattle.erules.specs.View.{at, end_of, halt_of, choice_view, listing_view}
 use Rattle.eobjects.specs.View.{target_view}
-use Rattle.erules.specs.Rules.{at_budget, at_depth, at_node, run_null, run_bool, run_int, run_text, run_noun, run_call_receiver, run_call_gives, run_list, run_same_left, run_same, goes, run_hide, run_if_goes, run_if_ends, run_while_again, run_while_halts, run_while_done, run_while_ends, run_for, run_for_ends, run_try, run_try_caught, run_object, args_halt}
-use Rattle.erules.proofs.Steps.{node, child, tested, children, slice_of, if_both, runs_as, runs_to, ends_to, args_begin, args_pushed, args_more, args_no_more, args_end, args_done, args_as, only_one, one_arg, items_more, items_no_more, items_end, blocks, taking, taking_ending, each, block_end, taking_end, each_more, each_no_more, each_end, next_round}
+use Rattle.erules.specs.Rules.{at_budget, at_depth, at_node, run_null, run_bool, run_int, run_text, run_noun, run_call_receiver, run_list, run_same_left, run_same, goes, run_hide, run_if_goes, run_if_ends, run_while_again, run_while_halts, run_while_done, run_while_ends, run_for, run_for_ends, run_try, run_try_caught, run_object, args_halt}
+use Rattle.erules.proofs.Steps.{node, child, tested, children, slice_of, if_both, runs_as, runs_to, ends_to, args_begin, args_pushed, args_more, args_no_more, args_end, args_done, only_one, one_arg, items_more, items_no_more, items_end, blocks, taking, taking_ending, each, block_end, taking_end, each_more, each_no_more, each_end, next_round}
 use Rattle.eval.proofs.Halted.{ItemsHalt, all_done, halts_as, items_halted, both_halt, block_halts, halting, to_the_end}
-use Rattle.eval.proofs.Entered.{call_leads, leads_as, entered, call_entered, as_many, escape_over}
+use Rattle.eval.proofs.Entered.{call_leads, leads_as, entered, call_as, call_given, call_entered, as_many, escape_over}
 use Rattle.erules.proofs.Scopes.{truncated, truncated-length}
 use Rattle.erules.proofs.Added.{goes_add, block_stays, taking_stays}
 use Rattle.erules.proofs.Fitting.{fits_then, all_fit_then, chosen_fits, repeated_fits, parts_fit, block_fits, entry_fits, round_fits, fits_from}
@@ -47,7 +47,7 @@ pub eval::eval-returns-in-Text : goal.eval::eval-returns-in-Text
 eval::eval-returns-in-Text t c = IfOk-weaker _ _ _ (λ o h. node _ {a = at c.args.w.now} (ap tree_of_code c.in-Text.is) (runs_as run_text h) (omega arith) c.if-level-gt-DEEPEST.false) c.text_end.ensures
 
 pub eval::eval-returns-in-Noun : goal.eval::eval-returns-in-Noun
-eval::eval-returns-in-Noun t c = IfOk-weaker _ _ _ (λ o h. node _ {a = at c.args.w.now} (ap tree_of_code c.in-Noun.is) (runs_as run_noun h) (omega arith) c.if-level-gt-DEEPEST.false) c.noun_end.ensures
+eval::eval-returns-in-Noun t c = if_both _ _ _ _ (λ o h g. node _ {a = at c.args.w.now} (ap tree_of_code c.in-Noun.is) (runs_to run_noun h g) (omega arith) c.if-level-gt-DEEPEST.false) c.noun_end.ensures.ends c.noun_end.ensures.reads
 
 pub eval::eval-returns-in-Call : goal.eval::eval-returns-in-Call
 eval::eval-returns-in-Call t c = IfOk-weaker _ _ _ (λ o h. node _ (ap tree_of_code c.in-Call.is ∙ tree_of_code-Call c.in-Call.receiver c.in-Call.verb c.in-Call.args) h (omega arith) c.if-level-gt-DEEPEST.false) c.eval_call.ensures
@@ -295,13 +295,16 @@ eval::eval_items-eval_item-requires t c = (search rules, (fits_from _ _ c.args.i
 pub eval::eval_same-eval-requires-2 : goal.eval::eval_same-eval-requires-2
 eval::eval_same-eval-requires-2 t c = (search rules, fits_then c.deref-2.ensures (child c.deref.ensures c.in-Value.is c.in_ok-value.ensures) c.requires.fits.1)
 
+pub calling::eval_call-returns-in-Some : goal.calling::eval_call-returns-in-Some
+calling::eval_call-returns-in-Some t c = call_as c.deref.ensures (slice_of c.deref-3.ensures.value c.deref-2.ensures) c.in-Some.ensures.runs
+
 pub calling::eval_any_call-returns-in-Gives : goal.calling::eval_any_call-returns-in-Gives
 calling::eval_any_call-returns-in-Gives t c =
-    run_call_gives (child c.deref.ensures c.in-Value.is c.in_ok-value.ensures) (args_as (slice_of c.deref-3.ensures.value c.deref-2.ensures) c.in_ok-target.ensures.1) (sym c.in_ok-target.ensures.2 ∙ ap target_view c.in-Gives.is)
+    call_given (slice_of c.deref-3.ensures.value c.deref-2.ensures) (child c.deref.ensures c.in-Value.is c.in_ok-value.ensures) c.in_ok-target.ensures (ap target_view c.in-Gives.is)
 
 pub calling::eval_any_call-returns-in_ok-end-in-Enters : goal.calling::eval_any_call-returns-in_ok-end-in-Enters
 calling::eval_any_call-returns-in_ok-end-in-Enters t c =
-    call_entered (child c.deref.ensures c.in-Value.is c.in_ok-value.ensures) (args_as (slice_of c.deref-3.ensures.value c.deref-2.ensures) c.in_ok-target.ensures.1) (sym c.in_ok-target.ensures.2 ∙ ap target_view c.in-Enters.is)
+    call_entered (slice_of c.deref-3.ensures.value c.deref-2.ensures) (child c.deref.ensures c.in-Value.is c.in_ok-value.ensures) c.in_ok-target.ensures (ap target_view c.in-Enters.is)
     c.in_ok-end-in-Enters.ensures
 
 pub calling::eval_any_call-eval_target-requires : goal.calling::eval_any_call-eval_target-requires
@@ -315,13 +318,13 @@ calling::eval_target-returns-then-args-eq1 t c =
     leads_as c.eval_with_one.result target_view c.args.level (val_of c.args.receiver) c.args.verb.now (at c.args.w.now) (at c.eval_with_one.new.w) (ap trees_of_codes (only_one c.args.args.now c.index-args-0.result (search rules) c.index-args-0.is)) c.eval_with_one.ensures
 
 pub calling::eval_target-returns : goal.calling::eval_target-returns
-calling::eval_target-returns t c = call_leads c.call_target.result target_view (val_of c.args.receiver) c.args.verb.now c.in_ok-gathered.ensures c.call_target.ensures.target c.call_target.ensures.place
+calling::eval_target-returns t c = call_leads c.call_target.result target_view (val_of c.args.receiver) c.args.verb.now (at c.call_target.new.w) c.in_ok-gathered.ensures c.call_target.ensures.target c.call_target.ensures.reads
 
 pub calling::eval_with_one-returns-in-Value : goal.calling::eval_with_one-returns-in-Value
-calling::eval_with_one-returns-in-Value t c = call_leads c.value_target.result target_view (val_of c.args.receiver.now) c.args.verb.now (one_arg c.from_ref.ensures.value (child refl c.in-Value.is c.in_ok-value.ensures)) c.value_target.ensures.target c.value_target.ensures.place
+calling::eval_with_one-returns-in-Value t c = call_leads c.value_target.result target_view (val_of c.args.receiver.now) c.args.verb.now (at c.value_target.new.w) (one_arg c.from_ref.ensures.value (child refl c.in-Value.is c.in_ok-value.ensures)) c.value_target.ensures.target c.value_target.ensures.reads
 
 pub calling::eval_with_one-returns-in-Halt : goal.calling::eval_with_one-returns-in-Halt
-calling::eval_with_one-returns-in-Halt t c = (halted (halt_of c.in-Halt.halt), args_halt (child refl c.in-Halt.is c.in_ok-value.ensures), refl)
+calling::eval_with_one-returns-in-Halt t c = record { gather = halted (halt_of c.in-Halt.halt); behind = at c.eval.new.w; args = args_halt (child refl c.in-Halt.is c.in_ok-value.ensures); target = refl; place = refl }
 
 -- A step that fails claims nothing of what it leaves.
 

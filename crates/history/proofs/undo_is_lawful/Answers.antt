@@ -1,35 +1,37 @@
-use Rattle.history.proofs.Changes.{good_runs, good_run, undone, redone, redone_last, sound_before_undo, marked_back}
-use Rattle.history.proofs.Cones.{cone_closed, cone_has_root, cone_least, cone_part}
-use Rattle.history.proofs.Core.{runs_are_one}
-use Rattle.history.proofs.Marks.{named_marked}
-use Rattle.history.proofs.Naming.{appended, appended_named, causes_named, causes_below, causes_named_reversed, causes_below_reversed}
+use Rattle.history.proofs.Changes.{closed_of_sound}
+use Rattle.history.proofs.Exchanges.{twice_state, twice_record}
+use Rattle.history.proofs.Standing.{undone_stands, undone_contents, undone_elsewhere, redone_stands, redone_contents, entries_undone, entries_redone, back_state, back_rows, back_dead, back_sound, exchanged_stands}
 use Rattle.history.proofs.undo_is_lawful.Goals as goal
+use Rattle.history.specs.Journal.{live_set, both, Sound}
+use Rattle.history.specs.Records.{entries_of}
+use Rattle.std.proofs.Common.{◌≡◌, true, false, sym, subst}
+use Rattle.std.specs.List.{AllByRecursion}
 
 pub returns : goal.returns
 returns g c = let s = g.S.Undoable.subject in let laws = g.S.Undoable.laws in record {
-  runs_are_one = λ start es w v r q. runs_are_one s laws r q;
-  footprints = λ start t es w h. good_runs s laws h;
-  events = λ start t es w h. good_run s laws h;
-  appended = λ start next es w e f ns h names d le causes below. (
-    appended s laws e f ns h names d le causes,
-    appended_named s e f ns names le below,
+  undone = λ start next c rows state h closed part. (
+    undone_stands s laws c rows state h closed part,
+    undone_contents s laws c rows state h closed part,
   );
-  causes_are_named = λ next es f h. (
-    causes_named s f h,
-    causes_below s f h,
-    causes_named_reversed s f h,
-    causes_below_reversed s f h,
+  entries_are_marked = λ c rows state. (
+    entries_undone s c rows state,
+    entries_redone s c rows state,
   );
-  named_stays = λ next t es h. named_marked s t h;
-  undone = λ start t es w h closed. undone s t es h closed;
-  redone = λ start t es w h sound. redone s t es h sound;
-  redone_last = λ start ns es w h part. (
-    sound_before_undo s ns es h.sound part,
-    marked_back s ns es part,
-    redone_last s ns es h part,
+  elsewhere = λ start next c rows state h k silent. undone_elsewhere s laws c k rows state h.follows.fit silent;
+  closed_of_sound = closed_of_sound s;
+  redone = λ start next c rows state h dead sound. (
+    redone_stands s laws c rows state h dead sound,
+    redone_contents s laws c rows state h dead sound,
   );
-  cone_is_closed = λ next t root es h. cone_closed s t root es h.distinct;
-  cone_has_root = λ t root es. cone_has_root s t root es;
-  cone_is_least = λ next t d root es h. cone_least s t d root es h.distinct;
-  cone_is_part = λ next t root es h. cone_part s t root es h.distinct;
+  redone_next = λ start next c d rows state h part same. (
+    subst (AllByRecursion (λ a. d a ≡ true → a.live ≡ false)) (sym (entries_undone s c rows state)) (back_dead s laws c d (entries_of rows) same),
+    subst (Sound s (both (live_set s) d)) (sym (entries_undone s c rows state)) (back_sound s laws c d (entries_of rows) same part h.good.sound),
+    back_rows s laws c d rows state h.follows.fit same part,
+    back_state s laws c d rows state h.follows.fit same,
+  );
+  exchanged_twice = λ p state apart. (
+    twice_record s laws p state apart,
+    twice_state s laws p state apart,
+  );
+  exchanged = λ start next xs ys a b state h ab ba. exchanged_stands s laws xs ys a b h ab ba;
 }

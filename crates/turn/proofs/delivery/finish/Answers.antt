@@ -1,9 +1,15 @@
-use Rattle.std.proofs.Common.{ap, ◌∙◌}
-use Rattle.turn.specs.Turn.{kept, published}
-use Rattle.heap.specs.Drafts.{draft_of}
-use Rattle.heap.specs.View.{state_of}
-use Rattle.turn.proofs.Deliveries.{outcome_is}
+use Rattle.std.proofs.Common.{is_some, refl, sym, ap, ◌∙◌}
+use Rattle.heap.proofs.Drafting.{draft_as_written}
+use Rattle.turn.specs.Turn.{published}
 use Rattle.turn.proofs.delivery.finish.Goals as goal
 
 pub returns : goal.returns
-returns c = outcome_is (c.in_ok-state.ensures ∙ ap (λ e. kept e (state_of c.args.old.now) (draft_of c.args.w.draft)) c.in_ok-ended.ensures) (c.in_ok-result.ensures ∙ ap published c.in_ok-ended.ensures) c.in_ok-ended.ensures
+returns c = record {
+  touched = c.in_ok-footprint.ensures.touched;
+  written = λ i k. is_some (c.in_ok-footprint.ensures.written i k);
+  holds = λ k x h. draft_as_written c.args.w.draft k x (sym (λ i. c.in_ok-footprint.ensures.written i k) ∙ h);
+  found = c.in_ok-footprint.ensures.found;
+  result = c.in_ok-result.ensures ∙ ap published c.in_ok-ended.ensures;
+  end = c.in_ok-ended.ensures;
+  left = refl;
+}

@@ -3,7 +3,7 @@ use Rattle.ids.specs.Cells.{same_key}
 use Rattle.ids.specs.declared.names.CellKey.{CellKey}
 use Rattle.ids.specs.declared.names.CellKey.TheVariants as key
 use Rattle.heap.specs.View.{state_of}
-use Rattle.turn.specs.View.{outcome_of}
+use Rattle.world.specs.Left.{left_of}
 use Rattle.world.specs.World.{World, Content, home}
 use Rattle.world.specs.View.{world_of}
 use Rattle.world.proofs.Steps.{settled}
@@ -13,7 +13,7 @@ use Rattle.world.proofs.step.enter_turn.Goals.{then-not-is_abandoned, else-not-i
 pub returns-clause-ok : goal.returns-clause-ok
 returns-clause-ok c g x s waiting same at_home =
     let d = c.args.delivered in
-    let r = outcome_of d.outcome in
+    let r = left_of d.outcome in
     let first = c.in_ok-settle.ensures.ok g waiting in
     let kept : List (CellKey × Content) = (key.State d.number, home x (state_of d.outcome.state)) ∷ [] in
     elim c.if-not-is_abandoned.branch [

@@ -1,7 +1,7 @@
 use Rattle.std.proofs.Common.{◌≡◌, sym, subst, arith}
 use Rattle.std.specs.Prelude.{OnOk, IfErr, Result, Ok, Err}
 use Rattle.std.proofs.lemmas.Grind.{common_steps}
-use Rattle.history.specs.Subject.{after}
+use Rattle.reruns.specs.Subject.{after}
 use Rattle.world.specs.World.{World}
 use Rattle.world.specs.Events.{Event, Foot, Does, events}
 use Rattle.world.specs.Steps.{TellsStep}

@@ -1,7 +1,7 @@
 use Rattle.std.proofs.Common.{◌∙◌, sym, ap}
 use Rattle.kernele.specs.View.{program_of}
 use Rattle.kernele.specs.Tree.{Trees}
-use Rattle.history.specs.Subject.{after}
+use Rattle.reruns.specs.Subject.{after}
 use Rattle.world.specs.World.{vat_in}
 use Rattle.world.specs.Events.{events, ask_foot, asks}
 use Rattle.world.specs.View.{world_of}

@@ -1,7 +1,7 @@
 use Rattle.std.proofs.Common.{◌∙◌, sym, ap}
 use Rattle.kernele.specs.View.{program_of}
 use Rattle.kernele.specs.Tree.{Trees}
-use Rattle.history.specs.Subject.{after}
+use Rattle.reruns.specs.Subject.{after}
 use Rattle.world.specs.Events.{events, birth_foot, births}
 use Rattle.world.specs.View.{world_of}
 use Rattle.world.proofs.step.step_birth.Goals as goal

@@ -1,10 +1,19 @@
-use Rattle.std.proofs.Common.{◌≡◌, ap, ◌∙◌}
-use Rattle.std.proofs.lemmas.Result.{IfOk-weaker}
+use Rattle.std.proofs.Common.{ap, subst, ◌∙◌}
+use Rattle.std.specs.Arc.{arc_value}
 use Rattle.heap.specs.View.{state_of}
-use Rattle.heap.specs.Drafts.{with_objects, draft_of}
+use Rattle.heap.specs.Found.{Found, touched_in, writes_in}
+use Rattle.heap.specs.Drafts.{with_objects, and_objects}
 use Rattle.heap.proofs.draft.Draft.finish.Goals as goal
 
-pub returns : goal.returns
-returns c =
-    IfOk-weaker c.keep_objects.result (λ s. state_of s ≡ with_objects c.args.self.event c.args.self.vat c.args.self.objects.items (state_of c.in_ok-base.base)) (λ s. state_of s ≡ draft_of c.args.self)
-    (λ s h. h ∙ ap (with_objects c.args.self.event c.args.self.vat c.args.self.objects.items) c.in_ok-base.ensures) c.keep_objects.ensures
+pub returns-clause-touched : goal.returns-clause-touched
+returns-clause-touched c =
+    ap touched_in c.into_footprint.ensures.same ∙ c.in_ok-base-2.ensures.touched
+    ∙ ap (and_objects c.args.self.event c.args.self.vat c.args.self.objects.items) c.in_ok-base.ensures.touched
+
+pub returns-clause-written : goal.returns-clause-written
+returns-clause-written c =
+    ap writes_in c.into_footprint.ensures.same ∙ c.in_ok-base-2.ensures.written
+    ∙ ap (with_objects c.args.self.event c.args.self.vat c.args.self.objects.items) c.in_ok-base.ensures.written
+
+pub returns-clause-found : goal.returns-clause-found
+returns-clause-found c = subst (λ a. Found c.into_footprint.result (state_of (arc_value a))) (c.in_ok-base-2.ensures.beneath ∙ c.in_ok-base.ensures.beneath) c.into_footprint.ensures.found

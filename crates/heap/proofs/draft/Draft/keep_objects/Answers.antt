@@ -1,16 +1,31 @@
-use Rattle.std.proofs.Common.{arith, sym, ◌∙◌}
-use Rattle.heap.specs.View.{state_of}
-use Rattle.heap.proofs.Overlaid.{empty_list, objects_none, objects_kept}
+use Rattle.std.proofs.Common.{◌≡◌, ◌≤◌, length, arith, rules, sym, ap, subst, ◌∙◌, set}
+use Rattle.std.proofs.lemmas.Result.{on_ok_weaker, on_err_weaker, IfOk-weaker}
+use Rattle.std.specs.Arc.{arc_value}
+use Rattle.values.specs.View.{val_of}
+use Rattle.heap.specs.State.{State, Cells, top, slot_cell, object_cell, bound, held, made, write}
+use Rattle.heap.specs.View.{bind_of, object_of, state_of}
+use Rattle.heap.specs.Found.{Found, touched_in, writes_in}
+use Rattle.heap.specs.Reaches.{state_in}
+use Rattle.heap.specs.Drafts.{is_of, with_slots, with_objects, and_slots, and_objects, writes_of, draft_of, touched_of}
+use Rattle.heap.proofs.Overlaid.{slots_none, objects_none, no_slots_touched, no_objects_touched, slot_made, slot_touched, object_made, object_touched, own_written, own_touched, beneath_written, touched_beneath, tops_pass, same_set, written_also, empty_list, slots_kept, objects_kept, slots_set_kept, objects_set_kept}
 use Rattle.heap.proofs.draft.Draft.keep_objects.Goals as goal
 
 pub loop-object-preserved : goal.loop-object-preserved
-loop-object-preserved c = (
-  objects_kept c.args.event c.args.vat c.loop-object.objects.items c.pop.new.self.items c.in-Some.object (state_of c.loop-object.base) (state_of c.keep_object.new.self) c.len-index.result c.in-Some.ensures.items (omega (arith, c.len-index.ensures, c.pop.new.self.ok)) c.in_ok-keep_object.ensures.ok
-      ∙ c.loop-object.invariant.0,
-  omega (arith, c.loop-object.invariant.1, c.in-Some.ensures.len, c.loop-object.objects.ok, c.pop.new.self.ok),
-)
+loop-object-preserved c = record {
+  touched = objects_set_kept c.args.event c.args.vat c.loop-object.objects.items c.pop.new.self.items c.in-Some.object (touched_in c.loop-object.base.footprint) (touched_in c.write_object.new.self.footprint) c.len-index.result c.in-Some.ensures.items (omega (arith, c.len-index.ensures, c.pop.new.self.ok)) c.in_ok-write_object.ensures.touched
+      ∙ c.loop-object.invariant.touched;
+  written = objects_kept c.args.event c.args.vat c.loop-object.objects.items c.pop.new.self.items c.in-Some.object (writes_in c.loop-object.base.footprint) (writes_in c.write_object.new.self.footprint) c.len-index.result c.in-Some.ensures.items (omega (arith, c.len-index.ensures, c.pop.new.self.ok)) c.in_ok-write_object.ensures.written
+      ∙ c.loop-object.invariant.written;
+  beneath = c.in_ok-write_object.ensures.beneath ∙ c.loop-object.invariant.beneath;
+  numbered = omega (arith, c.loop-object.invariant.numbered, c.in-Some.ensures.len, c.loop-object.objects.ok, c.pop.new.self.ok);
+}
 
-pub returns : goal.returns
-returns c =
-    sym (objects_none c.args.event c.args.vat c.loop-object.objects.items (state_of c.loop-object.base) (empty_list c.loop-object.objects.items (omega (arith, c.in_default.ensures.cases.0, c.loop-object.objects.ok))))
-    ∙ c.loop-object.invariant.0
+pub returns-clause-touched : goal.returns-clause-touched
+returns-clause-touched c =
+    sym (no_objects_touched c.args.event c.args.vat c.loop-object.objects.items (touched_in c.loop-object.base.footprint) (empty_list c.loop-object.objects.items (omega (arith, c.in_default.ensures.cases.0, c.loop-object.objects.ok))))
+    ∙ c.loop-object.invariant.touched
+
+pub returns-clause-written : goal.returns-clause-written
+returns-clause-written c =
+    sym (objects_none c.args.event c.args.vat c.loop-object.objects.items (writes_in c.loop-object.base.footprint) (empty_list c.loop-object.objects.items (omega (arith, c.in_default.ensures.cases.0, c.loop-object.objects.ok))))
+    ∙ c.loop-object.invariant.written

@@ -1,16 +1,31 @@
-use Rattle.std.proofs.Common.{arith, sym, ◌∙◌}
-use Rattle.heap.specs.View.{state_of}
-use Rattle.heap.proofs.Overlaid.{empty_list, slots_none, slots_kept}
+use Rattle.std.proofs.Common.{◌≡◌, ◌≤◌, length, arith, rules, sym, ap, subst, ◌∙◌, set}
+use Rattle.std.proofs.lemmas.Result.{on_ok_weaker, on_err_weaker, IfOk-weaker}
+use Rattle.std.specs.Arc.{arc_value}
+use Rattle.values.specs.View.{val_of}
+use Rattle.heap.specs.State.{State, Cells, top, slot_cell, object_cell, bound, held, made, write}
+use Rattle.heap.specs.View.{bind_of, object_of, state_of}
+use Rattle.heap.specs.Found.{Found, touched_in, writes_in}
+use Rattle.heap.specs.Reaches.{state_in}
+use Rattle.heap.specs.Drafts.{is_of, with_slots, with_objects, and_slots, and_objects, writes_of, draft_of, touched_of}
+use Rattle.heap.proofs.Overlaid.{slots_none, objects_none, no_slots_touched, no_objects_touched, slot_made, slot_touched, object_made, object_touched, own_written, own_touched, beneath_written, touched_beneath, tops_pass, same_set, written_also, empty_list, slots_kept, objects_kept, slots_set_kept, objects_set_kept}
 use Rattle.heap.proofs.draft.Draft.keep_slots.Goals as goal
 
 pub loop-value-preserved : goal.loop-value-preserved
-loop-value-preserved c = (
-  slots_kept c.args.event c.args.vat c.loop-value.slots.items c.pop.new.self.items c.in-Some.value (state_of c.loop-value.base) (state_of c.write_slot.new.self) c.len-index.result c.in-Some.ensures.items (omega (arith, c.len-index.ensures, c.pop.new.self.ok)) c.in_ok-write_slot.ensures.ok
-      ∙ c.loop-value.invariant.0,
-  omega (arith, c.loop-value.invariant.1, c.in-Some.ensures.len, c.loop-value.slots.ok, c.pop.new.self.ok),
-)
+loop-value-preserved c = record {
+  touched = slots_set_kept c.args.event c.args.vat c.loop-value.slots.items c.pop.new.self.items c.in-Some.value (touched_in c.loop-value.base.footprint) (touched_in c.write_slot.new.self.footprint) c.len-index.result c.in-Some.ensures.items (omega (arith, c.len-index.ensures, c.pop.new.self.ok)) c.in_ok-write_slot.ensures.touched
+      ∙ c.loop-value.invariant.touched;
+  written = slots_kept c.args.event c.args.vat c.loop-value.slots.items c.pop.new.self.items c.in-Some.value (writes_in c.loop-value.base.footprint) (writes_in c.write_slot.new.self.footprint) c.len-index.result c.in-Some.ensures.items (omega (arith, c.len-index.ensures, c.pop.new.self.ok)) c.in_ok-write_slot.ensures.written
+      ∙ c.loop-value.invariant.written;
+  beneath = c.in_ok-write_slot.ensures.beneath ∙ c.loop-value.invariant.beneath;
+  numbered = omega (arith, c.loop-value.invariant.numbered, c.in-Some.ensures.len, c.loop-value.slots.ok, c.pop.new.self.ok);
+}
 
-pub returns : goal.returns
-returns c =
-    sym (slots_none c.args.event c.args.vat c.loop-value.slots.items (state_of c.loop-value.base) (empty_list c.loop-value.slots.items (omega (arith, c.in_default.ensures.cases.0, c.loop-value.slots.ok))))
-    ∙ c.loop-value.invariant.0
+pub returns-clause-touched : goal.returns-clause-touched
+returns-clause-touched c =
+    sym (no_slots_touched c.args.event c.args.vat c.loop-value.slots.items (touched_in c.loop-value.base.footprint) (empty_list c.loop-value.slots.items (omega (arith, c.in_default.ensures.cases.0, c.loop-value.slots.ok))))
+    ∙ c.loop-value.invariant.touched
+
+pub returns-clause-written : goal.returns-clause-written
+returns-clause-written c =
+    sym (slots_none c.args.event c.args.vat c.loop-value.slots.items (writes_in c.loop-value.base.footprint) (empty_list c.loop-value.slots.items (omega (arith, c.in_default.ensures.cases.0, c.loop-value.slots.ok))))
+    ∙ c.loop-value.invariant.written

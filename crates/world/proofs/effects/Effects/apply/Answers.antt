@@ -1,5 +1,5 @@
 use Rattle.std.proofs.Common.{◌∙◌, sym, ap, subst}
-use Rattle.history.specs.Subject.{after}
+use Rattle.reruns.specs.Subject.{after}
 use Rattle.world.specs.Effects.{Affects}
 use Rattle.world.specs.Events.{Foot, events}
 use Rattle.world.specs.View.{world_of}

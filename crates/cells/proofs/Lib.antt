@@ -1,0 +1,3 @@
+pub mod Cloning
+pub mod Places
+pub mod Popping

@@ -1,0 +1,3 @@
+pub mod Seen
+pub mod Clones
+pub mod Touches

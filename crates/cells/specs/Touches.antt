@@ -1,0 +1,23 @@
+-- What was touched of cells.
+use Rattle.std.specs.Prelude.{ℕ, Bool, Option, Some, None}
+use Rattle.indexmap.specs.IndexMap.{get, index_map_len}
+use Rattle.cells.specs.declared.touches.Touch.{Touch}
+use Rattle.cells.specs.declared.touches.Touches.{Touches}
+
+-- what stands in a cell: what was written, or else what was found
+abbrev pub standing : {V : Type 0} → Option V → Option V → Option V
+standing found None = found
+standing found (Some v) = Some v
+
+-- what is known of the cell of a key, if it was touched
+abbrev pub touch : {K V : Type 0} → (K → K → Bool) → Touches K V → K → Option (Touch V)
+touch eq s k = get eq s.touches k
+
+-- how many cells were touched
+abbrev pub touched_count : {K V : Type 0} → Touches K V → ℕ
+touched_count s = index_map_len s.touches
+
+-- what stands in a cell that held this, once what is known of it was written there
+abbrev pub rewritten : {V : Type 0} → Option (Touch V) → Option V → Option V
+rewritten None held = held
+rewritten (Some t) held = standing held t.written

@@ -1,0 +1,109 @@
+// The cells that a turn touches, with what it found there and what it wrote.
+ghost use Rattle.std.specs.Prelude.{◌≡◌, cond, true, ◌<◌, None, Some, is_some, IfSome, IfNone, IfErr, OnOk, OnErr};
+ghost use Rattle.std.specs.Option.{option_copied};
+ghost use Rattle.cells.specs.declared.touches.Touch.{Touch};
+
+use ids::cells::Key;
+use indexmap::IndexMap;
+use std::alloc::{AllocError, Global};
+
+/// What was found in a cell, if anything, and what was written there, if it was written.
+#[derive(Drop)]
+pub struct Touch<V> {
+    pub found: Option<V>,
+    pub written: Option<V>,
+}
+
+/// Cells that were touched, in order of their first touches.
+#[derive(Drop)]
+pub struct Touches<K: Key, V> {
+    touches: IndexMap<K, Touch<V>>,
+}
+
+impl<V> Touch<V> {
+    ghost use Rattle.cells.specs.Touches.{standing};
+
+    /// What stands in the cell now.
+    #[inline]
+    pub fn content(&self) -> Option<&V>
+        ensures { option_copied result ≡ standing self.now.found self.now.written }
+    {
+        match &self.written {
+            Some(written) => Some(written),
+            None => self.found.as_ref(),
+        }
+    }
+}
+
+impl<K: Key + Drop, V: Drop> Touches<K, V> {
+    ghost use Rattle.cells.specs.Touches.{touch, touched_count};
+
+    /// Nothing was touched.
+    pub fn new(alloc: Global) -> Touches<K, V>
+        ensures { (k : K) → touch K.eq result k ≡ None }
+    {
+        Touches {
+            touches: IndexMap::new(alloc),
+        }
+    }
+
+    /// What is known of a cell, if it was touched.
+    #[inline]
+    pub fn get(&self, key: &K) -> Option<&Touch<V>>
+        ensures { option_copied result ≡ touch K.eq self.now key.now }
+    {
+        self.touches.get(key)
+    }
+
+    /// Whether a cell was touched.
+    #[inline]
+    pub fn has(&self, key: &K) -> bool
+        ensures { result ≡ is_some (touch K.eq self.now key.now) }
+    {
+        self.touches.contains_key(key)
+    }
+
+    /// Touches a cell so, whatever was known of it. Fails only for want of memory.
+    pub fn add(&mut self, key: K, added: Touch<V>) -> Result<(), AllocError>
+        ensures ok { OnOk result ((q : K) → touch K.eq self.new q ≡ cond (K.eq key q) (Some added) (touch K.eq self.old q)) }
+        ensures err { OnErr result ((q : K) → touch K.eq self.new q ≡ touch K.eq self.old q) }
+    {
+        self.touches.insert(key, added)?;
+        Ok(())
+    }
+
+    /// Writes a cell that was touched. Of one that was not the value comes back.
+    #[inline]
+    pub fn write(&mut self, key: &K, value: V) -> Result<(), V>
+        ensures written { OnOk result ((q : K) (t : Touch V) → touch K.eq self.old key.now ≡ Some t → touch K.eq self.new q ≡ cond (K.eq key.now q) (Some (record { found = t.found; written = Some value })) (touch K.eq self.old q)) }
+        ensures touched { OnOk result (is_some (touch K.eq self.old key.now) ≡ true) }
+        ensures untouched { OnErr result (touch K.eq self.old key.now ≡ None) }
+        ensures same { OnErr result ((q : K) → touch K.eq self.new q ≡ touch K.eq self.old q) }
+        ensures back { IfErr result (λ v. v ≡ value) }
+    {
+        match self.touches.get_mut(key) {
+            Some(touch) => {
+                touch.written = Some(value);
+                Ok(())
+            }
+            None => Err(value),
+        }
+    }
+
+    /// How many cells were touched.
+    pub fn len(&self) -> usize
+        ensures { result ≡ touched_count self.now }
+    {
+        self.touches.len()
+    }
+
+    /// Takes one of the cells out, the last one.
+    pub fn pop(&mut self) -> Option<(K, Touch<V>)>
+        ensures taken { IfSome result (λ p. (q : K) → touch K.eq self.old q ≡ cond (K.eq p.0 q) (Some p.1) (touch K.eq self.new q)) }
+        ensures gone { IfSome result (λ p. (q : K) → K.eq p.0 q ≡ true → touch K.eq self.new q ≡ None) }
+        ensures fewer { IfSome result (λ p. touched_count self.new < touched_count self.old) }
+        ensures none { IfNone result ((q : K) → touch K.eq self.old q ≡ None) }
+    {
+        self.touches.pop()
+    }
+}

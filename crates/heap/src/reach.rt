@@ -1,0 +1,314 @@
+// What a turn has reached of the state that it began with.
+ghost use Rattle.std.specs.Prelude.{◌≡◌, None, Some, true, IfOk, IfSome, OnOk, OnErr};
+ghost use Rattle.std.specs.Arc.{arc_value};
+ghost use Rattle.std.specs.Option.{option_map};
+ghost use Rattle.heap.specs.State.{Cell, top, slot_cell, object_cell, bound, held, made, no_cells, nothing, also, read, write};
+ghost use Rattle.heap.specs.View.{bind_of, object_of, state_of};
+ghost use Rattle.values.specs.View.{val_of};
+ghost use Rattle.heap.specs.Found.{Found, found-prop};
+
+use crate::made::Made;
+use crate::state::{Binding, VatState};
+use cells::touches::{Touch, Touches};
+use ids::names::{EventName, ObjId, SlotId};
+use ids::text::Text;
+use std::alloc::{AllocError, Global};
+use std::sync::Arc;
+use values::value::Value;
+
+/// The cells of a vat that a turn touched: what it found in each, and what it wrote there, if it wrote.
+#[derive(Drop)]
+pub struct Footprint {
+    pub tops: Touches<Text, Binding>,
+    pub slots: Touches<SlotId, Value>,
+    pub objects: Touches<ObjId, Made>,
+}
+
+/// The state that a turn began with, shared, and what it touched of it.
+#[derive(Drop)]
+pub struct Reach {
+    state: Arc<VatState>,
+    footprint: Footprint,
+    pub ghost found: { Found footprint (state_of (arc_value state)) } by { found-prop footprint (state_of (arc_value state)) },
+}
+
+impl Footprint {
+    ghost use Rattle.heap.specs.Found.{touch_in, touched_in, writes_in, over_state, left_by};
+
+    /// Nothing was touched.
+    pub fn new(alloc: Global) -> Footprint
+        ensures { (c : Cell) → touch_in result c ≡ None }
+    {
+        Footprint {
+            tops: Touches::new(alloc),
+            slots: Touches::new(alloc),
+            objects: Touches::new(alloc),
+        }
+    }
+
+    /// Writes what was written into a state. Without memory some of it may have been written.
+    pub fn write_into(self, state: &mut VatState, writer: EventName) -> Result<(), AllocError>
+        ensures { OnOk result (state_of state.new ≡ left_by self (state_of state.old)) }
+    {
+        let Footprint {
+            tops,
+            slots,
+            objects,
+        } = self;
+        state.tops.write_all(tops, writer)?;
+        state.slots.write_all(slots, writer)?;
+        state.objects.write_all(objects, writer)
+    }
+
+    /// Touches a top noun, whose content is that of the state that the turn began with.
+    fn reach_top(&mut self, state: &VatState, name: &Text) -> Result<(), AllocError>
+        ensures found { Found self.old (state_of state.now) → Found self.new (state_of state.now) }
+        ensures state { over_state self.new (state_of state.now) ≡ over_state self.old (state_of state.now) }
+        ensures touched { OnOk result (touched_in self.new ≡ also (top name.now) (touched_in self.old)) }
+        ensures written { writes_in self.new ≡ writes_in self.old }
+    {
+        if !self.tops.has(name) {
+            let found = state.found_top(name)?;
+            let written = None;
+            self.tops.add(name.share()?, Touch { found, written })?;
+        }
+        Ok(())
+    }
+
+    /// Touches a slot, whose content is that of the state that the turn began with.
+    fn reach_slot(&mut self, state: &VatState, slot: SlotId) -> Result<(), AllocError>
+        ensures found { Found self.old (state_of state.now) → Found self.new (state_of state.now) }
+        ensures state { over_state self.new (state_of state.now) ≡ over_state self.old (state_of state.now) }
+        ensures touched { OnOk result (touched_in self.new ≡ also (slot_cell slot) (touched_in self.old)) }
+        ensures written { writes_in self.new ≡ writes_in self.old }
+    {
+        if !self.slots.has(&slot) {
+            let found = state.found_slot(slot)?;
+            let written = None;
+            self.slots.add(slot, Touch { found, written })?;
+        }
+        Ok(())
+    }
+
+    /// Touches an object, whose content is that of the state that the turn began with.
+    fn reach_object(&mut self, state: &VatState, object: ObjId) -> Result<(), AllocError>
+        ensures found { Found self.old (state_of state.now) → Found self.new (state_of state.now) }
+        ensures state { over_state self.new (state_of state.now) ≡ over_state self.old (state_of state.now) }
+        ensures touched { OnOk result (touched_in self.new ≡ also (object_cell object) (touched_in self.old)) }
+        ensures written { writes_in self.new ≡ writes_in self.old }
+    {
+        if !self.objects.has(&object) {
+            let found = state.found_object(object)?;
+            let written = None;
+            self.objects.add(object, Touch { found, written })?;
+        }
+        Ok(())
+    }
+
+    /// Lets a top noun stand for this.
+    fn write_top(
+        &mut self,
+        state: &VatState,
+        name: Text,
+        binding: Binding,
+    ) -> Result<(), AllocError>
+        ensures found { Found self.old (state_of state.now) → Found self.new (state_of state.now) }
+        ensures state { OnOk result (over_state self.new (state_of state.now) ≡ write (over_state self.old (state_of state.now)) (top name) (bound (bind_of binding))) }
+        ensures touched { OnOk result (touched_in self.new ≡ also (top name) (touched_in self.old)) }
+        ensures written { OnOk result (writes_in self.new ≡ write (writes_in self.old) (top name) (bound (bind_of binding))) }
+        ensures err { OnErr result (over_state self.new (state_of state.now) ≡ over_state self.old (state_of state.now)) }
+    {
+        match self.tops.write(&name, binding) {
+            Ok(()) => Ok(()),
+            Err(binding) => {
+                let found = state.found_top(&name)?;
+                let written = Some(binding);
+                self.tops.add(name, Touch { found, written })
+            }
+        }
+    }
+
+    /// Lets a slot hold a value.
+    fn write_slot(&mut self, state: &VatState, slot: SlotId, value: Value) -> Result<(), AllocError>
+        ensures found { Found self.old (state_of state.now) → Found self.new (state_of state.now) }
+        ensures state { OnOk result (over_state self.new (state_of state.now) ≡ write (over_state self.old (state_of state.now)) (slot_cell slot) (held (val_of value))) }
+        ensures touched { OnOk result (touched_in self.new ≡ also (slot_cell slot) (touched_in self.old)) }
+        ensures written { OnOk result (writes_in self.new ≡ write (writes_in self.old) (slot_cell slot) (held (val_of value))) }
+        ensures err { OnErr result (over_state self.new (state_of state.now) ≡ over_state self.old (state_of state.now)) }
+    {
+        match self.slots.write(&slot, value) {
+            Ok(()) => Ok(()),
+            Err(value) => {
+                let found = state.found_slot(slot)?;
+                let written = Some(value);
+                self.slots.add(slot, Touch { found, written })
+            }
+        }
+    }
+
+    /// Lets an object be this.
+    fn write_object(&mut self, state: &VatState, id: ObjId, object: Made) -> Result<(), AllocError>
+        ensures found { Found self.old (state_of state.now) → Found self.new (state_of state.now) }
+        ensures state { OnOk result (over_state self.new (state_of state.now) ≡ write (over_state self.old (state_of state.now)) (object_cell id) (made (object_of object))) }
+        ensures touched { OnOk result (touched_in self.new ≡ also (object_cell id) (touched_in self.old)) }
+        ensures written { OnOk result (writes_in self.new ≡ write (writes_in self.old) (object_cell id) (made (object_of object))) }
+        ensures err { OnErr result (over_state self.new (state_of state.now) ≡ over_state self.old (state_of state.now)) }
+    {
+        match self.objects.write(&id, object) {
+            Ok(()) => Ok(()),
+            Err(object) => {
+                let found = state.found_object(id)?;
+                let written = Some(object);
+                self.objects.add(id, Touch { found, written })
+            }
+        }
+    }
+}
+
+impl Reach {
+    ghost use Rattle.heap.specs.Reaches.{state_in};
+    ghost use Rattle.heap.specs.Found.{touched_in, writes_in};
+
+    /// Nothing of this state was touched yet.
+    pub(crate) fn new(alloc: Global, state: Arc<VatState>) -> Reach
+        ensures state { state_in result ≡ state_of (arc_value state) }
+        ensures touched { touched_in result.footprint ≡ no_cells }
+        ensures written { writes_in result.footprint ≡ nothing }
+        ensures beneath { result.state ≡ state }
+    {
+        Reach {
+            state,
+            footprint: Footprint::new(alloc),
+        }
+    }
+
+    /// What a top noun stands for.
+    pub(crate) fn top(&self, name: &Text) -> Option<&Binding>
+        ensures { option_map (λ b. bound (bind_of b.now)) result ≡ read (state_in self.now) (top name.now) }
+    {
+        match self.footprint.tops.get(name) {
+            Some(touch) => touch.content(),
+            None => self.state.top(name),
+        }
+    }
+
+    /// What a slot holds.
+    #[inline]
+    pub(crate) fn slot(&self, slot: SlotId) -> Option<&Value>
+        ensures { option_map (λ v. held (val_of v.now)) result ≡ read (state_in self.now) (slot_cell slot) }
+    {
+        match self.footprint.slots.get(&slot) {
+            Some(touch) => touch.content(),
+            None => self.state.slot(slot),
+        }
+    }
+
+    /// What an object is.
+    pub(crate) fn object(&self, object: ObjId) -> Option<&Made>
+        ensures { option_map (λ m. made (object_of m.now)) result ≡ read (state_in self.now) (object_cell object) }
+    {
+        match self.footprint.objects.get(&object) {
+            Some(touch) => touch.content(),
+            None => self.state.object(object),
+        }
+    }
+
+    /// What a top noun that was touched stands for.
+    pub(crate) fn touched_top(&self, name: &Text) -> Option<&Binding>
+        ensures touched { IfSome result (λ b. touched_in self.now.footprint (top name.now) ≡ true) }
+        ensures content { IfSome result (λ b. read (state_in self.now) (top name.now) ≡ Some (bound (bind_of b.now))) }
+    {
+        match self.footprint.tops.get(name) {
+            Some(touch) => touch.content(),
+            None => None,
+        }
+    }
+
+    /// What a slot that was touched holds.
+    #[inline]
+    pub(crate) fn touched_slot(&self, slot: SlotId) -> Option<&Value>
+        ensures touched { IfSome result (λ v. touched_in self.now.footprint (slot_cell slot) ≡ true) }
+        ensures content { IfSome result (λ v. read (state_in self.now) (slot_cell slot) ≡ Some (held (val_of v.now))) }
+    {
+        match self.footprint.slots.get(&slot) {
+            Some(touch) => touch.content(),
+            None => None,
+        }
+    }
+
+    /// Touches a top noun.
+    pub(crate) fn reach_top(&mut self, name: &Text) -> Result<(), AllocError>
+        ensures state { state_in self.new ≡ state_in self.old }
+        ensures touched { OnOk result (touched_in self.new.footprint ≡ also (top name.now) (touched_in self.old.footprint)) }
+        ensures written { writes_in self.new.footprint ≡ writes_in self.old.footprint }
+        ensures beneath { self.new.state ≡ self.old.state }
+    {
+        self.footprint.reach_top(&self.state, name)
+    }
+
+    /// Touches a slot.
+    pub(crate) fn reach_slot(&mut self, slot: SlotId) -> Result<(), AllocError>
+        ensures state { state_in self.new ≡ state_in self.old }
+        ensures touched { OnOk result (touched_in self.new.footprint ≡ also (slot_cell slot) (touched_in self.old.footprint)) }
+        ensures written { writes_in self.new.footprint ≡ writes_in self.old.footprint }
+        ensures beneath { self.new.state ≡ self.old.state }
+    {
+        self.footprint.reach_slot(&self.state, slot)
+    }
+
+    /// Touches an object.
+    pub(crate) fn reach_object(&mut self, object: ObjId) -> Result<(), AllocError>
+        ensures state { state_in self.new ≡ state_in self.old }
+        ensures touched { OnOk result (touched_in self.new.footprint ≡ also (object_cell object) (touched_in self.old.footprint)) }
+        ensures written { writes_in self.new.footprint ≡ writes_in self.old.footprint }
+        ensures beneath { self.new.state ≡ self.old.state }
+    {
+        self.footprint.reach_object(&self.state, object)
+    }
+
+    /// Lets a top noun stand for this.
+    pub(crate) fn write_top(&mut self, name: Text, binding: Binding) -> Result<(), AllocError>
+        ensures state { OnOk result (state_in self.new ≡ write (state_in self.old) (top name) (bound (bind_of binding))) }
+        ensures touched { OnOk result (touched_in self.new.footprint ≡ also (top name) (touched_in self.old.footprint)) }
+        ensures written { OnOk result (writes_in self.new.footprint ≡ write (writes_in self.old.footprint) (top name) (bound (bind_of binding))) }
+        ensures err { OnErr result (state_in self.new ≡ state_in self.old) }
+        ensures beneath { self.new.state ≡ self.old.state }
+    {
+        self.footprint.write_top(&self.state, name, binding)
+    }
+
+    /// Lets a slot hold a value.
+    #[inline]
+    pub(crate) fn write_slot(&mut self, slot: SlotId, value: Value) -> Result<(), AllocError>
+        ensures state { OnOk result (state_in self.new ≡ write (state_in self.old) (slot_cell slot) (held (val_of value))) }
+        ensures touched { OnOk result (touched_in self.new.footprint ≡ also (slot_cell slot) (touched_in self.old.footprint)) }
+        ensures written { OnOk result (writes_in self.new.footprint ≡ write (writes_in self.old.footprint) (slot_cell slot) (held (val_of value))) }
+        ensures err { OnErr result (state_in self.new ≡ state_in self.old) }
+        ensures beneath { self.new.state ≡ self.old.state }
+    {
+        self.footprint.write_slot(&self.state, slot, value)
+    }
+
+    /// Lets an object be this.
+    pub(crate) fn write_object(&mut self, id: ObjId, object: Made) -> Result<(), AllocError>
+        ensures state { OnOk result (state_in self.new ≡ write (state_in self.old) (object_cell id) (made (object_of object))) }
+        ensures touched { OnOk result (touched_in self.new.footprint ≡ also (object_cell id) (touched_in self.old.footprint)) }
+        ensures written { OnOk result (writes_in self.new.footprint ≡ write (writes_in self.old.footprint) (object_cell id) (made (object_of object))) }
+        ensures err { OnErr result (state_in self.new ≡ state_in self.old) }
+        ensures beneath { self.new.state ≡ self.old.state }
+    {
+        self.footprint.write_object(&self.state, id, object)
+    }
+
+    /// What was touched of the state, which is given back.
+    pub fn into_footprint(self) -> Footprint
+        ensures same { result ≡ self.footprint }
+        ensures found { Found result (state_of (arc_value self.state)) }
+    {
+        let Reach {
+            state: _,
+            footprint,
+        } = self;
+        footprint
+    }
+}

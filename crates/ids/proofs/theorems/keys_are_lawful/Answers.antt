@@ -1,0 +1,8 @@
+use Rattle.ids.proofs.CellKeys.{same_is_equal, events_tell_apart}
+use Rattle.ids.proofs.theorems.keys_are_lawful.Goals as goal
+
+pub returns-clause-same_is_equal : goal.returns-clause-same_is_equal
+returns-clause-same_is_equal c = same_is_equal
+
+pub returns-clause-events_tell_apart : goal.returns-clause-events_tell_apart
+returns-clause-events_tell_apart c = events_tell_apart

@@ -1,0 +1,74 @@
+-- The cells of a state after those of one kind changed.
+use Rattle.std.proofs.Common.{◌≡◌, Bool, true, false, cond, refl, ap, ◌∙◌}
+use Rattle.cells.specs.Seen as cells
+use Rattle.cells.specs.Seen.{Seen}
+use Rattle.cells.specs.declared.store.CellStore.{CellStore}
+use Rattle.ids.proofs.CellKeys.{slots_agree, objects_agree}
+use Rattle.ids.specs.declared.names.SlotId.{SlotId}
+use Rattle.ids.specs.declared.names.ObjId.{ObjId}
+use Rattle.values.specs.View.{val_of}
+use Rattle.values.specs.declared.value.Value.{Value}
+use Rattle.heap.specs.State.{Cell, top, slot_cell, object_cell, held, made, same_cell}
+use Rattle.heap.specs.View.{object_of, seen_in, told, same_slot, same_object}
+use Rattle.heap.specs.declared.made.Made.{Made}
+use Rattle.heap.specs.declared.state.VatState.{VatState}
+use Rattle.post.specs.Homes.{has_room_in}
+
+-- what is told of one of two
+pub told_one : {V C : Type 0} (f : V → C) (b : Bool) (x y : Seen V) → told f (cond b x y) ≡ cond b (told f x) (told f y)
+told_one f true x y = refl
+told_one f false x y = refl
+
+module _ (s : VatState) (t : CellStore SlotId Value) where
+  abbrev with_slots : VatState
+  with_slots = record { tops = s.tops; slots = t; objects = s.objects }
+
+  pub slot_exchanged : (i : SlotId) (x : Seen Value) → ((q : SlotId) → cells.seen same_slot t q ≡ cond (same_slot i q) x (cells.seen same_slot s.slots q)) → (c : Cell)
+      → seen_in with_slots c ≡ cond (same_cell (slot_cell i) c) (told (λ v. held (val_of v)) x) (seen_in s c)
+  slot_exchanged i x h (top y) = refl
+  slot_exchanged i x h (slot_cell q) =
+      ap (told (λ v. held (val_of v))) (h q) ∙ told_one (λ v. held (val_of v)) (same_slot i q) x (cells.seen same_slot s.slots q)
+      ∙ ap (λ b. cond b (told (λ v. held (val_of v)) x) (seen_in s (slot_cell q))) (slots_agree i q)
+  slot_exchanged i x h (object_cell q) = refl
+
+  pub slots_seen : ((q : SlotId) → cells.seen same_slot t q ≡ cells.seen same_slot s.slots q) → (c : Cell) → seen_in with_slots c ≡ seen_in s c
+  slots_seen h (top y) = refl
+  slots_seen h (slot_cell q) = ap (told (λ v. held (val_of v))) (h q)
+  slots_seen h (object_cell q) = refl
+
+  pub slots_room : ((q : SlotId) → cells.has_room same_slot t q ≡ cells.has_room same_slot s.slots q) → (c : Cell) → has_room_in with_slots c ≡ has_room_in s c
+  slots_room h (top y) = refl
+  slots_room h (slot_cell q) = h q
+  slots_room h (object_cell q) = refl
+
+  pub slots_kept : ((q : SlotId) → cells.has_room same_slot s.slots q ≡ true → cells.has_room same_slot t q ≡ true) → (c : Cell) → has_room_in s c ≡ true → has_room_in with_slots c ≡ true
+  slots_kept h (top y) g = g
+  slots_kept h (slot_cell q) g = h q g
+  slots_kept h (object_cell q) g = g
+
+module _ (s : VatState) (t : CellStore ObjId Made) where
+  abbrev with_objects : VatState
+  with_objects = record { tops = s.tops; slots = s.slots; objects = t }
+
+  pub object_exchanged : (i : ObjId) (x : Seen Made) → ((q : ObjId) → cells.seen same_object t q ≡ cond (same_object i q) x (cells.seen same_object s.objects q)) → (c : Cell)
+      → seen_in with_objects c ≡ cond (same_cell (object_cell i) c) (told (λ m. made (object_of m)) x) (seen_in s c)
+  object_exchanged i x h (top y) = refl
+  object_exchanged i x h (slot_cell q) = refl
+  object_exchanged i x h (object_cell q) =
+      ap (told (λ m. made (object_of m))) (h q) ∙ told_one (λ m. made (object_of m)) (same_object i q) x (cells.seen same_object s.objects q)
+      ∙ ap (λ b. cond b (told (λ m. made (object_of m)) x) (seen_in s (object_cell q))) (objects_agree i q)
+
+  pub objects_seen : ((q : ObjId) → cells.seen same_object t q ≡ cells.seen same_object s.objects q) → (c : Cell) → seen_in with_objects c ≡ seen_in s c
+  objects_seen h (top y) = refl
+  objects_seen h (slot_cell q) = refl
+  objects_seen h (object_cell q) = ap (told (λ m. made (object_of m))) (h q)
+
+  pub objects_room : ((q : ObjId) → cells.has_room same_object t q ≡ cells.has_room same_object s.objects q) → (c : Cell) → has_room_in with_objects c ≡ has_room_in s c
+  objects_room h (top y) = refl
+  objects_room h (slot_cell q) = refl
+  objects_room h (object_cell q) = h q
+
+  pub objects_kept : ((q : ObjId) → cells.has_room same_object s.objects q ≡ true → cells.has_room same_object t q ≡ true) → (c : Cell) → has_room_in s c ≡ true → has_room_in with_objects c ≡ true
+  objects_kept h (top y) g = g
+  objects_kept h (slot_cell q) g = g
+  objects_kept h (object_cell q) g = h q g

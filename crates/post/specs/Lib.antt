@@ -1,0 +1,12 @@
+pub mod Delivery
+pub mod DeliveryView
+pub mod World
+pub mod Messages
+pub mod Homes
+pub mod HomesView
+pub mod Records
+pub mod View
+pub mod Exchanged
+pub mod Listed
+pub mod Events
+pub mod EventView

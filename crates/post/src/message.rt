@@ -1,0 +1,80 @@
+// Messages to vats.
+ghost use Rattle.std.specs.Prelude.{◌≡◌, IfOk};
+ghost use Rattle.post.specs.World as model;
+ghost use Rattle.post.specs.DeliveryView.{delivery_of};
+ghost use Rattle.post.specs.Messages.{message_of, place_of};
+
+use crate::delivery::Delivery;
+use ids::names::{EventName, MsgId, PromId, VatNo};
+use std::alloc::{AllocError, Global};
+use std::sync::Arc;
+
+/// Where a message is.
+#[derive(Clone, Copy)]
+pub enum Place {
+    At(VatNo),
+    Done(EventName),
+}
+
+/// What was sent, which does not change.
+#[derive(Drop)]
+pub struct Sent {
+    pub delivery: Delivery,
+    /// The promise for its result.
+    pub result: PromId,
+    /// The message that must be done before it.
+    pub after: Option<MsgId>,
+}
+
+/// A message to a vat. Sharing it costs nothing that grows with it.
+pub struct Message {
+    pub sent: Arc<Sent>,
+    pub place: Place,
+}
+
+// By hand, so that what drops one elsewhere calls this and is not proved anew for all that it holds.
+impl Drop for Message {
+    fn drop(self) {
+        let Message { sent: _, place: _ } = self;
+    }
+}
+
+impl Message {
+    /// A message that was sent so and is at this place. Fails only for want of memory.
+    pub fn new(alloc: Global, sent: Sent, place: Place) -> Result<Message, AllocError>
+        ensures { IfOk result (λ g. message_of g ≡ record { delivery = delivery_of sent.delivery; result = sent.result; after = sent.after; place = place_of place }) }
+    {
+        Ok(Message {
+            sent: Arc::new(alloc, sent)?,
+            place,
+        })
+    }
+
+    /// The same message, shared. Fails only for want of memory.
+    pub fn share(&self) -> Result<Message, AllocError>
+        ensures { IfOk result (λ g. message_of g ≡ message_of self.now) }
+    {
+        Ok(Message {
+            sent: Arc::try_clone(&self.sent)?,
+            place: self.place,
+        })
+    }
+
+    /// The same message, shared, as one that was done in this event. Fails only for want of memory.
+    pub fn done_in(&self, event: EventName) -> Result<Message, AllocError>
+        ensures { IfOk result (λ g. message_of g ≡ record (message_of self.now) { place = model.done event }) }
+    {
+        Ok(Message {
+            sent: Arc::try_clone(&self.sent)?,
+            place: Place::Done(event),
+        })
+    }
+}
+
+impl Clone for Message {
+    ghost is_clone = { λ a b. message_of b ≡ message_of a };
+
+    fn clone(&self) -> Result<Message, AllocError> {
+        self.share()
+    }
+}

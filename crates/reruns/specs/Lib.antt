@@ -1,0 +1,5 @@
+pub mod Subject
+pub mod Journal
+pub mod Cone
+pub mod Theorems
+pub mod Example

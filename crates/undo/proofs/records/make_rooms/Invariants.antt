@@ -1,0 +1,12 @@
+use Rattle.std.proofs.Common.{◌≡◌, true, take}
+use Rattle.ids.specs.declared.cells.CellKey.{CellKey}
+use Rattle.post.specs.View.{seen_of_world, is_ready}
+use Rattle.undo.specs.State.{kepts_of, all_pass}
+use Rattle.undo.proofs.records.make_rooms.Given as goal
+
+abbrev pub invariant-loop-record : goal.invariant-loop-record
+invariant-loop-record l = record {
+  seen : seen_of_world l.world ≡ seen_of_world l.fn.world;
+  ready : (k : CellKey) → is_ready l.fn.world k ≡ true → is_ready l.world k ≡ true;
+  made : all_pass (is_ready l.world) (kepts_of (take l.record-index l.records)) ≡ true;
+}

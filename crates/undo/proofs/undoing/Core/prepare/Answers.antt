@@ -1,0 +1,35 @@
+use Rattle.std.proofs.Common.{◌≡◌, ◌<◌, true, length, get_or, map, sym, ap, ◌∙◌, arith}
+use Rattle.std.proofs.lemmas.List.{length-map}
+use Rattle.std.proofs.lemmas.List.Elements.{All-get_or}
+use Rattle.post.specs.View.{is_ready}
+use Rattle.undo.specs.State.{numbered, kepts_of, all_pass}
+use Rattle.undo.specs.CoreView.{items_of, ready_of}
+use Rattle.undo.specs.Items.{item_of, keys_at, pass}
+use Rattle.undo.proofs.Positions.{pass_kept, pass_more, ready_there}
+use Rattle.undo.proofs.undoing.Core.prepare.Goals as goal
+
+pub returns-in_err-make_rooms-clause-shown : goal.returns-in_err-make_rooms-clause-shown
+returns-in_err-make_rooms-clause-shown c = λ j. (map item_of (c.loop-position.invariant.entries j).items, (ap (λ f k. numbered (f k)) c.make_rooms.ensures.seen ∙ c.loop-position.invariant.state) j)
+
+pub loop-position-preserved : goal.loop-position-preserved
+loop-position-preserved c =
+    let ps = c.args.positions.now in
+    let i = c.loop-position.position-index in
+    let p = get_or ps i 0 in
+    let xs = c.args.self.now.entries.items in
+    let items = items_of c.args.self.now in
+    let was = ready_of c.loop-position.self in
+    let now = is_ready c.make_rooms.new.world in
+    let h : i < length ps = omega arith in
+    let there : p < length items = All-get_or (λ q. q < length items) ps i 0 h c.requires in
+    let within : p < length xs = omega (arith, length-map xs item_of) in
+    let x = c.index.result.now in
+    let here : all_pass now (item_of (get_or xs p x)).kept ≡ true =
+    ap (λ (es : _). all_pass now (item_of (get_or es p x)).kept) (ap (λ v. v.items) (sym c.loop-position.invariant.entries)) ∙ ap (λ e. all_pass now (item_of e).kept) (sym c.index.ensures)
+    ∙ ap (λ l. all_pass now (kepts_of l)) (sym c.deref.ensures.value) ∙ c.in_ok-make_rooms.ensures.ok in
+    record {
+      entries = c.loop-position.invariant.entries;
+      state = ap (λ f k. numbered (f k)) c.make_rooms.ensures.seen ∙ c.loop-position.invariant.state;
+      ready = λ k g. c.make_rooms.ensures.ready k (c.loop-position.invariant.ready k g);
+      made = pass_more (λ q. pass was (keys_at items q)) (λ q. pass now (keys_at items q)) ps i h (λ q. pass_kept was now c.make_rooms.ensures.ready (keys_at items q)) (ready_there now xs p x within here) c.loop-position.invariant.made;
+    }

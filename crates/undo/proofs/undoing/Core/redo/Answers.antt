@@ -1,0 +1,33 @@
+use Rattle.std.proofs.Common.{◌<◌, ◌+◌, ◌%◌, ◌^◌, true, length, drop, get_or, ap, ◌∙◌, arith}
+use Rattle.history.specs.Walks.{walk}
+use Rattle.undo.specs.CoreView.{items_of, shown, ready_of}
+use Rattle.undo.specs.Items.{keys_at, pass, swap_item}
+use Rattle.undo.proofs.Looping.{counted_on}
+use Rattle.undo.proofs.Positions.{pass_at, pass_same, count_same, count_on, walk_on}
+use Rattle.undo.proofs.undoing.Core.redo.Goals as goal
+
+pub swap_entry-requires : goal.swap_entry-requires
+swap_entry-requires c =
+    let ps = c.args.positions.now in
+    let i = c.loop-position.position-index in
+    let h : i < length ps = omega arith in
+    let room = ready_of c.args.self.now in
+    let items = items_of c.args.self.now in
+    pass_same room (ready_of c.loop-position.self) (keys_at items (get_or ps i 0)) (keys_at (items_of c.loop-position.self) (get_or ps i 0)) c.loop-position.invariant.ready (c.loop-position.invariant.keys (get_or ps i 0))
+    (pass_at (λ p. pass room (keys_at items p)) ps i h c.requires)
+
+pub loop-position-preserved : goal.loop-position-preserved
+loop-position-preserved c =
+    let ps = c.args.positions.now in
+    let i = c.loop-position.position-index in
+    let items = items_of c.args.self.now in
+    let p = get_or ps i 0 in
+    let h : i < length ps = omega arith in
+    record {
+      ready = c.swap_entry.ensures.ready ∙ c.loop-position.invariant.ready;
+      keys = λ q. c.swap_entry.ensures.keys q ∙ c.loop-position.invariant.keys q;
+      rest = ap (walk (swap_item true) (drop (i + 1) ps)) c.swap_entry.ensures.shown ∙ walk_on (swap_item true) ps i (shown c.loop-position.self) h ∙ c.loop-position.invariant.rest;
+      counted = counted_on (2 ^ 64) c.args.swaps.now c.loop-position.swaps c.swap_entry.new.swaps _ _ c.loop-position.invariant.counted
+          (c.swap_entry.ensures.counted ∙ ap (λ n. (c.loop-position.swaps + n) % 2 ^ 64) (count_same (items_of c.loop-position.self) items p (c.loop-position.invariant.keys p)))
+          ∙ ap (λ n. (c.args.swaps.now + n) % 2 ^ 64) (count_on items ps i h);
+    }

@@ -1,0 +1,13 @@
+use Rattle.std.proofs.Common.{◌≡◌, ◌+◌, ◌%◌, ◌^◌, ℕ, true, take, drop}
+use Rattle.history.specs.Walks.{walk}
+use Rattle.undo.specs.CoreView.{items_of, shown, ready_of}
+use Rattle.undo.specs.Items.{swap_item, keys_at, records_at}
+use Rattle.undo.proofs.undoing.Core.redo.Given as goal
+
+abbrev pub invariant-loop-position : goal.invariant-loop-position
+invariant-loop-position l = record {
+  ready : ready_of l.self ≡ ready_of l.fn.self;
+  keys : (p : ℕ) → keys_at (items_of l.self) p ≡ keys_at (items_of l.fn.self) p;
+  rest : walk (swap_item true) (drop l.position-index l.positions) (shown l.self) ≡ walk (swap_item true) l.positions (shown l.fn.self);
+  counted : l.swaps % 2 ^ 64 ≡ (l.fn.swaps + records_at (items_of l.fn.self) (take l.position-index l.positions)) % 2 ^ 64;
+}

@@ -1,0 +1,35 @@
+use Rattle.std.proofs.Common.{◌<◌, ◌≤◌, ◌+◌, ◌-◌, ◌%◌, ◌^◌, false, length, take, get_or, reverse, ap, ◌∙◌, arith}
+use Rattle.history.specs.Walks.{walk}
+use Rattle.undo.specs.CoreView.{items_of, shown, ready_of}
+use Rattle.undo.specs.Items.{keys_at, pass, swap_item}
+use Rattle.undo.proofs.Looping.{counted_on}
+use Rattle.undo.proofs.Positions.{pass_at, pass_same, count_same, count_back, walk_back}
+use Rattle.undo.proofs.undoing.Core.undo.Goals as goal
+
+pub swap_entry-requires : goal.swap_entry-requires
+swap_entry-requires c =
+    let ps = c.args.positions.now in
+    let i = c.loop-i.i in
+    let h : i - 1 < length ps = omega arith in
+    let room = ready_of c.args.self.now in
+    let items = items_of c.args.self.now in
+    pass_same room (ready_of c.loop-i.self) (keys_at items (get_or ps (i - 1) 0)) (keys_at (items_of c.loop-i.self) (get_or ps (i - 1) 0)) c.loop-i.invariant.ready (c.loop-i.invariant.keys (get_or ps (i - 1) 0))
+    (pass_at (λ p. pass room (keys_at items p)) ps (i - 1) h c.requires)
+
+pub loop-i-preserved : goal.loop-i-preserved
+loop-i-preserved c =
+    let ps = c.args.positions.now in
+    let i = c.loop-i.i in
+    let items = items_of c.args.self.now in
+    let p = get_or ps (i - 1) 0 in
+    let some : 0 < i = omega arith in
+    let within : i ≤ length ps = omega arith in
+    record {
+      bound = omega arith;
+      ready = c.swap_entry.ensures.ready ∙ c.loop-i.invariant.ready;
+      keys = λ q. c.swap_entry.ensures.keys q ∙ c.loop-i.invariant.keys q;
+      rest = ap (walk (swap_item false) (reverse (take (i - 1) ps))) c.swap_entry.ensures.shown ∙ walk_back (swap_item false) ps i (shown c.loop-i.self) some within ∙ c.loop-i.invariant.rest;
+      counted = counted_on (2 ^ 64) c.args.swaps.now c.loop-i.swaps c.swap_entry.new.swaps _ _ c.loop-i.invariant.counted
+          (c.swap_entry.ensures.counted ∙ ap (λ n. (c.loop-i.swaps + n) % 2 ^ 64) (count_same (items_of c.loop-i.self) items p (c.loop-i.invariant.keys p)))
+          ∙ ap (λ n. (c.args.swaps.now + n) % 2 ^ 64) (count_back items ps i some within);
+    }

@@ -1,0 +1,17 @@
+use Rattle.std.proofs.Common.{◌≡◌, ◌≤◌, ◌+◌, ◌%◌, ◌^◌, ℕ, false, length, take, drop, reverse}
+use Rattle.history.specs.Walks.{walk}
+use Rattle.undo.specs.CoreView.{items_of, shown, ready_of}
+use Rattle.undo.specs.Items.{swap_item, keys_at, records_at}
+use Rattle.undo.proofs.undoing.Core.undo.Given as goal
+
+abbrev pub invariant-loop-i : goal.invariant-loop-i
+invariant-loop-i l = record {
+  bound : l.i ≤ length l.positions;
+  ready : ready_of l.self ≡ ready_of l.fn.self;
+  keys : (p : ℕ) → keys_at (items_of l.self) p ≡ keys_at (items_of l.fn.self) p;
+  rest : walk (swap_item false) (reverse (take l.i l.positions)) (shown l.self) ≡ walk (swap_item false) (reverse l.positions) (shown l.fn.self);
+  counted : l.swaps % 2 ^ 64 ≡ (l.fn.swaps + records_at (items_of l.fn.self) (drop l.i l.positions)) % 2 ^ 64;
+}
+
+abbrev pub decreases-loop-i : goal.decreases-loop-i
+decreases-loop-i l = l.i

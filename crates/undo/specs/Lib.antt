@@ -1,0 +1,4 @@
+pub mod State
+pub mod Items
+pub mod CoreView
+pub mod Standing

@@ -1,0 +1,41 @@
+// Records of cells, one after another.
+ghost use Rattle.std.specs.Prelude.{◌≡◌, ◌+◌, ◌%◌, ◌^◌, true, length, OnOk, OnErr};
+ghost use Rattle.history.specs.Records.{swap_state, swap_record};
+ghost use Rattle.ids.specs.declared.cells.CellKey.{CellKey};
+ghost use Rattle.post.specs.View.{seen_of_world, is_ready};
+ghost use Rattle.undo.specs.State.{cells, state_of_world, kept_of, kepts_of, all_pass};
+
+use cells::swaps::Swaps;
+use post::record::CellRecord;
+use post::world::World;
+use std::alloc::{AllocError, Global};
+
+/// Makes room for the cells of these records, and makes the states of their vats their own. What is seen stays. Fails only for
+/// want of memory.
+pub(crate) fn make_rooms(
+    alloc: Global,
+    world: &mut World,
+    records: &[CellRecord],
+) -> Result<(), AllocError>
+    ensures ok { OnOk result (all_pass (is_ready world.new) (kepts_of records.now) ≡ true) }
+    ensures ready { (k : CellKey) → is_ready world.old k ≡ true → is_ready world.new k ≡ true }
+    ensures seen { seen_of_world world.new ≡ seen_of_world world.old }
+{
+    for record in records {
+        world.make_room(alloc, record.key()?)?;
+    }
+    Ok(())
+}
+
+/// Exchanges records with their cells, from the first to the last. It takes no memory.
+pub(crate) fn swap_records(world: &mut World, records: &mut [CellRecord], swaps: &mut Swaps)
+    requires { all_pass (is_ready world.old) (kepts_of records.old) ≡ true }
+    ensures state { state_of_world world.new ≡ swap_state cells (kepts_of records.old) (state_of_world world.old) }
+    ensures records { kepts_of records.new ≡ swap_record cells (kepts_of records.old) (state_of_world world.old) }
+    ensures ready { is_ready world.new ≡ is_ready world.old }
+    ensures counted { swaps.new % 2 ^ 64 ≡ (swaps.old + length records.old) % 2 ^ 64 }
+{
+    for record in records.iter_mut() {
+        world.swap_record(record, swaps);
+    }
+}

@@ -1,0 +1,208 @@
+// The world, and the journal of the events that wrote it.
+ghost use Rattle.std.specs.Prelude.{◌≡◌, ◌+◌, ◌%◌, ◌^◌, ◌<◌, ℕ, if◌then◌else◌, true, false, List, [], ◌∷◌, ◌==◌, None, IfOk, OnOk, OnErr, map, length, reverse, All};
+ghost use Rattle.std.specs.Arc.{arc_value};
+ghost use Rattle.heap.specs.View as heap;
+ghost use Rattle.history.specs.Records.{contents};
+ghost use Rattle.history.specs.Walks.{step_at, walk};
+ghost use Rattle.ids.specs.declared.cells.CellKey.{CellKey};
+ghost use Rattle.post.specs.EventView.{event_of};
+ghost use Rattle.post.specs.View.{is_ready};
+ghost use Rattle.post.specs.World.{vat_state};
+ghost use Rattle.undo.specs.State.{cells, state_of_world, kepts_of, all_pass};
+ghost use Rattle.undo.specs.Items.{item_of, is_live, swap_item, entered, keys_at, all_ready, records_at, may_exchange, neighbours, exchanged};
+
+use crate::entry::{Entry, Mark, may_exchange, with_writers};
+use crate::records::{make_rooms, swap_records};
+use cells::swaps::Swaps;
+use heap::state::VatState;
+use ids::cells::CellKey;
+use ids::names::VatNo;
+use post::event::Event;
+use post::record::CellRecord;
+use post::world::World;
+use std::alloc::{AllocError, Global};
+use std::sync::Arc;
+
+/// An event and its seat, before it has an entry.
+#[derive(Drop)]
+pub struct Deed {
+    pub event: Event,
+    pub seat: u64,
+}
+
+/// The cells, and an entry for each event that wrote them, the oldest first.
+pub struct Core {
+    world: World,
+    entries: Vec<Entry>,
+}
+
+// By hand, so that what drops one elsewhere calls this and is not proved anew for all that it holds.
+impl Drop for Core {
+    fn drop(self) {
+        let Core {
+            world: _,
+            entries: _,
+        } = self;
+    }
+}
+
+/// Exchanges the records of an entry with the cells, and marks it. It takes no memory.
+fn swap_one(world: &mut World, entry: &mut Entry, mark: Mark, swaps: &mut Swaps)
+    requires { all_pass (is_ready world.old) (item_of entry.old).kept ≡ true }
+    ensures item { (item_of entry.new, state_of_world world.new) ≡ swap_item (is_live mark) (item_of entry.old) (state_of_world world.old) }
+    ensures ready { is_ready world.new ≡ is_ready world.old }
+    ensures counted { swaps.new % 2 ^ 64 ≡ (swaps.old + length (item_of entry.old).kept) % 2 ^ 64 }
+{
+    swap_records(world, &mut entry.records, swaps);
+    entry.mark = mark;
+}
+
+impl Core {
+    ghost use Rattle.undo.specs.CoreView.{items_of, state_of, shown, ready_of};
+
+    /// No cells, and no entries.
+    pub fn new(alloc: Global) -> Core
+        ensures entries { items_of result ≡ [] }
+        ensures cells { (k : CellKey) → state_of result k ≡ (None, None) }
+    {
+        Core {
+            world: World::new(alloc),
+            entries: Vec::new(alloc),
+        }
+    }
+
+    /// How many entries there are.
+    pub fn len(&self) -> usize
+        ensures { result ≡ length (items_of self.now) }
+    {
+        self.entries.len()
+    }
+
+    /// Whether there are no entries.
+    pub fn is_empty(&self) -> bool
+        ensures { result ≡ (length (items_of self.now) == 0) }
+    {
+        self.entries.is_empty()
+    }
+
+    /// The entries, the oldest first.
+    pub fn entries(&self) -> &[Entry]
+        ensures { map item_of result.now ≡ items_of self.now }
+    {
+        &self.entries
+    }
+
+    /// The world.
+    pub fn world(&self) -> &World
+        ensures { state_of_world result.now ≡ state_of self.now }
+    {
+        &self.world
+    }
+
+    /// The state of a vat, shared with a ticket. Nothing that is shown changes. Fails only for want of memory.
+    pub fn share_vat(&mut self, alloc: Global, vat: VatNo) -> Result<Arc<VatState>, AllocError>
+        ensures shared { IfOk result (λ s. heap.state_of (arc_value s) ≡ vat_state (contents cells (state_of self.old)) vat) }
+        ensures shown { shown self.new ≡ shown self.old }
+    {
+        self.world.share_vat(alloc, vat)
+    }
+
+    /// Exchanges the records of the entry at a position with the cells, and marks it. It takes no memory.
+    fn swap_entry(&mut self, position: usize, mark: Mark, swaps: &mut Swaps)
+        requires { all_ready (ready_of self.old) (items_of self.old) (position ∷ []) ≡ true }
+        ensures shown { shown self.new ≡ step_at (swap_item (is_live mark)) position (shown self.old) }
+        ensures ready { ready_of self.new ≡ ready_of self.old }
+        ensures keys { (p : ℕ) → keys_at (items_of self.new) p ≡ keys_at (items_of self.old) p }
+        ensures counted { swaps.new % 2 ^ 64 ≡ (swaps.old + records_at (items_of self.old) (position ∷ [])) % 2 ^ 64 }
+    {
+        swap_one(&mut self.world, &mut self.entries[position], mark, swaps);
+    }
+
+    /// Makes room for all cells of which the entries at these positions have records, and makes the states of their vats their own.
+    /// Nothing that is shown changes. Fails only for want of memory.
+    pub fn prepare(&mut self, alloc: Global, positions: &[usize]) -> Result<(), AllocError>
+        requires { All (λ p. p < length (items_of self.old)) positions.now }
+        ensures ok { OnOk result (all_ready (ready_of self.new) (items_of self.new) positions.now ≡ true) }
+        ensures ready { (k : CellKey) → ready_of self.old k ≡ true → ready_of self.new k ≡ true }
+        ensures shown { shown self.new ≡ shown self.old }
+    {
+        for position in positions {
+            make_rooms(alloc, &mut self.world, &self.entries[*position].records)?;
+        }
+        Ok(())
+    }
+
+    /// Undoes the entries at these ascending positions, by exchanging their records from the last to the first. It takes no memory,
+    /// so it cannot fail.
+    pub fn undo(&mut self, positions: &[usize], swaps: &mut Swaps)
+        requires { all_ready (ready_of self.old) (items_of self.old) positions.now ≡ true }
+        ensures shown { shown self.new ≡ walk (swap_item false) (reverse positions.now) (shown self.old) }
+        ensures ready { ready_of self.new ≡ ready_of self.old }
+        ensures keys { (p : ℕ) → keys_at (items_of self.new) p ≡ keys_at (items_of self.old) p }
+        ensures counted { swaps.new % 2 ^ 64 ≡ (swaps.old + records_at (items_of self.old) positions.now) % 2 ^ 64 }
+    {
+        let mut i = positions.len();
+        while i > 0 {
+            i -= 1;
+            self.swap_entry(positions[i], Mark::Undone, swaps);
+        }
+    }
+
+    /// Redoes the entries at these ascending positions, by exchanging their records from the first to the last. It takes no memory,
+    /// so it cannot fail.
+    pub fn redo(&mut self, positions: &[usize], swaps: &mut Swaps)
+        requires { all_ready (ready_of self.old) (items_of self.old) positions.now ≡ true }
+        ensures shown { shown self.new ≡ walk (swap_item true) positions.now (shown self.old) }
+        ensures ready { ready_of self.new ≡ ready_of self.old }
+        ensures keys { (p : ℕ) → keys_at (items_of self.new) p ≡ keys_at (items_of self.old) p }
+        ensures counted { swaps.new % 2 ^ 64 ≡ (swaps.old + records_at (items_of self.old) positions.now) % 2 ^ 64 }
+    {
+        for position in positions {
+            self.swap_entry(*position, Mark::Live, swaps);
+        }
+    }
+
+    /// Adds the entry of an event that touched these cells, and does what it writes: each record has what a cell is to have, and the
+    /// event as its writer, and gets what was there before. Without memory nothing that is shown changes, and nothing is exchanged.
+    pub fn enter(
+        &mut self,
+        alloc: Global,
+        deed: Deed,
+        touched: &[CellKey],
+        records: Vec<CellRecord>,
+        swaps: &mut Swaps,
+    ) -> Result<(), AllocError>
+        ensures ok { OnOk result (shown self.new ≡ entered (event_of deed.event) deed.seat touched.now (kepts_of records.items) (shown self.old)) }
+        ensures counted { OnOk result (swaps.new % 2 ^ 64 ≡ (swaps.old + length records.items) % 2 ^ 64) }
+        ensures err { OnErr result (shown self.new ≡ shown self.old) }
+        ensures none { OnErr result (swaps.new ≡ swaps.old) }
+    {
+        make_rooms(alloc, &mut self.world, &records)?;
+        let touched = with_writers(alloc, &self.world, touched)?;
+        let position = self.entries.len();
+        self.entries.push(Entry {
+            event: deed.event,
+            seat: deed.seat,
+            mark: Mark::Live,
+            touched,
+            records,
+        })?;
+        self.swap_entry(position, Mark::Live, swaps);
+        Ok(())
+    }
+
+    /// Lets the entry at a position and the one behind it change places, if neither wrote a cell that the other touched, and says
+    /// whether they did. It takes no memory.
+    pub fn exchange(&mut self, position: usize) -> bool
+        requires { position + 1 < length (items_of self.old) }
+        ensures done { result ≡ neighbours may_exchange position (items_of self.old) }
+        ensures shown { shown self.new ≡ (if result then exchanged position (items_of self.old) else items_of self.old, state_of self.old) }
+        ensures ready { ready_of self.new ≡ ready_of self.old }
+    {
+        if !may_exchange(&self.entries[position], &self.entries[position + 1]) {
+            return false;
+        }
+        self.entries.swap(position, position + 1);
+        true
+    }
+}
