@@ -80,7 +80,10 @@ fn after_script(rt: &(impl Abort + AllocGlobal), script: &str) -> Arc<VatState> 
         .expect(rt, "no memory");
     let state = written(rt, &empty, 1, draft.finish().expect(rt, "no memory"));
     let opened = run(rt, &state, 2, Delivery::Opening(program(rt, script)));
-    written(rt, &state, 2, opened.footprint)
+    match opened.ended {
+        Ended::Abandoned(_) => state,
+        Ended::Value(_) | Ended::Problem(_) => written(rt, &state, 2, opened.footprint),
+    }
 }
 
 /// How a turn ended: its value, its problem behind `!`, or why it was abandoned.
