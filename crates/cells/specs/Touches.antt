@@ -1,5 +1,5 @@
 -- What was touched of cells.
-use Rattle.std.specs.Prelude.{ℕ, Bool, Option, Some, None}
+use Rattle.std.specs.Prelude.{ℕ, Bool, List, Option, Some, None}
 use Rattle.indexmap.specs.IndexMap.{get, index_map_len}
 use Rattle.cells.specs.declared.touches.Touch.{Touch}
 use Rattle.cells.specs.declared.touches.Touches.{Touches}
@@ -12,6 +12,10 @@ standing found (Some v) = Some v
 -- what is known of the cell of a key, if it was touched
 abbrev pub touch : {K V : Type 0} → (K → K → Bool) → Touches K V → K → Option (Touch V)
 touch eq s k = get eq s.touches k
+
+-- the cells that were touched, with what is known of each, in order of their first touches
+abbrev pub touched_list : {K V : Type 0} → Touches K V → List (K × Touch V)
+touched_list s = s.touches.entries
 
 -- how many cells were touched
 abbrev pub touched_count : {K V : Type 0} → Touches K V → ℕ

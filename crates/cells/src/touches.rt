@@ -1,5 +1,6 @@
 // The cells that a turn touches, with what it found there and what it wrote.
-ghost use Rattle.std.specs.Prelude.{◌≡◌, cond, true, ◌<◌, None, Some, is_some, IfSome, IfNone, IfErr, OnOk, OnErr};
+ghost use Rattle.std.specs.Prelude.{◌≡◌, cond, true, ◌<◌, None, Some, is_some, IfSome, IfNone, IfErr, OnOk, OnErr, slice_get};
+ghost use Rattle.indexmap.specs.IndexMap.{IsUnique};
 ghost use Rattle.std.specs.Option.{option_copied};
 ghost use Rattle.cells.specs.declared.touches.Touch.{Touch};
 
@@ -36,7 +37,7 @@ impl<V> Touch<V> {
 }
 
 impl<K: Key + Drop, V: Drop> Touches<K, V> {
-    ghost use Rattle.cells.specs.Touches.{touch, touched_count};
+    ghost use Rattle.cells.specs.Touches.{touch, touched_count, touched_list};
 
     /// Nothing was touched.
     pub fn new(alloc: Global) -> Touches<K, V>
@@ -92,9 +93,21 @@ impl<K: Key + Drop, V: Drop> Touches<K, V> {
 
     /// How many cells were touched.
     pub fn len(&self) -> usize
-        ensures { result ≡ touched_count self.now }
+        ensures count { result ≡ touched_count self.now }
+        ensures unique { IsUnique K.eq self.now.touches }
     {
         self.touches.len()
+    }
+
+    /// The key of the cell at a place, and what is known of it.
+    pub fn at(&self, place: usize) -> (&K, &Touch<V>)
+        requires { place < touched_count self.now }
+        ensures { slice_get (touched_list self.now) place ≡ Some (result.0.now, result.1.now) }
+    {
+        match self.touches.get_index(place) {
+            Some(found) => found,
+            None => unreachable!(),
+        }
     }
 
     /// Takes one of the cells out, the last one.

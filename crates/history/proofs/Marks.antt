@@ -1,7 +1,7 @@
 -- What does not read marks: the records, soundness, order and names.
 use Rattle.std.proofs.Common.{◌≡◌, ℕ, Bool, List, [], ◌∷◌, cond, ◌∙◌, refl, sym, ap, subst}
 use Rattle.history.specs.Subject.{Subject, World, after}
-use Rattle.history.specs.Journal.{Entry, caused, live_set, mark, marked, over, Sound, Recorded, Ordered, Good, Distinct, Below, Earlier, Named}
+use Rattle.history.specs.Journal.{Entry, caused, live_set, mark, marked, over, Sound, Recorded, Ordered, Good, Distinct, Below, NoneNamesItself, Free, Named}
 use Rattle.history.proofs.Lists.{all_mapped}
 
 module _ (s : Subject) (t : Entry s → Bool) where
@@ -29,11 +29,14 @@ module _ (s : Subject) (t : Entry s → Bool) where
   pub below_marked : (next : ℕ) (es : List (Entry s)) → Below s next es → Below s next (marked s t es)
   below_marked next es h = all_mapped (mark s t) _ es h
 
-  pub earlier_marked : (es : List (Entry s)) → Earlier s es → Earlier s (marked s t es)
-  earlier_marked es h = all_mapped (mark s t) _ es h
+  pub own_marked : (es : List (Entry s)) → NoneNamesItself s es → NoneNamesItself s (marked s t es)
+  own_marked es h = all_mapped (mark s t) _ es h
+
+  pub free_marked : (n : ℕ) (es : List (Entry s)) → Free s n es → Free s n (marked s t es)
+  free_marked n es h = all_mapped (mark s t) _ es h
 
   pub named_marked : {next : ℕ} {es : List (Entry s)} → Named s next es → Named s next (marked s t es)
-  named_marked {next = next} {es = es} h = record { distinct = distinct_marked es h.distinct; below = below_marked next es h.below; earlier = earlier_marked es h.earlier }
+  named_marked {next = next} {es = es} h = record { distinct = distinct_marked es h.distinct; below = below_marked next es h.below; own = own_marked es h.own }
 
   -- a set that is good is good as the live set, once its entries are marked
   pub good_marked : {start w : World s} {es : List (Entry s)} → Good s start t es w → Good s start (live_set s) (marked s t es) w

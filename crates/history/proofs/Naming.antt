@@ -4,7 +4,7 @@ use Rattle.std.specs.List.{AllByRecursion}
 use Rattle.std.proofs.lemmas.Bool.{or_left}
 use Rattle.std.proofs.lemmas.List.Sorted.{list_any-IsPermutation, IsPermutation-reverse}
 use Rattle.history.specs.Subject.{Subject, Laws, World, Foot, after, meets}
-use Rattle.history.specs.Journal.{Entry, name_of, is_in, named, caused, live_set, Good, Distinct, Below, Earlier, Named, causes_of, NamesCauses, new_entry}
+use Rattle.history.specs.Journal.{Entry, name_of, is_in, named, caused, live_set, Good, Distinct, Below, Free, Named, causes_of, NamesCauses, new_entry}
 use Rattle.history.proofs.Lists.{all_map, all_both, all_reversed}
 use Rattle.history.proofs.Changes.{appended_good}
 
@@ -60,29 +60,32 @@ module _ (s : Subject) where
   pub causes_below_reversed : {next : ℕ} {es : List (Entry s)} (f : Foot s) → Named s next es → AllByRecursion (λ n. n < next) (reverse (causes_of s f es))
   causes_below_reversed {es = es} f h = all_reversed _ (causes_of s f es) (causes_below f h)
 
-  -- no older entry has a new one as a cause
-  fresh : (next : ℕ) (e : Entry s) (es : List (Entry s)) → Below s next es → next ≤ name_of s e → AllByRecursion (λ a. caused s a e ≡ false) es
-  fresh next e es h le = all_map _ _ es (λ a b. above (name_of s e) a.causes (all_map _ _ a.causes (λ n lt. omega (arith, lt, le)) b.1)) h
+  -- names from the next one on are free
+  pub free_from : (n next : ℕ) (es : List (Entry s)) → Below s next es → next ≤ n → Free s n es
+  free_from n next es h le = all_map _ _ es (λ a b. (λ is. omega (arith, b.0, le, is), above n a.causes (all_map _ _ a.causes (λ m lt. omega (arith, lt, le)) b.1))) h
 
-  -- no entry is a cause of its own
-  pub own : (es : List (Entry s)) → Earlier s es → AllByRecursion (λ a. caused s a a ≡ false) es
-  own es h = all_map _ _ es (λ a q. above (name_of s a) a.causes q) h
+  -- what is free is no computed cause
+  pub free_causes : (n : ℕ) (f : Foot s) (es : List (Entry s)) → Free s n es → is_in (causes_of s f es) n ≡ false
+  free_causes n f es h = none_named (λ a. a.live && meets s a.foot f) n es (all_map _ _ es (λ a q. q.0) h)
+
+  pub free_causes_reversed : (n : ℕ) (f : Foot s) (es : List (Entry s)) → Free s n es → is_in (reverse (causes_of s f es)) n ≡ false
+  free_causes_reversed n f es h = named_reversed (causes_of s f es) n ∙ free_causes n f es h
 
   -- names stay apart at an append
-  pub appended_named : {next : ℕ} {es : List (Entry s)} (e : s.Event) (f : Foot s) (ns : List ℕ) (ls : List (s.Key × Option ℕ)) → Named s next es → next ≤ s.name e
-      → AllByRecursion (λ n. n < next) ns → Named s (s.name e + 1) (new_entry s e f ns ls ∷ es)
-  appended_named {es = es} e f ns ls h le below = record {
-    distinct = (all_map _ _ es (λ a b is. omega (arith, b.0, le, is)) h.below, h.distinct);
+  pub appended_named : {next later : ℕ} {es : List (Entry s)} (e : s.Event) (f : Foot s) (ns : List ℕ) (ls : List (s.Key × Option ℕ)) → Named s next es → Free s (s.name e) es → next ≤ later
+      → s.name e < later → AllByRecursion (λ n. n < later) ns → is_in ns (s.name e) ≡ false → Named s later (new_entry s e f ns ls ∷ es)
+  appended_named {es = es} e f ns ls h free le lt below other = record {
+    distinct = (all_map _ _ es (λ a q. q.0) free, h.distinct);
     below = (
-      (omega arith, all_map _ _ ns (λ n lt. omega (arith, lt, le)) below),
-      all_map _ _ es (λ a b. (omega (arith, b.0, le), all_map _ _ a.causes (λ n lt. omega (arith, lt, le)) b.1)) h.below,
+      (lt, below),
+      all_map _ _ es (λ a b. (omega (arith, b.0, le), all_map _ _ a.causes (λ n m. omega (arith, m, le)) b.1)) h.below,
     );
-    earlier = (all_map _ _ ns (λ n lt. omega (arith, lt, le)) below, h.earlier);
+    own = (other, h.own);
   }
 
 module _ (s : Subject) (l : Laws s) where
   -- an event that is possible is appended with its footprint and the names of its causes
-  pub appended : {start w : World s} {next : ℕ} {es : List (Entry s)} (e : s.Event) (f : Foot s) (ns : List ℕ) (ls : List (s.Key × Option ℕ)) → Good s start (live_set s) es w → Named s next es
-      → s.Does e w f → next ≤ s.name e → NamesCauses s ns f es →
+  pub appended : {start w : World s} {es : List (Entry s)} (e : s.Event) (f : Foot s) (ns : List ℕ) (ls : List (s.Key × Option ℕ)) → Good s start (live_set s) es w
+      → s.Does e w f → Free s (s.name e) es → NamesCauses s ns f es →
       Good s start (live_set s) (new_entry s e f ns ls ∷ es) (after s f w)
-  appended {next = next} {es = es} e f ns ls g h d le causes = appended_good s l e f ns ls g d causes (fresh s next (new_entry s e f ns ls) es h.below le)
+  appended {es = es} e f ns ls g d free causes = appended_good s l e f ns ls g d causes (all_map _ _ es (λ a q. q.1) free)

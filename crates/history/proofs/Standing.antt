@@ -3,14 +3,14 @@ use Rattle.std.proofs.Common.{◌≡◌, ℕ, ◌+◌, ◌<◌, ◌≤◌, ◌==
 use Rattle.std.specs.List.{list_any, AllByRecursion}
 use Rattle.std.proofs.lemmas.List.{map-append}
 use Rattle.history.specs.Subject.{Subject, Laws, World, Foot, found, new, meets, Run}
-use Rattle.history.specs.Journal.{Entry, name_of, live_set, without, both, Part, mark, marked, named, caused, over, Sound, Good, Distinct, Named, NamesCauses, new_entry, Closed}
+use Rattle.history.specs.Journal.{Entry, name_of, live_set, without, both, Part, mark, marked, named, caused, over, Sound, Good, Distinct, Named, Free, is_in, NamesCauses, new_entry, Closed}
 use Rattle.history.specs.Records.{Seen, State, Record, Row, contents, untouched, entries_of, swap_state, swap_record, swap_row, Fits, Writes, left_by, Kept, Follows, undo_rows, undo_state, redo_rows, redo_state}
 use Rattle.history.specs.Chains.{last_writer, last_of, chain, HasCells, Chained}
 use Rattle.history.specs.Stands.{Stands}
 use Rattle.history.proofs.Lists.{all_map, all_both, all_of, all_mapped, put_back, take_back}
 use Rattle.history.proofs.Marks.{good_marked, named_marked, sound_marked}
 use Rattle.history.proofs.Changes.{sound_same, sound_without, closed_of_sound, good_run}
-use Rattle.history.proofs.Naming.{appended, appended_named, own}
+use Rattle.history.proofs.Naming.{appended, appended_named}
 use Rattle.history.proofs.Exchanges.{seen_swap, twice_state, twice_record}
 use Rattle.history.proofs.Rows.{undo_kept, redo_kept, Fit, leaves_of, entries_undo_kept, entries_redo_kept, contents_left, follows_same, undone_follows, redone_follows, appended_follows}
 use Rattle.history.proofs.Swaps.{good_swap, named_swap, follows_swap}
@@ -66,7 +66,7 @@ module _ (s : Subject) where
   pub begun : (start : World s) (next : ℕ) → Stands s start next [] (untouched s start)
   begun start next = record {
     good = record { recorded = tt; sound = tt; ordered = tt; world = refl };
-    named = record { distinct = tt; below = tt; earlier = tt };
+    named = record { distinct = tt; below = tt; own = tt };
     follows = record { seen = λ k. refl; records = tt; fit = tt };
     chained = tt;
   }
@@ -78,15 +78,16 @@ module _ (s : Subject) where
   last_shown {start = start} {rows = rows} h k = ap (λ (x : Seen s). x.1) (h.follows.seen k) ∙ left_last s start k (live_set s) (entries_of rows)
 
 -- an event is appended
-module _ (s : Subject) (l : Laws s) {start : World s} {next : ℕ} {rows : List (Row s)} {state : State s} (e : s.Event) (f : Foot s) (ns : List ℕ) (ls : List (s.Key × Option ℕ)) (p : Record s) where
-  pub appended_stands : Stands s start next rows state → s.Does e (contents s state) f → next ≤ s.name e → NamesCauses s ns f (entries_of rows) → AllByRecursion (λ n. n < next) ns
+module _ (s : Subject) (l : Laws s) {start : World s} {next later : ℕ} {rows : List (Row s)} {state : State s} (e : s.Event) (f : Foot s) (ns : List ℕ) (ls : List (s.Key × Option ℕ)) (p : Record s) where
+  pub appended_stands : Stands s start next rows state → s.Does e (contents s state) f → Free s (s.name e) (entries_of rows) → next ≤ later → s.name e < later → NamesCauses s ns f (entries_of rows)
+      → AllByRecursion (λ n. n < later) ns → is_in ns (s.name e) ≡ false
       → HasCells s f ls → AllByRecursion (λ q. q.1 ≡ (state q.0).1) ls → Writes s (s.name e) f p
-      → Stands s start (s.name e + 1) ((new_entry s e f ns ls, swap_record s p state) ∷ rows) (swap_state s p state)
-  appended_stands h d le causes below cells lasts writes =
+      → Stands s start later ((new_entry s e f ns ls, swap_record s p state) ∷ rows) (swap_state s p state)
+  appended_stands h d free le lt causes below other cells lasts writes =
       let g : Follows s start (live_set s) ((new_entry s e f ns ls, swap_record s p state) ∷ rows) (swap_state s p state) = appended_follows s l (live_set s) (new_entry s e f ns ls) p rows state h.follows writes refl in
       record {
-        good = good_contents s {rows = (new_entry s e f ns ls, swap_record s p state) ∷ rows} (appended s l e f ns ls h.good h.named d le causes) g;
-        named = appended_named s e f ns ls h.named le below;
+        good = good_contents s {rows = (new_entry s e f ns ls, swap_record s p state) ∷ rows} (appended s l e f ns ls h.good d free causes) g;
+        named = appended_named s e f ns ls h.named free le lt below other;
         follows = g;
         chained = (
           traced_new s l (live_set s) (new_entry s e f ns ls) (entries_of rows) h.good.sound causes cells (all_map _ _ ls (λ q is. is ∙ last_shown s h q.0) lasts),
@@ -235,7 +236,7 @@ module _ (s : Subject) (l : Laws s) where
 
   pub chains_stand : {start : World s} {next : ℕ} {rows : List (Row s)} {state : State s} → Stands s start next rows state →
       AllByRecursion (λ e. AllByRecursion (λ a. caused s e a ≡ list_any (λ p. named s (chain s p.0 p.1 (entries_of rows)) a) e.lasts) (entries_of rows)) (entries_of rows)
-  chains_stand {rows = rows} h = causes_on_chains s l (entries_of rows) h.named.distinct h.good.ordered (own s (entries_of rows) h.named.earlier) h.chained
+  chains_stand {rows = rows} h = causes_on_chains s l (entries_of rows) h.named.distinct h.good.ordered h.named.own h.chained
 
   pub chain_stands : {start : World s} {next : ℕ} {rows : List (Row s)} {state : State s} → Stands s start next rows state → (k : s.Key) (xs ys : List (Entry s)) (a : Entry s) → entries_of rows ≡ xs ++ a ∷ ys →
       (chain s k (Some (name_of s a)) (entries_of rows) ≡ name_of s a ∷ chain s k (last_of s a k) (entries_of rows)) ×

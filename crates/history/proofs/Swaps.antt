@@ -61,7 +61,7 @@ module _ (s : Subject) (a b : Entry s) (ys : List (Entry s)) where
   distinct_swap (x ∷ xs) (p, d) = (all_swap _ xs a b ys p, distinct_swap xs d)
 
   pub named_swap : {next : ℕ} (xs : List (Entry s)) → Named s next (xs ++ a ∷ b ∷ ys) → Named s next (xs ++ b ∷ a ∷ ys)
-  named_swap xs h = record { distinct = distinct_swap xs h.distinct; below = all_swap _ xs a b ys h.below; earlier = all_swap _ xs a b ys h.earlier }
+  named_swap xs h = record { distinct = distinct_swap xs h.distinct; below = all_swap _ xs a b ys h.below; own = all_swap _ xs a b ys h.own }
 
 -- with their records
 module _ (s : Subject) (l : Laws s) (start : World s) (t : Entry s → Bool) (a b : Row s) (ys : List (Row s)) (apart : meets s a.0.foot b.0.foot ≡ false) where

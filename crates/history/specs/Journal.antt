@@ -95,15 +95,19 @@ Distinct s (e ∷ es) = AllByRecursion (λ a. name_of s a ≢ name_of s e) es ×
 abbrev pub Below : (s : Subject) → ℕ → List (Entry s) → Type 0
 Below s next es = AllByRecursion (λ a. (name_of s a < next) × AllByRecursion (λ n. n < next) a.causes) es
 
--- the causes of each entry have smaller names than it
-abbrev pub Earlier : (s : Subject) → List (Entry s) → Type 0
-Earlier s es = AllByRecursion (λ a. AllByRecursion (λ n. n < name_of s a) a.causes) es
+-- no entry names itself as a cause
+abbrev pub NoneNamesItself : (s : Subject) → List (Entry s) → Type 0
+NoneNamesItself s es = AllByRecursion (λ a. caused s a a ≡ false) es
 
--- names are distinct and greater than those of the causes, and those from this number on are free
+-- names are distinct, those from this number on are not used, and no entry names itself as a cause
 pub record Named (s : Subject) (next : ℕ) (es : List (Entry s)) : Type 0 where
   pub distinct : Distinct s es
   pub below : Below s next es
-  pub earlier : Earlier s es
+  pub own : NoneNamesItself s es
+
+-- a name is free: no entry has it, and none names it as a cause
+abbrev pub Free : (s : Subject) → ℕ → List (Entry s) → Type 0
+Free s n es = AllByRecursion (λ a. (name_of s a ≢ n) × (is_in a.causes n ≡ false)) es
 
 -- the live entries that wrote a cell that this footprint touches: the names of its causes, the newest first
 abbrev pub causes_of : (s : Subject) → Foot s → List (Entry s) → List ℕ

@@ -2,7 +2,7 @@
 use Rattle.std.specs.Prelude.{◌≡◌, ℕ, ◌+◌, ◌<◌, ◌≤◌, ◌==◌, Bool, true, false, List, [], ◌∷◌, ◌++◌, Option, Some, None, map, filter, reverse}
 use Rattle.std.specs.List.{list_any, AllByRecursion}
 use Rattle.history.specs.Subject.{Subject, World, Foot, new, after, meets, Run}
-use Rattle.history.specs.Journal.{Entry, name_of, named, caused, live_set, without, both, Part, mark, marked, over, Runs, Sound, Ordered, Good, Named, causes_of, NamesCauses, new_entry, Closed, HasNoneOutside}
+use Rattle.history.specs.Journal.{Entry, name_of, named, caused, live_set, without, both, Part, mark, marked, over, Runs, Sound, Ordered, Good, Named, Free, is_in, causes_of, NamesCauses, new_entry, Closed, HasNoneOutside}
 use Rattle.history.specs.Records.{State, contents, untouched, Record, Row, entries_of, swap_state, swap_record, Apart, Writes, record_of, undo_rows, undo_state, redo_rows, redo_state}
 use Rattle.history.specs.Chains.{last_writer, last_of, chain, HasCells}
 use Rattle.history.specs.Stands.{Stands}
@@ -30,13 +30,13 @@ StandingRun s = (start : World s) (next : ℕ) (rows : List (Row s)) (state : St
 abbrev pub Begun : Subject → Type 0
 Begun s = (start : World s) (next : ℕ) → Stands s start next [] (untouched s start)
 
--- an event that is possible is appended, with its footprint, its causes and the last writers of the cells that it touches: a record of what it writes is exchanged with the state
+-- an event that is possible, and whose name is free, is appended, with its footprint, its causes and the last writers of the cells that it touches: a record of what it writes is exchanged with the state
 abbrev pub Appended : Subject → Type 0
-Appended s = (start : World s) (next : ℕ) (rows : List (Row s)) (state : State s) (e : s.Event) (f : Foot s) (ns : List ℕ) (ls : List (s.Key × Option ℕ)) (p : Record s) →
-    Stands s start next rows state → s.Does e (contents s state) f → next ≤ s.name e →
-    NamesCauses s ns f (entries_of rows) → AllByRecursion (λ n. n < next) ns →
+Appended s = (start : World s) (next later : ℕ) (rows : List (Row s)) (state : State s) (e : s.Event) (f : Foot s) (ns : List ℕ) (ls : List (s.Key × Option ℕ)) (p : Record s) →
+    Stands s start next rows state → s.Does e (contents s state) f → Free s (s.name e) (entries_of rows) → next ≤ later → s.name e < later →
+    NamesCauses s ns f (entries_of rows) → AllByRecursion (λ n. n < later) ns → is_in ns (s.name e) ≡ false →
     HasCells s f ls → AllByRecursion (λ l. l.1 ≡ (state l.0).1) ls → Writes s (s.name e) f p →
-    Stands s start (s.name e + 1) ((new_entry s e f ns ls, swap_record s p state) ∷ rows) (swap_state s p state) ×
+    Stands s start later ((new_entry s e f ns ls, swap_record s p state) ∷ rows) (swap_state s p state) ×
     (contents s (swap_state s p state) ≡ after s f (contents s state))
 
 -- the causes that are computed are the causes, also the oldest first
@@ -44,6 +44,16 @@ abbrev pub CausesAreNamed : Subject → Type 0
 CausesAreNamed s = (next : ℕ) (es : List (Entry s)) (f : Foot s) → Named s next es →
     NamesCauses s (causes_of s f es) f es × AllByRecursion (λ n. n < next) (causes_of s f es) ×
     NamesCauses s (reverse (causes_of s f es)) f es × AllByRecursion (λ n. n < next) (reverse (causes_of s f es))
+
+-- a name that no entry has and none names stays free among the same entries, however they are marked, and when neighbours change places;
+-- names from the next one on are free, and no computed cause is
+abbrev pub NamesAreFree : Subject → Type 0
+NamesAreFree s = (n : ℕ) (es : List (Entry s)) →
+    ((next : ℕ) → Named s next es → next ≤ n → Free s n es) ×
+    (Free s n es →
+    ((t : Entry s → Bool) → Free s n (marked s t es)) ×
+    ((f : Foot s) → (is_in (causes_of s f es) n ≡ false) × (is_in (reverse (causes_of s f es)) n ≡ false)) ×
+    ((xs ys : List (Entry s)) (a b : Entry s) → es ≡ xs ++ a ∷ b ∷ ys → Free s n (xs ++ b ∷ a ∷ ys)))
 
 -- the writes of a footprint are a record of what it writes, if no cell stands there twice
 abbrev pub WritesAreRecorded : Subject → Type 0

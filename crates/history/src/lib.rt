@@ -3,7 +3,7 @@
 
 ghost use Rattle.history.specs.Subject.{Subject, Laws};
 ghost use Rattle.history.specs.Theorems.{RunsAreOne, GoodRuns, GoodRun, StandingRun};
-ghost use Rattle.history.specs.Theorems.{Begun, Appended, CausesAreNamed, WritesAreRecorded};
+ghost use Rattle.history.specs.Theorems.{Begun, Appended, CausesAreNamed, NamesAreFree, WritesAreRecorded};
 ghost use Rattle.history.specs.Theorems.{Undone, EntriesAreMarked, UndoneElsewhere, ClosedOfSound, Redone, RedoneNext, ExchangedTwice, Exchanged};
 ghost use Rattle.history.specs.Theorems.{LastWriter, CausesAreChains, ChainEnds, ChainIsFollowed, WalkUndo, WalkRedo};
 ghost use Rattle.history.specs.Theorems.{ConeIsClosed, ConeHasRoot, ConeIsLeast, ConeIsPart, ClosedIsNoneOutside};
@@ -24,12 +24,13 @@ pub fn events_run<S: Undoable>()
     ensures standing { StandingRun S.subject }
 {}
 
-/// The empty journal stands. It stands after an event that is possible is appended with its footprint, its causes and the last
-/// writers of the cells that it touches, and a record of what it writes is exchanged with the state.
+/// The empty journal stands. It stands after an event that is possible and whose name is free is appended with its footprint, its
+/// causes and the last writers of the cells that it touches, and a record of what it writes is exchanged with the state.
 pub fn events_are_appended<S: Undoable>()
     ensures begun { Begun S.subject }
     ensures appended { Appended S.subject }
     ensures causes_are_named { CausesAreNamed S.subject }
+    ensures names_are_free { NamesAreFree S.subject }
     ensures writes_are_recorded { WritesAreRecorded S.subject }
 {}
 

@@ -5,15 +5,13 @@ use Rattle.std.specs.Ordering.{nat_cmp, ordering_then, is_eq}
 use Rattle.std.specs.Cmp.Lexicographic.{slice_cmp}
 use Rattle.std.specs.declared.cmp.Ordering.{Ordering}
 use Rattle.std.specs.declared.cmp.Ordering.TheVariants.{Less, Equal, Greater}
-use Rattle.std.proofs.lemmas.Map.Lookups.{CmpEqualImpliesEq, exact_pairs, exact_unsigned, exact_bytes}
+use Rattle.std.proofs.lemmas.Map.Lookups.{CmpEqualImpliesEq, exact_pairs, exact_unsigned}
 use Rattle.ids.specs.declared.names.ObjId.{ObjId}
 use Rattle.ids.specs.declared.names.EjId.{EjId}
 use Rattle.ids.specs.declared.names.SlotId.{SlotId}
 use Rattle.ids.specs.declared.names.MsgId.{MsgId}
 use Rattle.ids.specs.declared.names.PromId.{PromId}
-use Rattle.ids.specs.declared.names.CellKey.{CellKey}
-use Rattle.ids.specs.declared.names.CellKey.TheVariants as key
-use Rattle.ids.specs.Cells.{vat_cmp, message_cmp, promise_cmp, slot_cmp, object_cmp, ejector_cmp, same_key}
+use Rattle.ids.specs.Cells.{vat_cmp, message_cmp, promise_cmp, slot_cmp, object_cmp, ejector_cmp}
 
 pub equal : (o : Ordering) → is_eq o ≡ true → o ≡ Equal
 equal Less h = cc
@@ -54,25 +52,6 @@ exact_ejectors j k h =
     ap (λ (x : ℕ × (ℕ × ℕ)). record { event = record { 0 = x.0 }; index = x.1.0; vat = record { 0 = record { 0 = x.1.1 } } })
     (exact_pairs nat_cmp pair_cmp exact_unsigned (exact_pairs nat_cmp nat_cmp exact_unsigned exact_unsigned) (j.event.0, (j.index, j.vat.0.0)) (k.event.0, (k.index, k.vat.0.0)) h)
 
--- keys that are the same are equal
-pub same_key_exact : (k d : CellKey) → same_key k d ≡ true → k ≡ d
-same_key_exact (key.Name x) (key.Name y) h = ap key.Name (exact_bytes x y (equal (slice_cmp nat_cmp x y) h))
-same_key_exact (key.State v) (key.State w) h = ap key.State (exact_vats v w (equal (vat_cmp v w) h))
-same_key_exact (key.Msg m) (key.Msg n) h = ap key.Msg (exact_messages m n (equal (message_cmp m n) h))
-same_key_exact (key.Board p) (key.Board q) h = ap key.Board (exact_promises p q (equal (promise_cmp p q) h))
-same_key_exact (key.Name x) (key.State w) h = cc
-same_key_exact (key.Name x) (key.Msg n) h = cc
-same_key_exact (key.Name x) (key.Board q) h = cc
-same_key_exact (key.State v) (key.Name y) h = cc
-same_key_exact (key.State v) (key.Msg n) h = cc
-same_key_exact (key.State v) (key.Board q) h = cc
-same_key_exact (key.Msg m) (key.Name y) h = cc
-same_key_exact (key.Msg m) (key.State w) h = cc
-same_key_exact (key.Msg m) (key.Board q) h = cc
-same_key_exact (key.Board p) (key.Name y) h = cc
-same_key_exact (key.Board p) (key.State w) h = cc
-same_key_exact (key.Board p) (key.Msg n) h = cc
-
 pub equal_self : (n : ℕ) → nat_cmp n n ≡ Equal
 equal_self n = sym (nat_cmp_is n n Equal refl)
 
@@ -89,13 +68,6 @@ message_self m = ap is_eq (ap (λ o. ordering_then o (nat_cmp m.index m.index)) 
 
 pub promise_self : (p : PromId) → is_eq (promise_cmp p p) ≡ true
 promise_self p = ap is_eq (ap (λ o. ordering_then o (ordering_then (nat_cmp p.index p.index) (vat_cmp p.home p.home))) (equal_self p.event.0) ∙ ap (λ o. ordering_then o (vat_cmp p.home p.home)) (equal_self p.index) ∙ equal_self p.home.0.0)
-
--- a key is the same as itself
-pub same_key_self : (k : CellKey) → same_key k k ≡ true
-same_key_self (key.Name x) = ap is_eq (bytes_self x)
-same_key_self (key.State v) = ap is_eq (equal_self v.0.0)
-same_key_self (key.Msg m) = message_self m
-same_key_self (key.Board p) = promise_self p
 
 -- an object has the name of itself
 pub object_self : (o : ObjId) → is_eq (object_cmp o o) ≡ true

@@ -1,7 +1,5 @@
--- When two keys of cells are the same, and the orders of names.
-use Rattle.std.specs.Prelude.{Bool, false}
-use Rattle.std.specs.Ordering.{nat_cmp, ordering_then, is_eq}
-use Rattle.std.specs.Cmp.Lexicographic.{slice_cmp}
+-- The orders of names.
+use Rattle.std.specs.Ordering.{nat_cmp, ordering_then}
 use Rattle.std.specs.declared.cmp.Ordering.{Ordering}
 use Rattle.ids.specs.declared.names.VatNo.{VatNo}
 use Rattle.ids.specs.declared.names.MsgId.{MsgId}
@@ -9,8 +7,6 @@ use Rattle.ids.specs.declared.names.PromId.{PromId}
 use Rattle.ids.specs.declared.names.SlotId.{SlotId}
 use Rattle.ids.specs.declared.names.ObjId.{ObjId}
 use Rattle.ids.specs.declared.names.EjId.{EjId}
-use Rattle.ids.specs.declared.names.CellKey.{CellKey}
-use Rattle.ids.specs.declared.names.CellKey.TheVariants as key
 
 -- by event
 abbrev pub vat_cmp : VatNo → VatNo → Ordering
@@ -35,10 +31,3 @@ object_cmp o p = ordering_then (nat_cmp o.event.0 p.event.0) (ordering_then (nat
 -- by event, then by number, then by vat
 abbrev pub ejector_cmp : EjId → EjId → Ordering
 ejector_cmp j k = ordering_then (nat_cmp j.event.0 k.event.0) (ordering_then (nat_cmp j.index k.index) (vat_cmp j.vat k.vat))
-
-abbrev pub same_key : CellKey → CellKey → Bool
-same_key (key.Name x) (key.Name y) = is_eq (slice_cmp nat_cmp x y)
-same_key (key.State v) (key.State w) = is_eq (vat_cmp v w)
-same_key (key.Msg m) (key.Msg n) = is_eq (message_cmp m n)
-same_key (key.Board p) (key.Board q) = is_eq (promise_cmp p q)
-same_key _ _ = false

@@ -53,18 +53,6 @@ pub struct EjId {
     pub vat: VatNo,
 }
 
-/// A cell of the world.
-#[derive(PartialEq, Eq, PartialOrd, Ord, Hash, Drop)]
-pub enum CellKey {
-    /// What is known of a vat by its name.
-    Name(Text),
-    /// A vat's state.
-    State(VatNo),
-    Msg(MsgId),
-    /// What a promise was published as.
-    Board(PromId),
-}
-
 impl fmt::Display for EventName {
     ghost output = { λ e. Some (event_text e) };
 

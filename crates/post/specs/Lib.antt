@@ -8,5 +8,6 @@ pub mod Records
 pub mod View
 pub mod Exchanged
 pub mod Listed
+pub mod Theory
 pub mod Events
 pub mod EventView

@@ -1,10 +1,10 @@
 // Messages to vats.
-ghost use Rattle.std.specs.Prelude.{◌≡◌, IfOk};
+ghost use Rattle.std.specs.Prelude.{◌≡◌, ◌↔◌, IfOk, IsTrue};
 ghost use Rattle.post.specs.World as model;
 ghost use Rattle.post.specs.DeliveryView.{delivery_of};
 ghost use Rattle.post.specs.Messages.{message_of, place_of};
 
-use crate::delivery::Delivery;
+use crate::delivery::{Delivery, same_delivery};
 use ids::names::{EventName, MsgId, PromId, VatNo};
 use std::alloc::{AllocError, Global};
 use std::sync::Arc;
@@ -77,4 +77,13 @@ impl Clone for Message {
     fn clone(&self) -> Result<Message, AllocError> {
         self.share()
     }
+}
+
+/// Whether two messages are the same, their places aside.
+pub fn same_sent(a: &Message, b: &Message) -> bool
+    ensures { IsTrue result ↔ (record (message_of a.now) { place = (message_of b.now).place } ≡ message_of b.now) }
+{
+    same_delivery(&a.sent.delivery, &b.sent.delivery)
+        && a.sent.result == b.sent.result
+        && a.sent.after == b.sent.after
 }
