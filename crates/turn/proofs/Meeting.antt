@@ -1,30 +1,32 @@
 -- From where a turn's program ended to what it comes to on every state that agrees with what the turn found.
-use Rattle.std.proofs.Common.{◌≡◌, ℕ, Bool, true, false, cond, Option, Some, None, is_some, refl, sym, ap, subst, ◌∙◌, IfOk}
+use Rattle.std.proofs.Common.{◌≡◌, ℕ, Bool, true, false, cond, List, Option, Some, None, is_some, refl, sym, ap, subst, ◌∙◌}
 use Rattle.cells.specs.Touches.{standing}
-use Rattle.cells.specs.declared.touches.Touch.{Touch}
 use Rattle.ids.specs.declared.names.EventName.{EventName}
 use Rattle.ids.specs.declared.names.VatNo.{VatNo}
 use Rattle.values.specs.Data.{Val, null}
-use Rattle.values.specs.View.{val_of}
 use Rattle.heap.specs.State.{Cell, Content, State, Cells}
 use Rattle.heap.specs.Found.{Found, touch_in, touched_in, writes_in, left_by}
 use Rattle.heap.specs.declared.reach.Footprint.{Footprint}
 use Rattle.erules.specs.At.{At}
-use Rattle.erules.specs.Laws.{AgreeOn, with_cells, IsWithin}
+use Rattle.erules.specs.Laws.{AgreeOn, with_cells}
 use Rattle.erules.specs.Outcomes.{End, value, halt, thrown, ejected, abandoned}
 use Rattle.kernele.specs.Tree.{Trees}
-use Rattle.kernele.specs.View.{program_of}
-use Rattle.kernele.specs.declared.tree.Program.{Program}
+use Rattle.code.specs.View.{trees_of_codes}
+use Rattle.code.specs.declared.code.Code.{Code}
 use Rattle.erules.specs.Rules.{Items}
 use Rattle.erules.proofs.Reached.{items_later}
-use Rattle.turn.specs.declared.delivery.Delivery as code
-use Rattle.turn.specs.declared.delivery.Delivery.TheVariants as delivery
-use Rattle.turn.specs.Turn.{Delivery, Outcome, Delivers, opens, asks, outcome, kept, settled, start}
-use Rattle.turn.specs.Touched.{delivery_touched, delivery_written}
-use Rattle.turn.specs.View.{delivery_of, ended_of, outcome_on, written_by, Meets}
+use Rattle.post.specs.declared.delivery.Delivery as code
+use Rattle.post.specs.declared.delivery.Delivery.TheVariants as delivery
+use Rattle.post.specs.declared.program.Script.{Script}
+use Rattle.post.specs.declared.program.Question.{Question}
+use Rattle.post.specs.DeliveryView.{delivery_of}
+use Rattle.post.specs.Delivery.{Delivery, opening, asked}
+use Rattle.event.specs.Turn.{Outcome, Delivers, opens, asks, outcome, kept, settled, start}
+use Rattle.event.specs.Touched.{delivery_touched, delivery_written}
+use Rattle.event.specs.Outcomes.{ended_of, outcome_on, written_by, Meets}
 use Rattle.turn.specs.Runs.{RunsTo}
-use Rattle.turn.specs.declared.delivery.Outcome as code-outcome
-use Rattle.turn.proofs.Laws.{delivery_framed, delivery_within}
+use Rattle.event.specs.declared.outcome.Outcome as code-outcome
+use Rattle.event.proofs.Turns.{delivery_framed, delivery_within}
 
 some_of : {X : Type 0} (o : Option X) → is_some o ≡ true → (x : X) × (o ≡ Some x)
 some_of None h = cc
@@ -79,8 +81,13 @@ Completes ts own e v s n x = (o : End) × (b : At) × Items 1 null ts (start own
 pub completes_found : {ts : Trees} {own : Bool} {e : EventName} {v : VatNo} {s : State} {n : ℕ} (x : code-outcome.Outcome) → Completes ts own e v s n x → Found x.footprint s
 completes_found x h = subst (Found x.footprint) (items_later h.2).began h.3.found
 
-pub opening_meets : {p : Program} {e : EventName} {v : VatNo} {s : State} {n : ℕ} (d : code.Delivery) (x : code-outcome.Outcome) → d ≡ delivery.Opening p → Completes (program_of p) true e v s n x → Meets (delivery_of d) e v n x
-opening_meets {e = e} {v = v} {n = n} d x is h = subst (λ d. Meets (delivery_of d) e v n x) (sym is) (meets x (opens h.2) refl refl (completes_found x h) h.3)
+-- a delivery whose program ran so, from the slice of its items
+pub opening_meets : {p : Script} {items : List Code} {e : EventName} {v : VatNo} {s : State} {n : ℕ} (d : code.Delivery) (x : code-outcome.Outcome) → d ≡ delivery.Opening p → items ≡ p.items.value.items → Completes (trees_of_codes items) true e v s n x
+    → Meets (delivery_of d) e v n x
+opening_meets {e = e} {v = v} {n = n} d x is same h =
+    subst (λ d. Meets d e v n x) (sym (ap delivery_of is ∙ ap (λ items. opening (trees_of_codes items)) (sym same))) (meets x (opens h.2) refl refl (completes_found x h) h.3)
 
-pub asked_meets : {p : Program} {e : EventName} {v : VatNo} {s : State} {n : ℕ} (d : code.Delivery) (x : code-outcome.Outcome) → d ≡ delivery.Asked p → Completes (program_of p) false e v s n x → Meets (delivery_of d) e v n x
-asked_meets {e = e} {v = v} {n = n} d x is h = subst (λ d. Meets (delivery_of d) e v n x) (sym is) (meets x (asks h.2) refl refl (completes_found x h) h.3)
+pub asked_meets : {p : Question} {items : List Code} {e : EventName} {v : VatNo} {s : State} {n : ℕ} (d : code.Delivery) (x : code-outcome.Outcome) → d ≡ delivery.Asked p → items ≡ p.items.value.items → Completes (trees_of_codes items) false e v s n x
+    → Meets (delivery_of d) e v n x
+asked_meets {e = e} {v = v} {n = n} d x is same h =
+    subst (λ d. Meets d e v n x) (sym (ap delivery_of is ∙ ap (λ items. asked (trees_of_codes items)) (sym same))) (meets x (asks h.2) refl refl (completes_found x h) h.3)

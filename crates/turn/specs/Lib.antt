@@ -1,5 +1,2 @@
-pub mod Turn
-pub mod Touched
-pub mod View
 pub mod Runs
-pub mod Laws
+pub mod Tasks

@@ -1,13 +1,13 @@
 -- What the program's outcome of a turn tells of where its evaluation ended.
-use Rattle.std.specs.Prelude.{◌≡◌, Some, is_some}
+use Rattle.std.specs.Prelude.{◌≡◌, Some}
 use Rattle.heap.specs.State.{Cell, Content}
 use Rattle.heap.specs.Found.{Found, touched_in, writes_in}
 use Rattle.values.specs.View.{val_of}
 use Rattle.erules.specs.At.{At}
 use Rattle.erules.specs.Outcomes.{End}
-use Rattle.turn.specs.Turn.{published}
-use Rattle.turn.specs.View.{ended_of, written_by}
-use Rattle.turn.specs.declared.delivery.Outcome.{Outcome}
+use Rattle.event.specs.Turn.{published}
+use Rattle.event.specs.Outcomes.{ended_of, written_by}
+use Rattle.event.specs.declared.outcome.Outcome.{Outcome}
 
 -- a turn that ended so at this place leaves this
 pub record RunsTo (r : Outcome) (o : End) (b : At) : Type 0 where

@@ -1,75 +1,35 @@
-// One delivery to a vat, and what it leaves.
-ghost use Rattle.std.specs.Prelude.{◌≡◌, IfOk};
+// One delivery to a vat.
+ghost use Rattle.std.specs.Prelude.{◌≡◌, [], IfOk};
 ghost use Rattle.std.specs.Arc.{arc_value};
-ghost use Rattle.kernele.specs.View.{program_of};
+ghost use Rattle.code.specs.Frames.{fits_all};
+ghost use Rattle.code.specs.View.{trees_of_codes};
 ghost use Rattle.values.specs.Data.{null};
 ghost use Rattle.values.specs.View.{val_of};
 ghost use Rattle.erules.specs.At.{At};
 ghost use Rattle.erules.specs.Outcomes.{End as ModelEnd};
 ghost use Rattle.erules.specs.Rules.{Items};
-ghost use Rattle.turn.specs.Turn.{start, settled, published as published_of};
+ghost use Rattle.event.specs.Turn.{start, settled, published as published_of};
 ghost use Rattle.heap.specs.Found.{Found};
 ghost use Rattle.heap.specs.View.{state_of};
 ghost use Rattle.erules.specs.View.{at, end_of};
-ghost use Rattle.turn.specs.View.{ended_of, delivery_of, Meets};
+ghost use Rattle.event.specs.Outcomes.{ended_of, Meets};
+ghost use Rattle.post.specs.DeliveryView.{delivery_of};
 ghost use Rattle.turn.specs.Runs.{RunsTo};
 
-use erules::end::{Abandon, End, Halt};
+use code::code::Code;
+use erules::end::{End, Halt};
 use erules::working::Working;
 use eval::eval::eval_items;
+use event::outcome::{Ended, Outcome};
 use heap::draft::Draft;
-use heap::reach::Footprint;
 use heap::state::VatState;
 use ids::names::{EventName, VatNo};
 use ids::text::Text;
-use kernele::tree::Program;
-use resolver::resolve;
+use post::delivery::Delivery;
 use std::alloc::{AllocError, Global};
 use std::sync::Arc;
 use values::limits::is_within_limits;
 use values::value::Value;
-
-/// What is delivered to a vat.
-#[derive(Drop)]
-pub enum Delivery {
-    /// The vat's script: its definitions bind the vat's top nouns.
-    Opening(Program),
-    /// A program with a scope of its own, which sees the top nouns.
-    Asked(Program),
-}
-
-/// How a turn ended.
-#[derive(Drop)]
-pub enum Ended {
-    Value(Value),
-    /// A problem that nothing caught.
-    Problem(Text),
-    Abandoned(Abandon),
-}
-
-/// What a turn leaves.
-#[derive(Drop)]
-pub struct Outcome {
-    /// What it found in each cell of the vat that it touched, and what it wrote there.
-    pub footprint: Footprint,
-    /// What the result promise is published as.
-    pub result: Value,
-    pub ended: Ended,
-    /// The steps left.
-    pub steps: u32,
-}
-
-impl Delivery {
-    /// The same delivery, whose program is shared. Fails only for want of memory.
-    pub fn share(&self) -> Result<Delivery, AllocError>
-        ensures { IfOk result (λ d. delivery_of d ≡ delivery_of self.now) }
-    {
-        match self {
-            Delivery::Opening(program) => Ok(Delivery::Opening(program.share()?)),
-            Delivery::Asked(program) => Ok(Delivery::Asked(program.share()?)),
-        }
-    }
-}
 
 /// Runs a turn of a vat in this state, which itself stays as it is. Fails only for want of memory.
 pub fn deliver(
@@ -84,25 +44,29 @@ pub fn deliver(
     ensures meets { IfOk result (λ o. Meets (delivery_of delivery.now) event vat budget o) }
 {
     match delivery {
-        Delivery::Opening(program) => run_program(alloc, program, true, event, vat, state, budget),
-        Delivery::Asked(program) => run_program(alloc, program, false, event, vat, state, budget),
+        Delivery::Opening(script) => {
+            run_items(alloc, &script.items, true, event, vat, state, budget)
+        }
+        Delivery::Asked(question) => {
+            run_items(alloc, &question.items, false, event, vat, state, budget)
+        }
     }
 }
 
-fn run_program(
+fn run_items(
     alloc: Global,
-    program: &Program,
+    items: &[Code],
     own_scope: bool,
     event: EventName,
     vat: VatNo,
     state: &Arc<VatState>,
     budget: u32,
 ) -> Result<Outcome, AllocError>
+    requires { fits_all own_scope [] items.now }
     ensures { IfOk result (λ r. (o : ModelEnd) × (b : At)
-        × Items 1 null (program_of program.now) (start own_scope event vat (state_of (arc_value state.now)) budget) o b
+        × Items 1 null (trees_of_codes items.now) (start own_scope event vat (state_of (arc_value state.now)) budget) o b
         × RunsTo r (settled o) b) }
 {
-    let resolved = resolve(alloc, program, own_scope)?;
     let mut w = Working {
         alloc,
         draft: Draft::new(alloc, Arc::try_clone(state)?, event, vat),
@@ -113,7 +77,7 @@ fn run_program(
         ejectors: 0,
         opened: Vec::new(alloc),
     };
-    let end = eval_items(&mut w, &resolved.items, 1)?;
+    let end = eval_items(&mut w, items, 1)?;
     finish(w, end)
 }
 

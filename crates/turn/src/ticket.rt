@@ -1,36 +1,52 @@
 // A turn that is checked out: carried away, run once, and handed back.
 ghost use Rattle.std.specs.Prelude.{◌≡◌, IfOk, IfErr};
 ghost use Rattle.std.specs.Arc.{arc_value};
-ghost use Rattle.heap.specs.Found.{Found, found-prop};
+ghost use Rattle.heap.specs.Found.{Found};
+ghost use Rattle.turn.specs.Tasks.{task_of};
 ghost use Rattle.heap.specs.View.{state_of};
-ghost use Rattle.turn.specs.View.{delivery_of, Meets};
+ghost use Rattle.post.specs.DeliveryView.{delivery_of};
+ghost use Rattle.event.specs.Outcomes.{Meets};
 
-use crate::delivery::{Delivery, Outcome, deliver};
+use crate::delivery::deliver;
+use event::outcome::Outcome;
 use heap::state::VatState;
 use ids::names::{EventName, MsgId, VatNo};
+use post::message::Message;
 use std::alloc::{AllocError, Global};
 use std::sync::Arc;
 
-/// A turn to be run: its event, its message, its vat and the vat's state, shared, what is delivered, and the budget.
+/// A turn to be run: its event, the name of its message and the message, its vat and the vat's state, shared, the budget, and the
+/// seat that it is entered from.
 #[derive(Drop)]
 pub struct Out {
     pub alloc: Global,
     pub event: EventName,
-    pub message: MsgId,
+    pub name: MsgId,
+    pub message: Message,
     pub vat: VatNo,
     pub state: Arc<VatState>,
-    pub delivery: Delivery,
     pub budget: u32,
+    pub seat: u64,
+}
+
+/// The same of a turn that was run, without the state, so that it is the vat's own again when the turn is entered.
+#[derive(Drop)]
+pub struct Task {
+    pub event: EventName,
+    pub name: MsgId,
+    pub message: Message,
+    pub vat: VatNo,
+    pub budget: u32,
+    pub seat: u64,
 }
 
 /// A turn that was run: what it carried, unchanged, and its outcome, which is that of the delivery on every state that agrees with
 /// what the turn found in the cells that it touched.
 #[derive(Drop)]
 pub struct Ran {
-    pub carried: Out,
+    pub carried: Task,
     pub outcome: Outcome,
-    pub ghost found: { Found outcome.footprint (state_of (arc_value carried.state)) } by { found-prop outcome.footprint (state_of (arc_value carried.state)) },
-    pub ghost met: { Meets (delivery_of carried.delivery) carried.event carried.vat carried.budget outcome },
+    pub ghost met: { Meets (delivery_of (arc_value carried.message.sent).delivery) carried.event carried.vat carried.budget outcome },
 }
 
 /// A turn checked out of a book. It must be spent: run and committed, or discarded.
@@ -46,32 +62,75 @@ impl Ticket<Out> {
         Ticket { stage: turn }
     }
 
-    /// Runs the turn. For want of memory the ticket comes back as it was.
+    /// Runs the turn, and lets go of the state. For want of memory the ticket comes back as it was.
     pub fn run(self) -> Result<Ticket<Ran>, (Ticket<Out>, AllocError)>
-        ensures ok { IfOk result (λ t. t.stage.carried ≡ self.stage) }
+        ensures ok { IfOk result (λ t. t.stage.carried ≡ task_of self.stage) }
+        ensures found { IfOk result (λ t. Found t.stage.outcome.footprint (state_of (arc_value self.stage.state))) }
         ensures err { IfErr result (λ e. e.0 ≡ self) }
     {
         let Ticket { stage } = self;
         match deliver(
             stage.alloc,
-            &stage.delivery,
+            &stage.message.sent.delivery,
             stage.event,
             stage.vat,
             &stage.state,
             stage.budget,
         ) {
-            Ok(outcome) => Ok(Ticket {
-                stage: Ran {
-                    carried: stage,
-                    outcome,
-                },
-            }),
+            Ok(outcome) => Ok(with_outcome(stage, outcome)),
             Err(error) => Err((Ticket { stage }, error)),
         }
     }
 }
 
+/// The ticket of a turn that was run with this outcome. The state is let go.
+fn with_outcome(stage: Out, outcome: Outcome) -> Ticket<Ran>
+    requires { Meets (delivery_of (arc_value stage.message.sent).delivery) stage.event stage.vat stage.budget outcome }
+    ensures carried { result.stage.carried ≡ task_of stage }
+    ensures outcome { result.stage.outcome ≡ outcome }
+{
+    let Out {
+        alloc: _,
+        event,
+        name,
+        message,
+        vat,
+        state: _,
+        budget,
+        seat,
+    } = stage;
+    Ticket {
+        stage: Ran {
+            carried: Task {
+                event,
+                name,
+                message,
+                vat,
+                budget,
+                seat,
+            },
+            outcome,
+        },
+    }
+}
+
+impl Ticket<Out> {
+    /// What is carried.
+    pub fn out(&self) -> &Out
+        ensures { result.now ≡ self.now.stage }
+    {
+        &self.stage
+    }
+}
+
 impl Ticket<Ran> {
+    /// What was carried, and what the turn left.
+    pub fn ran(&self) -> &Ran
+        ensures { result.now ≡ self.now.stage }
+    {
+        &self.stage
+    }
+
     /// What the turn left.
     pub fn outcome(&self) -> &Outcome
         ensures { result.now ≡ self.now.stage.outcome }

@@ -1,6 +1,6 @@
 use Rattle.std.proofs.Common.{is_some, refl, sym, ap, ◌∙◌}
 use Rattle.heap.proofs.Drafting.{draft_as_written}
-use Rattle.turn.specs.Turn.{published}
+use Rattle.event.specs.Turn.{published}
 use Rattle.turn.proofs.delivery.finish.Goals as goal
 
 pub returns : goal.returns

@@ -1,0 +1,59 @@
+-- Lists that are gathered in order, one item after another.
+use Rattle.std.proofs.Common.{◌≡◌, ℕ, ◌+◌, List, [], ◌∷◌, ◌++◌, take, Some, slice_get, refl, sym, ap, ◌∙◌, append_assoc, append-nil}
+use Rattle.std.proofs.lemmas.List.{take_more, map-append}
+use Rattle.std.proofs.lemmas.Option.{slice_get_within, get_or_from_slice_get}
+use Rattle.ids.specs.declared.names.EventName.{EventName}
+use Rattle.ids.specs.declared.names.VatNo.{VatNo}
+use Rattle.ids.specs.declared.cells.CellKey.{CellKey}
+use Rattle.history.specs.Records.{Record}
+use Rattle.heap.specs.State as heap
+use Rattle.heap.specs.State.{Cell}
+use Rattle.cells.specs.declared.touches.Touch.{Touch}
+use Rattle.post.specs.Theory.{cells}
+use Rattle.event.specs.Entries.{Entry, entry_in, entries_in, keys_in, left_at, left_in, kept_left, kept_at}
+
+-- the items up to a place, with the next one
+take_next : {X : Type 0} (xs : List X) (i : ℕ) (x : X) → slice_get xs i ≡ Some x → take (i + 1) xs ≡ take i xs ++ x ∷ []
+take_next xs i x h = take_more xs i x (slice_get_within xs i x h) ∙ ap (λ y. take i xs ++ y ∷ []) (get_or_from_slice_get xs i x x h)
+
+module _ {X Y : Type 0} (F : List X → List Y) (g : X → List Y) (grows : (xs : List X) (x : X) → F (xs ++ x ∷ []) ≡ F xs ++ g x) where
+  -- what was gathered up to a place, and what the next item adds
+  gathered : (xs : List X) (i : ℕ) (x : X) (base done more : List Y) → slice_get xs i ≡ Some x → done ≡ base ++ F (take i xs) → more ≡ done ++ g x → more ≡ base ++ F (take (i + 1) xs)
+  gathered xs i x base done more h e m =
+      m ∙ ap (λ l. l ++ g x) e ∙ append_assoc base (F (take i xs)) (g x) ∙ ap (λ l. base ++ l) (sym (grows (take i xs) x)) ∙ ap (λ l. base ++ F l) (sym (take_next xs i x h))
+
+-- what two lists leave
+pub left_both : (xs ys : List Entry) → left_in (xs ++ ys) ≡ left_in xs ++ left_in ys
+left_both [] ys = refl
+left_both (x ∷ xs) ys = ap (λ l. left_at x.0 x.1 ++ l) (left_both xs ys) ∙ sym (append_assoc (left_at x.0 x.1) (left_in xs) (left_in ys))
+
+-- and the records of it
+pub kept_both : (e : EventName) (v : VatNo) (xs ys : List (Cell × heap.Content)) → kept_left e v (xs ++ ys) ≡ kept_left e v xs ++ kept_left e v ys
+kept_both e v [] ys = refl
+kept_both e v (x ∷ xs) ys = ap (λ l. kept_at e v x.0 x.1 ∷ l) (kept_both e v xs ys)
+
+module _ {K V : Type 0} (cell : K → Cell) (content : V → heap.Content) where
+  -- the keys of one more cell
+  pub keys_next : (v : VatNo) (es : List (K × Touch V)) (i : ℕ) (e : K × Touch V) (base done more : List CellKey) (k : CellKey) → slice_get es i ≡ Some e → done ≡ base ++ keys_in v (entries_in cell content (take i es)) → more ≡ done ++ k ∷ []
+      → keys_in v (entry_in cell content e ∷ []) ≡ k ∷ [] → more ≡ base ++ keys_in v (entries_in cell content (take (i + 1) es))
+  keys_next v es i e base done more k h d m is =
+      gathered (λ xs. keys_in v (entries_in cell content xs)) (λ x. keys_in v (entry_in cell content x ∷ [])) (λ xs x. ap (keys_in v) (map-append (entry_in cell content) xs (x ∷ [])) ∙ map-append _ (entries_in cell content xs) (entries_in cell content (x ∷ []))) es i e base done more h d (m ∙ ap (λ l. done ++ l) (sym is))
+
+  -- the records of one more cell
+  pub kept_next : (e : EventName) (v : VatNo) (es : List (K × Touch V)) (i : ℕ) (x : K × Touch V) (base done more : Record cells) → slice_get es i ≡ Some x → done ≡ base ++ kept_left e v (left_in (entries_in cell content (take i es)))
+      → more ≡ done ++ kept_left e v (left_at (entry_in cell content x).0 (entry_in cell content x).1) → more ≡ base ++ kept_left e v (left_in (entries_in cell content (take (i + 1) es)))
+  kept_next e v es i x base done more h d m =
+      gathered (λ xs. kept_left e v (left_in (entries_in cell content xs))) (λ x. kept_left e v (left_at (entry_in cell content x).0 (entry_in cell content x).1))
+      (λ xs x. ap (λ l. kept_left e v (left_in l)) (map-append (entry_in cell content) xs (x ∷ [])) ∙ ap (kept_left e v) (left_both (entries_in cell content xs) (entries_in cell content (x ∷ [])) ∙ ap (λ l. left_in (entries_in cell content xs) ++ l) (append-nil (left_at (entry_in cell content x).0 (entry_in cell content x).1))) ∙ kept_both e v (left_in (entries_in cell content xs)) _)
+      es i x base done more h d m
+
+-- three parts that were added one after another
+pub kept_thrice : (e : EventName) (v : VatNo) (xs ys zs : List Entry) (start one two three : Record cells) → one ≡ start ++ kept_left e v (left_in xs) → two ≡ one ++ kept_left e v (left_in ys) → three ≡ two ++ kept_left e v (left_in zs)
+    → three ≡ start ++ kept_left e v (left_in (xs ++ (ys ++ zs)))
+kept_thrice e v xs ys zs start one two three h g f =
+    f ∙ ap (λ l. l ++ kept_left e v (left_in zs)) (g ∙ ap (λ l. l ++ kept_left e v (left_in ys)) h)
+    ∙ ap (λ l. l ++ kept_left e v (left_in zs)) (append_assoc start (kept_left e v (left_in xs)) (kept_left e v (left_in ys))) ∙ append_assoc start (kept_left e v (left_in xs) ++ kept_left e v (left_in ys)) (kept_left e v (left_in zs))
+    ∙ ap (λ l. start ++ l) (append_assoc (kept_left e v (left_in xs)) (kept_left e v (left_in ys)) (kept_left e v (left_in zs)) ∙ ap (λ l. kept_left e v (left_in xs) ++ l) (sym (kept_more ys zs)) ∙ sym (kept_more xs (ys ++ zs)))
+  where
+    kept_more : (xs ys : List Entry) → kept_left e v (left_in (xs ++ ys)) ≡ kept_left e v (left_in xs) ++ kept_left e v (left_in ys)
+    kept_more xs ys = ap (kept_left e v) (left_both xs ys) ∙ kept_both e v (left_in xs) (left_in ys)

@@ -1,0 +1,9 @@
+pub mod Turns
+pub mod Listing
+pub mod Law
+pub mod Gathering
+pub mod Listed
+pub mod Standing
+pub mod Leaving
+pub mod Finding
+pub mod KindsFound

@@ -1,0 +1,35 @@
+-- What the program works out of an event before it is entered.
+use Rattle.std.specs.Prelude.{◌≡◌, ℕ, List}
+use Rattle.std.specs.List.{list_any}
+use Rattle.history.specs.Subject.{touches}
+use Rattle.history.specs.Records.{Record, Writes}
+use Rattle.ids.specs.CellKeys.{same_key}
+use Rattle.ids.specs.declared.names.EventName.{EventName}
+use Rattle.ids.specs.declared.names.VatNo.{VatNo}
+use Rattle.ids.specs.declared.names.MsgId.{MsgId}
+use Rattle.ids.specs.declared.cells.CellKey.{CellKey}
+use Rattle.heap.specs.State as heap
+use Rattle.heap.specs.State.{Cell}
+use Rattle.heap.specs.Found.{touched_in}
+use Rattle.post.specs.World.{Message}
+use Rattle.post.specs.Theory.{cells, kepts_of}
+use Rattle.event.specs.Events.{Foot, events, Turn, Leaves, turn_foot}
+use Rattle.event.specs.Outcomes.{outcome_on, written_by}
+use Rattle.event.specs.declared.outcome.Outcome as code
+use Rattle.event.specs.declared.effects.Effects.{Effects}
+
+-- these are the cells that an event of this name and footprint touches, and a record of what it writes
+pub record Brings (e : EventName) (f : Foot) (touched : List CellKey) (kept : Record cells) : Type 0 where
+  pub touch : (k : CellKey) → list_any (same_key k) touched ≡ touches events f k
+  pub write : Writes events e.0 f kept
+
+-- the turn of a message at a vat in this state, which had this outcome
+abbrev pub turn_of : Message → VatNo → code.Outcome → heap.State → Turn
+turn_of g v o u = record { message = g; vat = v; outcome = outcome_on o u; touched = touched_in o.footprint; written = written_by o }
+
+-- these are the cells that a turn touches, and what it writes
+pub record BringsTurn (e : EventName) (m : MsgId) (t : Turn) (it : Effects) : Type 0 where
+  pub cells : List Cell
+  pub left : List (Cell × heap.Content)
+  pub leaves : Leaves t cells left
+  pub brings : Brings e (turn_foot e m t cells left) it.touched.items (kepts_of it.records.items)

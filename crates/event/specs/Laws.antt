@@ -1,0 +1,41 @@
+-- The laws of turns.
+use Rattle.std.specs.Prelude.{◌≡◌, ℕ, ◌≤◌, Bool, false}
+use Rattle.ids.specs.declared.names.EventName.{EventName}
+use Rattle.ids.specs.declared.names.VatNo.{VatNo}
+use Rattle.ids.specs.declared.names.EjId.{EjId}
+use Rattle.kernele.specs.Tree.{Trees}
+use Rattle.values.specs.Data.{Val, null}
+use Rattle.heap.specs.State.{Cell, State}
+use Rattle.erules.specs.At.{At}
+use Rattle.erules.specs.Outcomes.{ejected, halt}
+use Rattle.erules.specs.Rules.{Items}
+use Rattle.post.specs.Delivery.{Delivery}
+use Rattle.event.specs.Turn.{Outcome, Delivers, start}
+use Rattle.erules.specs.Laws.{IsWithin, AgreeOn, with_cells}
+use Rattle.event.specs.Touched.{delivery_touched, delivery_written}
+
+-- a delivery has at most one outcome
+abbrev pub AtMostOneDelivery : Type 0
+AtMostOneDelivery = (d : Delivery) (e : EventName) (v : VatNo) (s : State) (n : ℕ) (o p : Outcome) → Delivers d e v s n o → Delivers d e v s n p → o ≡ p
+
+-- what a delivery writes it touches
+abbrev pub WritesAreTouched : Type 0
+WritesAreTouched = (d : Delivery) (e : EventName) (v : VatNo) (s : State) (n : ℕ) (o : Outcome) (r : Delivers d e v s n o) → IsWithin (delivery_written r) (delivery_touched r)
+
+-- in a state that agrees on the cells touched, a delivery has the same result, the same end and the same steps left, and touches
+-- and writes the same cells; it leaves those that are written as it leaves them here, and the others as they were
+abbrev pub DeliveryFrame : Type 0
+DeliveryFrame = (d : Delivery) (e : EventName) (v : VatNo) (s : State) (n : ℕ) (o : Outcome) (r : Delivers d e v s n o) (u : State) → AgreeOn (delivery_touched r) u s
+    → (q : Delivers d e v u n (record o { state = with_cells (delivery_written r) o.state u })) × (delivery_touched q ≡ delivery_touched r) × (delivery_written q ≡ delivery_written r)
+
+-- a cell that a delivery did not write is as it was
+abbrev pub OthersStayInTurns : Type 0
+OthersStayInTurns = (d : Delivery) (e : EventName) (v : VatNo) (s : State) (n : ℕ) (o : Outcome) (r : Delivers d e v s n o) (c : Cell) → delivery_written r c ≡ false → o.state c ≡ s c
+
+-- a delivery leaves no more steps than its budget
+abbrev pub WithinBudget : Type 0
+WithinBudget = (d : Delivery) (e : EventName) (v : VatNo) (s : State) (n : ℕ) (o : Outcome) → Delivers d e v s n o → o.left ≤ n
+
+-- so no such value leaves the program of a turn
+abbrev pub NoEjectionLeavesATurn : Type 0
+NoEjectionLeavesATurn = (k : ℕ) (ts : Trees) (own : Bool) (e : EventName) (w : VatNo) (s : State) (n : ℕ) (b : At) (j : EjId) (v : Val) → Items k null ts (start own e w s n) (halt (ejected j v)) b → ⊥

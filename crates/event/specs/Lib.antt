@@ -1,0 +1,9 @@
+pub mod Turn
+pub mod Touched
+pub mod Outcomes
+pub mod Laws
+pub mod Events
+pub mod Ready
+pub mod Effects
+pub mod Entries
+pub mod Finds

@@ -1,0 +1,43 @@
+// What a turn leaves.
+ghost use Rattle.std.specs.Prelude.{◌≡◌, IfOk};
+ghost use Rattle.event.specs.Outcomes.{ended_of};
+
+use erules::end::Abandon;
+use heap::reach::Footprint;
+use ids::text::Text;
+use std::alloc::AllocError;
+use values::value::Value;
+
+/// How a turn ended.
+#[derive(Drop)]
+pub enum Ended {
+    Value(Value),
+    /// A problem that nothing caught.
+    Problem(Text),
+    Abandoned(Abandon),
+}
+
+/// What a turn leaves.
+#[derive(Drop)]
+pub struct Outcome {
+    /// What it found in each cell of the vat that it touched, and what it wrote there.
+    pub footprint: Footprint,
+    /// What the result promise is published as.
+    pub result: Value,
+    pub ended: Ended,
+    /// The steps left.
+    pub steps: u32,
+}
+
+impl Ended {
+    /// The same end, whose value or problem is shared. Fails only for want of memory.
+    pub fn share(&self) -> Result<Ended, AllocError>
+        ensures { IfOk result (λ e. ended_of e ≡ ended_of self.now) }
+    {
+        match self {
+            Ended::Value(value) => Ok(Ended::Value(value.share()?)),
+            Ended::Problem(problem) => Ok(Ended::Problem(problem.share()?)),
+            Ended::Abandoned(why) => Ok(Ended::Abandoned(*why)),
+        }
+    }
+}
