@@ -1,161 +1,203 @@
--- A walk along the journal that gathers the cone of an event.
-use Rattle.std.proofs.Common.{◌≡◌, List, [], ◌∷◌, ◌++◌, Bool, true, false, cond, Vec, Global, Result, Ok, Err, refl, ap, sym, ◌∙◌, subst, map, append_assoc, append-nil, inl, inr}
-use Rattle.std.specs.Prelude.{◌||◌, ◌&&◌, ◌==◌, IfOk}
-use Rattle.std.specs.List.{list_any, filter, AllByRecursion}
-use Rattle.std.proofs.lemmas.Bool.{or_cases, or_left, or_right, or_from, or_parts, and_from, and_parts}
-use Rattle.std.proofs.lemmas.List.Folds.{list_any-append}
+-- A walk along the journal gathers the cone of an event.
+use Rattle.std.proofs.Common.{◌≡◌, ◌≢◌, ℕ, List, [], ◌∷◌, ◌++◌, Bool, true, false, cond, Vec, Global, Result, Ok, Err, refl, ap, sym, ◌∙◌, subst, map, filter, reverse, eq-eqb, ne_eqb}
+use Rattle.std.specs.Prelude.{◌||◌, ◌&&◌, ◌==◌, IfOk, None}
+use Rattle.std.specs.List.{list_any, AllByRecursion}
+use Rattle.std.proofs.lemmas.Bool.{or_left}
+use Rattle.std.proofs.lemmas.List.{reverse-append, reverse-reverse}
+use Rattle.std.proofs.lemmas.List.Sorted.{list_any-IsPermutation, IsPermutation-reverse}
+use Rattle.history.specs.Chains.{HasCells}
+use Rattle.history.specs.Cone.{cone, in_cone}
+use Rattle.history.specs.Journal.{Entry, name_of, is_in, caused, live_set, Distinct, Sound, Closed}
+use Rattle.history.specs.Subject.{meets}
+use Rattle.history.proofs.Cones.{cone_closed, cone_has_root, cone_least, cone_part}
+use Rattle.history.proofs.Lists.{all_map, all_both, all_reversed, any_same, filter_same}
 use Rattle.ids.specs.declared.names.EventName.{EventName}
-use Rattle.journal.specs.Journal.{Line, name_of, among, chosen, is_entered, Closed, Cone}
-use Rattle.causality.specs.Causes.{CausesComeFirst, joins, joined_with, gathered}
-use Rattle.causality.proofs.Along.{meet, each_append, same_name, itself, turned}
+use Rattle.journal.specs.Items.{Item, wrote_one_of}
+use Rattle.journal.specs.Lines.{plain, Line, line_of, lines_of, entries_in}
+use Rattle.journal.specs.declared.entry.Mark.TheVariants as mark
+use Rattle.journal.proofs.Reversed.{map-map, map-reverse, filter-map, filter-reverse}
+use Rattle.journal.proofs.Touching.{any-map}
+use Rattle.causality.specs.Exact.{Cone, ClosedIn}
+use Rattle.causality.specs.Selections.{name_of as line_name, among, chosen, is_live, first_marked}
+use Rattle.causality.specs.Walks.{joins, joined_with, gathered}
+use Rattle.causality.proofs.Facts.{entry_at, cells_items, wrote_meets}
+use Rattle.causality.proofs.Firsts.{none_each}
+use Rattle.causality.proofs.Gaps.{live_at}
+use Rattle.causality.proofs.Pairs.{all_unmapped, all_from_end, all_to_end}
+use Rattle.causality.proofs.Telling.{Tells}
 
--- one that joined is among them
-among_push : (joined : List EventName) (n e : EventName) → among (joined ++ n ∷ []) e ≡ (among joined e || ((n.0 == e.0) || false))
-among_push joined n e = list_any-append (λ k. k.0 == e.0) joined (n ∷ [])
+-- a test finds the same in either order
+any_reversed : {A : Type 0} (p : A → Bool) (xs : List A) → list_any p (reverse xs) ≡ list_any p xs
+any_reversed p xs = sym (list_any-IsPermutation p xs (reverse xs) (IsPermutation-reverse xs))
 
-or_false : (b : Bool) → (b || false) ≡ b
-or_false true = refl
-or_false false = refl
-
-now_among : (joined : List EventName) (l : Line) → among (joined_with true joined l) (name_of l) ≡ true
-now_among joined l = among_push joined (name_of l) (name_of l) ∙ or_right (among joined (name_of l)) _ (or_left _ false (itself (name_of l)))
-
--- who has joined stays
-still_among : (b : Bool) (joined : List EventName) (l : Line) (e : EventName) → among joined e ≡ true → among (joined_with b joined l) e ≡ true
-still_among true joined l e h = among_push joined (name_of l) e ∙ or_left (among joined e) _ h
-still_among false joined l e h = h
-
-pub stays : (root : EventName) (joined : List EventName) (lines : List Line) (e : EventName) → among joined e ≡ true → among (gathered root joined lines) e ≡ true
-stays root joined [] e h = h
-stays root joined (l ∷ lines) e h = stays root (joined_with (joins root joined l) joined l) lines e (still_among (joins root joined l) joined l e h)
-
--- no other name joins
-other_among : (b : Bool) (joined : List EventName) (l : Line) (e : EventName) → (e.0 == (name_of l).0) ≡ false → among (joined_with b joined l) e ≡ among joined e
-other_among true joined l e h = among_push joined (name_of l) e ∙ ap (λ b. among joined e || (b || false)) (turned e (name_of l) h) ∙ or_false (among joined e)
-other_among false joined l e h = refl
-
-abbrev NoName : EventName → List Line → Type 0
-NoName e lines = AllByRecursion (λ m. (e.0 == (name_of m).0) ≡ false) lines
-
-unnamed : (root : EventName) (joined : List EventName) (lines : List Line) (e : EventName) → NoName e lines → among (gathered root joined lines) e ≡ among joined e
-unnamed root joined [] e h = refl
-unnamed root joined (l ∷ lines) e h = unnamed root (joined_with (joins root joined l) joined l) lines e h.1 ∙ other_among (joins root joined l) joined l e h.0
-
--- names that are none of those that joined
-abbrev Fresh : List EventName → List Line → Type 0
-Fresh joined lines = AllByRecursion (λ m. among joined (name_of m) ≡ false) lines
-
-fresh_with : (b : Bool) (joined : List EventName) (l : Line) (lines : List Line) → NoName (name_of l) lines → Fresh joined lines → Fresh (joined_with b joined l) lines
-fresh_with true joined l [] h g = tt
-fresh_with true joined l (m ∷ lines) h g =
-    (among_push joined (name_of l) (name_of m) ∙ or_from (among joined (name_of m)) _ g.0 (or_from _ false h.0 refl), fresh_with true joined l lines h.1 g.1)
-fresh_with false joined l lines h g = g
-
--- in the order of the journal
-abbrev InOrder : List EventName → List Line → List EventName → Type 0
-InOrder joined lines names = names ≡ joined ++ map name_of (filter (chosen names) lines)
-
-order_step : (b : Bool) (joined : List EventName) (l : Line) (lines : List Line) (names : List EventName) → among joined (name_of l) ≡ false → among names (name_of l) ≡ among (joined_with b joined l) (name_of l) → InOrder (joined_with b joined l) lines names → InOrder joined (l ∷ lines) names
-order_step true joined l lines names fresh same h =
-    h ∙ append_assoc joined (name_of l ∷ []) (map name_of (filter (chosen names) lines))
-    ∙ ap (λ b. joined ++ map name_of (cond b (l ∷ filter (chosen names) lines) (filter (chosen names) lines))) (sym (same ∙ now_among joined l))
-order_step false joined l lines names fresh same h =
-    h ∙ ap (λ b. joined ++ map name_of (cond b (l ∷ filter (chosen names) lines) (filter (chosen names) lines))) (sym (same ∙ fresh))
-
-in_order : (root : EventName) (joined : List EventName) (lines : List Line) → CausesComeFirst lines → Fresh joined lines → InOrder joined lines (gathered root joined lines)
-in_order root joined [] h g = sym (append-nil joined)
-in_order root joined (l ∷ lines) h g =
-    let b = joins root joined l in
-    order_step b joined l lines (gathered root (joined_with b joined l) lines) g.0
-    (unnamed root (joined_with b joined l) lines (name_of l) h.0.distinct)
-    (in_order root (joined_with b joined l) lines h.1 (fresh_with b joined l lines h.0.distinct g.1))
-
--- the root has joined at the end
-has_root : (root : EventName) (joined : List EventName) (lines : List Line) → is_entered lines root ≡ true → among (gathered root joined lines) root ≡ true
-has_root root joined [] h = cc
-has_root root joined (l ∷ lines) h = elim (or_cases ((name_of l).0 == root.0) (is_entered lines root) h) [
-  | inl here ↦ stays root (joined_with (joins root joined l) joined l) lines root (here_among here)
-  | inr there ↦ has_root root (joined_with (joins root joined l) joined l) lines there
-]
+any_kept : {A : Type 0} (p q : A → Bool) (xs : List A) → list_any q (filter p xs) ≡ list_any (λ a. p a && q a) xs
+any_kept p q [] = refl
+any_kept p q (x ∷ xs) = first (p x) (any_kept p q xs)
   where
-    here_among : ((name_of l).0 == root.0) ≡ true → among (joined_with (joins root joined l) joined l) root ≡ true
-    here_among e =
-        let joined_now : joins root joined l ≡ true = or_left _ (l.live && list_any (among joined) l.causes) e in
-        ap (λ b. among (joined_with b joined l) root) joined_now ∙ ap (among (joined_with true joined l)) (sym (same_name (name_of l) root e)) ∙ now_among joined l
+    first : (b : Bool) → list_any q (filter p xs) ≡ list_any (λ a. p a && q a) xs → list_any q (cond b (x ∷ filter p xs) (filter p xs)) ≡ ((b && q x) || list_any (λ a. p a && q a) xs)
+    first true h = ap (λ b. q x || b) h
+    first false h = h
 
--- what holds of each cause: it is the name of no line from here on
-no_names : (n : EventName) (causes : List EventName) (lines : List Line) → AllByRecursion (λ m. among (n ∷ causes) (name_of m) ≡ false) lines → NoName n lines × AllByRecursion (λ m. among causes (name_of m) ≡ false) lines
-no_names n causes [] h = (tt, tt)
-no_names n causes (m ∷ lines) h =
-    let parts = or_parts (n.0 == (name_of m).0) (among causes (name_of m)) h.0 in
-    let others = no_names n causes lines h.1 in
-    ((parts.0, others.0), (parts.1, others.1))
+-- those that have joined, the newest first
+abbrev taken : EventName → List Item → List Item
+taken root [] = []
+taken root (i ∷ older) = cond (joins root (taken root older) i) (i ∷ taken root older) (taken root older)
 
--- so it has joined at the end just if it has now
-same_causes : (root : EventName) (joined : List EventName) (lines : List Line) (causes : List EventName) → AllByRecursion (λ m. among causes (name_of m) ≡ false) lines → list_any (among (gathered root joined lines)) causes ≡ list_any (among joined) causes
-same_causes root joined lines [] h = refl
-same_causes root joined lines (n ∷ causes) h =
-    let parts = no_names n causes lines h in
-    λ i. unnamed root joined lines n parts.0 i || same_causes root joined lines causes parts.1 i
+gathered_on : (root : EventName) (joined xs ys : List Item) → gathered root joined (xs ++ ys) ≡ gathered root (gathered root joined xs) ys
+gathered_on root joined [] ys = refl
+gathered_on root joined (x ∷ xs) ys = gathered_on root (joined_with (joins root joined x) joined x) xs ys
 
-is_closed : (root : EventName) (joined : List EventName) (lines : List Line) → CausesComeFirst lines → Closed (gathered root joined lines) lines
-is_closed root joined [] h = tt
-is_closed root joined (l ∷ lines) h = (here, is_closed root (joined_with (joins root joined l) joined l) lines h.1)
+gathered_taken : (root : EventName) (rs : List Item) → gathered root [] (reverse rs) ≡ reverse (taken root rs)
+gathered_taken root [] = refl
+gathered_taken root (r ∷ rs) =
+    ap (gathered root []) (reverse-append (r ∷ []) rs) ∙ gathered_on root [] (reverse rs) (r ∷ []) ∙ ap (λ j. gathered root j (r ∷ [])) (gathered_taken root rs)
+    ∙ ap (λ b. joined_with ((r.event.name.0 == root.0) || (r.live && b)) (reverse (taken root rs)) r) (any_reversed (λ a. wrote_one_of a r) (taken root rs))
+    ∙ last (joins root (taken root rs) r) (taken root rs)
   where
-    here : l.live ≡ true → list_any (among (gathered root joined (l ∷ lines))) l.causes ≡ true → chosen (gathered root joined (l ∷ lines)) l ≡ true
-    here live any =
-        let now : list_any (among joined) l.causes ≡ true = sym (same_causes root joined (l ∷ lines) l.causes (h.0.itself, h.0.before)) ∙ any in
-        let joined_now : joins root joined l ≡ true = or_right ((name_of l).0 == root.0) _ (and_from l.live _ live now) in
-        stays root (joined_with (joins root joined l) joined l) lines (name_of l) (ap (λ b. among (joined_with b joined l) (name_of l)) joined_now ∙ now_among joined l)
+    last : (b : Bool) (j : List Item) → joined_with b (reverse j) r ≡ reverse (cond b (r ∷ j) j)
+    last true j = sym (reverse-append (r ∷ []) j)
+    last false j = refl
 
--- those that have joined are among others
-abbrev Within : List EventName → List EventName → Type 0
-Within others names = AllByRecursion (λ e. among others e ≡ true) names
+-- a name that is put before others names no other, and is there if it is put
+skipped : (b : Bool) (ns : List ℕ) (m n : ℕ) → m ≢ n → is_in (cond b (m ∷ ns) ns) n ≡ is_in ns n
+skipped true ns m n ne = ap (λ t. t || is_in ns n) (ne_eqb m n ne)
+skipped false ns m n ne = refl
 
-within_with : (b : Bool) (others joined : List EventName) (l : Line) → (b ≡ true → among others (name_of l) ≡ true) → Within others joined → Within others (joined_with b joined l)
-within_with true others joined l h g = each_append _ joined (name_of l ∷ []) g (h refl, tt)
-within_with false others joined l h g = g
+put : (b : Bool) (ns : List ℕ) (n : ℕ) → is_in ns n ≡ false → is_in (cond b (n ∷ ns) ns) n ≡ b
+put true ns n h = or_left (n == n) _ (eq-eqb n n refl)
+put false ns n h = h
 
--- a name among those that are among others
-among_within : (others names : List EventName) (e : EventName) → Within others names → among names e ≡ true → among others e ≡ true
-among_within others names e h g =
-    let one = meet (λ n. among others n ≡ true) (λ n. n.0 == e.0) names h g in
-    ap (among others) (sym (same_name one.0 e one.2)) ∙ one.1
+module _ (all : List Item) (root : EventName) where
+  -- whether an entry is in the cone of the root among those of these items, the newest first
+  abbrev coned : List Item → Entry plain → Bool
+  coned rs = in_cone plain (live_set plain) root.0 (map (entry_at all) rs)
 
-any_within : (others names causes : List EventName) → Within others names → list_any (among names) causes ≡ true → list_any (among others) causes ≡ true
-any_within others names [] h g = g
-any_within others names (n ∷ causes) h g = elim (or_cases (among names n) (list_any (among names) causes) g) [
-  | inl here ↦ or_left _ _ (among_within others names n h here)
-  | inr there ↦ or_right (among others n) _ (any_within others names causes h there)
-]
+  abbrev cone_names : List Item → List ℕ
+  cone_names rs = cone plain (live_set plain) root.0 (map (entry_at all) rs)
 
-least_step : (root : EventName) (joined others : List EventName) (l : Line) → among others root ≡ true → (l.live ≡ true → list_any (among others) l.causes ≡ true → chosen others l ≡ true) → Within others joined → joins root joined l ≡ true → among others (name_of l) ≡ true
-least_step root joined others l r c g e = elim (or_cases ((name_of l).0 == root.0) (l.live && list_any (among joined) l.causes) e) [
-  | inl here ↦ ap (among others) (same_name (name_of l) root here) ∙ r
-  | inr there ↦ let parts = and_parts l.live (list_any (among joined) l.causes) there in c parts.0 (any_within others joined l.causes g parts.1)
-]
+  -- what decides on the newest
+  abbrev decided : Item → List Item → Bool
+  decided r rs = (r.event.name.0 == root.0) || (r.live && list_any (λ a. coned rs a && caused plain (entry_at all r) a) (map (entry_at all) rs))
 
-is_least : (root : EventName) (joined : List EventName) (lines : List Line) (others : List EventName) → among others root ≡ true → Closed others lines → Within others joined → Within others (gathered root joined lines)
-is_least root joined [] others r c g = g
-is_least root joined (l ∷ lines) others r c g =
-    is_least root (joined_with (joins root joined l) joined l) lines others r c.1
-    (within_with (joins root joined l) others joined l (least_step root joined others l r c.0 g) g)
+  unnamed : (n : ℕ) (rs : List Item) → AllByRecursion (λ a. name_of plain a ≢ n) (map (entry_at all) rs) → is_in (cone_names rs) n ≡ false
+  unnamed n [] h = refl
+  unnamed n (r ∷ rs) (ne, h) = skipped (decided r rs) (cone_names rs) r.event.name.0 n ne ∙ unnamed n rs h
 
-all_fresh : (lines : List Line) → Fresh [] lines
-all_fresh [] = tt
-all_fresh (l ∷ lines) = (refl, all_fresh lines)
+  -- the newest joins where it is in the cone
+  joins_decided : (r : Item) (rs : List Item) → taken root rs ≡ filter (λ i. coned rs (entry_at all i)) rs → AllByRecursion (λ i. coned rs (entry_at all i) ≡ true → i.live ≡ true) rs
+      → (r.live ≡ true → AllByRecursion (λ i. caused plain (entry_at all r) (entry_at all i) ≡ (i.live && meets plain (entry_at all i).foot (entry_at all r).foot)) rs)
+      → HasCells plain (entry_at all r).foot r.lasts → joins root (taken root rs) r ≡ decided r rs
+  joins_decided r rs is live causes cells = ap (λ b. (r.event.name.0 == root.0) || b) (by r.live causes)
+    where
+      same : (i : Item) (c l : Bool) → (c ≡ true → l ≡ true) → caused plain (entry_at all r) (entry_at all i) ≡ (l && meets plain (entry_at all i).foot (entry_at all r).foot)
+          → (c && wrote_one_of i r) ≡ (c && caused plain (entry_at all r) (entry_at all i))
+      same i true l p q = sym (q ∙ ap (λ b. b && meets plain (entry_at all i).foot (entry_at all r).foot) (p refl) ∙ wrote_meets all i r cells)
+      same i false l p q = refl
 
--- THE CONE: what has joined at the end
-pub is_cone : (lines : List Line) (root : EventName) → CausesComeFirst lines → is_entered lines root ≡ true → Cone lines root (gathered root [] lines)
-is_cone lines root h e = record {
-  in_order = in_order root [] lines h (all_fresh lines);
-  has_root = has_root root [] lines e;
-  closed = is_closed root [] lines h;
-  least = λ others r c. is_least root [] lines others r c tt;
-}
+      by : (b : Bool) → (b ≡ true → AllByRecursion (λ i. caused plain (entry_at all r) (entry_at all i) ≡ (i.live && meets plain (entry_at all i).foot (entry_at all r).foot)) rs)
+          → (b && list_any (λ a. wrote_one_of a r) (taken root rs)) ≡ (b && list_any (λ a. coned rs a && caused plain (entry_at all r) a) (map (entry_at all) rs))
+      by false h = refl
+      by true h =
+          ap (list_any (λ a. wrote_one_of a r)) is ∙ any_kept (λ i. coned rs (entry_at all i)) (λ a. wrote_one_of a r) rs
+          ∙ any_same _ _ rs (all_both _ _ _ rs (λ i p q. same i (coned rs (entry_at all i)) i.live p q) live (h refl))
+          ∙ sym (any-map (entry_at all) (λ a. coned rs a && caused plain (entry_at all r) a) rs)
 
--- an event of the journal has what has joined at the end as its cone
-pub cone_of : {E : Type 0} (lines : List Line) (root : EventName) → CausesComeFirst lines → is_entered lines root ≡ true
-    → (r : Result (Vec EventName Global) E) → IfOk r (λ names. names.items ≡ gathered root [] lines) → IfOk r (λ names. Cone lines root names.items)
-cone_of lines root h e (Ok names) g = subst (Cone lines root) (sym g) (is_cone lines root h e)
-cone_of lines root h e (Err fault) g = g
+  -- what has joined, the newest first, is the cone
+  record IsCone (rs : List Item) : Type 0 where
+    members : taken root rs ≡ filter (λ i. coned rs (entry_at all i)) rs
+    names : map (λ i. i.event.name.0) (taken root rs) ≡ cone_names rs
+
+  is_cone : (rs : List Item) → Distinct plain (map (entry_at all) rs) → Sound plain (live_set plain) (map (entry_at all) rs) → AllByRecursion (λ i. HasCells plain (entry_at all i).foot i.lasts) rs
+      → AllByRecursion (λ a. name_of plain a ≡ root.0 → a.live ≡ true) (map (entry_at all) rs) → IsCone rs
+  is_cone [] d s c l = record { members = refl; names = refl }
+  is_cone (r ∷ rs) (ne, d) (causes, s) (cell, c) (_, l) =
+      let older = is_cone rs d s c l in
+      let live : AllByRecursion (λ i. coned rs (entry_at all i) ≡ true → i.live ≡ true) rs = all_unmapped (entry_at all) (λ a. coned rs a ≡ true → a.live ≡ true) rs (cone_part plain (live_set plain) root.0 (map (entry_at all) rs) d l) in
+      let same : joins root (taken root rs) r ≡ decided r rs = joins_decided r rs older.members live (λ m. all_unmapped (entry_at all) _ rs (causes m)) cell in
+      record {
+        members =
+            ap (λ b. cond b (r ∷ taken root rs) (taken root rs)) (same ∙ sym (put (decided r rs) (cone_names rs) r.event.name.0 (unnamed r.event.name.0 rs ne)))
+            ∙ ap (λ t. cond (coned (r ∷ rs) (entry_at all r)) (r ∷ t) t) (older.members ∙ filter_same _ _ rs (all_unmapped (entry_at all) (λ a. coned rs a ≡ coned (r ∷ rs) a) rs
+            (all_map _ _ (map (entry_at all) rs) (λ a n. sym (skipped (decided r rs) (cone_names rs) r.event.name.0 (name_of plain a) (λ e. n (sym e)))) ne)));
+        names = ap (λ b. map (λ (i : Item). i.event.name.0) (cond b (r ∷ taken root rs) (taken root rs))) same ∙ mapped (decided r rs) older.names;
+      }
+    where
+      mapped : (b : Bool) → map (λ i. i.event.name.0) (taken root rs) ≡ cone_names rs → map (λ (i : Item). i.event.name.0) (cond b (r ∷ taken root rs) (taken root rs)) ≡ cond b (r.event.name.0 ∷ cone_names rs) (cone_names rs)
+      mapped true h = ap (λ ns. r.event.name.0 ∷ ns) h
+      mapped false h = h
+
+-- a test, for the cone of the root
+record ConeBy (lines : List Line) (root : EventName) (c : Entry plain → Bool) : Type 0 where
+  has_root : AllByRecursion (λ l. (line_name l).0 ≡ root.0 → c l.entry ≡ true) lines
+  live : AllByRecursion (λ l. c l.entry ≡ true → l.entry.live ≡ true) lines
+  closed : Closed plain (live_set plain) c (entries_in lines)
+  least : (others : List EventName) → ClosedIn others lines → AllByRecursion (λ l. (line_name l).0 ≡ root.0 → chosen others l ≡ true) lines → AllByRecursion (λ l. c l.entry ≡ true → chosen others l ≡ true) lines
+
+cone_by : (lines : List Line) (root : EventName) → Tells lines → AllByRecursion (λ a. name_of plain a ≡ root.0 → a.live ≡ true) (entries_in lines) → ConeBy lines root (in_cone plain (live_set plain) root.0 (entries_in lines))
+cone_by lines root h l =
+    let es = entries_in lines in
+    let c = in_cone plain (live_set plain) root.0 es in
+    let d = h.lines_are.distinct in
+    record {
+      has_root = all_from_end (λ (l : Line). l.entry) (λ a. name_of plain a ≡ root.0 → c a ≡ true) lines (cone_has_root plain (live_set plain) root.0 es);
+      live = all_from_end (λ (l : Line). l.entry) (λ a. c a ≡ true → a.live ≡ true) lines (cone_part plain (live_set plain) root.0 es d l);
+      closed = cone_closed plain (live_set plain) root.0 es d;
+      least = λ others closed has. all_from_end (λ (l : Line). l.entry) (λ a. c a ≡ true → among others a ≡ true) lines
+          (cone_least plain (live_set plain) (among others) root.0 es d closed (all_to_end (λ (l : Line). l.entry) (λ a. name_of plain a ≡ root.0 → among others a ≡ true) lines has));
+    }
+
+-- the root is live
+root_live : (lines : List Line) (root : EventName) → first_marked mark.Undone (root ∷ []) lines ≡ None → AllByRecursion (λ a. name_of plain a ≡ root.0 → a.live ≡ true) (entries_in lines)
+root_live lines root none = all_to_end (λ (l : Line). l.entry) (λ a. name_of plain a ≡ root.0 → a.live ≡ true) lines
+    (all_map _ _ lines (λ l e is. live_at (chosen (root ∷ []) l) (is_live l) (line_name l) e (or_left _ false (eq-eqb root.0 (line_name l).0 (sym is)))) (none_each _ lines none))
+
+-- the names of what has been gathered
+abbrev names_of : List Item → List EventName
+names_of items = map (λ i. i.event.name) items
+
+module _ (all : List Item) (root : EventName) (h : Tells (lines_of all)) (none : first_marked mark.Undone (root ∷ []) (lines_of all) ≡ None) where
+  -- the entries of the lines, the newest first
+  same_entries : map (entry_at all) (reverse all) ≡ entries_in (lines_of all)
+  same_entries = map-reverse (entry_at all) all ∙ ap reverse (sym (map-map (λ (l : Line). l.entry) (line_of all) all))
+
+  whole : IsCone all root (reverse all)
+  whole = is_cone all root (reverse all) (subst (Distinct plain) (sym same_entries) h.lines_are.distinct) (subst (Sound plain (live_set plain)) (sym same_entries) h.lines_are.sound)
+      (all_reversed _ all (cells_items all h)) (subst (AllByRecursion (λ a. name_of plain a ≡ root.0 → a.live ≡ true)) (sym same_entries) (root_live (lines_of all) root none))
+
+  abbrev in_it : Entry plain → Bool
+  in_it = in_cone plain (live_set plain) root.0 (entries_in (lines_of all))
+
+  gathered_is : gathered root [] all ≡ reverse (taken root (reverse all))
+  gathered_is = ap (gathered root []) (sym (reverse-reverse all)) ∙ gathered_taken root (reverse all)
+
+  among_is : among (names_of (gathered root [] all)) ≡ in_it
+  among_is = λ t e. here e t
+    where
+      here : (e : Entry plain) → among (names_of (gathered root [] all)) e ≡ in_it e
+      here e =
+          ap (λ ns. is_in ns e.event.name.0)
+          (map-map (λ (n : EventName). n.0) (λ i. i.event.name) (gathered root [] all) ∙ ap (map (λ (i : Item). i.event.name.0)) gathered_is ∙ map-reverse (λ (i : Item). i.event.name.0) (taken root (reverse all)) ∙ ap reverse whole.names)
+          ∙ any_reversed (λ n. n == e.event.name.0) (cone_names all root (reverse all))
+          ∙ ap (λ es. in_cone plain (live_set plain) root.0 es e) same_entries
+
+  in_order : names_of (gathered root [] all) ≡ map line_name (filter (λ l. in_it l.entry) (lines_of all))
+  in_order =
+      ap names_of (gathered_is ∙ ap reverse whole.members ∙ sym (filter-reverse (λ i. coned all root (reverse all) (entry_at all i)) (reverse all)) ∙ ap (filter (λ i. coned all root (reverse all) (entry_at all i))) (reverse-reverse all)
+      ∙ ap (λ es. filter (λ i. in_cone plain (live_set plain) root.0 es (entry_at all i)) all) same_entries)
+      ∙ sym (ap (map line_name) (filter-map (line_of all) (λ l. in_it l.entry) all) ∙ map-map line_name (line_of all) (filter (λ i. in_it (entry_at all i)) all))
+
+  -- THE CONE: what has been gathered at the end
+  gathered_cone : Cone (lines_of all) root (names_of (gathered root [] all))
+  gathered_cone =
+      let by = subst (ConeBy (lines_of all) root) (sym among_is) (cone_by (lines_of all) root h (root_live (lines_of all) root none)) in
+      record {
+        in_order = in_order ∙ ap (λ c. map line_name (filter (λ (l : Line). c l.entry) (lines_of all))) (sym among_is);
+        has_root = by.has_root;
+        live = by.live;
+        closed = by.closed;
+        least = by.least;
+      }
+
+  pub cone_of : {E : Type 0} (r : Result (Vec EventName Global) E) → IfOk r (λ names. names.items ≡ names_of (gathered root [] all)) → IfOk r (λ names. Cone (lines_of all) root names.items)
+  cone_of (Ok names) g = subst (Cone (lines_of all) root) (sym g) gathered_cone
+  cone_of (Err fault) g = g

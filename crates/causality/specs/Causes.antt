@@ -1,33 +1,53 @@
--- Causes come before what they cause, so that one walk along the journal gathers a cone.
-use Rattle.std.specs.Prelude.{◌≡◌, ◌==◌, ◌||◌, ◌&&◌, Bool, false, not, cond, List, [], ◌∷◌, ◌++◌}
-use Rattle.std.specs.List.{list_any, AllByRecursion}
+-- Where the entry of each name stands, and the places that a set of places has.
+use Rattle.std.specs.Prelude.{◌≡◌, ℕ, Bool, true, false, ◌==◌, List, map, Option, Some, is_some, slice_get, option_map, option_and_then}
+use Rattle.std.specs.List.{list_any}
+use Rattle.std.specs.Option.{option_map_or}
+use Rattle.std.specs.Map.{lookup}
+use Rattle.history.specs.Journal.{is_in}
+use Rattle.history.specs.Chains.{last_of}
 use Rattle.ids.specs.declared.names.EventName.{EventName}
-use Rattle.journal.specs.Journal.{Line, name_of, among, chosen}
+use Rattle.ids.specs.declared.cells.CellKey.{CellKey}
+use Rattle.journal.specs.Items.{Item}
+use Rattle.journal.specs.Lines.{plain, Line, bare, reached}
+use Rattle.causality.specs.declared.causes.NameIndex.{NameIndex}
 
--- a line, with those behind it: no cause of it is its own name or the name of a later line, and no later line has its name
-pub record ComesFirst (l : Line) (later : List Line) : Type 0 where
-  pub itself : among l.causes (name_of l) ≡ false
-  pub before : AllByRecursion (λ m. among l.causes (name_of m) ≡ false) later
-  pub distinct : AllByRecursion (λ m. ((name_of l).0 == (name_of m).0) ≡ false) later
+-- where a name is found
+abbrev pub place_among : List (EventName × ℕ) → EventName → Option ℕ
+place_among places e = lookup (λ n. n.0 == e.0) places
 
--- oldest first
-abbrev pub CausesComeFirst : List Line → Type 0
-CausesComeFirst [] = Unit {0}
-CausesComeFirst (l ∷ later) = ComesFirst l later × CausesComeFirst later
+-- each place that is found has the name, and a name that stands somewhere is found
+pub record Places (places : List (EventName × ℕ)) (names : List EventName) : Type 0 where
+  pub right : (e : EventName) (p : ℕ) → place_among places e ≡ Some p → slice_get names p ≡ Some e
+  pub all : (e : EventName) (p : ℕ) → slice_get names p ≡ Some e → is_some (place_among places e) ≡ true
 
--- a line joins if it is the root, or is live and came of one that has joined
-abbrev pub joins : EventName → List EventName → Line → Bool
-joins root joined l = ((name_of l).0 == root.0) || (l.live && list_any (among joined) l.causes)
+-- an index has the places of the names of these lines
+abbrev pub Indexes : NameIndex → List Line → Type 0
+Indexes index lines = Places index.places.entries (map (λ l. l.entry.event.name) lines)
 
--- those that have joined, with one more if it joins
-abbrev pub joined_with : Bool → List EventName → Line → List EventName
-joined_with b joined l = cond b (joined ++ name_of l ∷ []) joined
+-- where the index has the entry of a writer
+abbrev pub place_of : NameIndex → Option EventName → Option ℕ
+place_of index writer = option_and_then (λ e. place_among index.places.entries e) writer
 
--- those that have joined at the end
-abbrev pub gathered : EventName → List EventName → List Line → List EventName
-gathered root joined [] = joined
-gathered root joined (l ∷ lines) = gathered root (joined_with (joins root joined l) joined l) lines
+-- the number of a writer
+abbrev pub number_of : Option EventName → Option ℕ
+number_of writer = option_map (λ e. e.0) writer
 
--- a live line outside a set came of it
-abbrev pub is_left : List EventName → Line → Bool
-is_left names l = l.live && (not (chosen names l) && list_any (among names) l.causes)
+-- a place is among these
+abbrev pub has_place : List ℕ → ℕ → Bool
+has_place places q = list_any (λ p. p == q) places
+
+-- the item at a place passes a test
+abbrev pub passes_at : (Item → Bool) → List Item → ℕ → Bool
+passes_at test items q = option_map_or test (slice_get items q) false
+
+-- the last writer of a cell when an item was made
+abbrev pub writer_of : Item → CellKey → Option ℕ
+writer_of i k = last_of plain (bare i) k
+
+-- the item at a place is reached from a writer of a cell
+abbrev pub reached_at : List Item → CellKey → Option ℕ → ℕ → Bool
+reached_at items k writer q = passes_at (λ i. is_in (reached items k writer) i.event.name.0) items q
+
+-- the number of the event at a place
+abbrev pub number_at : List Item → ℕ → ℕ
+number_at items q = option_map_or (λ i. i.event.name.0) (slice_get items q) 0

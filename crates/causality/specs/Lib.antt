@@ -1,2 +1,5 @@
-pub mod Selections
+pub mod Journals
 pub mod Causes
+pub mod Selections
+pub mod Walks
+pub mod Exact

@@ -1,57 +1,58 @@
-// The cone of an event: what goes with it when it is undone.
-ghost use Rattle.std.specs.Prelude.{◌≡◌, ◌++◌, ◌∷◌, [], true, IfOk, OnOk};
-ghost use Rattle.ids.specs.declared.names.EventName.{EventName};
-ghost use Rattle.journal.specs.EntryView.{line_of, lines_of};
-ghost use Rattle.journal.specs.Journal.{among, is_entered, Cone};
-ghost use Rattle.causality.specs.Causes.{CausesComeFirst, joins, gathered};
+// What goes with an event that is undone.
+ghost use Rattle.std.specs.Prelude.{◌≡◌, ◌∷◌, [], map, None, IfOk};
+ghost use Rattle.std.specs.List.{list_any};
+ghost use Rattle.journal.specs.Items.{item_of, wrote_one_of};
+ghost use Rattle.journal.specs.Lines.{lines_of};
+ghost use Rattle.journal.specs.declared.entry.Mark.TheVariants as mark;
+ghost use Rattle.causality.specs.Exact.{Cone};
+ghost use Rattle.causality.specs.Journals.{IsJournal};
+ghost use Rattle.causality.specs.Selections.{least_missing, first_marked};
+ghost use Rattle.causality.specs.Walks.{joins, gathered};
 
-use crate::names::has_any;
 use ids::names::EventName;
-use journal::entry::{Entry, Mark};
+use journal::entry::{Entry, Mark, meets};
 use std::alloc::{AllocError, Global};
-use std::collections::BTreeSet;
 
-/// Whether an event joins: it is the root, or it is live and came of one that has joined.
-fn does_join(entry: &Entry, joined: &BTreeSet<EventName>, root: EventName) -> bool
-    ensures { result ≡ joins root joined.now.keys (line_of entry.now) }
+/// Whether an entry touched what one of these wrote.
+fn follows_one(entry: &Entry, joined: &[&Entry]) -> bool
+    ensures { result ≡ list_any (λ a. wrote_one_of a (item_of entry.now)) (map (λ x. item_of x.now) joined.now) }
 {
-    entry.event.name == root || (entry.mark == Mark::Live && has_any(joined, &entry.causes))
+    for member in joined {
+        if meets(member, entry) {
+            return true;
+        }
+    }
+    false
 }
 
-/// Adds a name to a list and to its set.
-fn join(
-    joined: &mut Vec<EventName>,
-    set: &mut BTreeSet<EventName>,
-    name: EventName,
-) -> Result<(), AllocError>
-    ensures names { OnOk result (joined.new.items ≡ joined.old.items ++ name ∷ []) }
-    ensures same { OnOk result (((e : EventName) → among set.old.keys e ≡ among joined.old.items e) → (e : EventName) → among set.new.keys e ≡ among joined.new.items e) }
+/// Whether an event joins: it is the root, or it is live and came of one that has joined.
+fn does_join(entry: &Entry, joined: &[&Entry], root: EventName) -> bool
+    ensures { result ≡ joins root (map (λ x. item_of x.now) joined.now) (item_of entry.now) }
 {
-    joined.push(name)?;
-    set.insert(name)?;
-    Ok(())
+    entry.event.name == root || (entry.mark == Mark::Live && follows_one(entry, joined))
 }
 
 /// Goes once over the journal. Causes come before their event, so each has joined by then, or never will.
 fn gather(alloc: Global, entries: &[Entry], root: EventName) -> Result<Vec<EventName>, AllocError>
-    ensures { IfOk result (λ names. names.items ≡ gathered root [] (lines_of entries.now)) }
+    ensures { IfOk result (λ names. names.items ≡ map (λ i. i.event.name) (gathered root [] (map item_of entries.now))) }
 {
+    let mut names = Vec::new(alloc);
     let mut joined = Vec::new(alloc);
-    let mut set = BTreeSet::new(alloc);
     for entry in entries {
-        if does_join(entry, &set, root) {
-            join(&mut joined, &mut set, entry.event.name)?;
+        if does_join(entry, &joined, root) {
+            names.push(entry.event.name)?;
+            joined.push(entry)?;
         }
     }
-    Ok(joined)
+    Ok(names)
 }
 
-/// The live events that go with an event when it is undone, and the event itself, in order. Fails only for want of
-/// memory.
+/// An event that is live, and all live events that came of it, in the journal's order. Fails only for want of memory.
 pub fn cone(alloc: Global, entries: &[Entry], root: EventName) -> Result<Vec<EventName>, AllocError>
-    requires causes { CausesComeFirst (lines_of entries.now) }
-    requires entered { is_entered (lines_of entries.now) root ≡ true }
-    ensures { IfOk result (λ names. Cone (lines_of entries.now) root names.items) }
+    requires journal { IsJournal (map item_of entries.now) }
+    requires entered { least_missing (root ∷ []) (lines_of (map item_of entries.now)) ≡ None }
+    requires live { first_marked mark.Undone (root ∷ []) (lines_of (map item_of entries.now)) ≡ None }
+    ensures { IfOk result (λ names. Cone (lines_of (map item_of entries.now)) root names.items) }
 {
     gather(alloc, entries, root)
 }

@@ -1,6 +1,9 @@
-//! What came of which event: what a set of events lacks for an undo or a redo, and the cone of an event.
+//! What came of events, and what a set of them lacks for an undo or a redo.
 #![tactic(auto)]
 
+pub mod causes;
 pub mod cone;
 mod names;
+mod returning;
 pub mod selection;
+pub mod theorems;

@@ -1,5 +1,12 @@
-pub mod Lists
+pub mod Among
+pub mod Reversed
+pub mod Touching
+pub mod Alike
+pub mod Telling
+pub mod Lifting
+pub mod Seats
 pub mod Marking
-pub mod KeyMaps
-pub mod Places
-pub mod Index
+pub mod Appending
+pub mod Neighbouring
+pub mod Exchanging
+pub mod Placing

@@ -1,127 +1,125 @@
--- Lists whose first items are changed, and lines that are marked.
-use Rattle.std.proofs.Common.{◌≡◌, ℕ, suc, zero, ◌+◌, ◌<◌, ◌≤◌, List, [], ◌∷◌, Bool, true, false, refl, ap, sym, ◌∙◌, map, set, length, get_or, take, cond, arith, add-one}
-use Rattle.std.specs.Prelude.{◌||◌, ◌&&◌, not}
-use Rattle.ids.specs.declared.names.EventName.{EventName}
-use Rattle.std.specs.List.{filter}
-use Rattle.std.proofs.lemmas.List.{map-set, length-map, take_all}
-use Rattle.std.proofs.lemmas.List.Filters.{length-filter_more}
-use Rattle.journal.specs.Journal.{Line, among, chosen}
-use Rattle.journal.specs.EntryView.{is_live, line_of, lines_of, marked_line, marked_in}
-use Rattle.journal.specs.declared.entry.Entry.{Entry}
-use Rattle.journal.specs.declared.entry.Mark.{Mark}
-use Rattle.journal.specs.declared.entry.Mark.TheVariants as mark
+-- What the journal tells after entries were marked anew: the same lines, each with its mark.
+use Rattle.std.proofs.Common.{◌≡◌, ℕ, Bool, true, false, cond, List, [], ◌∷◌, map, filter, reverse, zip, refl, sym, ap, ap₂, ◌∙◌}
+use Rattle.std.specs.List.{AllByRecursion}
+use Rattle.history.specs.Subject.{Laws}
+use Rattle.history.specs.Journal.{Entry, name_of, caused, live_set, without, both, mark, marked}
+use Rattle.history.specs.Records.{Seen, State, Record, Row, hold, entries_of, swap_state, swap_record, swap_row, undo_rows, redo_rows, redo_state}
+use Rattle.history.proofs.Lists.{all_map}
+use Rattle.history.proofs.Standing.{entries_undone, entries_redone}
+use Rattle.ids.specs.declared.cells.CellKey.{CellKey}
+use Rattle.post.specs.World.{World}
+use Rattle.post.specs.Theory.{Rule, subject, cells}
+use Rattle.journal.specs.Items.{Item}
+use Rattle.journal.specs.Lines.{plain, Line, lines_of}
+use Rattle.journal.specs.Standing.{ItemsStand}
+use Rattle.journal.proofs.Reversed.{map-map, map-reverse, map_same, numbers_reversed}
+use Rattle.journal.proofs.Lifting.{SameMembers}
+use Rattle.journal.proofs.Seats.{map_pair, lines_same, seats_of}
+use Rattle.journal.proofs.Telling.{told_entry, entries_told}
 
--- the first items changed
-abbrev pub partly : {X : Type 0} → (X → X) → ℕ → List X → List X
-partly f zero xs = xs
-partly f (suc i) [] = []
-partly f (suc i) (x ∷ xs) = f x ∷ partly f i xs
+-- a line that is live exactly in this set
+abbrev pub mark_line : (Entry plain → Bool) → Line → Line
+mark_line t l = record l { entry = mark plain t l.entry }
 
--- one more is changed
-partly_next : {X : Type 0} (f : X → X) (xs : List X) (i : ℕ) (d : X) → i < length xs → set (partly f i xs) i (f (get_or xs i d)) ≡ partly f (suc i) xs
-partly_next f [] i d h = absurd (omega arith)
-partly_next f (x ∷ xs) zero d h = refl
-partly_next f (x ∷ xs) (suc i) d h = ap (λ ys. f x ∷ ys) (partly_next f xs i d (omega arith))
+-- the cells of a row's record
+abbrev pub keys_kept : (does : Rule) → Row (subject does) → List CellKey
+keys_kept does p = map (λ r. r.0) p.1
 
--- the item at the index is not changed yet
-partly_there : {X : Type 0} (f : X → X) (xs : List X) (i : ℕ) (d : X) → get_or (partly f i xs) i d ≡ get_or xs i d
-partly_there f [] zero d = refl
-partly_there f [] (suc i) d = refl
-partly_there f (x ∷ xs) zero d = refl
-partly_there f (x ∷ xs) (suc i) d = partly_there f xs i d
+-- the cells of the records of rows
+abbrev pub keys_in : (does : Rule) → List (Row (subject does)) → List (List CellKey)
+keys_in does rows = map (keys_kept does) rows
 
--- at the end all are changed
-pub partly_all : {X : Type 0} (f : X → X) (xs : List X) (i : ℕ) → length xs ≤ i → partly f i xs ≡ map f xs
-partly_all f [] zero h = refl
-partly_all f [] (suc i) h = refl
-partly_all f (x ∷ xs) zero h = absurd (omega arith)
-partly_all f (x ∷ xs) (suc i) h = ap (λ ys. f x ∷ ys) (partly_all f xs i (omega arith))
+module _ (does : Rule) where
+  -- an exchange keeps a record's cells
+  keys_swapped : (kept : Record (subject does)) (w : State (subject does)) → map (λ (r : CellKey × Seen (subject does)). r.0) (swap_record (subject does) kept w) ≡ map (λ (r : CellKey × Seen (subject does)). r.0) kept
+  keys_swapped [] w = refl
+  keys_swapped (r ∷ kept) w = ap (λ l. r.0 ∷ l) (keys_swapped kept (hold (subject does) w r.0 r.1))
 
-length_partly : {X : Type 0} (f : X → X) (i : ℕ) (xs : List X) → length (partly f i xs) ≡ length xs
-length_partly f zero xs = refl
-length_partly f (suc i) [] = refl
-length_partly f (suc i) (x ∷ xs) = ap suc (length_partly f i xs)
+  keys_row : (live b : Bool) (p : Row (subject does)) (w : State (subject does)) → keys_kept does (cond b (swap_row (subject does) live p w) p) ≡ keys_kept does p
+  keys_row live true p w = keys_swapped p.1 w
+  keys_row live false p w = refl
 
-get_or_lines : (es : List Entry) (i : ℕ) (x : Entry) → get_or (lines_of es) i (line_of x) ≡ line_of (get_or es i x)
-get_or_lines [] i x = refl
-get_or_lines (e ∷ es) zero x = refl
-get_or_lines (e ∷ es) (suc i) x = get_or_lines es i x
+  -- so do an undo and a redo
+  pub keys_undone : (c : Entry (subject does) → Bool) (rows : List (Row (subject does))) (w : State (subject does)) → keys_in does (undo_rows (subject does) c rows w) ≡ keys_in does rows
+  keys_undone c [] w = refl
+  keys_undone c (p ∷ rows) w = ap₂ (λ k ks. k ∷ ks) (keys_row false (c p.0) p w) (keys_undone c rows (cond (c p.0) (swap_state (subject does) p.1 w) w))
 
--- an entry that stays is written back
-pub stays_here : (es : List Entry) (i : ℕ) (x : Entry) → x ≡ get_or es i x → set es i (get_or es i x) ≡ set es i x
-stays_here es i x e = ap (λ (y : Entry). set es i y) (sym e)
+  pub keys_redone : (c : Entry (subject does) → Bool) (rows : List (Row (subject does))) (w : State (subject does)) → keys_in does (redo_rows (subject does) c rows w) ≡ keys_in does rows
+  keys_redone c [] w = refl
+  keys_redone c (p ∷ rows) w = ap₂ (λ k ks. k ∷ ks) (keys_row true (c p.0) p (redo_state (subject does) c rows w)) (keys_redone c rows w)
 
--- the mark of the entry that was read
-pub marked_here : (m : Mark) (es : List Entry) (i : ℕ) (x : Entry) → x ≡ get_or es i x → set es i (record (get_or es i x) { mark = m }) ≡ set es i (record x { mark = m })
-marked_here m es i x e = ap (λ (y : Entry). set es i (record y { mark = m })) (sym e)
+  -- the entry that is told of an entry of which the record has these cells
+  told_keys : List (Entry (subject does)) → Entry (subject does) × List CellKey → Entry plain
+  told_keys es p = record {
+    event = p.0.event;
+    foot = record { reads = map (λ q. q.0) p.0.lasts; writes = map (λ k. (k, tt)) p.1 };
+    causes = map (name_of (subject does)) (filter (caused (subject does) p.0) (reverse es));
+    live = p.0.live;
+    lasts = p.0.lasts;
+  }
 
--- the line of the entry that was read is one of those before
-line_there : (f : Line → Line) (start : List Line) (was : List Entry) (i : ℕ) (x : Entry) → lines_of was ≡ partly f i start → x ≡ get_or was i x → line_of x ≡ get_or start i (line_of x)
-line_there f start was i x invariant read = ap line_of read ∙ sym (get_or_lines was i x) ∙ ap (λ ls. get_or ls i (line_of x)) invariant ∙ partly_there f start i (line_of x)
+  told_is : (es : List (Entry (subject does))) (p : Row (subject does)) → told_entry does es p ≡ told_keys es (p.0, keys_kept does p)
+  unfolding told_keys
+  told_is es p = ap (λ ws. record (told_entry does es p) { foot = record { reads = map (λ q. q.0) p.0.lasts; writes = ws } })
+      (sym (map-map (λ (k : CellKey). (k, tt {0})) (λ (r : CellKey × Seen (subject does)). r.0) p.1))
 
-is_within : (f : Line → Line) (start : List Line) (was : List Entry) (i : ℕ) → i < length was → lines_of was ≡ partly f i start → i < length start
-is_within f start was i h invariant = omega (arith, h, length_partly f i start, ap length invariant, length-map was line_of)
+  with_mark : Entry plain → Bool → Entry plain
+  with_mark e b = record e { live = b }
 
--- one more entry is marked
-pub marked : (f : Line → Line) (start : List Line) (was now : List Entry) (i : ℕ) (x y : Entry) → i < length was → lines_of was ≡ partly f i start → x ≡ get_or was i x → now ≡ set was i y → line_of y ≡ f (line_of x) → lines_of now ≡ partly f (i + 1) start
-marked f start was now i x y h invariant read written changed =
-    ap lines_of written
-    ∙ map-set line_of was i y
-    ∙ ap (λ l. set (lines_of was) i l) (changed ∙ ap f (line_there f start was i x invariant read))
-    ∙ ap (λ ls. set ls i (f (get_or start i (line_of x)))) invariant
-    ∙ rw add-one (partly_next f start i (line_of x) (is_within f start was i h invariant))
+  -- the causes that are told do not depend on marks
+  causes_marked : (u : Entry (subject does) → Bool) (es : List (Entry (subject does))) (p : Entry (subject does) × List CellKey) → told_keys (marked (subject does) u es) (mark (subject does) u p.0, p.1) ≡ with_mark (told_keys es p) (u p.0)
+  unfolding told_keys with_mark
+  causes_marked u es p = ap (λ ns. record (told_keys es p) { causes = ns; live = u p.0 })
+      (numbers_reversed (mark (subject does) u) (caused (subject does) (mark (subject does) u p.0)) (name_of (subject does)) es)
 
--- one more entry is counted where it is among these
-pub counted : (names : List EventName) (f : Line → Line) (start : List Line) (was : List Entry) (i n m : ℕ) (x : Entry) (b : Bool) → i < length was → lines_of was ≡ partly f i start → x ≡ get_or was i x
-    → among names x.event.name ≡ b → n ≡ length (filter (chosen names) (take i start)) → m ≡ n + cond b 1 0 → m ≡ length (filter (chosen names) (take (i + 1) start))
-counted names f start was i n m x b h invariant read is so_far more =
-    let here : b ≡ chosen names (get_or start i (line_of x)) = sym is ∙ ap (chosen names) (line_there f start was i x invariant read) in
-    more ∙ (λ j. so_far j + cond (here j) 1 0) ∙ sym (length-filter_more (chosen names) start i (line_of x) (is_within f start was i h invariant))
+  told_all : (rows : List (Row (subject does))) → map (told_entry does (entries_of rows)) rows ≡ map (told_keys (entries_of rows)) (zip (entries_of rows) (keys_in does rows))
+  told_all rows =
+      map_same _ _ rows (all_same rows)
+      ∙ sym (map-map (told_keys (entries_of rows)) (λ (p : Row (subject does)). (p.0, keys_kept does p)) rows)
+      ∙ ap (map (told_keys (entries_of rows))) (map_pair (λ (p : Row (subject does)). p.0) (keys_kept does) rows)
+    where
+      all_same : (ps : List (Row (subject does))) → AllByRecursion (λ p. told_entry does (entries_of rows) p ≡ told_keys (entries_of rows) (p.0, keys_kept does p)) ps
+      all_same [] = tt
+      all_same (p ∷ ps) = (told_is (entries_of rows) p, all_same ps)
 
--- at the end all are
-pub counted_all : (names : List EventName) (start : List Entry) (i n : ℕ) → length start ≤ i → n ≡ length (filter (chosen names) (take i (lines_of start))) → n ≡ length (filter (chosen names) (lines_of start))
-counted_all names start i n h so_far = so_far ∙ ap (λ (ls : List Line). length (filter (chosen names) ls)) (take_all i (lines_of start) (omega (arith, length-map start line_of)))
+  told_marked : (u : Entry (subject does) → Bool) (es : List (Entry (subject does))) (fs : List (Entry (subject does))) (ks : List (List CellKey))
+      → map (told_keys (marked (subject does) u es)) (zip (marked (subject does) u fs) ks) ≡ map (λ p. with_mark (told_keys es p) (u p.0)) (zip fs ks)
+  told_marked u es [] ks = refl
+  told_marked u es (f ∷ fs) [] = refl
+  told_marked u es (f ∷ fs) (k ∷ ks) = ap₂ (λ x xs. x ∷ xs) (causes_marked u es (f, k)) (told_marked u es fs ks)
 
-pub marked_all : (m : Mark) (names : List EventName) (start now : List Entry) (i : ℕ) → length start ≤ i → lines_of now ≡ partly (marked_line m names) i (lines_of start) → lines_of now ≡ marked_in m names (lines_of start)
-marked_all m names start now i h invariant = invariant ∙ partly_all (marked_line m names) (lines_of start) i (omega (arith, length-map start line_of))
+  -- THE LEMMA: entries that are marked by a set are told as they were, with these marks
+  entries_marked : (t : Entry plain → Bool) (u : Entry (subject does) → Bool) (rows others : List (Row (subject does))) → SameMembers does t u rows
+      → entries_of others ≡ marked (subject does) u (entries_of rows) → keys_in does others ≡ keys_in does rows
+      → map (told_entry does (entries_of others)) others ≡ map (mark plain t) (map (told_entry does (entries_of rows)) rows)
+  unfolding told_keys with_mark
+  entries_marked t u rows others same entries keys =
+      told_all others
+      ∙ ap₂ (λ es ks. map (told_keys es) (zip es ks)) entries keys
+      ∙ told_marked u (entries_of rows) (entries_of rows) (keys_in does rows)
+      ∙ ap (map (λ p. with_mark (told_keys (entries_of rows) p) (u p.0))) (sym (map_pair (λ (p : Row (subject does)). p.0) (keys_kept does) rows))
+      ∙ map-map _ (λ (p : Row (subject does)). (p.0, keys_kept does p)) rows
+      ∙ map_same _ _ rows (all_map _ _ rows (λ p agree. ap (λ (e : Entry plain). with_mark e (u p.0)) (sym (told_is (entries_of rows) p)) ∙ ap (with_mark (told_entry does (entries_of rows) p)) (sym agree)) same)
+      ∙ sym (map-map (mark plain t) (told_entry does (entries_of rows)) rows)
 
-and_false : (b : Bool) → (b && false) ≡ false
-and_false true = refl
-and_false false = refl
+  module _ (l : Laws (subject does)) {start then : World} {next later : ℕ} {rows others : List (Row (subject does))} {items after : List Item} {state other : State cells}
+      (h : ItemsStand does start next rows items state) (g : ItemsStand does then later others after other) where
+    pub lines_marked : (t : Entry plain → Bool) (u : Entry (subject does) → Bool) → SameMembers does t u rows
+        → entries_of others ≡ marked (subject does) u (entries_of rows) → keys_in does others ≡ keys_in does rows → map (λ i. i.seat) after ≡ map (λ i. i.seat) items
+        → lines_of after ≡ map (mark_line t) (lines_of items)
+    lines_marked t u same entries keys seats = lines_same _ _
+        (seats_of after ∙ seats ∙ sym (seats_of items) ∙ sym (map-map (λ (m : Line). m.seat) (mark_line t) (lines_of items)))
+        (entries_told does l g ∙ entries_marked t u rows others same entries keys ∙ sym (ap (map (mark plain t)) (entries_told does l h))
+        ∙ map-reverse (mark plain t) (map (λ (m : Line). m.entry) (lines_of items))
+        ∙ ap reverse (map-map (mark plain t) (λ (m : Line). m.entry) (lines_of items) ∙ sym (map-map (λ (m : Line). m.entry) (mark_line t) (lines_of items))))
 
-and_true : (b : Bool) → (b && true) ≡ b
-and_true true = refl
-and_true false = refl
+-- what is told after an undo, and after a redo
+module _ (does : Rule) (l : Laws (subject does)) {start then : World} {next later : ℕ} {rows : List (Row (subject does))} {items after : List Item} {state other : State cells} (h : ItemsStand does start next rows items state)
+    (t : Entry plain → Bool) (c : Entry (subject does) → Bool) where
+  pub lines_undone : ItemsStand does then later (undo_rows (subject does) c rows state) after other → SameMembers does t (without (live_set (subject does)) c) rows → map (λ i. i.seat) after ≡ map (λ i. i.seat) items
+      → lines_of after ≡ map (mark_line t) (lines_of items)
+  lines_undone g same seats = lines_marked does l h g t (without (live_set (subject does)) c) same (entries_undone (subject does) c rows state) (keys_undone does c rows state) seats
 
-or_true : (b : Bool) → (b || true) ≡ true
-or_true true = refl
-or_true false = refl
-
-or_false : (b : Bool) → (b || false) ≡ b
-or_false true = refl
-or_false false = refl
-
-pub marked_chosen : (m : Mark) (names : List EventName) (x : Entry) → among names x.event.name ≡ true → line_of (record x { mark = m }) ≡ marked_line m names (line_of x)
-marked_chosen mark.Live names x e =
-    let live : true ≡ (is_live x.mark || among names x.event.name) = sym (ap (λ b. is_live x.mark || b) e ∙ or_true (is_live x.mark)) in
-    λ i. record (line_of x) { live = live i }
-marked_chosen mark.Undone names x e =
-    let live : false ≡ (is_live x.mark && not (among names x.event.name)) = sym (ap (λ b. is_live x.mark && not b) e ∙ and_false (is_live x.mark)) in
-    λ i. record (line_of x) { live = live i }
-
-pub marked_other : (m : Mark) (names : List EventName) (x : Entry) → among names x.event.name ≡ false → line_of x ≡ marked_line m names (line_of x)
-marked_other mark.Live names x e =
-    let live : is_live x.mark ≡ (is_live x.mark || among names x.event.name) = sym (ap (λ b. is_live x.mark || b) e ∙ or_false (is_live x.mark)) in
-    λ i. record (line_of x) { live = live i }
-marked_other mark.Undone names x e =
-    let live : is_live x.mark ≡ (is_live x.mark && not (among names x.event.name)) = sym (ap (λ b. is_live x.mark && not b) e ∙ and_true (is_live x.mark)) in
-    λ i. record (line_of x) { live = live i }
-
--- a mark keeps what a line wrote
-pub same_written : (m : Mark) (names : List EventName) (l : Line) → (marked_line m names l).written ≡ l.written
-same_written mark.Live names l = refl
-same_written mark.Undone names l = refl
-
--- marks leave as many entries
-pub same_length : (f : Line → Line) (xs ys : List Entry) → lines_of xs ≡ map f (lines_of ys) → length xs ≡ length ys
-same_length f xs ys h = sym (length-map xs line_of) ∙ ap length h ∙ length-map (lines_of ys) f ∙ length-map ys line_of
+  pub lines_redone : ItemsStand does then later (redo_rows (subject does) c rows state) after other → SameMembers does t (both (live_set (subject does)) c) rows → map (λ i. i.seat) after ≡ map (λ i. i.seat) items
+      → lines_of after ≡ map (mark_line t) (lines_of items)
+  lines_redone g same seats = lines_marked does l h g t (both (live_set (subject does)) c) same (entries_redone (subject does) c rows state) (keys_redone does c rows state) seats

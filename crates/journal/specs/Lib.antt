@@ -1,5 +1,3 @@
-pub mod Journal
-pub mod EntryView
-pub mod JournalView
-pub mod Writers
-pub mod WritersView
+pub mod Items
+pub mod Lines
+pub mod Standing

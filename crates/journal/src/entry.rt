@@ -1,13 +1,17 @@
-// The entries of the journal: one for each event, live or undone.
-ghost use Rattle.std.specs.Prelude.{◌≡◌, IfOk, length};
-ghost use Rattle.std.specs.List.{filter, slice_get};
-ghost use Rattle.journal.specs.EntryView.{lines_of, marked_in};
-ghost use Rattle.journal.specs.Journal.{among, chosen, is_entered};
-ghost use Rattle.journal.specs.Writers.{live_name, live_names};
+// The entries of the journal.
+ghost use Rattle.std.specs.Prelude.{◌≡◌, map, IfOk};
+ghost use Rattle.std.specs.List.{list_any};
+ghost use Rattle.ids.specs.CellKeys.{same_key};
+ghost use Rattle.post.specs.Records.{record_of};
+ghost use Rattle.post.specs.Theory.{state_of_world};
+ghost use Rattle.journal.specs.Items.{item_of, lasts_of, wrote_one_of, may_exchange};
 
-use ids::names::{CellKey, EventName};
+use ids::cells::CellKey;
+use ids::names::EventName;
+use post::event::Event;
+use post::record::CellRecord;
+use post::world::World;
 use std::alloc::{AllocError, Global};
-use world::event::Event;
 
 /// Whether an event counts: an undone one is as if it had never been.
 #[derive(Clone, Copy, PartialEq, Eq)]
@@ -16,81 +20,82 @@ pub enum Mark {
     Undone,
 }
 
-/// An event, what it touched, and what it came of.
+/// A cell that an event touched, and the event that had written it last.
 #[derive(Drop)]
+pub struct Touched {
+    pub key: CellKey,
+    pub writer: Option<EventName>,
+}
+
+/// An event, with the cells that it touched, and a record of each cell that it wrote: what was there before it, while it is
+/// live, and what it wrote, while it is undone.
 pub struct Entry {
     pub event: Event,
-    /// The cells that it read or wrote.
-    pub touched: Vec<CellKey>,
-    /// Those that it wrote.
-    pub written: Vec<CellKey>,
-    /// The events before it, live when it was made, that wrote a cell that it touches.
-    pub causes: Vec<EventName>,
+    pub seat: u64,
     pub mark: Mark,
+    pub touched: Vec<Touched>,
+    pub records: Vec<CellRecord>,
 }
 
-/// Whether a name is one of these.
-pub fn is_among(names: &[EventName], name: EventName) -> bool
-    ensures { result ≡ among names.now name }
-{
-    for other in names {
-        if *other == name {
-            return true;
-        }
-    }
-    false
-}
-
-/// The name of the entry at a position, if it is there and live.
-fn live_name(entries: &[Entry], position: usize) -> Option<EventName>
-    ensures { result ≡ live_name (slice_get (lines_of entries.now) position) }
-{
-    match entries.get(position) {
-        Some(entry) if entry.mark == Mark::Live => Some(entry.event.name),
-        _ => None,
+// By hand, so that what drops one elsewhere calls this and is not proved anew for all that it holds.
+impl Drop for Entry {
+    fn drop(self) {
+        let Entry {
+            event: _,
+            seat: _,
+            mark: _,
+            touched: _,
+            records: _,
+        } = self;
     }
 }
 
-/// The names of the live ones of the entries at these positions.
-pub(crate) fn live_names(
+/// Cells with their last writers. Fails only for want of memory.
+pub fn with_writers(
     alloc: Global,
-    entries: &[Entry],
-    positions: &[usize],
-) -> Result<Vec<EventName>, AllocError>
-    ensures { IfOk result (λ names. names.items ≡ live_names positions.now (lines_of entries.now)) }
+    world: &World,
+    keys: &[CellKey],
+) -> Result<Vec<Touched>, AllocError>
+    ensures { IfOk result (λ all. lasts_of all.items ≡ map (λ k. (k, (state_of_world world.now k).1)) keys.now) }
 {
-    let mut names = Vec::new(alloc);
-    for position in positions {
-        if let Some(name) = live_name(entries, *position) {
-            names.push(name)?;
-        }
+    let mut all = Vec::new(alloc);
+    for key in keys {
+        let writer = world.last_writer(key);
+        all.push(Touched {
+            key: key.share()?,
+            writer,
+        })?;
     }
-    Ok(names)
+    Ok(all)
 }
 
-/// Whether the journal has an event of this name.
-pub fn is_entered(entries: &[Entry], name: EventName) -> bool
-    ensures { result ≡ is_entered (lines_of entries.now) name }
+/// Whether a record is of one of these cells.
+fn is_touched(kept: &CellRecord, touched: &[Touched]) -> bool
+    ensures { result ≡ list_any (λ q. same_key (record_of kept.now).0 q.0) (lasts_of touched.now) }
 {
-    for entry in entries {
-        if entry.event.name == name {
+    for cell in touched {
+        if kept.is_of(&cell.key) {
             return true;
         }
     }
     false
 }
 
-/// Gives these events a mark, and answers how many of the entries are among them.
-pub(crate) fn mark_those(entries: &mut [Entry], names: &[EventName], mark: Mark) -> usize
-    ensures marked { lines_of entries.new ≡ marked_in mark names.now (lines_of entries.old) }
-    ensures count { result ≡ length (filter (chosen names.now) (lines_of entries.old)) }
+/// Whether the first entry wrote a cell that the second touched.
+pub fn meets(first: &Entry, second: &Entry) -> bool
+    ensures { result ≡ wrote_one_of (item_of first.now) (item_of second.now) }
 {
-    let mut count = 0;
-    for entry in entries.iter_mut() {
-        if is_among(names, entry.event.name) {
-            entry.mark = mark;
-            count += 1;
+    for kept in &first.records {
+        if is_touched(kept, &second.touched) {
+            return true;
         }
     }
-    count
+    false
+}
+
+/// Whether neighbours may change places: neither wrote a cell that the other touched.
+pub fn may_exchange(entry: &Entry, behind: &Entry) -> bool
+    ensures { result ≡ may_exchange (item_of entry.now) (item_of behind.now) }
+{
+    !meets(entry, behind) && !meets(behind, entry)
 }

@@ -1,6 +1,4 @@
-//! The journal: an entry for each event, with the cells that it touched and what it came of.
+//! The entries of the journal, and what it tells of them.
 #![tactic(auto)]
 
 pub mod entry;
-pub mod journal;
-mod writers;

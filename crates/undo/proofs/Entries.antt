@@ -6,9 +6,9 @@ use Rattle.std.specs.List.{list_all, slice_get}
 use Rattle.history.specs.Walks.{step_at}
 use Rattle.history.specs.Records.{State, Record, hold, swap_record}
 use Rattle.ids.specs.declared.cells.CellKey.{CellKey}
-use Rattle.undo.specs.State.{cells, all_pass}
-use Rattle.undo.specs.Items.{Item, item_of, keys_at, all_ready, records_at}
-use Rattle.undo.specs.declared.entry.Entry.{Entry}
+use Rattle.post.specs.Theory.{cells, all_pass}
+use Rattle.journal.specs.Items.{Item, item_of, keys_at, all_ready, records_at}
+use Rattle.journal.specs.declared.entry.Entry.{Entry}
 use Rattle.undo.proofs.Looping.{and_first}
 
 pub get-map : {A B : Type 0} (f : A → B) (xs : List A) (i : ℕ) (d : A) → i < length xs → slice_get (map f xs) i ≡ Some (f (get_or xs i d))

@@ -1,8 +1,8 @@
 -- Neighbours of a list change places.
 use Rattle.std.proofs.Common.{◌≡◌, ℕ, zero, suc, ◌+◌, ◌<◌, List, [], ◌∷◌, length, set, get_or, map, refl, ap, ◌∙◌, arith}
 use Rattle.std.specs.List.{swap}
-use Rattle.undo.specs.Items.{item_of, may_exchange, neighbours, exchanged}
-use Rattle.undo.specs.declared.entry.Entry.{Entry}
+use Rattle.journal.specs.Items.{item_of, may_exchange, neighbours, exchanged}
+use Rattle.journal.specs.declared.entry.Entry.{Entry}
 
 set_is : {A : Type 0} (xs : List A) (i : ℕ) (d : A) → i + 1 < length xs → set (set xs i (get_or xs (i + 1) d)) (i + 1) (get_or xs i d) ≡ exchanged i xs
 set_is [] i d h = absurd (omega arith)
@@ -15,12 +15,6 @@ set_is (b ∷ a ∷ xs) (suc i) d h =
 pub swap_is : {A : Type 0} (xs : List A) (i : ℕ) → i + 1 < length xs → swap xs i (i + 1) ≡ exchanged i xs
 swap_is [] i h = absurd (omega arith)
 swap_is (x ∷ xs) i h = set_is (x ∷ xs) i x h
-
-pub map-exchanged : {A B : Type 0} (f : A → B) (n : ℕ) (xs : List A) → map f (exchanged n xs) ≡ exchanged n (map f xs)
-map-exchanged f n [] = refl
-map-exchanged f n (b ∷ []) = refl
-map-exchanged f zero (b ∷ a ∷ xs) = refl
-map-exchanged f (suc n) (b ∷ a ∷ xs) = ap (λ l. f b ∷ l) (map-exchanged f n (a ∷ xs))
 
 pub may_at : (xs : List Entry) (n : ℕ) (d e : Entry) → n + 1 < length xs → neighbours may_exchange n (map item_of xs) ≡ may_exchange (item_of (get_or xs n d)) (item_of (get_or xs (n + 1) e))
 may_at [] n d e h = absurd (omega arith)

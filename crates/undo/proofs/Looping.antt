@@ -1,9 +1,8 @@
 -- One more of a list.
-use Rattle.std.proofs.Common.{◌≡◌, ℕ, zero, suc, ◌+◌, ◌<◌, ◌%◌, Option, Bool, true, false, ◌&&◌, cond, List, [], ◌∷◌, ◌++◌, length, take, drop, set, get_or, map, refl, sym, ap, ap₂, ◌∙◌, append_assoc, add-one, arith}
-use Rattle.std.specs.List.{list_all, list_any}
+use Rattle.std.proofs.Common.{◌≡◌, ℕ, ◌+◌, ◌<◌, ◌%◌, Option, Bool, true, false, ◌&&◌, cond, List, [], ◌∷◌, ◌++◌, length, take, drop, set, get_or, map, refl, sym, ap, ap₂, ◌∙◌, append_assoc, add-one, arith}
+use Rattle.std.specs.List.{list_all}
 use Rattle.std.proofs.Math.Nat.{mod-add-mod}
 use Rattle.std.proofs.Math.Seq.{drop-cons}
-use Rattle.std.proofs.lemmas.Bool.{or_left, or_right}
 use Rattle.std.proofs.lemmas.List.{drop-set-lt, take_more, take_more_set, map-append}
 use Rattle.std.proofs.lemmas.List.Folds.{list_all-append}
 use Rattle.cells.specs.Seen.{Seen}
@@ -11,7 +10,7 @@ use Rattle.history.specs.Records.{State, hold, swap_state, swap_record}
 use Rattle.ids.specs.CellKeys.{same_key}
 use Rattle.ids.specs.declared.cells.CellKey.{CellKey}
 use Rattle.post.specs.World.{Content}
-use Rattle.undo.specs.State.{cells, numbered}
+use Rattle.post.specs.Theory.{cells, numbered}
 
 pub and_second : (a b : Bool) → (a && b) ≡ true → b ≡ true
 and_second true b h = h
@@ -91,9 +90,3 @@ made_more f room new xs i d h kept made all =
     ∙ ap (list_all (λ p. new p.0)) (map-append f (take i xs) (get_or xs i d ∷ []))
     ∙ list_all-append (λ p. new p.0) (map f (take i xs)) (f (get_or xs i d) ∷ [])
     ∙ rw (all_kept room new kept (map f (take i xs)) all, made) refl
-
--- an item that passes is one of those that pass
-pub any_at : {A B : Type 0} (p : B → Bool) (f : A → B) (xs : List A) (i : ℕ) (d : A) → i < length xs → p (f (get_or xs i d)) ≡ true → list_any p (map f xs) ≡ true
-any_at p f [] i d h is = absurd (omega arith)
-any_at p f (x ∷ xs) zero d h is = or_left _ _ is
-any_at p f (x ∷ xs) (suc i) d h is = or_right (p (f x)) _ (any_at p f xs i d (omega arith) is)

@@ -3,7 +3,7 @@ use Rattle.std.proofs.Common.{◌≡◌, ℕ, zero, suc, Bool, List, [], ◌∷�
 use Rattle.std.specs.Option.{option_map, option_map_or}
 use Rattle.std.specs.List.{slice_get}
 use Rattle.history.specs.Walks.{step_at, walk}
-use Rattle.undo.specs.Items.{neighbours}
+use Rattle.journal.specs.Items.{neighbours}
 use Rattle.undo.proofs.Entries.{map-set}
 
 get-map : {A B : Type 0} (f : A → B) (xs : List A) (i : ℕ) → slice_get (map f xs) i ≡ option_map f (slice_get xs i)

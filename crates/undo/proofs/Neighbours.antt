@@ -1,22 +1,22 @@
 -- Neighbours that may change places leave a core standing.
-use Rattle.std.proofs.Common.{◌≡◌, ℕ, suc, ◌+◌, Bool, true, false, cond, ◌&&◌, ◌||◌, not, List, [], ◌∷◌, ◌++◌, Some, is_some, length, map, reverse, refl, sym, ap, ap₂, ◌∙◌, subst, arith}
+use Rattle.std.proofs.Common.{◌≡◌, ℕ, suc, ◌+◌, Bool, true, false, ◌&&◌, not, List, [], ◌∷◌, ◌++◌, length, map, reverse, refl, sym, ap, ap₂, ◌∙◌, subst, arith}
 use mathlib.Core.List.{reverse_aux}
 use Rattle.std.specs.List.{list_any, AllByRecursion}
-use Rattle.std.proofs.lemmas.Bool.{or_left, or_right, false≢true}
 use Rattle.std.proofs.lemmas.List.{reverse-reverse, length-map, map-append}
-use Rattle.history.specs.Subject.{Laws, found, touches, meets}
+use Rattle.history.specs.Subject.{Laws, touches, meets}
 use Rattle.history.specs.Records.{State, Row, Fits, entries_of}
 use Rattle.history.specs.Chains.{HasCells, Chained}
 use Rattle.history.specs.Stands.{Stands}
 use Rattle.history.proofs.Standing.{exchanged_stands}
 use Rattle.ids.specs.CellKeys.{same_key}
-use Rattle.ids.specs.declared.cells.CellKey.{CellKey}
-use Rattle.undo.specs.State.{Rule, subject, cells}
-use Rattle.undo.specs.Items.{Item, may_exchange, neighbours, exchanged}
+use Rattle.post.specs.Theory.{Rule, subject, cells}
+use Rattle.journal.specs.Items.{Item, may_exchange, neighbours, exchanged}
 use Rattle.undo.specs.CoreView.{items_of}
-use Rattle.undo.specs.Standing.{Told, told, row_told, Exchanges}
+use Rattle.journal.specs.Standing.{Told, told, row_told}
+use Rattle.journal.proofs.Neighbouring.{map-exchanged, onto-append, exchanged-onto}
+use Rattle.journal.proofs.Touching.{some_found, any_found}
+use Rattle.undo.specs.Standing.{Exchanges}
 use Rattle.undo.proofs.Looping.{and_first, and_second}
-use Rattle.undo.proofs.Exchanging.{map-exchanged}
 use Rattle.undo.proofs.Mapping.{neighbours-map}
 
 -- the same tests of what is told
@@ -29,20 +29,6 @@ may_told b a = not (wrote_told b a) && not (wrote_told a b)
 may_is : (n : ℕ) (items : List Item) → neighbours may_exchange n items ≡ neighbours may_told n (map told items)
 unfolding wrote_told may_told
 may_is n items = neighbours-map told may_exchange may_told (λ x y. refl) n items
-
-onto-append : {A : Type 0} (us vs zs : List A) → reverse_aux (us ++ vs) zs ≡ reverse_aux vs (reverse_aux us zs)
-onto-append [] vs zs = refl
-onto-append (u ∷ us) vs zs = onto-append us vs (u ∷ zs)
-
-exchanged-suc : {A : Type 0} (k : ℕ) (v : A) (ws : List A) → exchanged (suc k) (v ∷ ws) ≡ v ∷ exchanged k ws
-exchanged-suc k v [] = refl
-exchanged-suc k v (w ∷ ws) = refl
-
-exchanged-onto : {A : Type 0} (vs : List A) (k : ℕ) (ws : List A) → exchanged (length vs + k) (reverse_aux vs ws) ≡ reverse_aux vs (exchanged k ws)
-exchanged-onto [] k ws = let e : 0 + k ≡ k = omega arith in ap (λ n. exchanged n ws) e
-exchanged-onto (v ∷ vs) k ws =
-    let e : length (v ∷ vs) + k ≡ length vs + suc k = omega arith in
-    ap (λ n. exchanged n (reverse_aux vs (v ∷ ws))) e ∙ exchanged-onto vs (suc k) (v ∷ ws) ∙ ap (reverse_aux vs) (exchanged-suc k v ws)
 
 may-suc : {A : Type 0} (test : A → A → Bool) (k : ℕ) (v : A) (ws : List A) → neighbours test (suc k) (v ∷ ws) ≡ neighbours test k ws
 may-suc test k v [] = refl
@@ -63,35 +49,13 @@ not_is true h = sym h
 not_is false h = refl
 
 module _ (does : Rule) (l : Laws (subject does)) where
-  -- a cell that is among the writes and passes a test
-  some_found : {V : Type 0} (test : CellKey → Bool) (ps : List (CellKey × V)) → list_any (λ p. test p.0) ps ≡ true → (k : CellKey) × (test k ≡ true) × (is_some (found (subject does) ps k) ≡ true)
-  some_found test [] h = absurd (false≢true h)
-  some_found {V = V} test (p ∷ ps) h = by (test p.0) refl (λ g. some_found test ps g)
-    where
-      more : (k : CellKey) (x : Bool) → is_some (found (subject does) ps k) ≡ true → is_some (cond x (Some p.1) (found (subject does) ps k)) ≡ true
-      more k true g = refl
-      more k false g = g
-
-      by : (x : Bool) → test p.0 ≡ x → (list_any (λ q. test q.0) ps ≡ true → (k : CellKey) × (test k ≡ true) × (is_some (found (subject does) ps k) ≡ true))
-          → (k : CellKey) × (test k ≡ true) × (is_some (found (subject does) (p ∷ ps) k) ≡ true)
-      by true e ih = (p.0, e, ap (λ x. is_some (cond x (Some p.1) (found (subject does) ps p.0))) (l.same_self p.0))
-      by false e ih = let g = ih (sym (ap (λ x. x || list_any (λ q. test q.0) ps) e) ∙ h) in (g.0, g.1, more g.0 (same_key p.0 g.0) g.2)
-
-  any_found : {V : Type 0} (test : CellKey → Bool) (ps : List (CellKey × V)) (k : CellKey) → is_some (found (subject does) ps k) ≡ true → test k ≡ true → list_any (λ p. test p.0) ps ≡ true
-  any_found test [] k h is = absurd (false≢true h)
-  any_found test (p ∷ ps) k h is = by (same_key p.0 k) refl h (any_found test ps k)
-    where
-      by : (x : Bool) → same_key p.0 k ≡ x → is_some (cond x (Some p.1) (found (subject does) ps k)) ≡ true → (is_some (found (subject does) ps k) ≡ true → test k ≡ true → list_any (λ q. test q.0) ps ≡ true) → (test p.0 || list_any (λ q. test q.0) ps) ≡ true
-      by true e g ih = or_left _ _ (ap test (l.same_exact p.0 k e) ∙ is)
-      by false e g ih = or_right (test p.0) _ (ih g is)
-
   -- what is told of two rows holds of their footprints
   not_met : (p q : Row (subject does)) → Fits (subject does) p.0.foot p.1 → HasCells (subject does) q.0.foot q.0.lasts → wrote_told (row_told does p) (row_told does q) ≡ false → meets (subject does) p.0.foot q.0.foot ≡ false
   unfolding wrote_told
   not_met p q fits have h = not_true _ (λ met.
-      let g = some_found (touches (subject does) q.0.foot) p.0.foot.writes met in
+      let g = some_found does l (touches (subject does) q.0.foot) p.0.foot.writes met in
       let is : list_any (λ r. same_key g.0 r.0) q.0.lasts ≡ true = have g.0 ∙ g.1 in
-      sym h ∙ any_found (λ k. list_any (λ r. same_key k r.0) q.0.lasts) p.1 g.0 (fits.cells g.0 ∙ g.2) is)
+      sym h ∙ any_found does l (λ k. list_any (λ r. same_key k r.0) q.0.lasts) p.1 g.0 (fits.cells g.0 ∙ g.2) is)
 
   traced_at : (xs : List (Row (subject does))) (a : Row (subject does)) (ys : List (Row (subject does))) → Chained (subject does) (entries_of (xs ++ a ∷ ys)) → HasCells (subject does) a.0.foot a.0.lasts
   traced_at [] a ys h = h.0.cells

@@ -8,9 +8,9 @@ use Rattle.history.specs.Walks.{step_at, walk}
 use Rattle.history.specs.Records.{State, Record}
 use Rattle.ids.specs.declared.cells.CellKey.{CellKey}
 use Rattle.post.specs.Events.{Event}
-use Rattle.undo.specs.State.{cells, all_pass}
-use Rattle.undo.specs.Items.{Item, item_of, keys_at, pass, key_count, records_at, swap_item, entered}
-use Rattle.undo.specs.declared.entry.Entry.{Entry}
+use Rattle.post.specs.Theory.{cells, all_pass}
+use Rattle.journal.specs.Items.{Item, item_of, keys_at, pass, key_count, records_at, swap_item, entered}
+use Rattle.journal.specs.declared.entry.Entry.{Entry}
 use Rattle.undo.proofs.Looping.{and_first, and_second, both_true}
 use Rattle.undo.proofs.Entries.{all_keys, count_at}
 

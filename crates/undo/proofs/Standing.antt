@@ -1,5 +1,5 @@
 -- A core stands after its calls.
-use Rattle.std.proofs.Common.{◌≡◌, ℕ, ◌+◌, Bool, true, false, List, [], ◌∷◌, ◌++◌, Option, map, reverse, refl, sym, ap, ◌∙◌, subst}
+use Rattle.std.proofs.Common.{◌≡◌, ℕ, Bool, true, false, List, [], ◌∷◌, ◌++◌, Option, map, reverse, refl, sym, ap, ◌∙◌, subst}
 use Rattle.std.specs.List.{AllByRecursion}
 use Rattle.std.proofs.lemmas.List.{reverse-reverse, reverse-append, map-append}
 use Rattle.history.specs.Subject.{Laws, empty}
@@ -11,10 +11,11 @@ use Rattle.history.proofs.Exchanges.{contents_after}
 use Rattle.history.proofs.Standing.{begun, appended_stands, undone_stands, undone_contents, redone_stands, redone_contents}
 use Rattle.history.proofs.Walking.{walk_undo, walk_redo}
 use Rattle.ids.specs.declared.cells.CellKey.{CellKey}
-use Rattle.undo.specs.State.{Rule, subject, cells}
-use Rattle.undo.specs.Items.{Item, swap_item}
+use Rattle.post.specs.Theory.{Rule, subject, cells}
+use Rattle.journal.specs.Items.{Item, swap_item}
 use Rattle.undo.specs.CoreView.{items_of, state_of, shown}
-use Rattle.undo.specs.Standing.{Told, told, row_told, places, Begins, Enters, Undoes, Redoes}
+use Rattle.journal.specs.Standing.{Told, told, row_told}
+use Rattle.undo.specs.Standing.{places, Begins, Enters, Undoes, Redoes}
 use Rattle.undo.specs.declared.undoing.Core.{Core}
 use Rattle.undo.proofs.Looping.{ext}
 use Rattle.undo.proofs.Mapping.{walk_told}
@@ -35,7 +36,7 @@ module _ (does : Rule) (l : Laws (subject does)) where
   lasts_shown w (k ∷ ks) = (refl, lasts_shown w ks)
 
   pub enters : Enters does
-  enters start next rows old new e seat touched kept f ns h d le causes below have writes is =
+  enters start next later rows old new e seat touched kept f ns h d free le lt causes below other have writes is =
       let w = state_of old in
       let lasts = map (λ k. (k, (w k).1)) touched in
       let state : state_of new ≡ swap_state (subject does) kept w = ap (λ (r : List Item × State cells). r.1) is in
@@ -43,8 +44,8 @@ module _ (does : Rule) (l : Laws (subject does)) where
         record {
           shows = ap (λ ts. row_told does (new_entry (subject does) e f ns lasts, swap_record (subject does) kept w) ∷ ts) h.shows
               ∙ sym (ap (λ its. reverse (map told its)) items ∙ ap reverse (map-append told (items_of old) _) ∙ reverse-append (map told (items_of old)) _);
-          stands = subst (Stands (subject does) start (e.name.0 + 1) ((new_entry (subject does) e f ns lasts, swap_record (subject does) kept w) ∷ rows)) (sym state)
-              (appended_stands (subject does) l e f ns lasts kept h.stands d le causes below have (lasts_shown w touched) writes);
+          stands = subst (Stands (subject does) start later ((new_entry (subject does) e f ns lasts, swap_record (subject does) kept w) ∷ rows)) (sym state)
+              (appended_stands (subject does) l e f ns lasts kept h.stands d free le lt causes below other have (lasts_shown w touched) writes);
         },
         ap (contents (subject does)) state ∙ contents_after (subject does) l e.name.0 f kept w writes,
       )

@@ -3,8 +3,8 @@ use Rattle.std.specs.Prelude.{Bool, List, map}
 use Rattle.history.specs.Records.{State}
 use Rattle.ids.specs.declared.cells.CellKey.{CellKey}
 use Rattle.post.specs.View.{is_ready}
-use Rattle.undo.specs.State.{cells, state_of_world}
-use Rattle.undo.specs.Items.{Item, item_of}
+use Rattle.post.specs.Theory.{cells, state_of_world}
+use Rattle.journal.specs.Items.{Item, item_of}
 use Rattle.undo.specs.declared.undoing.Core.{Core}
 
 -- the entries, the oldest first

@@ -1,4 +1,2 @@
-pub mod State
-pub mod Items
 pub mod CoreView
 pub mod Standing

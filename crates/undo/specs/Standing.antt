@@ -1,37 +1,23 @@
 -- When a core stands, and what keeps it standing.
-use Rattle.std.specs.Prelude.{◌≡◌, ℕ, ◌<◌, ◌≤◌, ◌+◌, Bool, true, false, List, [], ◌∷◌, ◌++◌, Option, None, length, map, reverse}
+use Rattle.std.specs.Prelude.{◌≡◌, ℕ, ◌<◌, ◌≤◌, Bool, true, false, List, [], ◌∷◌, ◌++◌, None, length, map, reverse}
 use Rattle.std.specs.List.{AllByRecursion}
 use Rattle.history.specs.Subject.{Foot, empty, after}
-use Rattle.history.specs.Journal.{Entry, live_set, without, both, Part, Sound, Closed, NamesCauses, new_entry, over}
+use Rattle.history.specs.Journal.{Entry, live_set, without, both, Part, Sound, Closed, Free, is_in, NamesCauses, new_entry, over}
 use Rattle.history.specs.Records.{Record, Row, contents, entries_of, swap_record, Writes, undo_rows, redo_rows}
 use Rattle.history.specs.Chains.{HasCells}
-use Rattle.history.specs.Stands.{Stands}
 use Rattle.history.specs.Walks.{spots, walk}
 use Rattle.ids.specs.declared.cells.CellKey.{CellKey}
 use Rattle.post.specs.Events.{Event}
 use Rattle.post.specs.World.{World}
-use Rattle.undo.specs.State.{Rule, subject, cells}
-use Rattle.undo.specs.Items.{Item, swap_item, entered, may_exchange, neighbours, exchanged}
+use Rattle.post.specs.Theory.{Rule, subject, cells}
+use Rattle.journal.specs.Standing.{ItemsStand}
+use Rattle.journal.specs.Items.{swap_item, entered, may_exchange, neighbours, exchanged}
 use Rattle.undo.specs.CoreView.{items_of, state_of, shown}
 use Rattle.undo.specs.declared.undoing.Core.{Core}
 
--- what the theory has of an item: all but its seat
-pub record Told : Type 0 where
-  pub event : Event
-  pub live : Bool
-  pub lasts : List (CellKey × Option ℕ)
-  pub kept : Record cells
-
-abbrev pub told : Item → Told
-told i = record { event = i.event; live = i.live; lasts = i.lasts; kept = i.kept }
-
-abbrev pub row_told : (does : Rule) → Row (subject does) → Told
-row_told does p = record { event = p.0.event; live = p.0.live; lasts = p.0.lasts; kept = p.1 }
-
--- THE INVARIANT: these rows, the newest first, are what the core shows, and they stand with its state
-pub record CoreStands (does : Rule) (start : World) (next : ℕ) (rows : List (Row (subject does))) (core : Core) : Type 0 where
-  pub shows : map (row_told does) rows ≡ reverse (map told (items_of core))
-  pub stands : Stands (subject does) start next rows (state_of core)
+-- THE INVARIANT: these rows, the newest first, stand with what the core shows
+abbrev pub CoreStands : (does : Rule) → World → ℕ → List (Row (subject does)) → Core → Type 0
+CoreStands does start next rows core = ItemsStand does start next rows (items_of core) (state_of core)
 
 -- the positions, ascending, of the rows whose entries are in a set
 abbrev pub places : (does : Rule) → (Entry (subject does) → Bool) → List (Row (subject does)) → List ℕ
@@ -41,14 +27,14 @@ places does c rows = reverse (spots (λ p. c p.0) rows)
 abbrev pub Begins : Rule → Type 0
 Begins does = (next : ℕ) (core : Core) → items_of core ≡ [] → ((k : CellKey) → state_of core k ≡ (None, None)) → CoreStands does (empty (subject does)) next [] core
 
--- an event that is possible is entered with the cells that it touches and a record of what it writes, and has its causes
+-- an event that is possible and whose name is free is entered with the cells that it touches and a record of what it writes, and has its causes
 abbrev pub Enters : Rule → Type 0
-Enters does = (start : World) (next : ℕ) (rows : List (Row (subject does))) (old new : Core) (e : Event) (seat : ℕ) (touched : List CellKey) (kept : Record cells) (f : Foot (subject does)) (ns : List ℕ) →
-    CoreStands does start next rows old → does e (contents cells (state_of old)) f → next ≤ e.name.0 →
-    NamesCauses (subject does) ns f (entries_of rows) → AllByRecursion (λ n. n < next) ns →
+Enters does = (start : World) (next later : ℕ) (rows : List (Row (subject does))) (old new : Core) (e : Event) (seat : ℕ) (touched : List CellKey) (kept : Record cells) (f : Foot (subject does)) (ns : List ℕ) →
+    CoreStands does start next rows old → does e (contents cells (state_of old)) f → Free (subject does) e.name.0 (entries_of rows) → next ≤ later → e.name.0 < later →
+    NamesCauses (subject does) ns f (entries_of rows) → AllByRecursion (λ n. n < later) ns → is_in ns e.name.0 ≡ false →
     HasCells (subject does) f (map (λ k. (k, (state_of old k).1)) touched) → Writes (subject does) e.name.0 f kept →
     shown new ≡ entered e seat touched kept (shown old) →
-    CoreStands does start (e.name.0 + 1) ((new_entry (subject does) e f ns (map (λ k. (k, (state_of old k).1)) touched), swap_record (subject does) kept (state_of old)) ∷ rows) new ×
+    CoreStands does start later ((new_entry (subject does) e f ns (map (λ k. (k, (state_of old k).1)) touched), swap_record (subject does) kept (state_of old)) ∷ rows) new ×
     (contents cells (state_of new) ≡ after (subject does) f (contents cells (state_of old)))
 
 -- a closed part of the live entries is undone, and the world is what the others leave

@@ -3,7 +3,7 @@ ghost use Rattle.std.specs.Prelude.{◌≡◌, ◌+◌, ◌%◌, ◌^◌, true, 
 ghost use Rattle.history.specs.Records.{swap_state, swap_record};
 ghost use Rattle.ids.specs.declared.cells.CellKey.{CellKey};
 ghost use Rattle.post.specs.View.{seen_of_world, is_ready};
-ghost use Rattle.undo.specs.State.{cells, state_of_world, kept_of, kepts_of, all_pass};
+ghost use Rattle.post.specs.Theory.{cells, state_of_world, kept_of, kepts_of, all_pass};
 
 use cells::swaps::Swaps;
 use post::record::CellRecord;
@@ -12,7 +12,7 @@ use std::alloc::{AllocError, Global};
 
 /// Makes room for the cells of these records, and makes the states of their vats their own. What is seen stays. Fails only for
 /// want of memory.
-pub(crate) fn make_rooms(
+pub fn make_rooms(
     alloc: Global,
     world: &mut World,
     records: &[CellRecord],
@@ -28,7 +28,7 @@ pub(crate) fn make_rooms(
 }
 
 /// Exchanges records with their cells, from the first to the last. It takes no memory.
-pub(crate) fn swap_records(world: &mut World, records: &mut [CellRecord], swaps: &mut Swaps)
+pub fn swap_records(world: &mut World, records: &mut [CellRecord], swaps: &mut Swaps)
     requires { all_pass (is_ready world.old) (kepts_of records.old) ≡ true }
     ensures state { state_of_world world.new ≡ swap_state cells (kepts_of records.old) (state_of_world world.old) }
     ensures records { kepts_of records.new ≡ swap_record cells (kepts_of records.old) (state_of_world world.old) }

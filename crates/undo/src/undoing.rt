@@ -8,15 +8,15 @@ ghost use Rattle.ids.specs.declared.cells.CellKey.{CellKey};
 ghost use Rattle.post.specs.EventView.{event_of};
 ghost use Rattle.post.specs.View.{is_ready};
 ghost use Rattle.post.specs.World.{vat_state};
-ghost use Rattle.undo.specs.State.{cells, state_of_world, kepts_of, all_pass};
-ghost use Rattle.undo.specs.Items.{item_of, is_live, swap_item, entered, keys_at, all_ready, records_at, may_exchange, neighbours, exchanged};
+ghost use Rattle.post.specs.Theory.{cells, state_of_world, kepts_of, all_pass};
+ghost use Rattle.journal.specs.Items.{item_of, is_live, swap_item, entered, keys_at, all_ready, records_at, may_exchange, neighbours, exchanged};
 
-use crate::entry::{Entry, Mark, may_exchange, with_writers};
 use crate::records::{make_rooms, swap_records};
 use cells::swaps::Swaps;
 use heap::state::VatState;
 use ids::cells::CellKey;
 use ids::names::VatNo;
+use journal::entry::{Entry, Mark, may_exchange, with_writers};
 use post::event::Event;
 use post::record::CellRecord;
 use post::world::World;

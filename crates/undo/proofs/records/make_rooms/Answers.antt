@@ -1,6 +1,6 @@
 use Rattle.std.proofs.Common.{◌<◌, length, sym, ap, ◌∙◌, arith}
 use Rattle.post.specs.View.{is_ready}
-use Rattle.undo.specs.State.{kept_of}
+use Rattle.post.specs.Theory.{kept_of}
 use Rattle.undo.proofs.Looping.{made_more}
 use Rattle.undo.proofs.records.make_rooms.Goals as goal
 

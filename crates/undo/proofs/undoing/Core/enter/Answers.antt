@@ -4,11 +4,11 @@ use Rattle.history.specs.Walks.{step_at}
 use Rattle.history.specs.Records.{State}
 use Rattle.post.specs.EventView.{event_of}
 use Rattle.post.specs.View.{is_ready}
-use Rattle.undo.specs.State.{cells, numbered, state_of_world, kept_of, kepts_of, all_pass}
+use Rattle.post.specs.Theory.{cells, numbered, state_of_world, kept_of, kepts_of, all_pass}
 use Rattle.undo.specs.CoreView.{shown, state_of}
-use Rattle.undo.specs.Items.{Item, item_of, keys_at, pass, records_at, swap_item}
-use Rattle.undo.specs.declared.entry.Entry.{Entry}
-use Rattle.undo.specs.declared.entry.Mark.TheVariants as mark
+use Rattle.journal.specs.Items.{Item, item_of, keys_at, pass, records_at, swap_item}
+use Rattle.journal.specs.declared.entry.Entry.{Entry}
+use Rattle.journal.specs.declared.entry.Mark.TheVariants as mark
 use Rattle.undo.proofs.Looping.{both_true}
 use Rattle.undo.proofs.Positions.{on_err, entered_is, ready_last, count_last}
 use Rattle.undo.proofs.undoing.Core.enter.Goals as goal

@@ -1,8 +1,9 @@
 use Rattle.std.proofs.Common.{◌+◌, ◌<◌, length, map, sym, ap, ap₂, ◌∙◌, arith}
 use Rattle.std.proofs.lemmas.List.{length-map}
 use Rattle.undo.specs.CoreView.{state_of}
-use Rattle.undo.specs.Items.{item_of, may_exchange}
-use Rattle.undo.proofs.Exchanging.{swap_is, map-exchanged, may_at}
+use Rattle.journal.specs.Items.{item_of, may_exchange}
+use Rattle.journal.proofs.Neighbouring.{map-exchanged}
+use Rattle.undo.proofs.Exchanging.{swap_is, may_at}
 use Rattle.undo.proofs.undoing.Core.exchange.Goals as goal
 
 pub returns-then-not-may_exchange-clause-done : goal.returns-then-not-may_exchange-clause-done

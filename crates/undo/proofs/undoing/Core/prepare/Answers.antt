@@ -2,9 +2,9 @@ use Rattle.std.proofs.Common.{◌≡◌, ◌<◌, true, length, get_or, map, sym
 use Rattle.std.proofs.lemmas.List.{length-map}
 use Rattle.std.proofs.lemmas.List.Elements.{All-get_or}
 use Rattle.post.specs.View.{is_ready}
-use Rattle.undo.specs.State.{numbered, kepts_of, all_pass}
+use Rattle.post.specs.Theory.{numbered, kepts_of, all_pass}
 use Rattle.undo.specs.CoreView.{items_of, ready_of}
-use Rattle.undo.specs.Items.{item_of, keys_at, pass}
+use Rattle.journal.specs.Items.{item_of, keys_at, pass}
 use Rattle.undo.proofs.Positions.{pass_kept, pass_more, ready_there}
 use Rattle.undo.proofs.undoing.Core.prepare.Goals as goal
 

@@ -1,7 +1,7 @@
 use Rattle.std.proofs.Common.{◌≡◌, true, take}
 use Rattle.ids.specs.declared.cells.CellKey.{CellKey}
 use Rattle.undo.specs.CoreView.{items_of, state_of, ready_of}
-use Rattle.undo.specs.Items.{all_ready}
+use Rattle.journal.specs.Items.{all_ready}
 use Rattle.undo.proofs.undoing.Core.prepare.Given as goal
 
 abbrev pub invariant-loop-position : goal.invariant-loop-position

@@ -1,7 +1,7 @@
 use Rattle.std.proofs.Common.{◌<◌, ◌+◌, ◌%◌, ◌^◌, true, length, drop, get_or, ap, ◌∙◌, arith}
 use Rattle.history.specs.Walks.{walk}
 use Rattle.undo.specs.CoreView.{items_of, shown, ready_of}
-use Rattle.undo.specs.Items.{keys_at, pass, swap_item}
+use Rattle.journal.specs.Items.{keys_at, pass, swap_item}
 use Rattle.undo.proofs.Looping.{counted_on}
 use Rattle.undo.proofs.Positions.{pass_at, pass_same, count_same, count_on, walk_on}
 use Rattle.undo.proofs.undoing.Core.redo.Goals as goal

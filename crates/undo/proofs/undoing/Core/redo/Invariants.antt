@@ -1,7 +1,7 @@
 use Rattle.std.proofs.Common.{◌≡◌, ◌+◌, ◌%◌, ◌^◌, ℕ, true, take, drop}
 use Rattle.history.specs.Walks.{walk}
 use Rattle.undo.specs.CoreView.{items_of, shown, ready_of}
-use Rattle.undo.specs.Items.{swap_item, keys_at, records_at}
+use Rattle.journal.specs.Items.{swap_item, keys_at, records_at}
 use Rattle.undo.proofs.undoing.Core.redo.Given as goal
 
 abbrev pub invariant-loop-position : goal.invariant-loop-position

@@ -1,7 +1,7 @@
 use Rattle.std.proofs.Common.{◌<◌, ◌≤◌, ◌+◌, ◌-◌, ◌%◌, ◌^◌, false, length, take, get_or, reverse, ap, ◌∙◌, arith}
 use Rattle.history.specs.Walks.{walk}
 use Rattle.undo.specs.CoreView.{items_of, shown, ready_of}
-use Rattle.undo.specs.Items.{keys_at, pass, swap_item}
+use Rattle.journal.specs.Items.{keys_at, pass, swap_item}
 use Rattle.undo.proofs.Looping.{counted_on}
 use Rattle.undo.proofs.Positions.{pass_at, pass_same, count_same, count_back, walk_back}
 use Rattle.undo.proofs.undoing.Core.undo.Goals as goal

@@ -1,0 +1,12 @@
+-- Journals as they come about: their items stand for rows that made a world from the empty one.
+use Rattle.std.specs.Prelude.{ℕ, List}
+use Rattle.history.specs.Records.{State, Row}
+use Rattle.post.specs.World.{empty}
+use Rattle.post.specs.Theory.{cells}
+use Rattle.journal.specs.Items.{Item}
+use Rattle.journal.specs.Standing.{ItemsStand}
+use Rattle.event.specs.Events.{Does, events}
+
+-- these are the items of a journal
+abbrev pub IsJournal : List Item → Type 0
+IsJournal items = ∥ ((next : ℕ) × (rows : List (Row events)) × (state : State cells) × ItemsStand Does empty next rows items state) ∥₁

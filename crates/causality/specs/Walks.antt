@@ -1,0 +1,76 @@
+-- What the program finds as it goes over items, of which it knows no causes.
+use Rattle.std.specs.Prelude.{◌&&◌, ◌||◌, ◌==◌, not, ℕ, Bool, cond, List, [], ◌∷◌, ◌++◌, filter, Option, Some, None}
+use Rattle.std.specs.List.{list_any}
+use Rattle.std.specs.Option.{option_map, option_or}
+use Rattle.history.specs.Journal.{is_in}
+use Rattle.ids.specs.declared.names.EventName.{EventName}
+use Rattle.journal.specs.Items.{Item, wrote_one_of}
+use Rattle.journal.specs.Lines.{causes_in}
+use Rattle.causality.specs.Selections.{numbers, first_some, gap}
+use Rattle.causality.specs.declared.selection.Gap.{Gap}
+
+-- the item is of the set
+abbrev pub is_of : List EventName → Item → Bool
+is_of names i = is_in (numbers names) i.event.name.0
+
+-- the name of the first item that passes a test
+abbrev pub first_item : (Item → Bool) → List Item → Option EventName
+first_item test items = first_some (λ i. cond (test i) (Some i.event.name) None) items
+
+-- the first of these that is live, outside the set, and touched what an item wrote
+abbrev pub follower : List EventName → Item → List Item → Option EventName
+follower names a later = first_item (λ i. i.live && (not (is_of names i) && wrote_one_of a i)) later
+
+-- the first of the set that is followed so by a later one, and that one
+abbrev pub first_followed : List EventName → List Item → Option Gap
+first_followed names [] = None
+first_followed names (i ∷ later) = option_or (cond (is_of names i) (option_map (gap i.event.name) (follower names i later)) None) (first_followed names later)
+
+-- an item joins: it is the root, or it is live and touched what one of those that have joined wrote
+abbrev pub joins : EventName → List Item → Item → Bool
+joins root joined i = (i.event.name.0 == root.0) || (i.live && list_any (λ a. wrote_one_of a i) joined)
+
+-- those that have joined, with one more if it joins
+abbrev pub joined_with : Bool → List Item → Item → List Item
+joined_with b joined i = cond b (joined ++ i ∷ []) joined
+
+-- those that have joined at the end
+abbrev pub gathered : EventName → List Item → List Item → List Item
+gathered root joined [] = joined
+gathered root joined (i ∷ items) = gathered root (joined_with (joins root joined i) joined i) items
+
+-- the first answer along a list, where those before are known
+abbrev pub first_along : {A B : Type 0} → (List A → A → Option B) → List A → List A → Option B
+first_along one before [] = None
+first_along one before (x ∷ xs) = option_or (one before x) (first_along one (before ++ x ∷ []) xs)
+
+-- live, or of the set
+abbrev pub stays : List EventName → Item → Bool
+stays names i = i.live || is_of names i
+
+-- of the set, and undone
+abbrev pub comes_back : List EventName → Item → Bool
+comes_back names i = not i.live && is_of names i
+
+-- the first of these that has one of these numbers, and is neither live nor of the set
+abbrev pub missed : List EventName → List ℕ → List Item → Option EventName
+missed names causes before = first_item (λ f. not (stays names f) && is_in causes f.event.name.0) before
+
+-- of an item that comes back: the first item before it that it misses
+abbrev pub missed_at : List EventName → List Item → List Item → Item → Option Gap
+missed_at names all before i = cond (comes_back names i) (option_map (gap i.event.name) (missed names (causes_in all i) before)) None
+
+-- the first of these that is live or of the set, wrote what an item touched, and has none of these numbers
+abbrev pub unexpected : List EventName → List ℕ → Item → List Item → Option EventName
+unexpected names causes i before = first_item (λ f. stays names f && (wrote_one_of f i && not (is_in causes f.event.name.0))) before
+
+-- the first of these that wrote what an item touched
+abbrev pub first_met : Item → List Item → Option EventName
+first_met i before = first_item (λ f. wrote_one_of f i) before
+
+-- what an item crosses: if it is live, only one that comes back
+abbrev pub crossed : List EventName → List Item → List Item → Item → Option EventName
+crossed names all before i = cond i.live (first_met i (filter (comes_back names) before)) (cond (is_of names i) (unexpected names (causes_in all i) i before) None)
+
+abbrev pub crossed_at : List EventName → List Item → List Item → Item → Option Gap
+crossed_at names all before i = option_map (gap i.event.name) (crossed names all before i)

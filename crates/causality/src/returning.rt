@@ -1,0 +1,187 @@
+// What entries of a set that are undone lack for a redo.
+ghost use Rattle.std.specs.Prelude.{◌≡◌, ◌<◌, [], map, filter, take, length, slice_get, Some, IfOk};
+ghost use Rattle.history.specs.Journal.{is_in};
+ghost use Rattle.ids.specs.declared.names.EventName.{EventName};
+ghost use Rattle.journal.specs.Items.{Item, item_of};
+ghost use Rattle.journal.specs.Lines.{causes_in, lines_of};
+ghost use Rattle.causality.specs.Causes.{Indexes};
+ghost use Rattle.causality.specs.Journals.{IsJournal};
+ghost use Rattle.causality.specs.Selections.{numbers};
+ghost use Rattle.causality.specs.Walks.{first_along, stays, comes_back, missed, missed_at, first_met, unexpected, crossed, crossed_at};
+
+use crate::causes::{NameIndex, causes};
+use crate::names::{has, is_among, sorted};
+use crate::selection::Gap;
+use ids::names::EventName;
+use journal::entry::{Entry, Mark, meets};
+use std::alloc::{AllocError, Global};
+use std::collections::BTreeSet;
+
+fn is_live(entry: &Entry) -> bool
+    ensures { result ≡ (item_of entry.now).live }
+{
+    entry.mark == Mark::Live
+}
+
+/// Whether an entry is live, or of the set.
+fn stays(entry: &Entry, names: &[EventName]) -> bool
+    ensures { result ≡ stays names.now (item_of entry.now) }
+{
+    is_live(entry) || is_among(names, entry.event.name)
+}
+
+/// Whether an entry is of the set, and undone.
+fn comes_back(entry: &Entry, names: &[EventName]) -> bool
+    ensures { result ≡ comes_back names.now (item_of entry.now) }
+{
+    !is_live(entry) && is_among(names, entry.event.name)
+}
+
+/// The names of all causes of the entry at a position. Fails only for want of memory.
+fn cause_set(
+    alloc: Global,
+    entries: &[Entry],
+    index: &NameIndex,
+    position: usize,
+) -> Result<BTreeSet<EventName>, AllocError>
+    requires journal { IsJournal (map item_of entries.now) }
+    requires indexed { Indexes index.now (lines_of (map item_of entries.now)) }
+    requires there { position < length entries.now }
+    ensures { IfOk result (λ set. (i : Item) → slice_get (map item_of entries.now) position ≡ Some i → (e : EventName) → is_in (numbers set.keys) e.0 ≡ is_in (causes_in (map item_of entries.now) i) e.0) }
+{
+    let names = causes(alloc, entries, index, position)?;
+    sorted(alloc, &names)
+}
+
+/// The first of these entries that is a cause, and is neither live nor of the set.
+fn missed(earlier: &[Entry], names: &[EventName], causes: &BTreeSet<EventName>) -> Option<EventName>
+    ensures { result ≡ missed names.now (numbers causes.now.keys) (map item_of earlier.now) }
+{
+    for entry in earlier {
+        let name = entry.event.name;
+        if !stays(entry, names) && has(causes, name) {
+            return Some(name);
+        }
+    }
+    None
+}
+
+/// The first cause of the entry at a position that is neither live nor of the set. Fails only for want of memory.
+fn missing_cause(
+    alloc: Global,
+    entries: &[Entry],
+    index: &NameIndex,
+    names: &[EventName],
+    position: usize,
+) -> Result<Option<EventName>, AllocError>
+    requires journal { IsJournal (map item_of entries.now) }
+    requires indexed { Indexes index.now (lines_of (map item_of entries.now)) }
+    requires there { position < length entries.now }
+    ensures { IfOk result (λ other. (i : Item) → slice_get (map item_of entries.now) position ≡ Some i → other ≡ missed names.now (causes_in (map item_of entries.now) i) (map item_of (take position entries.now))) }
+{
+    let causes = cause_set(alloc, entries, index, position)?;
+    Ok(missed(&entries[..position], names, &causes))
+}
+
+/// The first entry that comes back without one of its causes, and the first such cause. Fails only for want of memory.
+pub(crate) fn first_missed(
+    alloc: Global,
+    entries: &[Entry],
+    names: &[EventName],
+) -> Result<Option<Gap>, AllocError>
+    requires { IsJournal (map item_of entries.now) }
+    ensures { IfOk result (λ gap. gap ≡ first_along (missed_at names.now (map item_of entries.now)) [] (map item_of entries.now)) }
+{
+    let index = NameIndex::new(alloc, entries)?;
+    for (position, entry) in entries.iter().enumerate() {
+        if comes_back(entry, names) {
+            let missing = missing_cause(alloc, entries, &index, names, position)?;
+            if let Some(other) = missing {
+                let event = entry.event.name;
+                return Ok(Some(Gap { event, other }));
+            }
+        }
+    }
+    Ok(None)
+}
+
+/// The first of these entries that wrote what an entry touched.
+fn first_met(earlier: &[&Entry], entry: &Entry) -> Option<EventName>
+    ensures { result ≡ first_met (item_of entry.now) (map (λ x. item_of x.now) earlier.now) }
+{
+    for other in earlier {
+        if meets(other, entry) {
+            return Some(other.event.name);
+        }
+    }
+    None
+}
+
+/// The first of these entries that is live or of the set, wrote what an entry touched, and is no cause of it.
+fn unexpected(
+    earlier: &[Entry],
+    names: &[EventName],
+    causes: &BTreeSet<EventName>,
+    entry: &Entry,
+) -> Option<EventName>
+    ensures { result ≡ unexpected names.now (numbers causes.now.keys) (item_of entry.now) (map item_of earlier.now) }
+{
+    for other in earlier {
+        let name = other.event.name;
+        if stays(other, names) && meets(other, entry) && !has(causes, name) {
+            return Some(name);
+        }
+    }
+    None
+}
+
+/// What the entry at a position crosses; the earlier ones that come back are known. Fails only for want of memory.
+fn crossed(
+    alloc: Global,
+    entries: &[Entry],
+    index: &NameIndex,
+    names: &[EventName],
+    returning: &[&Entry],
+    position: usize,
+) -> Result<Option<EventName>, AllocError>
+    requires journal { IsJournal (map item_of entries.now) }
+    requires indexed { Indexes index.now (lines_of (map item_of entries.now)) }
+    requires there { position < length entries.now }
+    requires gathered { map (λ x. item_of x.now) returning.now ≡ filter (comes_back names.now) (map item_of (take position entries.now)) }
+    ensures { IfOk result (λ other. (i : Item) → slice_get (map item_of entries.now) position ≡ Some i → other ≡ crossed names.now (map item_of entries.now) (map item_of (take position entries.now)) i) }
+{
+    let entry = &entries[position];
+    if is_live(entry) {
+        // A live event has all live ones that it meets as its causes.
+        return Ok(first_met(returning, entry));
+    }
+    if !is_among(names, entry.event.name) {
+        return Ok(None);
+    }
+    let causes = cause_set(alloc, entries, index, position)?;
+    Ok(unexpected(&entries[..position], names, &causes, entry))
+}
+
+/// The first entry that crosses an earlier one, and that one. Fails only for want of memory.
+pub(crate) fn first_crossed(
+    alloc: Global,
+    entries: &[Entry],
+    names: &[EventName],
+) -> Result<Option<Gap>, AllocError>
+    requires { IsJournal (map item_of entries.now) }
+    ensures { IfOk result (λ gap. gap ≡ first_along (crossed_at names.now (map item_of entries.now)) [] (map item_of entries.now)) }
+{
+    let index = NameIndex::new(alloc, entries)?;
+    let mut returning = Vec::new(alloc);
+    for (position, entry) in entries.iter().enumerate() {
+        let crossing = crossed(alloc, entries, &index, names, &returning, position)?;
+        if let Some(other) = crossing {
+            let event = entry.event.name;
+            return Ok(Some(Gap { event, other }));
+        }
+        if comes_back(entry, names) {
+            returning.push(entry)?;
+        }
+    }
+    Ok(None)
+}
