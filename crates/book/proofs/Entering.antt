@@ -1,117 +1,149 @@
--- An accepted event keeps the journal good.
-use Rattle.std.proofs.Common.{◌≡◌, ℕ, ◌+◌, ◌≤◌, ◌<◌, Bool, true, false, ◌||◌, List, [], ◌∷◌, ◌++◌, map, reverse, refl, sym, ap, ◌∙◌, subst, le_refl, Some, None}
-use Rattle.std.proofs.Math.Logic.{∥∥₁_elim, ∥∥₁_map, ∥∥₁_prop}
+-- An event is entered: the book stands, the world goes one step, and the journal has one more line.
+use Rattle.std.proofs.Common.{◌≡◌, ◌≢◌, ℕ, ◌+◌, ◌<◌, ◌≤◌, Bool, true, false, List, [], ◌∷◌, ◌++◌, map, is_some, refl, sym, ap, ap₂, ◌∙◌, subst, arith}
+use Rattle.std.proofs.Math.Logic.{∥∥₁_elim, ∥∥₁_prop}
 use Rattle.std.specs.List.{AllByRecursion}
-use Rattle.std.proofs.lemmas.List.{map-append}
-use Rattle.reruns.specs.Subject.{after}
-use Rattle.reruns.specs.Journal.{Entry, live_set, both, named, Good, Named, Sound, NamesCauses, new_entry, causes_of}
-use Rattle.reruns.proofs.Lists.{all_of}
-use Rattle.reruns.proofs.Changes.{sound_same}
-use Rattle.reruns.proofs.Naming.{causes_named_reversed, causes_below_reversed, appended_named, appended}
-use Rattle.ids.specs.declared.names.EventName.{EventName}
-use Rattle.ids.specs.declared.names.MsgId.{MsgId}
-use Rattle.ids.specs.declared.names.CellKey.TheVariants as key
-use Rattle.kernele.specs.Tree.{Name, Trees}
-use Rattle.kernele.specs.View.{program_of}
-use Rattle.kernele.specs.declared.tree.Program.{Program}
-use Rattle.heap.specs.State.{State}
-use Rattle.world.specs.World.{Vat, Message, World, empty, vat_named}
-use Rattle.world.specs.Events.{Act, birth, ask, turn, Event, Foot, Turns, Does, births, asks, turns, birth_foot, ask_foot, turn_foot, events}
-use Rattle.world.specs.Effects.{turn_of, Holds, Affects, Brings}
-use Rattle.world.specs.declared.keys.Cells.{Cells}
-use Rattle.world.specs.declared.step.Delivered.{Delivered}
-use Rattle.world.specs.declared.effects.Effects.{Effects}
-use Rattle.world.specs.declared.effects.Effects.TheVariants as effects
-use Rattle.journal.specs.Journal.{Line, causes_in}
-use Rattle.book.specs.Books.{Book, line_of, Kept, Stands}
-use Rattle.book.specs.Calls.{touched, new_line, Enters}
-use Rattle.journal.proofs.Lists.{mapped_twice, mapped_same, reversed}
-use Rattle.world.proofs.Law.{events_laws}
-use Rattle.book.proofs.Standing.{numbers, told, causes_are}
+use Rattle.history.specs.Subject.{empty, after, new, touches}
+use Rattle.history.specs.Journal.{Free, causes_of, new_entry}
+use Rattle.history.specs.Records.{State, Row, Record, contents, entries_of, swap_record}
+use Rattle.history.specs.Chains.{HasCells}
+use Rattle.history.proofs.Exchanges.{contents_after}
+use Rattle.history.proofs.Lists.{all_map, all_both}
+use Rattle.history.proofs.Naming.{causes_named, causes_below, free_causes, free_from}
+use Rattle.ids.specs.CellKeys.{same_key}
+use Rattle.ids.specs.declared.cells.CellKey.{CellKey}
+use Rattle.post.specs.Events.{Event}
+use Rattle.post.specs.Theory.{cells}
+use Rattle.event.specs.Events.{Foot, Does, events}
+use Rattle.event.specs.Effects.{Brings}
+use Rattle.event.proofs.Law.{events_laws}
+use Rattle.journal.specs.Items.{Item, swap_item, entered}
+use Rattle.journal.specs.Lines.{plain, bare, lines_of}
+use Rattle.journal.specs.Standing.{ItemsStand}
+use Rattle.journal.proofs.Appending.{next_line, lines_appended}
+use Rattle.journal.proofs.Touching.{any-map, told_new, told_touches}
+use Rattle.desk.specs.Desks.{Lent}
+use Rattle.undo.specs.CoreView.{items_of, state_of, shown}
+use Rattle.undo.specs.Standing.{CoreStands}
+use Rattle.undo.specs.declared.undoing.Core.{Core}
+use Rattle.undo.proofs.Standing.{enters}
+use Rattle.book.specs.Books.{Book}
+use Rattle.book.specs.Calls.{Enters, EntersNext, Tells}
+use Rattle.book.specs.Standing.{Apart, Kept, Stands}
+use Rattle.book.proofs.Sets.{Bool-set, Lines-set}
 
--- the entry of an event that is accepted over this journal
-abbrev entry_over : Event → Foot → List Line → Entry events
-entry_over e f lines = new_entry events e f (numbers (causes_in (touched f) lines))
+-- the book of a core
+abbrev pub book_with : Core → ℕ → List Lent → Book
+book_with core next out = record { world = contents cells (state_of core); journal = lines_of (items_of core); next = next; out = out }
 
-entry_line : (e : Event) (f : Foot) (lines : List Line) → line_of (entry_over e f lines) ≡ new_line e f lines
-entry_line e f lines =
-    ap (λ (names : List EventName). record { event = e; touched = touched f; written = map (λ p. p.0) f.writes; causes = names; live = true })
-    (mapped_twice (λ (n : EventName). n.0) (λ n. record { 0 = n }) (causes_in (touched f) lines) ∙ mapped_same (causes_in (touched f) lines))
-
-more_told : (e : Event) (f : Foot) (lines : List Line) (es : List (Entry events)) → lines ≡ told es → lines ++ new_line e f lines ∷ [] ≡ told (entry_over e f lines ∷ es)
-more_told e f lines es h =
-    ap (λ (l : Line). lines ++ l ∷ []) (sym (entry_line e f lines))
-    ∙ ap (λ (ls : List Line). ls ++ line_of (entry_over e f lines) ∷ []) h
-    ∙ sym (map-append line_of (reverse es) (entry_over e f lines ∷ []))
-    ∙ ap (map line_of) (sym (reversed (entry_over e f lines) es))
-
-or_false : (b : Bool) → b ≡ (b || false)
-or_false true = refl
-or_false false = refl
-
--- with no event to redo, what is live is sound
-pub none_again : (es : List (Entry events)) → Sound events (live_set events) es → Sound events (both (live_set events) (named events (numbers []))) es
-none_again es h = sound_same events (live_set events) (both (live_set events) (named events [])) es (all_of (λ a. a.live ≡ (a.live || false)) es (λ a. or_false a.live)) h
-
-kept_entered : (e : Event) (f : Foot) (old new : Book) (es : List (Entry events)) → Kept old es → Does e old.world f → Enters e f old new → Kept new (entry_over e f old.journal ∷ es)
-kept_entered e f old new es k d n =
-    let lines = old.journal in
-    let ns : List ℕ = numbers (causes_in (touched f) lines) in
-    let same : reverse (causes_of events f es) ≡ ns = sym (causes_are f es) ∙ ap (λ ls. numbers (causes_in (touched f) ls)) (sym k.told) in
-    let causes : NamesCauses events ns f es = subst (λ ms. NamesCauses events ms f es) same (causes_named_reversed events f k.names) in
-    let below : AllByRecursion (λ m. m < old.next) ns = subst (AllByRecursion (λ m. m < old.next)) same (causes_below_reversed events f k.names) in
-    let le : old.next ≤ e.name.0 = subst (λ m. old.next ≤ m) (sym n.named) (le_refl old.next) in
-    let good : Good events empty (live_set events) (entry_over e f lines ∷ es) (after events f old.world) = appended events events_laws e f ns k.good k.names d le causes in
-    record {
-      told = n.entered ∙ more_told e f lines es k.told;
-      good = subst (Good events empty (live_set events) (entry_over e f lines ∷ es)) (sym n.step) good;
-      names = subst (λ m. Named events m (entry_over e f lines ∷ es)) (ap (λ m. m + 1) n.named ∙ sym n.drawn) (appended_named events e f ns k.names le below);
-      earlier = (subst (λ m. AllByRecursion (λ k. k < m) ns) (sym n.named) below, k.earlier);
-      again = subst (λ names. Sound events (both (live_set events) (named events (numbers names))) (entry_over e f lines ∷ es)) (sym n.redoable) (none_again (entry_over e f lines ∷ es) good.sound);
-    }
-
-pub stands_entered : (e : Event) (f : Foot) (old new : Book) → Stands old → Enters e f old new → Stands new
-stands_entered e f old new h n =
-    ∥∥₁_elim h ∥∥₁_prop (λ (es, k). ∥∥₁_map n.does (λ d. (entry_over e f old.journal ∷ es, kept_entered e f old new es k d n)))
-
--- an event that brings these effects is entered with its cells and its causes
-pub enters : (e : Event) (it : Effects) (f : Foot) (old new : Book) (cells : Cells) → e.name.0 ≡ old.next → new.next ≡ old.next + 1
-    → ((g : Foot) → Affects e.name it old.world g → new.world ≡ after events g old.world)
-    → ((w : World) (g : Foot) → Affects e.name it w g → (cells.touched.items ≡ touched g) × (cells.written.items ≡ map (λ p. p.0) g.writes))
-    → new.journal ≡ old.journal ++ record { event = e; touched = cells.touched.items; written = cells.written.items; causes = causes_in cells.touched.items old.journal; live = true } ∷ []
-    → new.redoable ≡ [] → Brings e it old.world f → Enters e f old new
-enters e it f old new cells named drawn steps keys entered redoable b =
-    let k = keys old.world f b.affects in
-    record {
-      named = named;
-      drawn = drawn;
-      does = b.does;
-      step = steps f b.affects;
-      entered = entered ∙ (λ i. old.journal ++ record { event = e; touched = k.0 i; written = k.1 i; causes = causes_in (k.0 i) old.journal; live = true } ∷ []);
-      redoable = redoable;
-    }
-
--- a birth under a name that is free, an asked program of a vat that is there, and the turn of a message that is ready are
--- possible, and bring their effects
-pub birth_brings : (e : EventName) (x y z : Name) (script : Program) (p : Trees) (w : World) → w (key.Name x) ≡ None → y ≡ x → p ≡ program_of script → z ≡ x
-    → Brings (record { name = e; act = birth y p }) (effects.Birth z script) w (birth_foot e x (program_of script))
-birth_brings e x y z script p w free named same shared = record {
-  does = ∣ subst (λ (a : Act). Does (record { name = e; act = a }) w (birth_foot e x (program_of script))) (λ i. birth (sym named i) (sym same i)) (births free) ∣₁;
-  affects = (ap (λ (n : Name). w (key.Name n)) shared ∙ free, λ i. birth_foot e (sym shared i) (program_of script));
+-- what stands is what is shown
+pub kept_same : (old new : Core) (next : ℕ) (out : List Lent) → shown new ≡ shown old → Kept old next out → Kept new next out
+kept_same old new next out is k = record {
+  rows = k.rows;
+  stands = subst (λ (j : List Item × State cells). ItemsStand Does (empty events) next k.rows j.0 j.1) (sym is) k.stands;
+  free = k.free;
+  drawn = k.drawn;
+  apart = k.apart;
 }
 
-pub ask_brings : (e : EventName) (x y z : Name) (v : Vat) (program : Program) (p : Trees) (w : World) → vat_named w x ≡ Some v → y ≡ x → p ≡ program_of program → z ≡ x
-    → Brings (record { name = e; act = ask y p }) (effects.Ask z v.number program) w (ask_foot e x v.number (program_of program))
-ask_brings e x y z v program p w there named same shared = record {
-  does = ∣ subst (λ (a : Act). Does (record { name = e; act = a }) w (ask_foot e x v.number (program_of program))) (λ i. ask (sym named i) (sym same i)) (asks there) ∣₁;
-  affects = λ i. ask_foot e (sym shared i) v.number (program_of program);
-}
+pub stands_same : (old new : Core) (next : ℕ) (out : List Lent) → shown new ≡ shown old → Stands old next out → Stands new next out
+stands_same old new next out is h = ∥∥₁_elim h ∥∥₁_prop (λ k. ∣ kept_same old new next out is k ∣₁)
 
-pub turn_brings : (e : EventName) (m : MsgId) (n : ℕ) (d : Delivered) (g : Message) (x : Name) (s : State) (w : World) → Holds w m d g x s → ∥ Turns e w m n (turn_of d g x s) ∥₁
-    → Brings (record { name = e; act = turn m n }) (effects.Turn m d) w (turn_foot e m (turn_of d g x s))
-turn_brings e m n d g x s w h t = record { does = ∥∥₁_map t (λ u. turns u); affects = (g, x, s, h, refl) }
+-- and so is the book
+pub book_same : (old new : Core) (next : ℕ) (out : List Lent) → shown new ≡ shown old → book_with new next out ≡ book_with old next out
+book_same old new next out is = ap (λ (j : List Item × State cells). record { world = contents cells j.1; journal = lines_of j.0; next = next; out = out }) is
 
--- the same world and journal stand too
-pub stands_so : (w v : World) (lines others : List Line) (next : ℕ) (names : List EventName) → v ≡ w → others ≡ lines
-    → Stands (record { world = w; journal = lines; next = next; redoable = names }) → Stands (record { world = v; journal = others; next = next; redoable = names })
-stands_so w v lines others next names e f h = subst Stands (λ i. record { world = sym e i; journal = sym f i; next = next; redoable = names }) h
+-- an event that is entered with these cells and this record
+module _ (old now : Core) (next later : ℕ) (out : List Lent) (e : Event) (seat : ℕ) (touched : List CellKey) (kept : Record cells) (f : Foot)
+    (brings : Brings e.name f touched kept) (is : shown now ≡ entered e seat touched kept (shown old)) (le : next ≤ later) (lt : e.name.0 < later) where
+  -- the item that is added
+  abbrev item : Item
+  item = (swap_item true (record { event = e; seat = seat; live = true; lasts = map (λ k. (k, (state_of old k).1)) touched; kept = kept }) (state_of old)).0
+
+  items : items_of now ≡ items_of old ++ item ∷ []
+  items = ap (λ (j : List Item × State cells). j.0) is
+
+  touches_all : HasCells events f (map (λ k. (k, (state_of old k).1)) touched)
+  touches_all k = any-map (λ (c : CellKey). (c, (state_of old c).1)) (λ p. same_key k p.0) touched ∙ brings.touch k
+
+  -- the row of the event among these
+  abbrev row : List (Row events) → Row events
+  row rows = (new_entry events e f (causes_of events f (entries_of rows)) (map (λ k. (k, (state_of old k).1)) touched), swap_record events kept (state_of old))
+
+  module _ (rows : List (Row events)) (h : CoreStands Does (empty events) next rows old) (d : Does e (contents cells (state_of old)) f) (free : Free events e.name.0 (entries_of rows)) where
+    pub entered_stands : CoreStands Does (empty events) later (row rows ∷ rows) now
+    entered_stands = (enters Does events_laws (empty events) next later rows old now e seat touched kept f (causes_of events f (entries_of rows)) h d free le lt
+        (causes_named events f h.stands.named)
+        (all_map _ _ (causes_of events f (entries_of rows)) (λ n m. omega (arith, m, le)) (causes_below events f h.stands.named))
+        (free_causes events e.name.0 f (entries_of rows) free) touches_all brings.write is).0
+
+    stands_with : ItemsStand Does (empty events) later (row rows ∷ rows) (items_of old ++ item ∷ []) (state_of now)
+    stands_with = subst (λ its. ItemsStand Does (empty events) later (row rows ∷ rows) its (state_of now)) items entered_stands
+
+    pub entered_lines : lines_of (items_of now) ≡ lines_of (items_of old) ++ next_line (lines_of (items_of old)) item ∷ []
+    entered_lines = ap lines_of items ∙ lines_appended Does events_laws (row rows) item h stands_with refl
+
+    touch_told : (k : CellKey) → touches plain (bare item).foot k ≡ touches events f k
+    touch_told k = told_touches Does events_laws f (map (λ k. (k, (state_of old k).1)) touched) (swap_record events kept (state_of old)) touches_all (stands_with.stands.follows.fit.0) k
+
+    new_told : (k : CellKey) → is_some (new plain (bare item).foot k) ≡ is_some (new events f k)
+    new_told k = told_new Does events_laws f (map (λ k. (k, (state_of old k).1)) touched) (swap_record events kept (state_of old)) (stands_with.stands.follows.fit.0) k
+
+  -- THE LEMMA: the event is entered in the book, wherever its name is free
+  module _ (h : Stands old next out) (does : ∥ Does e (contents cells (state_of old)) f ∥₁) (free : (k : Kept old next out) → Free events e.name.0 (entries_of k.rows)) where
+    tells : Tells e f seat (lines_of (items_of old)) (next_line (lines_of (items_of old)) item)
+    tells = record {
+      event = refl;
+      same_seat = refl;
+      live = refl;
+      touched = λ k. ∥∥₁_elim h (Bool-set _ _) (λ q. ∥∥₁_elim does (Bool-set _ _) (λ d. touch_told q.rows q.stands d (free q) k));
+      written = λ k. ∥∥₁_elim h (Bool-set _ _) (λ q. ∥∥₁_elim does (Bool-set _ _) (λ d. new_told q.rows q.stands d (free q) k));
+      causes = refl;
+    }
+
+    pub book_enters : (last : ℕ) (others : List Lent) → Enters e f seat (book_with old next out) (book_with now last others)
+    book_enters last others = record {
+      does = does;
+      step = ap (λ (j : List Item × State cells). contents cells j.1) is ∙ contents_after events events_laws e.name.0 f kept (state_of old) brings.write;
+      line = next_line (lines_of (items_of old)) item;
+      tells = tells;
+      entered = ∥∥₁_elim h (Lines-set _ _) (λ q. ∥∥₁_elim does (Lines-set _ _) (λ d. entered_lines q.rows q.stands d (free q)));
+    }
+
+    pub book_stands : (others : List Lent) → ((k : Kept old next out) (d : Does e (contents cells (state_of old)) f) → Kept now later others) → Stands now later others
+    book_stands others keeps = ∥∥₁_elim h ∥∥₁_prop (λ q. ∥∥₁_elim does ∥∥₁_prop (λ d. ∣ keeps q d ∣₁))
+
+  -- what is kept after it, of other names that are free
+  pub kept_entered : (k : Kept old next out) → Does e (contents cells (state_of old)) f → Free events e.name.0 (entries_of k.rows) → (others : List Lent)
+      → AllByRecursion (λ t. Free events t.number.0 (entries_of k.rows)) others → AllByRecursion (λ t. e.name.0 ≢ t.number.0) others → AllByRecursion (λ t. t.number.0 < later) others → Apart others → Kept now later others
+  kept_entered k d free others still differ drawn apart = record {
+    rows = row k.rows ∷ k.rows;
+    stands = entered_stands k.rows k.stands d free;
+    free = all_both _ _ _ others (λ t q ne. ((ne, free_causes events t.number.0 f (entries_of k.rows) q), q)) still differ;
+    drawn = drawn;
+    apart = apart;
+  }
+
+-- an event is entered under the next name
+module _ (old now : Core) (next : ℕ) (out : List Lent) (e : Event) (touched : List CellKey) (kept : Record cells) (f : Foot)
+    (brings : Brings e.name f touched kept) (is : shown now ≡ entered e 0 touched kept (shown old)) (name : e.name.0 ≡ next) (h : Stands old next out) (does : ∥ Does e (contents cells (state_of old)) f ∥₁) where
+  drawn_lt : e.name.0 < next + 1
+  drawn_lt = omega (arith, name)
+
+  next_le : next ≤ next + 1
+  next_le = omega arith
+
+  next_free : (k : Kept old next out) → Free events e.name.0 (entries_of k.rows)
+  next_free k = free_from events e.name.0 next (entries_of k.rows) k.stands.stands.named.below (omega (arith, name))
+
+  pub next_stands : Stands now (next + 1) out
+  next_stands = book_stands old now next (next + 1) out e 0 touched kept f brings is next_le drawn_lt h does next_free out (λ k d.
+      kept_entered old now next (next + 1) out e 0 touched kept f brings is next_le drawn_lt k d (next_free k) out k.free
+      (all_map _ _ out (λ t lt same. omega (arith, lt, same, name)) k.drawn) (all_map _ _ out (λ t lt. omega (arith, lt)) k.drawn) k.apart)
+
+  pub next_enters : EntersNext e f 0 (book_with old next out) (book_with now (next + 1) out)
+  next_enters = record {
+    named = name;
+    drawn = refl;
+    same_out = refl;
+    enters = book_enters old now next (next + 1) out e 0 touched kept f brings is next_le drawn_lt h does next_free (next + 1) out;
+  }

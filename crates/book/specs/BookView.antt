@@ -1,9 +1,11 @@
 -- What the program's book stands for.
+use Rattle.history.specs.Records.{contents}
+use Rattle.post.specs.Theory.{cells}
+use Rattle.journal.specs.Lines.{lines_of}
+use Rattle.undo.specs.CoreView.{items_of, state_of}
+use Rattle.desk.specs.DeskView.{out_of}
 use Rattle.book.specs.Books as model
-use Rattle.journal.specs.EntryView.{lines_of}
-use Rattle.journal.specs.JournalView.{entries_of}
-use Rattle.world.specs.View.{world_of}
 use Rattle.book.specs.declared.book.Book.{Book}
 
 abbrev pub book_of : Book → model.Book
-book_of b = record { world = world_of b.world; journal = lines_of (entries_of b.journal); next = b.next; redoable = b.redoable.items }
+book_of b = record { world = contents cells (state_of b.core); journal = lines_of (items_of b.core); next = b.next; out = out_of b.desk }

@@ -1,51 +1,197 @@
 -- What the accepted calls of a book do.
-use Rattle.std.specs.Prelude.{◌≡◌, ◌+◌, true, List, [], ◌∷◌, ◌++◌, map, None}
-use Rattle.reruns.specs.Subject as history
+use Rattle.std.specs.Prelude.{◌≡◌, ℕ, ◌+◌, ◌==◌, Bool, true, ◌&&◌, ◌||◌, not, List, [], ◌∷◌, ◌++◌, map, filter, reverse, is_some, Some, None, Contains, slice_get}
+use Rattle.std.specs.List.{list_any, AllByRecursion}
+use Rattle.std.specs.Arc.{arc_value}
+use Rattle.std.specs.Option.{option_map}
+use Rattle.history.specs.Subject.{after, new, touches}
+use Rattle.history.specs.Journal.{causes_of}
 use Rattle.ids.specs.declared.names.EventName.{EventName}
-use Rattle.ids.specs.declared.names.CellKey.{CellKey}
-use Rattle.world.specs.Events.{Event, Foot, Does, events}
-use Rattle.journal.specs.Journal.{Line, causes_in, undone_in, redone_in, live_events, rest_of}
-use Rattle.book.specs.Refusals.{undo_refusal}
-use Rattle.book.specs.Books.{Book, PlainRun, Stands}
+use Rattle.ids.specs.declared.names.MsgId.{MsgId}
+use Rattle.ids.specs.declared.names.VatNo.{VatNo}
+use Rattle.ids.specs.declared.cells.CellKey.{CellKey}
+use Rattle.ids.specs.declared.cells.CellKey.TheVariants as key
+use Rattle.heap.specs.State as heap
+use Rattle.heap.specs.State.{Cell}
+use Rattle.heap.specs.View.{state_of}
+use Rattle.heap.specs.Found.{Found}
+use Rattle.post.specs.Events.{Event, turn}
+use Rattle.post.specs.Messages.{message_of}
+use Rattle.post.specs.Theory.{kepts_of}
+use Rattle.post.specs.declared.message.Message as code-message
+use Rattle.post.specs.World as world
+use Rattle.post.specs.World.{Message, message, at_vat, vat_state}
+use Rattle.event.specs.Events.{Foot, Does, events, InOrder, Turn, Turns, Leaves, turn_foot}
+use Rattle.event.specs.Effects.{Brings, turn_of}
+use Rattle.event.specs.declared.effects.Effects.{Effects}
+use Rattle.event.specs.declared.outcome.Outcome.{Outcome}
+use Rattle.turn.specs.Tasks.{task_of}
+use Rattle.turn.specs.declared.ticket.Out.{Out}
+use Rattle.turn.specs.declared.ticket.Task.{Task}
+use Rattle.turn.specs.declared.ticket.Ran.{Ran}
+use Rattle.journal.specs.Lines.{plain, Line, entries_in, in_order}
+use Rattle.journal.specs.Items.{exchanged}
+use Rattle.causality.specs.Selections.{name_of, is_live, chosen}
+use Rattle.desk.specs.Desks.{Lent, without}
+use Rattle.book.specs.Books.{Book, PlainRun}
+use Rattle.book.specs.Refusals.{Refusal, no_ticket, stale, full, journal_full, undo_refusal, checkout_refusal}
 
--- the cells that an event touches
-abbrev pub touched : Foot → List CellKey
-touched f = history.touched events f
+-- the line of a new event from a seat: it is live, it has the cells that its footprint touches and writes, and as its causes the live
+-- events before it that wrote a cell that it touches, the oldest first
+pub record Tells (e : Event) (f : Foot) (seat : ℕ) (lines : List Line) (l : Line) : Type 0 where
+  pub event : l.entry.event ≡ e
+  pub same_seat : l.seat ≡ seat
+  pub live : l.entry.live ≡ true
+  pub touched : (k : CellKey) → touches plain l.entry.foot k ≡ touches events f k
+  pub written : (k : CellKey) → is_some (new plain l.entry.foot k) ≡ is_some (new events f k)
+  pub causes : l.entry.causes ≡ reverse (causes_of plain l.entry.foot (entries_in lines))
 
--- the live line of a new event: its footprint, and as its causes the live lines before it that wrote a cell that it touches
-abbrev pub new_line : Event → Foot → List Line → Line
-new_line e f lines = record { event = e; touched = touched f; written = map (λ p. p.0) f.writes; causes = causes_in (touched f) lines; live = true }
-
--- an accepted event has the next name; the world goes one step, the journal has one more line at its end, and nothing may be redone
-pub record Enters (e : Event) (f : Foot) (old new : Book) : Type 0 where
-  pub named : e.name.0 ≡ old.next
-  pub drawn : new.next ≡ old.next + 1
+-- an event that is possible is entered: the world goes one step, and the journal has one more line at its end
+pub record Enters (e : Event) (f : Foot) (seat : ℕ) (old now : Book) : Type 0 where
   pub does : ∥ Does e old.world f ∥₁
-  pub step : new.world ≡ history.after events f old.world
-  pub entered : new.journal ≡ old.journal ++ new_line e f old.journal ∷ []
-  pub redoable : new.redoable ≡ []
+  pub step : now.world ≡ after events f old.world
+  pub line : Line
+  pub tells : Tells e f seat old.journal line
+  pub entered : now.journal ≡ old.journal ++ line ∷ []
 
--- of no event nothing changes
-abbrev pub now_redoable : List EventName → List EventName → List EventName
-now_redoable [] redoable = redoable
-now_redoable (e ∷ names) redoable = e ∷ names
+-- the same with the name that comes next
+pub record EntersNext (e : Event) (f : Foot) (seat : ℕ) (old now : Book) : Type 0 where
+  pub named : e.name.0 ≡ old.next
+  pub drawn : now.next ≡ old.next + 1
+  pub same_out : now.out ≡ old.out
+  pub enters : Enters e f seat old now
 
--- an undo leaves the plain run of the rest, and what it undid may be redone
-pub record Undoes (names : List EventName) (old new : Book) : Type 0 where
-  pub rest : PlainRun (rest_of names old.journal) new.world
-  pub marked : new.journal ≡ undone_in names old.journal
-  pub same_next : new.next ≡ old.next
-  pub redoable : new.redoable ≡ now_redoable names old.redoable
+-- what was worked out of an event that is possible: its footprint, as cells that it touches and records of what it writes
+pub record Happens (e : Event) (f : Foot) (w : world.World) (it : Effects) : Type 0 where
+  pub does : ∥ Does e w f ∥₁
+  pub brings : Brings e.name f it.touched.items (kepts_of it.records.items)
 
-abbrev pub still_redoable : List EventName → List EventName → List EventName
-still_redoable [] redoable = redoable
-still_redoable (e ∷ names) redoable = []
+-- what the book notes of a ticket
+abbrev pub lent_of : Task → Lent
+lent_of t = record { number = t.event; message = t.name; vat = t.vat; budget = t.budget; seat = t.seat }
 
--- a redo makes the events live again, and gives back the world from before their undo
-pub record Redoes (names : List EventName) (old new : Book) : Type 0 where
-  pub run : PlainRun (live_events (redone_in names old.journal)) new.world
-  pub marked : new.journal ≡ redone_in names old.journal
-  pub same_next : new.next ≡ old.next
-  pub redoable : new.redoable ≡ still_redoable names old.redoable
-  pub former : (before : Book) → Stands before → undo_refusal before.journal names ≡ None → Undoes names before old
-      → (new.world ≡ before.world) × (new.journal ≡ before.journal)
+-- a ticket carries a message of the world that is at its vat, and the vat's state
+pub record Carries (w : world.World) (t : Out) : Type 0 where
+  pub waiting : w (key.Msg t.name) ≡ Some (message (message_of t.message))
+  pub there : (message_of t.message).place ≡ at_vat t.vat
+  pub state : state_of (arc_value t.state) ≡ vat_state w t.vat
+
+-- a message may be delivered with this budget, as the turn of the name that comes next
+pub record Admitted (b : Book) (m : MsgId) (budget : ℕ) (g : code-message.Message) (v : VatNo) (e : EventName) : Type 0 where
+  pub named : e.0 ≡ b.next
+  pub refusal : checkout_refusal b m budget ≡ None
+  pub waiting : b.world (key.Msg m) ≡ Some (message (message_of g))
+  pub there : (message_of g).place ≡ at_vat v
+  pub in_order : InOrder b.world (message_of g).after
+
+-- a ticket for a message is lent to a seat: it has the name that comes next
+pub record Lends (m : MsgId) (budget seat : ℕ) (t : Out) (old now : Book) : Type 0 where
+  pub named : t.event.0 ≡ old.next
+  pub of_message : t.name ≡ m
+  pub same_budget : t.budget ≡ budget
+  pub same_seat : t.seat ≡ seat
+  pub carries : Carries old.world t
+  pub in_order : InOrder old.world (message_of t.message).after
+  pub lent : now ≡ record old { next = old.next + 1; out = old.out ++ lent_of (task_of t) ∷ [] }
+
+-- a ticket is out, and of a message that the world has it carries a copy, their places aside
+pub record IsKnown (b : Book) (t : Task) : Type 0 where
+  pub out : Contains b.out (lent_of t)
+  pub copy : (g : Message) → b.world (key.Msg t.name) ≡ Some (message g) → record g { place = (message_of t.message).place } ≡ message_of t.message
+
+-- the message is still ready at its vat, and each cell that the turn touched holds what was found there
+pub record IsFresh (b : Book) (r : Ran) : Type 0 where
+  pub waiting : b.world (key.Msg r.carried.name) ≡ Some (message (message_of r.carried.message))
+  pub there : (message_of r.carried.message).place ≡ at_vat r.carried.vat
+  pub in_order : InOrder b.world (message_of r.carried.message).after
+  pub found : Found r.outcome.footprint (vat_state b.world r.carried.vat)
+
+-- why a turn that was run is refused
+pub data RefusesCommit (b : Book) (r : Ran) : Refusal → Type 0 where
+  strange : (IsKnown b r.carried → ⊥) → RefusesCommit b r no_ticket
+  changed : IsKnown b r.carried → (IsFresh b r → ⊥) → RefusesCommit b r stale
+  no_room : IsKnown b r.carried → IsFresh b r → journal_full b ≡ Some full → RefusesCommit b r full
+
+-- an event is the turn of a message: this is the turn, with the cells that it touched and what it left
+pub record EntersTurn (e : EventName) (m : MsgId) (budget seat : ℕ) (t : Turn) (old now : Book) : Type 0 where
+  pub turns : ∥ Turns e old.world m budget t ∥₁
+  pub cells : List Cell
+  pub left : List (Cell × heap.Content)
+  pub leaves : Leaves t cells left
+  pub enters : Enters (record { name = e; act = turn m budget }) (turn_foot e m t cells left) seat old now
+
+-- the turn that a ticket was run for
+abbrev pub turn_in : world.World → Ran → Turn
+turn_in w r = turn_of (message_of r.carried.message) r.carried.vat r.outcome (vat_state w r.carried.vat)
+
+-- a turn that was run is entered, and its ticket is no longer out
+pub record Commits (r : Ran) (old now : Book) : Type 0 where
+  pub known : IsKnown old r.carried
+  pub fresh : IsFresh old r
+  pub room : journal_full old ≡ None
+  pub enters : EntersTurn r.carried.event r.carried.name r.carried.budget r.carried.seat (turn_in old.world r) old now
+  pub same_next : now.next ≡ old.next
+  pub out : now.out ≡ without r.carried.event old.out
+
+-- a message is delivered under the name that comes next, and this is its turn
+pub record TurnsNext (e : EventName) (m : MsgId) (budget : ℕ) (t : Turn) (old now : Book) : Type 0 where
+  pub named : e.0 ≡ old.next
+  pub drawn : now.next ≡ old.next + 1
+  pub same_out : now.out ≡ old.out
+  pub enters : EntersTurn e m budget 0 t old now
+
+-- a line is undone where it is chosen, or live again
+abbrev pub undone : List EventName → Line → Line
+undone names l = record l { entry = record (l.entry) { live = is_live l && not (chosen names l) } }
+
+abbrev pub redone : List EventName → Line → Line
+redone names l = record l { entry = record (l.entry) { live = is_live l || chosen names l } }
+
+-- the lines with the chosen ones undone, or live again
+abbrev pub undone_in : List EventName → List Line → List Line
+undone_in names lines = map (undone names) lines
+
+abbrev pub redone_in : List EventName → List Line → List Line
+redone_in names lines = map (redone names) lines
+
+-- the events of the live lines
+abbrev pub live_events : List Line → List Event
+live_events lines = map (λ l. l.entry.event) (filter is_live lines)
+
+-- the events of the live lines outside a set
+abbrev pub rest_of : List EventName → List Line → List Event
+rest_of names lines = map (λ l. l.entry.event) (filter (λ l. is_live l && not (chosen names l)) lines)
+
+-- an undo leaves the plain run of the rest
+pub record Undoes (names : List EventName) (old now : Book) : Type 0 where
+  pub rest : PlainRun (rest_of names old.journal) now.world
+  pub marked : now.journal ≡ undone_in names old.journal
+  pub same_next : now.next ≡ old.next
+  pub same_out : now.out ≡ old.out
+
+-- a redo makes the events live again where they stand
+pub record Redoes (names : List EventName) (old now : Book) : Type 0 where
+  pub run : PlainRun (live_events (redone_in names old.journal)) now.world
+  pub marked : now.journal ≡ redone_in names old.journal
+  pub same_next : now.next ≡ old.next
+  pub same_out : now.out ≡ old.out
+
+-- the line at a position, counted from 1, and the one behind it change places, and causes are named in the new order; the world is the same
+pub record Exchanges (position : ℕ) (old now : Book) : Type 0 where
+  pub places : (n : ℕ) → position ≡ n + 1 → now.journal ≡ map (in_order (exchanged n old.journal)) (exchanged n old.journal)
+  pub same_world : now.world ≡ old.world
+  pub same_next : now.next ≡ old.next
+  pub same_out : now.out ≡ old.out
+
+-- the events of the entry at a position, counted from 1, and of the one behind it
+abbrev pub StoodAt : ℕ → List Line → EventName → EventName → Type 0
+StoodAt position lines e f = (n : ℕ) → position ≡ n + 1 → (option_map name_of (slice_get lines n) ≡ Some e) × (option_map name_of (slice_get lines (n + 1)) ≡ Some f)
+
+-- two lists name the same events of a journal, in any order and however often
+abbrev pub SameSet : List EventName → List EventName → List Line → Type 0
+SameSet names others lines = AllByRecursion (λ l. chosen names l ≡ chosen others l) lines
+
+-- where a book's world is the plain run of its live events: a redo of what was just undone gives back the former journal and world
+abbrev pub RedoNextGivesBack : Type 0
+RedoNextGivesBack = (names others : List EventName) (before between now : Book) → PlainRun (live_events before.journal) before.world →
+    undo_refusal before.journal names ≡ None → Undoes names before between → SameSet names others before.journal → Redoes others between now →
+    (now.world ≡ before.world) × (now.journal ≡ before.journal)

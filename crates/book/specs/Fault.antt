@@ -1,13 +1,22 @@
 -- Refusals of the book, in words, and what they stand for.
-use Rattle.std.specs.Prelude.{◌≡◌, List, ℕ, ◌++◌, codes, Option, Some}
+use Rattle.std.specs.Prelude.{◌≡◌, ◌⊎◌, ◌+◌, ℕ, List, ◌++◌, codes, Option, Some}
+use Rattle.std.specs.Fmt.{decimal}
 use Rattle.ids.specs.Names.{event_text, message_text}
+use Rattle.ids.specs.declared.names.EventName.{EventName}
 use Rattle.scopes.specs.Check as check
 use Rattle.scopes.specs.Scope as scope
 use Rattle.scopes.specs.declared.checking.CheckFault.{CheckFault}
 use Rattle.scopes.specs.declared.checking.CheckFault.TheVariants as check-fault
-use Rattle.book.specs.Refusals.{Refusal, no_vat, name_taken, no_message, not_there, before, full, no_event, not_live, still_live, not_closed, not_next, unchecked}
+use Rattle.book.specs.Refusals.{Refusal, no_vat, name_taken, no_message, not_there, before, full, stale, vat_out, no_ticket, no_event, no_position, not_live, still_live, not_closed, crossed, cause_missing, dependent, bad_budget, unchecked}
+use Rattle.turn.specs.declared.ticket.Ran.{Ran}
+use Rattle.book.specs.Books.{Book}
+use Rattle.book.specs.Calls.{RefusesCommit}
 use Rattle.book.specs.declared.fault.BookFault.{BookFault}
 use Rattle.book.specs.declared.fault.BookFault.TheVariants as fault
+
+-- two events behind a word
+abbrev pub pair_text : List ℕ → EventName → EventName → List ℕ
+pair_text words e f = words ++ (event_text e ++ (codes " " ++ event_text f))
 
 abbrev pub fault_text : BookFault → List ℕ
 fault_text (fault.NoVat x) = codes "B1 NoVat " ++ x
@@ -16,11 +25,18 @@ fault_text (fault.NoMessage m) = codes "B3 NoMessage " ++ message_text m
 fault_text fault.NotThere = codes "B4 NotThere"
 fault_text (fault.Before m) = codes "B6 Before " ++ message_text m
 fault_text fault.Full = codes "B8 Full"
+fault_text fault.Stale = codes "B9 Stale"
+fault_text fault.VatOut = codes "B10 VatOut"
+fault_text fault.NoTicket = codes "B11 NoTicket"
 fault_text (fault.NoEvent e) = codes "B12 NoEvent " ++ event_text e
+fault_text (fault.NoPosition position) = codes "B12 NoEvent " ++ decimal position
 fault_text (fault.NotLive e) = codes "B13 NotLive " ++ event_text e
 fault_text (fault.IsLive e) = codes "B14 IsLive " ++ event_text e
-fault_text (fault.NotClosed e f) = codes "B15 NotClosed " ++ (event_text e ++ (codes " " ++ event_text f))
-fault_text fault.NotNext = codes "B21 NotNext"
+fault_text (fault.NotClosed e f) = pair_text (codes "B15 NotClosed ") e f
+fault_text (fault.Crossed e f) = pair_text (codes "B16 Crossed ") e f
+fault_text (fault.CauseMissing e f) = pair_text (codes "B17 CauseMissing ") e f
+fault_text (fault.Dependent e f) = pair_text (codes "B18 Dependent ") e f
+fault_text fault.BadBudget = codes "B19 BadBudget"
 fault_text (fault.Check f) = check.fault_text f
 fault_text fault.Memory = codes "B20 Memory"
 
@@ -41,10 +57,30 @@ Tells (fault.NoMessage m) refusal = refusal ≡ Some (no_message m)
 Tells fault.NotThere refusal = refusal ≡ Some not_there
 Tells (fault.Before m) refusal = refusal ≡ Some (before m)
 Tells fault.Full refusal = refusal ≡ Some full
+Tells fault.Stale refusal = refusal ≡ Some stale
+Tells fault.VatOut refusal = refusal ≡ Some vat_out
+Tells fault.NoTicket refusal = refusal ≡ Some no_ticket
 Tells (fault.NoEvent e) refusal = refusal ≡ Some (no_event e)
+Tells (fault.NoPosition position) refusal = refusal ≡ Some (no_position position)
 Tells (fault.NotLive e) refusal = refusal ≡ Some (not_live e)
 Tells (fault.IsLive e) refusal = refusal ≡ Some (still_live e)
 Tells (fault.NotClosed e f) refusal = refusal ≡ Some (not_closed e f)
-Tells fault.NotNext refusal = refusal ≡ Some not_next
+Tells (fault.Crossed e f) refusal = refusal ≡ Some (crossed e f)
+Tells (fault.CauseMissing e f) refusal = refusal ≡ Some (cause_missing e f)
+Tells (fault.Dependent e f) refusal = refusal ≡ Some (dependent e f)
+Tells fault.BadBudget refusal = refusal ≡ Some bad_budget
 Tells (fault.Check f) refusal = check_tells f refusal
 Tells fault.Memory refusal = Unit {0}
+
+-- a fault tells why a turn that was run is refused, unless it is want of memory
+abbrev pub TellsCommit : BookFault → Book → Ran → Type 0
+TellsCommit fault.NoTicket b r = RefusesCommit b r no_ticket
+TellsCommit fault.Stale b r = RefusesCommit b r stale
+TellsCommit fault.Full b r = RefusesCommit b r full
+TellsCommit fault.Memory b r = Unit {0}
+TellsCommit _ b r = ⊥
+
+-- a refused turn changes nothing; without memory it may have drawn a name that is not used
+abbrev pub Unturned : BookFault → Book → Book → Type 0
+Unturned fault.Memory old now = (now ≡ old) ⊎ (now ≡ record old { next = old.next + 1 })
+Unturned _ old now = now ≡ old

@@ -1,6 +1,6 @@
 pub mod Books
 pub mod Refusals
 pub mod Calls
-pub mod Rerun
 pub mod Fault
+pub mod Standing
 pub mod BookView

@@ -1,19 +1,22 @@
 -- When a call of the book is refused.
-use Rattle.std.specs.Prelude.{◌||◌, cond, List, [], ◌∷◌, length, Option, Some, None, Ok, Err, nat_lt}
+use Rattle.std.specs.Prelude.{ℕ, zero, suc, ◌||◌, ◌&&◌, ◌==◌, ◌+◌, not, cond, Bool, false, List, [], ◌∷◌, length, Option, Some, None, Ok, Err, nat_lt, slice_get}
 use Rattle.std.specs.Option.{option_map}
+use Rattle.history.specs.Subject.{meets}
 use Rattle.kernele.specs.Tree.{Name, Trees}
 use Rattle.scopes.specs.Scope.{Checked, checked_program, script_scopes, asked_scopes}
 use Rattle.scopes.specs.Scope as scope
 use Rattle.ids.specs.declared.names.EventName.{EventName}
+use Rattle.ids.specs.declared.names.VatNo.{VatNo}
 use Rattle.ids.specs.declared.names.MsgId.{MsgId}
-use Rattle.world.specs.World.{Vat, World, vat_named}
-use Rattle.world.specs.Ready.{unready}
-use Rattle.world.specs.declared.ready.Unready.{Unready}
-use Rattle.world.specs.declared.ready.Unready.TheVariants as why
-use Rattle.journal.specs.Journal.{Line}
-use Rattle.causality.specs.declared.selection.Gap.{Gap}
+use Rattle.post.specs.World.{Vat, Place, at_vat, done, Message, World, vat_named, message_of}
+use Rattle.event.specs.Ready.{lost, early}
+use Rattle.event.specs.declared.ready.Unready.{Unready}
+use Rattle.event.specs.declared.ready.Unready.TheVariants as why
+use Rattle.journal.specs.Lines.{plain, Line}
 use Rattle.journal.specs.declared.entry.Mark.TheVariants as mark
-use Rattle.causality.specs.Selections.{least_missing, first_marked, first_gap, same_set}
+use Rattle.causality.specs.declared.selection.Gap.{Gap}
+use Rattle.causality.specs.Selections.{name_of, is_live, least_missing, first_marked, first_gap, first_missing_cause, first_crossing}
+use Rattle.desk.specs.Desks.{Lent, has_vat}
 use Rattle.book.specs.Books.{Book}
 
 -- why a call is refused
@@ -24,12 +27,26 @@ pub data Refusal : Type 0 where
   not_there : Refusal
   before : (m : MsgId) → Refusal
   full : Refusal
+  -- the world is no longer as the turn found it
+  stale : Refusal
+  -- a ticket of the vat is out
+  vat_out : Refusal
+  -- no such ticket is out
+  no_ticket : Refusal
   no_event : (e : EventName) → Refusal
+  -- the journal has no entry at this position
+  no_position : (position : ℕ) → Refusal
   not_live : (e : EventName) → Refusal
   still_live : (e : EventName) → Refusal
   -- a member of the set, and a live consequence of it outside
   not_closed : (e : EventName) → (f : EventName) → Refusal
-  not_next : Refusal
+  -- a member, and one that it is not a consequence of, but would be now
+  crossed : (e : EventName) → (f : EventName) → Refusal
+  -- a member, and a cause of it that is not live
+  cause_missing : (e : EventName) → (f : EventName) → Refusal
+  -- two neighbours, of which one wrote a cell that the other touched
+  dependent : (e : EventName) → (f : EventName) → Refusal
+  bad_budget : Refusal
   unchecked : (fault : scope.Refusal) → Refusal
 
 -- the first of two refusals, if there is one
@@ -37,9 +54,16 @@ abbrev pub first : Option Refusal → Option Refusal → Option Refusal
 first None next = next
 first (Some refusal) next = Some refusal
 
+abbrev pub refuse_where : Bool → Refusal → Option Refusal
+refuse_where b refusal = cond b (Some refusal) None
+
+-- the journal has no room
+abbrev pub journal_full : Book → Option Refusal
+journal_full b = refuse_where (nat_lt 1048575 (length b.journal)) full
+
 -- names are used up, or the journal has no room
 abbrev pub full_refusal : Book → Option Refusal
-full_refusal b = cond (nat_lt 4294967295 b.next || nat_lt 1048575 (length b.journal)) (Some full) None
+full_refusal b = refuse_where (nat_lt 4294967295 b.next || nat_lt 1048575 (length b.journal)) full
 
 abbrev pub check_refusal : Checked → Option Refusal
 check_refusal (Ok s) = None
@@ -68,12 +92,24 @@ refusal_of m why.NoMessage = no_message m
 refusal_of m why.NotThere = not_there
 refusal_of m (why.Before n) = before n
 
--- a delivery: the message is there, at a vat, and what it waits for is done
-abbrev pub ready_refusal : World → MsgId → Option Refusal
-ready_refusal w m = option_map (refusal_of m) (unready w m)
+-- a budget is 1 to 1,000,000
+abbrev pub budget_refusal : ℕ → Option Refusal
+budget_refusal budget = refuse_where (budget == 0 || nat_lt 1000000 budget) bad_budget
 
-abbrev pub turn_refusal : Book → MsgId → Option Refusal
-turn_refusal b m = first (ready_refusal b.world m) (full_refusal b)
+abbrev pub place_out : Place → List Lent → Bool
+place_out (at_vat v) out = has_vat v out
+place_out (done e) out = false
+
+abbrev pub message_out : Option Message → List Lent → Bool
+message_out None out = false
+message_out (Some g) out = place_out g.place out
+
+-- a checkout: the budget is good, the message is at a vat, no ticket of the vat is out, what the message waits for is done
+abbrev pub checkout_refusal : Book → MsgId → ℕ → Option Refusal
+checkout_refusal b m budget =
+    first (budget_refusal budget) (first (option_map (refusal_of m) (lost b.world m))
+    (first (refuse_where (message_out (message_of b.world m) b.out) vat_out)
+    (first (option_map (refusal_of m) (early b.world m)) (full_refusal b))))
 
 -- an event that the journal does not have
 abbrev pub missing_refusal : List EventName → List Line → Option Refusal
@@ -87,26 +123,43 @@ undone_refusal names lines = option_map not_live (first_marked mark.Undone names
 abbrev pub live_refusal : List EventName → List Line → Option Refusal
 live_refusal names lines = option_map still_live (first_marked mark.Live names lines)
 
-abbrev pub gap_refusal : Gap → Refusal
-gap_refusal gap = not_closed gap.event gap.consequence
-
--- an event with a live consequence outside the set
-abbrev pub open_refusal : List EventName → List Line → Option Refusal
-open_refusal names lines = option_map gap_refusal (first_gap names lines)
+abbrev pub gap_refusal : (EventName → EventName → Refusal) → Gap → Refusal
+gap_refusal why g = why g.event g.other
 
 -- an undo: the events are in the journal, live, and have all their live consequences among them
 abbrev pub undo_refusal : List Line → List EventName → Option Refusal
-undo_refusal lines names = first (missing_refusal names lines) (first (undone_refusal names lines) (open_refusal names lines))
+undo_refusal lines names = first (missing_refusal names lines) (first (undone_refusal names lines) (option_map (gap_refusal not_closed) (first_gap names lines)))
 
--- no event, or just those of the undo before
-abbrev pub next_refusal : List EventName → List EventName → Option Refusal
-next_refusal [] redoable = None
-next_refusal (e ∷ names) redoable = cond (same_set (e ∷ names) redoable) None (Some not_next)
-
--- a redo: the events are in the journal, undone, and just those that were undone by the last call that changed the journal
-abbrev pub redo_refusal : Book → List EventName → Option Refusal
-redo_refusal b names = first (missing_refusal names b.journal) (first (live_refusal names b.journal) (next_refusal names b.redoable))
+-- a redo: the events are in the journal, undone, and sound together with what is live
+abbrev pub redo_refusal : List Line → List EventName → Option Refusal
+redo_refusal lines names =
+    first (missing_refusal names lines) (first (live_refusal names lines)
+    (first (option_map (gap_refusal cause_missing) (first_missing_cause names lines)) (option_map (gap_refusal crossed) (first_crossing names lines))))
 
 -- a cone: the event is in the journal, and live
 abbrev pub cone_refusal : List Line → EventName → Option Refusal
 cone_refusal lines e = first (missing_refusal (e ∷ []) lines) (undone_refusal (e ∷ []) lines)
+
+-- a test of a line that stands at a position, counted from 1, and of the one behind it
+abbrev pub neighbours_by : (Line → Line → Option Refusal) → ℕ → Option Line → Option Line → Option Refusal
+neighbours_by test position None b = Some (no_position position)
+neighbours_by test position (Some a) None = Some (no_position (position + 1))
+neighbours_by test position (Some a) (Some b) = test a b
+
+abbrev pub neighbours_refusal : (Line → Line → Option Refusal) → List Line → ℕ → Option Refusal
+neighbours_refusal test lines zero = Some (no_position 0)
+neighbours_refusal test lines (suc n) = neighbours_by test (suc n) (slice_get lines n) (slice_get lines (suc n))
+
+abbrev pub undone_neighbour : Line → Line → Option Refusal
+undone_neighbour a b = first (refuse_where (not (is_live a)) (not_live (name_of a))) (refuse_where (not (is_live b)) (not_live (name_of b)))
+
+-- there are entries at the position and behind it, and both are live
+abbrev pub placed_refusal : List Line → ℕ → Option Refusal
+placed_refusal lines position = neighbours_refusal undone_neighbour lines position
+
+abbrev pub dependent_neighbour : Line → Line → Option Refusal
+dependent_neighbour a b = refuse_where (meets plain a.entry.foot b.entry.foot || meets plain b.entry.foot a.entry.foot) (dependent (name_of a) (name_of b))
+
+-- an exchange: there are entries at the position and behind it, both are live, and neither wrote a cell that the other touched
+abbrev pub exchange_refusal : List Line → ℕ → Option Refusal
+exchange_refusal lines position = neighbours_refusal (λ a b. first (undone_neighbour a b) (dependent_neighbour a b)) lines position

@@ -1,48 +1,74 @@
-// The book: the world, the journal that made it, and the names that are not drawn yet.
-ghost use Rattle.std.specs.Prelude.{◌≡◌, ◌≤◌, ◌+◌, ◌++◌, ℕ, List, [], ◌∷◌, true, None, Some, IfOk, IfErr, OnOk, OnErr, length, filter};
+// The book: the world, the journal that made it, the names that are not drawn yet, and the tickets that are out.
+ghost use Rattle.std.specs.Prelude.{◌≡◌, ◌≤◌, ◌+◌, ◌↔◌, List, None, Some, true, false, IsTrue, IfOk, IfErr, IfSome, OnOk, OnErr, length, filter, map};
 ghost use Rattle.std.specs.Option.{option_map};
-ghost use Rattle.ids.specs.declared.names.CellKey.TheVariants as key;
+ghost use Rattle.history.specs.Chains.{last_writer};
+ghost use Rattle.history.specs.Journal.{live_set};
+ghost use Rattle.ids.specs.declared.cells.CellKey.{CellKey};
+ghost use Rattle.ids.specs.declared.cells.CellKey.TheVariants as key;
 ghost use Rattle.kernele.specs.View.{program_of};
 ghost use Rattle.scopes.specs.Check.{scopes_of};
 ghost use Rattle.scopes.specs.Scope.{checked_program};
 ghost use Rattle.scopes.specs.declared.naming.TopName.{TopName};
-ghost use Rattle.turn.specs.View.{ended_of};
-ghost use Rattle.world.specs.World.{vat_named};
-ghost use Rattle.world.specs.Events.{Foot, Turn, Turns, birth, ask, turn, birth_foot, ask_foot, turn_foot};
-ghost use Rattle.world.specs.Effects.{Brings, turn_end};
-ghost use Rattle.journal.specs.Journal.{Line, live_events, causes_in, chosen, undone_in, redone_in, Cone};
-ghost use Rattle.book.specs.Refusals.{birth_refusal, ask_refusal, turn_refusal, ready_refusal, full_refusal, check_refusal, taken_refusal, undo_refusal, redo_refusal, cone_refusal};
-ghost use Rattle.book.specs.Books.{blank, PlainRun, Stands};
-ghost use Rattle.book.specs.Calls.{Enters, Undoes, Redoes};
-ghost use Rattle.book.specs.Fault.{Tells};
-ghost use Rattle.world.specs.EventView.{event_of};
-ghost use Rattle.journal.specs.EntryView.{lines_of};
-ghost use Rattle.journal.specs.JournalView.{entries_of};
-ghost use Rattle.book.specs.Refusals.{refusal_of};
-ghost use Rattle.world.specs.View.{world_of};
+ghost use Rattle.heap.specs.Found.{Found};
+ghost use Rattle.post.specs.Events.{birth, ask};
+ghost use Rattle.post.specs.EventView.{event_of};
+ghost use Rattle.post.specs.Messages.{place_of, message_of, vat_of};
+ghost use Rattle.post.specs.Theory.{state_of_world};
+ghost use Rattle.post.specs.View.{world_of};
+ghost use Rattle.post.specs.World.{at_vat, vat, vat_named, vat_state};
+ghost use Rattle.event.specs.Events.{Foot, Turn, birth_foot, ask_foot};
+ghost use Rattle.event.specs.Outcomes.{ended_of};
+ghost use Rattle.journal.specs.Items.{item_of};
+ghost use Rattle.journal.specs.Lines.{plain, lines_of, entries_in};
+ghost use Rattle.causality.specs.Exact.{Cone};
+ghost use Rattle.causality.specs.Journals.{IsJournal};
+ghost use Rattle.causality.specs.Selections.{chosen};
+ghost use Rattle.desk.specs.Desks.{is_out, without};
+ghost use Rattle.std.specs.Option.{option_map};
+ghost use Rattle.desk.specs.DeskView.{lent_of as desk_lent, out_of};
+ghost use Rattle.book.specs.Refusals.{birth_refusal, ask_refusal, checkout_refusal, full_refusal, check_refusal, taken_refusal, undo_refusal, redo_refusal, cone_refusal, exchange_refusal, budget_refusal, refusal_of, full, journal_full};
+ghost use Rattle.book.specs.Books.{blank, PlainRun};
+ghost use Rattle.book.specs.Calls.{Happens, EntersNext, Admitted, TurnsNext, lent_of, Lends, Commits, IsKnown, IsFresh, Undoes, Redoes, Exchanges, StoodAt, live_events};
+ghost use Rattle.book.specs.Fault.{Tells, TellsCommit, Unturned};
+ghost use Rattle.book.specs.Standing.{Stands};
+ghost use Rattle.book.specs.declared.fault.BookFault.TheVariants.{NoTicket, Stale, Full};
 
 use crate::fault::BookFault;
-use crate::rerun::plain_run;
-use crate::undoing::{check_redo, check_undo, cone};
+use crate::selecting::{check_cone, check_exchange, check_redo, check_undo};
+use causality::cone::cone;
+use causality::selection::positions;
+use cells::swaps::Swaps;
+use desk::desk::{Desk, Lent};
+use event::effects::{Effects, ask_effects, birth_effects, turn_effects};
+use event::found::is_found;
+use event::outcome::Ended;
+use event::ready::{Unready, check_order, message_at_vat};
+use heap::reach::Footprint;
+use heap::state::VatState;
 use ids::names::{EventName, MsgId, VatNo};
 use ids::text::Text;
-use journal::entry::{Entry, Mark};
-use journal::journal::Journal;
+use journal::entry::Entry;
 use kernele::tree::Program;
+use post::event::{Action, Event};
+use post::message::{Message, Place, same_sent};
+use post::vat::Vat;
+use post::world::World;
 use scopes::{CheckFault, Outer, check};
 use std::alloc::{AllocError, Global};
-use turn::delivery::Ended;
-use world::effects::Effects;
-use world::event::{Action, Event};
-use world::ready::{Unready, ready};
-use world::step::{StepFault, deliver};
-use world::world::World;
+use turn::ticket::{Out, Ran, Task, Ticket};
+use undo::undoing::{Core, Deed};
 
 /// The greatest name that an event may have.
 const LAST_NAME: u64 = 4_294_967_295;
 
 /// The most entries that a journal may have.
 const MOST_ENTRIES: usize = 1_048_576;
+
+/// The most steps that a turn may be given.
+const MOST_STEPS: u32 = 1_000_000;
+
+/// The seat of events that are entered from none.
+const NO_SEAT: u64 = 0;
 
 /// A turn that was run: its event's name, and how it ended.
 #[derive(Drop)]
@@ -51,17 +77,15 @@ pub struct Turned {
     pub ended: Ended,
 }
 
-/// All that has happened: the world, the journal whose live events made it, and the next event's name.
+/// All that has happened: the world, the journal whose live events made it, the next event's name, and the tickets that are out.
 #[derive(Drop)]
 pub struct Book {
     alloc: Global,
-    world: World,
-    journal: Journal,
+    core: Core,
     next: u64,
-    // The events of the last call, if it was an undo.
-    redoable: Vec<EventName>,
+    desk: Desk,
     ghost in_range: { next ≤ 4294967296 },
-    ghost stands: { Stands (record { world = world_of world; journal = lines_of (entries_of journal); next = next; redoable = redoable.items }) },
+    ghost stands: { Stands core next (out_of desk) },
 }
 
 fn check_program(alloc: Global, program: &Program, outer: &Outer) -> Result<(), BookFault>
@@ -85,6 +109,61 @@ fn unready_fault(message: MsgId, unready: Unready) -> BookFault
     }
 }
 
+fn check_budget(budget: u32) -> Result<(), BookFault>
+    ensures ok { OnOk result (budget_refusal budget ≡ None) }
+    ensures err { IfErr result (λ fault. Tells fault (budget_refusal budget)) }
+{
+    if budget == 0 || budget > MOST_STEPS {
+        return Err(BookFault::BadBudget);
+    }
+    Ok(())
+}
+
+/// Whether the state of a vat, if it has one, holds what a turn found.
+fn is_found_at(alloc: Global, footprint: &Footprint, world: &World, vat: VatNo) -> bool
+    ensures { IsTrue result ↔ Found footprint.now (vat_state (world_of world.now) vat) }
+{
+    match world.home(vat) {
+        Some(state) => is_found(footprint, state),
+        None => is_found(footprint, &VatState::new(alloc)),
+    }
+}
+
+fn is_at(place: Place, vat: VatNo) -> bool
+    ensures { IsTrue result ↔ (place_of place ≡ at_vat vat) }
+{
+    match place {
+        Place::At(home) => home == vat,
+        Place::Done(_) => false,
+    }
+}
+
+/// Whether a message, if the world has it, is the one that a ticket carries, their places aside.
+fn is_copy(found: Option<&Message>, carried: &Message) -> bool
+    ensures { IsTrue result ↔ IfSome found.entry (λ g. record (message_of g.now) { place = (message_of carried.now).place } ≡ message_of carried.now) }
+{
+    match found {
+        Some(message) => same_sent(message, carried),
+        None => true,
+    }
+}
+
+/// Whether the ticket that was found out, if one was, is this one.
+fn is_lent(found: Option<Lent>, out: &Task) -> bool
+    ensures { IsTrue result ↔ (option_map desk_lent found ≡ Some (lent_of out.now)) }
+{
+    match found {
+        Some(lent) => {
+            lent.number == out.event
+                && lent.message == out.name
+                && lent.vat == out.vat
+                && lent.budget == out.budget
+                && lent.seat == out.seat
+        }
+        None => false,
+    }
+}
+
 impl Book {
     ghost use Rattle.book.specs.BookView.{book_of};
 
@@ -94,26 +173,28 @@ impl Book {
     {
         Book {
             alloc,
-            world: World::new(alloc),
-            journal: Journal::new(alloc),
+            core: Core::new(alloc),
             next: 1,
-            redoable: Vec::new(alloc),
+            desk: Desk::new(alloc),
         }
     }
 
-    /// The world: what the live events lead to from the empty world, one after another in the journal's order.
+    /// The world: what the live events lead to from the empty world, one after another in the journal's order. Each cell has as its
+    /// last writer the last live event that wrote it.
     pub fn world(&self) -> &World
         ensures same { world_of result.now ≡ (book_of self.now).world }
         ensures plain_run { PlainRun (live_events (book_of self.now).journal) (world_of result.now) }
+        ensures last_writers { (k : CellKey) → (state_of_world result.now k).1 ≡ last_writer plain k (live_set plain) (entries_in (book_of self.now).journal) }
     {
-        &self.world
+        self.core.world()
     }
 
-    /// The journal, in the order in which the events were accepted.
+    /// The entries of the journal, in its order.
     pub fn journal(&self) -> &[Entry]
-        ensures { lines_of result.now ≡ (book_of self.now).journal }
+        ensures lines { lines_of (map item_of result.now) ≡ (book_of self.now).journal }
+        ensures journal { IsJournal (map item_of result.now) }
     {
-        self.journal.entries()
+        self.core.entries()
     }
 
     /// The name that the next event is given.
@@ -121,42 +202,43 @@ impl Book {
         ensures ok { IfOk result (λ e. (e.0 ≡ self.now.next) × (self.now.next ≤ 4294967295) × (full_refusal (book_of self.now) ≡ None)) }
         ensures err { IfErr result (λ fault. Tells fault (full_refusal (book_of self.now))) }
     {
-        if self.next > LAST_NAME || self.journal.entries().len() >= MOST_ENTRIES {
+        if self.next > LAST_NAME || self.core.len() >= MOST_ENTRIES {
             return Err(BookFault::Full);
         }
         Ok(EventName(self.next))
     }
 
-    /// Enters an event with these effects, or changes nothing. Answers how the turn ended, if it was one.
-    fn enter(&mut self, event: Event, effects: Effects) -> Result<Option<Ended>, AllocError>
+    /// Enters an event that is possible under the next name, or changes nothing.
+    fn enter(&mut self, event: Event, effects: Effects) -> Result<(), AllocError>
         requires named { event.name.0 ≡ self.old.next }
         requires in_range { self.old.next ≤ 4294967295 }
-        requires possible { (f : Foot) × Brings (event_of event) effects (world_of self.old.world) f }
-        ensures ok { OnOk result ((f : Foot) → Brings (event_of event) effects (world_of self.old.world) f → Enters (event_of event) f (book_of self.old) (book_of self.new)) }
-        ensures ended { IfOk result (λ ended. option_map ended_of ended ≡ turn_end effects) }
+        requires possible { (f : Foot) × Happens (event_of event) f (book_of self.old).world effects }
+        ensures ok { OnOk result ((f : Foot) → Happens (event_of event) f (book_of self.old).world effects → EntersNext (event_of event) f 0 (book_of self.old) (book_of self.new)) }
         ensures unchanged { OnErr result (book_of self.new ≡ book_of self.old) }
     {
-        let name = event.name;
-        let cells = effects.cells(self.alloc, name)?;
-        self.journal.add(event, cells)?;
-        match effects.apply(self.alloc, &mut self.world, name) {
-            Ok(ended) => {
-                self.next += 1;
-                self.redoable.clear();
-                Ok(ended)
-            }
-            Err(error) => {
-                self.journal.remove_last();
-                Err(error)
-            }
-        }
+        let Effects { touched, records } = effects;
+        let deed = Deed {
+            event,
+            seat: NO_SEAT,
+        };
+        self.core
+            .enter(self.alloc, deed, &touched, records, &mut Swaps::none())?;
+        self.next += 1;
+        Ok(())
+    }
+
+    /// What is known of the vat of this name.
+    fn vat(&self, name: &Text) -> Option<&Vat>
+        ensures { option_map (λ v. vat (vat_of v.now)) result ≡ (book_of self.now).world (key.Name name.now) }
+    {
+        self.core.world().vat(name)
     }
 
     fn check_free(&self, name: &Text) -> Result<(), BookFault>
-        ensures ok { OnOk result (world_of self.now.world (key.Name name.now) ≡ None) }
-        ensures err { IfErr result (λ fault. Tells fault (taken_refusal name.now (vat_named (world_of self.now.world) name.now))) }
+        ensures ok { OnOk result ((book_of self.now).world (key.Name name.now) ≡ None) }
+        ensures err { IfErr result (λ fault. Tells fault (taken_refusal name.now (vat_named (book_of self.now).world name.now))) }
     {
-        match self.world.vat(name) {
+        match self.vat(name) {
             None => Ok(()),
             Some(_) => Err(BookFault::NameTaken(name.share()?)),
         }
@@ -164,7 +246,7 @@ impl Book {
 
     /// The name of a birth that may be entered.
     fn admit_birth(&self, name: &Text, script: &Program) -> Result<EventName, BookFault>
-        ensures ok { IfOk result (λ e. (e.0 ≡ self.now.next) × (self.now.next ≤ 4294967295) × (world_of self.now.world (key.Name name.now) ≡ None) × (birth_refusal (book_of self.now) name.now (program_of script.now) ≡ None)) }
+        ensures ok { IfOk result (λ e. (e.0 ≡ self.now.next) × (self.now.next ≤ 4294967295) × ((book_of self.now).world (key.Name name.now) ≡ None) × (birth_refusal (book_of self.now) name.now (program_of script.now) ≡ None)) }
         ensures err { IfErr result (λ fault. Tells fault (birth_refusal (book_of self.now) name.now (program_of script.now))) }
     {
         self.check_free(name)?;
@@ -178,27 +260,29 @@ impl Book {
     /// # Errors
     /// `NameTaken`, a fault of the check, `Full`, `Memory`, tried in this order.
     pub fn birth(&mut self, name: &Text, script: Program) -> Result<EventName, BookFault>
-        ensures ok { IfOk result (λ e. (birth_refusal (book_of self.old) name.now (program_of script) ≡ None) × Enters (record { name = e; act = birth name.now (program_of script) }) (birth_foot e name.now (program_of script)) (book_of self.old) (book_of self.new)) }
+        ensures ok { IfOk result (λ e. (birth_refusal (book_of self.old) name.now (program_of script) ≡ None) × EntersNext (record { name = e; act = birth name.now (program_of script) }) (birth_foot e name.now (program_of script)) 0 (book_of self.old) (book_of self.new)) }
         ensures err { IfErr result (λ fault. Tells fault (birth_refusal (book_of self.old) name.now (program_of script))) }
         ensures unchanged { OnErr result (book_of self.new ≡ book_of self.old) }
     {
         let event = self.admit_birth(name, &script)?;
-        let action = Action::Birth(name.share()?, script.share()?);
-        let effects = Effects::Birth(name.share()?, script);
-        let entered = Event {
-            name: event,
-            action,
-        };
-        self.enter(entered, effects)?;
+        let effects = birth_effects(self.alloc, event, name, &script)?;
+        let action = Action::Birth(name.share()?, script);
+        self.enter(
+            Event {
+                name: event,
+                action,
+            },
+            effects,
+        )?;
         Ok(event)
     }
 
     /// The name of an asked program that may be entered, and its vat.
     fn admit_ask(&self, name: &Text, program: &Program) -> Result<(EventName, VatNo), BookFault>
-        ensures ok { IfOk result (λ r. (r.0.0 ≡ self.now.next) × (self.now.next ≤ 4294967295) × ((tops : List TopName) × (vat_named (world_of self.now.world) name.now ≡ Some (record { number = r.1; tops = tops }))) × (ask_refusal (book_of self.now) name.now (program_of program.now) ≡ None)) }
+        ensures ok { IfOk result (λ r. (r.0.0 ≡ self.now.next) × (self.now.next ≤ 4294967295) × ((tops : List TopName) × (vat_named (book_of self.now).world name.now ≡ Some (record { number = r.1; tops = tops }))) × (ask_refusal (book_of self.now) name.now (program_of program.now) ≡ None)) }
         ensures err { IfErr result (λ fault. Tells fault (ask_refusal (book_of self.now) name.now (program_of program.now))) }
     {
-        let Some(vat) = self.world.vat(name) else {
+        let Some(vat) = self.vat(name) else {
             return Err(BookFault::NoVat(name.share()?));
         };
         let outer = Outer::for_asked(self.alloc, &vat.tops)?;
@@ -212,47 +296,239 @@ impl Book {
     /// # Errors
     /// `NoVat`, a fault of the check, `Full`, `Memory`, tried in this order.
     pub fn ask(&mut self, name: &Text, program: Program) -> Result<EventName, BookFault>
-        ensures ok { IfOk result (λ e. (ask_refusal (book_of self.old) name.now (program_of program) ≡ None) × ((v : VatNo) × Enters (record { name = e; act = ask name.now (program_of program) }) (ask_foot e name.now v (program_of program)) (book_of self.old) (book_of self.new))) }
+        ensures ok { IfOk result (λ e. (ask_refusal (book_of self.old) name.now (program_of program) ≡ None) × ((v : VatNo) × EntersNext (record { name = e; act = ask name.now (program_of program) }) (ask_foot e name.now v (program_of program)) 0 (book_of self.old) (book_of self.new))) }
         ensures err { IfErr result (λ fault. Tells fault (ask_refusal (book_of self.old) name.now (program_of program))) }
         ensures unchanged { OnErr result (book_of self.new ≡ book_of self.old) }
     {
-        let (event, number) = self.admit_ask(name, &program)?;
-        let action = Action::Ask(name.share()?, program.share()?);
-        let effects = Effects::Ask(name.share()?, number, program);
-        let entered = Event {
-            name: event,
-            action,
-        };
-        self.enter(entered, effects)?;
+        let (event, vat) = self.admit_ask(name, &program)?;
+        let effects = ask_effects(self.alloc, event, name, vat, &program)?;
+        let action = Action::Ask(name.share()?, program);
+        self.enter(
+            Event {
+                name: event,
+                action,
+            },
+            effects,
+        )?;
         Ok(event)
     }
 
-    /// Runs the turn of a message, with at most this many steps, and enters what it did.
-    ///
-    /// # Errors
-    /// `NoMessage`, `NotThere`, `Before`, `Full`, `Memory`, tried in this order.
-    pub fn turn(&mut self, message: MsgId, budget: u32) -> Result<Turned, BookFault>
-        ensures ok { IfOk result (λ t. (turn_refusal (book_of self.old) message ≡ None) × ((u : Turn) × ∥ Turns t.event (book_of self.old).world message budget u ∥₁ × Enters (record { name = t.event; act = turn message budget }) (turn_foot t.event message u) (book_of self.old) (book_of self.new) × (ended_of t.ended ≡ u.outcome.end))) }
-        ensures err { IfErr result (λ fault. Tells fault (turn_refusal (book_of self.old) message)) }
-        ensures unchanged { OnErr result (book_of self.new ≡ book_of self.old) }
+    /// A message that may be delivered with this budget, shared, its vat, and the name of its turn.
+    fn admit_turn(
+        &self,
+        message: MsgId,
+        budget: u32,
+    ) -> Result<(Message, VatNo, EventName), BookFault>
+        ensures ok { IfOk result (λ r. Admitted (book_of self.now) message budget r.0 r.1 r.2) }
+        ensures in_range { OnOk result (self.now.next ≤ 4294967295) }
+        ensures err { IfErr result (λ fault. Tells fault (checkout_refusal (book_of self.now) message budget)) }
     {
-        let (waiting, number, home) = match ready(&self.world, message) {
+        check_budget(budget)?;
+        let world = self.core.world();
+        let (waiting, vat) = match message_at_vat(world, message) {
             Ok(found) => found,
             Err(unready) => return Err(unready_fault(message, unready)),
         };
+        if self.desk.has_vat(vat) {
+            return Err(BookFault::VatOut);
+        }
+        if let Err(unready) = check_order(world, waiting.sent.after) {
+            return Err(unready_fault(message, unready));
+        }
         let event = self.next_event()?;
-        let delivered = deliver(self.alloc, event, message, budget, waiting, number, home)?;
-        let entered = Event {
-            name: event,
-            action: Action::Turn(message, budget),
-        };
-        match self.enter(entered, Effects::Turn(message, delivered))? {
-            Some(ended) => Ok(Turned { event, ended }),
-            None => unreachable!(),
+        Ok((waiting.share()?, vat, event))
+    }
+
+    /// Lends a ticket for the turn of a message, with at most this many steps, to a seat. The ticket shares the vat's state.
+    ///
+    /// # Errors
+    /// `BadBudget`, `NoMessage`, `NotThere`, `VatOut`, `Before`, `Full`, `Memory`, tried in this order.
+    pub fn checkout(
+        &mut self,
+        message: MsgId,
+        budget: u32,
+        seat: u64,
+    ) -> Result<Ticket<Out>, BookFault>
+        ensures ok { IfOk result (λ t. (checkout_refusal (book_of self.old) message budget ≡ None) × Lends message budget seat t.stage (book_of self.old) (book_of self.new)) }
+        ensures err { IfErr result (λ fault. Tells fault (checkout_refusal (book_of self.old) message budget)) }
+        ensures unchanged { OnErr result (book_of self.new ≡ book_of self.old) }
+    {
+        let (carried, vat, event) = self.admit_turn(message, budget)?;
+        let state = self.core.share_vat(self.alloc, vat)?;
+        self.desk.lend(Lent {
+            number: event,
+            message,
+            vat,
+            budget,
+            seat,
+        })?;
+        self.next += 1;
+        Ok(Ticket::new(Out {
+            alloc: self.alloc,
+            event,
+            name: message,
+            message: carried,
+            vat,
+            state,
+            budget,
+            seat,
+        }))
+    }
+
+    /// The ticket is out, and its message is the world's, if it is there.
+    fn check_known(&self, out: &Task) -> Result<(), BookFault>
+        ensures ok { OnOk result (IsKnown (book_of self.now) out.now) }
+        ensures err { IfErr result (λ fault. (fault ≡ NoTicket) × (IsKnown (book_of self.now) out.now → ⊥)) }
+    {
+        if is_lent(self.desk.get(out.event), out)
+            && is_copy(self.core.world().message(out.name), &out.message)
+        {
+            return Ok(());
+        }
+        Err(BookFault::NoTicket)
+    }
+
+    /// The message of a known ticket is ready at its vat, and the vat holds what the turn found.
+    fn check_fresh(&self, ran: &Ran) -> Result<(), BookFault>
+        requires { IsKnown (book_of self.now) ran.now.carried }
+        ensures ok { OnOk result (IsFresh (book_of self.now) ran.now) }
+        ensures err { IfErr result (λ fault. (fault ≡ Stale) × (IsFresh (book_of self.now) ran.now → ⊥)) }
+    {
+        let world = self.core.world();
+        let out = &ran.carried;
+        // A copy may say another place than the message in the world, and each must be at the vat.
+        match world.message(out.name) {
+            Some(message)
+                if is_at(message.place, out.vat)
+                    && is_at(out.message.place, out.vat)
+                    && check_order(world, out.message.sent.after).is_ok()
+                    && is_found_at(self.alloc, &ran.outcome.footprint, world, out.vat) => Ok(()),
+            _ => Err(BookFault::Stale),
         }
     }
 
-    /// Takes events back, with the world as if they had never been. Answers how many.
+    fn check_room(&self) -> Result<(), BookFault>
+        ensures ok { OnOk result (journal_full (book_of self.now) ≡ None) }
+        ensures err { IfErr result (λ fault. (fault ≡ Full) × (journal_full (book_of self.now) ≡ Some full)) }
+    {
+        if self.core.len() >= MOST_ENTRIES {
+            return Err(BookFault::Full);
+        }
+        Ok(())
+    }
+
+    /// Enters a turn that was run, or changes nothing.
+    fn enter_turn(&mut self, ran: &Ran) -> Result<(), BookFault>
+        ensures ok { OnOk result (Commits ran.now (book_of self.old) (book_of self.new)) }
+        ensures err { IfErr result (λ fault. TellsCommit fault (book_of self.old) ran.now) }
+        ensures unchanged { OnErr result (book_of self.new ≡ book_of self.old) }
+    {
+        self.check_known(&ran.carried)?;
+        self.check_fresh(ran)?;
+        self.check_room()?;
+        let out = &ran.carried;
+        let Effects { touched, records } = turn_effects(
+            self.alloc,
+            out.event,
+            out.name,
+            &out.message,
+            out.vat,
+            &ran.outcome,
+        )?;
+        let event = Event {
+            name: out.event,
+            action: Action::Turn(out.name, out.budget),
+        };
+        let deed = Deed {
+            event,
+            seat: out.seat,
+        };
+        self.core
+            .enter(self.alloc, deed, &touched, records, &mut Swaps::none())?;
+        self.desk.remove(out.event);
+        Ok(())
+    }
+
+    /// Enters the turn of a ticket that was run, and the ticket is no longer out. A refused ticket comes back as it was.
+    ///
+    /// # Errors
+    /// `NoTicket`, `Stale`, `Full`, `Memory`, tried in this order.
+    pub fn commit(&mut self, ticket: Ticket<Ran>) -> Result<EventName, (Ticket<Ran>, BookFault)>
+        ensures ok { IfOk result (λ e. (e ≡ ticket.stage.carried.event) × Commits ticket.stage (book_of self.old) (book_of self.new)) }
+        ensures err { IfErr result (λ r. TellsCommit r.1 (book_of self.old) ticket.stage) }
+        ensures back { IfErr result (λ r. r.0 ≡ ticket) }
+        ensures unchanged { OnErr result (book_of self.new ≡ book_of self.old) }
+    {
+        match self.enter_turn(ticket.ran()) {
+            Ok(()) => {
+                let event = ticket.ran().carried.event;
+                ticket.discard();
+                Ok(event)
+            }
+            Err(fault) => Err((ticket, fault)),
+        }
+    }
+
+    /// Lets go of the ticket of this number: it is no longer out. It takes no memory.
+    ///
+    /// # Errors
+    /// `NoTicket`.
+    pub fn abandon(&mut self, number: EventName) -> Result<(), BookFault>
+        ensures ok { OnOk result (is_out number (book_of self.old).out ≡ true) }
+        ensures gone { OnOk result (book_of self.new ≡ record (book_of self.old) { out = without number (book_of self.old).out }) }
+        ensures err { IfErr result (λ fault. (fault ≡ NoTicket) × (is_out number (book_of self.old).out ≡ false)) }
+        ensures unchanged { OnErr result (book_of self.new ≡ book_of self.old) }
+    {
+        if self.desk.remove(number) {
+            Ok(())
+        } else {
+            Err(BookFault::NoTicket)
+        }
+    }
+
+    /// Lets go of a ticket whose turn cannot be entered.
+    fn drop_turn<S: Drop>(
+        &mut self,
+        number: EventName,
+        ticket: Ticket<S>,
+        fault: BookFault,
+    ) -> BookFault
+        ensures same { result ≡ fault }
+        ensures gone { book_of self.new ≡ record (book_of self.old) { out = without number (book_of self.old).out } }
+    {
+        ticket.discard();
+        self.desk.remove(number);
+        fault
+    }
+
+    /// Runs the turn of a message, with at most this many steps, and enters what it did: checkout, run and commit.
+    ///
+    /// # Errors
+    /// `BadBudget`, `NoMessage`, `NotThere`, `VatOut`, `Before`, `Full`, `Memory`, tried in this order.
+    pub fn turn(&mut self, message: MsgId, budget: u32) -> Result<Turned, BookFault>
+        ensures ok { IfOk result (λ t. (checkout_refusal (book_of self.old) message budget ≡ None) × ((u : Turn) × TurnsNext t.event message budget u (book_of self.old) (book_of self.new) × (ended_of t.ended ≡ u.outcome.end))) }
+        ensures err { IfErr result (λ fault. Tells fault (checkout_refusal (book_of self.old) message budget)) }
+        ensures unchanged { IfErr result (λ fault. Unturned fault (book_of self.old) (book_of self.new)) }
+    {
+        let ticket = self.checkout(message, budget, NO_SEAT)?;
+        let ran = match ticket.run() {
+            Ok(ran) => ran,
+            Err((ticket, _)) => {
+                let number = ticket.out().event;
+                return Err(self.drop_turn(number, ticket, BookFault::Memory));
+            }
+        };
+        let number = ran.ran().carried.event;
+        let Ok(ended) = ran.outcome().ended.share() else {
+            return Err(self.drop_turn(number, ran, BookFault::Memory));
+        };
+        match self.commit(ran) {
+            Ok(event) => Ok(Turned { event, ended }),
+            Err((ran, fault)) => Err(self.drop_turn(number, ran, fault)),
+        }
+    }
+
+    /// Takes events back, with the world as if they had never been: nothing is run. Answers how many.
     ///
     /// # Errors
     /// `NoEvent`, `NotLive`, `NotClosed`, `Memory`, tried in this order.
@@ -261,51 +537,44 @@ impl Book {
         ensures err { IfErr result (λ fault. Tells fault (undo_refusal (book_of self.old).journal events.now)) }
         ensures unchanged { OnErr result (book_of self.new ≡ book_of self.old) }
     {
-        check_undo(self.alloc, self.journal.entries(), events)?;
-        if events.is_empty() {
-            return Ok(0);
-        }
-        let redoable = Vec::from_slice(self.alloc, events)?;
-        let count = self.journal.mark(events, Mark::Undone);
-        match plain_run(self.alloc, self.journal.entries()) {
-            Ok(world) => {
-                self.world = world;
-                self.redoable = redoable;
-                Ok(count)
-            }
-            Err(StepFault::Memory) => {
-                self.journal.mark(events, Mark::Live);
-                Err(BookFault::Memory)
-            }
-            Err(StepFault::Impossible) => unreachable!(),
-        }
+        check_undo(self.core.entries(), events)?;
+        let positions = positions(self.alloc, self.core.entries(), events)?;
+        self.core.prepare(self.alloc, &positions)?;
+        self.core.undo(&positions, &mut Swaps::none());
+        Ok(positions.len())
     }
 
-    /// Puts the events of the undo before back, with the world from before it. Answers how many.
+    /// Puts events that were undone back where they stand in the journal, also amid events that came since. Answers how many.
     ///
     /// # Errors
-    /// `NoEvent`, `IsLive`, `NotNext`, `Memory`, tried in this order.
+    /// `NoEvent`, `IsLive`, `CauseMissing`, `Crossed`, `Memory`, tried in this order.
     pub fn redo(&mut self, events: &[EventName]) -> Result<usize, BookFault>
-        ensures ok { IfOk result (λ count. (redo_refusal (book_of self.old) events.now ≡ None) × Redoes events.now (book_of self.old) (book_of self.new) × (count ≡ length (filter (chosen events.now) (book_of self.old).journal))) }
-        ensures err { IfErr result (λ fault. Tells fault (redo_refusal (book_of self.old) events.now)) }
+        ensures ok { IfOk result (λ count. (redo_refusal (book_of self.old).journal events.now ≡ None) × Redoes events.now (book_of self.old) (book_of self.new) × (count ≡ length (filter (chosen events.now) (book_of self.old).journal))) }
+        ensures err { IfErr result (λ fault. Tells fault (redo_refusal (book_of self.old).journal events.now)) }
         ensures unchanged { OnErr result (book_of self.new ≡ book_of self.old) }
     {
-        check_redo(self.journal.entries(), events, &self.redoable)?;
-        if events.is_empty() {
-            return Ok(0);
-        }
-        let count = self.journal.mark(events, Mark::Live);
-        match plain_run(self.alloc, self.journal.entries()) {
-            Ok(world) => {
-                self.world = world;
-                self.redoable.clear();
-                Ok(count)
-            }
-            Err(StepFault::Memory) => {
-                self.journal.mark(events, Mark::Undone);
-                Err(BookFault::Memory)
-            }
-            Err(StepFault::Impossible) => unreachable!(),
+        check_redo(self.alloc, self.core.entries(), events)?;
+        let positions = positions(self.alloc, self.core.entries(), events)?;
+        self.core.prepare(self.alloc, &positions)?;
+        self.core.redo(&positions, &mut Swaps::none());
+        Ok(positions.len())
+    }
+
+    /// Lets the live entry at a position, counted from 1, and the live one behind it change places. Answers their events, first the
+    /// one that stood first.
+    ///
+    /// # Errors
+    /// `NoPosition`, `NotLive`, `Dependent`, tried in this order.
+    pub fn exchange(&mut self, position: usize) -> Result<(EventName, EventName), BookFault>
+        ensures ok { IfOk result (λ r. (exchange_refusal (book_of self.old).journal position ≡ None) × Exchanges position (book_of self.old) (book_of self.new) × StoodAt position (book_of self.old).journal r.0 r.1) }
+        ensures err { IfErr result (λ fault. Tells fault (exchange_refusal (book_of self.old).journal position)) }
+        ensures unchanged { OnErr result (book_of self.new ≡ book_of self.old) }
+    {
+        let (first, second) = check_exchange(self.core.entries(), position)?;
+        if self.core.exchange(position - 1) {
+            Ok((first, second))
+        } else {
+            Err(BookFault::Dependent(first, second))
         }
     }
 
@@ -317,6 +586,7 @@ impl Book {
         ensures ok { IfOk result (λ names. (cone_refusal (book_of self.now).journal event ≡ None) × Cone (book_of self.now).journal event names.items) }
         ensures err { IfErr result (λ fault. Tells fault (cone_refusal (book_of self.now).journal event)) }
     {
-        cone(self.alloc, self.journal.entries(), event)
+        check_cone(self.core.entries(), event)?;
+        Ok(cone(self.alloc, self.core.entries(), event)?)
     }
 }

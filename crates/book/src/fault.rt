@@ -2,7 +2,7 @@
 ghost use Rattle.std.specs.Prelude.{◌≡◌, Some};
 ghost use Rattle.std.specs.Fmt.{DisplaysOnOk, option_append};
 ghost use Rattle.book.specs.declared.fault.BookFault.TheVariants.{Memory};
-ghost use Rattle.book.specs.Fault.{fault_text};
+ghost use Rattle.book.specs.Fault.{fault_text, pair_text};
 
 use ids::names::{EventName, MsgId};
 use ids::text::Text;
@@ -24,18 +24,32 @@ pub enum BookFault {
     NotThere,
     /// This message must be done first.
     Before(MsgId),
-    /// Names are used up.
+    /// The journal has no room, or names are used up.
     Full,
+    /// The world is no longer as the turn found it.
+    Stale,
+    /// A ticket of the vat is out.
+    VatOut,
+    /// No such ticket is out.
+    NoTicket,
     /// No entry of the journal has this name.
     NoEvent(EventName),
+    /// The journal has no entry at this position, counted from 1.
+    NoPosition(usize),
     /// The event is undone.
     NotLive(EventName),
     /// The event is live already.
     IsLive(EventName),
     /// The second event is live, came of the first, and is not to be undone with it.
     NotClosed(EventName, EventName),
-    /// The events are not those that were undone last.
-    NotNext,
+    /// The second event would be a cause of the first, and was none.
+    Crossed(EventName, EventName),
+    /// The second event is a cause of the first, and would not be live.
+    CauseMissing(EventName, EventName),
+    /// One of these neighbours wrote a cell that the other touched.
+    Dependent(EventName, EventName),
+    /// A budget is 1 to 1,000,000.
+    BadBudget,
     /// The program does not pass the check.
     Check(CheckFault),
     Memory,
@@ -49,6 +63,18 @@ fn write_about<T: Display, W: Write>(f: &mut Formatter<W>, words: &str, about: &
     about.fmt(f)
 }
 
+/// Writes words, and behind them two events.
+fn write_pair<W: Write>(
+    f: &mut Formatter<W>,
+    words: &str,
+    event: EventName,
+    other: EventName,
+) -> fmt::Result
+    ensures { DisplaysOnOk W.write_str_gives f.old result (Some (pair_text words.now event other)) f.new }
+{
+    write!(f, "{words}{event} {other}")
+}
+
 impl Display for BookFault {
     ghost output = { λ fault. Some (fault_text fault) };
 
@@ -60,13 +86,20 @@ impl Display for BookFault {
             BookFault::NotThere => f.write_str("B4 NotThere"),
             BookFault::Before(message) => write_about(f, "B6 Before ", message),
             BookFault::Full => f.write_str("B8 Full"),
+            BookFault::Stale => f.write_str("B9 Stale"),
+            BookFault::VatOut => f.write_str("B10 VatOut"),
+            BookFault::NoTicket => f.write_str("B11 NoTicket"),
             BookFault::NoEvent(event) => write_about(f, "B12 NoEvent ", event),
+            BookFault::NoPosition(position) => write_about(f, "B12 NoEvent ", position),
             BookFault::NotLive(event) => write_about(f, "B13 NotLive ", event),
             BookFault::IsLive(event) => write_about(f, "B14 IsLive ", event),
-            BookFault::NotClosed(event, consequence) => {
-                write!(f, "B15 NotClosed {event} {consequence}")
+            BookFault::NotClosed(event, other) => write_pair(f, "B15 NotClosed ", *event, *other),
+            BookFault::Crossed(event, other) => write_pair(f, "B16 Crossed ", *event, *other),
+            BookFault::CauseMissing(event, other) => {
+                write_pair(f, "B17 CauseMissing ", *event, *other)
             }
-            BookFault::NotNext => f.write_str("B21 NotNext"),
+            BookFault::Dependent(event, other) => write_pair(f, "B18 Dependent ", *event, *other),
+            BookFault::BadBudget => f.write_str("B19 BadBudget"),
             BookFault::Check(fault) => Display::fmt(fault, f),
             BookFault::Memory => f.write_str("B20 Memory"),
         }

@@ -1,7 +1,7 @@
-//! The book that all events go through: the world, and the journal that made it.
+//! The book that all events go through: the world, the journal that made it, and the tickets of turns that are out.
 #![tactic(auto)]
 
 pub mod book;
 pub mod fault;
-mod rerun;
-mod undoing;
+mod selecting;
+pub mod theorems;

@@ -1,5 +1,2 @@
-pub mod Leaving
-pub mod Worlds
-pub mod Law
-pub mod Sets
-pub mod Steps
+pub mod Going
+pub mod Stepping

@@ -1,8 +1,3 @@
-pub mod World
-pub mod Events
-pub mod Left
-pub mod Ready
+pub mod Runs
+pub mod Reruns
 pub mod Steps
-pub mod View
-pub mod EventView
-pub mod Effects

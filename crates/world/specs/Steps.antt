@@ -1,38 +1,54 @@
--- What the parts of a step find and leave.
-use Rattle.std.specs.Prelude.{cond, List, [], ◌∷◌, ◌++◌, Option}
-use Rattle.kernele.specs.Tree.{Name}
-use Rattle.erules.specs.Outcomes.{End}
+-- What a step finds and leaves.
+use Rattle.std.specs.Prelude.{◌≡◌, ℕ, Some}
+use Rattle.history.specs.Subject.{after}
 use Rattle.ids.specs.declared.names.EventName.{EventName}
 use Rattle.ids.specs.declared.names.VatNo.{VatNo}
 use Rattle.ids.specs.declared.names.MsgId.{MsgId}
-use Rattle.ids.specs.declared.names.PromId.{PromId}
-use Rattle.ids.specs.declared.names.CellKey.{CellKey}
-use Rattle.ids.specs.declared.names.CellKey.TheVariants as key
-use Rattle.world.specs.World.{World}
-use Rattle.world.specs.Events.{Event, Foot, Does, first_message, awaited, is_abandoned}
+use Rattle.ids.specs.declared.cells.CellKey.TheVariants as key
+use Rattle.heap.specs.Found.{Found}
+use Rattle.post.specs.Events.{Event}
+use Rattle.post.specs.Theory.{kepts_of}
+use Rattle.post.specs.World.{World, Message, message, at_vat, vat_state}
+use Rattle.post.specs.declared.message.Message as code-message
+use Rattle.event.specs.Events.{Foot, Does, events, InOrder}
+use Rattle.event.specs.Effects.{Brings}
+use Rattle.event.specs.declared.effects.Effects.{Effects}
+use Rattle.turn.specs.declared.ticket.Ran.{Ran}
 use Rattle.world.specs.declared.step.StepFault.{StepFault}
 use Rattle.world.specs.declared.step.StepFault.TheVariants as fault
+
+-- the event is possible in the first world, and the second is the one after it
+pub record StepsTo (e : Event) (w v : World) : Type 0 where
+  pub foot : Foot
+  pub does : ∥ Does e w foot ∥₁
+  pub step : v ≡ after events foot w
 
 -- an event that is impossible has no footprint; want of memory tells nothing
 abbrev pub TellsStep : Event → World → StepFault → Type 0
 TellsStep e w fault.Impossible = (f : Foot) → Does e w f → ⊥
 TellsStep e w fault.Memory = Unit {0}
 
--- the cells that a birth writes
-abbrev pub birth_cells : EventName → Name → List CellKey
-birth_cells e x = key.Msg (first_message e) ∷ key.State (record { 0 = e }) ∷ key.Name x ∷ []
+-- what was worked out of an event that is possible: its footprint, as cells that it touches and records of what it writes
+pub record Happens (e : Event) (f : Foot) (w : World) (it : Effects) : Type 0 where
+  pub does : ∥ Does e w f ∥₁
+  pub brings : Brings e.name f it.touched.items (kepts_of it.records.items)
 
--- the cell that an asked program writes
-abbrev pub ask_cells : EventName → List CellKey
-ask_cells e = key.Msg (first_message e) ∷ []
+-- a message is at this vat, and what it waits for is done
+pub record Ready (w : World) (m : MsgId) (g : Message) (v : VatNo) : Type 0 where
+  pub waiting : w (key.Msg m) ≡ Some (message g)
+  pub there : g.place ≡ at_vat v
+  pub in_order : InOrder w g.after
 
--- the vat's cell, unless the turn was abandoned
-abbrev pub state_cells : VatNo → End → List CellKey
-state_cells v o = cond (is_abandoned o) [] (key.State v ∷ [])
+-- a message that may not be delivered is ready at no vat; want of memory tells nothing
+abbrev pub Unready : World → MsgId → StepFault → Type 0
+Unready w m fault.Impossible = (g : Message) (v : VatNo) → Ready w m g v → ⊥
+Unready w m fault.Memory = Unit {0}
 
--- the cells that a turn writes, and those that it reads
-abbrev pub turn_cells : VatNo → MsgId → PromId → End → List CellKey
-turn_cells v m p o = state_cells v o ++ key.Msg m ∷ key.Board p ∷ []
-
-abbrev pub turn_reads : VatNo → Option MsgId → List CellKey
-turn_reads v after = key.State v ∷ awaited after
+-- this was run: the turn of a message at a vat, which found what the world has
+pub record RunsAt (w : World) (e : EventName) (m : MsgId) (budget : ℕ) (g : code-message.Message) (v : VatNo) (r : Ran) : Type 0 where
+  pub event : r.carried.event ≡ e
+  pub name : r.carried.name ≡ m
+  pub same_budget : r.carried.budget ≡ budget
+  pub same : r.carried.message ≡ g
+  pub vat : r.carried.vat ≡ v
+  pub found : Found r.outcome.footprint (vat_state w v)

@@ -1,11 +1,5 @@
-//! The world, the events that change it, and one step of it.
+//! The plain run of events: from the empty world, one after another.
 #![tactic(auto)]
 
-pub mod effects;
-pub mod event;
-pub mod keys;
-pub mod left;
-pub mod ready;
+pub mod run;
 pub mod step;
-pub mod theorems;
-pub mod world;

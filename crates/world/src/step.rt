@@ -1,34 +1,33 @@
 // One step of the world: what each kind of event does.
-ghost use Rattle.std.specs.Prelude.{◌≡◌, ◌++◌, List, ℕ, [], ◌∷◌, None, Some, IfOk, IfErr, OnOk, OnErr};
-ghost use Rattle.reruns.specs.Subject.{after as after_event};
-ghost use Rattle.ids.specs.declared.names.CellKey.TheVariants as key;
+ghost use Rattle.std.specs.Prelude.{◌≡◌, IfOk, IfErr, OnOk, OnErr};
+ghost use Rattle.std.specs.Arc.{arc_value};
 ghost use Rattle.kernele.specs.View.{program_of};
-ghost use Rattle.heap.specs.State.{State};
-ghost use Rattle.turn.specs.Turn.{Delivers};
+ghost use Rattle.heap.specs.Found.{Found};
 ghost use Rattle.heap.specs.View.{state_of};
-ghost use Rattle.turn.specs.View.{ended_of, delivery_of};
-ghost use Rattle.world.specs.Left.{left_of};
-ghost use Rattle.world.specs.World as model;
-ghost use Rattle.world.specs.World.{home, at_vat, done_in, message_of as message_in_world, message as message_content};
-ghost use Rattle.world.specs.Events.{Foot, Does, events, birth, ask, turn, InOrder, birth_foot, ask_foot, turn_foot, is_abandoned as is_abandoned_end, first_message as message_of_event, first_promise as promise_of_event};
+ghost use Rattle.turn.specs.Tasks.{task_of};
+ghost use Rattle.post.specs.EventView.{event_of};
+ghost use Rattle.post.specs.Events.{birth, ask, turn};
+ghost use Rattle.post.specs.Messages.{message_of};
+ghost use Rattle.post.specs.View.{seen_of_world, world_of};
+ghost use Rattle.event.specs.Events.{Foot};
+ghost use Rattle.world.specs.Steps.{Happens, StepsTo, TellsStep, Ready, RunsAt, Unready as IsUnready};
 ghost use Rattle.world.specs.declared.step.StepFault.TheVariants.{Memory};
-ghost use Rattle.world.specs.Steps.{TellsStep};
-ghost use Rattle.world.specs.EventView.{event_of};
-ghost use Rattle.world.specs.View.{world_of, place_of, message_of};
 
-use crate::event::{Action, Event};
-use crate::left::{Left, leave};
-use crate::ready::ready;
-use crate::world::{Home, Message, Place, Vat, World};
-use heap::state::VatState;
-use ids::names::{CellKey, EventName, MsgId, PromId, VatNo};
+use cells::swaps::Swaps;
+use event::effects::{Effects, ask_effects, birth_effects, turn_effects};
+use event::ready::{check_order, message_at_vat};
+use ids::names::{EventName, MsgId, VatNo};
 use ids::text::Text;
 use kernele::tree::Program;
-use scopes::top_names;
+use post::event::{Action, Event};
+use post::message::Message;
+use post::world::World;
 use std::alloc::{AllocError, AllocFailed, Global};
-use std::sync::Arc;
-use turn::delivery::{Delivery, Ended};
 use turn::ticket::{Out, Ran, Ticket};
+use undo::records::{make_rooms, swap_records};
+
+/// The seat of turns that are run from none.
+const NO_SEAT: u64 = 0;
 
 /// Why an event was not done.
 #[derive(Drop)]
@@ -54,83 +53,57 @@ impl<T: Drop> From<AllocFailed<T>> for StepFault {
     }
 }
 
-/// The first message that an event makes.
-pub(crate) fn first_message(event: EventName) -> MsgId
-    ensures { result ≡ message_of_event event }
-{
-    MsgId { event, index: 0 }
-}
-
-/// The first promise that an event makes, at home in a vat.
-fn first_promise(event: EventName, home: VatNo) -> PromId
-    ensures { result ≡ promise_of_event event home }
-{
-    PromId {
-        event,
-        index: 0,
-        home,
-    }
-}
-
-/// Enters a birth in the world, or changes nothing.
-pub(crate) fn enter_birth(
+/// The effects of a birth, if its name is free.
+fn effects_of_birth(
     alloc: Global,
-    world: &mut World,
+    world: &World,
     event: EventName,
     name: &Text,
-    script: Program,
-) -> Result<(), AllocError>
-    requires free { world_of world.old (key.Name name.now) ≡ None }
-    ensures ok { OnOk result (world_of world.new ≡ after_event events (birth_foot event name.now (program_of script)) (world_of world.old)) }
-    ensures err { OnErr result (world_of world.new ≡ world_of world.old) }
+    script: &Program,
+) -> Result<Effects, StepFault>
+    ensures ok { IfOk result (λ it. (f : Foot) × Happens (record { name = event; act = birth name.now (program_of script.now) }) f (world_of world.now) it) }
+    ensures err { IfErr result (λ fault. TellsStep (record { name = event; act = birth name.now (program_of script.now) }) (world_of world.now) fault) }
 {
-    let number = VatNo(event);
-    let tops = top_names(alloc, &script)?;
-    let home = Home {
-        name: name.share()?,
-        state: VatState::new(alloc),
+    let None = world.vat(name) else {
+        return Err(StepFault::Impossible);
     };
-    let opening = Message {
-        delivery: Delivery::Opening(script),
-        result: first_promise(event, number),
-        after: None,
-        place: Place::At(number),
-    };
-    world.add_vat(Vat { number, tops }, home, first_message(event), opening)?;
-    Ok(())
+    Ok(birth_effects(alloc, event, name, script)?)
 }
 
-/// Enters an asked program in the world, or changes nothing.
-pub(crate) fn enter_ask(
-    world: &mut World,
+/// The effects of an asked program, if the vat is there.
+fn effects_of_ask(
+    alloc: Global,
+    world: &World,
     event: EventName,
-    number: VatNo,
-    program: Program,
-) -> Result<(), AllocError>
-    ensures ok { OnOk result ((x : List ℕ) → world_of world.new ≡ after_event events (ask_foot event x number (program_of program)) (world_of world.old)) }
-    ensures err { OnErr result (world_of world.new ≡ world_of world.old) }
+    name: &Text,
+    program: &Program,
+) -> Result<Effects, StepFault>
+    ensures ok { IfOk result (λ it. (f : Foot) × Happens (record { name = event; act = ask name.now (program_of program.now) }) f (world_of world.now) it) }
+    ensures err { IfErr result (λ fault. TellsStep (record { name = event; act = ask name.now (program_of program.now) }) (world_of world.now) fault) }
 {
-    let message = Message {
-        delivery: Delivery::Asked(program),
-        result: first_promise(event, number),
-        after: Some(first_message(number.0)),
-        place: Place::At(number),
+    let Some(vat) = world.vat(name) else {
+        return Err(StepFault::Impossible);
     };
-    world.add_message(first_message(event), message)?;
-    Ok(())
+    Ok(ask_effects(alloc, event, name, vat.number, program)?)
 }
 
-/// A turn that was run: where, what it waited for, where its result is published, and its outcome.
-#[derive(Drop)]
-pub struct Delivered {
-    pub number: VatNo,
-    pub after: Option<MsgId>,
-    pub promise: PromId,
-    pub outcome: Left,
+/// A message that may be delivered now, shared, and its vat.
+fn ready(world: &World, name: MsgId) -> Result<(Message, VatNo), StepFault>
+    ensures ok { IfOk result (λ r. Ready (world_of world.now) name (message_of r.0) r.1) }
+    ensures err { IfErr result (λ fault. IsUnready (world_of world.now) name fault) }
+{
+    let Ok((message, vat)) = message_at_vat(world, name) else {
+        return Err(StepFault::Impossible);
+    };
+    let Ok(()) = check_order(world, message.sent.after) else {
+        return Err(StepFault::Impossible);
+    };
+    Ok((message.share()?, vat))
 }
 
+/// Runs the turn of a ticket.
 fn run(ticket: Ticket<Out>) -> Result<Ran, AllocError>
-    ensures { IfOk result (λ ran. ran.carried ≡ ticket.stage) }
+    ensures { IfOk result (λ ran. (ran.carried ≡ task_of ticket.stage) × Found ran.outcome.footprint (state_of (arc_value ticket.stage.state))) }
 {
     match ticket.run() {
         Ok(ran) => Ok(ran.into_parts()),
@@ -141,137 +114,78 @@ fn run(ticket: Ticket<Out>) -> Result<Ran, AllocError>
     }
 }
 
-/// Runs the turn of a message that is ready, on a copy of its vat's state.
-pub fn deliver(
+/// Runs the turn of a message at a vat. What is seen in the world stays.
+fn run_at(
     alloc: Global,
+    world: &mut World,
     event: EventName,
     name: MsgId,
     budget: u32,
-    message: &Message,
-    number: VatNo,
-    home: &Home,
-) -> Result<Delivered, AllocError>
-    ensures same { IfOk result (λ d. (d.number ≡ number) × (d.after ≡ message.now.after) × (d.promise ≡ message.now.result)) }
-    ensures run { IfOk result (λ d. ∥ Delivers (delivery_of message.now.delivery) event number (state_of home.now.state) budget (left_of d.outcome) ∥₁) }
+    message: Message,
+    vat: VatNo,
+) -> Result<Ran, AllocError>
+    ensures ok { IfOk result (λ ran. RunsAt (world_of world.old) event name budget message vat ran) }
+    ensures seen { seen_of_world world.new ≡ seen_of_world world.old }
 {
-    let ticket = Ticket::new(Out {
-        event,
-        vat: number,
-        message: name,
+    let state = world.share_vat(alloc, vat)?;
+    run(Ticket::new(Out {
         alloc,
-        state: Arc::new(alloc, home.state.clone()?)?,
-        delivery: message.delivery.share()?,
-        budget,
-    });
-    let Ran {
-        carried: _,
-        outcome,
-    } = run(ticket)?;
-    let outcome = leave(&home.state, event, outcome)?;
-    Ok(Delivered {
-        number,
-        after: message.after,
-        promise: message.result,
-        outcome,
-    })
-}
-
-pub(crate) fn is_abandoned(ended: &Ended) -> bool
-    ensures { result ≡ is_abandoned_end (ended_of ended.now) }
-{
-    matches!(ended, Ended::Abandoned(_))
-}
-
-/// Enters a turn that was run in the world, or changes nothing. An abandoned turn leaves its vat as it was.
-pub(crate) fn enter_turn(
-    world: &mut World,
-    event: EventName,
-    name: MsgId,
-    delivered: Delivered,
-) -> Result<Ended, AllocError>
-    ensures ok { OnOk result ((g : model.Message) (x : List ℕ) (s : State) → world_of world.old (key.Msg name) ≡ Some (message_content g) → g.result ≡ delivered.promise → world_of world.old (key.State delivered.number) ≡ Some (home x s) → world_of world.new ≡ after_event events (turn_foot event name (record { message = g; vat = delivered.number; name = x; state = s; outcome = left_of delivered.outcome })) (world_of world.old)) }
-    ensures ended { IfOk result (λ e. ended_of e ≡ (left_of delivered.outcome).end) }
-    ensures err { OnErr result (world_of world.new ≡ world_of world.old) }
-{
-    let Delivered {
-        number,
-        after: _,
-        promise,
-        outcome,
-    } = delivered;
-    let Left {
+        event,
+        name,
+        message,
+        vat,
         state,
-        result,
-        ended,
-        steps: _,
-    } = outcome;
-    world.settle(event, name, promise, result)?;
-    if !is_abandoned(&ended) {
-        world.give_state(number, state);
-    }
-    Ok(ended)
+        budget,
+        seat: NO_SEAT,
+    }))
 }
 
-fn step_birth(
-    alloc: Global,
-    world: &mut World,
-    event: EventName,
-    name: &Text,
-    script: &Program,
-) -> Result<(), StepFault>
-    ensures ok { OnOk result ((f : Foot) × Does (record { name = event; act = birth name.now (program_of script.now) }) (world_of world.old) f × (world_of world.new ≡ after_event events f (world_of world.old))) }
-    ensures err { IfErr result (λ fault. TellsStep (record { name = event; act = birth name.now (program_of script.now) }) (world_of world.old) fault) }
-{
-    let None = world.vat(name) else {
-        return Err(StepFault::Impossible);
-    };
-    enter_birth(alloc, world, event, name, script.share()?)?;
-    Ok(())
-}
-
-fn step_ask(
-    world: &mut World,
-    event: EventName,
-    name: &Text,
-    program: &Program,
-) -> Result<(), StepFault>
-    ensures ok { OnOk result ((f : Foot) × Does (record { name = event; act = ask name.now (program_of program.now) }) (world_of world.old) f × (world_of world.new ≡ after_event events f (world_of world.old))) }
-    ensures err { IfErr result (λ fault. TellsStep (record { name = event; act = ask name.now (program_of program.now) }) (world_of world.old) fault) }
-{
-    let Some(vat) = world.vat(name) else {
-        return Err(StepFault::Impossible);
-    };
-    let number = vat.number;
-    enter_ask(world, event, number, program.share()?)?;
-    Ok(())
-}
-
-fn step_turn(
+/// The effects of a turn, if its message may be delivered. What is seen in the world stays.
+fn effects_of_turn(
     alloc: Global,
     world: &mut World,
     event: EventName,
     name: MsgId,
     budget: u32,
-) -> Result<(), StepFault>
-    ensures ok { OnOk result ((f : Foot) × ∥ Does (record { name = event; act = turn name budget }) (world_of world.old) f ∥₁ × (world_of world.new ≡ after_event events f (world_of world.old))) }
+) -> Result<Effects, StepFault>
+    ensures ok { IfOk result (λ it. (f : Foot) × Happens (record { name = event; act = turn name budget }) f (world_of world.old) it) }
     ensures err { IfErr result (λ fault. TellsStep (record { name = event; act = turn name budget }) (world_of world.old) fault) }
+    ensures seen { seen_of_world world.new ≡ seen_of_world world.old }
 {
-    let Ok((message, number, home)) = ready(world, name) else {
-        return Err(StepFault::Impossible);
-    };
-    let delivered = deliver(alloc, event, name, budget, message, number, home)?;
-    enter_turn(world, event, name, delivered)?;
-    Ok(())
+    let (message, vat) = ready(world, name)?;
+    let ran = run_at(alloc, world, event, name, budget, message, vat)?;
+    Ok(turn_effects(alloc, event, name, &ran.carried.message, vat, &ran.outcome)?)
 }
 
-/// Does an event again. After a fault the world is not to be used.
-pub fn step(alloc: Global, world: &mut World, event: &Event) -> Result<(), StepFault>
-    ensures ok { OnOk result ((f : Foot) × ∥ Does (event_of event.now) (world_of world.old) f ∥₁ × (world_of world.new ≡ after_event events f (world_of world.old))) }
+/// The effects of an event, if it is possible. What is seen in the world stays.
+fn effects_of(alloc: Global, world: &mut World, event: &Event) -> Result<Effects, StepFault>
+    ensures ok { IfOk result (λ it. (f : Foot) × Happens (event_of event.now) f (world_of world.old) it) }
     ensures err { IfErr result (λ fault. TellsStep (event_of event.now) (world_of world.old) fault) }
+    ensures seen { seen_of_world world.new ≡ seen_of_world world.old }
 {
     match &event.action {
-        Action::Birth(name, script) => step_birth(alloc, world, event.name, name, script),
-        Action::Ask(name, program) => step_ask(world, event.name, name, program),
-        Action::Turn(message, budget) => step_turn(alloc, world, event.name, *message, *budget),
+        Action::Birth(name, script) => effects_of_birth(alloc, world, event.name, name, script),
+        Action::Ask(name, program) => effects_of_ask(alloc, world, event.name, name, program),
+        Action::Turn(message, budget) => {
+            effects_of_turn(alloc, world, event.name, *message, *budget)
+        }
     }
+}
+
+/// Does an event: all that it writes is written, or nothing.
+///
+/// # Errors
+/// `Impossible`, `Memory`. The world is then as it was.
+pub fn step(alloc: Global, world: &mut World, event: &Event) -> Result<(), StepFault>
+    ensures ok { OnOk result (StepsTo (event_of event.now) (world_of world.old) (world_of world.new)) }
+    ensures err { IfErr result (λ fault. TellsStep (event_of event.now) (world_of world.old) fault) }
+    ensures unchanged { OnErr result (world_of world.new ≡ world_of world.old) }
+{
+    let Effects {
+        touched: _,
+        mut records,
+    } = effects_of(alloc, world, event)?;
+    make_rooms(alloc, world, &records)?;
+    swap_records(world, &mut records, &mut Swaps::none());
+    Ok(())
 }

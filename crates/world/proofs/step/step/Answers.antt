@@ -1,38 +1,28 @@
-use Rattle.std.proofs.Common.{◌≡◌, sym, subst, arith}
-use Rattle.std.specs.Prelude.{OnOk, IfErr, Result, Ok, Err}
-use Rattle.std.proofs.lemmas.Grind.{common_steps}
-use Rattle.reruns.specs.Subject.{after}
-use Rattle.world.specs.World.{World}
-use Rattle.world.specs.Events.{Event, Foot, Does, events}
-use Rattle.world.specs.Steps.{TellsStep}
-use Rattle.world.specs.EventView.{act_of}
-use Rattle.world.specs.View.{world_of}
-use Rattle.world.specs.declared.event.Action.{Action}
-use Rattle.world.specs.declared.step.StepFault.{StepFault}
+use Rattle.std.proofs.Common.{◌≡◌, ap, ◌∙◌}
+use Rattle.history.specs.Records.{contents, swap_state}
+use Rattle.history.proofs.Exchanges.{contents_after}
+use Rattle.post.specs.EventView.{event_of}
+use Rattle.post.specs.Theory.{cells, kepts_of, numbered, state_of_world}
+use Rattle.post.specs.View.{world_of}
+use Rattle.event.specs.Events.{events}
+use Rattle.event.proofs.Law.{events_laws}
+use Rattle.undo.proofs.Positions.{on_err}
 use Rattle.world.proofs.step.step.Goals as goal
 
-some_step : (r : Result (Unit {0}) StepFault) (e : Event) (w v : World) → OnOk r ((f : Foot) × Does e w f × (v ≡ after events f w)) → OnOk r ((f : Foot) × ∥ Does e w f ∥₁ × (v ≡ after events f w))
-some_step (Ok x) e w v (f, d, h) = (f, ∣ d ∣₁, h)
-some_step (Err x) e w v h = h
+pub returns-in_err-records-clause-unchanged : goal.returns-in_err-records-clause-unchanged
+returns-in_err-records-clause-unchanged c = on_err (world_of c.effects_of.new.world ≡ world_of c.args.world.now) _ (λ i k. (c.effects_of.ensures.seen i k).0)
 
-pub returns-in-Birth-clause-ok : goal.returns-in-Birth-clause-ok
-returns-in-Birth-clause-ok c =
-    let e = c.args.event.now.name in
-    let w = world_of c.args.world.now in
-    let v = world_of c.step_birth.new.world in
-    subst (λ (a : Action). OnOk c.step_birth.result ((f : Foot) × ∥ Does (record { name = e; act = act_of a }) w f ∥₁ × (v ≡ after events f w))) (sym c.in-Birth.is) (some_step c.step_birth.result _ w v c.step_birth.ensures.ok)
+pub returns-in_err-make_rooms-clause-unchanged : goal.returns-in_err-make_rooms-clause-unchanged
+returns-in_err-make_rooms-clause-unchanged c = on_err (world_of c.make_rooms.new.world ≡ world_of c.args.world.now) _ (λ i k. ((c.make_rooms.ensures.seen ∙ c.effects_of.ensures.seen) i k).0)
 
-pub returns-in-Birth-clause-err : goal.returns-in-Birth-clause-err
-returns-in-Birth-clause-err c =
-    subst (λ (a : Action). IfErr c.step_birth.result (λ fault. TellsStep (record { name = c.args.event.now.name; act = act_of a }) (world_of c.args.world.now) fault)) (sym c.in-Birth.is) c.step_birth.ensures.err
-
-pub returns-in-Ask-clause-err : goal.returns-in-Ask-clause-err
-returns-in-Ask-clause-err c =
-    subst (λ (a : Action). IfErr c.step_ask.result (λ fault. TellsStep (record { name = c.args.event.now.name; act = act_of a }) (world_of c.args.world.now) fault)) (sym c.in-Ask.is) c.step_ask.ensures.err
-
-pub returns-in-Turn-clause-err : goal.returns-in-Turn-clause-err
-returns-in-Turn-clause-err c =
-    subst (λ (a : Action). IfErr c.step_turn.result (λ fault. TellsStep (record { name = c.args.event.now.name; act = act_of a }) (world_of c.args.world.now) fault)) (sym c.in-Turn.is) c.step_turn.ensures.err
-
-pub returns-in-Ask-clause-ok : goal.returns-in-Ask-clause-ok
-returns-in-Ask-clause-ok c = grind (arith, common_steps)
+pub returns-clause-ok : goal.returns-clause-ok
+returns-clause-ok c =
+    let h = c.in_ok-records.ensures.ok in
+    let kept = kepts_of c.in_ok-records.field-0.records.items in
+    let state : state_of_world c.make_rooms.new.world ≡ state_of_world c.args.world.now = λ i k. numbered ((c.make_rooms.ensures.seen ∙ c.effects_of.ensures.seen) i k) in
+    record {
+      foot = h.0;
+      does = h.1.does;
+      step = ap (contents cells) (c.swap_records.ensures.state ∙ ap (λ l. swap_state cells (kepts_of l) (state_of_world c.make_rooms.new.world)) c.deref_mut.ensures.value ∙ ap (swap_state cells kept) state)
+          ∙ contents_after events events_laws (event_of c.args.event.now).name.0 h.0 kept (state_of_world c.args.world.now) h.1.brings.write;
+    }

@@ -1,9 +1,10 @@
-use Rattle.std.proofs.Common.{sym, ap, subst}
-use Rattle.book.specs.BookView.{book_of}
-use Rattle.journal.specs.EntryView.{lines_of}
-use Rattle.causality.specs.Causes.{CausesComeFirst}
-use Rattle.book.proofs.Firsts.{causes_first}
+use Rattle.std.proofs.Common.{sym, subst}
+use Rattle.causality.specs.Journals.{IsJournal}
+use Rattle.desk.specs.DeskView.{out_of}
+use Rattle.book.proofs.Choosing.{stands_journal}
 use Rattle.book.proofs.book.Book.cone.Goals as goal
 
-pub cone-requires : goal.cone-requires
-cone-requires c = subst CausesComeFirst (ap lines_of (sym c.entries.ensures)) (causes_first (book_of c.args.self.now) c.args.self.now.stands)
+pub cone-requires-clause-journal : goal.cone-requires-clause-journal
+cone-requires-clause-journal c =
+    let b = c.args.self.now in
+    subst IsJournal (sym c.entries-2.ensures) (stands_journal b.core b.next (out_of b.desk) b.stands)

@@ -1,6 +1,8 @@
-use Rattle.std.proofs.Common.{ap}
-use Rattle.journal.specs.EntryView.{lines_of}
+use Rattle.std.proofs.Common.{sym, ap, subst}
+use Rattle.desk.specs.DeskView.{out_of}
+use Rattle.causality.specs.Journals.{IsJournal}
+use Rattle.book.proofs.Blank.{stands_journal}
 use Rattle.book.proofs.book.Book.journal.Goals as goal
 
-pub returns : goal.returns
-returns c = ap lines_of c.entries.ensures
+pub returns-clause-journal : goal.returns-clause-journal
+returns-clause-journal c = subst IsJournal (sym c.entries.ensures) (stands_journal c.args.self.now.core c.args.self.now.next (out_of c.args.self.now.desk) c.args.self.now.stands)

@@ -1,8 +1,11 @@
-use Rattle.book.proofs.Standing.{stands_blank}
+use Rattle.std.proofs.Common.{ap}
+use Rattle.journal.specs.Lines.{lines_of}
+use Rattle.desk.specs.DeskView.{out_of}
+use Rattle.book.proofs.Blank.{blank_stands}
 use Rattle.book.proofs.book.Book.new.Goals as goal
 
 pub invariant_of-result-clause-stands : goal.invariant_of-result-clause-stands
-invariant_of-result-clause-stands c = stands_blank _ _ _ c.new.ensures (c.new-2.ensures) c.new-3.ensures.items
+invariant_of-result-clause-stands c = blank_stands c.new.result (out_of c.new-2.result) c.new.ensures.entries c.new.ensures.cells c.new-2.ensures
 
 pub returns : goal.returns
-returns c = λ i. record { world = c.new.ensures i; journal = c.new-2.ensures i; next = 1; redoable = c.new-3.ensures.items i }
+returns c = λ i. record { world = λ k. (c.new.ensures.cells k i).0; journal = lines_of (c.new.ensures.entries i); next = 1; out = c.new-2.ensures i }

@@ -1,52 +1,79 @@
-use Rattle.std.proofs.Common.{◌≡◌, ◌∙◌, Some, None, sym, ap}
-use Rattle.std.specs.Option.{option_map}
-use Rattle.heap.specs.View.{state_of}
-use Rattle.turn.specs.View.{ended_of}
-use Rattle.world.specs.Events.{turn_foot}
-use Rattle.world.specs.Effects.{turn_of}
-use Rattle.world.specs.View.{world_of, message_of}
-use Rattle.world.proofs.Steps.{ready_holds, ready_turn}
-use Rattle.book.specs.Refusals.{refusal_of, ready_refusal, full_refusal}
+use Rattle.std.proofs.Common.{◌∙◌, inr, refl, sym, ap, subst}
+use Rattle.desk.specs.DeskView.{out_of}
+use Rattle.event.specs.Outcomes.{ended_of}
+use Rattle.event.specs.declared.outcome.Outcome.{Outcome}
+use Rattle.turn.specs.Tasks.{task_of}
+use Rattle.turn.specs.declared.ticket.Out.{Out}
+use Rattle.turn.specs.declared.ticket.Task.{Task}
+use Rattle.turn.specs.declared.ticket.Ran.{Ran}
+use Rattle.turn.specs.declared.ticket.Ticket.{Ticket}
+use Rattle.book.specs.Books.{Book}
 use Rattle.book.specs.BookView.{book_of}
-use Rattle.book.proofs.Entering.{turn_brings}
-use Rattle.book.proofs.Refused.{next_is}
+use Rattle.book.specs.Calls.{lent_of, turn_in}
+use Rattle.book.specs.Fault.{Tells, Unturned}
+use Rattle.book.specs.Refusals.{checkout_refusal}
+use Rattle.desk.specs.Desks.{without}
+use Rattle.book.specs.declared.fault.BookFault.{BookFault}
+use Rattle.book.proofs.Committing.{memory_alone, turned, struck}
+use Rattle.book.proofs.Tickets.{lent_without}
 use Rattle.book.proofs.book.Book.turn.Goals as goal
 
-pub enter-requires-clause-possible : goal.enter-requires-clause-possible
-enter-requires-clause-possible c =
-    let e = c.in_ok-event.event in
-    let m = c.args.message in
-    let w = world_of c.args.self.now.world in
-    let found = c.in-Ok.found in
-    let g = message_of found.0.now in
-    let x = found.2.now.name in
-    let s = state_of found.2.now.state in
-    let d = c.in_ok-delivered.delivered in
-    let same = c.in_ok-delivered.ensures.same in
-    let h = ready_holds w m d g x s found.1 c.in-Ok.ensures.waiting c.in-Ok.ensures.there.1 same in
-    let t = ready_turn e w m c.args.budget d g x s found.1 h c.in-Ok.ensures.there.0 c.in-Ok.ensures.in_order same.0 c.in_ok-delivered.ensures.run in
-    (turn_foot e m (turn_of d g x s), turn_brings e m c.args.budget d g x s w h t)
+pub returns-in-Err-clause-unchanged : goal.returns-in-Err-clause-unchanged
+returns-in-Err-clause-unchanged c =
+    let s = c.args.self.now in
+    let t = c.in_ok-ticket.ticket.stage in
+    let lends = c.in_ok-ticket.ensures.ok.1 in
+    let back = lent_without s.core s.next (out_of s.desk) (lent_of (task_of t)) lends.named s.stands in
+    let number = ap (λ (o : Out). o.event) c.out.ensures ∙ ap (λ (k : Ticket Out). k.stage.event) c.in-Err.ensures.err in
+    subst (λ (f : BookFault). Unturned f (book_of s) (book_of c.drop_turn.new.self)) (sym c.drop_turn.ensures.same)
+    (inr (struck c.args.message c.args.budget 0 t (book_of s) (book_of c.checkout.new.self) _ c.out.result.now.event lends number back c.drop_turn.ensures.gone))
 
-pub returns-clause-ok : goal.returns-clause-ok
-returns-clause-ok c =
-    let e = c.in_ok-event.event in
-    let m = c.args.message in
-    let old = book_of c.args.self.now in
-    let found = c.in-Ok.found in
-    let g = message_of found.0.now in
-    let x = found.2.now.name in
-    let s = state_of found.2.now.state in
-    let d = c.in_ok-delivered.delivered in
-    let same = c.in_ok-delivered.ensures.same in
-    let h = ready_holds old.world m d g x s found.1 c.in-Ok.ensures.waiting c.in-Ok.ensures.there.1 same in
-    let t = ready_turn e old.world m c.args.budget d g x s found.1 h c.in-Ok.ensures.there.0 c.in-Ok.ensures.in_order same.0 c.in_ok-delivered.ensures.run in
-    let u = turn_of d g x s in
-    let how : Some (ended_of c.in-Some.ended) ≡ Some u.outcome.end = ap (option_map ended_of) (sym c.in-Some.is) ∙ c.in_ok-ended.ensures.ended in (
-      next_is (ready_refusal old.world m) (full_refusal old) (ap (option_map (refusal_of m)) c.in-Ok.ensures.ok) ∙ c.in_ok-event.ensures.ok.2,
-      (u, t, c.in_ok-ended.ensures.ok (turn_foot e m u) (turn_brings e m c.args.budget d g x s old.world h t), cc),
+pub returns-in_default-clause-unchanged : goal.returns-in_default-clause-unchanged
+returns-in_default-clause-unchanged c =
+    let s = c.args.self.now in
+    let t = c.in_ok-ticket.ticket.stage in
+    let lends = c.in_ok-ticket.ensures.ok.1 in
+    let back = lent_without s.core s.next (out_of s.desk) (lent_of (task_of t)) lends.named s.stands in
+    let number = ap (λ (r : Ran). r.carried.event) c.ran.ensures ∙ ap (λ (o : Task). o.event) c.in-Ok.ensures.ok in
+    subst (λ (f : BookFault). Unturned f (book_of s) (book_of c.drop_turn-in_default.new.self)) (sym c.drop_turn-in_default.ensures.same)
+    (inr (struck c.args.message c.args.budget 0 t (book_of s) (book_of c.checkout.new.self) _ c.ran.result.now.carried.event lends number back c.drop_turn-in_default.ensures.gone))
+
+pub returns-in-Ok-commit-clause-ok : goal.returns-in-Ok-commit-clause-ok
+returns-in-Ok-commit-clause-ok c =
+    let s = c.args.self.now in
+    let t = c.in_ok-ticket.ticket.stage in
+    let r = c.in-Ok.ran.stage in
+    let lends = c.in_ok-ticket.ensures.ok.1 in
+    let back = lent_without s.core s.next (out_of s.desk) (lent_of (task_of t)) lends.named s.stands in
+    let committed = c.in-Ok-commit.ensures.ok in
+    let mid = book_of c.checkout.new.self in
+    let u = turn_in mid.world r in (
+      c.in_ok-ticket.ensures.ok.0,
+      (
+        u,
+        turned c.args.message c.args.budget 0 t (book_of s) mid r lends c.in-Ok.ensures.ok c.in-Ok.ensures.found c.in_ok-ticket.ensures.ok.0 u (book_of c.commit.new.self) c.in-Ok-commit.event refl committed.0 refl back committed.1,
+        c.in-Ok-share.ensures ∙ ap (λ (o : Outcome). ended_of o.ended) c.outcome.ensures,
+      ),
     )
 
-pub unreachable-requires : goal.unreachable-requires
-unreachable-requires c =
-    let no_end : None ≡ Some (ended_of c.in_ok-delivered.delivered.outcome.ended) = ap (option_map ended_of) (sym c.in-None.is) ∙ c.in_ok-ended.ensures.ended in
-    cc
+pub returns-in-Err-commit-clause-err : goal.returns-in-Err-commit-clause-err
+returns-in-Err-commit-clause-err c =
+    let b = book_of c.args.self.now in
+    let t = c.in_ok-ticket.ticket.stage in
+    let lent = c.in_ok-ticket.ensures.ok in
+    let memory = memory_alone c.args.message c.args.budget 0 t b (book_of c.checkout.new.self) c.in-Ok.ran.stage lent.1 c.in-Ok.ensures.ok c.in-Ok.ensures.found lent.0 c.in-Err-commit.fault c.in-Err-commit.ensures.err in
+    subst (λ (f : BookFault). Tells f (checkout_refusal b c.args.message c.args.budget)) (sym (c.drop_turn-in-Err-commit.ensures.same ∙ memory)) tt
+
+pub returns-in-Err-commit-clause-unchanged : goal.returns-in-Err-commit-clause-unchanged
+returns-in-Err-commit-clause-unchanged c =
+    let s = c.args.self.now in
+    let b = book_of s in
+    let t = c.in_ok-ticket.ticket.stage in
+    let lent = c.in_ok-ticket.ensures.ok in
+    let mid = book_of c.checkout.new.self in
+    let back = lent_without s.core s.next (out_of s.desk) (lent_of (task_of t)) lent.1.named s.stands in
+    let number = ap (λ (r : Ran). r.carried.event) c.ran.ensures ∙ ap (λ (o : Task). o.event) c.in-Ok.ensures.ok in
+    let gone = c.drop_turn-in-Err-commit.ensures.gone ∙ ap (λ (k : Book). record k { out = without c.ran.result.now.carried.event k.out }) c.in-Err-commit.ensures.unchanged in
+    let memory = memory_alone c.args.message c.args.budget 0 t b mid c.in-Ok.ran.stage lent.1 c.in-Ok.ensures.ok c.in-Ok.ensures.found lent.0 c.in-Err-commit.fault c.in-Err-commit.ensures.err in
+    subst (λ (f : BookFault). Unturned f b (book_of c.drop_turn-in-Err-commit.new.self)) (sym (c.drop_turn-in-Err-commit.ensures.same ∙ memory))
+    (inr (struck c.args.message c.args.budget 0 t b mid _ c.ran.result.now.carried.event lent.1 number back gone))

@@ -1,10 +1,22 @@
-use Rattle.std.proofs.Common.{refl}
+use Rattle.std.proofs.Common.{◌≡◌, ap, sym, subst, ◌∙◌}
+use Rattle.history.specs.Records.{State, contents}
+use Rattle.post.specs.Theory.{cells, state_of_world}
+use Rattle.desk.specs.DeskView.{out_of}
+use Rattle.book.specs.Books.{PlainRun}
 use Rattle.book.specs.BookView.{book_of}
-use Rattle.book.proofs.Standing.{stands_run}
+use Rattle.book.specs.Calls.{live_events}
+use Rattle.book.proofs.Blank.{stands_run, stands_writers}
 use Rattle.book.proofs.book.Book.world.Goals as goal
 
-pub returns-clause-plain_run : goal.returns-clause-plain_run
-returns-clause-plain_run c = stands_run (book_of c.args.self.now) c.args.self.now.stands
-
 pub returns-clause-same : goal.returns-clause-same
-returns-clause-same c = refl
+returns-clause-same c = ap (contents cells) c.world.ensures
+
+pub returns-clause-plain_run : goal.returns-clause-plain_run
+returns-clause-plain_run c =
+    subst (λ (w : State cells). PlainRun (live_events (book_of c.args.self.now).journal) (contents cells w)) (sym c.world.ensures)
+    (stands_run c.args.self.now.core c.args.self.now.next (out_of c.args.self.now.desk) c.args.self.now.stands)
+
+pub returns-clause-last_writers : goal.returns-clause-last_writers
+returns-clause-last_writers c = λ k.
+    ap (λ (w : State cells). (w k).1) c.world.ensures
+    ∙ stands_writers c.args.self.now.core c.args.self.now.next (out_of c.args.self.now.desk) c.args.self.now.stands k

@@ -1,0 +1,234 @@
+-- A turn that was run is entered, and its ticket struck out.
+use Rattle.std.proofs.Common.{◌≡◌, ℕ, ◌+◌, ◌<◌, Bool, true, false, ◌||◌, List, [], ◌∷◌, ◌++◌, Option, None, Some, length, nat_lt, refl, sym, ap, ◌∙◌, subst, le_refl}
+use Rattle.std.proofs.Math.Logic.{∥∥₁_elim, ∥∥₁_map}
+use Rattle.std.proofs.Props.{props}
+use Rattle.std.proofs.lemmas.List.Elements.{Contains-push}
+use Rattle.std.specs.Prelude.{IfSome, IfErr, OnOk, Result, Ok, Err, is_ok}
+use Rattle.std.proofs.lemmas.Bool.{false≢true}
+use Rattle.std.specs.Option.{option_map}
+use Rattle.std.specs.Arc.{arc_value}
+use Rattle.history.specs.Journal.{Free}
+use Rattle.history.specs.Records.{contents, entries_of}
+use Rattle.ids.specs.declared.names.EventName.{EventName}
+use Rattle.ids.specs.declared.names.MsgId.{MsgId}
+use Rattle.ids.specs.declared.cells.CellKey.TheVariants as key
+use Rattle.heap.specs.Found.{Found}
+use Rattle.heap.specs.State.{State}
+use Rattle.heap.specs.View.{state_of as heap_state_of}
+use Rattle.post.specs.Events.{Event, turn}
+use Rattle.post.specs.Messages.{message_of}
+use Rattle.post.specs.Theory.{cells, kepts_of}
+use Rattle.post.specs.World.{World, Content, Message, message, Place, at_vat, vat_state}
+use Rattle.post.specs.World.{message_of as world_message}
+use Rattle.event.specs.Events.{Does, Foot, InOrder, Turn, Turns, turns, turn_foot, events}
+use Rattle.event.specs.Effects.{BringsTurn}
+use Rattle.event.specs.Ready.{awaits, early, lost}
+use Rattle.event.specs.declared.effects.Effects.{Effects}
+use Rattle.journal.specs.Items.{entered}
+use Rattle.desk.specs.Desks.{Lent, without}
+use Rattle.turn.specs.Tasks.{task_of}
+use Rattle.turn.specs.declared.ticket.Out.{Out}
+use Rattle.turn.specs.declared.ticket.Task.{Task}
+use Rattle.turn.specs.declared.ticket.Ran.{Ran}
+use Rattle.undo.specs.CoreView.{shown, state_of}
+use Rattle.undo.specs.declared.undoing.Core.{Core}
+use Rattle.book.specs.Books.{Book}
+use Rattle.book.specs.Calls.{lent_of, Lends, IsKnown, IsFresh, EntersTurn, turn_in, Commits, TurnsNext}
+use Rattle.book.specs.Fault.{TellsCommit}
+use Rattle.book.specs.Refusals.{Refusal, first, refuse_where, refusal_of, budget_refusal, message_out, vat_out, full, journal_full, checkout_refusal}
+use Rattle.book.specs.Calls.{strange, changed, no_room}
+use Rattle.book.specs.Standing.{Kept, Stands}
+use Rattle.book.specs.declared.fault.BookFault.{BookFault}
+use Rattle.book.specs.declared.fault.BookFault.TheVariants as fault
+use Rattle.book.proofs.Entering.{book_with, book_enters, book_stands, kept_entered}
+use Rattle.book.proofs.Tickets.{all_out, without_differ, apart_without, all_filter}
+
+-- the turn that a ticket was run for is one of the world, wherever the world is as the turn found it
+pub run_turns : (b : Book) (r : Ran) → IsFresh b r → ∥ Turns r.carried.event b.world r.carried.name r.carried.budget (turn_in b.world r) ∥₁
+run_turns b r h = ∥∥₁_map (r.met (vat_state b.world r.carried.vat) h.found) (λ d. record { waiting = h.waiting; there = h.there; in_order = h.in_order; delivers = d })
+
+-- a message that the world has is the one that is carried, their places aside
+pub is_copied : {A : Type 0} (f : A → Message) (Q : Message → Type 0) (o : Option A) (x : Option Content) → option_map (λ a. message (f a)) o ≡ x → IfSome o (λ a. Q (f a)) → (g : Message) → x ≡ Some (message g) → Q g
+is_copied f Q None x e h g is = absurd (none_some (e ∙ is))
+  where
+    none_some : None ≡ Some (message g) → ⊥
+    none_some e = cc
+is_copied f Q (Some a) x e h g is = subst Q (one (f a) g (e ∙ is)) h
+  where
+    one : (a b : Message) → Some (message a) ≡ Some (message b) → a ≡ b
+    one a b e = cc
+
+pub copied_if : {A : Type 0} (f : A → Message) (Q : Message → Type 0) (o : Option A) (x : Option Content) → option_map (λ a. message (f a)) o ≡ x → ((g : Message) → x ≡ Some (message g) → Q g) → IfSome o (λ a. Q (f a))
+copied_if f Q None x e h = tt
+copied_if f Q (Some a) x e h = h (f a) (sym e)
+
+-- what a message waits for is done
+pub in_order_awaits : (w : World) (after : Option MsgId) → InOrder w after → awaits w after ≡ None
+in_order_awaits w None h = refl
+in_order_awaits w (Some m) h = rw h refl
+
+pub same_message : (a b : Message) → Some (message a) ≡ Some (message b) → a ≡ b
+same_message a b e = cc
+
+-- what is not there is no message that waits
+pub none_waits : {A : Type 0} {g : Message} (o : Option A) (f : A → Message) → o ≡ None → option_map (λ a. message (f a)) o ≡ Some (message g) → ⊥
+none_waits None f e is = cc
+none_waits (Some a) f e is = cc
+
+-- a known message that is at its vat is just the one that is carried
+pub fresh_waiting : (b : Book) (t : Task) (g : Message) → IsKnown b t → b.world (key.Msg t.name) ≡ Some (message g) → g.place ≡ at_vat t.vat → (message_of t.message).place ≡ at_vat t.vat
+    → b.world (key.Msg t.name) ≡ Some (message (message_of t.message))
+fresh_waiting b t g k waits here there = waits ∙ ap (λ (x : Message). Some (message x)) (ap (λ (p : Place). record g { place = p }) (here ∙ sym there) ∙ k.copy g waits)
+
+-- what a test that passed says, and that a test passed where nothing is against it
+pub passed : {A E : Type 0} (r : Result A E) (P : Type 0) → OnOk r P → is_ok r ≡ true → P
+passed (Ok a) P h e = h
+passed (Err b) P h e = absurd (false≢true e)
+
+pub passes : {A E : Type 0} (r : Result A E) (o : Option E) → IfErr r (λ y. o ≡ Some y) → o ≡ None → is_ok r ≡ true
+passes (Ok a) o h e = refl
+passes (Err b) o h e = cc
+
+-- a turn that was run, and what it brings, is entered in a core
+module _ (old now : Core) (next : ℕ) (out : List Lent) (r : Ran) (it : Effects) where
+  abbrev w : World
+  w = contents cells (state_of old)
+
+  abbrev e : Event
+  e = record { name = r.carried.event; act = turn r.carried.name r.carried.budget }
+
+  module _ (brings : BringsTurn r.carried.event r.carried.name (turn_in w r) it) (is : shown now ≡ entered e r.carried.seat it.touched.items (kepts_of it.records.items) (shown old))
+      (known : IsKnown (book_with old next out) r.carried) (fresh : IsFresh (book_with old next out) r) (h : Stands old next out) where
+    abbrev f : Foot
+    f = turn_foot r.carried.event r.carried.name (turn_in w r) brings.cells brings.left
+
+    does : ∥ Does e w f ∥₁
+    does = ∥∥₁_map (run_turns (book_with old next out) r fresh) (λ t. turns t brings.leaves)
+
+    drawn : r.carried.event.0 < next
+    drawn = ∥∥₁_elim h (hlevel props) (λ k. all_out _ out (lent_of r.carried) k.drawn known.out)
+
+    free : (k : Kept old next out) → Free events r.carried.event.0 (entries_of k.rows)
+    free k = all_out (λ t. Free events t.number.0 (entries_of k.rows)) out (lent_of r.carried) k.free known.out
+
+    pub committed_turn : (others : List Lent) → EntersTurn r.carried.event r.carried.name r.carried.budget r.carried.seat (turn_in w r) (book_with old next out) (book_with now next others)
+    committed_turn others = record {
+      turns = run_turns (book_with old next out) r fresh;
+      cells = brings.cells;
+      left = brings.left;
+      leaves = brings.leaves;
+      enters = book_enters old now next next out e r.carried.seat it.touched.items (kepts_of it.records.items) f brings.brings is (le_refl next) drawn h does free next others;
+    }
+
+    pub committed_stands : Stands now next (without r.carried.event out)
+    committed_stands = book_stands old now next next out e r.carried.seat it.touched.items (kepts_of it.records.items) f brings.brings is (le_refl next) drawn h does free (without r.carried.event out)
+        (λ k d. kept_entered old now next next out e r.carried.seat it.touched.items (kepts_of it.records.items) f brings.brings is (le_refl next) drawn k d (free k) (without r.carried.event out)
+        (all_filter _ _ out k.free) (without_differ r.carried.event out) (all_filter _ _ out k.drawn) (apart_without r.carried.event out k.apart))
+
+-- the parts of a checkout that is not refused
+neither : (a b : Option Refusal) → first a b ≡ None → b ≡ None
+neither None b e = e
+neither (Some refusal) b e = cc
+
+no_room_left : (x y : Bool) → refuse_where (x || y) full ≡ None → refuse_where y full ≡ None
+no_room_left x true e = absurd (refused x e)
+  where
+    refused : (x : Bool) → refuse_where (x || true) full ≡ None → ⊥
+    refused true e = cc
+    refused false e = cc
+no_room_left x false e = refl
+
+pub has_room : (b : Book) (m : MsgId) (budget : ℕ) → checkout_refusal b m budget ≡ None → journal_full b ≡ None
+has_room b m budget e = no_room_left (nat_lt 4294967295 b.next) (nat_lt 1048575 (length b.journal)) (neither (option_map (refusal_of m) (early b.world m)) _
+    (neither (refuse_where (message_out (world_message b.world m) b.out) vat_out) _ (neither (option_map (refusal_of m) (lost b.world m)) _ (neither (budget_refusal budget) _ e))))
+
+-- a ticket that was just lent and run can be refused for want of memory alone
+module _ (m : MsgId) (budget seat : ℕ) (t : Out) (old mid : Book) (r : Ran) (lends : Lends m budget seat t old mid) (same : r.carried ≡ task_of t)
+    (found : Found r.outcome.footprint (heap_state_of (arc_value t.state))) (room : checkout_refusal old m budget ≡ None) where
+  abbrev lent_book : Book
+  lent_book = record old { next = old.next + 1; out = old.out ++ lent_of (task_of t) ∷ [] }
+
+  known_lent : IsKnown lent_book (task_of t)
+  known_lent = record {
+    out = Contains-push old.out (lent_of (task_of t));
+    copy = λ g is. ap (λ (x : Message). record x { place = (message_of t.message).place }) (same_message g (message_of t.message) (sym is ∙ lends.carries.waiting));
+  }
+
+  pub lent_known : IsKnown mid r.carried
+  lent_known = subst (λ (b : Book). IsKnown b r.carried) (sym lends.lent) (subst (IsKnown lent_book) (sym same) known_lent)
+
+  pub lent_fresh : IsFresh mid r
+  lent_fresh = subst (λ (b : Book). IsFresh b r) (sym lends.lent) (record {
+    waiting = subst (λ (o : Task). old.world (key.Msg o.name) ≡ Some (message (message_of o.message))) (sym same) lends.carries.waiting;
+    there = subst (λ (o : Task). (message_of o.message).place ≡ at_vat o.vat) (sym same) lends.carries.there;
+    in_order = subst (λ (o : Task). InOrder old.world (message_of o.message).after) (sym same) lends.in_order;
+    found = subst (λ (o : Task). Found r.outcome.footprint (vat_state old.world o.vat)) (sym same) (subst (λ (s : State). Found r.outcome.footprint s) lends.carries.state found);
+  })
+
+  pub lent_room : journal_full mid ≡ None
+  lent_room = ap journal_full lends.lent ∙ has_room old m budget room
+
+  pub memory_alone : (f : BookFault) → TellsCommit f mid r → f ≡ fault.Memory
+  memory_alone fault.NoTicket (strange h) = absurd (h lent_known)
+  memory_alone fault.Stale (changed k h) = absurd (h lent_fresh)
+  memory_alone fault.Full (no_room k h e) = absurd (some_none (sym lent_room ∙ e))
+    where
+      some_none : None ≡ Some full → ⊥
+      some_none e = cc
+  memory_alone fault.Memory h = refl
+  memory_alone (fault.NoVat x) h = absurd h
+  memory_alone (fault.NameTaken x) h = absurd h
+  memory_alone (fault.NoMessage n) h = absurd h
+  memory_alone fault.NotThere h = absurd h
+  memory_alone (fault.Before n) h = absurd h
+  memory_alone fault.VatOut h = absurd h
+  memory_alone (fault.NoEvent n) h = absurd h
+  memory_alone (fault.NoPosition n) h = absurd h
+  memory_alone (fault.NotLive n) h = absurd h
+  memory_alone (fault.IsLive n) h = absurd h
+  memory_alone (fault.NotClosed n k) h = absurd h
+  memory_alone (fault.Crossed n k) h = absurd h
+  memory_alone (fault.CauseMissing n k) h = absurd h
+  memory_alone (fault.Dependent n k) h = absurd h
+  memory_alone fault.BadBudget h = absurd h
+  memory_alone (fault.Check n) h = absurd h
+
+  -- and its turn, entered, is one under the name that came next
+  moved : (u : Turn) (now : Book) (e f : EventName) (n k : MsgId) (x y : ℕ) (p q : ℕ) → e ≡ f → n ≡ k → x ≡ y → p ≡ q → EntersTurn e n x p u lent_book now → EntersTurn f k y q u old now
+  moved u now e f n k x y p q ef nk xy pq h = subst (λ i. EntersTurn i k y q u old now) ef (subst (λ i. EntersTurn e i y q u old now) nk (subst (λ i. EntersTurn e n i q u old now) xy (subst (λ i. EntersTurn e n x i u old now) pq (record {
+    turns = h.turns;
+    cells = h.cells;
+    left = h.left;
+    leaves = h.leaves;
+    enters = record {
+      does = h.enters.does;
+      step = h.enters.step;
+      line = h.enters.line;
+      tells = record {
+        event = h.enters.tells.event;
+        same_seat = h.enters.tells.same_seat;
+        live = h.enters.tells.live;
+        touched = h.enters.tells.touched;
+        written = h.enters.tells.written;
+        causes = h.enters.tells.causes;
+      };
+      entered = h.enters.entered;
+    };
+  }))))
+
+  pub turned : (u : Turn) (now : Book) (e : EventName) → u ≡ turn_in mid.world r → e ≡ r.carried.event → seat ≡ 0 → without t.event (old.out ++ lent_of (task_of t) ∷ []) ≡ old.out → Commits r mid now → TurnsNext e m budget u old now
+  turned u now e turn_is is none back h = record {
+    named = ap (λ (n : EventName). n.0) is ∙ ap (λ (o : Task). o.event.0) same ∙ lends.named;
+    drawn = h.same_next ∙ ap (λ (b : Book). b.next) lends.lent;
+    same_out = h.out ∙ ap (λ (b : Book). without r.carried.event b.out) lends.lent ∙ ap (λ (o : Task). without o.event (old.out ++ lent_of (task_of t) ∷ [])) same ∙ back;
+    enters = subst (λ (v : Turn). EntersTurn e m budget 0 v old now) (sym turn_is) (moved (turn_in mid.world r) now r.carried.event e r.carried.name m r.carried.budget budget r.carried.seat 0 (sym is)
+        (ap (λ (o : Task). o.name) same ∙ lends.of_message) (ap (λ (o : Task). o.budget) same ∙ lends.same_budget) (ap (λ (o : Task). o.seat) same ∙ lends.same_seat ∙ none)
+        (subst (λ (b : Book). EntersTurn r.carried.event r.carried.name r.carried.budget r.carried.seat (turn_in mid.world r) b now) lends.lent h.enters));
+  }
+
+-- a ticket that was lent and is struck out again leaves a name that is drawn, and nothing else
+pub struck : (m : MsgId) (budget seat : ℕ) (t : Out) (old mid now : Book) (e : EventName) → Lends m budget seat t old mid → e ≡ t.event → without t.event (old.out ++ lent_of (task_of t) ∷ []) ≡ old.out
+    → now ≡ record mid { out = without e mid.out } → now ≡ record old { next = old.next + 1 }
+struck m budget seat t old mid now e lends is back gone =
+    gone ∙ ap (λ (b : Book). record b { out = without e b.out }) lends.lent ∙ ap (λ (n : EventName). record old { next = old.next + 1; out = without n (old.out ++ lent_of (task_of t) ∷ []) }) is
+    ∙ ap (λ (ts : List Lent). record old { next = old.next + 1; out = ts }) back

@@ -1,0 +1,77 @@
+-- Worlds and journals are sets: any two proofs that two of them are the same are the same.
+use Rattle.std.proofs.Common.{Bool, List}
+use Rattle.std.proofs.Props.{props}
+use Rattle.history.specs.Subject.{Footprint}
+use Rattle.history.specs.Journal.{Entry}
+use Rattle.ids.specs.declared.cells.CellKey.{CellKey}
+use Rattle.kernele.specs.declared.tree.Pattern.{Pattern}
+use Rattle.kernele.specs.Tree.{Name, Trees, Trees-set, Methods, Methods-set}
+use Rattle.values.specs.Data.{Val, Val-set}
+use Rattle.heap.specs.State.{Bind, Bind-set, Nouns, Object, Object-set}
+use Rattle.post.specs.Delivery.{Delivery, Delivery-set}
+use Rattle.post.specs.Events.{Act, Event}
+use Rattle.post.specs.World.{Vat, Vat-set, Place, Place-set, Message, Message-set, Content, Content-set, World}
+use Rattle.journal.specs.Lines.{plain, Line}
+
+names : IsSet Name
+names = hlevel props
+
+patterns : IsSet Pattern
+patterns = hlevel props
+
+pattern_lists : IsSet (List Pattern)
+pattern_lists = hlevel (props, patterns)
+
+trees : IsSet Trees
+trees = Trees-set (hlevel props) (hlevel props) names patterns pattern_lists
+
+methods : IsSet Methods
+methods = Methods-set (hlevel props) (hlevel props) names patterns pattern_lists
+
+vals : IsSet Val
+vals = Val-set (hlevel props) (hlevel props) names (hlevel props) (hlevel props)
+
+binds : IsSet Bind
+binds = Bind-set vals (hlevel props)
+
+nouns : IsSet Nouns
+nouns = hlevel (props, binds)
+
+objects : IsSet Object
+objects = Object-set patterns nouns methods
+
+deliveries : IsSet Delivery
+deliveries = Delivery-set trees
+
+vats : IsSet Vat
+vats = hlevel (props, Vat-set)
+
+places : IsSet Place
+places = hlevel (props, Place-set)
+
+messages : IsSet Message
+messages = Message-set deliveries (hlevel props) (hlevel props) places
+
+contents : IsSet Content
+contents = Content-set vats binds vals objects messages
+
+pub World-set : IsSet World
+World-set = hlevel (props, contents)
+
+acts : IsSet Act
+acts = hlevel (props, trees)
+
+events : IsSet Event
+events = hlevel (props, acts)
+
+keys : IsSet CellKey
+keys = hlevel props
+
+lines : IsSet Line
+lines = hlevel (props, events, keys)
+
+pub Lines-set : IsSet (List Line)
+Lines-set = hlevel (props, lines)
+
+pub Bool-set : IsSet Bool
+Bool-set = hlevel props

@@ -1,0 +1,18 @@
+use Rattle.post.specs.View.{world_of}
+use Rattle.post.specs.World.{vat_state}
+use Rattle.event.specs.Events.{turn_foot}
+use Rattle.world.proofs.Stepping.{turned, turn_happens}
+use Rattle.world.proofs.step.effects_of_turn.Goals as goal
+
+pub returns-clause-ok : goal.returns-clause-ok
+returns-clause-ok c =
+    let w = world_of c.args.world.now in
+    let e = c.args.event in
+    let m = c.args.name in
+    let g = c.in_ok-message.message in
+    let v = c.in_ok-message.vat in
+    let r = c.in_ok-ran.ran in
+    let brings = c.in_ok-turn_effects.ensures (vat_state w v) in (
+      turn_foot e m (turned w e m c.args.budget g v r c.in_ok-message.ensures.ok c.in_ok-ran.ensures.ok) brings.cells brings.left,
+      turn_happens w e m c.args.budget g v r c.in_ok-message.ensures.ok c.in_ok-ran.ensures.ok c.in_ok-turn_effects.field-0 brings,
+    )

@@ -1,5 +1,0 @@
-use Rattle.world.proofs.Law.{events_laws}
-use Rattle.world.proofs.theorems.events_obey_the_law.Goals as goal
-
-pub returns : goal.returns
-returns c = events_laws

@@ -1,0 +1,29 @@
+// The plain run of events.
+ghost use Rattle.std.specs.Prelude.{IfOk, IfErr, map};
+ghost use Rattle.post.specs.EventView.{event_of};
+ghost use Rattle.post.specs.View.{world_of};
+ghost use Rattle.world.specs.Runs.{PlainRun};
+ghost use Rattle.world.specs.Reruns.{TellsRun};
+
+use crate::step::{StepFault, step};
+use post::event::Event;
+use post::world::World;
+use std::alloc::Global;
+
+/// The world that these events lead to from the empty one, one after another.
+///
+/// # Errors
+/// `Impossible`, where one of them is not possible where it comes, and `Memory`.
+pub fn plain_run(alloc: Global, events: &[Event]) -> Result<World, StepFault>
+    ensures ok { IfOk result (λ w. PlainRun (map event_of events.now) (world_of w)) }
+    ensures err { IfErr result (λ fault. TellsRun (map event_of events.now) fault) }
+{
+    let mut world = World::new(alloc);
+    for event in events {
+        match step(alloc, &mut world, event) {
+            Ok(()) => {}
+            Err(fault) => return Err(fault),
+        }
+    }
+    Ok(world)
+}
