@@ -22,6 +22,7 @@ pub data Spelled : Type 0 where
   undo : (events : List EventName) → Spelled
   undo_cone : (e : EventName) → Spelled
   redo : (events : List EventName) → Spelled
+  exchange : (position : ℕ) → Spelled
 
 -- a name of the language of at most 64 bytes
 abbrev pub is_vat_name : List ℕ → Bool
@@ -61,6 +62,10 @@ of_event command words = cond (is_empty (behind_word words)) (option_map command
 abbrev pub of_events : (List EventName → Spelled) → List ℕ → Option Spelled
 of_events command words = option_map command (one_or_more (words_in words))
 
+-- exchange P
+abbrev pub exchange_of : List ℕ → Option Spelled
+exchange_of words = cond (is_empty (behind_word words)) (option_map exchange (number_of (first_word words))) None
+
 abbrev pub formed : Option Spelled → Result (Option Spelled) LineFault
 formed (Some command) = Ok (Some command)
 formed None = Err BadWord
@@ -76,7 +81,8 @@ begun_by word words =
     (cond (bytes_eq word (codes "cone")) (formed (of_event cone words))
     (cond (bytes_eq word (codes "undo")) (formed (of_events undo words))
     (cond (bytes_eq word (codes "undo-cone")) (formed (of_event undo_cone words))
-    (cond (bytes_eq word (codes "redo")) (formed (of_events redo words)) (Err UnknownCommand)))))))))
+    (cond (bytes_eq word (codes "redo")) (formed (of_events redo words))
+    (cond (bytes_eq word (codes "exchange")) (formed (exchange_of words)) (Err UnknownCommand))))))))))
 
 -- a blank line or a comment is no command
 abbrev pub is_skipped : List ℕ → Bool
@@ -100,6 +106,7 @@ command_of (code.Cone e) = cone e
 command_of (code.Undo events) = undo events.items
 command_of (code.UndoCone e) = undo_cone e
 command_of (code.Redo events) = redo events.items
+command_of (code.Exchange position) = exchange position
 
 abbrev pub reading_of : Result (Option Command) LineFault → Result (Option Spelled) LineFault
 reading_of (Ok c) = Ok (option_map command_of c)

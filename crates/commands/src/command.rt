@@ -3,7 +3,7 @@ ghost use Rattle.std.specs.Prelude.{◌≡◌, Some, IfOk};
 ghost use Rattle.std.specs.Option.{option_map, option_and_then};
 ghost use Rattle.commands.specs.Numbers.{number_of};
 ghost use Rattle.ids.specs.declared.names.EventName.{EventName};
-ghost use Rattle.commands.specs.Commands.{Spelled, is_vat_name, at_most, birth_of, ask_of, turn_of, show, journal, cone, undo, undo_cone, redo, alone, of_event, of_events, is_skipped, begun_by, spelled_by, command_of, reading_of, fault_text};
+ghost use Rattle.commands.specs.Commands.{Spelled, is_vat_name, at_most, birth_of, ask_of, turn_of, show, journal, cone, undo, undo_cone, redo, exchange, exchange_of, alone, of_event, of_events, is_skipped, begun_by, spelled_by, command_of, reading_of, fault_text};
 
 use crate::numbers::{event_named, events_named, message_named, number};
 use crate::words::{cut_word, skip_blanks};
@@ -35,6 +35,8 @@ pub enum Command<'a> {
     /// An event is undone with its cone.
     UndoCone(EventName),
     Redo(Vec<EventName>),
+    /// The entry at a position, counted from 1, and the one behind it are to change places.
+    Exchange(usize),
 }
 
 /// Why a line is no command.
@@ -168,6 +170,16 @@ fn redo(alloc: Global, words: &str) -> Result<Option<Command<'_>>, AllocError>
     }
 }
 
+fn exchange(words: &str) -> Option<Command<'_>>
+    ensures { option_map command_of result ≡ exchange_of words.now }
+{
+    let (position, end) = cut_word(words);
+    if !end.is_empty() {
+        return None;
+    }
+    Some(Command::Exchange(number(position)? as usize))
+}
+
 fn is_skipped(text: &[u8]) -> bool
     ensures { result ≡ is_skipped text.now }
 {
@@ -194,6 +206,7 @@ fn begun_by<'a>(alloc: Global, word: &str, words: &'a str) -> Result<Said<'a>, A
         "undo" => undo(alloc, words)?,
         "undo-cone" => undo_cone(words),
         "redo" => redo(alloc, words)?,
+        "exchange" => exchange(words),
         _ => return Ok(Err(LineFault::UnknownCommand)),
     };
     match command {

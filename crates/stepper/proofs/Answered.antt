@@ -1,5 +1,5 @@
 -- From what the parts answer to what the definition allows.
-use Rattle.std.proofs.Common.{◌≡◌, ℕ, List, Option, Some, None, Result, Ok, Err, true, false, ◌||◌, refl, subst, sym, ap, ◌∙◌, [], ◌++◌, append_assoc, append-nil, ◌<◌, length, ◌∷◌, arith}
+use Rattle.std.proofs.Common.{◌≡◌, inl, inr, ℕ, ◌+◌, List, Option, Some, None, Result, Ok, Err, true, false, ◌||◌, refl, subst, sym, ap, ◌∙◌, [], ◌++◌, append_assoc, append-nil, ◌<◌, length, ◌∷◌, arith}
 use Rattle.std.specs.Prelude.{codes, OnOk, IfOk, Bool, string_bytes}
 use Rattle.kernele.specs.Tree.{Trees}
 use Rattle.scopes.specs.Scope as scope
@@ -10,18 +10,20 @@ use Rattle.ereader.specs.Texts as texts
 use Rattle.ereader.specs.Shown as reading
 use Rattle.ereader.specs.declared.fault.ReadFault.{ReadFault}
 use Rattle.ereader.specs.declared.fault.ReadFault.TheVariants as read_fault
-use Rattle.world.specs.Events.{Turn, Turns, birth, ask, turn, birth_foot, ask_foot, turn_foot}
-use Rattle.journal.specs.Journal.{Line, Cone}
-use Rattle.book.specs.Refusals.{Refusal, no_vat, name_taken, no_message, not_there, before, full, no_event, not_live, still_live, not_closed, not_next, unchecked}
-use Rattle.book.specs.Refusals.{birth_refusal, ask_refusal, turn_refusal, undo_refusal, redo_refusal, cone_refusal}
+use Rattle.post.specs.Events.{birth, ask}
+use Rattle.event.specs.Events.{Turn, birth_foot, ask_foot}
+use Rattle.journal.specs.Lines.{Line}
+use Rattle.causality.specs.Exact.{Cone}
+use Rattle.book.specs.Refusals.{Refusal, no_vat, name_taken, no_message, not_there, before, full, stale, vat_out, no_ticket, no_event, no_position, not_live, still_live, not_closed, crossed, cause_missing, dependent, bad_budget, unchecked}
+use Rattle.book.specs.Refusals.{birth_refusal, ask_refusal, checkout_refusal, undo_refusal, redo_refusal, cone_refusal, exchange_refusal}
 use Rattle.book.specs.Books.{Book, blank}
-use Rattle.book.specs.Calls.{Enters, Undoes, Redoes}
+use Rattle.book.specs.Calls.{EntersNext, TurnsNext, Undoes, Redoes, Exchanges, StoodAt}
 use Rattle.ids.specs.declared.names.EventName.{EventName}
 use Rattle.ids.specs.declared.names.MsgId.{MsgId}
 use Rattle.erules.specs.Outcomes.{End}
 use Rattle.ids.specs.declared.names.VatNo.{VatNo}
 use Rattle.book.specs.Fault as book
-use Rattle.book.specs.Fault.{Tells, check_tells}
+use Rattle.book.specs.Fault.{Tells, check_tells, Unturned}
 use Rattle.book.specs.declared.fault.BookFault.{BookFault}
 use Rattle.book.specs.declared.fault.BookFault.TheVariants as fault
 use Rattle.scopes.specs.Check as check
@@ -31,7 +33,7 @@ use Rattle.commands.specs.Commands as commands
 use Rattle.commands.specs.Commands.{Spelled, spelled_by, fault_text}
 use Rattle.commands.specs.Scripts.{script_of, behind_lines, fault_of}
 use Rattle.commands.specs.declared.command.LineFault.{LineFault}
-use Rattle.stepper.specs.Replies.{refused, refusal_text, Answers, ask_without_memory, asked_without_memory, asked_unread, ask_refused, turn_without_memory, turn_refused, count_of, undone_text, redone_text, listed, cone_found, undo_cone_found, cone_without_memory, cone_refused, undo_without_memory, undo_refused, undo_accepted, undo_cone_without_memory, undo_cone_refused, redo_without_memory, redo_refused, redo_accepted, AnswersBirth, birth_without_memory, script_without_memory, script_unread, birth_refused, birth_accepted, ask_accepted, turn_accepted, queued_text, turned_text, FirstReply, born, answered, skipped, script_refused, said, said_by, Replies, first_and_more, no_more}
+use Rattle.stepper.specs.Replies.{refused, refusal_text, Answers, ask_without_memory, asked_without_memory, asked_unread, ask_refused, turn_without_memory, turn_without_memory_named, turn_refused, count_of, undone_text, redone_text, listed, cone_found, undo_cone_found, cone_without_memory, cone_refused, undo_without_memory, undo_refused, undo_accepted, undo_cone_without_memory, undo_cone_refused, redo_without_memory, redo_refused, redo_accepted, exchange_without_memory, exchange_refused, exchange_accepted, exchanged_text, AnswersBirth, birth_without_memory, script_without_memory, script_unread, birth_refused, birth_accepted, ask_accepted, turn_accepted, queued_text, turned_text, FirstReply, born, answered, skipped, script_refused, said, said_by, Replies, first_and_more, no_more}
 use Rattle.stepper.specs.Listing.{journal_text, cone_text}
 use Rattle.commands.specs.Lines.{line_of, behind_line}
 
@@ -60,7 +62,14 @@ told (fault.NoEvent e) o T h g m = g (no_event e) h
 told (fault.NotLive e) o T h g m = g (not_live e) h
 told (fault.IsLive e) o T h g m = g (still_live e) h
 told (fault.NotClosed e f) o T h g m = g (not_closed e f) h
-told fault.NotNext o T h g m = g not_next h
+told (fault.NoPosition position) o T h g m = g (no_position position) h
+told (fault.Crossed e f) o T h g m = g (crossed e f) h
+told (fault.CauseMissing e f) o T h g m = g (cause_missing e f) h
+told (fault.Dependent e f) o T h g m = g (dependent e f) h
+told fault.Stale o T h g m = g stale h
+told fault.VatOut o T h g m = g vat_out h
+told fault.NoTicket o T h g m = g no_ticket h
+told fault.BadBudget o T h g m = g bad_budget h
 told (fault.Check f) o T h g m = check_told f o T h g m
 told fault.Memory o T h g m = m
 
@@ -83,8 +92,8 @@ module _ (budget : ℕ) (b : Book) where
   pub ask_not_read : (x text : List ℕ) (f : ReadFault) → texts.Answers text (Err f) → Answers budget b (commands.ask x text) (refused (reading.shown f)) true b
   ask_not_read x text f h = unread f text (λ words. Answers budget b (commands.ask x text) (refused words) true b) h (λ k. asked_unread k) asked_without_memory
 
-  pub turn_told : (m : MsgId) (f : BookFault) → Tells f (turn_refusal b m) → Answers budget b (commands.turn m) (refused (book.fault_text f)) true b
-  turn_told m f t = told f (turn_refusal b m) (λ words. Answers budget b (commands.turn m) (refused words) true b) t (λ r e. turn_refused e) turn_without_memory
+  pub turn_told : (m : MsgId) (f : BookFault) → Tells f (checkout_refusal b m budget) → Answers budget b (commands.turn m) (refused (book.fault_text f)) true b
+  turn_told m f t = told f (checkout_refusal b m budget) (λ words. Answers budget b (commands.turn m) (refused words) true b) t (λ r e. turn_refused e) turn_without_memory
 
   pub birth_told : (x text : List ℕ) (program : Trees) (f : BookFault) → ReadAs text (Ok program) → Tells f (birth_refusal b x program)
       → AnswersBirth b x (Ok text) (refused (book.fault_text f)) true b
@@ -93,7 +102,7 @@ module _ (budget : ℕ) (b : Book) where
   pub birth_not_read : (x text : List ℕ) (f : ReadFault) → texts.Answers text (Err f) → AnswersBirth b x (Ok text) (refused (reading.shown f)) true b
   birth_not_read x text f h = unread f text (λ words. AnswersBirth b x (Ok text) (refused words) true b) h (λ k. script_unread k) script_without_memory
 
-  pub ask_done : {x y text : List ℕ} {program : Trees} {e : EventName} {d : Book} → y ≡ x → ReadAs text (Ok program) → (ask_refusal b y program ≡ None) × ((v : VatNo) × Enters (record { name = e; act = ask y program }) (ask_foot e y v program) b d)
+  pub ask_done : {x y text : List ℕ} {program : Trees} {e : EventName} {d : Book} → y ≡ x → ReadAs text (Ok program) → (ask_refusal b y program ≡ None) × ((v : VatNo) × EntersNext (record { name = e; act = ask y program }) (ask_foot e y v program) 0 b d)
       → Answers budget b (commands.ask x text) (queued_text e) false d
   ask_done {text = text} {program = program} {e = e} {d = d} same h a = subst (λ z. Answers budget b (commands.ask z text) (queued_text e) false d) same (ask_accepted {v = a.1.0} h a.0 a.1.1)
 
@@ -103,7 +112,7 @@ module _ (budget : ℕ) (b : Book) where
       subst (λ z. Answers budget b (commands.ask z text) (refused (book.fault_text f)) true d) same
       (subst (λ z. Answers budget b (commands.ask y text) (refused (book.fault_text f)) true z) (sym stays) (ask_told y text program f h t))
 
-  pub birth_done : {x y text : List ℕ} {program : Trees} {e : EventName} {d : Book} → y ≡ x → ReadAs text (Ok program) → (birth_refusal b y program ≡ None) × Enters (record { name = e; act = birth y program }) (birth_foot e y program) b d
+  pub birth_done : {x y text : List ℕ} {program : Trees} {e : EventName} {d : Book} → y ≡ x → ReadAs text (Ok program) → (birth_refusal b y program ≡ None) × EntersNext (record { name = e; act = birth y program }) (birth_foot e y program) 0 b d
       → AnswersBirth b x (Ok text) (queued_text e) false d
   birth_done {text = text} {program = program} {e = e} {d = d} same h a = subst (λ z. AnswersBirth b z (Ok text) (queued_text e) false d) same (birth_accepted h a.0 a.1)
 
@@ -114,12 +123,21 @@ module _ (budget : ℕ) (b : Book) where
       (subst (λ z. AnswersBirth b y (Ok text) (refused (book.fault_text f)) true z) (sym stays) (birth_told y text program f h t))
 
   pub turn_done : {m : MsgId} {e : EventName} {d : Book} {o : End}
-      → (turn_refusal b m ≡ None) × ((t : Turn) × ∥ Turns e b.world m budget t ∥₁ × Enters (record { name = e; act = turn m budget }) (turn_foot e m t) b d × (o ≡ t.outcome.end))
+      → (checkout_refusal b m budget ≡ None) × ((t : Turn) × TurnsNext e m budget t b d × (o ≡ t.outcome.end))
       → Answers budget b (commands.turn m) (turned_text e o) false d
-  turn_done {m = m} {e = e} {d = d} (none, (t, run, enters, same)) = subst (λ z. Answers budget b (commands.turn m) (turned_text e z) false d) (sym same) (turn_accepted {t = t} none run enters)
+  turn_done {m = m} {e = e} {d = d} (none, (t, turns, same)) = subst (λ z. Answers budget b (commands.turn m) (turned_text e z) false d) (sym same) (turn_accepted {t = t} none turns)
 
-  pub turn_fails : {m : MsgId} (f : BookFault) {d : Book} → Tells f (turn_refusal b m) → d ≡ b → Answers budget b (commands.turn m) (refused (book.fault_text f)) true d
-  turn_fails {m = m} f t stays = subst (λ z. Answers budget b (commands.turn m) (refused (book.fault_text f)) true z) (sym stays) (turn_told m f t)
+  -- a refused turn leaves the book as it was, but for a name that was drawn without memory
+  unturned : (f : BookFault) (d : Book) (T : Book → Type 0) → Unturned f b d → T b → (f ≡ fault.Memory → T (record b { next = b.next + 1 })) → T d
+  unturned fault.Memory d T (inl e) here named = subst T (sym e) here
+  unturned fault.Memory d T (inr e) here named = subst T (sym e) (named refl)
+  unturned f d T e here named = subst T (sym e) here
+
+  named_told : {m : MsgId} (f : BookFault) → f ≡ fault.Memory → Answers budget b (commands.turn m) (refused (book.fault_text f)) true (record b { next = b.next + 1 })
+  named_told {m = m} f e = subst (λ g. Answers budget b (commands.turn m) (refused (book.fault_text g)) true (record b { next = b.next + 1 })) (sym e) turn_without_memory_named
+
+  pub turn_fails : {m : MsgId} (f : BookFault) {d : Book} → Tells f (checkout_refusal b m budget) → Unturned f b d → Answers budget b (commands.turn m) (refused (book.fault_text f)) true d
+  turn_fails {m = m} f {d = d} t stays = unturned f d (λ z. Answers budget b (commands.turn m) (refused (book.fault_text f)) true z) stays (turn_told m f t) (named_told {m = m} f)
 
   -- the journal as it is
   pub all_listed : {lines : List Line} → lines ≡ b.journal → Answers budget b commands.journal (journal_text lines) false b
@@ -150,15 +168,25 @@ module _ (budget : ℕ) (b : Book) where
       → Answers budget b (commands.undo events) (undone_text count) false d
   undo_done {events = events} {d = d} (none, undoes, same) = subst (λ n. Answers budget b (commands.undo events) (undone_text n) false d) (sym same) (undo_accepted none undoes)
 
-  redo_told : (events : List EventName) (f : BookFault) → Tells f (redo_refusal b events) → Answers budget b (commands.redo events) (refused (book.fault_text f)) true b
-  redo_told events f t = told f (redo_refusal b events) (λ words. Answers budget b (commands.redo events) (refused words) true b) t (λ r h. redo_refused h) redo_without_memory
+  redo_told : (events : List EventName) (f : BookFault) → Tells f (redo_refusal b.journal events) → Answers budget b (commands.redo events) (refused (book.fault_text f)) true b
+  redo_told events f t = told f (redo_refusal b.journal events) (λ words. Answers budget b (commands.redo events) (refused words) true b) t (λ r h. redo_refused h) redo_without_memory
 
-  pub redo_fails : {events : List EventName} (f : BookFault) {d : Book} → Tells f (redo_refusal b events) → d ≡ b → Answers budget b (commands.redo events) (refused (book.fault_text f)) true d
+  pub redo_fails : {events : List EventName} (f : BookFault) {d : Book} → Tells f (redo_refusal b.journal events) → d ≡ b → Answers budget b (commands.redo events) (refused (book.fault_text f)) true d
   redo_fails {events = events} f t stays = subst (λ z. Answers budget b (commands.redo events) (refused (book.fault_text f)) true z) (sym stays) (redo_told events f t)
 
-  pub redo_done : {events : List EventName} {d : Book} {count : ℕ} → (redo_refusal b events ≡ None) × Redoes events b d × (count ≡ count_of events b.journal)
+  pub redo_done : {events : List EventName} {d : Book} {count : ℕ} → (redo_refusal b.journal events ≡ None) × Redoes events b d × (count ≡ count_of events b.journal)
       → Answers budget b (commands.redo events) (redone_text count) false d
   redo_done {events = events} {d = d} (none, redoes, same) = subst (λ n. Answers budget b (commands.redo events) (redone_text n) false d) (sym same) (redo_accepted none redoes)
+
+  exchange_told : (position : ℕ) (f : BookFault) → Tells f (exchange_refusal b.journal position) → Answers budget b (commands.exchange position) (refused (book.fault_text f)) true b
+  exchange_told position f t = told f (exchange_refusal b.journal position) (λ words. Answers budget b (commands.exchange position) (refused words) true b) t (λ r h. exchange_refused h) exchange_without_memory
+
+  pub exchange_fails : {position : ℕ} (f : BookFault) {d : Book} → Tells f (exchange_refusal b.journal position) → d ≡ b → Answers budget b (commands.exchange position) (refused (book.fault_text f)) true d
+  exchange_fails {position = position} f t stays = subst (λ z. Answers budget b (commands.exchange position) (refused (book.fault_text f)) true z) (sym stays) (exchange_told position f t)
+
+  pub exchange_done : {position : ℕ} {e f : EventName} {d : Book} → (exchange_refusal b.journal position ≡ None) × Exchanges position b d × StoodAt position b.journal e f
+      → Answers budget b (commands.exchange position) (exchanged_text e f) false d
+  exchange_done (none, exchanges, stood) = exchange_accepted none exchanges stood
 
 or_false : (s : Bool) → s ≡ (s || false)
 or_false true = refl

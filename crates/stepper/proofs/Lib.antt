@@ -1,2 +1,4 @@
 pub mod Answered
+pub mod Births
 pub mod Listings
+pub mod Names

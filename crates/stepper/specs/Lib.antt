@@ -2,6 +2,7 @@ pub mod Ended
 pub mod Engine
 pub mod Fault
 pub mod Listing
+pub mod ListingView
 pub mod Replies
 pub mod Show
 pub mod ShowView

@@ -1,10 +1,11 @@
 -- The journal and a cone as texts.
-use Rattle.std.specs.Prelude.{ℕ, ◌+◌, List, [], ◌∷◌, ◌++◌, Bool, true, false, codes}
+use Rattle.std.specs.Prelude.{ℕ, ◌+◌, List, [], ◌∷◌, ◌++◌, map, Bool, true, false, codes}
 use Rattle.std.specs.Fmt.{decimal}
 use Rattle.ids.specs.Names.{event_text, message_text}
 use Rattle.ids.specs.declared.names.EventName.{EventName}
-use Rattle.world.specs.Events.{Act, birth, ask, turn}
-use Rattle.journal.specs.Journal.{Line, name_of}
+use Rattle.post.specs.Events.{Act, birth, ask, turn}
+use Rattle.journal.specs.Lines.{Line}
+use Rattle.causality.specs.Selections.{name_of}
 
 -- birth NAME, ask NAME, turn M
 abbrev pub act_text : Act → List ℕ
@@ -21,10 +22,14 @@ abbrev pub names_text : List EventName → List ℕ
 names_text [] = []
 names_text (e ∷ es) = codes " " ++ (event_text e ++ names_text es)
 
+-- the events of these numbers
+abbrev pub events_of : List ℕ → List EventName
+events_of ns = map (λ n. record { 0 = n }) ns
+
 -- POSITION EVENT live|undone KIND ARGS causes E..
 abbrev pub entry_line : ℕ → Line → List ℕ
 entry_line position l =
-    decimal position ++ (codes " " ++ (event_text (name_of l) ++ (codes " " ++ (mark_text l.live ++ (codes " " ++ (act_text l.event.act ++ (codes " causes" ++ (names_text l.causes ++ (10 ∷ [])))))))))
+    decimal position ++ (codes " " ++ (event_text (name_of l) ++ (codes " " ++ (mark_text l.entry.live ++ (codes " " ++ (act_text l.entry.event.act ++ (codes " causes" ++ (names_text (events_of l.entry.causes) ++ (10 ∷ [])))))))))
 
 abbrev pub entry_lines : ℕ → List Line → List ℕ
 entry_lines position [] = []

@@ -1,5 +1,5 @@
 -- The replies to a text of commands.
-use Rattle.std.specs.Prelude.{◌≡◌, ℕ, ◌<◌, List, [], ◌∷◌, ◌++◌, length, filter, Bool, true, false, ◌||◌, Option, Some, None, Result, Ok, Err, codes}
+use Rattle.std.specs.Prelude.{◌≡◌, ℕ, ◌+◌, ◌<◌, List, [], ◌∷◌, ◌++◌, length, filter, Bool, true, false, ◌||◌, Option, Some, None, Result, Ok, Err, codes}
 use Rattle.std.specs.Fmt.{decimal}
 use Rattle.ids.specs.Names.{event_text, message_text}
 use Rattle.ids.specs.Quoted.{quoted}
@@ -13,12 +13,15 @@ use Rattle.erules.specs.Outcomes.{End, value, halt, thrown, ejected, abandoned, 
 use Rattle.ereader.specs.Texts.{ReadAs}
 use Rattle.ereader.specs.Shown as reading
 use Rattle.ereader.specs.declared.fault.ReadFault.{ReadFault}
-use Rattle.world.specs.Events.{Turn, Turns, birth, ask, turn, birth_foot, ask_foot, turn_foot, first_message}
-use Rattle.journal.specs.Journal.{Line, chosen, Cone}
-use Rattle.book.specs.Refusals.{Refusal, no_vat, name_taken, no_message, not_there, before, full, no_event, not_live, still_live, not_closed, not_next, unchecked}
-use Rattle.book.specs.Refusals.{birth_refusal, ask_refusal, turn_refusal, undo_refusal, redo_refusal, cone_refusal}
+use Rattle.post.specs.Events.{birth, ask}
+use Rattle.event.specs.Events.{Turn, birth_foot, ask_foot, first_message}
+use Rattle.journal.specs.Lines.{Line}
+use Rattle.causality.specs.Exact.{Cone}
+use Rattle.causality.specs.Selections.{chosen}
+use Rattle.book.specs.Refusals.{Refusal, no_vat, name_taken, no_message, not_there, before, full, stale, vat_out, no_ticket, no_event, no_position, not_live, still_live, not_closed, crossed, cause_missing, dependent, bad_budget, unchecked}
+use Rattle.book.specs.Refusals.{birth_refusal, ask_refusal, checkout_refusal, undo_refusal, redo_refusal, cone_refusal, exchange_refusal}
 use Rattle.book.specs.Books.{Book}
-use Rattle.book.specs.Calls.{Enters, Undoes, Redoes}
+use Rattle.book.specs.Calls.{EntersNext, TurnsNext, Undoes, Redoes, Exchanges, StoodAt}
 use Rattle.commands.specs.Lines.{line_of, behind_line}
 use Rattle.commands.specs.Commands as command
 use Rattle.commands.specs.Commands.{Spelled, spelled_by, fault_text}
@@ -38,6 +41,10 @@ check_text (scope.duplicate_name x) = codes "K3 DuplicateName " ++ x
 check_text scope.too_deep = codes "K4 TooDeep"
 check_text scope.too_long = codes "K5 TooLong"
 
+-- two events, a space between them
+abbrev pub pair_text : EventName → EventName → List ℕ
+pair_text e f = event_text e ++ (codes " " ++ event_text f)
+
 abbrev pub refusal_text : Refusal → List ℕ
 refusal_text (no_vat x) = codes "B1 NoVat " ++ x
 refusal_text (name_taken x) = codes "B2 NameTaken " ++ x
@@ -45,11 +52,18 @@ refusal_text (no_message m) = codes "B3 NoMessage " ++ message_text m
 refusal_text not_there = codes "B4 NotThere"
 refusal_text (before m) = codes "B6 Before " ++ message_text m
 refusal_text full = codes "B8 Full"
+refusal_text stale = codes "B9 Stale"
+refusal_text vat_out = codes "B10 VatOut"
+refusal_text no_ticket = codes "B11 NoTicket"
 refusal_text (no_event e) = codes "B12 NoEvent " ++ event_text e
+refusal_text (no_position position) = codes "B12 NoEvent " ++ decimal position
 refusal_text (not_live e) = codes "B13 NotLive " ++ event_text e
 refusal_text (still_live e) = codes "B14 IsLive " ++ event_text e
-refusal_text (not_closed e f) = codes "B15 NotClosed " ++ (event_text e ++ (codes " " ++ event_text f))
-refusal_text not_next = codes "B21 NotNext"
+refusal_text (not_closed e f) = codes "B15 NotClosed " ++ pair_text e f
+refusal_text (crossed e f) = codes "B16 Crossed " ++ pair_text e f
+refusal_text (cause_missing e f) = codes "B17 CauseMissing " ++ pair_text e f
+refusal_text (dependent e f) = codes "B18 Dependent " ++ pair_text e f
+refusal_text bad_budget = codes "B19 BadBudget"
 refusal_text (unchecked fault) = check_text fault
 
 -- ok EVENT MESSAGE
@@ -79,8 +93,12 @@ undone_text count = codes "ok undone " ++ (decimal count ++ 10 ∷ [])
 abbrev pub redone_text : ℕ → List ℕ
 redone_text count = codes "ok redone " ++ (decimal count ++ 10 ∷ [])
 
+-- ok exchanged EVENT EVENT
+abbrev pub exchanged_text : EventName → EventName → List ℕ
+exchanged_text e f = codes "ok exchanged " ++ (event_text e ++ (codes " " ++ (event_text f ++ 10 ∷ [])))
+
 -- With a budget for each turn: a command leads from a book to a reply, refused or not, and a book.
--- Want of memory may refuse what needs it; the book then is as it was.
+-- Want of memory may refuse what needs it; the book then is as it was, but for a name that a turn may have drawn.
 pub data Answers (budget : ℕ) : Book → Spelled → List ℕ → Bool → Book → Type 0 where
   ask_without_memory : {b : Book} {x text : List ℕ} → Answers budget b (command.ask x text) (refused (codes "B20 Memory")) true b
   asked_without_memory : {b : Book} {x text : List ℕ} → Answers budget b (command.ask x text) (refused (codes "L7 Memory")) true b
@@ -88,11 +106,12 @@ pub data Answers (budget : ℕ) : Book → Spelled → List ℕ → Bool → Boo
   ask_refused : {b : Book} {x text : List ℕ} {program : Trees} {r : Refusal} → ReadAs text (Ok program) → ask_refusal b x program ≡ Some r
       → Answers budget b (command.ask x text) (refused (refusal_text r)) true b
   ask_accepted : {b d : Book} {x text : List ℕ} {program : Trees} {e : EventName} {v : VatNo} → ReadAs text (Ok program) → ask_refusal b x program ≡ None
-      → Enters (record { name = e; act = ask x program }) (ask_foot e x v program) b d → Answers budget b (command.ask x text) (queued_text e) false d
+      → EntersNext (record { name = e; act = ask x program }) (ask_foot e x v program) 0 b d → Answers budget b (command.ask x text) (queued_text e) false d
   turn_without_memory : {b : Book} {m : MsgId} → Answers budget b (command.turn m) (refused (codes "B20 Memory")) true b
-  turn_refused : {b : Book} {m : MsgId} {r : Refusal} → turn_refusal b m ≡ Some r → Answers budget b (command.turn m) (refused (refusal_text r)) true b
-  turn_accepted : {b d : Book} {m : MsgId} {e : EventName} {t : Turn} → turn_refusal b m ≡ None → ∥ Turns e b.world m budget t ∥₁
-      → Enters (record { name = e; act = turn m budget }) (turn_foot e m t) b d → Answers budget b (command.turn m) (turned_text e t.outcome.end) false d
+  turn_without_memory_named : {b : Book} {m : MsgId} → Answers budget b (command.turn m) (refused (codes "B20 Memory")) true (record b { next = b.next + 1 })
+  turn_refused : {b : Book} {m : MsgId} {r : Refusal} → checkout_refusal b m budget ≡ Some r → Answers budget b (command.turn m) (refused (refusal_text r)) true b
+  turn_accepted : {b d : Book} {m : MsgId} {e : EventName} {t : Turn} → checkout_refusal b m budget ≡ None → TurnsNext e m budget t b d
+      → Answers budget b (command.turn m) (turned_text e t.outcome.end) false d
   shown : {b : Book} {text : List ℕ} → Shows b.world text → Answers budget b command.show text false b
   listed : {b : Book} → Answers budget b command.journal (journal_text b.journal) false b
   cone_without_memory : {b : Book} {e : EventName} → Answers budget b (command.cone e) (refused (codes "B20 Memory")) true b
@@ -108,9 +127,13 @@ pub data Answers (budget : ℕ) : Book → Spelled → List ℕ → Bool → Boo
   undo_cone_found : {b d : Book} {e : EventName} {events : List EventName} {reply : List ℕ} {refusal : Bool} → cone_refusal b.journal e ≡ None → Cone b.journal e events
       → Answers budget b (command.undo events) reply refusal d → Answers budget b (command.undo_cone e) reply refusal d
   redo_without_memory : {b : Book} {events : List EventName} → Answers budget b (command.redo events) (refused (codes "B20 Memory")) true b
-  redo_refused : {b : Book} {events : List EventName} {r : Refusal} → redo_refusal b events ≡ Some r → Answers budget b (command.redo events) (refused (refusal_text r)) true b
-  redo_accepted : {b d : Book} {events : List EventName} → redo_refusal b events ≡ None → Redoes events b d
+  redo_refused : {b : Book} {events : List EventName} {r : Refusal} → redo_refusal b.journal events ≡ Some r → Answers budget b (command.redo events) (refused (refusal_text r)) true b
+  redo_accepted : {b d : Book} {events : List EventName} → redo_refusal b.journal events ≡ None → Redoes events b d
       → Answers budget b (command.redo events) (redone_text (count_of events b.journal)) false d
+  exchange_without_memory : {b : Book} {position : ℕ} → Answers budget b (command.exchange position) (refused (codes "B20 Memory")) true b
+  exchange_refused : {b : Book} {position : ℕ} {r : Refusal} → exchange_refusal b.journal position ≡ Some r → Answers budget b (command.exchange position) (refused (refusal_text r)) true b
+  exchange_accepted : {b d : Book} {position : ℕ} {e f : EventName} → exchange_refusal b.journal position ≡ None → Exchanges position b d → StoodAt position b.journal e f
+      → Answers budget b (command.exchange position) (exchanged_text e f) false d
 
 -- the same for a vat whose script was taken from the lines behind the command
 pub data AnswersBirth : Book → List ℕ → Result (List ℕ) LineFault → List ℕ → Bool → Book → Type 0 where
@@ -121,7 +144,7 @@ pub data AnswersBirth : Book → List ℕ → Result (List ℕ) LineFault → Li
   birth_refused : {b : Book} {x text : List ℕ} {program : Trees} {r : Refusal} → ReadAs text (Ok program) → birth_refusal b x program ≡ Some r
       → AnswersBirth b x (Ok text) (refused (refusal_text r)) true b
   birth_accepted : {b d : Book} {x text : List ℕ} {program : Trees} {e : EventName} → ReadAs text (Ok program) → birth_refusal b x program ≡ None
-      → Enters (record { name = e; act = birth x program }) (birth_foot e x program) b d → AnswersBirth b x (Ok text) (queued_text e) false d
+      → EntersNext (record { name = e; act = birth x program }) (birth_foot e x program) 0 b d → AnswersBirth b x (Ok text) (queued_text e) false d
 
 -- what the first line of an input says: why it is no text, or the command that it spells, if any
 abbrev pub said_by : Option LineFault → List ℕ → Result (Option Spelled) LineFault

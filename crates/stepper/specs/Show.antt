@@ -1,5 +1,5 @@
 -- The world as a text.
-use Rattle.std.specs.Prelude.{◌≡◌, ℕ, List, [], ◌∷◌, ◌++◌, map, Option, Some, codes}
+use Rattle.std.specs.Prelude.{◌≡◌, ℕ, List, [], ◌∷◌, ◌++◌, map, Option, Some, None, IsSome, codes}
 use Rattle.std.specs.Ordering.{nat_cmp, is_eq}
 use Rattle.std.specs.Cmp.Lexicographic.{slice_cmp}
 use Rattle.std.specs.declared.cmp.Ordering.{Ordering}
@@ -12,14 +12,14 @@ use Rattle.ids.specs.declared.names.MsgId.{MsgId}
 use Rattle.ids.specs.declared.names.PromId.{PromId}
 use Rattle.ids.specs.declared.names.SlotId.{SlotId}
 use Rattle.ids.specs.declared.names.ObjId.{ObjId}
-use Rattle.ids.specs.declared.names.CellKey.TheVariants as key
+use Rattle.ids.specs.declared.cells.CellKey.TheVariants as key
 use Rattle.kernele.specs.Tree.{Name}
 use Rattle.kernele.specs.declared.tree.Pattern.{Pattern}
 use Rattle.kernele.specs.declared.tree.Pattern.TheVariants as pattern
 use Rattle.values.specs.Shown.{shown}
 use Rattle.heap.specs.State as state
 use Rattle.heap.specs.State.{State, top, slot_cell, object_cell, bound, fixed, slot, held, made}
-use Rattle.world.specs.World.{Place, at_vat, done, Content, home, message, published, World}
+use Rattle.post.specs.World.{Place, at_vat, done, Content, vat, message, published, World, vat_state}
 
 -- xs has the contents of a finite map with their keys, in the order of the keys
 pub record Lists {K V : Type 0} (cmp : K → K → Ordering) (at : K → Option V) (xs : List (K × V)) : Type 0 where
@@ -81,29 +81,53 @@ Objects s es = Lists object_cmp (λ i. s (object_cell i)) es
 abbrev pub vat_line : VatNo → Name → List ℕ
 vat_line v x = codes "vat " ++ (x ++ (codes " " ++ (event_text v.0 ++ line_feed)))
 
--- the lines of vats: each its own, then those of its nouns, of its slots and of its objects
-pub data HomeLines : List (VatNo × Content) → List ℕ → Type 0 where
-  home_lines_none : HomeLines [] []
-  home_lines_more : {v : VatNo} {x : Name} {s : State} {nouns : List (Name × state.Content)} {slots : List (SlotId × state.Content)} {objects : List (ObjId × state.Content)} {hs : List (VatNo × Content)} {lines : List ℕ}
-      → Nouns s nouns → Slots s slots → Objects s objects → HomeLines hs lines
-      → HomeLines ((v, home x s) ∷ hs) (vat_line v x ++ (noun_lines nouns ++ (slot_lines slots ++ (object_lines objects ++ lines))))
+-- the lines of a vat's state: those of its nouns, of its slots and of its objects
+pub record StateLines (s : State) (lines : List ℕ) : Type 0 where
+  pub nouns : List (Name × state.Content)
+  pub nouns_listed : Nouns s nouns
+  pub slots : List (SlotId × state.Content)
+  pub slots_listed : Slots s slots
+  pub objects : List (ObjId × state.Content)
+  pub objects_listed : Objects s objects
+  pub whole : lines ≡ noun_lines nouns ++ (slot_lines slots ++ object_lines objects)
 
-abbrev pub at_text : Option Content → List ℕ
-at_text (Some (home x s)) = codes " at " ++ x
-at_text _ = []
+-- the lines of vats: each its own, then those of its state
+pub data VatLines (w : World) : List (VatNo × Name) → List ℕ → Type 0 where
+  vat_lines_none : VatLines w [] []
+  vat_lines_more : {v : VatNo} {x : Name} {vs : List (VatNo × Name)} {own lines : List ℕ}
+      → StateLines (vat_state w v) own → VatLines w vs lines → VatLines w ((v, x) ∷ vs) (vat_line v x ++ (own ++ lines))
 
-abbrev pub place_text : World → Place → List ℕ
-place_text w (at_vat v) = at_text (w (key.State v))
-place_text w (done e) = codes " done " ++ event_text e
+-- the number of the vat that a name stands for
+abbrev pub number_in : Option Content → Option VatNo
+number_in (Some (vat x)) = Some x.number
+number_in _ = None
+
+-- the name beside a number
+abbrev pub name_of : List (VatNo × Name) → VatNo → Option Name
+name_of vs v = lookup (λ u. is_eq (vat_cmp v u)) vs
+
+-- vs has the vats that names stand for, in the order of their births: the number of each once, and beside it a name that stands for it
+pub record ByBirth (at : Name → Option Content) (vs : List (VatNo × Name)) : Type 0 where
+  pub ordered : IsStrictlySortedBy vat_cmp (map (λ e. e.0) vs)
+  pub named : (v : VatNo) (x : Name) → name_of vs v ≡ Some x → number_in (at x) ≡ Some v
+  pub all : (x : Name) (v : VatNo) → number_in (at x) ≡ Some v → IsSome (name_of vs v)
+
+abbrev pub at_text : Option Name → List ℕ
+at_text (Some x) = codes " at " ++ x
+at_text None = []
+
+abbrev pub place_text : List (VatNo × Name) → Place → List ℕ
+place_text vs (at_vat v) = at_text (name_of vs v)
+place_text vs (done e) = codes " done " ++ event_text e
 
 -- msg MSG at NAME, or msg MSG done EVENT
-abbrev pub message_line : World → MsgId × Content → List ℕ
-message_line w (m, message g) = codes "msg " ++ (message_text m ++ (place_text w g.place ++ line_feed))
-message_line w (m, _) = []
+abbrev pub message_line : List (VatNo × Name) → MsgId × Content → List ℕ
+message_line vs (m, message g) = codes "msg " ++ (message_text m ++ (place_text vs g.place ++ line_feed))
+message_line vs (m, _) = []
 
-abbrev pub message_lines : World → List (MsgId × Content) → List ℕ
-message_lines w [] = []
-message_lines w (e ∷ es) = message_line w e ++ message_lines w es
+abbrev pub message_lines : List (VatNo × Name) → List (MsgId × Content) → List ℕ
+message_lines vs [] = []
+message_lines vs (e ∷ es) = message_line vs e ++ message_lines vs es
 
 -- board PROM = VALUE
 abbrev pub board_line : PromId × Content → List ℕ
@@ -116,12 +140,12 @@ board_lines (e ∷ es) = board_line e ++ board_lines es
 
 -- the vats by birth, the messages by name, what was published by promise
 pub record Shows (w : World) (text : List ℕ) : Type 0 where
-  pub homes : List (VatNo × Content)
-  pub homes_listed : Lists vat_cmp (λ v. w (key.State v)) homes
+  pub vats : List (VatNo × Name)
+  pub vats_listed : ByBirth (λ x. w (key.Name x)) vats
   pub messages : List (MsgId × Content)
   pub messages_listed : Lists message_cmp (λ m. w (key.Msg m)) messages
   pub board : List (PromId × Content)
   pub board_listed : Lists promise_cmp (λ p. w (key.Board p)) board
   pub lines : List ℕ
-  pub home_lines : HomeLines homes lines
-  pub whole : text ≡ lines ++ (message_lines w messages ++ board_lines board)
+  pub vat_lines : VatLines w vats lines
+  pub whole : text ≡ lines ++ (message_lines vats messages ++ board_lines board)

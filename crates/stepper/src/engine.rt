@@ -128,7 +128,7 @@ impl Engine {
     fn journal(&mut self) -> Result<(), AllocError>
         ensures { OnOk result (Happens self.old self.new (λ b r s d. Answers self.old.budget b commands.journal r s d)) }
     {
-        self.written.journal(self.book.journal())
+        self.written.journal(self.alloc, self.book.journal())
     }
 
     fn cone(&mut self, event: EventName) -> Result<(), AllocError>
@@ -164,6 +164,16 @@ impl Engine {
     {
         match self.book.redo(events) {
             Ok(count) => self.written.redone(count),
+            Err(fault) => self.written.refuse_call(&fault),
+        }
+    }
+
+    /// Lets the entry at a position and the one behind it change places.
+    fn exchange(&mut self, position: usize) -> Result<(), AllocError>
+        ensures { OnOk result (Happens self.old self.new (λ b r s d. Answers self.old.budget b (commands.exchange position) r s d)) }
+    {
+        match self.book.exchange(position) {
+            Ok((event, other)) => self.written.exchanged(event, other),
             Err(fault) => self.written.refuse_call(&fault),
         }
     }
@@ -218,6 +228,7 @@ impl Engine {
             Command::Undo(events) => self.undo(&events),
             Command::UndoCone(event) => self.undo_cone(event),
             Command::Redo(events) => self.redo(&events),
+            Command::Exchange(position) => self.exchange(position),
         }?;
         Ok(input)
     }

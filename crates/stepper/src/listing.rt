@@ -1,13 +1,18 @@
 // The journal and a cone as texts.
-ghost use Rattle.std.specs.Prelude.{◌≡◌, ◌++◌, OnOk, string_bytes, codes};
-ghost use Rattle.world.specs.EventView.{act_of};
-ghost use Rattle.journal.specs.EntryView.{is_live, line_of, lines_of};
+ghost use Rattle.std.specs.Prelude.{◌≡◌, ◌++◌, map, OnOk, string_bytes, codes};
+ghost use Rattle.post.specs.EventView.{act_of};
+ghost use Rattle.journal.specs.Items.{is_live, item_of};
+ghost use Rattle.journal.specs.Lines.{lines_of};
+ghost use Rattle.causality.specs.Journals.{IsJournal};
+ghost use Rattle.causality.specs.Selections.{numbers};
 ghost use Rattle.stepper.specs.Listing.{act_text, mark_text, names_text, entry_line, journal_text, cone_text};
+ghost use Rattle.stepper.specs.ListingView.{line_with};
 
+use causality::causes::{NameIndex, causes};
 use ids::names::EventName;
 use journal::entry::{Entry, Mark};
-use std::alloc::AllocError;
-use world::event::Action;
+use post::event::Action;
+use std::alloc::{AllocError, Global};
 
 /// Writes the names of events, a space before each.
 fn write_names(names: &[EventName], out: &mut String) -> Result<(), AllocError>
@@ -38,24 +43,36 @@ fn mark_word(mark: Mark) -> &'static str
     }
 }
 
-fn write_entry(position: usize, entry: &Entry, out: &mut String) -> Result<(), AllocError>
-    ensures { OnOk result (string_bytes out.new ≡ string_bytes out.old ++ entry_line position (line_of entry.now)) }
+fn write_entry(
+    position: usize,
+    entry: &Entry,
+    causes: &[EventName],
+    out: &mut String,
+) -> Result<(), AllocError>
+    ensures { OnOk result (string_bytes out.new ≡ string_bytes out.old ++ entry_line position (line_with (numbers causes.now) (item_of entry.now))) }
 {
     let event = entry.event.name;
     let mark = mark_word(entry.mark);
     write!(out, "{position} {event} {mark} ")?;
     write_action(&entry.event.action, out)?;
     out.push_str(" causes")?;
-    write_names(&entry.causes, out)?;
+    write_names(causes, out)?;
     out.push_str("\n")
 }
 
 /// Writes a journal, a line for each entry, with its position from 1.
-pub(crate) fn write_journal(entries: &[Entry], out: &mut String) -> Result<(), AllocError>
-    ensures { OnOk result (string_bytes out.new ≡ string_bytes out.old ++ journal_text (lines_of entries.now)) }
+pub(crate) fn write_journal(
+    alloc: Global,
+    entries: &[Entry],
+    out: &mut String,
+) -> Result<(), AllocError>
+    requires { IsJournal (map item_of entries.now) }
+    ensures { OnOk result (string_bytes out.new ≡ string_bytes out.old ++ journal_text (lines_of (map item_of entries.now))) }
 {
-    for (index, entry) in entries.iter().enumerate() {
-        write_entry(index + 1, entry, out)?;
+    let index = NameIndex::new(alloc, entries)?;
+    for (position, entry) in entries.iter().enumerate() {
+        let causes = causes(alloc, entries, &index, position)?;
+        write_entry(position + 1, entry, &causes, out)?;
     }
     Ok(())
 }

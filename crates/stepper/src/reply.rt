@@ -1,13 +1,15 @@
 // Replies, as they are written.
-ghost use Rattle.std.specs.Prelude.{◌≡◌, ◌++◌, [], true, false, OnOk, string_bytes};
+ghost use Rattle.std.specs.Prelude.{◌≡◌, ◌++◌, [], map, true, false, OnOk, string_bytes};
 ghost use Rattle.ereader.specs.Shown.{shown};
 ghost use Rattle.book.specs.Fault as book_fault;
-ghost use Rattle.world.specs.View.{world_of};
-ghost use Rattle.turn.specs.View.{ended_of};
+ghost use Rattle.post.specs.View.{world_of};
+ghost use Rattle.event.specs.Outcomes.{ended_of};
 ghost use Rattle.commands.specs.Commands.{fault_text};
-ghost use Rattle.stepper.specs.Replies.{refused, queued_text, turned_text, end_text, undone_text, redone_text};
+ghost use Rattle.stepper.specs.Replies.{refused, queued_text, turned_text, end_text, undone_text, redone_text, exchanged_text};
 ghost use Rattle.stepper.specs.Listing.{journal_text, cone_text};
-ghost use Rattle.journal.specs.EntryView.{lines_of};
+ghost use Rattle.journal.specs.Items.{item_of};
+ghost use Rattle.journal.specs.Lines.{lines_of};
+ghost use Rattle.causality.specs.Journals.{IsJournal};
 ghost use Rattle.stepper.specs.Show.{Shows};
 
 use crate::listing::{write_cone, write_journal};
@@ -15,13 +17,13 @@ use crate::show::write_world;
 use book::fault::BookFault;
 use commands::command::LineFault;
 use ereader::fault::ReadFault;
+use event::outcome::Ended;
 use ids::names::{EventName, MsgId};
 use ids::quote::write_quoted;
 use journal::entry::Entry;
+use post::world::World;
 use std::alloc::{AllocError, Global};
-use turn::delivery::Ended;
 use values::showing::write_value;
-use world::world::World;
 
 /// The replies so far, and whether one is a refusal.
 #[derive(Drop)]
@@ -89,10 +91,11 @@ impl Written {
     }
 
     /// The journal is listed.
-    pub(crate) fn journal(&mut self, entries: &[Entry]) -> Result<(), AllocError>
-        ensures { OnOk result (Adds self.old self.new (journal_text (lines_of entries.now)) false) }
+    pub(crate) fn journal(&mut self, alloc: Global, entries: &[Entry]) -> Result<(), AllocError>
+        requires { IsJournal (map item_of entries.now) }
+        ensures { OnOk result (Adds self.old self.new (journal_text (lines_of (map item_of entries.now))) false) }
     {
-        write_journal(entries, &mut self.text)
+        write_journal(alloc, entries, &mut self.text)
     }
 
     /// The events of a cone are named.
@@ -116,6 +119,14 @@ impl Written {
     {
         let out = &mut self.text;
         write!(out, "ok redone {count}\n")
+    }
+
+    /// The entries of two events changed places.
+    pub(crate) fn exchanged(&mut self, event: EventName, other: EventName) -> Result<(), AllocError>
+        ensures { OnOk result (Adds self.old self.new (exchanged_text event other) false) }
+    {
+        let out = &mut self.text;
+        write!(out, "ok exchanged {event} {other}\n")
     }
 
     pub(crate) fn refuse_line(&mut self, fault: LineFault) -> Result<(), AllocError>

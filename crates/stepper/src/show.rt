@@ -1,30 +1,33 @@
 // The world as a text.
-ghost use Rattle.std.specs.Prelude.{◌≡◌, ◌++◌, OnOk, string_bytes, List, ℕ, codes, [], ◌∷◌};
-ghost use Rattle.values.specs.Shown.{shown};
-ghost use Rattle.ids.specs.Cells.{vat_cmp, message_cmp, promise_cmp, slot_cmp, object_cmp};
-ghost use Rattle.ids.specs.declared.names.CellKey.TheVariants as key;
-ghost use Rattle.heap.specs.View.{bind_of, object_of, tops_of, slots_of, objects_of};
-ghost use Rattle.heap.specs.State.{bound, held, made};
-ghost use Rattle.std.specs.Ordering.{nat_cmp};
-ghost use Rattle.std.specs.Cmp.Lexicographic.{slice_cmp};
-ghost use Rattle.values.specs.View.{val_of};
-ghost use Rattle.std.specs.Option.{option_map};
+ghost use Rattle.std.specs.Prelude.{◌≡◌, ◌++◌, IfOk, OnOk, string_bytes};
 ghost use Rattle.std.specs.BTreeMap.{get};
-ghost use Rattle.world.specs.World.{message as message_content, published};
-ghost use Rattle.world.specs.View.{world_of, place_of, message_of, home_of};
-ghost use Rattle.stepper.specs.Show.{pattern_text, content_text, noun_line, noun_lines, slot_line, slot_lines, object_line, object_lines, vat_line, place_text, message_line, message_lines, board_line, board_lines, Lists, Shows};
-ghost use Rattle.stepper.specs.ShowView.{nouns_in, slots_in, objects_in, homes_in, messages_in, board_in, HomeWritten, HomesWritten};
+ghost use Rattle.std.specs.Cmp.Lexicographic.{slice_cmp};
+ghost use Rattle.std.specs.Option.{option_map};
+ghost use Rattle.std.specs.Ordering.{nat_cmp};
+ghost use Rattle.ids.specs.Cells.{message_cmp, promise_cmp, slot_cmp, object_cmp};
+ghost use Rattle.values.specs.View.{val_of};
+ghost use Rattle.values.specs.Shown.{shown};
+ghost use Rattle.heap.specs.State.{bound, held, made};
+ghost use Rattle.heap.specs.View.{bind_of, object_of, state_of, tops_of, slots_of, objects_of};
+ghost use Rattle.post.specs.Listed.{names_in};
+ghost use Rattle.post.specs.Messages.{place_of, message_of};
+ghost use Rattle.post.specs.View.{world_of};
+ghost use Rattle.post.specs.World.{message as message_content, published, vat_state};
+ghost use Rattle.stepper.specs.Show.{pattern_text, content_text, noun_line, noun_lines, slot_line, slot_lines, object_line, object_lines, vat_line, place_text, message_line, message_lines, board_line, board_lines, Lists, ByBirth, StateLines, VatLines, Shows};
+ghost use Rattle.stepper.specs.ShowView.{nouns_in, slots_in, objects_in, messages_in, board_in, Written};
 
 use heap::made::Made;
-use heap::state::Binding;
+use heap::state::{Binding, VatState};
 use ids::names::{MsgId, ObjId, PromId, SlotId, VatNo};
 use ids::text::Text;
 use kernele::tree::Pattern;
+use post::message::{Message, Place};
+use post::vat::Vat;
+use post::world::World;
 use std::alloc::{AllocError, Global};
 use std::collections::BTreeMap;
 use values::showing::write_value;
 use values::value::Value;
-use world::world::{Home, Message, Place, World};
 
 fn write_binding(binding: &Binding, out: &mut String) -> Result<(), AllocError>
     ensures { OnOk result (string_bytes out.new ≡ string_bytes out.old ++ content_text (bound (bind_of binding.now))) }
@@ -108,42 +111,72 @@ fn write_vat(number: VatNo, name: &Text, out: &mut String) -> Result<(), AllocEr
     write!(out, "vat {name} {event}\n")
 }
 
-/// Writes a vat, its top nouns, its slots and its objects.
-fn write_home(alloc: Global, number: VatNo, home: &Home, out: &mut String) -> Result<(), AllocError>
-    ensures { OnOk result (HomeWritten number home.now (string_bytes out.old) (string_bytes out.new)) }
+/// Writes the top nouns, the slots and the objects of a vat's state.
+fn write_state(alloc: Global, state: &VatState, out: &mut String) -> Result<(), AllocError>
+    ensures { OnOk result (Written (StateLines (state_of state.now)) (string_bytes out.old) (string_bytes out.new)) }
 {
-    write_vat(number, &home.name, out)?;
-    let contents = home.state.contents(alloc)?;
+    let contents = state.contents(alloc)?;
     write_nouns(&contents.nouns, out)?;
     write_slots(&contents.slots, out)?;
     write_objects(&contents.objects, out)?;
     Ok(())
 }
 
-/// Writes the vats in order of birth, each with its top nouns, slots and objects.
-fn write_homes(
+/// Writes what a vat holds, which is nothing where it has no state.
+fn write_home(
     alloc: Global,
-    homes: &BTreeMap<VatNo, Home>,
+    number: VatNo,
+    world: &World,
     out: &mut String,
 ) -> Result<(), AllocError>
-    ensures written { OnOk result (HomesWritten (homes_in homes.now) (string_bytes out.old) (string_bytes out.new)) }
-    ensures listed { OnOk result (Lists vat_cmp (λ v. option_map home_of (get vat_cmp homes.now v)) (homes_in homes.now)) }
+    ensures { OnOk result (Written (StateLines (vat_state (world_of world.now) number)) (string_bytes out.old) (string_bytes out.new)) }
 {
-    for (number, home) in homes.iter() {
-        write_home(alloc, *number, home, out)?;
+    match world.home(number) {
+        Some(state) => write_state(alloc, state, out),
+        None => Ok(()),
+    }
+}
+
+/// The vats in order of birth, each with its name.
+fn vats_by_birth(
+    alloc: Global,
+    names: &BTreeMap<Text, Vat>,
+) -> Result<BTreeMap<VatNo, Text>, AllocError>
+    ensures { IfOk result (λ vats. ByBirth (names_in names.now) vats.entries) }
+{
+    let mut vats = BTreeMap::new(alloc);
+    for (name, vat) in names.iter() {
+        vats.insert(vat.number, name.share()?)?;
+    }
+    Ok(vats)
+}
+
+/// Writes the vats in order of birth, each with its top nouns, slots and objects.
+fn write_vats(
+    alloc: Global,
+    vats: &BTreeMap<VatNo, Text>,
+    world: &World,
+    out: &mut String,
+) -> Result<(), AllocError>
+    ensures { OnOk result (Written (VatLines (world_of world.now) vats.now.entries) (string_bytes out.old) (string_bytes out.new)) }
+{
+    for (number, name) in vats.iter() {
+        write_vat(*number, name, out)?;
+        write_home(alloc, *number, world, out)?;
     }
     Ok(())
 }
 
-fn write_place(place: Place, world: &World, out: &mut String) -> Result<(), AllocError>
-    ensures { OnOk result (string_bytes out.new ≡ string_bytes out.old ++ place_text (world_of world.now) (place_of place)) }
+fn write_place(
+    place: Place,
+    vats: &BTreeMap<VatNo, Text>,
+    out: &mut String,
+) -> Result<(), AllocError>
+    ensures { OnOk result (string_bytes out.new ≡ string_bytes out.old ++ place_text vats.now.entries (place_of place)) }
 {
     match place {
-        Place::At(number) => match world.home(number) {
-            Some(home) => {
-                let name = &home.name;
-                write!(out, " at {name}")
-            }
+        Place::At(number) => match vats.get(&number) {
+            Some(name) => write!(out, " at {name}"),
             None => Ok(()),
         },
         Place::Done(event) => write!(out, " done {event}"),
@@ -153,27 +186,27 @@ fn write_place(place: Place, world: &World, out: &mut String) -> Result<(), Allo
 fn write_message(
     name: MsgId,
     message: &Message,
-    world: &World,
+    vats: &BTreeMap<VatNo, Text>,
     out: &mut String,
 ) -> Result<(), AllocError>
-    ensures { OnOk result (string_bytes out.new ≡ string_bytes out.old ++ message_line (world_of world.now) (name, message_content (message_of message.now))) }
+    ensures { OnOk result (string_bytes out.new ≡ string_bytes out.old ++ message_line vats.now.entries (name, message_content (message_of message.now))) }
 {
     write!(out, "msg {name}")?;
-    write_place(message.place, world, out)?;
+    write_place(message.place, vats, out)?;
     out.push_str("\n")
 }
 
 /// Writes the messages in order of their names.
 fn write_messages(
     messages: &BTreeMap<MsgId, Message>,
-    world: &World,
+    vats: &BTreeMap<VatNo, Text>,
     out: &mut String,
 ) -> Result<(), AllocError>
-    ensures written { OnOk result (string_bytes out.new ≡ string_bytes out.old ++ message_lines (world_of world.now) (messages_in messages.now)) }
+    ensures written { OnOk result (string_bytes out.new ≡ string_bytes out.old ++ message_lines vats.now.entries (messages_in messages.now)) }
     ensures listed { OnOk result (Lists message_cmp (λ m. option_map (λ g. message_content (message_of g)) (get message_cmp messages.now m)) (messages_in messages.now)) }
 {
     for (name, message) in messages.iter() {
-        write_message(*name, message, world, out)?;
+        write_message(*name, message, vats, out)?;
     }
     Ok(())
 }
@@ -199,11 +232,11 @@ fn write_board(board: &BTreeMap<PromId, Value>, out: &mut String) -> Result<(), 
 
 /// Writes the world: its vats by birth, its messages and what was published in order of their names.
 pub(crate) fn write_world(alloc: Global, world: &World, out: &mut String) -> Result<(), AllocError>
-    ensures { OnOk result ((text : List ℕ) × Shows (world_of world.now) text × (string_bytes out.new ≡ string_bytes out.old ++ text)) }
+    ensures { OnOk result (Written (Shows (world_of world.now)) (string_bytes out.old) (string_bytes out.new)) }
 {
-    let contents = world.contents();
-    write_homes(alloc, contents.homes, out)?;
-    write_messages(contents.messages, world, out)?;
-    write_board(contents.board, out)?;
+    let vats = vats_by_birth(alloc, &world.names(alloc)?)?;
+    write_vats(alloc, &vats, world, out)?;
+    write_messages(&world.messages(alloc)?, &vats, out)?;
+    write_board(&world.board(alloc)?, out)?;
     Ok(())
 }

@@ -10,15 +10,17 @@ mod depth;
 #[cfg(test)]
 mod endings;
 #[cfg(test)]
-mod laws;
-#[cfg(test)]
 mod objects;
+#[cfg(test)]
+mod runs;
 #[cfg(test)]
 mod sessions;
 #[cfg(test)]
 mod steps;
 #[cfg(test)]
 mod tables;
+#[cfg(test)]
+mod tickets;
 #[cfg(test)]
 mod turns;
 #[cfg(test)]

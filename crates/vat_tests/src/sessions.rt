@@ -143,8 +143,8 @@ ok e4 value 5
 3 e3 live ask a causes e1
 4 e4 live turn e3.m0 causes e1 e2 e3"#;
 
-/// The last undo alone is redone.
-const LAST_UNDO: &str = r#"> vat a () 1
+/// What read a variable before it was written stands in the way of the write.
+const CROSSED: &str = r#"> vat a () 1
 > var n := 0
 ok e1 e1.m0
 > turn e1.m0
@@ -162,7 +162,7 @@ ok e6 value 0
 > undo e2
 no B15 NotClosed e2 e6
 > redo e5
-no B21 NotNext
+no B16 Crossed e6 e5
 > undo e6
 ok undone 1
 > journal
@@ -172,15 +172,106 @@ ok undone 1
 4 e4 live ask a causes e1
 5 e5 undone turn e3.m0 causes e1 e2 e3
 6 e6 undone turn e4.m0 causes e1 e2 e4
-> redo e6
+> redo e5
 ok redone 1
+> redo e6
+no B16 Crossed e6 e5
 > journal
 1 e1 live birth a causes
 2 e2 live turn e1.m0 causes e1
 3 e3 live ask a causes e1
 4 e4 live ask a causes e1
-5 e5 undone turn e3.m0 causes e1 e2 e3
-6 e6 live turn e4.m0 causes e1 e2 e4"#;
+5 e5 live turn e3.m0 causes e1 e2 e3
+6 e6 undone turn e4.m0 causes e1 e2 e4"#;
+
+/// Turns that share no variable are undone apart, redone amid new events, and change places.
+const TWO_SLOTS: &str = r#"> vat a () 2
+> var m := 0
+> var n := 0
+ok e1 e1.m0
+> turn e1.m0
+ok e2 value 0
+> ask a m := 1
+ok e3 e3.m0
+> ask a n := 2
+ok e4 e4.m0
+> turn e3.m0
+ok e5 value 1
+> turn e4.m0
+ok e6 value 2
+> cone e5
+cone e5
+> undo e5
+ok undone 1
+> ask a m
+ok e7 e7.m0
+> turn e7.m0
+ok e8 value 0
+> redo e5
+no B16 Crossed e8 e5
+> undo e8
+ok undone 1
+> redo e5
+ok redone 1
+> exchange 5
+ok exchanged e5 e6
+> exchange 0
+no B12 NoEvent 0
+> exchange 4
+no B18 Dependent e4 e6
+> exchange 007
+no B13 NotLive e8
+> exchange 9
+no B12 NoEvent 9
+> exchange 4294967295
+no B12 NoEvent 4294967295
+> show
+vat a e1
+ noun m = slot e2.s0
+ noun n = slot e2.s1
+ slot e2.s0 = 1
+ slot e2.s1 = 2
+msg e1.m0 done e2
+msg e3.m0 done e5
+msg e4.m0 done e6
+msg e7.m0 at a
+board e1.p0 = 0
+board e3.p0 = 1
+board e4.p0 = 2
+> journal
+1 e1 live birth a causes
+2 e2 live turn e1.m0 causes e1
+3 e3 live ask a causes e1
+4 e4 live ask a causes e1
+5 e6 live turn e4.m0 causes e1 e2 e4
+6 e5 live turn e3.m0 causes e1 e2 e3
+7 e7 live ask a causes e1
+8 e8 undone turn e7.m0 causes e1 e2 e7"#;
+
+/// A redo whose cause is undone.
+const CAUSE_MISSING: &str = r#"> vat a () 1
+> var n := 0
+ok e1 e1.m0
+> turn e1.m0
+ok e2 value 0
+> ask a n := n + 1
+ok e3 e3.m0
+> turn e3.m0
+ok e4 value 1
+> ask a n
+ok e5 e5.m0
+> turn e5.m0
+ok e6 value 1
+> undo-cone e4
+ok undone 2
+> redo e6
+no B17 CauseMissing e6 e4
+> redo e6 e4
+ok redone 2
+> exchange 2
+ok exchanged e2 e3
+> exchange 1
+no B18 Dependent e1 e3"#;
 
 const CONES: &str = r#"> vat a () 2
 > var m := 0
@@ -196,15 +287,15 @@ ok e4 e4.m0
 ok e5 value 1
 > turn e4.m0
 ok e6 value 2
-> cone e05
-cone e5 e6
-> undo-cone e5
+> cone e03
+cone e3 e5
+> undo-cone e3
 ok undone 2
 > cone e5
 no B13 NotLive e5
-> undo e6
-no B13 NotLive e6
-> redo e6 e5 e6
+> undo e3
+no B13 NotLive e3
+> redo e5 e3 e5
 ok redone 2
 > redo e5
 no B14 IsLive e5
@@ -236,7 +327,17 @@ no S2 BadWord
 > redo e
 no S2 BadWord
 > undo e4294967295  e9 
-no B12 NoEvent e9"#;
+no B12 NoEvent e9
+> exchange
+no S2 BadWord
+> exchange e5
+no S2 BadWord
+> exchange 1 2
+no S2 BadWord
+> exchange 4294967296
+no S2 BadWord
+> exchange 1
+no B12 NoEvent 1"#;
 
 /// Events and their turns, once each.
 const EVENTS: &str = r#"> vat a () 0
@@ -304,7 +405,9 @@ fn sessions(rt: HostRuntime) {
             WORLD,
             SLOTS,
             JOURNAL,
-            LAST_UNDO,
+            CROSSED,
+            TWO_SLOTS,
+            CAUSE_MISSING,
             CONES,
             NO_EVENTS,
             EVENTS,

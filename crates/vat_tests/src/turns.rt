@@ -2,15 +2,18 @@
 
 use crate::tables::{expect_text, row};
 use ereader::read;
+use event::outcome::{Ended, Outcome};
 use heap::draft::Draft;
 use heap::reach::Footprint;
 use heap::state::{Binding, VatState};
-use ids::names::{EventName, MsgId, VatNo};
+use ids::names::{EventName, MsgId, PromId, VatNo};
 use ids::text::Text;
 use kernele::tree::Program;
+use post::delivery::Delivery;
+use post::message::{Message, Place, Sent};
+use post::program::{Question, Script};
 use std::process::Abort;
 use std::sync::Arc;
-use turn::delivery::{Delivery, Ended, Outcome};
 use turn::ticket::{Out, Ticket};
 use values::showing::show;
 use values::value::Value;
@@ -25,6 +28,32 @@ fn program(rt: &(impl Abort + AllocGlobal), text: &str) -> Program {
     }
 }
 
+/// The opening of a vat with this script.
+fn opening(rt: &(impl Abort + AllocGlobal), text: &str) -> Delivery {
+    let script = Script::new(rt.alloc(), &program(rt, text));
+    Delivery::Opening(script.expect(rt, "no memory"))
+}
+
+/// A text that is asked of a vat.
+fn question(rt: &(impl Abort + AllocGlobal), text: &str) -> Delivery {
+    let question = Question::new(rt.alloc(), &program(rt, text));
+    Delivery::Asked(question.expect(rt, "no memory"))
+}
+
+/// A message that waits at the vat.
+fn waiting(rt: &(impl Abort + AllocGlobal), delivery: Delivery) -> Message {
+    let sent = Sent {
+        delivery,
+        result: PromId {
+            event: EventName(1),
+            index: 0,
+            home: ALICE,
+        },
+        after: None,
+    };
+    Message::new(rt.alloc(), sent, Place::At(ALICE)).expect(rt, "no memory")
+}
+
 /// Runs a turn by a ticket, with a budget of 2,000 steps.
 fn run(
     rt: &(impl Abort + AllocGlobal),
@@ -35,14 +64,15 @@ fn run(
     let ticket = Ticket::new(Out {
         alloc: rt.alloc(),
         event: EventName(event),
-        message: MsgId {
+        name: MsgId {
             event: EventName(1),
             index: 0,
         },
+        message: waiting(rt, delivery),
         vat: ALICE,
         state: Arc::try_clone(state).expect(rt, "no memory"),
-        delivery,
         budget: 2000,
+        seat: 0,
     });
     match ticket.run() {
         Ok(ran) => ran.into_parts().outcome,
@@ -79,7 +109,7 @@ fn after_script(rt: &(impl Abort + AllocGlobal), script: &str) -> Arc<VatState> 
         .bind_top(gone, Binding::Fixed(lost))
         .expect(rt, "no memory");
     let state = written(rt, &empty, 1, draft.finish().expect(rt, "no memory"));
-    let opened = run(rt, &state, 2, Delivery::Opening(program(rt, script)));
+    let opened = run(rt, &state, 2, opening(rt, script));
     match opened.ended {
         Ended::Abandoned(_) => state,
         Ended::Value(_) | Ended::Problem(_) => written(rt, &state, 2, opened.footprint),
@@ -99,8 +129,7 @@ fn ended(rt: &(impl Abort + AllocGlobal), ended: &Ended) -> String {
 
 /// How the turn ends that a text is asked in.
 fn asked(rt: &(impl Abort + AllocGlobal), state: &Arc<VatState>, text: &str) -> String {
-    let delivery = Delivery::Asked(program(rt, text));
-    let shared = delivery.share().expect(rt, "no memory");
+    let shared = question(rt, text).share().expect(rt, "no memory");
     ended(rt, &run(rt, state, 4, shared).ended)
 }
 

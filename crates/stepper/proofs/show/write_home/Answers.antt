@@ -1,7 +1,13 @@
-use Rattle.stepper.proofs.Listings.{home_written}
+use Rattle.std.specs.Prelude.{string_bytes}
+use Rattle.heap.specs.View.{state_of}
+use Rattle.post.specs.View.{world_of}
+use Rattle.post.specs.World.{vat_state}
+use Rattle.stepper.proofs.Answered.{on_ok}
+use Rattle.stepper.proofs.Listings.{state_along, nothing_written}
 use Rattle.stepper.proofs.show.write_home.Goals as goal
 
-pub returns : goal.returns
-returns c =
-    home_written c.args.number c.args.home.now c.in_ok-contents.contents.nouns c.in_ok-contents.contents.slots c.in_ok-contents.contents.objects _ _ _ _ _ c.in_ok-write_vat.ensures c.in_ok-write_nouns.ensures.written c.in_ok-write_slots.ensures.written c.in_ok-write_objects.ensures.written
-    c.in_ok-write_nouns.ensures.listed c.in_ok-write_slots.ensures.listed c.in_ok-write_objects.ensures.listed c.in_ok-contents.ensures.nouns c.in_ok-contents.ensures.slots c.in_ok-contents.ensures.objects
+pub returns-in-Some : goal.returns-in-Some
+returns-in-Some c = on_ok c.write_state.result (state_along (state_of c.in-Some.state.now) (vat_state (world_of c.args.world.now) c.args.number) _ _ c.in-Some.ensures.there) c.write_state.ensures
+
+pub returns-in-None : goal.returns-in-None
+returns-in-None c = nothing_written (vat_state (world_of c.args.world.now) c.args.number) (string_bytes c.args.out.now) c.in-None.ensures.absent
