@@ -1,4 +1,4 @@
-"""Turns: how a program is evaluated in the state of its vat."""
+"""Turns: how a program is evaluated among the cells of its vat."""
 import itertools
 import operator
 from dataclasses import dataclass
@@ -8,6 +8,7 @@ from reading import (Assign, Call, Define, DefineList, Escape, For, Hide, If, Li
                      Try, Variable, While)
 
 MOST_WEIGHT, MOST_LISTS, DEEPEST, MOST_MADE = 65_536, 64, 1_000, 4_096
+UNDEFINED = object()
 INTEGER_VERBS = {"add": operator.add, "subtract": operator.sub, "multiply": operator.mul, "floorDivide": operator.floordiv,
                  "lessThan": operator.lt, "atMost": operator.le, "moreThan": operator.gt, "atLeast": operator.ge}
 SHOWN_ESCAPES = str.maketrans({'"': '\\"', "\\": "\\\\", "\n": "\\n", "\t": "\\t", "\r": "\\r"})
@@ -41,12 +42,9 @@ class Broken:
     problem: str
 
 
-@dataclass(frozen=True)
-class State:
-    """What a vat's top nouns stand for, what its slots hold, and each object with the names that it captured."""
-    nouns: dict
-    slots: dict
-    objects: dict
+def is_slot(meaning):
+    """Whether a name stands for a variable, and not for a value."""
+    return isinstance(meaning, Reference) and meaning.kind == "s"
 
 
 def quoted(text):
@@ -149,9 +147,10 @@ class Scope:
 
 
 class Turn:
-    def __init__(self, state, event, budget):
-        self.state = State(*(dict(it) for it in (state.nouns, state.slots, state.objects)))
-        self.event, self.steps = event, budget
+    """The cells of its vat are what the top nouns stand for, what the slots hold, and each object with what it captured."""
+
+    def __init__(self, cells, vat, event, budget):
+        self.cells, self.vat, self.event, self.steps = cells, vat, event, budget
         self.numbers = {kind: itertools.count() for kind in "soj"}
         self.open = []
 
@@ -167,15 +166,16 @@ class Turn:
             spelled, meaning, names = names
             if spelled == name:
                 return meaning
-        if name not in self.state.nouns:
+        meaning = self.cells.read(("top", self.vat, name), UNDEFINED)
+        if meaning is UNDEFINED:
             raise Thrown(f"undefined noun {name}")
-        return self.state.nouns[name]
+        return meaning
 
     def bind(self, scope, name, meaning):
         if name is None:
             return
         if scope.is_script:
-            self.state.nouns[name] = meaning
+            self.cells.write(("top", self.vat, name), meaning)
         else:
             scope.names = (name, meaning, scope.names)
 
@@ -211,7 +211,7 @@ class Turn:
                 return limited(value)
             case Noun(name):
                 meaning = self.meaning(scope, name)
-                return self.state.slots.get(meaning, meaning)
+                return self.cells.read(("slot", self.vat, meaning)) if is_slot(meaning) else meaning
             case Define(pattern, right):
                 value = self.value(scope, right, level)
                 self.bind(scope, pattern, value)
@@ -221,12 +221,12 @@ class Turn:
             case Variable(name, right):
                 value = self.value(scope, right, level)
                 slot = self.new("s")
-                self.state.slots[slot] = value
+                self.cells.write(("slot", self.vat, slot), value)
                 self.bind(scope, name, slot)
                 return value
             case Assign(name, right):
                 value = self.value(scope, right, level)
-                self.state.slots[self.meaning(scope, name)] = value
+                self.cells.write(("slot", self.vat, self.meaning(scope, name)), value)
                 return value
             case List(items):
                 return limited(tuple(self.value(scope, item, level) for item in items))
@@ -273,7 +273,7 @@ class Turn:
     def define_object(self, scope, node):
         captured = [(name, self.meaning(scope, name)) for name in captures(node)]
         made = self.new("o")
-        self.state.objects[made] = node, captured
+        self.cells.write(("object", self.vat, made), (node, captured))
         self.bind(scope, node.pattern, made)
         return made
 
@@ -300,7 +300,7 @@ class Turn:
             if receiver not in self.open:
                 raise Thrown("ejector is spent")
             raise Ejected(receiver, *(arguments or (None,)))
-        node, captured = self.state.objects[receiver]
+        node, captured = self.cells.read(("object", self.vat, receiver))
         for method in node.methods:
             if method.verb == verb and len(method.parameters) == len(arguments):
                 bound = [*captured, (node.pattern, receiver), *zip(method.parameters, arguments)]
@@ -310,7 +310,6 @@ class Turn:
 
 @dataclass(frozen=True)
 class Outcome:
-    state: State
     kind: str
     told: object
 
@@ -319,14 +318,14 @@ class Outcome:
         return self.told if self.kind == "value" else Broken(self.told)
 
 
-def run(state, event, budget, items, is_script):
-    """The outcome of a turn."""
-    turn = Turn(state, event, budget)
+def run(cells, message, event, budget):
+    """The outcome of a message's turn. What the turn touches and writes of its vat is kept by the cells."""
+    turn = Turn(cells, message.vat, event, budget)
     try:
-        value = turn.items(Scope(is_script=is_script), items, 1)
-        end = ("value", value) if is_within_limits(value) else ("problem", "value too large")
+        value = turn.items(Scope(is_script=message.is_script), message.items, 1)
+        return Outcome("value", value) if is_within_limits(value) else Outcome("problem", "value too large")
     except Thrown as problem:
-        end = "problem", str(problem)
+        return Outcome("problem", str(problem))
     except Abandoned as reason:
-        return Outcome(state, "abandoned", str(reason))
-    return Outcome(turn.state, *end)
+        cells.written.clear()
+        return Outcome("abandoned", str(reason))

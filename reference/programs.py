@@ -34,6 +34,72 @@ IDIOMS = [
 ]
 
 
+# A script of variables, data and objects, and what asked programs do with them.
+SHARED = [
+    "var a := E",
+    "var b := E",
+    "def c := a",
+    "def f() { a := a + 1; return a }",
+    "def g { method m() { b } method up(x) { b := x; a } method get(v) { v() } }",
+    "var x := f",
+    "def y() { return def _ { to get() { x } method up(v) { x := v } } }",
+    "var d := y()",
+]
+USES = [
+    "a",
+    "b",
+    "c",
+    "d",
+    "a := E",
+    "b := a + 1",
+    "[a, b] == [c, E]",
+    "if (a < b) { x } else { d }",
+    "f()",
+    "f() + f()",
+    "g.m()",
+    "g.up(E)",
+    "g.get(f)",
+    "g.add()",
+    "x()",
+    "x.get(E)",
+    "x := f",
+    "x := def _ { method run() { a } }",
+    "d := y()",
+    "d.get()",
+    "d.up(E)",
+    "d.up(f); d.get()()",
+    "a := x",
+    "b := a",
+    "a.none()",
+    "b.none()",
+    "g.up(a)",
+    "g.get(b)",
+    "def k() { b }; k",
+    "def k { to m() { f } to up() { c } }",
+    "x := (def k() { b := 3; b })",
+    "var n := a; x := (def k() { n := n + 1; return n })",
+    "var a := b; a := a + 1; a",
+    "try { a := E; throw(b) } catch p { p }",
+    "b := E; throw(c)",
+    "while (true) { a := a + 1 }",
+    "g.up(f()); while (true) { def _ { } }",
+    "escape j { x := j; f() }",
+]
+
+
+def filled(text, write):
+    """A text with something written for each E."""
+    return re.sub(r"\bE\b", lambda _: write(), text)
+
+
+def shared_script(random):
+    """The script that is shared, as a rule whole, or with a throw somewhere in it."""
+    items = [filled(item, Program(random).leaf) for item in SHARED]
+    if random.random() < 0.2:
+        items.insert(random.randrange(len(items)), 'throw("t")')
+    return "\n".join(items)
+
+
 class Program:
     """Writes a program in which these names stand in the scope around it: names with whether they are variables."""
 
@@ -86,7 +152,7 @@ class Program:
         if self.size <= 0:
             return self.leaf()
         if self.chance(0.15):
-            return re.sub(r"\bE\b", lambda _: self.expression(), self.random.choice(IDIOMS))
+            return filled(self.random.choice(IDIOMS), self.expression)
         kind = self.random.choices(["def", "var", "assign", "list", "return", ""], [16, 10, 16, 4, 4, 50])[0]
         match kind:
             case "def":
@@ -178,6 +244,10 @@ class Program:
 
     def text(self):
         return self.joined([self.item() for _ in range(self.random.randint(0, 6))])
+
+    def use(self, uses):
+        """A short program of these uses of the shared script."""
+        return filled("; ".join(self.random.choices(uses, k=self.random.choice([1, 1, 1, 2]))), self.leaf)
 
 
 def spoilt(random, text):
