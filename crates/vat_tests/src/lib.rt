@@ -12,8 +12,6 @@ mod endings;
 #[cfg(test)]
 mod objects;
 #[cfg(test)]
-mod runs;
-#[cfg(test)]
 mod sessions;
 #[cfg(test)]
 mod steps;

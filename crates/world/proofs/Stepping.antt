@@ -1,17 +1,25 @@
 -- What an event needs, and what a turn that was run brings.
-use Rattle.std.proofs.Common.{ℕ, sym, subst}
+use Rattle.std.proofs.Common.{◌≡◌, ◌≢◌, ℕ, Option, Some, None, refl, sym, ap, ◌∙◌, subst}
 use Rattle.std.proofs.Math.Logic.{∥∥₁_map}
+use Rattle.std.specs.Arc.{arc_value}
+use Rattle.kernele.specs.Tree.{Name, Trees}
 use Rattle.ids.specs.declared.names.EventName.{EventName}
 use Rattle.ids.specs.declared.names.VatNo.{VatNo}
 use Rattle.ids.specs.declared.names.MsgId.{MsgId}
+use Rattle.ids.specs.declared.cells.CellKey.TheVariants as key
 use Rattle.heap.specs.Found.{Found}
-use Rattle.post.specs.Events.{turn}
+use Rattle.heap.specs.State.{State}
+use Rattle.heap.specs.View.{state_of}
+use Rattle.post.specs.Events.{birth, ask, turn}
 use Rattle.post.specs.Messages.{message_of}
-use Rattle.post.specs.World.{World, vat_state}
+use Rattle.post.specs.World.{World, Vat, Message, Content, Place, message_in, vat_named, vat_state}
 use Rattle.post.specs.declared.message.Message as code-message
-use Rattle.event.specs.Events.{turns, DeliversOn, Turn, Turns, turn_foot}
+use Rattle.event.specs.Events.{Foot, Does, births, asks, turns, DeliversOn, Turn, Turns, turn_foot}
 use Rattle.event.specs.Effects.{BringsTurn, turn_of}
+use Rattle.event.specs.Ready.{lost, lost_message, misplaced, awaits}
+use Rattle.event.specs.declared.ready.Unready.{Unready}
 use Rattle.event.specs.declared.effects.Effects.{Effects}
+use Rattle.turn.specs.declared.ticket.Out.{Out}
 use Rattle.turn.specs.declared.ticket.Ran.{Ran}
 use Rattle.world.specs.Steps.{Happens, Ready, RunsAt}
 

@@ -5,11 +5,13 @@ ghost use Rattle.kernele.specs.View.{program_of};
 ghost use Rattle.heap.specs.Found.{Found};
 ghost use Rattle.heap.specs.View.{state_of};
 ghost use Rattle.turn.specs.Tasks.{task_of};
+ghost use Rattle.ids.specs.declared.cells.CellKey.TheVariants as key;
 ghost use Rattle.post.specs.EventView.{event_of};
 ghost use Rattle.post.specs.Events.{birth, ask, turn};
-ghost use Rattle.post.specs.Messages.{message_of};
+ghost use Rattle.post.specs.Messages.{message_of, place_of};
 ghost use Rattle.post.specs.View.{seen_of_world, world_of};
-ghost use Rattle.event.specs.Events.{Foot};
+ghost use Rattle.post.specs.World.{at_vat, message as message_content};
+ghost use Rattle.event.specs.Events.{Foot, InOrder};
 ghost use Rattle.world.specs.Steps.{Happens, StepsTo, TellsStep, Ready, RunsAt, Unready as IsUnready};
 ghost use Rattle.world.specs.declared.step.StepFault.TheVariants.{Memory};
 
