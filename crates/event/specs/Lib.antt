@@ -1,5 +1,6 @@
 pub mod Turn
 pub mod Touched
+pub mod Spent
 pub mod Outcomes
 pub mod Laws
 pub mod Events
