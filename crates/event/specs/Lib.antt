@@ -3,6 +3,7 @@ pub mod Touched
 pub mod Outcomes
 pub mod Laws
 pub mod Events
+pub mod Runs
 pub mod Ready
 pub mod Effects
 pub mod Entries
