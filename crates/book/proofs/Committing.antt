@@ -95,7 +95,7 @@ module _ (old now : Core) (next : ℕ) (out : List Lent) (r : Ran) (it : Effects
   w = contents cells (state_of old)
 
   abbrev e : Event
-  e = record { name = r.carried.event; act = turn r.carried.name r.carried.budget }
+  e = record { name = r.carried.event; act = turn r.carried.vat r.carried.name r.carried.budget }
 
   module _ (brings : BringsTurn r.carried.event r.carried.name (turn_in w r) it) (is : shown now ≡ entered e r.carried.seat it.touched.items (kepts_of it.records.items) (shown old))
       (known : IsKnown (book_with old next out) r.carried) (fresh : IsFresh (book_with old next out) r) (h : Stands old next out) where

@@ -17,7 +17,9 @@ ghost use Rattle.post.specs.Theory.{state_of_world};
 ghost use Rattle.post.specs.View.{world_of};
 ghost use Rattle.post.specs.World.{at_vat, vat, vat_named, vat_state};
 ghost use Rattle.event.specs.Events.{Foot, Turn, birth_foot, ask_foot};
+ghost use Rattle.event.specs.Effects.{Happens};
 ghost use Rattle.event.specs.Outcomes.{ended_of};
+ghost use Rattle.event.specs.Runs.{PlainRun};
 ghost use Rattle.journal.specs.Items.{item_of};
 ghost use Rattle.journal.specs.Lines.{plain, lines_of, entries_in};
 ghost use Rattle.causality.specs.Exact.{Cone};
@@ -27,8 +29,8 @@ ghost use Rattle.desk.specs.Desks.{is_out, without};
 ghost use Rattle.std.specs.Option.{option_map};
 ghost use Rattle.desk.specs.DeskView.{lent_of as desk_lent, out_of};
 ghost use Rattle.book.specs.Refusals.{birth_refusal, ask_refusal, checkout_refusal, full_refusal, check_refusal, taken_refusal, undo_refusal, redo_refusal, cone_refusal, exchange_refusal, budget_refusal, refusal_of, full, journal_full};
-ghost use Rattle.book.specs.Books.{blank, PlainRun};
-ghost use Rattle.book.specs.Calls.{Happens, EntersNext, Admitted, TurnsNext, lent_of, Lends, Commits, IsKnown, IsFresh, Undoes, Redoes, Exchanges, StoodAt, live_events};
+ghost use Rattle.book.specs.Books.{blank};
+ghost use Rattle.book.specs.Calls.{EntersNext, Admitted, TurnsNext, lent_of, Lends, Commits, IsKnown, IsFresh, Undoes, Redoes, Exchanges, StoodAt, live_events};
 ghost use Rattle.book.specs.Fault.{Tells, TellsCommit, Unturned};
 ghost use Rattle.book.specs.Standing.{Stands};
 ghost use Rattle.book.specs.declared.fault.BookFault.TheVariants.{NoTicket, Stale, Full};
@@ -437,7 +439,11 @@ impl Book {
         )?;
         let event = Event {
             name: out.event,
-            action: Action::Turn(out.name, out.budget),
+            action: Action::Turn {
+                vat: out.vat,
+                message: out.name,
+                budget: out.budget,
+            },
         };
         let deed = Deed {
             event,

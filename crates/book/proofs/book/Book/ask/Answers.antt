@@ -4,7 +4,8 @@ use Rattle.kernele.specs.Tree.{Name}
 use Rattle.post.specs.Events.{Event, ask}
 use Rattle.event.specs.Events.{ask_foot, asks}
 use Rattle.book.specs.BookView.{book_of}
-use Rattle.book.specs.Calls.{Happens, EntersNext}
+use Rattle.event.specs.Effects.{Happens}
+use Rattle.book.specs.Calls.{EntersNext}
 use Rattle.book.proofs.book.Book.ask.Goals as goal
 
 pub enter-requires-clause-possible : goal.enter-requires-clause-possible

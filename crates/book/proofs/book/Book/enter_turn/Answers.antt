@@ -43,7 +43,7 @@ pub invariant_of-self-2 : goal.invariant_of-self-2
 invariant_of-self-2 c =
     let b = c.args.self.now in
     let r = c.args.ran.now in
-    let e : Event = record { name = r.carried.event; act = turn r.carried.name r.carried.budget } in
+    let e : Event = record { name = r.carried.event; act = turn r.carried.vat r.carried.name r.carried.budget } in
     let entered_as : shown c.enter.new.self ≡ entered e r.carried.seat c.deref.result.now (kepts_of c.in_ok-touched.records.items) (shown b.core) = search rules in
     let is : shown c.enter.new.self ≡ entered e r.carried.seat c.in_ok-touched.field-0.touched.items (kepts_of c.in_ok-touched.field-0.records.items) (shown b.core) =
     entered_as ∙ ap (λ touched. entered e r.carried.seat touched (kepts_of c.in_ok-touched.records.items) (shown b.core)) c.deref.ensures.value
@@ -58,7 +58,7 @@ pub returns-clause-ok : goal.returns-clause-ok
 returns-clause-ok c =
     let b = c.args.self.now in
     let r = c.args.ran.now in
-    let e : Event = record { name = r.carried.event; act = turn r.carried.name r.carried.budget } in
+    let e : Event = record { name = r.carried.event; act = turn r.carried.vat r.carried.name r.carried.budget } in
     let entered_as : shown c.enter.new.self ≡ entered e r.carried.seat c.deref.result.now (kepts_of c.in_ok-touched.records.items) (shown b.core) = search rules in
     let is : shown c.enter.new.self ≡ entered e r.carried.seat c.in_ok-touched.field-0.touched.items (kepts_of c.in_ok-touched.field-0.records.items) (shown b.core) =
     entered_as ∙ ap (λ touched. entered e r.carried.seat touched (kepts_of c.in_ok-touched.records.items) (shown b.core)) c.deref.ensures.value
