@@ -4,6 +4,7 @@ pub mod Spent
 pub mod Outcomes
 pub mod Laws
 pub mod Events
+pub mod Runs
 pub mod Ready
 pub mod Effects
 pub mod Entries

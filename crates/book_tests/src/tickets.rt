@@ -1,69 +1,15 @@
 // Tickets that are out while events are undone and redone, and the answer of each call of a book.
 
+use crate::calls::{BUDGET, ask, birth, expect_integer, expect_journal, message, redo, turn, undo};
 use book::book::Book;
 use book::fault::BookFault;
-use ereader::read;
-use event::outcome::Ended;
-use ids::names::{EventName, MsgId};
-use ids::text::Text;
+use ids::names::EventName;
 use journal::entry::Mark;
-use kernele::tree::Program;
 use std::process::Abort;
 use turn::ticket::{Out, Ran, Ticket};
-use values::value::Value;
-
-/// The budget of tickets.
-const BUDGET: u32 = 1000;
 
 /// The seat that tickets are lent to.
 const SEAT: u64 = 7;
-
-fn name(rt: &(impl Abort + AllocGlobal), text: &str) -> Text {
-    Text::new(rt.alloc(), text).expect(rt, "no memory")
-}
-
-/// The program that a text spells.
-fn program(rt: &(impl Abort + AllocGlobal), text: &str) -> Program {
-    match read(rt.alloc(), text) {
-        Ok(program) => program,
-        Err(_) => panic!(rt; "no program: {text}"),
-    }
-}
-
-/// The first message of an event.
-fn message(event: u64) -> MsgId {
-    MsgId {
-        event: EventName(event),
-        index: 0,
-    }
-}
-
-/// Enters a birth, and its number is this.
-fn birth(rt: &(impl Abort + AllocGlobal), book: &mut Book, vat: &str, script: &str, event: u64) {
-    match book.birth(&name(rt, vat), program(rt, script)) {
-        Ok(born) => assert!(rt; born == EventName(event)),
-        Err(fault) => panic!(rt; "birth: {fault}"),
-    }
-}
-
-/// Enters an asked program, and its number is this.
-fn ask(rt: &(impl Abort + AllocGlobal), book: &mut Book, vat: &str, text: &str, event: u64) {
-    match book.ask(&name(rt, vat), program(rt, text)) {
-        Ok(asked) => assert!(rt; asked == EventName(event)),
-        Err(fault) => panic!(rt; "ask: {fault}"),
-    }
-}
-
-/// Runs the turn of the first message of an event, and its number is this.
-fn turn(rt: &(impl Abort + AllocGlobal), book: &mut Book, of: u64, event: u64) -> Ended {
-    match book.turn(message(of), BUDGET) {
-        Ok(turned) => {
-            assert!(rt; turned.event == EventName(event));
-            turned.ended
-        }
-        Err(fault) => panic!(rt; "turn: {fault}"),
-    }
-}
 
 /// A book with a vat `a` that has run its script `var n := 0` in e2, and two questions: e3 sets `n`, and e4 reads it.
 fn asked(rt: &(impl Abort + AllocGlobal), first: &str) -> Book {
@@ -144,40 +90,6 @@ fn refuse_stale(rt: &impl Abort, book: &mut Book, ticket: Ticket<Ran>) -> Ticket
     ticket
 }
 
-/// Undoes one event.
-fn undo(rt: &impl Abort, book: &mut Book, event: u64) {
-    match book.undo(&[EventName(event)]) {
-        Ok(count) => assert!(rt; count == 1),
-        Err(fault) => panic!(rt; "undo: {fault}"),
-    }
-}
-
-/// Redoes one event.
-fn redo(rt: &impl Abort, book: &mut Book, event: u64) {
-    match book.redo(&[EventName(event)]) {
-        Ok(count) => assert!(rt; count == 1),
-        Err(fault) => panic!(rt; "redo: {fault}"),
-    }
-}
-
-/// The journal has just these events in this order, each live or undone.
-fn expect_journal(rt: &impl Abort, book: &Book, wanted: &[(u64, Mark)]) {
-    let entries = book.journal();
-    assert!(rt; entries.len() == wanted.len(), "not so many entries");
-    for (entry, (event, mark)) in entries.iter().zip(wanted) {
-        assert!(rt; entry.event.name == EventName(*event), "another event");
-        assert!(rt; entry.mark == *mark, "another mark of e{event}");
-    }
-}
-
-/// A turn ended with this integer.
-fn expect_integer(rt: &impl Abort, ended: &Ended, wanted: i64) {
-    match ended {
-        Ended::Value(Value::Int(found)) => assert!(rt; *found == wanted),
-        _ => rt.panic("no integer"),
-    }
-}
-
 const BEGUN: [(u64, Mark); 4] = [
     (1, Mark::Live),
     (2, Mark::Live),
@@ -191,6 +103,22 @@ const UNOPENED: [(u64, Mark); 4] = [
     (3, Mark::Live),
     (4, Mark::Live),
 ];
+
+/// A turn that was run is entered, or its ticket let go where the vat is no longer as it was found.
+#[test]
+fn entered_and_let_go(rt: HostRuntime) {
+    let mut book = asked(&rt, "n := 1");
+    let ticket = checkout(&rt, &mut book, 3, 5);
+    let ran = run(&rt, ticket);
+    commit(&rt, &mut book, ran, 5);
+    let ticket = checkout(&rt, &mut book, 4, 6);
+    undo(&rt, &mut book, 5);
+    let ran = run(&rt, ticket);
+    let back = refuse_stale(&rt, &mut book, ran);
+    assert!(rt; book.abandon(EventName(6)).is_ok());
+    refuse_strange(&rt, &mut book, back);
+    expect_integer(&rt, &turn(&rt, &mut book, 4, 7), 0);
+}
 
 /// The opening is undone while a ticket is out: the ticket is stale, and its number is not drawn again.
 #[test]

@@ -1,4 +1,4 @@
--- Runs of events from the empty world.
+-- Runs of events, one after another.
 use Rattle.std.specs.Prelude.{List, reverse}
 use Rattle.history.specs.Subject.{Run}
 use Rattle.post.specs.Events.{Event}
@@ -11,4 +11,4 @@ RunFrom v es w = ∥ Run events v (reverse es) w ∥₁
 
 -- the same from the empty world
 abbrev pub PlainRun : List Event → World → Type 0
-PlainRun es w = ∥ Run events empty (reverse es) w ∥₁
+PlainRun es w = RunFrom empty es w
