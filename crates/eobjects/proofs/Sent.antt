@@ -1,15 +1,15 @@
 -- Calls on an ejector that is at hand.
-use Rattle.std.proofs.Common.{arith, ◌≡◌, ℕ, ◌+◌, ◌-◌, ◌<◌, ◌≤◌, List, [], ◌∷◌, true, cond, ap, sym, subst, refl, ◌∙◌}
+use Rattle.std.proofs.Common.{arith, ◌≡◌, ℕ, ◌+◌, ◌-◌, ◌<◌, ◌≤◌, List, [], ◌∷◌, true, cond, ap, sym, subst, refl}
 use Rattle.std.specs.Prelude.{codes}
 use Rattle.std.specs.Str.{bytes_eq}
 use Rattle.ids.specs.declared.names.EjId.{EjId}
-use Rattle.kernele.specs.Tree.{Name, Tree, Trees, call, none, and_then}
+use Rattle.kernele.specs.Tree.{Name, Tree, call, none, and_then}
 use Rattle.code.specs.View.{tree_of_code, trees_of_codes}
 use Rattle.code.specs.declared.code.Code.{Code}
 use Rattle.values.specs.Data.{ejector, no_vals, and_val}
 use Rattle.erules.specs.At.{At}
 use Rattle.erules.specs.Outcomes.{End, value, halt}
-use Rattle.erules.specs.Rules.{begun, gives, same_ejector, is_open, ejects, no_such_method, Ends, at_node, run_call_gives, args_none, args_next, args_halt}
+use Rattle.erules.specs.Rules.{gives, same_ejector, is_open, ejects, no_such_method, Ends, at_node, run_call_gives, args_none, args_next, args_halt}
 use Rattle.eobjects.specs.Leaves.{Leaf, Returns, sent}
 use Rattle.eobjects.proofs.Leaves.{leaf_ends}
 
