@@ -355,7 +355,7 @@ impl Book {
         budget: u32,
         seat: u64,
     ) -> Result<Ticket<Out>, BookFault>
-        ensures ok { IfOk result (λ t. (checkout_refusal (book_of self.old) message budget ≡ None) × Lends message budget seat t.stage (book_of self.old) (book_of self.new)) }
+        ensures ok { IfOk result (λ t. (checkout_refusal (book_of self.old) message budget ≡ None) × Lends message budget seat t (book_of self.old) (book_of self.new)) }
         ensures err { IfErr result (λ fault. Tells fault (checkout_refusal (book_of self.old) message budget)) }
         ensures unchanged { OnErr result (book_of self.new ≡ book_of self.old) }
     {
@@ -464,8 +464,8 @@ impl Book {
     /// # Errors
     /// `NoTicket`, `Stale`, `Full`, `Memory`, tried in this order.
     pub fn commit(&mut self, ticket: Ticket<Ran>) -> Result<EventName, (Ticket<Ran>, BookFault)>
-        ensures ok { IfOk result (λ e. (e ≡ ticket.stage.carried.event) × Commits ticket.stage (book_of self.old) (book_of self.new)) }
-        ensures err { IfErr result (λ r. TellsCommit r.1 (book_of self.old) ticket.stage) }
+        ensures ok { IfOk result (λ e. (e ≡ ticket.carried.event) × Commits ticket (book_of self.old) (book_of self.new)) }
+        ensures err { IfErr result (λ r. TellsCommit r.1 (book_of self.old) ticket) }
         ensures back { IfErr result (λ r. r.0 ≡ ticket) }
         ensures unchanged { OnErr result (book_of self.new ≡ book_of self.old) }
     {

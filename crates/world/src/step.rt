@@ -109,7 +109,7 @@ fn ready(world: &World, vat: VatNo, name: MsgId) -> Result<Message, StepFault>
 
 /// Runs the turn of a ticket.
 fn run(ticket: Ticket<Out>) -> Result<Ran, AllocError>
-    ensures { IfOk result (λ ran. (ran.carried ≡ task_of ticket.stage) × Found ran.outcome.footprint (state_of (arc_value ticket.stage.state))) }
+    ensures { IfOk result (λ ran. (ran.carried ≡ task_of ticket) × Found ran.outcome.footprint (state_of (arc_value ticket.state))) }
 {
     match ticket.run() {
         Ok(ran) => Ok(ran.into_parts()),
@@ -188,7 +188,7 @@ fn effects_of(alloc: Global, world: &mut World, event: &Event) -> Result<Effects
 pub fn step(alloc: Global, world: &mut World, event: &Event) -> Result<(), StepFault>
     ensures ok { OnOk result (StepsTo (event_of event.now) (world_of world.old) (world_of world.new)) }
     ensures err { IfErr result (λ fault. TellsStep (event_of event.now) (world_of world.old) fault) }
-    ensures unchanged { OnErr result (world_of world.new ≡ world_of world.old) }
+    ensures unchanged { OnErr result (seen_of_world world.new ≡ seen_of_world world.old) }
 {
     let Effects {
         touched: _,
