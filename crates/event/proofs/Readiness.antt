@@ -1,5 +1,5 @@
 -- A turn can happen exactly where its message is ready.
-use Rattle.std.proofs.Common.{◌≡◌, ◌↔◌, ℕ, ◌+◌, ◌<◌, Bool, true, false, cond, not, ◌&&◌, ◌||◌, List, [], ◌∷◌, map, Option, Some, None, refl, sym, ap, ap₂, ◌∙◌, subst}
+use Rattle.std.proofs.Common.{◌≡◌, ◌↔◌, ℕ, Bool, true, false, cond, not, ◌&&◌, ◌||◌, List, [], ◌∷◌, map, Option, Some, None, refl, sym, ap, ap₂, ◌∙◌, subst}
 use Rattle.std.specs.List.{list_any, AllByRecursion}
 use Rattle.std.proofs.lemmas.Bool.{or_left, or_right}
 use Rattle.history.proofs.Lists.{all_map}
@@ -12,14 +12,12 @@ use Rattle.heap.specs.State as heap
 use Rattle.heap.specs.State.{Cell, Cells, State, same_cell, write, also, no_cells}
 use Rattle.erules.specs.At.{At}
 use Rattle.erules.specs.Outcomes.{End, value, halt, thrown, ejected, abandoned}
-use Rattle.erules.specs.Rules.{Items}
 use Rattle.erules.proofs.Kept.{IsKept, items_kept}
 use Rattle.erules.proofs.Total.{items_somehow}
 use Rattle.post.specs.Delivery.{Delivery, opening, asked}
 use Rattle.post.specs.Events.{Act, birth, ask, turn, Event}
 use Rattle.post.specs.World.{Place, at_vat, done, Message, Content, message, World, message_in, message_of, done_in, vat_state}
-use Rattle.event.specs.Turn.{Outcome, outcome, settled, kept, start, Delivers, opens, asks}
-use Rattle.event.specs.Touched.{delivery_touched, delivery_written}
+use Rattle.event.specs.Turn.{Outcome, outcome, settled, kept, start, opens, asks}
 use Rattle.event.specs.Events.{Foot, Turn, Turns, Leaves, Lists, DeliversOn, InOrder, is_abandoned, turn_foot, Does, births, asks as asks_does, turns}
 use Rattle.event.specs.Ready.{misplaced, lost_message, awaits, early_message, IsReady}
 use Rattle.event.specs.Laws.{CanHappen}
