@@ -1,5 +1,7 @@
 pub mod Journals
 pub mod Causes
 pub mod Selections
+pub mod Names
 pub mod Walks
+pub mod Newest
 pub mod Exact

@@ -3,7 +3,8 @@
 
 pub mod causes;
 pub mod cone;
-mod names;
+pub mod names;
 mod returning;
 pub mod selection;
+pub mod settled;
 pub mod theorems;
