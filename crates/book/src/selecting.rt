@@ -12,7 +12,6 @@ use causality::names::NameSet;
 use causality::selection::{
     first_crossing, first_gap, first_marked, first_missing_cause, least_missing,
 };
-use causality::settled::is_sound;
 use ids::names::EventName;
 use journal::entry::{Entry, Mark};
 use std::alloc::Global;
@@ -72,10 +71,6 @@ pub(crate) fn check_redo(alloc: Global, entries: &[Entry], names: &NameSet) -> R
 {
     check_entered(alloc, entries, names)?;
     check_undone(entries, names)?;
-    // Where nothing is lacking, it need not be found out what.
-    if is_sound(alloc, entries, names)? {
-        return Ok(());
-    }
     if let Some(gap) = first_missing_cause(alloc, entries, names)? {
         return Err(BookFault::CauseMissing(gap.event, gap.other));
     }

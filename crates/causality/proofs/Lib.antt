@@ -11,9 +11,7 @@ pub mod Indexing
 pub mod Lacking
 pub mod Least
 pub mod NameSets
-pub mod Noting
 pub mod Pairs
 pub mod Redoing
-pub mod Settling
 pub mod Telling
 pub mod Writers

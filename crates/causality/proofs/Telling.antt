@@ -1,7 +1,7 @@
 -- What the lines of a journal tell.
 use Rattle.std.proofs.Common.{◌≡◌, ◌≢◌, ◌∙◌, ℕ, Bool, true, false, cond, ◌&&◌, List, [], ◌∷◌, Option, Some, map, refl, sym, ap₂, subst}
 use Rattle.std.proofs.Math.Bool.{Bool-set}
-use Rattle.std.proofs.Math.Nat.{ℕ_set}
+use Rattle.std.proofs.Props.{props}
 use Rattle.std.proofs.Math.Logic.{∥∥₁_elim}
 use Rattle.std.specs.List.{list_any, AllByRecursion}
 use Rattle.history.specs.Subject.{meets, touches}
@@ -112,7 +112,7 @@ sound_prop t (e ∷ es) (p, q) (r, s) = λ i. (
 )
 
 writer_prop : (x y : Option ℕ) → IsProp (x ≡ y)
-writer_prop = hlevel (ℕ_set)
+writer_prop = hlevel props
 
 linked_prop : (k : CellKey) (t : Entry plain → Bool) (es : List (Entry plain)) → IsProp (Linked plain k t es)
 linked_prop k t [] a b = refl

@@ -1,5 +1,5 @@
 -- A set that has each entry that came right after a member has all that came of its members.
-use Rattle.std.proofs.Common.{◌≡◌, ◌∙◌, ℕ, Bool, true, false, cond, ◌&&◌, ◌||◌, not, List, [], ◌∷◌, ◌++◌, append-nil, append_assoc, map, reverse, Option, Some, None, is_some, refl, sym, ap, subst}
+use Rattle.std.proofs.Common.{◌≡◌, ◌∙◌, ℕ, Bool, true, false, cond, ◌&&◌, ◌||◌, not, List, [], ◌∷◌, ◌++◌, append-nil, append_assoc, map, reverse, Option, Some, is_some, refl, sym, ap, subst}
 use Rattle.std.specs.List.{list_any, AllByRecursion}
 use Rattle.std.proofs.lemmas.Bool.{both_ways, or_left, or_right, and_from, and_parts}
 use Rattle.std.proofs.lemmas.List.{reverse-append, reverse-reverse}
@@ -9,7 +9,6 @@ use Rattle.history.specs.Subject.{Laws, found, touches, meets}
 use Rattle.history.specs.Journal.{Entry, named, caused, live_set, Sound, Closed}
 use Rattle.history.specs.Chains.{wrote, last_writer, Linked, HasCells, Traced, Chained}
 use Rattle.history.proofs.Lists.{all_map, all_both, all_of, all_mapped, any_found, any_gives, any_same, any_none}
-use Rattle.history.proofs.Writing.{wrote_touches}
 use Rattle.ids.specs.CellKeys.{same_key}
 use Rattle.ids.specs.declared.cells.CellKey.{CellKey}
 use Rattle.ids.specs.declared.names.EventName.{EventName}
@@ -166,7 +165,7 @@ module _ (names : List EventName) (all : List Item) where
   begins : (i : Item) (rs : List Item) → Traced plain (entry_at all i) (map (entry_at all) rs) → Begins (reverse rs) i []
   begins i rs h none = any_none _ i.lasts (all_map _ _ i.lasts
       (λ p last. ap (is_writer_in (numbers names)) last ∙ newest_outside (numbers names) p.0 (caused plain (entry_at all i)) (map (entry_at all) rs)
-      (any-map (entry_at all) (named plain (numbers names)) rs ∙ sym (list_any-IsPermutation (is_of names) rs (reverse rs) (IsPermutation-reverse rs)) ∙ none)) h.lasts)
+      (any-map (entry_at all) (named plain (numbers names)) rs ∙ list_any-IsPermutation (is_of names) rs (reverse rs) (IsPermutation-reverse rs) ∙ none)) h.lasts)
 
   around_last : (before xs : List Item) (i : Item) → Around Begins before xs → Begins (before ++ xs) i [] → Around Begins before (xs ++ i ∷ [])
   around_last before [] i h last = (subst (λ is. Begins is i []) (append-nil before) last, tt)

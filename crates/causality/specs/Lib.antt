@@ -3,5 +3,4 @@ pub mod Causes
 pub mod Selections
 pub mod Names
 pub mod Walks
-pub mod Newest
 pub mod Exact

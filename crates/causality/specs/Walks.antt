@@ -1,15 +1,11 @@
 -- What the program finds as it goes over items, of which it knows no causes.
-use Rattle.std.specs.Prelude.{◌&&◌, ◌||◌, ◌==◌, not, ℕ, Bool, true, false, cond, List, [], ◌∷◌, ◌++◌, map, filter, reverse, Option, Some, None}
-use Rattle.std.specs.List.{list_any, list_all}
+use Rattle.std.specs.Prelude.{◌&&◌, ◌||◌, ◌==◌, not, ℕ, Bool, false, cond, List, [], ◌∷◌, ◌++◌, filter, Option, Some, None}
 use Rattle.std.specs.Option.{option_map, option_or}
-use Rattle.history.specs.Chains.{last_writer}
-use Rattle.history.specs.Journal.{is_in, live_set, both}
-use Rattle.ids.specs.CellKeys.{same_key}
-use Rattle.ids.specs.declared.cells.CellKey.{CellKey}
+use Rattle.history.specs.Journal.{is_in}
 use Rattle.ids.specs.declared.names.EventName.{EventName}
 use Rattle.journal.specs.Items.{Item, wrote_one_of}
-use Rattle.journal.specs.Lines.{plain, bare, causes_in}
-use Rattle.causality.specs.Selections.{numbers, among, first_some, gap}
+use Rattle.journal.specs.Lines.{causes_in}
+use Rattle.causality.specs.Selections.{numbers, first_some, gap}
 use Rattle.causality.specs.Names.{wrote_last}
 use Rattle.causality.specs.declared.selection.Gap.{Gap}
 
@@ -87,26 +83,3 @@ crossed names all before i = cond i.live (first_met i (filter (comes_back names)
 
 abbrev pub crossed_at : List EventName → List Item → List Item → Item → Option Gap
 crossed_at names all before i = option_map (gap i.event.name) (crossed names all before i)
-
--- the newest of these items, the oldest first, that is live or of the set and wrote a cell
-abbrev pub newest : List EventName → CellKey → List Item → Option ℕ
-newest names k before = last_writer plain k (both (live_set plain) (among names)) (map bare (reverse before))
-
--- an item that comes back touched the cell
-abbrev pub is_wanted : List EventName → List Item → CellKey → Bool
-is_wanted names all k = list_any (λ i. comes_back names i && list_any (λ p. same_key k p.0) i.lasts) all
-
-abbrev pub same_writer : Option ℕ → Option ℕ → Bool
-same_writer None None = true
-same_writer None (Some n) = false
-same_writer (Some m) None = false
-same_writer (Some m) (Some n) = m == n
-
--- of each wanted cell an item has the newest such writer before it as the last one
-abbrev pub is_settled : List EventName → (CellKey → Bool) → List Item → Item → Bool
-is_settled names wanted before i = list_all (λ p. not (wanted p.0) || same_writer p.1 (newest names p.0 before)) i.lasts
-
--- so has each item that is live or of the set; those before are known
-abbrev pub settled : List EventName → (CellKey → Bool) → List Item → List Item → Bool
-settled names wanted before [] = true
-settled names wanted before (i ∷ items) = (not (stays names i) || is_settled names wanted before i) && settled names wanted (before ++ i ∷ []) items

@@ -6,5 +6,4 @@ pub mod cone;
 pub mod names;
 mod returning;
 pub mod selection;
-pub mod settled;
 pub mod theorems;

@@ -1,4 +1,4 @@
-use Rattle.std.proofs.Common.{◌≤◌, ◌∙◌, ◌&&◌, List, length, map, take, take_all, sym, ap, arith}
+use Rattle.std.proofs.Common.{◌≤◌, ◌∙◌, ◌&&◌, List, length, map, take_all, sym, ap, arith}
 use Rattle.std.specs.BTreeSet.{BTreeSet}
 use Rattle.history.specs.Journal.{is_in}
 use Rattle.ids.specs.declared.names.EventName.{EventName}
