@@ -26,7 +26,7 @@ use Rattle.desk.specs.Desks.{Lent}
 use Rattle.undo.specs.CoreView.{items_of, state_of}
 use Rattle.undo.specs.declared.undoing.Core.{Core}
 use Rattle.undo.proofs.Standing.{begins}
-use Rattle.book.specs.Books.{PlainRun}
+use Rattle.event.specs.Runs.{PlainRun}
 use Rattle.book.specs.Calls.{live_events}
 use Rattle.book.specs.Standing.{Kept, Stands}
 

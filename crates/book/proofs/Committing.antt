@@ -1,5 +1,5 @@
 -- A turn that was run is entered, and its ticket struck out.
-use Rattle.std.proofs.Common.{◌≡◌, ℕ, ◌+◌, ◌<◌, Bool, true, false, ◌||◌, List, [], ◌∷◌, ◌++◌, Option, None, Some, length, nat_lt, refl, sym, ap, ◌∙◌, subst, le_refl}
+use Rattle.std.proofs.Common.{◌≡◌, ℕ, ◌+◌, ◌<◌, true, false, List, [], ◌∷◌, ◌++◌, Option, None, Some, refl, sym, ap, ◌∙◌, subst, le_refl}
 use Rattle.std.proofs.Math.Logic.{∥∥₁_elim, ∥∥₁_map}
 use Rattle.std.proofs.Props.{props}
 use Rattle.std.proofs.lemmas.List.Elements.{Contains-push}
@@ -35,12 +35,13 @@ use Rattle.undo.specs.declared.undoing.Core.{Core}
 use Rattle.book.specs.Books.{Book}
 use Rattle.book.specs.Calls.{lent_of, Lends, IsKnown, IsFresh, EntersTurn, turn_in, Commits, TurnsNext}
 use Rattle.book.specs.Fault.{TellsCommit}
-use Rattle.book.specs.Refusals.{Refusal, first, refuse_where, refusal_of, budget_refusal, message_out, vat_out, full, journal_full, checkout_refusal}
+use Rattle.book.specs.Refusals.{refuse_where, refusal_of, budget_refusal, message_out, vat_out, full, journal_full, checkout_refusal}
 use Rattle.book.specs.Calls.{strange, changed, no_room}
 use Rattle.book.specs.Standing.{Kept, Stands}
 use Rattle.book.specs.declared.fault.BookFault.{BookFault}
 use Rattle.book.specs.declared.fault.BookFault.TheVariants as fault
 use Rattle.book.proofs.Entering.{book_with, book_enters, book_stands, kept_entered}
+use Rattle.book.proofs.Within.{neither, room_for_names}
 use Rattle.book.proofs.Tickets.{all_out, without_differ, apart_without, all_filter}
 
 -- the turn that a ticket was run for is one of the world, wherever the world is as the turn found it
@@ -95,7 +96,7 @@ module _ (old now : Core) (next : ℕ) (out : List Lent) (r : Ran) (it : Effects
   w = contents cells (state_of old)
 
   abbrev e : Event
-  e = record { name = r.carried.event; act = turn r.carried.name r.carried.budget }
+  e = record { name = r.carried.event; act = turn r.carried.vat r.carried.name r.carried.budget }
 
   module _ (brings : BringsTurn r.carried.event r.carried.name (turn_in w r) it) (is : shown now ≡ entered e r.carried.seat it.touched.items (kepts_of it.records.items) (shown old))
       (known : IsKnown (book_with old next out) r.carried) (fresh : IsFresh (book_with old next out) r) (h : Stands old next out) where
@@ -125,21 +126,9 @@ module _ (old now : Core) (next : ℕ) (out : List Lent) (r : Ran) (it : Effects
         (λ k d. kept_entered old now next next out e r.carried.seat it.touched.items (kepts_of it.records.items) f brings.brings is (le_refl next) drawn k d (free k) (without r.carried.event out)
         (all_filter _ _ out k.free) (without_differ r.carried.event out) (all_filter _ _ out k.drawn) (apart_without r.carried.event out k.apart))
 
--- the parts of a checkout that is not refused
-neither : (a b : Option Refusal) → first a b ≡ None → b ≡ None
-neither None b e = e
-neither (Some refusal) b e = cc
-
-no_room_left : (x y : Bool) → refuse_where (x || y) full ≡ None → refuse_where y full ≡ None
-no_room_left x true e = absurd (refused x e)
-  where
-    refused : (x : Bool) → refuse_where (x || true) full ≡ None → ⊥
-    refused true e = cc
-    refused false e = cc
-no_room_left x false e = refl
-
+-- a checkout that is not refused has room
 pub has_room : (b : Book) (m : MsgId) (budget : ℕ) → checkout_refusal b m budget ≡ None → journal_full b ≡ None
-has_room b m budget e = no_room_left (nat_lt 4294967295 b.next) (nat_lt 1048575 (length b.journal)) (neither (option_map (refusal_of m) (early b.world m)) _
+has_room b m budget e = room_for_names b (neither (option_map (refusal_of m) (early b.world m)) _
     (neither (refuse_where (message_out (world_message b.world m) b.out) vat_out) _ (neither (option_map (refusal_of m) (lost b.world m)) _ (neither (budget_refusal budget) _ e))))
 
 -- a ticket that was just lent and run can be refused for want of memory alone

@@ -12,7 +12,7 @@ use Rattle.event.specs.Events.{events}
 use Rattle.event.proofs.Law.{events_laws}
 use Rattle.journal.specs.Lines.{Line}
 use Rattle.causality.specs.Selections.{chosen, is_live}
-use Rattle.book.specs.Books.{PlainRun}
+use Rattle.event.specs.Runs.{PlainRun}
 use Rattle.book.specs.Calls.{SameSet, RedoNextGivesBack, undone_in, redone_in, live_events}
 use Rattle.book.proofs.Sets.{World-set}
 use Rattle.book.proofs.Undoing.{live_set_of}

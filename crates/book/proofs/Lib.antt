@@ -1,5 +1,6 @@
 pub mod Sets
 pub mod Entering
+pub mod Within
 pub mod Blank
 pub mod Seen
 pub mod Choosing
@@ -12,3 +13,4 @@ pub mod GivingBack
 pub mod Tickets
 pub mod Checkouts
 pub mod Committing
+pub mod Good

@@ -25,7 +25,7 @@ use Rattle.undo.specs.Standing.{CoreStands}
 use Rattle.undo.specs.declared.undoing.Core.{Core}
 use Rattle.undo.proofs.Standing.{redoes}
 use Rattle.desk.specs.Desks.{Lent}
-use Rattle.book.specs.Books.{PlainRun}
+use Rattle.event.specs.Runs.{PlainRun}
 use Rattle.book.specs.Calls.{Redoes, redone_in, live_events}
 use Rattle.book.specs.Refusals.{missing_refusal, live_refusal, redo_refusal, gap_refusal, still_live, cause_missing, crossed}
 use Rattle.book.specs.Standing.{Kept, Stands}

@@ -13,7 +13,7 @@ use Rattle.journal.specs.Lines.{plain, Line, entries_in, lines_of}
 use Rattle.journal.specs.Standing.{ItemsStand}
 use Rattle.journal.proofs.Reversed.{map-map, filter-map, filter-reverse, map-reverse}
 use Rattle.journal.proofs.Telling.{told_entry, entries_told}
-use Rattle.book.specs.Books.{PlainRun}
+use Rattle.event.specs.Runs.{PlainRun}
 use Rattle.book.specs.Calls.{live_events}
 
 event_of : Entry plain → Event

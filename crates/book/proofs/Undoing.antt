@@ -25,7 +25,7 @@ use Rattle.undo.specs.Standing.{CoreStands}
 use Rattle.undo.specs.declared.undoing.Core.{Core}
 use Rattle.undo.proofs.Standing.{undoes}
 use Rattle.desk.specs.Desks.{Lent}
-use Rattle.book.specs.Books.{PlainRun}
+use Rattle.event.specs.Runs.{PlainRun}
 use Rattle.book.specs.Calls.{Undoes, undone_in, live_events, rest_of}
 use Rattle.book.specs.Refusals.{missing_refusal, undone_refusal, undo_refusal, gap_refusal, not_live, not_closed}
 use Rattle.book.specs.Standing.{Kept, Stands}

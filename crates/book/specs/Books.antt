@@ -1,10 +1,6 @@
--- The book: what has happened so far, and the headline about it.
-use Rattle.std.specs.Prelude.{◌≡◌, ℕ, List, [], map, reverse}
-use Rattle.history.specs.Subject.{Run}
-use Rattle.ids.specs.declared.names.EventName.{EventName}
-use Rattle.post.specs.Events.{Event}
+-- The book: what has happened so far.
+use Rattle.std.specs.Prelude.{ℕ, List, []}
 use Rattle.post.specs.World.{World, empty}
-use Rattle.event.specs.Events.{events}
 use Rattle.journal.specs.Lines.{Line}
 use Rattle.desk.specs.Desks.{Lent}
 
@@ -18,7 +14,3 @@ pub record Book : Type 0 where
 -- nothing has happened
 abbrev pub blank : Book
 blank = record { world = empty; journal = []; next = 1; out = [] }
-
--- events in order lead from the empty world to this one, each possible where it comes
-abbrev pub PlainRun : List Event → World → Type 0
-PlainRun es w = ∥ Run events empty (reverse es) w ∥₁

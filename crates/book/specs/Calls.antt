@@ -16,13 +16,12 @@ use Rattle.heap.specs.View.{state_of}
 use Rattle.heap.specs.Found.{Found}
 use Rattle.post.specs.Events.{Event, turn}
 use Rattle.post.specs.Messages.{message_of}
-use Rattle.post.specs.Theory.{kepts_of}
 use Rattle.post.specs.declared.message.Message as code-message
 use Rattle.post.specs.World as world
 use Rattle.post.specs.World.{Message, message, at_vat, vat_state}
 use Rattle.event.specs.Events.{Foot, Does, events, InOrder, Turn, Turns, Leaves, turn_foot}
-use Rattle.event.specs.Effects.{Brings, turn_of}
-use Rattle.event.specs.declared.effects.Effects.{Effects}
+use Rattle.event.specs.Runs.{PlainRun}
+use Rattle.event.specs.Effects.{turn_of}
 use Rattle.event.specs.declared.outcome.Outcome.{Outcome}
 use Rattle.turn.specs.Tasks.{task_of}
 use Rattle.turn.specs.declared.ticket.Out.{Out}
@@ -32,7 +31,7 @@ use Rattle.journal.specs.Lines.{plain, Line, entries_in, in_order}
 use Rattle.journal.specs.Items.{exchanged}
 use Rattle.causality.specs.Selections.{name_of, is_live, chosen}
 use Rattle.desk.specs.Desks.{Lent, without}
-use Rattle.book.specs.Books.{Book, PlainRun}
+use Rattle.book.specs.Books.{Book}
 use Rattle.book.specs.Refusals.{Refusal, no_ticket, stale, full, journal_full, undo_refusal, checkout_refusal}
 
 -- the line of a new event from a seat: it is live, it has the cells that its footprint touches and writes, and as its causes the live
@@ -59,11 +58,6 @@ pub record EntersNext (e : Event) (f : Foot) (seat : ℕ) (old now : Book) : Typ
   pub drawn : now.next ≡ old.next + 1
   pub same_out : now.out ≡ old.out
   pub enters : Enters e f seat old now
-
--- what was worked out of an event that is possible: its footprint, as cells that it touches and records of what it writes
-pub record Happens (e : Event) (f : Foot) (w : world.World) (it : Effects) : Type 0 where
-  pub does : ∥ Does e w f ∥₁
-  pub brings : Brings e.name f it.touched.items (kepts_of it.records.items)
 
 -- what the book notes of a ticket
 abbrev pub lent_of : Task → Lent
@@ -117,7 +111,7 @@ pub record EntersTurn (e : EventName) (m : MsgId) (budget seat : ℕ) (t : Turn)
   pub cells : List Cell
   pub left : List (Cell × heap.Content)
   pub leaves : Leaves t cells left
-  pub enters : Enters (record { name = e; act = turn m budget }) (turn_foot e m t cells left) seat old now
+  pub enters : Enters (record { name = e; act = turn t.vat m budget }) (turn_foot e m t cells left) seat old now
 
 -- the turn that a ticket was run for
 abbrev pub turn_in : world.World → Ran → Turn

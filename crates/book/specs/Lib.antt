@@ -4,3 +4,4 @@ pub mod Calls
 pub mod Fault
 pub mod Standing
 pub mod BookView
+pub mod Good

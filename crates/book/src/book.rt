@@ -1,5 +1,5 @@
 // The book: the world, the journal that made it, the names that are not drawn yet, and the tickets that are out.
-ghost use Rattle.std.specs.Prelude.{◌≡◌, ◌≤◌, ◌+◌, ◌↔◌, List, None, Some, true, false, IsTrue, IfOk, IfErr, IfSome, OnOk, OnErr, length, filter, map};
+ghost use Rattle.std.specs.Prelude.{◌≡◌, ◌≢◌, ◌≤◌, ◌+◌, ◌↔◌, List, None, Some, true, false, IsTrue, IfOk, IfErr, IfSome, OnOk, OnErr, length, filter, map};
 ghost use Rattle.std.specs.Option.{option_map};
 ghost use Rattle.history.specs.Chains.{last_writer};
 ghost use Rattle.history.specs.Journal.{live_set};
@@ -17,21 +17,25 @@ ghost use Rattle.post.specs.Theory.{state_of_world};
 ghost use Rattle.post.specs.View.{world_of};
 ghost use Rattle.post.specs.World.{at_vat, vat, vat_named, vat_state};
 ghost use Rattle.event.specs.Events.{Foot, Turn, birth_foot, ask_foot};
+ghost use Rattle.event.specs.Effects.{Happens};
 ghost use Rattle.event.specs.Outcomes.{ended_of};
+ghost use Rattle.event.specs.Runs.{PlainRun};
 ghost use Rattle.journal.specs.Items.{item_of};
 ghost use Rattle.journal.specs.Lines.{plain, lines_of, entries_in};
 ghost use Rattle.causality.specs.Exact.{Cone};
 ghost use Rattle.causality.specs.Journals.{IsJournal};
 ghost use Rattle.causality.specs.Selections.{chosen};
+ghost use Rattle.undo.specs.CoreView.{items_of};
 ghost use Rattle.desk.specs.Desks.{is_out, without};
 ghost use Rattle.std.specs.Option.{option_map};
 ghost use Rattle.desk.specs.DeskView.{lent_of as desk_lent, out_of};
 ghost use Rattle.book.specs.Refusals.{birth_refusal, ask_refusal, checkout_refusal, full_refusal, check_refusal, taken_refusal, undo_refusal, redo_refusal, cone_refusal, exchange_refusal, budget_refusal, refusal_of, full, journal_full};
-ghost use Rattle.book.specs.Books.{blank, PlainRun};
-ghost use Rattle.book.specs.Calls.{Happens, EntersNext, Admitted, TurnsNext, lent_of, Lends, Commits, IsKnown, IsFresh, Undoes, Redoes, Exchanges, StoodAt, live_events};
+ghost use Rattle.book.specs.Books.{blank};
+ghost use Rattle.book.specs.Calls.{EntersNext, Admitted, TurnsNext, lent_of, Lends, Commits, IsKnown, IsFresh, Undoes, Redoes, Exchanges, StoodAt, live_events};
 ghost use Rattle.book.specs.Fault.{Tells, TellsCommit, Unturned};
 ghost use Rattle.book.specs.Standing.{Stands};
-ghost use Rattle.book.specs.declared.fault.BookFault.TheVariants.{NoTicket, Stale, Full};
+ghost use Rattle.book.specs.declared.book.TheConstants.{MOST_ENTRIES};
+ghost use Rattle.book.specs.declared.fault.BookFault.TheVariants.{NoTicket, Stale, Full, Memory};
 
 use crate::fault::BookFault;
 use crate::selecting::{check_cone, check_exchange, check_redo, check_undo};
@@ -63,7 +67,7 @@ use undo::undoing::{Core, Deed};
 const LAST_NAME: u64 = 4_294_967_295;
 
 /// The most entries that a journal may have.
-const MOST_ENTRIES: usize = 1_048_576;
+pub const MOST_ENTRIES: usize = 1_048_576;
 
 /// The most steps that a turn may be given.
 const MOST_STEPS: u32 = 1_000_000;
@@ -85,8 +89,9 @@ pub struct Book {
     core: Core,
     next: u64,
     desk: Desk,
-    ghost in_range: { next ≤ 4294967296 },
-    ghost stands: { Stands core next (out_of desk) },
+    pub ghost in_range: { next ≤ 4294967296 },
+    pub ghost stands: { Stands core next (out_of desk) },
+    pub ghost within: { length (items_of core) ≤ MOST_ENTRIES },
 }
 
 fn check_program(alloc: Global, program: &Program, outer: &Outer) -> Result<(), BookFault>
@@ -213,6 +218,7 @@ impl Book {
     fn enter(&mut self, event: Event, effects: Effects) -> Result<(), AllocError>
         requires named { event.name.0 ≡ self.old.next }
         requires in_range { self.old.next ≤ 4294967295 }
+        requires room { full_refusal (book_of self.old) ≡ None }
         requires possible { (f : Foot) × Happens (event_of event) f (book_of self.old).world effects }
         ensures ok { OnOk result ((f : Foot) → Happens (event_of event) f (book_of self.old).world effects → EntersNext (event_of event) f 0 (book_of self.old) (book_of self.new)) }
         ensures unchanged { OnErr result (book_of self.new ≡ book_of self.old) }
@@ -350,7 +356,7 @@ impl Book {
         budget: u32,
         seat: u64,
     ) -> Result<Ticket<Out>, BookFault>
-        ensures ok { IfOk result (λ t. (checkout_refusal (book_of self.old) message budget ≡ None) × Lends message budget seat t.stage (book_of self.old) (book_of self.new)) }
+        ensures ok { IfOk result (λ t. (checkout_refusal (book_of self.old) message budget ≡ None) × Lends message budget seat t (book_of self.old) (book_of self.new)) }
         ensures err { IfErr result (λ fault. Tells fault (checkout_refusal (book_of self.old) message budget)) }
         ensures unchanged { OnErr result (book_of self.new ≡ book_of self.old) }
     {
@@ -438,7 +444,11 @@ impl Book {
         )?;
         let event = Event {
             name: out.event,
-            action: Action::Turn(out.name, out.budget),
+            action: Action::Turn {
+                vat: out.vat,
+                message: out.name,
+                budget: out.budget,
+            },
         };
         let deed = Deed {
             event,
@@ -455,8 +465,8 @@ impl Book {
     /// # Errors
     /// `NoTicket`, `Stale`, `Full`, `Memory`, tried in this order.
     pub fn commit(&mut self, ticket: Ticket<Ran>) -> Result<EventName, (Ticket<Ran>, BookFault)>
-        ensures ok { IfOk result (λ e. (e ≡ ticket.stage.carried.event) × Commits ticket.stage (book_of self.old) (book_of self.new)) }
-        ensures err { IfErr result (λ r. TellsCommit r.1 (book_of self.old) ticket.stage) }
+        ensures ok { IfOk result (λ e. (e ≡ ticket.carried.event) × Commits ticket (book_of self.old) (book_of self.new)) }
+        ensures err { IfErr result (λ r. TellsCommit r.1 (book_of self.old) ticket) }
         ensures back { IfErr result (λ r. r.0 ≡ ticket) }
         ensures unchanged { OnErr result (book_of self.new ≡ book_of self.old) }
     {
@@ -567,10 +577,11 @@ impl Book {
     /// one that stood first.
     ///
     /// # Errors
-    /// `NoPosition`, `NotLive`, `Dependent`, tried in this order.
+    /// `NoPosition`, `NotLive`, `Dependent`, tried in this order. It takes no memory, so it never wants any.
     pub fn exchange(&mut self, position: usize) -> Result<(EventName, EventName), BookFault>
         ensures ok { IfOk result (λ r. (exchange_refusal (book_of self.old).journal position ≡ None) × Exchanges position (book_of self.old) (book_of self.new) × StoodAt position (book_of self.old).journal r.0 r.1) }
         ensures err { IfErr result (λ fault. Tells fault (exchange_refusal (book_of self.old).journal position)) }
+        ensures without_memory { IfErr result (λ fault. fault ≢ Memory) }
         ensures unchanged { OnErr result (book_of self.new ≡ book_of self.old) }
     {
         let (first, second) = check_exchange(self.core.entries(), position)?;

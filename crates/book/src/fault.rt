@@ -8,12 +8,12 @@ use ids::names::{EventName, MsgId};
 use ids::text::Text;
 use scopes::CheckFault;
 use std::alloc::{AllocError, AllocFailed};
-use std::error::Error;
 use std::fmt;
 use std::fmt::{Debug, Display, Formatter, Write};
+use thiserror::Error;
 
 /// Why a call of the book is refused. The book is then as it was.
-#[derive(Drop)]
+#[derive(Drop, Error)]
 pub enum BookFault {
     /// No vat has this name.
     NoVat(Text),
@@ -111,8 +111,6 @@ impl Debug for BookFault {
         Display::fmt(self, f)
     }
 }
-
-impl Error for BookFault {}
 
 impl From<AllocError> for BookFault {
     ghost from_gives = { λ _ e. e ≡ Memory };

@@ -1,10 +1,11 @@
 // What may be undone, redone and exchanged, and what goes with an event that is undone.
-ghost use Rattle.std.specs.Prelude.{◌≡◌, ◌+◌, ◌<◌, None, IfOk, IfErr, OnOk, length, map};
+ghost use Rattle.std.specs.Prelude.{◌≡◌, ◌≢◌, ◌+◌, ◌<◌, None, IfOk, IfErr, OnOk, length, map};
 ghost use Rattle.journal.specs.Items.{item_of};
 ghost use Rattle.journal.specs.Lines.{lines_of};
 ghost use Rattle.causality.specs.Journals.{IsJournal};
 ghost use Rattle.book.specs.Calls.{StoodAt};
 ghost use Rattle.book.specs.Fault.{Tells};
+ghost use Rattle.book.specs.declared.fault.BookFault.TheVariants.{Memory};
 ghost use Rattle.book.specs.Refusals.{first, missing_refusal, undone_refusal, live_refusal, undo_refusal, redo_refusal, cone_refusal, exchange_refusal, refuse_where, not_live, placed_refusal};
 
 use crate::fault::BookFault;
@@ -100,6 +101,7 @@ pub(crate) fn check_exchange(
     ensures stood { IfOk result (λ r. StoodAt position (lines_of (map item_of entries.now)) r.0 r.1) }
     ensures ok { OnOk result (placed_refusal (lines_of (map item_of entries.now)) position ≡ None) }
     ensures err { IfErr result (λ fault. Tells fault (placed_refusal (lines_of (map item_of entries.now)) position)) }
+    ensures without_memory { IfErr result (λ fault. fault ≢ Memory) }
 {
     let Some(place) = position.checked_sub(1) else {
         return Err(BookFault::NoPosition(0));

@@ -1,7 +1,17 @@
-// The last claim of the headline.
+// What holds of books.
 ghost use Rattle.book.specs.Calls.{RedoNextGivesBack};
+ghost use Rattle.book.specs.Good.{IsGood};
+ghost use Rattle.book.specs.BookView.{book_of};
+
+use crate::book::Book;
 
 /// A redo of what was just undone gives back the former journal and world.
 pub fn redo_next_gives_back()
     ensures { RedoNextGivesBack }
+{}
+
+/// The journal of every book is good: names are apart and were drawn, causes are older entries, the live entries have their causes among
+/// the live ones, and no others, the cells of the live ones are those of the plain run, and there are no more than a journal may have.
+pub fn journals_are_good(book: &Book)
+    ensures { IsGood (book_of book.now) }
 {}

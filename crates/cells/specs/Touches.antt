@@ -1,6 +1,6 @@
 -- What was touched of cells.
 use Rattle.std.specs.Prelude.{ℕ, Bool, List, Option, Some, None}
-use Rattle.indexmap.specs.IndexMap.{get, index_map_len}
+use Rattle.indexmap.specs.IndexMap.{get, index_map_len, IsUnique}
 use Rattle.cells.specs.declared.touches.Touch.{Touch}
 use Rattle.cells.specs.declared.touches.Touches.{Touches}
 
@@ -21,7 +21,6 @@ touched_list s = s.touches.entries
 abbrev pub touched_count : {K V : Type 0} → Touches K V → ℕ
 touched_count s = index_map_len s.touches
 
--- what stands in a cell that held this, once what is known of it was written there
-abbrev pub rewritten : {V : Type 0} → Option (Touch V) → Option V → Option V
-rewritten None held = held
-rewritten (Some t) held = standing held t.written
+-- each cell is listed once
+abbrev pub IsListedOnce : {K V : Type 0} → (K → K → Bool) → Touches K V → Type 0
+IsListedOnce eq s = IsUnique eq s.touches

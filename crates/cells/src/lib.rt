@@ -6,4 +6,3 @@ pub mod listing;
 pub mod store;
 pub mod swaps;
 pub mod touches;
-pub mod writing;

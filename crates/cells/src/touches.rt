@@ -1,6 +1,5 @@
 // The cells that a turn touches, with what it found there and what it wrote.
-ghost use Rattle.std.specs.Prelude.{◌≡◌, cond, true, ◌<◌, None, Some, is_some, IfSome, IfNone, IfErr, OnOk, OnErr, slice_get};
-ghost use Rattle.indexmap.specs.IndexMap.{IsUnique};
+ghost use Rattle.std.specs.Prelude.{◌≡◌, cond, true, ◌<◌, None, Some, is_some, IfErr, OnOk, OnErr, slice_get};
 ghost use Rattle.std.specs.Option.{option_copied};
 ghost use Rattle.cells.specs.declared.touches.Touch.{Touch};
 
@@ -37,7 +36,7 @@ impl<V> Touch<V> {
 }
 
 impl<K: Key + Drop, V: Drop> Touches<K, V> {
-    ghost use Rattle.cells.specs.Touches.{touch, touched_count, touched_list};
+    ghost use Rattle.cells.specs.Touches.{touch, touched_count, touched_list, IsListedOnce};
 
     /// Nothing was touched.
     pub fn new(alloc: Global) -> Touches<K, V>
@@ -94,7 +93,7 @@ impl<K: Key + Drop, V: Drop> Touches<K, V> {
     /// How many cells were touched.
     pub fn len(&self) -> usize
         ensures count { result ≡ touched_count self.now }
-        ensures unique { IsUnique K.eq self.now.touches }
+        ensures unique { IsListedOnce K.eq self.now }
     {
         self.touches.len()
     }
@@ -108,15 +107,5 @@ impl<K: Key + Drop, V: Drop> Touches<K, V> {
             Some(found) => found,
             None => unreachable!(),
         }
-    }
-
-    /// Takes one of the cells out, the last one.
-    pub fn pop(&mut self) -> Option<(K, Touch<V>)>
-        ensures taken { IfSome result (λ p. (q : K) → touch K.eq self.old q ≡ cond (K.eq p.0 q) (Some p.1) (touch K.eq self.new q)) }
-        ensures gone { IfSome result (λ p. (q : K) → K.eq p.0 q ≡ true → touch K.eq self.new q ≡ None) }
-        ensures fewer { IfSome result (λ p. touched_count self.new < touched_count self.old) }
-        ensures none { IfNone result ((q : K) → touch K.eq self.old q ≡ None) }
-    {
-        self.touches.pop()
     }
 }

@@ -10,9 +10,9 @@ use crate::words::{cut_word, skip_blanks};
 use etoken::names::is_name;
 use ids::names::{EventName, MsgId};
 use std::alloc::{AllocError, Global};
-use std::error::Error;
 use std::fmt;
 use std::fmt::{Debug, Display, Formatter, Write};
+use thiserror::Error;
 
 /// The most script lines that a vat may have.
 const MOST_LINES: u32 = 4_096;
@@ -40,7 +40,7 @@ pub enum Command<'a> {
 }
 
 /// Why a line is no command.
-#[derive(Clone, Copy)]
+#[derive(Clone, Copy, Error)]
 pub enum LineFault {
     UnknownCommand,
     /// A wrong count or form of words, a number out of range, or bytes that are no text.
@@ -68,8 +68,6 @@ impl Debug for LineFault {
         Display::fmt(self, f)
     }
 }
-
-impl Error for LineFault {}
 
 /// Whether a word is a name that a vat may have.
 fn is_vat_name(word: &str) -> bool

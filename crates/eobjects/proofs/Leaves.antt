@@ -52,7 +52,7 @@ noun_leaf a e x v is h = λ k n. subst (λ t. Runs k t (record a { left = n }) (
 pub leaf_fits : (a : At) (e : Code) {v : Val} (es : List Code) → Leaf a (tree_of_code e) v → fits_all a.own_scope (after a.own_scope (tree_of_code e) (frame_of a.nouns)) es → all_fit_at a es
 leaf_fits a e es leaf h = all_fit_then {k = 1} {t = tree_of_code e} {a = record a { left = 1 }} {b = record a { left = 0 }} refl (at_node (omega arith) (omega arith) (leaf 1 0)) h
 
-leaf_ends : (a : At) (t : Tree) (v : Val) (k n : ℕ) → Leaf a t v → 0 < n → k ≤ 1000 → Ends k t (record a { left = n }) (value v) (record a { left = n - 1 })
+pub leaf_ends : (a : At) (t : Tree) (v : Val) (k n : ℕ) → Leaf a t v → 0 < n → k ≤ 1000 → Ends k t (record a { left = n }) (value v) (record a { left = n - 1 })
 leaf_ends a t v k n leaf some deep = at_node some deep (leaf k (n - 1))
 
 twice : (n : ℕ) → n - 1 - 1 ≡ n - 2

@@ -4,3 +4,4 @@ mod Places
 mod Leaves
 mod Drafted
 mod Ending
+mod Sent

@@ -1,13 +1,14 @@
 -- What is evaluated without an end: leaves, and calls on them.
-use Rattle.std.specs.Prelude.{◌≡◌, ◌≤◌, ◌<◌, ◌-◌, ℕ, ℤ, Some, List, drop}
+use Rattle.std.specs.Prelude.{◌≡◌, ◌≤◌, ◌<◌, ◌+◌, ◌-◌, ℕ, ℤ, Some, List, drop, true}
+use Rattle.ids.specs.declared.names.EjId.{EjId}
 use Rattle.kernele.specs.Tree.{Name, Tree, Trees, none, and_then}
 use Rattle.code.specs.View.{trees_of_codes}
 use Rattle.code.specs.declared.code.Code.{Code}
 use Rattle.values.specs.Data.{Val, int, null}
 use Rattle.heap.specs.State.{Bind}
 use Rattle.erules.specs.At.{At}
-use Rattle.erules.specs.Outcomes.{End, value}
-use Rattle.erules.specs.Rules.{sought, seeking, noun_end, noun_read, Ends, Items, Runs}
+use Rattle.erules.specs.Outcomes.{End, value, halt}
+use Rattle.erules.specs.Rules.{sought, seeking, noun_end, noun_read, same_ejector, is_open, ejects, Ends, Items, Runs}
 
 -- a name stands for this, and to seek it touches no cell that was not touched before
 abbrev pub StandsAtHand : Name → Bind → At → Type 0
@@ -32,3 +33,12 @@ AtHand a t steps v = (k n : ℕ) → k < 1000 → steps ≤ n → Ends k t (reco
 -- the first n items of a block gave values: what those behind them do, after the last of these values, is what all do
 abbrev pub GoesOn : ℕ → List Code → ℕ → At → At → Type 0
 GoesOn k items n a b = (v : Val) × ((o : End) (c : At) → Items k v (trees_of_codes (drop n items)) b o c → Items k null (trees_of_codes items) a o c)
+
+-- what a call on an ejector with one argument ends with, by how the argument ended
+abbrev pub sent : EjId → List EjId → End → End
+sent i is (value v) = ejects (is_open i is) i v
+sent i is (halt h) = halt h
+
+-- a tree calls an ejector that is the same as this one, with one argument: two steps on, it ends as that argument ends, and there
+abbrev pub Returns : ℕ → At → EjId → Tree → Tree → Type 0
+Returns k a j t arg = (i : EjId) × (same_ejector j i ≡ true) × ((o : End) (b : At) → Ends (k + 1) arg (record a { left = a.left - 2 }) o b → Ends k t a (sent i b.opened o) b)

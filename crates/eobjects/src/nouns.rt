@@ -161,7 +161,7 @@ fn match_all(w: &mut Working, patterns: &[Pattern], values: &[Value]) -> Result<
 }
 
 /// Binds a name in the innermost scope.
-fn bind(w: &mut Working, name: &Text, binding: Binding) -> Result<(), AllocError>
+pub fn bind(w: &mut Working, name: &Text, binding: Binding) -> Result<(), AllocError>
     ensures { OnOk result (at w.new ≡ binding_of name.now (bind_of binding) (at w.old)) }
 {
     if w.own_scope {

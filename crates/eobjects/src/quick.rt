@@ -168,7 +168,7 @@ fn integer_at(w: &Working, e: &Code) -> Option<i64>
 
 /// What a name stands for, if that is in a scope or its top noun was touched before.
 #[inline(always)]
-fn peek<'a>(w: &'a Working, name: &Text, place: Place) -> Option<&'a Binding>
+pub(crate) fn peek<'a>(w: &'a Working, name: &Text, place: Place) -> Option<&'a Binding>
     requires { place ≡ place_in (frame_at (at w.now)) name.now }
     ensures { IfSome result (λ b. StandsAtHand name.now (bind_of b.now) (at w.now)) }
 {

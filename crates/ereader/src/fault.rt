@@ -8,9 +8,10 @@ ghost use Rattle.ereader.specs.Texts.{refusal_of};
 use etoken::fault::TokenFault;
 use std::alloc::{AllocError, AllocFailed};
 use std::fmt;
+use thiserror::Error;
 
 /// Why a text is not read. An offset counts the text's bytes.
-#[derive(Drop)]
+#[derive(Drop, Error)]
 pub enum ReadFault {
     /// No token begins here.
     BadCharacter(usize),
@@ -50,6 +51,12 @@ impl fmt::Display for ReadFault {
             ReadFault::Memory => f.write_str("L7 Memory"),
             ReadFault::TooLong => f.write_str("L8 TooLong"),
         }
+    }
+}
+
+impl fmt::Debug for ReadFault {
+    fn fmt<W: fmt::Write>(&self, f: &mut fmt::Formatter<W>) -> fmt::Result {
+        fmt::Display::fmt(self, f)
     }
 }
 

@@ -1,11 +1,13 @@
 pub mod Added
 pub mod Captures
+pub mod Counted
 pub mod Determined
 pub mod Ejections
 pub mod Ejectors
 pub mod Fitting
 pub mod Framed
 pub mod Grown
+pub mod Kept
 pub mod Opened
 pub mod Patterns
 pub mod Reached
@@ -13,4 +15,5 @@ pub mod Seeking
 pub mod Scopes
 pub mod Spent
 pub mod Steps
+pub mod Total
 pub mod Locals

@@ -17,11 +17,11 @@ bound_left : (own : Bool) (x : Name) (b : Bind) (a : At) → (bound_in own x b a
 bound_left true x b a = refl
 bound_left false x b a = refl
 
-matched_left : (p : Pattern) (v : Val) (a : At) → (matched p v a).left ≡ a.left
+pub matched_left : (p : Pattern) (v : Val) (a : At) → (matched p v a).left ≡ a.left
 matched_left (pattern.Name x) v a = bound_left a.own_scope x (fixed v) a
 matched_left pattern.Ignore v a = refl
 
-defined_left : (p : Pattern) (o : End) (a : At) → (defined p o a).left ≡ a.left
+pub defined_left : (p : Pattern) (o : End) (a : At) → (defined p o a).left ≡ a.left
 defined_left p (value v) a = matched_left p v a
 defined_left p (halt h) a = refl
 
@@ -30,7 +30,7 @@ all_left [] vs a = refl
 all_left (p ∷ ps) no_vals a = refl
 all_left (p ∷ ps) (and_val v vs) a = all_left ps vs (matched p v a) ∙ matched_left p v a
 
-parts_left : (ps : List Pattern) (l : Listing) (a : At) → (parts_bound ps l a).left ≡ a.left
+pub parts_left : (ps : List Pattern) (l : Listing) (a : At) → (parts_bound ps l a).left ≡ a.left
 parts_left ps (listed vs) a = all_left ps vs a
 parts_left ps (unlisted o) a = refl
 
@@ -38,7 +38,7 @@ made_left : (room : Bool) (x : Name) (v : Val) (a : At) → (variable_made room 
 made_left true x v a = bound_left a.own_scope x (slot (next_slot a)) (slot_made v a)
 made_left false x v a = refl
 
-declared_left : (x : Name) (o : End) (a : At) → (declared x o a).left ≡ a.left
+pub declared_left : (x : Name) (o : End) (a : At) → (declared x o a).left ≡ a.left
 declared_left x (value v) a = made_left (has_room a) x v a
 declared_left x (halt h) a = refl
 
@@ -46,7 +46,7 @@ slot_left : (v : Val) (i : Option SlotId) (a : At) → (slot_put v i a).left ≡
 slot_left v (Some i) a = refl
 slot_left v None a = refl
 
-assigned_left : (x : Name) (o : End) (a : At) → (assigned x o a).left ≡ a.left
+pub assigned_left : (x : Name) (o : End) (a : At) → (assigned x o a).left ≡ a.left
 assigned_left x (value v) a = slot_left v (sought_slot x a) (seeking x a) ∙ ap (λ b. b.left) (seeking_reads x a)
 assigned_left x (halt h) a = refl
 
@@ -54,7 +54,7 @@ placed_left : (room : Bool) (p : Pattern) (o : Object) (a : At) → (placed room
 placed_left true p o a = matched_left p (object (next_object a)) (object_made o a)
 placed_left false p o a = refl
 
-object_left : (p : Pattern) (ms : Methods) (c : Capture) (a : At) → (with_object p ms c a).left ≡ a.left
+pub object_left : (p : Pattern) (ms : Methods) (c : Capture) (a : At) → (with_object p ms c a).left ≡ a.left
 object_left p ms (captured ns) a = placed_left (has_object_room a) p (record { own = p; captured = ns; methods = ms }) a
 object_left p ms (missing x) a = refl
 

@@ -1,5 +1,5 @@
 -- The laws of evaluation.
-use Rattle.std.specs.Prelude.{◌≡◌, ℕ, ◌≤◌, ◌++◌, true, false, cond}
+use Rattle.std.specs.Prelude.{◌≡◌, ℕ, ◌+◌, ◌≤◌, ◌++◌, true, false, cond}
 use Rattle.ids.specs.declared.names.EjId.{EjId}
 use Rattle.kernele.specs.Tree.{Tree}
 use Rattle.values.specs.Data.{Val}
@@ -8,6 +8,7 @@ use Rattle.heap.specs.State.{Nouns, frame_of, Cell, State, Cells}
 use Rattle.erules.specs.At.{At}
 use Rattle.erules.specs.Outcomes.{End, value, ejected, halt}
 use Rattle.erules.specs.Rules.{Ends, is_open}
+use Rattle.erules.specs.Derivations.{nodes, deepest}
 
 -- the same place in another state, of a turn that began with yet another one
 abbrev pub in_state : State → State → At → At
@@ -28,6 +29,10 @@ with_cells q t s = λ c. cond (q c) (t c) (s c)
 -- a tree has at most one outcome: one end, one state, the same names, steps left and cells touched
 abbrev pub AtMostOneOutcome : Type 0
 AtMostOneOutcome = (k : ℕ) (t : Tree) (a b c : At) (o p : End) → Ends k t a o b → Ends k t a p c → (o ≡ p) × (b ≡ c)
+
+-- and it has one: whatever is evaluated ends, at the budget at the latest
+abbrev pub EachTreeHasAnOutcome : Type 0
+EachTreeHasAnOutcome = (k : ℕ) (t : Tree) (a : At) → (o : End) × (b : At) × Ends k t a o b
 
 -- what was touched before a tree is touched behind it, and what was written is written;
 -- and where all that was written was touched, all that is written is touched
@@ -57,6 +62,23 @@ BeginningStays = (k : ℕ) (t : Tree) (a b : At) (o : End) → Ends k t a o b �
 -- a tree gives no step back
 abbrev pub StepsOnlyFall : Type 0
 StepsOnlyFall = (k : ℕ) (t : Tree) (a b : At) (o : End) → Ends k t a o b → b.left ≤ a.left
+
+-- it takes a step for each node that begins
+abbrev pub StepsAreNodes : Type 0
+StepsAreNodes = (k : ℕ) (t : Tree) (a b : At) (o : End) (r : Ends k t a o b) → nodes r + b.left ≡ a.left
+
+-- no node runs past level 1,000
+abbrev pub NoneRunsTooDeep : Type 0
+NoneRunsTooDeep = (k : ℕ) (t : Tree) (a b : At) (o : End) (r : Ends k t a o b) → deepest r ≤ 1000
+
+-- a turn has made at most 4,096 slots and as many objects
+pub record IsWithinRoom (a : At) : Type 0 where
+  pub slots : a.slots ≤ 4096
+  pub objects : a.objects ≤ 4096
+
+-- and so it is behind a tree where it was before
+abbrev pub RoomIsKept : Type 0
+RoomIsKept = (k : ℕ) (t : Tree) (a b : At) (o : End) → Ends k t a o b → IsWithinRoom a → IsWithinRoom b
 
 -- a tree takes no name from the scopes and puts none behind another: it only adds newer ones
 abbrev pub NamesAreOnlyAdded : Type 0

@@ -1,5 +1,5 @@
 // Escapes: ejectors are made, end their Escape, and are spent behind it.
-ghost use Rattle.std.specs.Prelude.{◌≡◌, ◌<◌, ◌+◌, IfOk, take};
+ghost use Rattle.std.specs.Prelude.{◌≡◌, ◌<◌, ◌+◌, IfOk, OnErr, take};
 ghost use Rattle.std.specs.Option.{option_map};
 ghost use Rattle.values.specs.View.{val_of, vals_of};
 ghost use Rattle.erules.specs.Rules.{next_ejector, escaping, escape_end as escape_end_of, is_open as is_open_of, ejects, given as given_of, ejector_end as ejector_end_of};
@@ -15,11 +15,12 @@ use std::sync::Arc;
 use values::value::Value;
 use values::verb::Verb;
 
-/// Makes the turn's next ejector and begins its Escape.
+/// Makes the turn's next ejector and begins its Escape. Without memory nothing changes.
 pub fn open_escape(w: &mut Working) -> Result<EjId, AllocError>
     requires { w.old.ejectors + w.old.steps < 4294967295 }
     ensures named { IfOk result (λ j. j ≡ next_ejector (at w.old)) }
     ensures place { IfOk result (λ j. at w.new ≡ escaping (at w.old)) }
+    ensures err { OnErr result (at w.new ≡ at w.old) }
 {
     let ejector = w.draft.ejector(w.ejectors);
     w.opened.push(ejector)?;

@@ -9,7 +9,8 @@ use std::alloc::Global;
 /// The deepest level at which a node may begin.
 pub const DEEPEST: u32 = 1000;
 
-/// A turn under way, on a copy of its vat's state that it changes in place.
+/// A turn under way, on a copy of its vat's state that it changes in place. Where a call that works on it fails for want of memory,
+/// the turn is let go, and no contract says where it then stands, but that of `open_escape`.
 #[derive(Drop)]
 pub struct Working {
     pub alloc: Global,

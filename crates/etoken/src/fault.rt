@@ -5,12 +5,12 @@ ghost use Rattle.etoken.specs.declared.fault.TokenFault.TheVariants.{Memory};
 ghost use Rattle.etoken.specs.Fault.{fault_text};
 
 use std::alloc::{AllocError, AllocFailed};
-use std::error::Error;
 use std::fmt;
 use std::fmt::{Debug, Display, Formatter, Write};
+use thiserror::Error;
 
 /// Why a text has no tokens. Each number is an offset, in bytes of the text.
-#[derive(Drop)]
+#[derive(Drop, Error)]
 pub enum TokenFault {
     /// No token begins here.
     BadCharacter(usize),
@@ -53,8 +53,6 @@ impl Debug for TokenFault {
         Display::fmt(self, f)
     }
 }
-
-impl Error for TokenFault {}
 
 impl From<AllocError> for TokenFault {
     ghost from_gives = { λ _ f. f ≡ Memory };

@@ -1,3 +1,4 @@
 pub mod Entered
 pub mod Halted
+pub mod Returning
 pub mod Sides

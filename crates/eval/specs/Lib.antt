@@ -1,3 +1,4 @@
+pub mod Escaping
 pub mod Halting
 pub mod Leading
 pub mod Sides

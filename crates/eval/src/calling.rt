@@ -1,30 +1,35 @@
 // Calls and Escapes in the evaluation: a method's block runs in the turn, and so does an Escape's.
 ghost use Rattle.std.specs.Prelude.{◌≡◌, ◌≤◌, ◌<◌, ◌+◌, ◌++◌, ◌∷◌, [], false, IfOk};
 ghost use Rattle.kernele.specs.Tree.{call, escape_tree, none, and_then};
+ghost use Rattle.kernele.specs.declared.tree.Pattern.TheVariants as pattern;
 ghost use Rattle.code.specs.Frames.{fits_all};
 ghost use Rattle.erules.specs.Fits.{fits_at, all_fit_at, frame_at, frame_behind};
 ghost use Rattle.code.specs.View.{tree_of_code, trees_of_codes};
-ghost use Rattle.values.specs.Data.{null};
+ghost use Rattle.values.specs.Data.{null, ejector as ejector_value};
 ghost use Rattle.erules.specs.At.{At};
 ghost use Rattle.values.specs.View.{val_of};
-ghost use Rattle.erules.specs.Rules.{Runs, Items, inside, leaving};
+ghost use Rattle.erules.specs.Rules.{Runs, Items, Taking, inside, leaving};
 ghost use Rattle.erules.specs.Locals.{locals_of};
 ghost use Rattle.erules.specs.View.{at, end_of};
 ghost use Rattle.eobjects.specs.View.{target_view};
+ghost use Rattle.eval.specs.Escaping.{Escapes, IsNewest};
 ghost use Rattle.eval.specs.Leading.{Leads};
 
-use crate::control::eval_taking;
-use crate::eval::{eval, eval_args, eval_items};
+use crate::eval::{eval, eval_args, eval_item, eval_items};
 use code::code::Code;
 use eobjects::calls::{call_target, enter_method, leave_method, value_target};
+use eobjects::nouns::bind;
 use eobjects::objects::Target;
 use eobjects::quick::quick_value;
+use eobjects::returns::returned;
+use erules::blocks::{enter, leave};
 use erules::end::End;
 use erules::entry::Entry;
 use erules::escapes::{close_escape, escape_end, open_escape};
 use erules::working::Working;
+use heap::state::Binding;
+use ids::names::EjId;
 use ids::text::Text;
-use kernele::tree::Pattern;
 use std::alloc::AllocError;
 use std::slice;
 use std::sync::Arc;
@@ -150,8 +155,56 @@ pub(crate) fn eval_escape(
 {
     let outer = w.opened.len();
     let ejector = open_escape(w)?;
-    let pattern = Pattern::Name(name.share()?);
-    let ended = eval_taking(w, &pattern, &Value::Ejector(ejector), body, level + 1)?;
+    let end = eval_naming(w, name, ejector, body, level + 1)?;
     close_escape(w, outer);
-    escape_end(ejector, ended)
+    Ok(end)
+}
+
+/// Evaluates an Escape's block, in whose own scope a name stands for its ejector, and ends the Escape.
+#[cycle(evaluate)]
+fn eval_naming(
+    w: &mut Working,
+    name: &Text,
+    ejector: EjId,
+    items: &[Code],
+    level: u32,
+) -> Result<End, AllocError>
+    requires level { level ≤ 1001 }
+    requires fits { fits_all false (frame_at (at w.old) ++ name.now ∷ []) items.now }
+    requires newest { IsNewest ejector (at w.old) }
+    ensures { IfOk result (λ r. Escapes r ejector (λ o. Taking level (pattern.Name name.now) (ejector_value ejector) (trees_of_codes items.now) (at w.old) o (at w.new))) }
+{
+    let outer = enter(w);
+    bind(w, name, Binding::Fixed(Value::Ejector(ejector)))?;
+    let end = eval_returning(w, ejector, items, level)?;
+    leave(w, outer);
+    Ok(end)
+}
+
+/// Evaluates the items of an Escape's block in order, and ends the Escape. What one of them returns is its value at once.
+#[cycle(evaluate)]
+fn eval_returning(
+    w: &mut Working,
+    ejector: EjId,
+    items: &[Code],
+    level: u32,
+) -> Result<End, AllocError>
+    requires level { level ≤ 1001 }
+    requires fits { all_fit_at (at w.old) items.now }
+    requires newest { IsNewest ejector (at w.old) }
+    ensures { IfOk result (λ r. Escapes r ejector (λ o. Items level null (trees_of_codes items.now) (at w.old) o (at w.new))) }
+{
+    let mut last = Value::Null;
+    for item in items {
+        if let Some(given) = returned(w, ejector, item, level) {
+            w.steps -= 2;
+            let ended = eval(w, given, level + 1)?;
+            return escape_end(ejector, ended);
+        }
+        match eval_item(w, item, level)? {
+            End::Value(v) => last = v,
+            End::Halt(halt) => return escape_end(ejector, End::Halt(halt)),
+        }
+    }
+    Ok(End::Value(last))
 }

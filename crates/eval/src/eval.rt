@@ -151,7 +151,7 @@ pub fn eval_items(w: &mut Working, items: &[Code], level: u32) -> Result<End, Al
 /// Evaluates an item of a block. One that assigns what integers at hand give needs no end for its right side.
 #[cycle(evaluate)]
 #[inline(always)]
-fn eval_item(w: &mut Working, item: &Code, level: u32) -> Result<End, AllocError>
+pub(crate) fn eval_item(w: &mut Working, item: &Code, level: u32) -> Result<End, AllocError>
     requires { fits_at (at w.old) item.now }
     ensures { IfOk result (λ o. Ends level (tree_of_code item.now) (at w.old) (end_of o) (at w.new)) }
 {

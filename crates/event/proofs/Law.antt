@@ -1,7 +1,7 @@
 -- Each kind of event obeys the law of undo: it depends on no cell but those that it touches, and does one thing in one world.
-use Rattle.std.proofs.Common.{◌≡◌, ℕ, true, cond, not, ◌||◌, List, [], ◌∷◌, ◌++◌, map, Option, Some, None, unwrap_or, refl, sym, ap, ap₂, ◌∙◌, subst}
+use Rattle.std.proofs.Common.{◌≡◌, ℕ, Bool, true, false, cond, not, ◌||◌, List, [], ◌∷◌, ◌++◌, map, Option, Some, None, unwrap_or, refl, sym, ap, ap₂, ◌∙◌, subst}
 use Rattle.std.specs.List.{list_any, AllByRecursion}
-use Rattle.std.proofs.lemmas.Bool.{and_parts, or_left, or_right}
+use Rattle.std.proofs.lemmas.Bool.{and_parts, or_left, or_right, false≢true}
 use Rattle.std.proofs.lemmas.List.Folds.{list_any-append}
 use Rattle.history.specs.Subject.{Laws, Agree, Alike, touches, new}
 use Rattle.history.proofs.Lists.{all_map, all_both}
@@ -14,7 +14,7 @@ use Rattle.ids.proofs.CellKeys.{same_exact, same_self}
 use Rattle.heap.specs.State as heap
 use Rattle.heap.specs.State.{Cell, Cells, State, same_cell}
 use Rattle.erules.specs.Laws.{AgreeOn, with_cells}
-use Rattle.post.specs.Events.{turn, Event}
+use Rattle.post.specs.Events.{Act, birth, ask, turn, Event}
 use Rattle.post.specs.World.{Vat, Place, at_vat, done, Message, Content, World, vat_in, message_in, cell_content, lives_in, cell_key, vat_state, done_in}
 use Rattle.event.specs.Touched.{delivery_touched, delivery_written}
 use Rattle.event.specs.Events.{Foot, Turn, Turns, Leaves, DeliversOn, InOrder, awaited, is_abandoned, done_and_published, ask_foot, turn_foot, Does, births, asks, turns, events}
@@ -42,7 +42,7 @@ left_there written s u p h w = ap (λ b. cond b (s p.0) (u p.0)) w ∙ h
 
 -- a turn is possible, and has the same footprint, in each world that agrees on the cells that it touches
 law_of_turns : (e : EventName) (m : MsgId) (n : ℕ) (t : Turn) (cells : List Cell) (left : List (Cell × heap.Content)) (w v : World)
-    → Turns e w m n t → Leaves t cells left → Agree events (turn_foot e m t cells left) w v → Does (record { name = e; act = turn m n }) v (turn_foot e m t cells left)
+    → Turns e w m n t → Leaves t cells left → Agree events (turn_foot e m t cells left) w v → Does (record { name = e; act = turn t.vat m n }) v (turn_foot e m t cells left)
 law_of_turns e m n t cells left w v h g a =
     let Q = λ (k : CellKey). v k ≡ w k in
     let reads = all_front Q (turn_foot e m t cells left).reads _ a in
@@ -125,15 +125,45 @@ feet_alike e m t cells others left more h g = record { touch = touch; write = wr
 same_foot : (f : Foot) → Alike events f f
 same_foot f = record { touch = λ k. refl; write = λ k. refl }
 
+-- whether an act is a turn; the message that it delivers, and its budget, or other ones where it is none
+abbrev is_turn : Act → Bool
+is_turn (birth x script) = false
+is_turn (ask x program) = false
+is_turn (turn v m n) = true
+
+abbrev delivered_or : MsgId → Act → MsgId
+delivered_or k (birth x script) = k
+delivered_or k (ask x program) = k
+delivered_or k (turn v m n) = m
+
+abbrev budget_or : ℕ → Act → ℕ
+budget_or b (birth x script) = b
+budget_or b (ask x program) = b
+budget_or b (turn v m n) = n
+
+-- a turn of a message at a vat does one thing in one world
+turn_once : (e : EventName) (w : World) (m : MsgId) (n : ℕ) (t : Turn) (cells : List Cell) (left : List (Cell × heap.Content)) → Turns e w m n t → Leaves t cells left
+    → (d : Event) (g : Foot) → Does d w g → d ≡ record { name = e; act = turn t.vat m n } → Alike events (turn_foot e m t cells left) g
+turn_once e w m n t cells left h i d g (births k) is = absurd (false≢true (ap (λ (x : Event). is_turn x.act) is))
+turn_once e w m n t cells left h i d g (asks k) is = absurd (false≢true (ap (λ (x : Event). is_turn x.act) is))
+turn_once e w m n t cells left h i d g (turns {e = a} {m = k} {budget = b} {t = u} {cells = others} {left = more} q j) is =
+    let named : a ≡ e = ap (λ (x : Event). x.name) is in
+    let delivered : k ≡ m = ap (λ (x : Event). delivered_or k x.act) is in
+    let given : b ≡ n = ap (λ (x : Event). budget_or b x.act) is in
+    let at_event : Turns e w k b u = subst (λ (x : EventName). Turns x w k b u) named q in
+    let at_message : Turns e w m b u = subst (λ (x : MsgId). Turns e w x b u) delivered at_event in
+    let same : t ≡ u = one_turn e w m n t u h (subst (λ (x : ℕ). Turns e w m x u) given at_message) in
+    subst (λ (x : EventName). Alike events (turn_foot e m t cells left) (turn_foot x k u others more)) (sym named)
+    (subst (λ (x : MsgId). Alike events (turn_foot e m t cells left) (turn_foot e x u others more)) (sym delivered)
+    (subst (λ (x : Turn). Alike events (turn_foot e m t cells left) (turn_foot e m x others more)) same
+    (feet_alike e m t cells others left more i (subst (λ (x : Turn). Leaves x others more) (sym same) j))))
+
 -- an event does one thing in one world
 once : (e : Event) (w : World) (f g : Foot) → Does e w f → Does e w g → Alike events f g
 once e w f g (births h) (births k) = same_foot f
 once e w f g (asks {e = n} {x = x} {program = p} {v = v} h) (asks {v = u} k) =
     subst (Alike events f) (ap (λ (y : Vat). ask_foot n x y.number p) (ap (λ (o : Option Vat). unwrap_or o v) (sym h ∙ k))) (same_foot f)
-once e w f g (turns {e = n} {m = m} {budget = b} {t = t} {cells = cells} {left = left} h i) (turns {t = u} {cells = others} {left = more} k j) =
-    let same = one_turn n w m b t u h k in
-    subst (λ x. Alike events (turn_foot n m t cells left) (turn_foot n m x others more)) same
-    (feet_alike n m t cells others left more i (subst (λ x. Leaves x others more) (sym same) j))
+once e w f g (turns {e = n} {m = m} {budget = b} {t = t} {cells = cells} {left = left} h i) d = turn_once n w m b t cells left h i e g d refl
 
 -- the events of a book can be undone
 pub events_laws : Laws events

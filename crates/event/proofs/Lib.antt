@@ -1,6 +1,7 @@
 pub mod Turns
 pub mod Listing
 pub mod Law
+pub mod Readiness
 pub mod Gathering
 pub mod Listed
 pub mod Standing

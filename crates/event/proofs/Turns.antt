@@ -1,5 +1,5 @@
 -- The laws of turns, from those of evaluation.
-use Rattle.std.proofs.Common.{◌≡◌, ℕ, ◌≤◌, Bool, true, false, cond, refl, subst}
+use Rattle.std.proofs.Common.{◌≡◌, ℕ, ◌+◌, ◌≤◌, Bool, true, false, cond, refl, subst, arith}
 use Rattle.ids.specs.declared.names.EventName.{EventName}
 use Rattle.ids.specs.declared.names.VatNo.{VatNo}
 use Rattle.ids.specs.declared.names.EjId.{EjId}
@@ -9,15 +9,19 @@ use Rattle.heap.specs.State.{Cell, State, Cells, no_cells}
 use Rattle.erules.specs.At.{At}
 use Rattle.erules.specs.Outcomes.{End, value, halt, thrown, ejected, abandoned}
 use Rattle.erules.specs.Rules.{Items}
-use Rattle.post.specs.Delivery.{Delivery}
+use Rattle.post.specs.Delivery.{Delivery, opening, asked}
 use Rattle.event.specs.Turn.{Outcome, outcome, settled, kept, start, Delivers, opens, asks}
-use Rattle.erules.specs.Laws.{IsWithin, AgreeOn, with_cells}
+use Rattle.erules.specs.Laws.{IsWithin, AgreeOn, with_cells, IsWithinRoom}
 use Rattle.event.specs.Touched.{delivery_touched, delivery_written}
+use Rattle.event.specs.Spent.{delivery_nodes, delivery_deepest, delivery_place}
+use Rattle.erules.proofs.Counted.{items_counted, items_deep}
 use Rattle.erules.proofs.Determined.{Same, items_same}
 use Rattle.erules.proofs.Ejections.{items_inside}
 use Rattle.erules.proofs.Framed.{items_written}
+use Rattle.erules.proofs.Kept.{items_in_room}
 use Rattle.erules.proofs.Reached.{items_later}
 use Rattle.erules.proofs.Spent.{items_left}
+use Rattle.erules.proofs.Total.{items_somehow}
 
 outcome_same : (s : State) {o p : End} {b c : At} → Same o p b c → outcome s (settled o) b ≡ outcome s (settled p) c
 outcome_same s t = λ i. outcome s (settled (t.end i)) (t.place i)
@@ -25,6 +29,10 @@ outcome_same s t = λ i. outcome s (settled (t.end i)) (t.place i)
 pub delivery_same : {d : Delivery} {e : EventName} {v : VatNo} {s : State} {n : ℕ} {o p : Outcome} → Delivers d e v s n o → Delivers d e v s n p → o ≡ p
 delivery_same (opens {s = s} r) (opens q) = outcome_same s (items_same r q)
 delivery_same (asks {s = s} r) (asks q) = outcome_same s (items_same r q)
+
+pub delivery_somehow : (d : Delivery) (e : EventName) (v : VatNo) (s : State) (n : ℕ) → (o : Outcome) × Delivers d e v s n o
+delivery_somehow (opening ts) e v s n = let r = items_somehow 1 null ts (start true e v s n) in (outcome s (settled r.end) r.place, opens r.run)
+delivery_somehow (asked ts) e v s n = let r = items_somehow 1 null ts (start false e v s n) in (outcome s (settled r.end) r.place, asks r.run)
 
 -- two deliveries touch the same cells, and write the same
 abbrev pub SameCells : {d : Delivery} {e : EventName} {v : VatNo} {s : State} {n : ℕ} {o p : Outcome} → Delivers d e v s n o → Delivers d e v s n p → Type 0
@@ -66,6 +74,22 @@ delivery_framed (asks {s = s} {o = o} {b = b} r) u m =
 pub delivery_left : {d : Delivery} {e : EventName} {v : VatNo} {s : State} {n : ℕ} {o : Outcome} → Delivers d e v s n o → o.left ≤ n
 delivery_left (opens r) = items_left r
 delivery_left (asks r) = items_left r
+
+pub delivery_counted : {d : Delivery} {e : EventName} {v : VatNo} {s : State} {n : ℕ} {o : Outcome} (r : Delivers d e v s n o) → delivery_nodes r + o.left ≡ n
+delivery_counted (opens r) = items_counted r
+delivery_counted (asks r) = items_counted r
+
+pub delivery_deep : {d : Delivery} {e : EventName} {v : VatNo} {s : State} {n : ℕ} {o : Outcome} (r : Delivers d e v s n o) → delivery_deepest r ≤ 1000
+delivery_deep (opens r) = items_deep r
+delivery_deep (asks r) = items_deep r
+
+-- at the beginning of a turn nothing was made
+begins_in_room : (own : Bool) (e : EventName) (v : VatNo) (s : State) (n : ℕ) → IsWithinRoom (start own e v s n)
+begins_in_room own e v s n = record { slots = omega arith; objects = omega arith }
+
+pub delivery_in_room : {d : Delivery} {e : EventName} {v : VatNo} {s : State} {n : ℕ} {o : Outcome} (r : Delivers d e v s n o) → IsWithinRoom (delivery_place r)
+delivery_in_room (opens {e = e} {v = v} {s = s} {n = n} r) = items_in_room r (begins_in_room true e v s n)
+delivery_in_room (asks {e = e} {v = v} {s = s} {n = n} r) = items_in_room r (begins_in_room false e v s n)
 
 kept_un : (o : End) (s t : State) (c : Cell) → t c ≡ s c → kept o s t c ≡ s c
 kept_un (value v) s t c e = e

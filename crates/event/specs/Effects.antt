@@ -1,5 +1,5 @@
 -- What the program works out of an event before it is entered.
-use Rattle.std.specs.Prelude.{◌≡◌, ℕ, List}
+use Rattle.std.specs.Prelude.{◌≡◌, List}
 use Rattle.std.specs.List.{list_any}
 use Rattle.history.specs.Subject.{touches}
 use Rattle.history.specs.Records.{Record, Writes}
@@ -11,9 +11,10 @@ use Rattle.ids.specs.declared.cells.CellKey.{CellKey}
 use Rattle.heap.specs.State as heap
 use Rattle.heap.specs.State.{Cell}
 use Rattle.heap.specs.Found.{touched_in}
-use Rattle.post.specs.World.{Message}
+use Rattle.post.specs.Events.{Event}
+use Rattle.post.specs.World.{Message, World}
 use Rattle.post.specs.Theory.{cells, kepts_of}
-use Rattle.event.specs.Events.{Foot, events, Turn, Leaves, turn_foot}
+use Rattle.event.specs.Events.{Foot, Does, events, Turn, Leaves, turn_foot}
 use Rattle.event.specs.Outcomes.{outcome_on, written_by}
 use Rattle.event.specs.declared.outcome.Outcome as code
 use Rattle.event.specs.declared.effects.Effects.{Effects}
@@ -22,6 +23,11 @@ use Rattle.event.specs.declared.effects.Effects.{Effects}
 pub record Brings (e : EventName) (f : Foot) (touched : List CellKey) (kept : Record cells) : Type 0 where
   pub touch : (k : CellKey) → list_any (same_key k) touched ≡ touches events f k
   pub write : Writes events e.0 f kept
+
+-- what was worked out of an event that is possible: its footprint, as cells that it touches and records of what it writes
+pub record Happens (e : Event) (f : Foot) (w : World) (it : Effects) : Type 0 where
+  pub does : ∥ Does e w f ∥₁
+  pub brings : Brings e.name f it.touched.items (kepts_of it.records.items)
 
 -- the turn of a message at a vat in this state, which had this outcome
 abbrev pub turn_of : Message → VatNo → code.Outcome → heap.State → Turn

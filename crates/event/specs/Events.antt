@@ -14,9 +14,9 @@ use Rattle.heap.specs.State as heap
 use Rattle.heap.specs.State.{Cell, Cells, same_cell}
 use Rattle.erules.specs.Outcomes.{End, value, halt, thrown, ejected, abandoned}
 use Rattle.post.specs.Delivery.{Delivery, opening, asked}
-use Rattle.post.specs.Events.{Act, birth, ask, turn, Event}
+use Rattle.post.specs.Events.{birth, ask, turn, Event}
 use Rattle.post.specs.Theory.{subject}
-use Rattle.post.specs.World.{Vat, Place, at_vat, done, Message, Content, vat, message, published, content_of, World, vat_named, message_of, done_in, cell_key, vat_state}
+use Rattle.post.specs.World.{Vat, at_vat, done, Message, Content, vat, message, published, content_of, World, vat_named, message_of, done_in, cell_key, vat_state}
 use Rattle.event.specs.Turn.{Outcome, Delivers}
 use Rattle.event.specs.Touched.{delivery_touched, delivery_written}
 
@@ -105,14 +105,14 @@ turn_foot e m t cells left = record {
   writes = map (λ p. (cell_key t.vat p.0, content_of p.1)) left ++ done_and_published e m t.message t.outcome;
 }
 
--- an event is possible in a world, and has this footprint there
+-- an event is possible in a world, and has this footprint there; a turn of a message is possible only at the vat where the message is
 pub data Does : Event → World → Foot → Type 0 where
   births : {e : EventName} {w : World} {x : Name} {script : Trees} → w (key.Name x) ≡ None
       → Does (record { name = e; act = birth x script }) w (birth_foot e x script)
   asks : {e : EventName} {w : World} {x : Name} {program : Trees} {v : Vat} → vat_named w x ≡ Some v
       → Does (record { name = e; act = ask x program }) w (ask_foot e x v.number program)
   turns : {e : EventName} {w : World} {m : MsgId} {budget : ℕ} {t : Turn} {cells : List Cell} {left : List (Cell × heap.Content)} → Turns e w m budget t → Leaves t cells left
-      → Does (record { name = e; act = turn m budget }) w (turn_foot e m t cells left)
+      → Does (record { name = e; act = turn t.vat m budget }) w (turn_foot e m t cells left)
 
 -- the events of a book, as the theory of undo sees them
 abbrev pub events : Subject

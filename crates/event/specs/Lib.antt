@@ -1,8 +1,10 @@
 pub mod Turn
 pub mod Touched
+pub mod Spent
 pub mod Outcomes
 pub mod Laws
 pub mod Events
+pub mod Runs
 pub mod Ready
 pub mod Effects
 pub mod Entries

@@ -7,7 +7,7 @@ use Rattle.erules.specs.Outcomes.{thrown, abandoned, End, value, halt}
 use Rattle.heap.specs.State.{State, Cells}
 use Rattle.heap.specs.Found.{Found, left_by, touched_in, writes_in}
 use Rattle.erules.specs.View.{cause_of}
-use Rattle.post.specs.Delivery.{Delivery, opening, asked}
+use Rattle.post.specs.Delivery.{Delivery}
 use Rattle.event.specs.Turn.{Outcome, kept, Delivers}
 use Rattle.event.specs.Touched.{delivery_touched, delivery_written}
 use Rattle.event.specs.declared.outcome.Ended.{Ended}

@@ -1,5 +1,5 @@
 -- Whether a message may be delivered in a world, and why not.
-use Rattle.std.specs.Prelude.{cond, Option, Some, None}
+use Rattle.std.specs.Prelude.{◌≡◌, cond, Option, Some, None}
 use Rattle.ids.specs.declared.names.MsgId.{MsgId}
 use Rattle.post.specs.World.{Place, at_vat, done, Message, World, message_of, done_in}
 use Rattle.event.specs.declared.ready.Unready.{Unready}
@@ -30,3 +30,8 @@ early_message w (Some g) = awaits w g.after
 -- the message waits for another one
 abbrev pub early : World → MsgId → Option Unready
 early w m = early_message w (message_of w m)
+
+-- the message may be delivered
+pub record IsReady (w : World) (m : MsgId) : Type 0 where
+  pub at_a_vat : lost w m ≡ None
+  pub in_order : early w m ≡ None

@@ -1,7 +1,7 @@
 -- On what is known of the cells that a turn touched.
 use Rattle.std.proofs.Common.{◌≡◌, Result, Ok, Err, OnOk, OnErr, Option, Some, None, Bool, true, false, cond, is_some, ◌||◌, refl, sym, ap, ◌∙◌, subst}
 use Rattle.std.specs.Option.{option_map}
-use Rattle.cells.specs.Touches.{standing, rewritten}
+use Rattle.cells.specs.Touches.{standing}
 use Rattle.cells.specs.declared.touches.Touch.{Touch}
 use Rattle.std.proofs.lemmas.Slice.Eq.{bytes_eq-Decides}
 use Rattle.ids.specs.Cells.{slot_cmp, object_cmp}
@@ -141,6 +141,9 @@ module _ (old new : Cell → Option (Touch Content)) (is : (c : Cell) → new c 
   pub writes_same : ◌≡◌ {A = State} (λ c. written_part (new c)) (λ c. written_part (old c))
   writes_same = λ i c. written_part (is c i)
 
+  pub touched_same : ◌≡◌ {A = Cells} (λ c. is_some (new c)) (λ c. is_some (old c))
+  touched_same = λ i c. is_some (is c i)
+
   pub found_same : (s : State) → ((c : Cell) (u : Touch Content) → old c ≡ Some u → u.found ≡ s c) → (c : Cell) (u : Touch Content) → new c ≡ Some u → u.found ≡ s c
   found_same s g c u e = g c u (sym (is c) ∙ e)
 
@@ -170,15 +173,6 @@ either_way (Err e) A B P a b f g = g b
 
 pub told_alike : {V C : Type 0} (D : V → V → Type 0) (f : V → C) → ((v w : V) → D v w → f w ≡ f v) → (x y : Seen V) → AreClones D x y → told f y ≡ told f x
 told_alike D f h x y d = λ i. (clones_alike D f h x.0 y.0 d.0 i, d.1 i)
-
-stands_for : {V : Type 0} (f : V → Content) (w before : Option V) → option_map f (standing before w) ≡ standing (option_map f before) (option_map f w)
-stands_for f None before = refl
-stands_for f (Some v) before = refl
-
--- what was written stands in a cell, or else what it before
-pub written_over : {V : Type 0} (f : V → Content) (t : Option (Touch V)) (before : Option V) → option_map f (rewritten t before) ≡ standing (option_map f before) (written_part (touch_of f t))
-written_over f None before = refl
-written_over f (Some t) before = stands_for f t.written before
 
 -- a cell that was written holds in the draft what was written there
 pub stands_as_written : (t : Option (Touch Content)) (c : Option Content) (x : Content) → written_part t ≡ Some x → standing_over t c ≡ Some x

@@ -1,6 +1,5 @@
 -- What a vat's state under a turn stands for.
-use Rattle.std.specs.Prelude.{ℕ, Bool, Option, Some, None, is_some, List, length, cond, ◌==◌, ◌&&◌, ◌||◌}
-use Rattle.std.specs.Arc.{arc_value}
+use Rattle.std.specs.Prelude.{◌≡◌, ℕ, Bool, Option, Some, None, is_some, List, length, cond, ◌==◌, ◌&&◌, ◌||◌}
 use Rattle.std.specs.List.{slice_get}
 use Rattle.ids.specs.declared.names.EventName.{EventName}
 use Rattle.ids.specs.declared.names.VatNo.{VatNo}
@@ -8,10 +7,9 @@ use Rattle.values.specs.declared.value.Value.{Value}
 use Rattle.values.specs.View.{val_of}
 use Rattle.heap.specs.State.{top, slot_cell, object_cell, Content, held, made, State, Cells}
 use Rattle.heap.specs.View.{object_of, state_of}
-use Rattle.heap.specs.Found.{touched_in, writes_in}
-use Rattle.heap.specs.Reaches.{state_in}
+use Rattle.heap.specs.Drafted.{Drafted}
+use Rattle.heap.specs.Found.{touched_in, writes_in, over_state}
 use Rattle.heap.specs.declared.made.Made.{Made}
-use Rattle.heap.specs.declared.draft.Draft.{Draft}
 
 -- whether a cell is of the turn's own event and vat
 abbrev pub is_of : EventName → VatNo → EventName → VatNo → Bool
@@ -51,22 +49,22 @@ and_objects e v objects q (slot_cell i) = q (slot_cell i)
 and_objects e v objects q (object_cell i) = is_some (own_item (is_of e v i.event i.vat) objects i.index) || q (object_cell i)
 
 -- a vat's state under a turn
-abbrev pub draft_of : Draft → State
-draft_of d = with_objects d.event d.vat d.objects.items (with_slots d.event d.vat d.slots.items (state_in d.base))
+abbrev pub draft_of : Drafted → State
+draft_of d = with_objects d.event d.vat d.objects (with_slots d.event d.vat d.slots (over_state d.footprint (state_of d.began)))
 
 -- the state that the turn began with
-abbrev pub began_with : Draft → State
-began_with d = state_of (arc_value d.base.state)
+abbrev pub began_with : Drafted → State
+began_with d = state_of d.began
 
 -- the cells that the turn has touched
-abbrev pub touched_of : Draft → Cells
-touched_of d = and_objects d.event d.vat d.objects.items (and_slots d.event d.vat d.slots.items (touched_in d.base.footprint))
+abbrev pub touched_of : Drafted → Cells
+touched_of d = and_objects d.event d.vat d.objects (and_slots d.event d.vat d.slots (touched_in d.footprint))
 
 -- what the turn has written into each cell, and which it has written
-abbrev pub writes_of : Draft → State
-writes_of d = with_objects d.event d.vat d.objects.items (with_slots d.event d.vat d.slots.items (writes_in d.base.footprint))
+abbrev pub writes_of : Drafted → State
+writes_of d = with_objects d.event d.vat d.objects (with_slots d.event d.vat d.slots (writes_in d.footprint))
 
-abbrev pub written_of : Draft → Cells
+abbrev pub written_of : Drafted → Cells
 written_of d c = is_some (writes_of d c)
 
 -- what names a turn's next slot and its next object: its event, its vat, and how many of each it has made
@@ -76,5 +74,11 @@ pub record Counts : Type 0 where
   pub slots : ℕ
   pub objects : ℕ
 
-abbrev pub counts_of : Draft → Counts
-counts_of d = record { event = d.event; vat = d.vat; slots = length d.slots.items; objects = length d.objects.items }
+abbrev pub counts_of : Drafted → Counts
+counts_of d = record { event = d.event; vat = d.vat; slots = length d.slots; objects = length d.objects }
+
+-- a turn that was refused a write has touched nothing more, and written nothing more
+pub record IsUnwritten (old new : Drafted) : Type 0 where
+  pub state : draft_of new ≡ draft_of old
+  pub touched : touched_of new ≡ touched_of old
+  pub written : written_of new ≡ written_of old

@@ -4,4 +4,6 @@ pub mod Names
 pub mod View
 pub mod Found
 pub mod Reaches
+pub mod Drafted
+pub mod DraftView
 pub mod Drafts

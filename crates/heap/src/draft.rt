@@ -9,6 +9,7 @@ use crate::state::{Binding, VatState};
 use ids::names::{EjId, EventName, ObjId, SlotId, VatNo};
 use ids::text::Text;
 use std::alloc::{AllocError, Global};
+use std::marker::Model;
 use std::sync::Arc;
 use values::value::Value;
 
@@ -23,8 +24,20 @@ pub struct Draft {
     slots: Vec<Value>,
     /// The turn's own objects, by their number.
     objects: Vec<Made>,
-    ghost slots_numbered: { length slots.items ≤ 4294967295 },
-    ghost objects_numbered: { length objects.items ≤ 4294967295 },
+}
+
+impl Model for Draft {
+    ghost use Rattle.heap.specs.Drafted.{Drafted, drafted_code};
+
+    ghost Value = { Drafted };
+
+    ghost coded = { drafted_code };
+
+    ghost use Rattle.heap.specs.DraftView.{drafted, IsNumbered};
+
+    ghost view = { drafted };
+
+    ghost invariant = { IsNumbered };
 }
 
 impl Draft {
@@ -32,7 +45,7 @@ impl Draft {
     ghost use Rattle.heap.specs.View.{bind_of, object_of, state_of};
     ghost use Rattle.heap.specs.Found.{Found, touched_in, writes_in};
     ghost use Rattle.heap.specs.Reaches.{state_in};
-    ghost use Rattle.heap.specs.Drafts.{is_of, with_slots, with_objects, and_slots, and_objects, draft_of, counts_of, touched_of, writes_of, written_of, began_with};
+    ghost use Rattle.heap.specs.Drafts.{is_of, with_slots, with_objects, and_slots, and_objects, draft_of, counts_of, touched_of, writes_of, written_of, began_with, IsUnwritten};
     ghost use Rattle.values.specs.View.{val_of};
 
     /// A state in which this event begins in this vat, of which it has made nothing yet.
@@ -55,7 +68,7 @@ impl Draft {
     /// The name of the turn's ejector of this number.
     #[inline]
     pub fn ejector(&self, index: u32) -> EjId
-        ensures { result ≡ record { event = self.now.event; index = index; vat = self.now.vat } }
+        ensures { result ≡ record { event = (counts_of self.now).event; index = index; vat = (counts_of self.now).vat } }
     {
         EjId {
             event: self.event,
@@ -67,7 +80,7 @@ impl Draft {
     /// How many slots the turn has made.
     #[inline]
     pub fn slot_count(&self) -> usize
-        ensures { result ≡ length self.now.slots.items }
+        ensures { result ≡ (counts_of self.now).slots }
     {
         self.slots.len()
     }
@@ -75,7 +88,7 @@ impl Draft {
     /// How many objects the turn has made.
     #[inline]
     pub fn object_count(&self) -> usize
-        ensures { result ≡ length self.now.objects.items }
+        ensures { result ≡ (counts_of self.now).objects }
     {
         self.objects.len()
     }
@@ -96,10 +109,11 @@ impl Draft {
         self.base.touched_top(name)
     }
 
-    /// Touches a top noun. Fails only for want of memory.
+    /// Touches a top noun. Without memory nothing more is touched.
     pub fn reach_top(&mut self, name: &Text) -> Result<(), AllocError>
         ensures state { draft_of self.new ≡ draft_of self.old }
         ensures touched { OnOk result (touched_of self.new ≡ also (top name.now) (touched_of self.old)) }
+        ensures err { OnErr result (touched_of self.new ≡ touched_of self.old) }
         ensures written { written_of self.new ≡ written_of self.old }
         ensures counts { counts_of self.new ≡ counts_of self.old }
         ensures began { began_with self.new ≡ began_with self.old }
@@ -107,13 +121,13 @@ impl Draft {
         self.base.reach_top(name)
     }
 
-    /// Binds a top noun. Without memory for a new one the state stays as it was.
+    /// Binds a top noun. Without memory for a new one nothing more is touched or written.
     pub fn bind_top(&mut self, name: Text, binding: Binding) -> Result<(), AllocError>
         ensures ok { OnOk result
             (draft_of self.new ≡ write (draft_of self.old) (top name) (bound (bind_of binding))) }
         ensures touched { OnOk result (touched_of self.new ≡ also (top name) (touched_of self.old)) }
         ensures written { OnOk result (written_of self.new ≡ also (top name) (written_of self.old)) }
-        ensures err { OnErr result (draft_of self.new ≡ draft_of self.old) }
+        ensures err { OnErr result (IsUnwritten self.old self.new) }
         ensures counts { counts_of self.new ≡ counts_of self.old }
         ensures began { began_with self.new ≡ began_with self.old }
     {
@@ -146,11 +160,12 @@ impl Draft {
         }
     }
 
-    /// Touches a slot. Fails only for want of memory.
+    /// Touches a slot. Without memory nothing more is touched.
     #[inline]
     pub fn reach_slot(&mut self, slot: SlotId) -> Result<(), AllocError>
         ensures state { draft_of self.new ≡ draft_of self.old }
         ensures touched { OnOk result (touched_of self.new ≡ also (slot_cell slot) (touched_of self.old)) }
+        ensures err { OnErr result (touched_of self.new ≡ touched_of self.old) }
         ensures written { written_of self.new ≡ written_of self.old }
         ensures counts { counts_of self.new ≡ counts_of self.old }
         ensures began { began_with self.new ≡ began_with self.old }
@@ -162,14 +177,15 @@ impl Draft {
         }
     }
 
-    /// Makes the turn's next slot, which holds this value.
+    /// Makes the turn's next slot, which holds this value. Without memory the turn has made nothing more.
     pub fn new_slot(&mut self, value: Value) -> Result<SlotId, AllocError>
-        requires { length self.old.slots.items < 4294967295 }
-        ensures named { IfOk result (λ i. i ≡ record { event = self.old.event; index = length self.old.slots.items; vat = self.old.vat }) }
+        requires { (counts_of self.old).slots < 4294967295 }
+        ensures named { IfOk result (λ i. i ≡ record { event = (counts_of self.old).event; index = (counts_of self.old).slots; vat = (counts_of self.old).vat }) }
         ensures made { IfOk result (λ i. draft_of self.new ≡ write (draft_of self.old) (slot_cell i) (held (val_of value))) }
         ensures touched { IfOk result (λ i. touched_of self.new ≡ also (slot_cell i) (touched_of self.old)) }
         ensures written { IfOk result (λ i. written_of self.new ≡ also (slot_cell i) (written_of self.old)) }
-        ensures counts { IfOk result (λ i. counts_of self.new ≡ record (counts_of self.old) { slots = length self.old.slots.items + 1 }) }
+        ensures counts { IfOk result (λ i. counts_of self.new ≡ record (counts_of self.old) { slots = (counts_of self.old).slots + 1 }) }
+        ensures err { OnErr result (self.new ≡ self.old) }
         ensures began { began_with self.new ≡ began_with self.old }
     {
         let slot = SlotId {
@@ -181,14 +197,14 @@ impl Draft {
         Ok(slot)
     }
 
-    /// Lets a slot hold a value. Without memory for a new one the state stays as it was.
+    /// Lets a slot hold a value. Without memory for a new one nothing more is touched or written.
     #[inline(always)]
     pub fn write_slot(&mut self, slot: SlotId, value: Value) -> Result<(), AllocError>
         ensures ok { OnOk result
             (draft_of self.new ≡ write (draft_of self.old) (slot_cell slot) (held (val_of value))) }
         ensures touched { OnOk result (touched_of self.new ≡ also (slot_cell slot) (touched_of self.old)) }
         ensures written { OnOk result (written_of self.new ≡ also (slot_cell slot) (written_of self.old)) }
-        ensures err { OnErr result (draft_of self.new ≡ draft_of self.old) }
+        ensures err { OnErr result (IsUnwritten self.old self.new) }
         ensures counts { counts_of self.new ≡ counts_of self.old }
         ensures began { began_with self.new ≡ began_with self.old }
     {
@@ -213,11 +229,12 @@ impl Draft {
         }
     }
 
-    /// Touches an object. Fails only for want of memory.
+    /// Touches an object. Without memory nothing more is touched.
     #[inline]
     pub fn reach_object(&mut self, object: ObjId) -> Result<(), AllocError>
         ensures state { draft_of self.new ≡ draft_of self.old }
         ensures touched { OnOk result (touched_of self.new ≡ also (object_cell object) (touched_of self.old)) }
+        ensures err { OnErr result (touched_of self.new ≡ touched_of self.old) }
         ensures written { written_of self.new ≡ written_of self.old }
         ensures counts { counts_of self.new ≡ counts_of self.old }
         ensures began { began_with self.new ≡ began_with self.old }
@@ -229,14 +246,15 @@ impl Draft {
         }
     }
 
-    /// Makes the turn's next object.
+    /// Makes the turn's next object. Without memory the turn has made nothing more.
     pub fn new_object(&mut self, object: Made) -> Result<ObjId, AllocError>
-        requires { length self.old.objects.items < 4294967295 }
-        ensures named { IfOk result (λ i. i ≡ record { event = self.old.event; index = length self.old.objects.items; vat = self.old.vat }) }
+        requires { (counts_of self.old).objects < 4294967295 }
+        ensures named { IfOk result (λ i. i ≡ record { event = (counts_of self.old).event; index = (counts_of self.old).objects; vat = (counts_of self.old).vat }) }
         ensures made { IfOk result (λ i. draft_of self.new ≡ write (draft_of self.old) (object_cell i) (made (object_of object))) }
         ensures touched { IfOk result (λ i. touched_of self.new ≡ also (object_cell i) (touched_of self.old)) }
         ensures written { IfOk result (λ i. written_of self.new ≡ also (object_cell i) (written_of self.old)) }
-        ensures counts { IfOk result (λ i. counts_of self.new ≡ record (counts_of self.old) { objects = length self.old.objects.items + 1 }) }
+        ensures counts { IfOk result (λ i. counts_of self.new ≡ record (counts_of self.old) { objects = (counts_of self.old).objects + 1 }) }
+        ensures err { OnErr result (self.new ≡ self.old) }
         ensures began { began_with self.new ≡ began_with self.old }
     {
         let id = ObjId {
@@ -269,7 +287,7 @@ impl Draft {
     /// Whether a cell is of the turn and its number is one of so many that were made.
     #[inline(always)]
     fn is_own(&self, event: EventName, vat: VatNo, index: u32, count: usize) -> bool
-        ensures { result ≡ (is_of self.now.event self.now.vat event vat && ltb index count) }
+        ensures { result ≡ (is_of (counts_of self.now).event (counts_of self.now).vat event vat && ltb index count) }
     {
         self.event.0 == event.0 && self.vat.0.0 == vat.0.0 && (index as usize) < count
     }

@@ -10,7 +10,7 @@ ghost use Rattle.heap.specs.Found.{Found, found-prop};
 use crate::made::Made;
 use crate::state::{Binding, VatState};
 use cells::touches::{Touch, Touches};
-use ids::names::{EventName, ObjId, SlotId};
+use ids::names::{ObjId, SlotId};
 use ids::text::Text;
 use std::alloc::{AllocError, Global};
 use std::sync::Arc;
@@ -33,7 +33,7 @@ pub struct Reach {
 }
 
 impl Footprint {
-    ghost use Rattle.heap.specs.Found.{touch_in, touched_in, writes_in, over_state, left_by};
+    ghost use Rattle.heap.specs.Found.{touch_in, touched_in, writes_in, over_state};
 
     /// Nothing was touched.
     pub fn new(alloc: Global) -> Footprint
@@ -46,26 +46,13 @@ impl Footprint {
         }
     }
 
-    /// Writes what was written into a state. Without memory some of it may have been written.
-    pub fn write_into(self, state: &mut VatState, writer: EventName) -> Result<(), AllocError>
-        ensures { OnOk result (state_of state.new ≡ left_by self (state_of state.old)) }
-    {
-        let Footprint {
-            tops,
-            slots,
-            objects,
-        } = self;
-        state.tops.write_all(tops, writer)?;
-        state.slots.write_all(slots, writer)?;
-        state.objects.write_all(objects, writer)
-    }
-
     /// Touches a top noun, whose content is that of the state that the turn began with.
     fn reach_top(&mut self, state: &VatState, name: &Text) -> Result<(), AllocError>
         ensures found { Found self.old (state_of state.now) → Found self.new (state_of state.now) }
         ensures state { over_state self.new (state_of state.now) ≡ over_state self.old (state_of state.now) }
         ensures touched { OnOk result (touched_in self.new ≡ also (top name.now) (touched_in self.old)) }
         ensures written { writes_in self.new ≡ writes_in self.old }
+        ensures err { OnErr result ((c : Cell) → touch_in self.new c ≡ touch_in self.old c) }
     {
         if !self.tops.has(name) {
             let found = state.found_top(name)?;
@@ -81,6 +68,7 @@ impl Footprint {
         ensures state { over_state self.new (state_of state.now) ≡ over_state self.old (state_of state.now) }
         ensures touched { OnOk result (touched_in self.new ≡ also (slot_cell slot) (touched_in self.old)) }
         ensures written { writes_in self.new ≡ writes_in self.old }
+        ensures err { OnErr result ((c : Cell) → touch_in self.new c ≡ touch_in self.old c) }
     {
         if !self.slots.has(&slot) {
             let found = state.found_slot(slot)?;
@@ -96,6 +84,7 @@ impl Footprint {
         ensures state { over_state self.new (state_of state.now) ≡ over_state self.old (state_of state.now) }
         ensures touched { OnOk result (touched_in self.new ≡ also (object_cell object) (touched_in self.old)) }
         ensures written { writes_in self.new ≡ writes_in self.old }
+        ensures err { OnErr result ((c : Cell) → touch_in self.new c ≡ touch_in self.old c) }
     {
         if !self.objects.has(&object) {
             let found = state.found_object(object)?;
@@ -116,7 +105,7 @@ impl Footprint {
         ensures state { OnOk result (over_state self.new (state_of state.now) ≡ write (over_state self.old (state_of state.now)) (top name) (bound (bind_of binding))) }
         ensures touched { OnOk result (touched_in self.new ≡ also (top name) (touched_in self.old)) }
         ensures written { OnOk result (writes_in self.new ≡ write (writes_in self.old) (top name) (bound (bind_of binding))) }
-        ensures err { OnErr result (over_state self.new (state_of state.now) ≡ over_state self.old (state_of state.now)) }
+        ensures err { OnErr result ((c : Cell) → touch_in self.new c ≡ touch_in self.old c) }
     {
         match self.tops.write(&name, binding) {
             Ok(()) => Ok(()),
@@ -134,7 +123,7 @@ impl Footprint {
         ensures state { OnOk result (over_state self.new (state_of state.now) ≡ write (over_state self.old (state_of state.now)) (slot_cell slot) (held (val_of value))) }
         ensures touched { OnOk result (touched_in self.new ≡ also (slot_cell slot) (touched_in self.old)) }
         ensures written { OnOk result (writes_in self.new ≡ write (writes_in self.old) (slot_cell slot) (held (val_of value))) }
-        ensures err { OnErr result (over_state self.new (state_of state.now) ≡ over_state self.old (state_of state.now)) }
+        ensures err { OnErr result ((c : Cell) → touch_in self.new c ≡ touch_in self.old c) }
     {
         match self.slots.write(&slot, value) {
             Ok(()) => Ok(()),
@@ -152,7 +141,7 @@ impl Footprint {
         ensures state { OnOk result (over_state self.new (state_of state.now) ≡ write (over_state self.old (state_of state.now)) (object_cell id) (made (object_of object))) }
         ensures touched { OnOk result (touched_in self.new ≡ also (object_cell id) (touched_in self.old)) }
         ensures written { OnOk result (writes_in self.new ≡ write (writes_in self.old) (object_cell id) (made (object_of object))) }
-        ensures err { OnErr result (over_state self.new (state_of state.now) ≡ over_state self.old (state_of state.now)) }
+        ensures err { OnErr result ((c : Cell) → touch_in self.new c ≡ touch_in self.old c) }
     {
         match self.objects.write(&id, object) {
             Ok(()) => Ok(()),
@@ -167,7 +156,7 @@ impl Footprint {
 
 impl Reach {
     ghost use Rattle.heap.specs.Reaches.{state_in};
-    ghost use Rattle.heap.specs.Found.{touched_in, writes_in};
+    ghost use Rattle.heap.specs.Found.{touch_in, touched_in, writes_in};
 
     /// Nothing of this state was touched yet.
     pub(crate) fn new(alloc: Global, state: Arc<VatState>) -> Reach
@@ -241,6 +230,7 @@ impl Reach {
         ensures state { state_in self.new ≡ state_in self.old }
         ensures touched { OnOk result (touched_in self.new.footprint ≡ also (top name.now) (touched_in self.old.footprint)) }
         ensures written { writes_in self.new.footprint ≡ writes_in self.old.footprint }
+        ensures err { OnErr result ((c : Cell) → touch_in self.new.footprint c ≡ touch_in self.old.footprint c) }
         ensures beneath { self.new.state ≡ self.old.state }
     {
         self.footprint.reach_top(&self.state, name)
@@ -251,6 +241,7 @@ impl Reach {
         ensures state { state_in self.new ≡ state_in self.old }
         ensures touched { OnOk result (touched_in self.new.footprint ≡ also (slot_cell slot) (touched_in self.old.footprint)) }
         ensures written { writes_in self.new.footprint ≡ writes_in self.old.footprint }
+        ensures err { OnErr result ((c : Cell) → touch_in self.new.footprint c ≡ touch_in self.old.footprint c) }
         ensures beneath { self.new.state ≡ self.old.state }
     {
         self.footprint.reach_slot(&self.state, slot)
@@ -261,6 +252,7 @@ impl Reach {
         ensures state { state_in self.new ≡ state_in self.old }
         ensures touched { OnOk result (touched_in self.new.footprint ≡ also (object_cell object) (touched_in self.old.footprint)) }
         ensures written { writes_in self.new.footprint ≡ writes_in self.old.footprint }
+        ensures err { OnErr result ((c : Cell) → touch_in self.new.footprint c ≡ touch_in self.old.footprint c) }
         ensures beneath { self.new.state ≡ self.old.state }
     {
         self.footprint.reach_object(&self.state, object)
@@ -271,7 +263,7 @@ impl Reach {
         ensures state { OnOk result (state_in self.new ≡ write (state_in self.old) (top name) (bound (bind_of binding))) }
         ensures touched { OnOk result (touched_in self.new.footprint ≡ also (top name) (touched_in self.old.footprint)) }
         ensures written { OnOk result (writes_in self.new.footprint ≡ write (writes_in self.old.footprint) (top name) (bound (bind_of binding))) }
-        ensures err { OnErr result (state_in self.new ≡ state_in self.old) }
+        ensures err { OnErr result ((c : Cell) → touch_in self.new.footprint c ≡ touch_in self.old.footprint c) }
         ensures beneath { self.new.state ≡ self.old.state }
     {
         self.footprint.write_top(&self.state, name, binding)
@@ -283,7 +275,7 @@ impl Reach {
         ensures state { OnOk result (state_in self.new ≡ write (state_in self.old) (slot_cell slot) (held (val_of value))) }
         ensures touched { OnOk result (touched_in self.new.footprint ≡ also (slot_cell slot) (touched_in self.old.footprint)) }
         ensures written { OnOk result (writes_in self.new.footprint ≡ write (writes_in self.old.footprint) (slot_cell slot) (held (val_of value))) }
-        ensures err { OnErr result (state_in self.new ≡ state_in self.old) }
+        ensures err { OnErr result ((c : Cell) → touch_in self.new.footprint c ≡ touch_in self.old.footprint c) }
         ensures beneath { self.new.state ≡ self.old.state }
     {
         self.footprint.write_slot(&self.state, slot, value)
@@ -294,14 +286,14 @@ impl Reach {
         ensures state { OnOk result (state_in self.new ≡ write (state_in self.old) (object_cell id) (made (object_of object))) }
         ensures touched { OnOk result (touched_in self.new.footprint ≡ also (object_cell id) (touched_in self.old.footprint)) }
         ensures written { OnOk result (writes_in self.new.footprint ≡ write (writes_in self.old.footprint) (object_cell id) (made (object_of object))) }
-        ensures err { OnErr result (state_in self.new ≡ state_in self.old) }
+        ensures err { OnErr result ((c : Cell) → touch_in self.new.footprint c ≡ touch_in self.old.footprint c) }
         ensures beneath { self.new.state ≡ self.old.state }
     {
         self.footprint.write_object(&self.state, id, object)
     }
 
     /// What was touched of the state, which is given back.
-    pub fn into_footprint(self) -> Footprint
+    pub(crate) fn into_footprint(self) -> Footprint
         ensures same { result ≡ self.footprint }
         ensures found { Found result (state_of (arc_value self.state)) }
     {

@@ -2,3 +2,4 @@ pub mod Keys
 pub mod CellKeys
 pub mod Quoting
 pub mod Failing
+pub mod References

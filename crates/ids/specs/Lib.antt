@@ -3,3 +3,4 @@ pub mod Names
 pub mod Cells
 pub mod KeyLaws
 pub mod CellKeys
+pub mod References

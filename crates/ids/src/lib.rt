@@ -4,5 +4,6 @@
 pub mod cells;
 pub mod names;
 pub mod quote;
+pub mod reference;
 pub mod text;
 pub mod theorems;

@@ -1,5 +1,5 @@
 // What happens: the events of a book.
-use ids::names::{EventName, MsgId};
+use ids::names::{EventName, MsgId, VatNo};
 use ids::text::Text;
 use kernele::tree::Program;
 
@@ -10,8 +10,12 @@ pub enum Action {
     Birth(Text, Program),
     /// A program is asked of the vat of this name.
     Ask(Text, Program),
-    /// A message is delivered, with a budget of steps.
-    Turn(MsgId, u32),
+    /// A vat runs a message, with a budget of steps.
+    Turn {
+        vat: VatNo,
+        message: MsgId,
+        budget: u32,
+    },
 }
 
 /// Something that happened.

@@ -14,9 +14,9 @@ use ids::text::Text;
 use kernele::tree::{Expr, Method, Pattern, Program};
 use std::alloc::{AllocError, AllocFailed, Global};
 use std::collections::BTreeMap;
-use std::error::Error;
 use std::fmt;
 use std::fmt::{Debug, Display, Formatter, Write};
+use thiserror::Error;
 
 /// The most nodes that a program may have.
 const MOST_NODES: u32 = 16_384;
@@ -25,7 +25,7 @@ const MOST_NODES: u32 = 16_384;
 const GREATEST_DEPTH: u32 = 200;
 
 /// Why a program is not evaluated.
-#[derive(Drop)]
+#[derive(Drop, Error)]
 pub enum CheckFault {
     /// A noun that no scope has.
     Unbound(Text),
@@ -68,8 +68,6 @@ impl Debug for CheckFault {
         Display::fmt(self, f)
     }
 }
-
-impl Error for CheckFault {}
 
 impl From<AllocError> for CheckFault {
     ghost from_gives = { λ _ e. e ≡ Memory };

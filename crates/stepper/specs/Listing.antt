@@ -11,7 +11,7 @@ use Rattle.causality.specs.Selections.{name_of}
 abbrev pub act_text : Act → List ℕ
 act_text (birth x script) = codes "birth " ++ x
 act_text (ask x program) = codes "ask " ++ x
-act_text (turn m budget) = codes "turn " ++ message_text m
+act_text (turn v m budget) = codes "turn " ++ message_text m
 
 abbrev pub mark_text : Bool → List ℕ
 mark_text true = codes "live"

@@ -23,7 +23,8 @@ use ids::text::Text;
 use kernele::tree::Program;
 use std::alloc::{AllocError, Global};
 use std::fmt;
-use std::fmt::{Display, Formatter, Write};
+use std::fmt::{Debug, Display, Formatter, Write};
+use thiserror::Error;
 
 /// The bytes of the stack on which commands are to be answered: a text may nest thousands of levels deep, and the calls
 /// that read it nest with it.
@@ -46,7 +47,7 @@ pub struct Summary {
 }
 
 /// Why a run did not come to its end.
-#[derive(Clone, Copy)]
+#[derive(Clone, Copy, Error)]
 pub enum Fault {
     /// The input could not be read.
     Reader,
@@ -65,6 +66,12 @@ impl Display for Fault {
             Fault::Writer => "writing failed",
             Fault::Memory => "out of memory",
         })
+    }
+}
+
+impl Debug for Fault {
+    fn fmt<W: Write>(&self, f: &mut Formatter<W>) -> fmt::Result {
+        Display::fmt(self, f)
     }
 }
 

@@ -30,7 +30,7 @@ fn write_action(action: &Action, out: &mut String) -> Result<(), AllocError>
     match action {
         Action::Birth(name, _) => write!(out, "birth {name}"),
         Action::Ask(name, _) => write!(out, "ask {name}"),
-        Action::Turn(message, _) => write!(out, "turn {message}"),
+        Action::Turn { message, .. } => write!(out, "turn {message}"),
     }
 }
 

@@ -13,6 +13,7 @@ use heap::state::VatState;
 use ids::names::{EventName, MsgId, VatNo};
 use post::message::Message;
 use std::alloc::{AllocError, Global};
+use std::marker::Model;
 use std::sync::Arc;
 
 /// A turn to be run: its event, the name of its message and the message, its vat and the vat's state, shared, the budget, and the
@@ -54,18 +55,24 @@ pub struct Ticket<S> {
     stage: S,
 }
 
+impl<S> Model for Ticket<S> {
+    ghost Value = { S };
+
+    ghost view = { λ t. t.stage };
+}
+
 impl Ticket<Out> {
     /// A ticket for a turn that is to be run.
     pub fn new(turn: Out) -> Ticket<Out>
-        ensures { result.stage ≡ turn }
+        ensures { result ≡ turn }
     {
         Ticket { stage: turn }
     }
 
     /// Runs the turn, and lets go of the state. For want of memory the ticket comes back as it was.
     pub fn run(self) -> Result<Ticket<Ran>, (Ticket<Out>, AllocError)>
-        ensures ok { IfOk result (λ t. t.stage.carried ≡ task_of self.stage) }
-        ensures found { IfOk result (λ t. Found t.stage.outcome.footprint (state_of (arc_value self.stage.state))) }
+        ensures ok { IfOk result (λ t. t.carried ≡ task_of self) }
+        ensures found { IfOk result (λ t. Found t.outcome.footprint (state_of (arc_value self.state))) }
         ensures err { IfErr result (λ e. e.0 ≡ self) }
     {
         let Ticket { stage } = self;
@@ -86,8 +93,8 @@ impl Ticket<Out> {
 /// The ticket of a turn that was run with this outcome. The state is let go.
 fn with_outcome(stage: Out, outcome: Outcome) -> Ticket<Ran>
     requires { Meets (delivery_of (arc_value stage.message.sent).delivery) stage.event stage.vat stage.budget outcome }
-    ensures carried { result.stage.carried ≡ task_of stage }
-    ensures outcome { result.stage.outcome ≡ outcome }
+    ensures carried { result.carried ≡ task_of stage }
+    ensures outcome { result.outcome ≡ outcome }
 {
     let Out {
         alloc: _,
@@ -117,7 +124,7 @@ fn with_outcome(stage: Out, outcome: Outcome) -> Ticket<Ran>
 impl Ticket<Out> {
     /// What is carried.
     pub fn out(&self) -> &Out
-        ensures { result.now ≡ self.now.stage }
+        ensures { result.now ≡ self.now }
     {
         &self.stage
     }
@@ -126,21 +133,21 @@ impl Ticket<Out> {
 impl Ticket<Ran> {
     /// What was carried, and what the turn left.
     pub fn ran(&self) -> &Ran
-        ensures { result.now ≡ self.now.stage }
+        ensures { result.now ≡ self.now }
     {
         &self.stage
     }
 
     /// What the turn left.
     pub fn outcome(&self) -> &Outcome
-        ensures { result.now ≡ self.now.stage.outcome }
+        ensures { result.now ≡ self.now.outcome }
     {
         &self.stage.outcome
     }
 
     /// What was carried, and what the turn left.
     pub fn into_parts(self) -> Ran
-        ensures { result ≡ self.stage }
+        ensures { result ≡ self }
     {
         let Ticket { stage: ran } = self;
         ran

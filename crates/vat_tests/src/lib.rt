@@ -2,8 +2,6 @@
 #![tactic(auto)]
 
 #[cfg(test)]
-mod books;
-#[cfg(test)]
 mod control;
 #[cfg(test)]
 mod depth;
@@ -17,8 +15,6 @@ mod sessions;
 mod steps;
 #[cfg(test)]
 mod tables;
-#[cfg(test)]
-mod tickets;
 #[cfg(test)]
 mod turns;
 #[cfg(test)]

@@ -1,11 +1,15 @@
 // Turns: what a text gives that is asked of a vat.
 
 use crate::tables::{expect_text, row};
+use cells::store::CellStore;
+use cells::swaps::Swaps;
+use cells::touches::Touches;
 use ereader::read;
 use event::outcome::{Ended, Outcome};
 use heap::draft::Draft;
 use heap::reach::Footprint;
 use heap::state::{Binding, VatState};
+use ids::cells::Key;
 use ids::names::{EventName, MsgId, PromId, VatNo};
 use ids::text::Text;
 use kernele::tree::Program;
@@ -83,6 +87,25 @@ fn run(
     }
 }
 
+/// Writes what was written of cells of one kind.
+fn write_cells<K: Key + Drop, V: Clone + Drop>(
+    rt: &(impl Abort + AllocGlobal),
+    cells: &mut CellStore<K, V>,
+    touches: &Touches<K, V>,
+    writer: EventName,
+) {
+    for place in 0..touches.len() {
+        let (key, touch) = touches.at(place);
+        if let Some(written) = &touch.written {
+            let content = written.clone().expect(rt, "no memory");
+            let key = key.clone().expect(rt, "no memory");
+            let made = key.clone().expect(rt, "no memory");
+            cells.make_room(made).expect(rt, "no memory");
+            cells.put_recorded(key, Some(content), writer, &mut Swaps::none());
+        }
+    }
+}
+
 /// A state with what an event wrote in it.
 fn written(
     rt: &(impl Abort + AllocGlobal),
@@ -91,9 +114,10 @@ fn written(
     footprint: Footprint,
 ) -> Arc<VatState> {
     let mut after = state.clone().expect(rt, "no memory");
-    footprint
-        .write_into(&mut after, EventName(event))
-        .expect(rt, "no memory");
+    let writer = EventName(event);
+    write_cells(rt, &mut after.tops, &footprint.tops, writer);
+    write_cells(rt, &mut after.slots, &footprint.slots, writer);
+    write_cells(rt, &mut after.objects, &footprint.objects, writer);
     Arc::new(rt.alloc(), after).expect(rt, "no memory")
 }
 

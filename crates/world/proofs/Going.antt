@@ -8,7 +8,7 @@ use Rattle.post.specs.Events.{Event}
 use Rattle.post.specs.World.{World, empty}
 use Rattle.event.specs.Events.{Foot, Does, events}
 use Rattle.event.proofs.Law.{events_laws}
-use Rattle.world.specs.Runs.{RunFrom, PlainRun}
+use Rattle.event.specs.Runs.{RunFrom, PlainRun}
 use Rattle.world.specs.Reruns.{TellsRun}
 use Rattle.world.specs.Steps.{StepsTo, TellsStep}
 use Rattle.world.specs.declared.step.StepFault.{StepFault}

@@ -15,13 +15,13 @@ use Rattle.post.specs.Messages.{message_of}
 use Rattle.post.specs.World.{World, Vat, Message, Content, Place, message_in, vat_named, vat_state}
 use Rattle.post.specs.declared.message.Message as code-message
 use Rattle.event.specs.Events.{Foot, Does, births, asks, turns, DeliversOn, Turn, Turns, turn_foot}
-use Rattle.event.specs.Effects.{BringsTurn, turn_of}
+use Rattle.event.specs.Effects.{Happens, BringsTurn, turn_of}
 use Rattle.event.specs.Ready.{lost, lost_message, misplaced, awaits}
 use Rattle.event.specs.declared.ready.Unready.{Unready}
 use Rattle.event.specs.declared.effects.Effects.{Effects}
 use Rattle.turn.specs.declared.ticket.Out.{Out}
 use Rattle.turn.specs.declared.ticket.Ran.{Ran}
-use Rattle.world.specs.Steps.{Happens, Ready, RunsAt}
+use Rattle.world.specs.Steps.{Ready, RunsAt}
 
 -- the turn that was run of a message that is ready
 module _ (w : World) (e : EventName) (m : MsgId) (n : ℕ) (g : code-message.Message) (v : VatNo) (r : Ran) (ready : Ready w m (message_of g) v) (runs : RunsAt w e m n g v r) where
@@ -43,5 +43,5 @@ module _ (w : World) (e : EventName) (m : MsgId) (n : ℕ) (g : code-message.Mes
   is_turn = ∥∥₁_map delivered (λ d. record { waiting = ready_carried.waiting; there = ready_carried.there; in_order = ready_carried.in_order; delivers = d })
 
   -- what it brings happens
-  pub turn_happens : (it : Effects) → (b : BringsTurn e m turned it) → Happens (record { name = e; act = turn m n }) (turn_foot e m turned b.cells b.left) w it
+  pub turn_happens : (it : Effects) → (b : BringsTurn e m turned it) → Happens (record { name = e; act = turn v m n }) (turn_foot e m turned b.cells b.left) w it
   turn_happens it b = record { does = ∥∥₁_map is_turn (λ t. turns t b.leaves); brings = b.brings }

@@ -2,7 +2,7 @@
 use Rattle.std.specs.Prelude.{List}
 use Rattle.post.specs.Events.{Event}
 use Rattle.post.specs.World.{World}
-use Rattle.world.specs.Runs.{PlainRun}
+use Rattle.event.specs.Runs.{PlainRun}
 use Rattle.world.specs.declared.step.StepFault.{StepFault}
 use Rattle.world.specs.declared.step.StepFault.TheVariants as fault
 

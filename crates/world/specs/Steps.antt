@@ -7,12 +7,9 @@ use Rattle.ids.specs.declared.names.MsgId.{MsgId}
 use Rattle.ids.specs.declared.cells.CellKey.TheVariants as key
 use Rattle.heap.specs.Found.{Found}
 use Rattle.post.specs.Events.{Event}
-use Rattle.post.specs.Theory.{kepts_of}
 use Rattle.post.specs.World.{World, Message, message, at_vat, vat_state}
 use Rattle.post.specs.declared.message.Message as code-message
 use Rattle.event.specs.Events.{Foot, Does, events, InOrder}
-use Rattle.event.specs.Effects.{Brings}
-use Rattle.event.specs.declared.effects.Effects.{Effects}
 use Rattle.turn.specs.declared.ticket.Ran.{Ran}
 use Rattle.world.specs.declared.step.StepFault.{StepFault}
 use Rattle.world.specs.declared.step.StepFault.TheVariants as fault
@@ -28,21 +25,16 @@ abbrev pub TellsStep : Event → World → StepFault → Type 0
 TellsStep e w fault.Impossible = (f : Foot) → Does e w f → ⊥
 TellsStep e w fault.Memory = Unit {0}
 
--- what was worked out of an event that is possible: its footprint, as cells that it touches and records of what it writes
-pub record Happens (e : Event) (f : Foot) (w : World) (it : Effects) : Type 0 where
-  pub does : ∥ Does e w f ∥₁
-  pub brings : Brings e.name f it.touched.items (kepts_of it.records.items)
-
 -- a message is at this vat, and what it waits for is done
 pub record Ready (w : World) (m : MsgId) (g : Message) (v : VatNo) : Type 0 where
   pub waiting : w (key.Msg m) ≡ Some (message g)
   pub there : g.place ≡ at_vat v
   pub in_order : InOrder w g.after
 
--- a message that may not be delivered is ready at no vat; want of memory tells nothing
-abbrev pub Unready : World → MsgId → StepFault → Type 0
-Unready w m fault.Impossible = (g : Message) (v : VatNo) → Ready w m g v → ⊥
-Unready w m fault.Memory = Unit {0}
+-- a message that may not be delivered to a vat is not ready there; want of memory tells nothing
+abbrev pub Unready : World → MsgId → VatNo → StepFault → Type 0
+Unready w m v fault.Impossible = (g : Message) → Ready w m g v → ⊥
+Unready w m v fault.Memory = Unit {0}
 
 -- this was run: the turn of a message at a vat, which found what the world has
 pub record RunsAt (w : World) (e : EventName) (m : MsgId) (budget : ℕ) (g : code-message.Message) (v : VatNo) (r : Ran) : Type 0 where

@@ -2,7 +2,7 @@
 ghost use Rattle.std.specs.Prelude.{IfOk, IfErr, map};
 ghost use Rattle.post.specs.EventView.{event_of};
 ghost use Rattle.post.specs.View.{world_of};
-ghost use Rattle.world.specs.Runs.{PlainRun};
+ghost use Rattle.event.specs.Runs.{PlainRun};
 ghost use Rattle.world.specs.Reruns.{TellsRun};
 
 use crate::step::{StepFault, step};

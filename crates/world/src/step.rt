@@ -12,7 +12,8 @@ ghost use Rattle.post.specs.Messages.{message_of, place_of};
 ghost use Rattle.post.specs.View.{seen_of_world, world_of};
 ghost use Rattle.post.specs.World.{at_vat, message as message_content};
 ghost use Rattle.event.specs.Events.{Foot, InOrder};
-ghost use Rattle.world.specs.Steps.{Happens, StepsTo, TellsStep, Ready, RunsAt, Unready as IsUnready};
+ghost use Rattle.event.specs.Effects.{Happens};
+ghost use Rattle.world.specs.Steps.{StepsTo, TellsStep, Ready, RunsAt, Unready as IsUnready};
 ghost use Rattle.world.specs.declared.step.StepFault.TheVariants.{Memory};
 
 use cells::swaps::Swaps;
@@ -89,23 +90,26 @@ fn effects_of_ask(
     Ok(ask_effects(alloc, event, name, vat.number, program)?)
 }
 
-/// A message that may be delivered now, shared, and its vat.
-fn ready(world: &World, name: MsgId) -> Result<(Message, VatNo), StepFault>
-    ensures ok { IfOk result (λ r. Ready (world_of world.now) name (message_of r.0) r.1) }
-    ensures err { IfErr result (λ fault. IsUnready (world_of world.now) name fault) }
+/// A message that may be delivered now to this vat, shared.
+fn ready(world: &World, vat: VatNo, name: MsgId) -> Result<Message, StepFault>
+    ensures ok { IfOk result (λ g. Ready (world_of world.now) name (message_of g) vat) }
+    ensures err { IfErr result (λ fault. IsUnready (world_of world.now) name vat fault) }
 {
-    let Ok((message, vat)) = message_at_vat(world, name) else {
+    let Ok((message, home)) = message_at_vat(world, name) else {
         return Err(StepFault::Impossible);
     };
+    if home != vat {
+        return Err(StepFault::Impossible);
+    }
     let Ok(()) = check_order(world, message.sent.after) else {
         return Err(StepFault::Impossible);
     };
-    Ok((message.share()?, vat))
+    Ok(message.share()?)
 }
 
 /// Runs the turn of a ticket.
 fn run(ticket: Ticket<Out>) -> Result<Ran, AllocError>
-    ensures { IfOk result (λ ran. (ran.carried ≡ task_of ticket.stage) × Found ran.outcome.footprint (state_of (arc_value ticket.stage.state))) }
+    ensures { IfOk result (λ ran. (ran.carried ≡ task_of ticket) × Found ran.outcome.footprint (state_of (arc_value ticket.state))) }
 {
     match ticket.run() {
         Ok(ran) => Ok(ran.into_parts()),
@@ -142,19 +146,20 @@ fn run_at(
     }))
 }
 
-/// The effects of a turn, if its message may be delivered. What is seen in the world stays.
+/// The effects of a turn, if its message may be delivered to its vat. What is seen in the world stays.
 fn effects_of_turn(
     alloc: Global,
     world: &mut World,
     event: EventName,
+    vat: VatNo,
     name: MsgId,
     budget: u32,
 ) -> Result<Effects, StepFault>
-    ensures ok { IfOk result (λ it. (f : Foot) × Happens (record { name = event; act = turn name budget }) f (world_of world.old) it) }
-    ensures err { IfErr result (λ fault. TellsStep (record { name = event; act = turn name budget }) (world_of world.old) fault) }
+    ensures ok { IfOk result (λ it. (f : Foot) × Happens (record { name = event; act = turn vat name budget }) f (world_of world.old) it) }
+    ensures err { IfErr result (λ fault. TellsStep (record { name = event; act = turn vat name budget }) (world_of world.old) fault) }
     ensures seen { seen_of_world world.new ≡ seen_of_world world.old }
 {
-    let (message, vat) = ready(world, name)?;
+    let message = ready(world, vat, name)?;
     let ran = run_at(alloc, world, event, name, budget, message, vat)?;
     Ok(turn_effects(alloc, event, name, &ran.carried.message, vat, &ran.outcome)?)
 }
@@ -168,9 +173,11 @@ fn effects_of(alloc: Global, world: &mut World, event: &Event) -> Result<Effects
     match &event.action {
         Action::Birth(name, script) => effects_of_birth(alloc, world, event.name, name, script),
         Action::Ask(name, program) => effects_of_ask(alloc, world, event.name, name, program),
-        Action::Turn(message, budget) => {
-            effects_of_turn(alloc, world, event.name, *message, *budget)
-        }
+        Action::Turn {
+            vat,
+            message,
+            budget,
+        } => effects_of_turn(alloc, world, event.name, *vat, *message, *budget),
     }
 }
 
@@ -181,7 +188,7 @@ fn effects_of(alloc: Global, world: &mut World, event: &Event) -> Result<Effects
 pub fn step(alloc: Global, world: &mut World, event: &Event) -> Result<(), StepFault>
     ensures ok { OnOk result (StepsTo (event_of event.now) (world_of world.old) (world_of world.new)) }
     ensures err { IfErr result (λ fault. TellsStep (event_of event.now) (world_of world.old) fault) }
-    ensures unchanged { OnErr result (world_of world.new ≡ world_of world.old) }
+    ensures unchanged { OnErr result (seen_of_world world.new ≡ seen_of_world world.old) }
 {
     let Effects {
         touched: _,

@@ -1,12 +1,13 @@
-use Rattle.std.proofs.Common.{rules, arith, ap, ◌∙◌, ◌+◌, ◌-◌, refl, sym, subst, length, take, drop, ◌++◌}
+use Rattle.std.proofs.Common.{rules, arith, ap, ◌∙◌, ◌+◌, ◌-◌, refl, sym, subst, length, take, drop, ◌++◌, ◌∷◌, []}
 use Rattle.std.proofs.lemmas.Result.{IfOk-weaker}
 use Rattle.ids.proofs.Failing.{claims_nothing}
 use Rattle.code.specs.View.{tree_of_code, trees_of_codes}
 use Rattle.code.proofs.Views.{tree_of_code-Call, tree_of_code-List, tree_of_code-Hide, tree_of_code-If, tree_of_code-While, tree_of_code-For, tree_of_code-Try, tree_of_code-Object, tree_of_code-Escape}
 use Rattle.kernele.specs.declared.tree.Pattern.TheVariants as pattern
-use Rattle.values.specs.Data.{bool}
+use Rattle.values.specs.Data.{bool, ejector}
 use Rattle.values.specs.View.{val_of}
-use Rattle.erules.specs.Outcomes.{halted, value}
+use Rattle.erules.specs.At.{At}
+use Rattle.erules.specs.Outcomes.{halt, halted, value}
 use Rattle.erules.specs.View.{at, end_of, halt_of, choice_view, listing_view}
 use Rattle.eobjects.specs.View.{target_view}
 use Rattle.erules.specs.Rules.{at_budget, at_depth, at_node, run_null, run_bool, run_int, run_text, run_noun, run_call_receiver, run_list, run_same_left, run_same, goes, run_hide, run_if_goes, run_if_ends, run_while_again, run_while_halts, run_while_done, run_while_ends, run_for, run_for_ends, run_try, run_try_caught, run_object, args_halt}
@@ -24,6 +25,7 @@ use Rattle.erules.specs.Locals.{locals_of}
 use Rattle.erules.specs.Fits.{fits_at, all_fit_at}
 use Rattle.erules.proofs.Grown.{round_grow}
 use Rattle.erules.proofs.Spent.{condition_less, block_left}
+use Rattle.eval.proofs.Returning.{newest_stays, newest_begun, item_returns}
 use Rattle.eval.proofs.Sides.{runs_right, halts_right, right_fits, right_placed, side_of}
 use Rattle.eval.proofs.+evaluate.Goals as goal
 use Rattle.eval.proofs.+evaluate.Goals.{control::run_block-then-done-items, control::run_block-else-done-items+in_ok-ended}
@@ -100,10 +102,44 @@ calling::eval_any_call-returns-in-Halt t c = run_call_receiver (child c.deref.en
 pub calling::eval_method-returns : goal.calling::eval_method-returns
 calling::eval_method-returns t c = entered (ap trees_of_codes (slice_of c.deref-2.ensures.value c.deref.ensures)) _ c.args.w.now c.eval_items.new.w (ap (λ v. v.items) c.enter_method-caller.ensures.names) c.enter_method-caller.ensures.own c.enter_method-caller.ensures.place c.in_ok-end.ensures c.leave_method.ensures
 
+pub calling::eval_escape-eval_naming-requires : goal.calling::eval_escape-eval_naming-requires
+calling::eval_escape-eval_naming-requires t c = (search rules, (search rules, (block_fits (slice_of c.deref-2.ensures.value c.deref.ensures) (ap (λ (a : At). frame_of a.nouns ++ c.args.name.now ∷ []) c.in_ok-ejector.ensures.place) c.requires.fits, newest_begun _ (at c.args.w.now) _ c.in_ok-ejector.ensures.named c.in_ok-ejector.ensures.place)))
+
 pub calling::eval_escape-returns : goal.calling::eval_escape-returns
 calling::eval_escape-returns t c =
-    IfOk-weaker c.escape_end.result _ _ (λ o h. escape_over c.args.name.now _ c.args.w.now c.eval_taking.new.w (as_many c.args.w.now.opened c.len-outer.ensures) c.in_ok-ejector.ensures.named c.in_ok-ejector.ensures.place (ap pattern.Name c.in_ok-share.ensures)
-    (ap trees_of_codes (slice_of c.deref-2.ensures.value c.deref.ensures)) c.in_ok-ended.ensures c.close_escape.ensures h) c.escape_end.ensures
+    escape_over c.args.name.now _ c.args.w.now c.eval_naming.new.w (as_many c.args.w.now.opened c.len-outer.ensures) c.in_ok-ejector.ensures.named c.in_ok-ejector.ensures.place refl
+    (ap trees_of_codes (slice_of c.deref-2.ensures.value c.deref.ensures)) c.in_ok-end.ensures.1 c.close_escape.ensures c.in_ok-end.ensures.2
+
+pub calling::eval_naming-returns : goal.calling::eval_naming-returns
+calling::eval_naming-returns t c = (c.in_ok-end.ensures.0, taking_end (pattern.Name c.args.name.now) (ejector c.args.ejector) c.args.w.now c.eval_returning.new.w c.enter-outer.ensures.names c.enter-outer.ensures.own c.enter-outer.ensures.place c.in_ok-bind.ensures c.in_ok-end.ensures.1 c.leave.ensures, c.in_ok-end.ensures.2)
+
+pub calling::eval_returning-eval-requires : goal.calling::eval_returning-eval-requires
+calling::eval_returning-eval-requires t c = (search rules, c.in-Some.ensures.fits)
+
+pub calling::eval_returning-returned-requires : goal.calling::eval_returning-returned-requires
+calling::eval_returning-returned-requires t c = (fits_from _ _ c.args.items.now c.loop-item.item-index _ c.loop-item-test.true c.item-item.is c.loop-item.invariant.1).0
+
+pub calling::eval_returning-eval_item-requires : goal.calling::eval_returning-eval_item-requires
+calling::eval_returning-eval_item-requires t c = (search rules, (fits_from _ _ c.args.items.now c.loop-item.item-index _ c.loop-item-test.true c.item-item.is c.loop-item.invariant.1).0)
+
+pub calling::eval_returning-returns-in-Some : goal.calling::eval_returning-returns-in-Some
+calling::eval_returning-returns-in-Some t c =
+    let p = item_returns c.args.items.now c.loop-item-test.true c.item-item.is c.loop-item.invariant.2 c.in-Some.ensures.returns c.in_ok-ended.ensures in
+    IfOk-weaker c.escape_end.result _ _ (λ r h. (p.0, c.loop-item.invariant.0 _ _ p.1, h ∙ p.2)) c.escape_end.ensures
+
+pub calling::eval_returning-returns-in-Halt : goal.calling::eval_returning-returns-in-Halt
+calling::eval_returning-returns-in-Halt t c =
+    IfOk-weaker c.escape_end-in-Halt.result _ _ (λ r h. (halt (halt_of c.in-Halt.halt), c.loop-item.invariant.0 _ _ (items_no_more _ c.loop-item-test.true c.item-item.is (child refl c.in-Halt.is c.in_ok-v.ensures)), h)) c.escape_end-in-Halt.ensures
+
+pub calling::eval_returning-loop-item-preserved : goal.calling::eval_returning-loop-item-preserved
+calling::eval_returning-loop-item-preserved t c = (
+  λ o b h. c.loop-item.invariant.0 _ _ (items_more _ c.loop-item-test.true c.item-item.is (child refl c.in-Value.is c.in_ok-v.ensures) h),
+  all_fit_then refl (child refl c.in-Value.is c.in_ok-v.ensures) (fits_from _ _ c.args.items.now c.loop-item.item-index _ c.loop-item-test.true c.item-item.is c.loop-item.invariant.1).1,
+  newest_stays c.args.ejector c.in_ok-v.ensures c.loop-item.invariant.2,
+)
+
+pub calling::eval_returning-returns : goal.calling::eval_returning-returns
+calling::eval_returning-returns t c = (value (val_of c.loop-item.last), c.loop-item.invariant.0 _ _ (items_end _ c.loop-item-test.false), refl)
 
 pub eval::eval-returns-in-Object : goal.eval::eval-returns-in-Object
 eval::eval-returns-in-Object t c = if_both _ _ _ _ (λ o h g. node _ {a = at c.args.w.now} (ap tree_of_code c.in-Object.is ∙ tree_of_code-Object c.in-Object.pattern c.in-Object.captures c.in-Object.methods c.in-Object.index) (runs_to run_object h g) (omega arith) c.if-level-gt-DEEPEST.false) c.define_object.ensures.ends c.define_object.ensures.makes
@@ -336,15 +372,6 @@ calling::eval_any_call-returns-in_err-target t c = claims_nothing c.from_residua
 
 pub calling::eval_any_call-returns-in_err-value : goal.calling::eval_any_call-returns-in_err-value
 calling::eval_any_call-returns-in_err-value t c = claims_nothing c.from_residual.result _ c.from_residual.ensures.0
-
-pub calling::eval_escape-returns-in_err-ejector : goal.calling::eval_escape-returns-in_err-ejector
-calling::eval_escape-returns-in_err-ejector t c = claims_nothing c.from_residual.result _ c.from_residual.ensures.0
-
-pub calling::eval_escape-returns-in_err-ended : goal.calling::eval_escape-returns-in_err-ended
-calling::eval_escape-returns-in_err-ended t c = claims_nothing c.from_residual-in_err-ended.result _ c.from_residual-in_err-ended.ensures.0
-
-pub calling::eval_escape-returns-in_err-share : goal.calling::eval_escape-returns-in_err-share
-calling::eval_escape-returns-in_err-share t c = claims_nothing c.from_residual-in_err-share.result _ c.from_residual-in_err-share.ensures.0
 
 pub calling::eval_method-returns-in_err-end : goal.calling::eval_method-returns-in_err-end
 calling::eval_method-returns-in_err-end t c = claims_nothing c.from_residual.result _ c.from_residual.ensures.0

@@ -11,6 +11,7 @@ use Rattle.erules.specs.Outcomes.{End, Gather}
 use Rattle.erules.specs.Rules.{Args, Each, Items, Runs}
 use Rattle.erules.specs.View.{at}
 use Rattle.erules.proofs.Steps.{after_values}
+use Rattle.eval.specs.Escaping.{IsNewest}
 use Rattle.eval.proofs.+evaluate.Given as goal
 
 -- a level's rank: a node, its parts in order, a block of them, a block for each value, and the construct one level above
@@ -49,6 +50,12 @@ decreases-calling::eval_any_call l = 6 * (1000 - l.level) + 4
 
 abbrev pub decreases-calling::eval_escape : goal.decreases-calling::eval_escape
 decreases-calling::eval_escape l = 6 * (1000 - l.level) + 5
+
+abbrev pub decreases-calling::eval_naming : goal.decreases-calling::eval_naming
+decreases-calling::eval_naming l = 6 * (1001 - l.level) + 3
+
+abbrev pub decreases-calling::eval_returning : goal.decreases-calling::eval_returning
+decreases-calling::eval_returning l = 6 * (1001 - l.level) + 2
 
 abbrev pub decreases-calling::eval_method : goal.decreases-calling::eval_method
 decreases-calling::eval_method l = 6 * (1001 - l.level) + 3
@@ -91,6 +98,13 @@ abbrev pub invariant-eval::eval_items-loop-item : goal.invariant-eval::eval_item
 invariant-eval::eval_items-loop-item l =
     ((o : End) (b : At) → Items l.level (val_of l.last) (trees_of_codes (drop l.item-index l.items)) (at l.w) o b → Items l.level null (trees_of_codes l.items) (at l.initial.w) o b)
     × all_fit_at (at l.w) (drop l.item-index l.items)
+
+-- the same of an Escape's block, whose Escape stays the innermost one
+abbrev pub invariant-calling::eval_returning-loop-item : goal.invariant-calling::eval_returning-loop-item
+invariant-calling::eval_returning-loop-item l =
+    ((o : End) (b : At) → Items l.level (val_of l.last) (trees_of_codes (drop l.item-index l.items)) (at l.w) o b → Items l.level null (trees_of_codes l.items) (at l.initial.w) o b)
+    × all_fit_at (at l.w) (drop l.item-index l.items)
+    × IsNewest l.ejector (at l.w)
 
 -- what the block does for the values that are left, is what it does for all, and it fits
 abbrev pub invariant-control::eval_for-loop-value : goal.invariant-control::eval_for-loop-value

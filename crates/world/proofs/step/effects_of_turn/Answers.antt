@@ -10,7 +10,7 @@ returns-clause-ok c =
     let e = c.args.event in
     let m = c.args.name in
     let g = c.in_ok-message.message in
-    let v = c.in_ok-message.vat in
+    let v = c.args.vat in
     let r = c.in_ok-ran.ran in
     let brings = c.in_ok-turn_effects.ensures (vat_state w v) in (
       turn_foot e m (turned w e m c.args.budget g v r c.in_ok-message.ensures.ok c.in_ok-ran.ensures.ok) brings.cells brings.left,

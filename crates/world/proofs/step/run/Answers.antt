@@ -8,5 +8,5 @@ use Rattle.world.proofs.step.run.Goals as goal
 pub returns-in-Ok : goal.returns-in-Ok
 returns-in-Ok c = (
   ap (λ (r : Ran). r.carried) c.into_parts.ensures ∙ c.in-Ok.ensures.ok,
-  subst (λ (r : Ran). Found r.outcome.footprint (state_of (arc_value c.args.ticket.stage.state))) (sym c.into_parts.ensures) c.in-Ok.ensures.found,
+  subst (λ (r : Ran). Found r.outcome.footprint (state_of (arc_value c.args.ticket.state))) (sym c.into_parts.ensures) c.in-Ok.ensures.found,
 )

@@ -10,10 +10,10 @@ use Rattle.undo.proofs.Positions.{on_err}
 use Rattle.world.proofs.step.step.Goals as goal
 
 pub returns-in_err-records-clause-unchanged : goal.returns-in_err-records-clause-unchanged
-returns-in_err-records-clause-unchanged c = on_err (world_of c.effects_of.new.world ≡ world_of c.args.world.now) _ (λ i k. (c.effects_of.ensures.seen i k).0)
+returns-in_err-records-clause-unchanged c = on_err (seen_of_world c.effects_of.new.world ≡ seen_of_world c.args.world.now) _ c.effects_of.ensures.seen
 
 pub returns-in_err-make_rooms-clause-unchanged : goal.returns-in_err-make_rooms-clause-unchanged
-returns-in_err-make_rooms-clause-unchanged c = on_err (world_of c.make_rooms.new.world ≡ world_of c.args.world.now) _ (λ i k. ((c.make_rooms.ensures.seen ∙ c.effects_of.ensures.seen) i k).0)
+returns-in_err-make_rooms-clause-unchanged c = on_err (seen_of_world c.make_rooms.new.world ≡ seen_of_world c.args.world.now) _ (c.make_rooms.ensures.seen ∙ c.effects_of.ensures.seen)
 
 pub returns-clause-ok : goal.returns-clause-ok
 returns-clause-ok c =

@@ -4,7 +4,9 @@ use Rattle.kernele.specs.Tree.{Name}
 use Rattle.post.specs.Events.{Event, birth}
 use Rattle.event.specs.Events.{birth_foot, births}
 use Rattle.book.specs.BookView.{book_of}
-use Rattle.book.specs.Calls.{Happens, EntersNext}
+use Rattle.event.specs.Effects.{Happens}
+use Rattle.book.specs.Calls.{EntersNext}
+use Rattle.book.proofs.Within.{room_for_birth}
 use Rattle.book.proofs.book.Book.birth.Goals as goal
 
 pub enter-requires-clause-possible : goal.enter-requires-clause-possible
@@ -14,6 +16,12 @@ enter-requires-clause-possible c =
     let w = (book_of c.args.self.now).world in
     let f = birth_foot e c.args.name.now p in
     (f, subst (λ (x : Name). Happens (record { name = e; act = birth x p }) f w c.in_ok-effects.effects) (sym c.in_ok-share.ensures) (record { does = ∣ births c.in_ok-event.ensures.ok.2 ∣₁; brings = c.in_ok-effects.ensures }))
+
+pub enter-requires-clause-room : goal.enter-requires-clause-room
+enter-requires-clause-room c =
+    let b = book_of c.args.self.now in
+    let p = program_of c.args.script in
+    room_for_birth b c.args.name.now p c.in_ok-event.ensures.ok.3
 
 pub returns-clause-ok : goal.returns-clause-ok
 returns-clause-ok c =

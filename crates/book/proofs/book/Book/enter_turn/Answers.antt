@@ -14,6 +14,7 @@ use Rattle.book.specs.Standing.{Stands}
 use Rattle.book.specs.declared.fault.BookFault.{BookFault}
 use Rattle.book.proofs.Entering.{stands_same}
 use Rattle.book.proofs.Committing.{committed_turn, committed_stands}
+use Rattle.book.proofs.Within.{within_same, within_entered, one_more}
 use Rattle.book.proofs.book.Book.enter_turn.Goals as goal
 
 pub returns-in_err-check_known-clause-err : goal.returns-in_err-check_known-clause-err
@@ -37,13 +38,13 @@ returns-in_err-check_room-clause-err c =
 pub invariant_of-self : goal.invariant_of-self
 invariant_of-self c =
     let b = c.args.self.now in
-    record { in_range = b.in_range; stands = stands_same b.core _ b.next (out_of b.desk) c.in_err-enter.ensures.err b.stands }
+    record { in_range = b.in_range; stands = stands_same b.core _ b.next (out_of b.desk) c.in_err-enter.ensures.err b.stands; within = within_same b.core c.enter.new.self c.in_err-enter.ensures.err b.within }
 
 pub invariant_of-self-2 : goal.invariant_of-self-2
 invariant_of-self-2 c =
     let b = c.args.self.now in
     let r = c.args.ran.now in
-    let e : Event = record { name = r.carried.event; act = turn r.carried.name r.carried.budget } in
+    let e : Event = record { name = r.carried.event; act = turn r.carried.vat r.carried.name r.carried.budget } in
     let entered_as : shown c.enter.new.self ≡ entered e r.carried.seat c.deref.result.now (kepts_of c.in_ok-touched.records.items) (shown b.core) = search rules in
     let is : shown c.enter.new.self ≡ entered e r.carried.seat c.in_ok-touched.field-0.touched.items (kepts_of c.in_ok-touched.field-0.records.items) (shown b.core) =
     entered_as ∙ ap (λ touched. entered e r.carried.seat touched (kepts_of c.in_ok-touched.records.items) (shown b.core)) c.deref.ensures.value
@@ -52,13 +53,14 @@ invariant_of-self-2 c =
       in_range = b.in_range;
       stands = subst (Stands c.enter.new.self b.next) (sym c.remove.ensures.rest)
           (committed_stands b.core c.enter.new.self b.next (out_of b.desk) r c.in_ok-touched.field-0 (c.in_ok-touched.ensures (vat_state (contents cells (state_of b.core)) r.carried.vat)) is c.in_ok-check_known.ensures.ok c.in_ok-check_fresh.ensures.ok b.stands);
+      within = within_entered b.core c.enter.new.self e r.carried.seat c.in_ok-touched.field-0.touched.items (kepts_of c.in_ok-touched.field-0.records.items) is (one_more (book_of b) c.in_ok-check_room.ensures.ok);
     }
 
 pub returns-clause-ok : goal.returns-clause-ok
 returns-clause-ok c =
     let b = c.args.self.now in
     let r = c.args.ran.now in
-    let e : Event = record { name = r.carried.event; act = turn r.carried.name r.carried.budget } in
+    let e : Event = record { name = r.carried.event; act = turn r.carried.vat r.carried.name r.carried.budget } in
     let entered_as : shown c.enter.new.self ≡ entered e r.carried.seat c.deref.result.now (kepts_of c.in_ok-touched.records.items) (shown b.core) = search rules in
     let is : shown c.enter.new.self ≡ entered e r.carried.seat c.in_ok-touched.field-0.touched.items (kepts_of c.in_ok-touched.field-0.records.items) (shown b.core) =
     entered_as ∙ ap (λ touched. entered e r.carried.seat touched (kepts_of c.in_ok-touched.records.items) (shown b.core)) c.deref.ensures.value

@@ -8,6 +8,7 @@ use Rattle.book.specs.Calls.{StoodAt}
 use Rattle.book.specs.Refusals.{refuse_where, dependent, placed_refusal}
 use Rattle.book.proofs.Choosing.{stands_journal}
 use Rattle.book.proofs.Exchanging.{refused_where, book_exchanged, tried_stands, places_there}
+use Rattle.book.proofs.Within.{within_tried}
 use Rattle.book.proofs.book.Book.exchange.Goals as goal
 
 pub invariant_of-self : goal.invariant_of-self
@@ -15,7 +16,11 @@ invariant_of-self c =
     let b = c.args.self.now in
     let p = c.args.position in
     let at = places_there (items_of b.core) c.entries.result.now p c.entries.ensures c.in_ok-first.ensures.ok c.in_ok-first.ensures.there in
-    record { in_range = b.in_range; stands = tried_stands b.core c.exchange.new.self b.next (out_of b.desk) (p - 1) at.1 c.exchange.result c.exchange.ensures.done c.exchange.ensures.shown b.stands }
+    record {
+      in_range = b.in_range;
+      stands = tried_stands b.core c.exchange.new.self b.next (out_of b.desk) (p - 1) at.1 c.exchange.result c.exchange.ensures.done c.exchange.ensures.shown b.stands;
+      within = within_tried b.core c.exchange.new.self (p - 1) c.exchange.result c.exchange.ensures.shown b.within;
+    }
 
 pub returns-then-exchange-clause-ok : goal.returns-then-exchange-clause-ok
 returns-then-exchange-clause-ok c =

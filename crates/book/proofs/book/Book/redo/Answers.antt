@@ -12,6 +12,8 @@ use Rattle.book.specs.Refusals.{redo_refusal}
 use Rattle.book.proofs.Choosing.{stands_journal, places_within, places_count}
 use Rattle.book.proofs.Entering.{stands_same}
 use Rattle.book.proofs.Redoing.{redone_stands, book_redone}
+use Rattle.book.specs.Calls.{redone}
+use Rattle.book.proofs.Within.{within_same, within_marked}
 use Rattle.book.proofs.book.Book.redo.Goals as goal
 
 pub check_redo-requires : goal.check_redo-requires
@@ -31,7 +33,7 @@ prepare-requires c =
 pub invariant_of-self : goal.invariant_of-self
 invariant_of-self c =
     let b = c.args.self.now in
-    record { in_range = b.in_range; stands = stands_same b.core c.prepare.new.self b.next (out_of b.desk) c.prepare.ensures.shown b.stands }
+    record { in_range = b.in_range; stands = stands_same b.core c.prepare.new.self b.next (out_of b.desk) c.prepare.ensures.shown b.stands; within = within_same b.core c.prepare.new.self c.prepare.ensures.shown b.within }
 
 pub invariant_of-self-2 : goal.invariant_of-self-2
 invariant_of-self-2 c =
@@ -42,7 +44,11 @@ invariant_of-self-2 c =
     let at : c.deref-2.result.now ≡ places_from 0 events (lines_of (items_of b.core)) =
     c.deref-2.ensures.value ∙ c.in_ok-positions.ensures ∙ ap (λ (names : List EventName). places_from 0 names (lines_of (map item_of c.entries-2.result.now))) same ∙ ap (λ (items : List Item). places_from 0 events (lines_of items)) c.entries-2.ensures in
     let is : shown c.redo.new.self ≡ walk (swap_item true) c.deref-2.result.now (shown b.core) = c.redo.ensures.shown ∙ ap (walk (swap_item true) c.deref-2.result.now) c.prepare.ensures.shown in
-    record { in_range = b.in_range; stands = redone_stands b.core c.redo.new.self b.next (out_of b.desk) events c.deref-2.result.now ok at is b.stands }
+    record {
+      in_range = b.in_range;
+      stands = redone_stands b.core c.redo.new.self b.next (out_of b.desk) events c.deref-2.result.now ok at is b.stands;
+      within = within_marked (items_of b.core) (items_of c.redo.new.self) (redone events) (book_redone b.core c.redo.new.self b.next (out_of b.desk) events c.deref-2.result.now ok at is b.stands).marked b.within;
+    }
 
 pub returns-clause-ok : goal.returns-clause-ok
 returns-clause-ok c =

@@ -6,7 +6,6 @@ use Rattle.turn.specs.Tasks.{task_of}
 use Rattle.turn.specs.declared.ticket.Out.{Out}
 use Rattle.turn.specs.declared.ticket.Task.{Task}
 use Rattle.turn.specs.declared.ticket.Ran.{Ran}
-use Rattle.turn.specs.declared.ticket.Ticket.{Ticket}
 use Rattle.book.specs.Books.{Book}
 use Rattle.book.specs.BookView.{book_of}
 use Rattle.book.specs.Calls.{lent_of, turn_in}
@@ -21,17 +20,17 @@ use Rattle.book.proofs.book.Book.turn.Goals as goal
 pub returns-in-Err-clause-unchanged : goal.returns-in-Err-clause-unchanged
 returns-in-Err-clause-unchanged c =
     let s = c.args.self.now in
-    let t = c.in_ok-ticket.ticket.stage in
+    let t = c.in_ok-ticket.ticket in
     let lends = c.in_ok-ticket.ensures.ok.1 in
     let back = lent_without s.core s.next (out_of s.desk) (lent_of (task_of t)) lends.named s.stands in
-    let number = ap (λ (o : Out). o.event) c.out.ensures ∙ ap (λ (k : Ticket Out). k.stage.event) c.in-Err.ensures.err in
+    let number = ap (λ (o : Out). o.event) c.out.ensures ∙ ap (λ (k : Out). k.event) c.in-Err.ensures.err in
     subst (λ (f : BookFault). Unturned f (book_of s) (book_of c.drop_turn.new.self)) (sym c.drop_turn.ensures.same)
     (inr (struck c.args.message c.args.budget 0 t (book_of s) (book_of c.checkout.new.self) _ c.out.result.now.event lends number back c.drop_turn.ensures.gone))
 
 pub returns-in_default-clause-unchanged : goal.returns-in_default-clause-unchanged
 returns-in_default-clause-unchanged c =
     let s = c.args.self.now in
-    let t = c.in_ok-ticket.ticket.stage in
+    let t = c.in_ok-ticket.ticket in
     let lends = c.in_ok-ticket.ensures.ok.1 in
     let back = lent_without s.core s.next (out_of s.desk) (lent_of (task_of t)) lends.named s.stands in
     let number = ap (λ (r : Ran). r.carried.event) c.ran.ensures ∙ ap (λ (o : Task). o.event) c.in-Ok.ensures.ok in
@@ -41,8 +40,8 @@ returns-in_default-clause-unchanged c =
 pub returns-in-Ok-commit-clause-ok : goal.returns-in-Ok-commit-clause-ok
 returns-in-Ok-commit-clause-ok c =
     let s = c.args.self.now in
-    let t = c.in_ok-ticket.ticket.stage in
-    let r = c.in-Ok.ran.stage in
+    let t = c.in_ok-ticket.ticket in
+    let r = c.in-Ok.ran in
     let lends = c.in_ok-ticket.ensures.ok.1 in
     let back = lent_without s.core s.next (out_of s.desk) (lent_of (task_of t)) lends.named s.stands in
     let committed = c.in-Ok-commit.ensures.ok in
@@ -59,21 +58,21 @@ returns-in-Ok-commit-clause-ok c =
 pub returns-in-Err-commit-clause-err : goal.returns-in-Err-commit-clause-err
 returns-in-Err-commit-clause-err c =
     let b = book_of c.args.self.now in
-    let t = c.in_ok-ticket.ticket.stage in
+    let t = c.in_ok-ticket.ticket in
     let lent = c.in_ok-ticket.ensures.ok in
-    let memory = memory_alone c.args.message c.args.budget 0 t b (book_of c.checkout.new.self) c.in-Ok.ran.stage lent.1 c.in-Ok.ensures.ok c.in-Ok.ensures.found lent.0 c.in-Err-commit.fault c.in-Err-commit.ensures.err in
+    let memory = memory_alone c.args.message c.args.budget 0 t b (book_of c.checkout.new.self) c.in-Ok.ran lent.1 c.in-Ok.ensures.ok c.in-Ok.ensures.found lent.0 c.in-Err-commit.fault c.in-Err-commit.ensures.err in
     subst (λ (f : BookFault). Tells f (checkout_refusal b c.args.message c.args.budget)) (sym (c.drop_turn-in-Err-commit.ensures.same ∙ memory)) tt
 
 pub returns-in-Err-commit-clause-unchanged : goal.returns-in-Err-commit-clause-unchanged
 returns-in-Err-commit-clause-unchanged c =
     let s = c.args.self.now in
     let b = book_of s in
-    let t = c.in_ok-ticket.ticket.stage in
+    let t = c.in_ok-ticket.ticket in
     let lent = c.in_ok-ticket.ensures.ok in
     let mid = book_of c.checkout.new.self in
     let back = lent_without s.core s.next (out_of s.desk) (lent_of (task_of t)) lent.1.named s.stands in
     let number = ap (λ (r : Ran). r.carried.event) c.ran.ensures ∙ ap (λ (o : Task). o.event) c.in-Ok.ensures.ok in
     let gone = c.drop_turn-in-Err-commit.ensures.gone ∙ ap (λ (k : Book). record k { out = without c.ran.result.now.carried.event k.out }) c.in-Err-commit.ensures.unchanged in
-    let memory = memory_alone c.args.message c.args.budget 0 t b mid c.in-Ok.ran.stage lent.1 c.in-Ok.ensures.ok c.in-Ok.ensures.found lent.0 c.in-Err-commit.fault c.in-Err-commit.ensures.err in
+    let memory = memory_alone c.args.message c.args.budget 0 t b mid c.in-Ok.ran lent.1 c.in-Ok.ensures.ok c.in-Ok.ensures.found lent.0 c.in-Err-commit.fault c.in-Err-commit.ensures.err in
     subst (λ (f : BookFault). Unturned f b (book_of c.drop_turn-in-Err-commit.new.self)) (sym (c.drop_turn-in-Err-commit.ensures.same ∙ memory))
     (inr (struck c.args.message c.args.budget 0 t b mid _ c.ran.result.now.carried.event lent.1 number back gone))

@@ -12,6 +12,8 @@ use Rattle.book.specs.Refusals.{undo_refusal}
 use Rattle.book.proofs.Choosing.{stands_journal, places_within, places_count}
 use Rattle.book.proofs.Entering.{stands_same}
 use Rattle.book.proofs.Undoing.{undone_stands, book_undone}
+use Rattle.book.specs.Calls.{undone}
+use Rattle.book.proofs.Within.{within_same, within_marked}
 use Rattle.book.proofs.book.Book.undo.Goals as goal
 
 pub check_undo-requires : goal.check_undo-requires
@@ -31,7 +33,7 @@ prepare-requires c =
 pub invariant_of-self : goal.invariant_of-self
 invariant_of-self c =
     let b = c.args.self.now in
-    record { in_range = b.in_range; stands = stands_same b.core c.prepare.new.self b.next (out_of b.desk) c.prepare.ensures.shown b.stands }
+    record { in_range = b.in_range; stands = stands_same b.core c.prepare.new.self b.next (out_of b.desk) c.prepare.ensures.shown b.stands; within = within_same b.core c.prepare.new.self c.prepare.ensures.shown b.within }
 
 pub invariant_of-self-2 : goal.invariant_of-self-2
 invariant_of-self-2 c =
@@ -42,7 +44,11 @@ invariant_of-self-2 c =
     let at : c.deref-2.result.now ≡ places_from 0 events (lines_of (items_of b.core)) =
     c.deref-2.ensures.value ∙ c.in_ok-positions.ensures ∙ ap (λ (names : List EventName). places_from 0 names (lines_of (map item_of c.entries-2.result.now))) same ∙ ap (λ (items : List Item). places_from 0 events (lines_of items)) c.entries-2.ensures in
     let is : shown c.undo.new.self ≡ walk (swap_item false) (reverse c.deref-2.result.now) (shown b.core) = c.undo.ensures.shown ∙ ap (walk (swap_item false) (reverse c.deref-2.result.now)) c.prepare.ensures.shown in
-    record { in_range = b.in_range; stands = undone_stands b.core c.undo.new.self b.next (out_of b.desk) events c.deref-2.result.now ok at is b.stands }
+    record {
+      in_range = b.in_range;
+      stands = undone_stands b.core c.undo.new.self b.next (out_of b.desk) events c.deref-2.result.now ok at is b.stands;
+      within = within_marked (items_of b.core) (items_of c.undo.new.self) (undone events) (book_undone b.core c.undo.new.self b.next (out_of b.desk) events c.deref-2.result.now ok at is b.stands).marked b.within;
+    }
 
 pub returns-clause-ok : goal.returns-clause-ok
 returns-clause-ok c =

@@ -2,7 +2,7 @@ use Rattle.std.proofs.Common.{◌≡◌, ap, sym, subst, ◌∙◌}
 use Rattle.history.specs.Records.{State, contents}
 use Rattle.post.specs.Theory.{cells, state_of_world}
 use Rattle.desk.specs.DeskView.{out_of}
-use Rattle.book.specs.Books.{PlainRun}
+use Rattle.event.specs.Runs.{PlainRun}
 use Rattle.book.specs.BookView.{book_of}
 use Rattle.book.specs.Calls.{live_events}
 use Rattle.book.proofs.Blank.{stands_run, stands_writers}

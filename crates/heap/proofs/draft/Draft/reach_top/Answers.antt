@@ -4,23 +4,30 @@ use Rattle.std.specs.Arc.{arc_value}
 use Rattle.values.specs.View.{val_of}
 use Rattle.heap.specs.State.{State, Cells, top, slot_cell, object_cell, bound, held, made, write}
 use Rattle.heap.specs.View.{bind_of, object_of, state_of}
-use Rattle.heap.specs.Found.{Found, touched_in, writes_in}
+use Rattle.heap.proofs.Reaching.{touched_same}
+use Rattle.heap.specs.Found.{Found, touch_in, touched_in, writes_in}
 use Rattle.heap.specs.Reaches.{state_in}
+use Rattle.heap.specs.DraftView.{drafted}
 use Rattle.heap.specs.Drafts.{is_of, with_slots, with_objects, and_slots, and_objects, writes_of, draft_of, touched_of}
 use Rattle.heap.proofs.Overlaid.{slots_none, objects_none, no_slots_touched, no_objects_touched, slot_made, slot_touched, object_made, object_touched, own_written, own_touched, beneath_written, touched_beneath, tops_pass, same_set, written_also, empty_list, slots_kept, objects_kept, slots_set_kept, objects_set_kept}
 use Rattle.heap.proofs.draft.Draft.reach_top.Goals as goal
 
 pub returns-clause-state : goal.returns-clause-state
 returns-clause-state c =
-    let d = c.args.self.now in
-    ap (λ s. with_objects d.event d.vat d.objects.items (with_slots d.event d.vat d.slots.items s)) c.reach_top.ensures.state
+    let d = c.self.inside in rw (← c.self.view_is) (
+    ap (λ s. with_objects d.event d.vat d.objects.items (with_slots d.event d.vat d.slots.items s)) c.reach_top.ensures.state)
 
 pub returns-clause-touched : goal.returns-clause-touched
 returns-clause-touched c =
-    let d = c.args.self.now in
-    on_ok_weaker c.reach_top.result (λ e. touched_beneath d.event d.vat d.slots.items d.objects.items (touched_in d.base.footprint) (touched_in c.reach_top.new.self.footprint) (top c.args.name.now) e) c.reach_top.ensures.touched
+    let d = c.self.inside in rw (← c.self.view_is) (
+    on_ok_weaker c.reach_top.result (λ e. touched_beneath d.event d.vat d.slots.items d.objects.items (touched_in d.base.footprint) (touched_in c.reach_top.new.self.footprint) (top c.args.name.now) e) c.reach_top.ensures.touched)
 
 pub returns-clause-written : goal.returns-clause-written
 returns-clause-written c =
-    let d = c.args.self.now in
-    same_set _ _ (ap (λ s. with_objects d.event d.vat d.objects.items (with_slots d.event d.vat d.slots.items s)) c.reach_top.ensures.written)
+    let d = c.self.inside in rw (← c.self.view_is) (
+    same_set _ _ (ap (λ s. with_objects d.event d.vat d.objects.items (with_slots d.event d.vat d.slots.items s)) c.reach_top.ensures.written))
+
+pub returns-clause-err : goal.returns-clause-err
+returns-clause-err c =
+    let d = c.self.inside in rw (← c.self.view_is) (
+    on_err_weaker c.reach_top.result (λ e. ap (λ q. and_objects d.event d.vat d.objects.items (and_slots d.event d.vat d.slots.items q)) (touched_same (touch_in d.base.footprint) _ e)) c.reach_top.ensures.err)

@@ -6,45 +6,47 @@ use Rattle.heap.specs.State.{State, Cells, top, slot_cell, object_cell, bound, h
 use Rattle.heap.specs.View.{bind_of, object_of, state_of}
 use Rattle.heap.specs.Found.{Found, touched_in, writes_in}
 use Rattle.heap.specs.Reaches.{state_in}
+use Rattle.heap.specs.DraftView.{drafted}
 use Rattle.heap.specs.Drafts.{is_of, with_slots, with_objects, and_slots, and_objects, writes_of, draft_of, touched_of}
+use Rattle.heap.proofs.Drafting.{unwritten}
 use Rattle.heap.proofs.Overlaid.{slots_none, objects_none, no_slots_touched, no_objects_touched, slot_made, slot_touched, object_made, object_touched, own_written, own_touched, beneath_written, touched_beneath, tops_pass, same_set, written_also, empty_list, slots_kept, objects_kept, slots_set_kept, objects_set_kept}
 use Rattle.heap.proofs.draft.Draft.write_slot.Goals as goal
 
 pub returns-then-is_own-clause-ok : goal.returns-then-is_own-clause-ok
 returns-then-is_own-clause-ok c =
-    let d = c.args.self.now in
-    own_written d.event d.vat d.slots.items d.objects.items (state_in d.base) c.args.slot c.args.value c.len.result c.is_own.result (omega (arith, c.len.ensures, d.slots.ok)) c.is_own.ensures c.if-is_own.true
+    let d = c.self.inside in rw (← c.self.view_is) (
+    own_written d.event d.vat d.slots.items d.objects.items (state_in d.base) c.args.slot c.args.value c.len.result c.is_own.result (omega (arith, c.len.ensures, d.slots.ok)) (rw (← c.self.view_is) at c.is_own.ensures) c.if-is_own.true)
 
 pub returns-then-is_own-clause-touched : goal.returns-then-is_own-clause-touched
 returns-then-is_own-clause-touched c =
-    let d = c.args.self.now in
-    own_touched d.event d.vat d.slots.items d.objects.items (touched_in d.base.footprint) c.args.slot c.args.value c.len.result c.is_own.result (omega (arith, c.len.ensures, d.slots.ok)) c.is_own.ensures c.if-is_own.true
+    let d = c.self.inside in rw (← c.self.view_is) (
+    own_touched d.event d.vat d.slots.items d.objects.items (touched_in d.base.footprint) c.args.slot c.args.value c.len.result c.is_own.result (omega (arith, c.len.ensures, d.slots.ok)) (rw (← c.self.view_is) at c.is_own.ensures) c.if-is_own.true)
 
 pub returns-then-is_own-clause-written : goal.returns-then-is_own-clause-written
 returns-then-is_own-clause-written c =
-    let d = c.args.self.now in
-    written_also (slot_cell c.args.slot) (held (val_of c.args.value)) (writes_of d) _ (own_written d.event d.vat d.slots.items d.objects.items (writes_in d.base.footprint) c.args.slot c.args.value c.len.result c.is_own.result (omega (arith, c.len.ensures, d.slots.ok)) c.is_own.ensures c.if-is_own.true)
+    let d = c.self.inside in rw (← c.self.view_is) (
+    written_also (slot_cell c.args.slot) (held (val_of c.args.value)) (writes_of (drafted d)) _ (own_written d.event d.vat d.slots.items d.objects.items (writes_in d.base.footprint) c.args.slot c.args.value c.len.result c.is_own.result (omega (arith, c.len.ensures, d.slots.ok)) (rw (← c.self.view_is) at c.is_own.ensures) c.if-is_own.true))
 
 pub returns-else-is_own-clause-ok : goal.returns-else-is_own-clause-ok
 returns-else-is_own-clause-ok c =
-    let d = c.args.self.now in
+    let d = c.self.inside in rw (← c.self.view_is) (
     on_ok_weaker c.write_slot.result (λ w.
-    beneath_written d.event d.vat d.slots.items d.objects.items (state_in d.base) (state_in c.write_slot.new.self) c.args.slot c.args.value c.len.result c.is_own.result (omega (arith, c.len.ensures, d.slots.ok)) c.is_own.ensures c.if-is_own.false w
-    ) c.write_slot.ensures.state
+    beneath_written d.event d.vat d.slots.items d.objects.items (state_in d.base) (state_in c.write_slot.new.self) c.args.slot c.args.value c.len.result c.is_own.result (omega (arith, c.len.ensures, d.slots.ok)) (rw (← c.self.view_is) at c.is_own.ensures) c.if-is_own.false w
+    ) c.write_slot.ensures.state)
 
 pub returns-else-is_own-clause-touched : goal.returns-else-is_own-clause-touched
 returns-else-is_own-clause-touched c =
-    let d = c.args.self.now in
-    on_ok_weaker c.write_slot.result (λ e. touched_beneath d.event d.vat d.slots.items d.objects.items (touched_in d.base.footprint) (touched_in c.write_slot.new.self.footprint) (slot_cell c.args.slot) e) c.write_slot.ensures.touched
+    let d = c.self.inside in rw (← c.self.view_is) (
+    on_ok_weaker c.write_slot.result (λ e. touched_beneath d.event d.vat d.slots.items d.objects.items (touched_in d.base.footprint) (touched_in c.write_slot.new.self.footprint) (slot_cell c.args.slot) e) c.write_slot.ensures.touched)
 
 pub returns-else-is_own-clause-written : goal.returns-else-is_own-clause-written
 returns-else-is_own-clause-written c =
-    let d = c.args.self.now in
-    on_ok_weaker c.write_slot.result (λ w. written_also (slot_cell c.args.slot) (held (val_of c.args.value)) (writes_of d) _ (
-    beneath_written d.event d.vat d.slots.items d.objects.items (writes_in d.base.footprint) (writes_in c.write_slot.new.self.footprint) c.args.slot c.args.value c.len.result c.is_own.result (omega (arith, c.len.ensures, d.slots.ok)) c.is_own.ensures c.if-is_own.false w
-    )) c.write_slot.ensures.written
+    let d = c.self.inside in rw (← c.self.view_is) (
+    on_ok_weaker c.write_slot.result (λ w. written_also (slot_cell c.args.slot) (held (val_of c.args.value)) (writes_of (drafted d)) _ (
+    beneath_written d.event d.vat d.slots.items d.objects.items (writes_in d.base.footprint) (writes_in c.write_slot.new.self.footprint) c.args.slot c.args.value c.len.result c.is_own.result (omega (arith, c.len.ensures, d.slots.ok)) (rw (← c.self.view_is) at c.is_own.ensures) c.if-is_own.false w
+    )) c.write_slot.ensures.written)
 
 pub returns-else-is_own-clause-err : goal.returns-else-is_own-clause-err
 returns-else-is_own-clause-err c =
-    let d = c.args.self.now in
-    on_err_weaker c.write_slot.result (λ e. ap (λ s. with_objects d.event d.vat d.objects.items (with_slots d.event d.vat d.slots.items s)) e) c.write_slot.ensures.err
+    let d = c.self.inside in rw (← c.self.view_is) (
+    on_err_weaker c.write_slot.result (λ e. unwritten d c.write_slot.new.self e c.write_slot.ensures.beneath) c.write_slot.ensures.err)

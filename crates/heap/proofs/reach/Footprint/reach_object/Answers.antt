@@ -35,3 +35,6 @@ pub returns-in_ok-add-clause-written : goal.returns-in_ok-add-clause-written
 returns-in_ok-add-clause-written c =
     let none = none_is (touch same_object c.args.self.now.objects c.args.object) (sym c.has.ensures ∙ c.if-not-has.true) in
     writes_read (touch_in c.args.self.now) _ (object_cell c.args.object) _ (objects_touched c.args.self.now c.add.new.self c.args.object (record { found = c.in_ok-found.found; written = None }) c.in_ok-add.ensures.ok) (ap (touch_of (λ m. made (object_of m))) none) (state_of c.args.state.now) c.in_ok-found.ensures refl
+
+pub returns-in_err-add-clause-err : goal.returns-in_err-add-clause-err
+returns-in_err-add-clause-err c = on_err c.from_residual-in_err-add.result _ (objects_same c.args.self.now c.add.new.self c.in_err-add.ensures.err)

@@ -35,3 +35,6 @@ pub returns-in_ok-add-clause-written : goal.returns-in_ok-add-clause-written
 returns-in_ok-add-clause-written c =
     let none = none_is (touch same_slot c.args.self.now.slots c.args.slot) (sym c.has.ensures ∙ c.if-not-has.true) in
     writes_read (touch_in c.args.self.now) _ (slot_cell c.args.slot) _ (slots_touched c.args.self.now c.add.new.self c.args.slot (record { found = c.in_ok-found.found; written = None }) c.in_ok-add.ensures.ok) (ap (touch_of (λ v. held (val_of v))) none) (state_of c.args.state.now) c.in_ok-found.ensures refl
+
+pub returns-in_err-add-clause-err : goal.returns-in_err-add-clause-err
+returns-in_err-add-clause-err c = on_err c.from_residual-in_err-add.result _ (slots_same c.args.self.now c.add.new.self c.in_err-add.ensures.err)

@@ -35,3 +35,6 @@ pub returns-in_ok-add-clause-written : goal.returns-in_ok-add-clause-written
 returns-in_ok-add-clause-written c =
     let none = none_is (touch same_name c.args.self.now.tops c.args.name.now) (sym c.has.ensures ∙ c.if-not-has.true) in
     writes_read (touch_in c.args.self.now) _ (top c.args.name.now) _ (tops_touched c.args.self.now c.add.new.self c.args.name.now (record { found = c.in_ok-found.found; written = None }) (λ q. c.in_ok-add.ensures.ok q ∙ ap (λ k. cond (same_name k q) (Some (record { found = c.in_ok-found.found; written = None })) (touch same_name c.args.self.now.tops q)) c.in_ok-share.ensures)) (ap (touch_of (λ b. bound (bind_of b))) none) (state_of c.args.state.now) c.in_ok-found.ensures refl
+
+pub returns-in_err-add-clause-err : goal.returns-in_err-add-clause-err
+returns-in_err-add-clause-err c = on_err c.from_residual-in_err-add.result _ (tops_same c.args.self.now c.add.new.self c.in_err-add.ensures.err)

@@ -15,7 +15,7 @@ pub returns-in_err-found-in-Err-clause-found : goal.returns-in_err-found-in-Err-
 returns-in_err-found-in-Err-clause-found c = found_same (touch_in c.args.self.now) _ (tops_same c.args.self.now c.write.new.self c.in-Err.ensures.same) (state_of c.args.state.now)
 
 pub returns-in_err-found-in-Err-clause-err : goal.returns-in_err-found-in-Err-clause-err
-returns-in_err-found-in-Err-clause-err c = on_err c.from_residual.result _ (state_same (touch_in c.args.self.now) _ (tops_same c.args.self.now c.write.new.self c.in-Err.ensures.same) (state_of c.args.state.now))
+returns-in_err-found-in-Err-clause-err c = on_err c.from_residual.result _ (tops_same c.args.self.now c.write.new.self c.in-Err.ensures.same)
 
 pub returns-in-Ok-clause-found : goal.returns-in-Ok-clause-found
 returns-in-Ok-clause-found c g =
@@ -58,4 +58,4 @@ returns-in_ok-found-in-Err-clause-written c =
 
 pub returns-in_ok-found-in-Err-clause-err : goal.returns-in_ok-found-in-Err-clause-err
 returns-in_ok-found-in-Err-clause-err c =
-    on_err_weaker c.add.result (λ e. state_same (touch_in c.args.self.now) _ (tops_same c.args.self.now c.add.new.self (λ q. e q ∙ c.in-Err.ensures.same q)) (state_of c.args.state.now)) c.add.ensures.err
+    on_err_weaker c.add.result (λ e. tops_same c.args.self.now c.add.new.self (λ q. e q ∙ c.in-Err.ensures.same q)) c.add.ensures.err

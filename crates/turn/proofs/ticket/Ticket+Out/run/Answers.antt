@@ -1,4 +1,4 @@
-use Rattle.std.proofs.Common.{rules, subst, sym}
+use Rattle.std.proofs.Common.{ap, subst, sym, ◌∙◌}
 use Rattle.event.specs.Outcomes.{Meets}
 use Rattle.event.specs.declared.outcome.Outcome.{Outcome}
 use Rattle.heap.specs.Found.{Found}
@@ -6,15 +6,19 @@ use Rattle.heap.specs.View.{state_of}
 use Rattle.std.specs.Arc.{arc_value}
 use Rattle.post.specs.DeliveryView.{delivery_of}
 use Rattle.post.specs.declared.message.Sent.{Sent}
+use Rattle.turn.specs.Tasks.{task_of}
 use Rattle.turn.proofs.ticket.Ticket+Out.run.Goals as goal
 
 pub with_outcome-requires : goal.with_outcome-requires
 with_outcome-requires c =
-    let turn = c.args.self.stage in
+    let turn = c.self.inside.stage in
     subst (λ (s : Sent). Meets (delivery_of s.delivery) turn.event turn.vat turn.budget c.in-Ok.outcome) c.deref.ensures c.in-Ok.ensures.meets
 
+pub returns-in-Ok-clause-ok : goal.returns-in-Ok-clause-ok
+returns-in-Ok-clause-ok c = c.with_outcome.ensures.carried ∙ ap task_of c.self.view_is
+
 pub returns-in-Ok-clause-found : goal.returns-in-Ok-clause-found
-returns-in-Ok-clause-found c = subst (λ (o : Outcome). Found o.footprint (state_of (arc_value c.args.self.stage.state))) (sym c.with_outcome.ensures.outcome) c.in-Ok.ensures.found
+returns-in-Ok-clause-found c = rw (← c.self.view_is) (subst (λ (o : Outcome). Found o.footprint (state_of (arc_value c.self.inside.stage.state))) (sym c.with_outcome.ensures.outcome) c.in-Ok.ensures.found)
 
 pub returns-in-Err-clause-err : goal.returns-in-Err-clause-err
-returns-in-Err-clause-err c = search rules
+returns-in-Err-clause-err c = c.self.view_is

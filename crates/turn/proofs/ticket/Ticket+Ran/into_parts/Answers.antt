@@ -1,5 +1,4 @@
-use Rattle.std.proofs.Common.{refl}
 use Rattle.turn.proofs.ticket.Ticket+Ran.into_parts.Goals as goal
 
 pub returns : goal.returns
-returns c = refl
+returns c = c.self.view_is

@@ -1,0 +1,13 @@
+//! What books and plain runs answer where memory is ample: calls with their answers, and sessions of commands over what a book does.
+#![tactic(auto)]
+
+#[cfg(test)]
+mod books;
+#[cfg(test)]
+mod calls;
+#[cfg(test)]
+mod plain_runs;
+#[cfg(test)]
+mod sessions;
+#[cfg(test)]
+mod tickets;

@@ -1,0 +1,85 @@
+// The plain run of events.
+
+use crate::calls::{BUDGET, message, name, program};
+use ids::names::{EventName, PromId, VatNo};
+use post::event::{Action, Event};
+use post::world::World;
+use std::process::Abort;
+use values::value::Value;
+use world::run::plain_run;
+use world::step::StepFault;
+
+fn event(name: u64, action: Action) -> Event {
+    Event {
+        name: EventName(name),
+        action,
+    }
+}
+
+/// The turn of the first message of an event, at the vat that another one bore.
+fn turn_at(born: u64, asked: u64) -> Action {
+    Action::Turn {
+        vat: VatNo(EventName(born)),
+        message: message(asked),
+        budget: BUDGET,
+    }
+}
+
+/// What the question of an event at the first vat was answered, if it was.
+fn answer(world: &World, asked: u64) -> Option<i64> {
+    let promise = PromId {
+        event: EventName(asked),
+        index: 0,
+        home: VatNo(EventName(1)),
+    };
+    match world.published(promise) {
+        Some(Value::Int(found)) => Some(*found),
+        _ => None,
+    }
+}
+
+/// A birth and its turn, and a question and its turn, in order.
+fn events(rt: &(impl Abort + AllocGlobal)) -> Vec<Event> {
+    let birth = Action::Birth(name(rt, "a"), program(rt, "var n := 20"));
+    let ask = Action::Ask(name(rt, "a"), program(rt, "n := n + 1"));
+    vec![in rt.alloc();
+        event(1, birth),
+        event(2, turn_at(1, 1)),
+        event(3, ask),
+        event(4, turn_at(1, 3)),
+    ]
+    .expect(rt, "no memory")
+}
+
+#[test]
+fn a_plain_run(rt: HostRuntime) {
+    match plain_run(rt.alloc(), &events(&rt)) {
+        Ok(world) => {
+            assert!(rt; answer(&world, 1) == Some(20));
+            assert!(rt; answer(&world, 3) == Some(21));
+        }
+        Err(_) => rt.panic("no run"),
+    }
+}
+
+/// Without its birth a turn is impossible, and so is a question that is asked of no vat.
+#[test]
+fn impossible_runs(rt: HostRuntime) {
+    let events = events(&rt);
+    for first in 1..4 {
+        assert!(rt;
+            matches!(
+                plain_run(rt.alloc(), &events[first..]),
+                Err(StepFault::Impossible)
+            )
+        );
+    }
+}
+
+/// A message has no turn at another vat than its own.
+#[test]
+fn a_turn_elsewhere(rt: HostRuntime) {
+    let mut events = events(&rt);
+    events[3] = event(4, turn_at(2, 3));
+    assert!(rt; matches!(plain_run(rt.alloc(), &events), Err(StepFault::Impossible)));
+}
