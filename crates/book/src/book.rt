@@ -40,6 +40,7 @@ ghost use Rattle.book.specs.declared.fault.BookFault.TheVariants.{NoTicket, Stal
 use crate::fault::BookFault;
 use crate::selecting::{check_cone, check_exchange, check_redo, check_undo};
 use causality::cone::cone;
+use causality::names::NameSet;
 use causality::selection::positions;
 use cells::swaps::Swaps;
 use desk::desk::{Desk, Lent};
@@ -541,14 +542,15 @@ impl Book {
     /// Takes events back, with the world as if they had never been: nothing is run. Answers how many.
     ///
     /// # Errors
-    /// `NoEvent`, `NotLive`, `NotClosed`, `Memory`, tried in this order.
+    /// `NoEvent`, `NotLive`, `NotClosed`, tried in this order; `Memory` at any time.
     pub fn undo(&mut self, events: &[EventName]) -> Result<usize, BookFault>
         ensures ok { IfOk result (λ count. (undo_refusal (book_of self.old).journal events.now ≡ None) × Undoes events.now (book_of self.old) (book_of self.new) × (count ≡ length (filter (chosen events.now) (book_of self.old).journal))) }
         ensures err { IfErr result (λ fault. Tells fault (undo_refusal (book_of self.old).journal events.now)) }
         ensures unchanged { OnErr result (book_of self.new ≡ book_of self.old) }
     {
-        check_undo(self.core.entries(), events)?;
-        let positions = positions(self.alloc, self.core.entries(), events)?;
+        let names = NameSet::new(self.alloc, events)?;
+        check_undo(self.alloc, self.core.entries(), &names)?;
+        let positions = positions(self.alloc, self.core.entries(), &names)?;
         self.core.prepare(self.alloc, &positions)?;
         self.core.undo(&positions, &mut Swaps::none());
         Ok(positions.len())
@@ -557,14 +559,15 @@ impl Book {
     /// Puts events that were undone back where they stand in the journal, also amid events that came since. Answers how many.
     ///
     /// # Errors
-    /// `NoEvent`, `IsLive`, `CauseMissing`, `Crossed`, `Memory`, tried in this order.
+    /// `NoEvent`, `IsLive`, `CauseMissing`, `Crossed`, tried in this order; `Memory` at any time.
     pub fn redo(&mut self, events: &[EventName]) -> Result<usize, BookFault>
         ensures ok { IfOk result (λ count. (redo_refusal (book_of self.old).journal events.now ≡ None) × Redoes events.now (book_of self.old) (book_of self.new) × (count ≡ length (filter (chosen events.now) (book_of self.old).journal))) }
         ensures err { IfErr result (λ fault. Tells fault (redo_refusal (book_of self.old).journal events.now)) }
         ensures unchanged { OnErr result (book_of self.new ≡ book_of self.old) }
     {
-        check_redo(self.alloc, self.core.entries(), events)?;
-        let positions = positions(self.alloc, self.core.entries(), events)?;
+        let names = NameSet::new(self.alloc, events)?;
+        check_redo(self.alloc, self.core.entries(), &names)?;
+        let positions = positions(self.alloc, self.core.entries(), &names)?;
         self.core.prepare(self.alloc, &positions)?;
         self.core.redo(&positions, &mut Swaps::none());
         Ok(positions.len())
@@ -592,12 +595,12 @@ impl Book {
     /// An event and all that came of it, in the journal's order: the least set with it that may be undone.
     ///
     /// # Errors
-    /// `NoEvent`, `NotLive`, `Memory`, tried in this order.
+    /// `NoEvent`, `NotLive`, tried in this order; `Memory` at any time.
     pub fn cone(&self, event: EventName) -> Result<Vec<EventName>, BookFault>
         ensures ok { IfOk result (λ names. (cone_refusal (book_of self.now).journal event ≡ None) × Cone (book_of self.now).journal event names.items) }
         ensures err { IfErr result (λ fault. Tells fault (cone_refusal (book_of self.now).journal event)) }
     {
-        check_cone(self.core.entries(), event)?;
+        check_cone(self.alloc, self.core.entries(), event)?;
         Ok(cone(self.alloc, self.core.entries(), event)?)
     }
 }

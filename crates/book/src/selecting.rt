@@ -9,6 +9,7 @@ ghost use Rattle.book.specs.declared.fault.BookFault.TheVariants.{Memory};
 ghost use Rattle.book.specs.Refusals.{first, missing_refusal, undone_refusal, live_refusal, undo_refusal, redo_refusal, cone_refusal, exchange_refusal, refuse_where, not_live, placed_refusal};
 
 use crate::fault::BookFault;
+use causality::names::NameSet;
 use causality::selection::{
     first_crossing, first_gap, first_marked, first_missing_cause, least_missing,
 };
@@ -17,18 +18,18 @@ use journal::entry::{Entry, Mark};
 use std::alloc::Global;
 
 /// The events are in the journal.
-fn check_entered(entries: &[Entry], names: &[EventName]) -> Result<(), BookFault>
+fn check_entered(alloc: Global, entries: &[Entry], names: &NameSet) -> Result<(), BookFault>
     ensures ok { OnOk result (missing_refusal names.now (lines_of (map item_of entries.now)) ≡ None) }
     ensures err { IfErr result (λ fault. Tells fault (missing_refusal names.now (lines_of (map item_of entries.now)))) }
 {
-    match least_missing(entries, names) {
+    match least_missing(alloc, entries, names)? {
         Some(name) => Err(BookFault::NoEvent(name)),
         None => Ok(()),
     }
 }
 
 /// None of the events is undone.
-fn check_live(entries: &[Entry], names: &[EventName]) -> Result<(), BookFault>
+fn check_live(entries: &[Entry], names: &NameSet) -> Result<(), BookFault>
     ensures ok { OnOk result (undone_refusal names.now (lines_of (map item_of entries.now)) ≡ None) }
     ensures err { IfErr result (λ fault. Tells fault (undone_refusal names.now (lines_of (map item_of entries.now)))) }
 {
@@ -39,7 +40,7 @@ fn check_live(entries: &[Entry], names: &[EventName]) -> Result<(), BookFault>
 }
 
 /// None of the events is live.
-fn check_undone(entries: &[Entry], names: &[EventName]) -> Result<(), BookFault>
+fn check_undone(entries: &[Entry], names: &NameSet) -> Result<(), BookFault>
     ensures ok { OnOk result (live_refusal names.now (lines_of (map item_of entries.now)) ≡ None) }
     ensures err { IfErr result (λ fault. Tells fault (live_refusal names.now (lines_of (map item_of entries.now)))) }
 {
@@ -50,12 +51,12 @@ fn check_undone(entries: &[Entry], names: &[EventName]) -> Result<(), BookFault>
 }
 
 /// The events may be undone: all are in the journal and live, and so are all live events that came of them.
-pub(crate) fn check_undo(entries: &[Entry], names: &[EventName]) -> Result<(), BookFault>
+pub(crate) fn check_undo(alloc: Global, entries: &[Entry], names: &NameSet) -> Result<(), BookFault>
     requires { IsJournal (map item_of entries.now) }
     ensures ok { OnOk result (undo_refusal (lines_of (map item_of entries.now)) names.now ≡ None) }
     ensures err { IfErr result (λ fault. Tells fault (undo_refusal (lines_of (map item_of entries.now)) names.now)) }
 {
-    check_entered(entries, names)?;
+    check_entered(alloc, entries, names)?;
     check_live(entries, names)?;
     match first_gap(entries, names) {
         Some(gap) => Err(BookFault::NotClosed(gap.event, gap.other)),
@@ -64,16 +65,12 @@ pub(crate) fn check_undo(entries: &[Entry], names: &[EventName]) -> Result<(), B
 }
 
 /// The events may be redone: all are in the journal and undone, no cause of them is missing, and none crosses another.
-pub(crate) fn check_redo(
-    alloc: Global,
-    entries: &[Entry],
-    names: &[EventName],
-) -> Result<(), BookFault>
+pub(crate) fn check_redo(alloc: Global, entries: &[Entry], names: &NameSet) -> Result<(), BookFault>
     requires { IsJournal (map item_of entries.now) }
     ensures ok { OnOk result (redo_refusal (lines_of (map item_of entries.now)) names.now ≡ None) }
     ensures err { IfErr result (λ fault. Tells fault (redo_refusal (lines_of (map item_of entries.now)) names.now)) }
 {
-    check_entered(entries, names)?;
+    check_entered(alloc, entries, names)?;
     check_undone(entries, names)?;
     if let Some(gap) = first_missing_cause(alloc, entries, names)? {
         return Err(BookFault::CauseMissing(gap.event, gap.other));
@@ -85,13 +82,14 @@ pub(crate) fn check_redo(
 }
 
 /// The event is in the journal and live.
-pub(crate) fn check_cone(entries: &[Entry], root: EventName) -> Result<(), BookFault>
+pub(crate) fn check_cone(alloc: Global, entries: &[Entry], root: EventName) -> Result<(), BookFault>
     ensures ok { OnOk result (cone_refusal (lines_of (map item_of entries.now)) root ≡ None) }
     ensures err { IfErr result (λ fault. Tells fault (cone_refusal (lines_of (map item_of entries.now)) root)) }
 {
     let roots = [root];
-    check_entered(entries, &roots)?;
-    check_live(entries, &roots)
+    let names = NameSet::new(alloc, &roots)?;
+    check_entered(alloc, entries, &names)?;
+    check_live(entries, &names)
 }
 
 /// The events of the entries at a position, counted from 1, and behind it, which are live.

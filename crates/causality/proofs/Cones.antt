@@ -1,61 +1,74 @@
 -- A walk along the journal gathers the cone of an event.
-use Rattle.std.proofs.Common.{◌≡◌, ◌≢◌, ℕ, List, [], ◌∷◌, ◌++◌, Bool, true, false, cond, Vec, Global, Result, Ok, Err, refl, ap, sym, ◌∙◌, subst, map, filter, reverse, eq-eqb, ne_eqb}
-use Rattle.std.specs.Prelude.{◌||◌, ◌&&◌, ◌==◌, IfOk, None}
+use Rattle.std.proofs.Common.{◌≡◌, ◌≢◌, ℕ, ◌+◌, ◌<◌, List, [], ◌∷◌, ◌++◌, Bool, true, false, cond, length, drop, get_or, refl, ap, sym, ◌∙◌, subst, map, filter, reverse, eq-eqb, ne_eqb}
+use Rattle.std.specs.Prelude.{◌||◌, ◌&&◌, ◌==◌, Option, Some, None}
 use Rattle.std.specs.List.{list_any, AllByRecursion}
 use Rattle.std.proofs.lemmas.Bool.{or_left}
-use Rattle.std.proofs.lemmas.List.{reverse-append, reverse-reverse}
+use Rattle.std.proofs.lemmas.List.{map-append, reverse-append, reverse-reverse}
 use Rattle.std.proofs.lemmas.List.Sorted.{list_any-IsPermutation, IsPermutation-reverse}
-use Rattle.history.specs.Chains.{HasCells}
+use Rattle.history.specs.Chains.{Traced, Chained}
 use Rattle.history.specs.Cone.{cone, in_cone}
-use Rattle.history.specs.Journal.{Entry, name_of, is_in, caused, live_set, Distinct, Sound, Closed}
-use Rattle.history.specs.Subject.{meets}
+use Rattle.history.specs.Journal.{Entry, name_of, is_in, caused, live_set, HasCauses, Distinct, Sound, Closed}
 use Rattle.history.proofs.Cones.{cone_closed, cone_has_root, cone_least, cone_part}
-use Rattle.history.proofs.Lists.{all_map, all_both, all_reversed, any_same, filter_same}
+use Rattle.history.proofs.Lists.{all_map, all_of, any_same, filter_same}
 use Rattle.ids.specs.declared.names.EventName.{EventName}
-use Rattle.journal.specs.Items.{Item, wrote_one_of}
+use Rattle.journal.specs.Items.{Item, item_of}
+use Rattle.journal.specs.declared.entry.Entry as code
 use Rattle.journal.specs.Lines.{plain, Line, line_of, lines_of, entries_in}
 use Rattle.journal.specs.declared.entry.Mark.TheVariants as mark
 use Rattle.journal.proofs.Reversed.{map-map, map-reverse, filter-map, filter-reverse}
-use Rattle.journal.proofs.Touching.{any-map}
 use Rattle.causality.specs.Exact.{Cone, ClosedIn}
-use Rattle.causality.specs.Selections.{name_of as line_name, among, chosen, is_live, first_marked}
+use Rattle.causality.specs.Names.{SameNames, is_writer_in, wrote_last}
+use Rattle.causality.specs.Selections.{name_of as line_name, numbers, among, chosen, is_live, first_marked}
 use Rattle.causality.specs.Walks.{joins, joined_with, gathered}
-use Rattle.causality.proofs.Facts.{entry_at, cells_items, wrote_meets}
+use Rattle.causality.proofs.Along.{from_here}
+use Rattle.causality.proofs.Facts.{entry_at, same_entries}
 use Rattle.causality.proofs.Firsts.{none_each}
 use Rattle.causality.proofs.Gaps.{live_at}
+use Rattle.causality.proofs.NameSets.{named_last}
 use Rattle.causality.proofs.Pairs.{all_unmapped, all_from_end, all_to_end}
 use Rattle.causality.proofs.Telling.{Tells}
+use Rattle.causality.proofs.Writers.{last_tells, live_causes}
 
 -- a test finds the same in either order
 any_reversed : {A : Type 0} (p : A → Bool) (xs : List A) → list_any p (reverse xs) ≡ list_any p xs
 any_reversed p xs = sym (list_any-IsPermutation p xs (reverse xs) (IsPermutation-reverse xs))
 
-any_kept : {A : Type 0} (p q : A → Bool) (xs : List A) → list_any q (filter p xs) ≡ list_any (λ a. p a && q a) xs
-any_kept p q [] = refl
-any_kept p q (x ∷ xs) = first (p x) (any_kept p q xs)
+-- a set of numbers has the same last writers in either order
+wrote_reversed : (ns : List ℕ) (i : Item) → wrote_last (reverse ns) i ≡ wrote_last ns i
+wrote_reversed ns i = any_same _ _ i.lasts (all_of _ i.lasts (λ p. either p.1))
   where
-    first : (b : Bool) → list_any q (filter p xs) ≡ list_any (λ a. p a && q a) xs → list_any q (cond b (x ∷ filter p xs) (filter p xs)) ≡ ((b && q x) || list_any (λ a. p a && q a) xs)
-    first true h = ap (λ b. q x || b) h
-    first false h = h
+    either : (o : Option ℕ) → is_writer_in (reverse ns) o ≡ is_writer_in ns o
+    either None = refl
+    either (Some n) = any_reversed (λ m. m == n) ns
+
+-- the names of items, and their numbers
+abbrev names_of : List Item → List EventName
+names_of items = map (λ i. i.event.name) items
+
+abbrev numbers_of : List Item → List ℕ
+numbers_of items = map (λ i. i.event.name.0) items
+
+numbers_reversed : (items : List Item) → numbers (names_of (reverse items)) ≡ reverse (numbers_of items)
+numbers_reversed items = map-map (λ (e : EventName). e.0) (λ (i : Item). i.event.name) (reverse items) ∙ map-reverse (λ (i : Item). i.event.name.0) items
 
 -- those that have joined, the newest first
 abbrev taken : EventName → List Item → List Item
 taken root [] = []
-taken root (i ∷ older) = cond (joins root (taken root older) i) (i ∷ taken root older) (taken root older)
+taken root (i ∷ older) = cond (joins root (numbers_of (taken root older)) i) (i ∷ taken root older) (taken root older)
 
-gathered_on : (root : EventName) (joined xs ys : List Item) → gathered root joined (xs ++ ys) ≡ gathered root (gathered root joined xs) ys
+gathered_on : (root : EventName) (joined : List EventName) (xs ys : List Item) → gathered root joined (xs ++ ys) ≡ gathered root (gathered root joined xs) ys
 gathered_on root joined [] ys = refl
-gathered_on root joined (x ∷ xs) ys = gathered_on root (joined_with (joins root joined x) joined x) xs ys
+gathered_on root joined (x ∷ xs) ys = gathered_on root (joined_with (joins root (numbers joined) x) joined x) xs ys
 
-gathered_taken : (root : EventName) (rs : List Item) → gathered root [] (reverse rs) ≡ reverse (taken root rs)
+gathered_taken : (root : EventName) (rs : List Item) → gathered root [] (reverse rs) ≡ names_of (reverse (taken root rs))
 gathered_taken root [] = refl
 gathered_taken root (r ∷ rs) =
     ap (gathered root []) (reverse-append (r ∷ []) rs) ∙ gathered_on root [] (reverse rs) (r ∷ []) ∙ ap (λ j. gathered root j (r ∷ [])) (gathered_taken root rs)
-    ∙ ap (λ b. joined_with ((r.event.name.0 == root.0) || (r.live && b)) (reverse (taken root rs)) r) (any_reversed (λ a. wrote_one_of a r) (taken root rs))
-    ∙ last (joins root (taken root rs) r) (taken root rs)
+    ∙ ap (λ b. joined_with ((r.event.name.0 == root.0) || (r.live && b)) (names_of (reverse (taken root rs))) r) (ap (λ ns. wrote_last ns r) (numbers_reversed (taken root rs)) ∙ wrote_reversed (numbers_of (taken root rs)) r)
+    ∙ last (joins root (numbers_of (taken root rs)) r) (taken root rs)
   where
-    last : (b : Bool) (j : List Item) → joined_with b (reverse j) r ≡ reverse (cond b (r ∷ j) j)
-    last true j = sym (reverse-append (r ∷ []) j)
+    last : (b : Bool) (j : List Item) → joined_with b (names_of (reverse j)) r ≡ names_of (reverse (cond b (r ∷ j) j))
+    last true j = sym (ap names_of (reverse-append (r ∷ []) j) ∙ map-append (λ (i : Item). i.event.name) (reverse j) (r ∷ []))
     last false j = refl
 
 -- a name that is put before others names no other, and is there if it is put
@@ -84,36 +97,26 @@ module _ (all : List Item) (root : EventName) where
   unnamed n (r ∷ rs) (ne, h) = skipped (decided r rs) (cone_names rs) r.event.name.0 n ne ∙ unnamed n rs h
 
   -- the newest joins where it is in the cone
-  joins_decided : (r : Item) (rs : List Item) → taken root rs ≡ filter (λ i. coned rs (entry_at all i)) rs → AllByRecursion (λ i. coned rs (entry_at all i) ≡ true → i.live ≡ true) rs
-      → (r.live ≡ true → AllByRecursion (λ i. caused plain (entry_at all r) (entry_at all i) ≡ (i.live && meets plain (entry_at all i).foot (entry_at all r).foot)) rs)
-      → HasCells plain (entry_at all r).foot r.lasts → joins root (taken root rs) r ≡ decided r rs
-  joins_decided r rs is live causes cells = ap (λ b. (r.event.name.0 == root.0) || b) (by r.live causes)
+  joins_decided : (r : Item) (rs : List Item) → numbers_of (taken root rs) ≡ cone_names rs → Distinct plain (map (entry_at all) rs) → Traced plain (entry_at all r) (map (entry_at all) rs)
+      → (r.live ≡ true → HasCauses plain (live_set plain) (entry_at all r) (map (entry_at all) rs)) → joins root (numbers_of (taken root rs)) r ≡ decided r rs
+  joins_decided r rs names d traced causes = ap (λ ns. joins root ns r) names ∙ ap (λ b. (r.event.name.0 == root.0) || b) (by r.live causes)
     where
-      same : (i : Item) (c l : Bool) → (c ≡ true → l ≡ true) → caused plain (entry_at all r) (entry_at all i) ≡ (l && meets plain (entry_at all i).foot (entry_at all r).foot)
-          → (c && wrote_one_of i r) ≡ (c && caused plain (entry_at all r) (entry_at all i))
-      same i true l p q = sym (q ∙ ap (λ b. b && meets plain (entry_at all i).foot (entry_at all r).foot) (p refl) ∙ wrote_meets all i r cells)
-      same i false l p q = refl
-
-      by : (b : Bool) → (b ≡ true → AllByRecursion (λ i. caused plain (entry_at all r) (entry_at all i) ≡ (i.live && meets plain (entry_at all i).foot (entry_at all r).foot)) rs)
-          → (b && list_any (λ a. wrote_one_of a r) (taken root rs)) ≡ (b && list_any (λ a. coned rs a && caused plain (entry_at all r) a) (map (entry_at all) rs))
+      by : (b : Bool) → (b ≡ true → HasCauses plain (live_set plain) (entry_at all r) (map (entry_at all) rs))
+          → (b && wrote_last (cone_names rs) r) ≡ (b && list_any (λ a. coned rs a && caused plain (entry_at all r) a) (map (entry_at all) rs))
       by false h = refl
-      by true h =
-          ap (list_any (λ a. wrote_one_of a r)) is ∙ any_kept (λ i. coned rs (entry_at all i)) (λ a. wrote_one_of a r) rs
-          ∙ any_same _ _ rs (all_both _ _ _ rs (λ i p q. same i (coned rs (entry_at all i)) i.live p q) live (h refl))
-          ∙ sym (any-map (entry_at all) (λ a. coned rs a && caused plain (entry_at all r) a) rs)
+      by true h = sym (last_tells (cone_names rs) (live_set plain) (entry_at all r) (map (entry_at all) rs) traced (live_causes (entry_at all r) (map (entry_at all) rs) (h refl))
+          (cone_closed plain (live_set plain) root.0 (map (entry_at all) rs) d))
 
   -- what has joined, the newest first, is the cone
   record IsCone (rs : List Item) : Type 0 where
     members : taken root rs ≡ filter (λ i. coned rs (entry_at all i)) rs
-    names : map (λ i. i.event.name.0) (taken root rs) ≡ cone_names rs
+    names : numbers_of (taken root rs) ≡ cone_names rs
 
-  is_cone : (rs : List Item) → Distinct plain (map (entry_at all) rs) → Sound plain (live_set plain) (map (entry_at all) rs) → AllByRecursion (λ i. HasCells plain (entry_at all i).foot i.lasts) rs
-      → AllByRecursion (λ a. name_of plain a ≡ root.0 → a.live ≡ true) (map (entry_at all) rs) → IsCone rs
-  is_cone [] d s c l = record { members = refl; names = refl }
-  is_cone (r ∷ rs) (ne, d) (causes, s) (cell, c) (_, l) =
-      let older = is_cone rs d s c l in
-      let live : AllByRecursion (λ i. coned rs (entry_at all i) ≡ true → i.live ≡ true) rs = all_unmapped (entry_at all) (λ a. coned rs a ≡ true → a.live ≡ true) rs (cone_part plain (live_set plain) root.0 (map (entry_at all) rs) d l) in
-      let same : joins root (taken root rs) r ≡ decided r rs = joins_decided r rs older.members live (λ m. all_unmapped (entry_at all) _ rs (causes m)) cell in
+  is_cone : (rs : List Item) → Distinct plain (map (entry_at all) rs) → Sound plain (live_set plain) (map (entry_at all) rs) → Chained plain (map (entry_at all) rs) → IsCone rs
+  is_cone [] d s c = record { members = refl; names = refl }
+  is_cone (r ∷ rs) (ne, d) (causes, s) (traced, c) =
+      let older = is_cone rs d s c in
+      let same : joins root (numbers_of (taken root rs)) r ≡ decided r rs = joins_decided r rs older.names d traced causes in
       record {
         members =
             ap (λ b. cond b (r ∷ taken root rs) (taken root rs)) (same ∙ sym (put (decided r rs) (cone_names rs) r.event.name.0 (unnamed r.event.name.0 rs ne)))
@@ -151,43 +154,35 @@ root_live : (lines : List Line) (root : EventName) → first_marked mark.Undone 
 root_live lines root none = all_to_end (λ (l : Line). l.entry) (λ a. name_of plain a ≡ root.0 → a.live ≡ true) lines
     (all_map _ _ lines (λ l e is. live_at (chosen (root ∷ []) l) (is_live l) (line_name l) e (or_left _ false (eq-eqb root.0 (line_name l).0 (sym is)))) (none_each _ lines none))
 
--- the names of what has been gathered
-abbrev names_of : List Item → List EventName
-names_of items = map (λ i. i.event.name) items
-
 module _ (all : List Item) (root : EventName) (h : Tells (lines_of all)) (none : first_marked mark.Undone (root ∷ []) (lines_of all) ≡ None) where
-  -- the entries of the lines, the newest first
-  same_entries : map (entry_at all) (reverse all) ≡ entries_in (lines_of all)
-  same_entries = map-reverse (entry_at all) all ∙ ap reverse (sym (map-map (λ (l : Line). l.entry) (line_of all) all))
-
   whole : IsCone all root (reverse all)
-  whole = is_cone all root (reverse all) (subst (Distinct plain) (sym same_entries) h.lines_are.distinct) (subst (Sound plain (live_set plain)) (sym same_entries) h.lines_are.sound)
-      (all_reversed _ all (cells_items all h)) (subst (AllByRecursion (λ a. name_of plain a ≡ root.0 → a.live ≡ true)) (sym same_entries) (root_live (lines_of all) root none))
+  whole = is_cone all root (reverse all) (subst (Distinct plain) (sym (same_entries all)) h.lines_are.distinct) (subst (Sound plain (live_set plain)) (sym (same_entries all)) h.lines_are.sound)
+      (subst (Chained plain) (sym (same_entries all)) h.chained)
 
   abbrev in_it : Entry plain → Bool
   in_it = in_cone plain (live_set plain) root.0 (entries_in (lines_of all))
 
-  gathered_is : gathered root [] all ≡ reverse (taken root (reverse all))
+  gathered_is : gathered root [] all ≡ names_of (reverse (taken root (reverse all)))
   gathered_is = ap (gathered root []) (sym (reverse-reverse all)) ∙ gathered_taken root (reverse all)
 
-  among_is : among (names_of (gathered root [] all)) ≡ in_it
+  among_is : among (gathered root [] all) ≡ in_it
   among_is = λ t e. here e t
     where
-      here : (e : Entry plain) → among (names_of (gathered root [] all)) e ≡ in_it e
+      here : (e : Entry plain) → among (gathered root [] all) e ≡ in_it e
       here e =
           ap (λ ns. is_in ns e.event.name.0)
-          (map-map (λ (n : EventName). n.0) (λ i. i.event.name) (gathered root [] all) ∙ ap (map (λ (i : Item). i.event.name.0)) gathered_is ∙ map-reverse (λ (i : Item). i.event.name.0) (taken root (reverse all)) ∙ ap reverse whole.names)
+          (ap numbers gathered_is ∙ numbers_reversed (taken root (reverse all)) ∙ ap reverse whole.names)
           ∙ any_reversed (λ n. n == e.event.name.0) (cone_names all root (reverse all))
-          ∙ ap (λ es. in_cone plain (live_set plain) root.0 es e) same_entries
+          ∙ ap (λ es. in_cone plain (live_set plain) root.0 es e) (same_entries all)
 
-  in_order : names_of (gathered root [] all) ≡ map line_name (filter (λ l. in_it l.entry) (lines_of all))
+  in_order : gathered root [] all ≡ map line_name (filter (λ l. in_it l.entry) (lines_of all))
   in_order =
-      ap names_of (gathered_is ∙ ap reverse whole.members ∙ sym (filter-reverse (λ i. coned all root (reverse all) (entry_at all i)) (reverse all)) ∙ ap (filter (λ i. coned all root (reverse all) (entry_at all i))) (reverse-reverse all)
-      ∙ ap (λ es. filter (λ i. in_cone plain (live_set plain) root.0 es (entry_at all i)) all) same_entries)
+      gathered_is ∙ ap names_of (ap reverse whole.members ∙ sym (filter-reverse (λ i. coned all root (reverse all) (entry_at all i)) (reverse all)) ∙ ap (filter (λ i. coned all root (reverse all) (entry_at all i))) (reverse-reverse all)
+      ∙ ap (λ es. filter (λ i. in_cone plain (live_set plain) root.0 es (entry_at all i)) all) (same_entries all))
       ∙ sym (ap (map line_name) (filter-map (line_of all) (λ l. in_it l.entry) all) ∙ map-map line_name (line_of all) (filter (λ i. in_it (entry_at all i)) all))
 
   -- THE CONE: what has been gathered at the end
-  gathered_cone : Cone (lines_of all) root (names_of (gathered root [] all))
+  gathered_cone : Cone (lines_of all) root (gathered root [] all)
   gathered_cone =
       let by = subst (ConeBy (lines_of all) root) (sym among_is) (cone_by (lines_of all) root h (root_live (lines_of all) root none)) in
       record {
@@ -198,6 +193,13 @@ module _ (all : List Item) (root : EventName) (h : Tells (lines_of all)) (none :
         least = by.least;
       }
 
-  pub cone_of : {E : Type 0} (r : Result (Vec EventName Global) E) → IfOk r (λ names. names.items ≡ names_of (gathered root [] all)) → IfOk r (λ names. Cone (lines_of all) root names.items)
-  cone_of (Ok names) g = subst (Cone (lines_of all) root) (sym g) gathered_cone
-  cone_of (Err fault) g = g
+  pub cone_of : (names : List EventName) → names ≡ gathered root [] all → Cone (lines_of all) root names
+  cone_of names is = subst (Cone (lines_of all) root) (sym is) gathered_cone
+
+-- one entry more is gathered, or not
+pub gather_step : (root : EventName) (keys names : List EventName) (xs : List code.Entry) (i : ℕ) (x : code.Entry) → i < length xs → x ≡ get_or xs i x → SameNames keys names → (b : Bool) → joins root (numbers keys) (item_of x) ≡ b
+    → gathered root (joined_with b names (item_of x)) (map item_of (drop (i + 1) xs)) ≡ gathered root names (map item_of (drop i xs))
+gather_step root keys names xs i x here is same b joined =
+    ap (λ c. gathered root (joined_with c names (item_of x)) (map item_of (drop (i + 1) xs)))
+    (sym joined ∙ ap (λ w. (x.event.name.0 == root.0) || ((item_of x).live && w)) (named_last keys names (item_of x) same))
+    ∙ sym (from_here (λ es. gathered root names (map item_of es)) xs i x here is)

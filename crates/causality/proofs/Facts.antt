@@ -1,8 +1,8 @@
 -- What an older and a newer line of a journal have to do with one another.
-use Rattle.std.proofs.Common.{◌≡◌, ◌≢◌, Bool, true, false, ◌&&◌, ◌||◌, List, [], ◌∷◌, map, sym, refl}
+use Rattle.std.proofs.Common.{◌≡◌, ◌≢◌, Bool, true, false, ◌&&◌, ◌||◌, List, [], ◌∷◌, map, reverse, ap, sym, refl, ◌∙◌}
 use Rattle.std.specs.List.{list_any, AllByRecursion}
 use Rattle.history.specs.Subject.{meets, touches}
-use Rattle.history.specs.Chains.{HasCells}
+use Rattle.history.specs.Chains.{HasCells, Chained}
 use Rattle.history.specs.Records.{Record}
 use Rattle.ids.specs.CellKeys.{same_key}
 use Rattle.ids.specs.declared.cells.CellKey.{CellKey}
@@ -10,12 +10,17 @@ use Rattle.post.specs.Theory.{cells}
 use Rattle.history.specs.Journal.{Entry, name_of, caused, live_set, Distinct, Ordered, Sound}
 use Rattle.journal.specs.Items.{Item, wrote_one_of}
 use Rattle.journal.specs.Lines.{plain, Line, line_of, lines_of, entries_in}
-use Rattle.causality.proofs.Telling.{CausesMeet, Tells}
+use Rattle.journal.proofs.Reversed.{map-map, map-reverse}
+use Rattle.causality.proofs.Telling.{Tells}
 use Rattle.causality.proofs.Pairs.{Pairs, pairs_both, pairs_unmapped, all_unmapped, pairs_from_end, all_from_end}
 
 -- an item's entry, among these items
 abbrev pub entry_at : List Item → Item → Entry plain
 entry_at all i = (line_of all i).entry
+
+-- the entries of the lines, the newest first
+pub same_entries : (all : List Item) → map (entry_at all) (reverse all) ≡ entries_in (lines_of all)
+same_entries all = map-reverse (entry_at all) all ∙ ap reverse (sym (map-map (λ (l : Line). l.entry) (line_of all) all))
 
 -- an older entry and a newer one
 pub record Older (a e : Entry plain) : Type 0 where
@@ -41,9 +46,9 @@ ordered_pairs : (es : List (Entry plain)) → Ordered plain es → Pairs (λ e a
 ordered_pairs [] h = tt
 ordered_pairs (e ∷ es) (p, h) = (p, ordered_pairs es h)
 
-met_pairs : (es : List (Entry plain)) → CausesMeet es → Pairs (λ e a. caused plain e a ≡ true → meets plain a.foot e.foot ≡ true) es
+met_pairs : (es : List (Entry plain)) → Chained plain es → Pairs (λ e a. caused plain e a ≡ true → meets plain a.foot e.foot ≡ true) es
 met_pairs [] h = tt
-met_pairs (e ∷ es) (p, h) = (p, met_pairs es h)
+met_pairs (e ∷ es) (p, h) = (p.met, met_pairs es h)
 
 pub older_pairs : (lines : List Line) → Tells lines → Pairs (λ a e. Older e a) (entries_in lines)
 older_pairs lines h =
@@ -51,7 +56,7 @@ older_pairs lines h =
     pairs_both _ (λ e a. (caused plain a e ≡ false) × ((e.live ≡ true → caused plain e a ≡ (a.live && meets plain a.foot e.foot)) × (caused plain e a ≡ true → meets plain a.foot e.foot ≡ true))) (λ e a. Older a e) es
     (λ e a n q. record { other = n; order = q.0; causes = q.1.0; met = q.1.1 })
     (distinct_pairs es h.lines_are.distinct)
-    (pairs_both _ _ _ es (λ e a o q. (o, q)) (ordered_pairs es h.lines_are.ordered) (pairs_both _ _ _ es (λ e a c m. (c, m)) (sound_pairs (live_set plain) es h.lines_are.sound) (met_pairs es h.met)))
+    (pairs_both _ _ _ es (λ e a o q. (o, q)) (ordered_pairs es h.lines_are.ordered) (pairs_both _ _ _ es (λ e a c m. (c, m)) (sound_pairs (live_set plain) es h.lines_are.sound) (met_pairs es h.chained)))
 
 -- among items, the oldest first
 pub older_items : (all : List Item) → Tells (lines_of all) → Pairs (λ i j. Older (entry_at all i) (entry_at all j)) all
@@ -61,9 +66,13 @@ older_items all h = pairs_unmapped (line_of all) (λ l m. Older l.entry m.entry)
 pub own_items : (all : List Item) → Tells (lines_of all) → AllByRecursion (λ i. caused plain (entry_at all i) (entry_at all i) ≡ false) all
 own_items all h = all_unmapped (line_of all) (λ l. caused plain l.entry l.entry ≡ false) all (all_from_end (λ l. l.entry) (λ e. caused plain e e ≡ false) (lines_of all) h.lines_are.own)
 
+cells_each : (es : List (Entry plain)) → Chained plain es → AllByRecursion (λ e. HasCells plain e.foot e.lasts) es
+cells_each [] h = tt
+cells_each (e ∷ es) (p, h) = (p.cells, cells_each es h)
+
 -- each item has a last writer of each cell that it touched
 pub cells_items : (all : List Item) → Tells (lines_of all) → AllByRecursion (λ i. HasCells plain (entry_at all i).foot i.lasts) all
-cells_items all h = all_unmapped (line_of all) (λ l. HasCells plain l.entry.foot l.entry.lasts) all (all_from_end (λ l. l.entry) (λ e. HasCells plain e.foot e.lasts) (lines_of all) h.cells)
+cells_items all h = all_unmapped (line_of all) (λ l. HasCells plain l.entry.foot l.entry.lasts) all (all_from_end (λ l. l.entry) (λ e. HasCells plain e.foot e.lasts) (lines_of all) (cells_each (entries_in (lines_of all)) h.chained))
 
 -- that one item wrote what another touched is that their entries meet
 pub wrote_meets : (all : List Item) (a b : Item) → HasCells plain (entry_at all b).foot b.lasts → meets plain (entry_at all a).foot (entry_at all b).foot ≡ wrote_one_of a b

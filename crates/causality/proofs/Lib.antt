@@ -14,3 +14,4 @@ pub mod NameSets
 pub mod Pairs
 pub mod Redoing
 pub mod Telling
+pub mod Writers

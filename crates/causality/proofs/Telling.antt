@@ -1,13 +1,15 @@
 -- What the lines of a journal tell.
-use Rattle.std.proofs.Common.{◌≡◌, ◌≢◌, ◌∙◌, ℕ, Bool, true, false, ◌&&◌, List, [], ◌∷◌, map, refl, sym, subst}
+use Rattle.std.proofs.Common.{◌≡◌, ◌≢◌, ◌∙◌, ℕ, Bool, true, false, cond, ◌&&◌, List, [], ◌∷◌, Option, Some, map, refl, sym, ap₂, subst}
 use Rattle.std.proofs.Math.Bool.{Bool-set}
+use Rattle.std.proofs.Props.{props}
 use Rattle.std.proofs.Math.Logic.{∥∥₁_elim}
 use Rattle.std.specs.List.{list_any, AllByRecursion}
 use Rattle.history.specs.Subject.{meets, touches}
-use Rattle.history.specs.Chains.{HasCells, Chained}
+use Rattle.history.specs.Chains.{wrote, last_writer, Linked, Traced, Chained}
 use Rattle.history.specs.Journal.{Entry, name_of, caused, live_set, Distinct, Ordered, Sound}
 use Rattle.history.specs.Records.{State, Row, Fits, entries_of}
-use Rattle.history.proofs.Lists.{all_both, all_mapped}
+use Rattle.history.proofs.Lists.{all_map, all_both, all_mapped}
+use Rattle.ids.specs.declared.cells.CellKey.{CellKey}
 use Rattle.post.specs.Theory.{cells}
 use Rattle.post.specs.World.{empty}
 use Rattle.event.specs.Events.{Does, events}
@@ -15,46 +17,67 @@ use Rattle.event.proofs.Law.{events_laws}
 use Rattle.journal.specs.Items.{Item}
 use Rattle.journal.specs.Lines.{plain, Line, lines_of, entries_in, PlainJournal}
 use Rattle.journal.specs.Standing.{ItemsStand}
-use Rattle.journal.proofs.Alike.{SameCauses, SameMeets}
+use Rattle.journal.proofs.Alike.{SameCauses, SameMeets, SameSet}
 use Rattle.journal.proofs.Lifting.{plain_journal as lines_plain}
 use Rattle.journal.proofs.Reversed.{all_unmapped, all_zip, fewer_pairs}
 use Rattle.journal.proofs.Telling.{told_entry, entries_told, same_causes, same_meets}
-use Rattle.journal.proofs.Touching.{told_touches}
+use Rattle.journal.proofs.Touching.{told_new, told_touches}
 use Rattle.causality.specs.Journals.{IsJournal}
 
--- each cause of an entry wrote a cell that the entry touched
-abbrev pub CausesMeet : List (Entry plain) → Type 0
-CausesMeet [] = Unit {0}
-CausesMeet (e ∷ es) = AllByRecursion (λ a. caused plain e a ≡ true → meets plain a.foot e.foot ≡ true) es × CausesMeet es
-
--- what the lines of a journal tell: they are plain, causes wrote what was touched, and each touched cell has its last writer
+-- what the lines of a journal tell: they are plain, and what entries have of last writers leads to their causes
 pub record Tells (lines : List Line) : Type 0 where
   pub lines_are : PlainJournal lines
-  pub met : CausesMeet (entries_in lines)
-  pub cells : AllByRecursion (λ e. HasCells plain e.foot e.lasts) (entries_in lines)
+  pub chained : Chained plain (entries_in lines)
 
-module _ (told : Row events → Entry plain) where
-  met_told : (rows : List (Row events)) → SameCauses plain events told (λ p. p.0) rows → SameMeets plain events told (λ p. p.0) rows → Chained events (entries_of rows) → CausesMeet (map told rows)
-  met_told [] causes met h = tt
-  met_told (p ∷ rows) causes met (h, hs) = (
-    all_mapped told _ rows (all_both _ _ _ rows (λ q both old named. both.1 ∙ old (sym both.0 ∙ named))
-        (all_zip _ _ rows causes.0.1 met.0.1) (all_unmapped (λ (q : Row events). q.0) _ rows h.met)),
-    met_told rows (fewer_pairs _ p rows causes) (fewer_pairs _ p rows met) hs,
+-- what rows tell of last writers is what is so among the rows
+module _ (older : List (Entry events)) where
+  abbrev told : Row events → Entry plain
+  told = told_entry Does older
+
+  abbrev Fit : List (Row events) → Type 0
+  Fit rows = AllByRecursion (λ p. Fits events p.0.foot p.1) rows
+
+  wrote_told : (k : CellKey) (p : Row events) → Fits events p.0.foot p.1 → wrote plain k (told p) ≡ wrote events k p.0
+  wrote_told k p f = told_new Does events_laws p.0.foot p.0.lasts p.1 f k
+
+  last_told : (k : CellKey) (t : Entry plain → Bool) (r : Entry events → Bool) (rows : List (Row events)) → SameSet plain events told (λ p. p.0) t r rows → Fit rows
+      → last_writer plain k t (map told rows) ≡ last_writer events k r (entries_of rows)
+  last_told k t r [] h f = refl
+  last_told k t r (p ∷ rows) (h, hs) (f, fs) = λ i. cond (h i && wrote_told k p f i) (Some (p.0.event.name.0)) (last_told k t r rows hs fs i)
+
+  linked_told : (k : CellKey) (t : Entry plain → Bool) (r : Entry events → Bool) (rows : List (Row events)) → SameSet plain events told (λ p. p.0) t r rows → SameCauses plain events told (λ p. p.0) rows → Fit rows
+      → Linked events k r (entries_of rows) → Linked plain k t (map told rows)
+  linked_told k t r [] h causes f m = tt
+  linked_told k t r (p ∷ rows) (h, hs) causes (f, fs) (m, ms) = (
+    λ member w. all_mapped told _ rows
+        (all_both _ _ _ rows (λ q both old. ap₂ (λ a b. a && b) both.0 (wrote_told k q both.1.1) ∙ old ∙ sym (ap₂ (λ a b. a && b) both.1.0 (wrote_told k q both.1.1)))
+        (all_zip _ _ rows causes.0.1 (all_zip _ _ rows hs fs))
+        (all_unmapped (λ (q : Row events). q.0) _ rows (m (sym h ∙ member) (sym (wrote_told k p f) ∙ w)))),
+    linked_told k t r rows hs (fewer_pairs _ p rows causes) fs ms,
   )
 
-cells_told : (older rows : List (Row events)) → Chained events (entries_of rows) → AllByRecursion (λ p. Fits events p.0.foot p.1) rows
-    → AllByRecursion (λ e. HasCells plain e.foot e.lasts) (map (told_entry Does (entries_of older)) rows)
-cells_told older [] h fit = tt
-cells_told older (p ∷ rows) (h, hs) (f, fs) = (λ k. h.cells k ∙ sym (told_touches Does events_laws p.0.foot p.0.lasts p.1 h.cells f k), cells_told older rows hs fs)
+  chained_told : (rows : List (Row events)) → SameCauses plain events told (λ p. p.0) rows → SameMeets plain events told (λ p. p.0) rows → Fit rows → Chained events (entries_of rows) → Chained plain (map told rows)
+  chained_told [] causes met f h = tt
+  chained_told (p ∷ rows) causes met (f, fs) (h, hs) = (
+    record {
+      cells = λ k. h.cells k ∙ sym (touched k);
+      lasts = all_map _ _ p.0.lasts (λ x q. q ∙ sym (last_told x.0 (caused plain (told p)) (caused events p.0) rows causes.0.1 fs)) h.lasts;
+      met = all_mapped told _ rows (all_both _ _ _ rows (λ q both old named. both.1 ∙ old (sym both.0 ∙ named))
+          (all_zip _ _ rows causes.0.1 met.0.1) (all_unmapped (λ (q : Row events). q.0) _ rows h.met));
+      linked = λ k is. linked_told k (caused plain (told p)) (caused events p.0) rows causes.0.1 (fewer_pairs _ p rows causes) fs (h.linked k (sym (touched k) ∙ is));
+    },
+    chained_told rows (fewer_pairs _ p rows causes) (fewer_pairs _ p rows met) fs hs,
+  )
+    where
+      touched : (k : CellKey) → touches plain (told p).foot k ≡ touches events p.0.foot k
+      touched k = told_touches Does events_laws p.0.foot p.0.lasts p.1 h.cells f k
 
 tells : (next : ℕ) (rows : List (Row events)) (state : State cells) (items : List Item) → ItemsStand Does empty next rows items state → Tells (lines_of items)
-tells next rows state items h =
-    let same = sym (entries_told Does events_laws h) in
-    record {
-      lines_are = lines_plain Does events_laws h;
-      met = subst CausesMeet same (met_told (told_entry Does (entries_of rows)) rows (same_causes Does events_laws h) (same_meets Does events_laws h) h.stands.chained);
-      cells = subst (AllByRecursion (λ e. HasCells plain e.foot e.lasts)) same (cells_told rows rows h.stands.chained h.stands.follows.fit);
-    }
+tells next rows state items h = record {
+  lines_are = lines_plain Does events_laws h;
+  chained = subst (Chained plain) (sym (entries_told Does events_laws h))
+      (chained_told (entries_of rows) rows (same_causes Does events_laws h) (same_meets Does events_laws h) h.stands.follows.fit h.stands.chained);
+}
 
 -- that they tell it is a proposition
 all_prop : {A : Type 0} (P : A → Type 0) → ((a : A) → IsProp (P a)) → (xs : List A) → IsProp (AllByRecursion P xs)
@@ -88,15 +111,27 @@ sound_prop t (e ∷ es) (p, q) (r, s) = λ i. (
   sound_prop t es q s i,
 )
 
-meet_prop : (es : List (Entry plain)) → IsProp (CausesMeet es)
-meet_prop [] a b = refl
-meet_prop (e ∷ es) (p, q) (r, s) = λ i. (
-  all_prop (λ a. caused plain e a ≡ true → meets plain a.foot e.foot ≡ true) (λ a. then_prop (meets plain a.foot e.foot) true) es p r i,
-  meet_prop es q s i,
+writer_prop : (x y : Option ℕ) → IsProp (x ≡ y)
+writer_prop = hlevel props
+
+linked_prop : (k : CellKey) (t : Entry plain → Bool) (es : List (Entry plain)) → IsProp (Linked plain k t es)
+linked_prop k t [] a b = refl
+linked_prop k t (e ∷ es) (p, q) (r, s) = λ i. (
+  λ m w. all_prop (λ a. (caused plain e a && wrote plain k a) ≡ (t a && wrote plain k a)) (λ a. same_prop (caused plain e a && wrote plain k a) (t a && wrote plain k a)) es (p m w) (r m w) i,
+  linked_prop k t es q s i,
 )
 
-cells_prop : (e : Entry plain) → IsProp (HasCells plain e.foot e.lasts)
-cells_prop e a b = λ i k. Bool-set (list_any (λ p. plain.same k p.0) e.lasts) (touches plain e.foot k) (a k) (b k) i
+traced_prop : (e : Entry plain) (es : List (Entry plain)) → IsProp (Traced plain e es)
+traced_prop e es a b = λ i. record {
+  cells = λ k. Bool-set (list_any (λ p. plain.same k p.0) e.lasts) (touches plain e.foot k) (a.cells k) (b.cells k) i;
+  lasts = all_prop (λ p. p.1 ≡ last_writer plain p.0 (caused plain e) es) (λ p. writer_prop p.1 (last_writer plain p.0 (caused plain e) es)) e.lasts a.lasts b.lasts i;
+  met = all_prop (λ c. caused plain e c ≡ true → meets plain c.foot e.foot ≡ true) (λ c. then_prop (meets plain c.foot e.foot) true) es a.met b.met i;
+  linked = λ k touched. linked_prop k (caused plain e) es (a.linked k touched) (b.linked k touched) i;
+}
+
+chained_prop : (es : List (Entry plain)) → IsProp (Chained plain es)
+chained_prop [] a b = refl
+chained_prop (e ∷ es) (p, q) (r, s) = λ i. (traced_prop e es p r i, chained_prop es q s i)
 
 plain_prop : (lines : List Line) → IsProp (PlainJournal lines)
 plain_prop lines a b = λ i. record {
@@ -109,8 +144,7 @@ plain_prop lines a b = λ i. record {
 tells_prop : (lines : List Line) → IsProp (Tells lines)
 tells_prop lines a b = λ i. record {
   lines_are = plain_prop lines a.lines_are b.lines_are i;
-  met = meet_prop (entries_in lines) a.met b.met i;
-  cells = all_prop (λ e. HasCells plain e.foot e.lasts) cells_prop (entries_in lines) a.cells b.cells i;
+  chained = chained_prop (entries_in lines) a.chained b.chained i;
 }
 
 -- THE LEMMA: a journal tells this

@@ -1,12 +1,12 @@
 -- What the program finds as it goes over items, of which it knows no causes.
-use Rattle.std.specs.Prelude.{◌&&◌, ◌||◌, ◌==◌, not, ℕ, Bool, cond, List, [], ◌∷◌, ◌++◌, filter, Option, Some, None}
-use Rattle.std.specs.List.{list_any}
+use Rattle.std.specs.Prelude.{◌&&◌, ◌||◌, ◌==◌, not, ℕ, Bool, false, cond, List, [], ◌∷◌, ◌++◌, filter, Option, Some, None}
 use Rattle.std.specs.Option.{option_map, option_or}
 use Rattle.history.specs.Journal.{is_in}
 use Rattle.ids.specs.declared.names.EventName.{EventName}
 use Rattle.journal.specs.Items.{Item, wrote_one_of}
 use Rattle.journal.specs.Lines.{causes_in}
 use Rattle.causality.specs.Selections.{numbers, first_some, gap}
+use Rattle.causality.specs.Names.{wrote_last}
 use Rattle.causality.specs.declared.selection.Gap.{Gap}
 
 -- the item is of the set
@@ -26,18 +26,27 @@ abbrev pub first_followed : List EventName → List Item → Option Gap
 first_followed names [] = None
 first_followed names (i ∷ later) = option_or (cond (is_of names i) (option_map (gap i.event.name) (follower names i later)) None) (first_followed names later)
 
--- an item joins: it is the root, or it is live and touched what one of those that have joined wrote
-abbrev pub joins : EventName → List Item → Item → Bool
-joins root joined i = (i.event.name.0 == root.0) || (i.live && list_any (λ a. wrote_one_of a i) joined)
+-- an item parts a set: it is live, outside it, and a member was the last writer of a cell that it touched
+abbrev pub parts : List EventName → Item → Bool
+parts names i = i.live && (wrote_last (numbers names) i && not (is_of names i))
 
--- those that have joined, with one more if it joins
-abbrev pub joined_with : Bool → List Item → Item → List Item
-joined_with b joined i = cond b (joined ++ i ∷ []) joined
+-- an item parts it; nothing does before its first member
+abbrev pub parted : List EventName → Bool → List Item → Bool
+parted names behind [] = false
+parted names behind (i ∷ items) = (behind && parts names i) || parted names (behind || is_of names i) items
 
--- those that have joined at the end
-abbrev pub gathered : EventName → List Item → List Item → List Item
+-- an item joins: it is the root, or it is live and one of those that have joined was the last writer of a cell that it touched
+abbrev pub joins : EventName → List ℕ → Item → Bool
+joins root joined i = (i.event.name.0 == root.0) || (i.live && wrote_last joined i)
+
+-- the names of those that have joined, with one more if it joins
+abbrev pub joined_with : Bool → List EventName → Item → List EventName
+joined_with b joined i = cond b (joined ++ i.event.name ∷ []) joined
+
+-- the names of those that have joined at the end
+abbrev pub gathered : EventName → List EventName → List Item → List EventName
 gathered root joined [] = joined
-gathered root joined (i ∷ items) = gathered root (joined_with (joins root joined i) joined i) items
+gathered root joined (i ∷ items) = gathered root (joined_with (joins root (numbers joined) i) joined i) items
 
 -- the first answer along a list, where those before are known
 abbrev pub first_along : {A B : Type 0} → (List A → A → Option B) → List A → List A → Option B

@@ -3,7 +3,7 @@
 
 pub mod causes;
 pub mod cone;
-mod names;
+pub mod names;
 mod returning;
 pub mod selection;
 pub mod theorems;

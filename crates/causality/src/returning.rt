@@ -10,7 +10,7 @@ ghost use Rattle.causality.specs.Selections.{numbers};
 ghost use Rattle.causality.specs.Walks.{first_along, stays, comes_back, missed, missed_at, first_met, unexpected, crossed, crossed_at};
 
 use crate::causes::{NameIndex, causes};
-use crate::names::{has, is_among, sorted};
+use crate::names::{NameSet, has, sorted};
 use crate::selection::Gap;
 use ids::names::EventName;
 use journal::entry::{Entry, Mark, meets};
@@ -24,17 +24,17 @@ fn is_live(entry: &Entry) -> bool
 }
 
 /// Whether an entry is live, or of the set.
-fn stays(entry: &Entry, names: &[EventName]) -> bool
+pub(crate) fn stays(entry: &Entry, names: &NameSet) -> bool
     ensures { result ≡ stays names.now (item_of entry.now) }
 {
-    is_live(entry) || is_among(names, entry.event.name)
+    is_live(entry) || names.has(entry.event.name)
 }
 
 /// Whether an entry is of the set, and undone.
-fn comes_back(entry: &Entry, names: &[EventName]) -> bool
+pub(crate) fn comes_back(entry: &Entry, names: &NameSet) -> bool
     ensures { result ≡ comes_back names.now (item_of entry.now) }
 {
-    !is_live(entry) && is_among(names, entry.event.name)
+    !is_live(entry) && names.has(entry.event.name)
 }
 
 /// The names of all causes of the entry at a position. Fails only for want of memory.
@@ -54,7 +54,7 @@ fn cause_set(
 }
 
 /// The first of these entries that is a cause, and is neither live nor of the set.
-fn missed(earlier: &[Entry], names: &[EventName], causes: &BTreeSet<EventName>) -> Option<EventName>
+fn missed(earlier: &[Entry], names: &NameSet, causes: &BTreeSet<EventName>) -> Option<EventName>
     ensures { result ≡ missed names.now (numbers causes.now.keys) (map item_of earlier.now) }
 {
     for entry in earlier {
@@ -71,7 +71,7 @@ fn missing_cause(
     alloc: Global,
     entries: &[Entry],
     index: &NameIndex,
-    names: &[EventName],
+    names: &NameSet,
     position: usize,
 ) -> Result<Option<EventName>, AllocError>
     requires journal { IsJournal (map item_of entries.now) }
@@ -87,7 +87,7 @@ fn missing_cause(
 pub(crate) fn first_missed(
     alloc: Global,
     entries: &[Entry],
-    names: &[EventName],
+    names: &NameSet,
 ) -> Result<Option<Gap>, AllocError>
     requires { IsJournal (map item_of entries.now) }
     ensures { IfOk result (λ gap. gap ≡ first_along (missed_at names.now (map item_of entries.now)) [] (map item_of entries.now)) }
@@ -120,7 +120,7 @@ fn first_met(earlier: &[&Entry], entry: &Entry) -> Option<EventName>
 /// The first of these entries that is live or of the set, wrote what an entry touched, and is no cause of it.
 fn unexpected(
     earlier: &[Entry],
-    names: &[EventName],
+    names: &NameSet,
     causes: &BTreeSet<EventName>,
     entry: &Entry,
 ) -> Option<EventName>
@@ -140,7 +140,7 @@ fn crossed(
     alloc: Global,
     entries: &[Entry],
     index: &NameIndex,
-    names: &[EventName],
+    names: &NameSet,
     returning: &[&Entry],
     position: usize,
 ) -> Result<Option<EventName>, AllocError>
@@ -155,7 +155,7 @@ fn crossed(
         // A live event has all live ones that it meets as its causes.
         return Ok(first_met(returning, entry));
     }
-    if !is_among(names, entry.event.name) {
+    if !names.has(entry.event.name) {
         return Ok(None);
     }
     let causes = cause_set(alloc, entries, index, position)?;
@@ -166,7 +166,7 @@ fn crossed(
 pub(crate) fn first_crossed(
     alloc: Global,
     entries: &[Entry],
-    names: &[EventName],
+    names: &NameSet,
 ) -> Result<Option<Gap>, AllocError>
     requires { IsJournal (map item_of entries.now) }
     ensures { IfOk result (λ gap. gap ≡ first_along (crossed_at names.now (map item_of entries.now)) [] (map item_of entries.now)) }

@@ -153,7 +153,7 @@ message_there : (o : Option Content) (g : Message) → message_in o ≡ Some g �
 message_there (Some (message h)) g e = cc
 message_there _ g e = cc
 
-turn_of : (e : EventName) (w : World) (m : MsgId) (n : ℕ) (g : Message) (v : VatNo) → message_of w m ≡ Some g → g.place ≡ at_vat v → awaits w g.after ≡ None → CanHappen (record { name = e; act = turn m n }) w
+turn_of : (e : EventName) (w : World) (m : MsgId) (n : ℕ) (g : Message) (v : VatNo) → message_of w m ≡ Some g → g.place ≡ at_vat v → awaits w g.after ≡ None → CanHappen (record { name = e; act = turn v m n }) w
 turn_of e w m n g v waits there order =
     let r = delivered g.delivery e v (vat_state w v) n in
     let t : Turn = record { message = g; vat = v; outcome = r.outcome; touched = r.touched; written = r.written } in
@@ -161,14 +161,14 @@ turn_of e w m n g v waits there order =
     let leaves : Leaves t r.cells r.left = record { touched = r.listed; written = r.changed; contents = r.contents } in
     (turn_foot e m t r.cells r.left, turns happens leaves)
 
-ready_turn : (e : EventName) (w : World) (m : MsgId) (n : ℕ) → IsReady w m → CanHappen (record { name = e; act = turn m n }) w
+ready_turn : (e : EventName) (w : World) (m : MsgId) (n : ℕ) → IsReady w m → (v : VatNo) × CanHappen (record { name = e; act = turn v m n }) w
 ready_turn e w m n h = found (message_of w m) refl h.at_a_vat h.in_order
   where
-    placed : (g : Message) (p : Place) → message_of w m ≡ Some g → g.place ≡ p → misplaced p ≡ None → awaits w g.after ≡ None → CanHappen (record { name = e; act = turn m n }) w
-    placed g (at_vat v) waits there k order = turn_of e w m n g v waits there order
+    placed : (g : Message) (p : Place) → message_of w m ≡ Some g → g.place ≡ p → misplaced p ≡ None → awaits w g.after ≡ None → (v : VatNo) × CanHappen (record { name = e; act = turn v m n }) w
+    placed g (at_vat v) waits there k order = (v, turn_of e w m n g v waits there order)
     placed g (done f) waits there k order = absurd (cc)
 
-    found : (o : Option Message) → message_of w m ≡ o → lost_message o ≡ None → early_message w o ≡ None → CanHappen (record { name = e; act = turn m n }) w
+    found : (o : Option Message) → message_of w m ≡ o → lost_message o ≡ None → early_message w o ≡ None → (v : VatNo) × CanHappen (record { name = e; act = turn v m n }) w
     found None is k order = absurd (cc)
     found (Some g) is k order = placed g g.place is refl k order
 
@@ -184,12 +184,12 @@ turn_ready e w m n t h = record {
 abbrev ReadyFor : World → Act → Type 0
 ReadyFor w (birth x script) = Unit {0}
 ReadyFor w (ask x program) = Unit {0}
-ReadyFor w (turn m n) = IsReady w m
+ReadyFor w (turn v m n) = IsReady w m
 
 happens_ready : (e : Event) (w : World) (f : Foot) → Does e w f → ReadyFor w e.act
 happens_ready e w f (births h) = tt
 happens_ready e w f (asks_does h) = tt
 happens_ready e w f (turns {e = n} {m = m} {budget = b} {t = t} h g) = turn_ready n w m b t h
 
-pub ready_exactly : (e : EventName) (w : World) (m : MsgId) (n : ℕ) → CanHappen (record { name = e; act = turn m n }) w ↔ IsReady w m
-ready_exactly e w m n = (λ h. happens_ready (record { name = e; act = turn m n }) w h.0 h.1, λ h. ready_turn e w m n h)
+pub ready_exactly : (e : EventName) (w : World) (m : MsgId) (n : ℕ) → ((v : VatNo) × CanHappen (record { name = e; act = turn v m n }) w) ↔ IsReady w m
+ready_exactly e w m n = (λ h. happens_ready (record { name = e; act = turn h.0 m n }) w h.1.0 h.1.1, λ h. ready_turn e w m n h)

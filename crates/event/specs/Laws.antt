@@ -66,6 +66,6 @@ NoEjectionLeavesATurn = (k : ℕ) (ts : Trees) (own : Bool) (e : EventName) (w :
 abbrev pub CanHappen : Event → World → Type 0
 CanHappen e w = (f : Foot) × Does e w f
 
--- a turn can happen exactly where its message is ready, at whatever event and with whatever budget
+-- a turn can happen at some vat exactly where its message is ready, at whatever event and with whatever budget
 abbrev pub ReadyMessagesHaveTurns : Type 0
-ReadyMessagesHaveTurns = (e : EventName) (w : World) (m : MsgId) (budget : ℕ) → CanHappen (record { name = e; act = turn m budget }) w ↔ IsReady w m
+ReadyMessagesHaveTurns = (e : EventName) (w : World) (m : MsgId) (budget : ℕ) → ((v : VatNo) × CanHappen (record { name = e; act = turn v m budget }) w) ↔ IsReady w m

@@ -16,13 +16,13 @@ returns-then-is_live c = λ i at.
     c.first_met.ensures ∙ ap (first_met (item_of x)) c.requires.gathered ∙ crossed_live names (map item_of xs) before (item_of x) (sym c.is_live.ensures ∙ c.if-is_live.true)
     ∙ ap (crossed names (map item_of xs) before) (one_item (map item_of xs) c.args.position (item_of x) i (item_here xs c.args.position x c.requires.there c.index-entries-position.is) at)
 
-pub returns-then-not-is_among : goal.returns-then-not-is_among
-returns-then-not-is_among c = λ i at.
+pub returns-then-not-has : goal.returns-then-not-has
+returns-then-not-has c = λ i at.
     let xs = c.args.entries.now in
     let x = c.index-entries-position.result in
     let names = c.args.names.now in
     let before = map item_of (take c.args.position xs) in
-    crossed_outside names (map item_of xs) before (item_of x) (sym c.is_live.ensures ∙ c.if-is_live.false) (sym c.is_among.ensures ∙ c.if-not-is_among.true)
+    crossed_outside names (map item_of xs) before (item_of x) (sym c.is_live.ensures ∙ c.if-is_live.false) (sym c.has.ensures ∙ c.if-not-has.true)
     ∙ ap (crossed names (map item_of xs) before) (one_item (map item_of xs) c.args.position (item_of x) i (item_here xs c.args.position x c.requires.there c.index-entries-position.is) at)
 
 pub returns : goal.returns
@@ -34,5 +34,5 @@ returns c = λ i at.
     let before = map item_of (take c.args.position xs) in
     let here = item_here xs c.args.position x c.requires.there c.index-entries-position.is in
     c.unexpected.ensures ∙ unexpected_same names (numbers c.in_ok-causes.causes.keys) (causes_in all (item_of x)) (item_of x) before (c.in_ok-causes.ensures (item_of x) here)
-    ∙ crossed_inside names all before (item_of x) (sym c.is_live.ensures ∙ c.if-is_live.false) (sym c.is_among.ensures ∙ c.if-not-is_among.false)
+    ∙ crossed_inside names all before (item_of x) (sym c.is_live.ensures ∙ c.if-is_live.false) (sym c.has.ensures ∙ c.if-not-has.false)
     ∙ ap (crossed names all before) (one_item all c.args.position (item_of x) i here at)

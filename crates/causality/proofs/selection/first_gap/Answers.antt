@@ -1,8 +1,18 @@
 use Rattle.std.proofs.Common.{map, sym, ◌∙◌}
 use Rattle.journal.specs.Items.{item_of}
+use Rattle.journal.specs.Lines.{lines_of}
+use Rattle.causality.proofs.Exactness.{gaps_of_closed}
 use Rattle.causality.proofs.Gaps.{gap_walked}
 use Rattle.causality.proofs.Telling.{journal_tells}
+use Rattle.causality.proofs.Writers.{unparted_closed}
 use Rattle.causality.proofs.selection.first_gap.Goals as goal
+
+pub returns-then-not-is_parted : goal.returns-then-not-is_parted
+returns-then-not-is_parted c =
+    let all = map item_of c.args.entries.now in
+    let names = c.args.names.now in
+    let told = journal_tells all c.requires.journal in
+    sym (gaps_of_closed names (lines_of all) told (unparted_closed names all told (sym c.is_parted.ensures ∙ c.if-not-is_parted.true)))
 
 pub returns : goal.returns
 returns c =

@@ -1,7 +1,8 @@
-use Rattle.std.proofs.Common.{rules, arith, false, ◌≡◌, ◌∙◌, List, None, length, reverse, sym, ap, subst}
+use Rattle.std.proofs.Common.{rules, arith, false, ◌≡◌, ◌∙◌, List, None, length, map, reverse, sym, ap, subst}
 use Rattle.std.specs.Vec.{vec_len}
 use Rattle.history.specs.Walks.{walk}
-use Rattle.journal.specs.Items.{Item, swap_item}
+use Rattle.ids.specs.declared.names.EventName.{EventName}
+use Rattle.journal.specs.Items.{Item, item_of, swap_item}
 use Rattle.journal.specs.Lines.{lines_of}
 use Rattle.causality.specs.Journals.{IsJournal}
 use Rattle.causality.specs.Selections.{places_from}
@@ -21,12 +22,13 @@ check_undo-requires c =
     subst IsJournal (sym c.entries.ensures) (stands_journal b.core b.next (out_of b.desk) b.stands)
 
 pub returns-in_err-check_undo-clause-err : goal.returns-in_err-check_undo-clause-err
-returns-in_err-check_undo-clause-err c = rw (← c.entries.ensures) (search rules)
+returns-in_err-check_undo-clause-err c = rw (← c.entries.ensures, ← c.in_ok-names.ensures) (search rules)
 
 pub prepare-requires : goal.prepare-requires
 prepare-requires c =
     places_within c.args.events.now (items_of c.args.self.now.core) c.deref.result.now
-    (c.deref.ensures.value ∙ c.in_ok-positions.ensures ∙ ap (λ (items : List Item). places_from 0 c.args.events.now (lines_of items)) c.entries-2.ensures)
+    (c.deref.ensures.value ∙ c.in_ok-positions.ensures ∙ ap (λ (names : List EventName). places_from 0 names (lines_of (map item_of c.entries-2.result.now))) c.in_ok-names.ensures
+    ∙ ap (λ (items : List Item). places_from 0 c.args.events.now (lines_of items)) c.entries-2.ensures)
 
 pub invariant_of-self : goal.invariant_of-self
 invariant_of-self c =
@@ -37,9 +39,10 @@ pub invariant_of-self-2 : goal.invariant_of-self-2
 invariant_of-self-2 c =
     let b = c.args.self.now in
     let events = c.args.events.now in
-    let ok : undo_refusal (lines_of (items_of b.core)) events ≡ None = ap (λ (items : List Item). undo_refusal (lines_of items) events) (sym c.entries.ensures) ∙ c.in_ok-check_undo.ensures.ok in
+    let same : c.in_ok-names.names ≡ events = c.in_ok-names.ensures in
+    let ok : undo_refusal (lines_of (items_of b.core)) events ≡ None = ap (λ (items : List Item). undo_refusal (lines_of items) events) (sym c.entries.ensures) ∙ ap (λ (names : List EventName). undo_refusal (lines_of (map item_of c.entries.result.now)) names) (sym same) ∙ c.in_ok-check_undo.ensures.ok in
     let at : c.deref-2.result.now ≡ places_from 0 events (lines_of (items_of b.core)) =
-    c.deref-2.ensures.value ∙ c.in_ok-positions.ensures ∙ ap (λ (items : List Item). places_from 0 events (lines_of items)) c.entries-2.ensures in
+    c.deref-2.ensures.value ∙ c.in_ok-positions.ensures ∙ ap (λ (names : List EventName). places_from 0 names (lines_of (map item_of c.entries-2.result.now))) same ∙ ap (λ (items : List Item). places_from 0 events (lines_of items)) c.entries-2.ensures in
     let is : shown c.undo.new.self ≡ walk (swap_item false) (reverse c.deref-2.result.now) (shown b.core) = c.undo.ensures.shown ∙ ap (walk (swap_item false) (reverse c.deref-2.result.now)) c.prepare.ensures.shown in
     record {
       in_range = b.in_range;
@@ -51,9 +54,10 @@ pub returns-clause-ok : goal.returns-clause-ok
 returns-clause-ok c =
     let b = c.args.self.now in
     let events = c.args.events.now in
-    let ok : undo_refusal (lines_of (items_of b.core)) events ≡ None = ap (λ (items : List Item). undo_refusal (lines_of items) events) (sym c.entries.ensures) ∙ c.in_ok-check_undo.ensures.ok in
+    let same : c.in_ok-names.names ≡ events = c.in_ok-names.ensures in
+    let ok : undo_refusal (lines_of (items_of b.core)) events ≡ None = ap (λ (items : List Item). undo_refusal (lines_of items) events) (sym c.entries.ensures) ∙ ap (λ (names : List EventName). undo_refusal (lines_of (map item_of c.entries.result.now)) names) (sym same) ∙ c.in_ok-check_undo.ensures.ok in
     let at : c.deref-2.result.now ≡ places_from 0 events (lines_of (items_of b.core)) =
-    c.deref-2.ensures.value ∙ c.in_ok-positions.ensures ∙ ap (λ (items : List Item). places_from 0 events (lines_of items)) c.entries-2.ensures in
+    c.deref-2.ensures.value ∙ c.in_ok-positions.ensures ∙ ap (λ (names : List EventName). places_from 0 names (lines_of (map item_of c.entries-2.result.now))) same ∙ ap (λ (items : List Item). places_from 0 events (lines_of items)) c.entries-2.ensures in
     let is : shown c.undo.new.self ≡ walk (swap_item false) (reverse c.deref-2.result.now) (shown b.core) = c.undo.ensures.shown ∙ ap (walk (swap_item false) (reverse c.deref-2.result.now)) c.prepare.ensures.shown in
     let many : vec_len c.in_ok-positions.positions ≡ length c.in_ok-positions.positions.items = omega (arith, c.in_ok-positions.positions.ok.0) in (
       ok,

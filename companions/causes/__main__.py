@@ -1,0 +1,101 @@
+"""Draws the events of a session with their causes and messages, as a picture in SVG.
+
+Runs the commands of FILE (without FILE: standard input) on the built program, and then `journal`. The picture has a lane for
+each vat, and in it the events from left to right in the journal's order.
+"""
+import argparse
+import pathlib
+import re
+import subprocess
+import sys
+
+from .journal import JournalFault, last_journal, read_journal
+from .picture import picture
+from .session import Command, commands_of, lines_of, refusals, said, without_open_script
+
+PROGRAM = pathlib.Path(__file__).resolve().parents[2] / "crates/evats/out/evats"
+
+
+class Fault(Exception):
+    """Why there is no picture."""
+
+
+def read_input(file):
+    try:
+        return pathlib.Path(file).read_bytes() if file else sys.stdin.buffer.read()
+    except OSError as fault:
+        raise Fault(f"cannot read {file or 'standard input'}: {fault.strerror}") from fault
+
+
+def replies_to(program, commands):
+    """The lines that the program replies to these lines of commands."""
+    text = "".join(f"{line}\n" for line in commands).encode(errors="surrogateescape")
+    try:
+        done = subprocess.run([program], input=text, capture_output=True, check=False)
+    except OSError as fault:
+        raise Fault(f"cannot run {program}: {fault.strerror}; ./run builds the program") from fault
+    # 1 says that a command was refused.
+    if done.returncode not in (0, 1):
+        raise Fault(f"{program} ended with {done.returncode}: {done.stderr.decode(errors='replace').strip()}")
+    return lines_of(done.stdout.decode(errors="replace"))
+
+
+def checked_cone(events, name):
+    """The event as the journal spells its name, which must be live there."""
+    if name is None:
+        return None
+    if not re.fullmatch(r"e[0-9]+", name):
+        raise Fault(f"--cone wants the name of an event, as e3, and not {name}")
+    name = f"e{int(name[1:])}"
+    found = [event for event in events if event.name == name]
+    if not found:
+        raise Fault(f"there is no event {name}")
+    if not found[0].is_live:
+        raise Fault(f"{name} is undone, so nothing comes of it")
+    return name
+
+
+def drawn(program, text, cone_of):
+    """The picture of a session, and how many of its commands were refused."""
+    lines = lines_of(text.decode(errors="surrogateescape"))
+    whole = without_open_script(lines)
+    replies = replies_to(program, [*whole, "journal"])
+    try:
+        events = read_journal(last_journal(replies))
+    except JournalFault as fault:
+        raise Fault(str(fault)) from fault
+    texts = said(commands_of([*whole, "journal"]), replies)
+    return picture(events, texts, checked_cone(events, cone_of)), refusals(replies) + (whole != lines)
+
+
+def put(file, text):
+    try:
+        if file:
+            pathlib.Path(file).write_text(text, encoding="utf-8")
+        else:
+            sys.stdout.buffer.write(text.encode())
+            sys.stdout.buffer.flush()
+    except OSError as fault:
+        raise Fault(f"cannot write {file or 'standard output'}: {fault.strerror}") from fault
+
+
+def main(words=None):
+    parser = argparse.ArgumentParser(prog="causes", description=__doc__, formatter_class=argparse.RawDescriptionHelpFormatter)
+    parser.add_argument("--program", default=PROGRAM, help="the program; without it the one that ./run builds")
+    parser.add_argument("--out", metavar="FILE.svg", help="where the picture goes; without it to standard output")
+    parser.add_argument("--cone", metavar="E", help="an event, as e3, that is coloured with all that came of it")
+    parser.add_argument("file", metavar="FILE", nargs="?", help="the commands; without it standard input is read")
+    arguments = parser.parse_args(words)
+    try:
+        text, refused = drawn(arguments.program, read_input(arguments.file), arguments.cone)
+        put(arguments.out, text)
+    except Fault as fault:
+        print(f"causes: {fault}", file=sys.stderr)
+        return 2
+    if refused:
+        print(f"causes: {refused} {'command was' if refused == 1 else 'commands were'} refused", file=sys.stderr)
+    return 0
+
+
+if __name__ == "__main__":
+    sys.exit(main())

@@ -1,9 +1,0 @@
-pub mod Places
-pub mod Covering
-pub mod Keeping
-pub mod Deeds
-pub mod Worlds
-pub mod Assigned
-pub mod Journals
-pub mod FenceSets
-pub mod Searching
