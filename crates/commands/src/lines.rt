@@ -4,7 +4,7 @@ ghost use Rattle.std.specs.List.{position};
 ghost use Rattle.commands.specs.Lines.{line_of, behind_line, is_long, is_line_feed, without_return};
 
 /// The most bytes that may stand before a line feed.
-const LONGEST_LINE: usize = 65_536;
+pub const LONGEST_LINE: usize = 65_536;
 
 /// The first line of an input, and what is behind it.
 #[derive(Clone, Copy)]

@@ -1,10 +1,10 @@
 // What nests deepest, on a stack as large as that on which the program answers commands, and budgets at their ends.
 
-use crate::tables::{expect, expect_text, limits, nested, session_of};
+use crate::tables::{expect, expect_text, limits, nested, replies, session_of};
 use std::process::Abort;
 use std::rt::Runtime;
 use std::thread::{Builder, Threads};
-use stepper::{STACK, replies};
+use stepper::STACK;
 
 /// Runs commands on a stack as large as the program's own, and compares the replies.
 fn expect_on_its_stack(

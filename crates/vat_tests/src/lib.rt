@@ -12,6 +12,8 @@ mod endings;
 #[cfg(test)]
 mod objects;
 #[cfg(test)]
+mod running;
+#[cfg(test)]
 mod sessions;
 #[cfg(test)]
 mod steps;

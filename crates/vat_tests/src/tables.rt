@@ -1,8 +1,11 @@
 // Tables of texts and of what is wanted of them. A line of a table is a text, ` => `, and its answer. Memory is ample, so
 // where it runs out a test fails.
 
+use std::alloc::Global;
 use std::process::Abort;
-use stepper::{Limits, replies};
+use stepper::{Fault, Limits, Summary, run};
+use streams::lines::Lines;
+use streams::outlet::Outlet;
 
 pub(crate) const BUDGET: u32 = 10_000;
 
@@ -39,6 +42,18 @@ pub(crate) fn row<'a>(rt: &impl Abort, line: &'a str) -> Option<(&'a str, &'a st
     let row = line.split_once(" => ");
     assert!(rt; row.is_some() || line.is_empty(), "no answer in {line}");
     row
+}
+
+/// The replies to commands that are read from memory.
+pub(crate) fn replies(
+    alloc: Global,
+    commands: &[u8],
+    limits: Limits,
+) -> Result<(Vec<u8>, Summary), Fault> {
+    let mut source = Lines::new(alloc, commands)?;
+    let mut sink = Outlet::new(alloc, Vec::new(alloc));
+    let summary = run(alloc, &mut source, &mut sink, limits)?;
+    Ok((sink.into_writer(), summary))
 }
 
 /// Runs commands and compares the replies, and whether one is told to be a refusal.

@@ -1,0 +1,4 @@
+pub mod Feeds
+pub mod Gathering
+pub mod Giving
+pub mod Taking

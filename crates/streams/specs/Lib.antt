@@ -1,0 +1,5 @@
+pub mod Counted
+pub mod Held
+pub mod Lines
+pub mod Outlet
+pub mod Pieces
