@@ -2,5 +2,6 @@ mod Methods
 mod Reached
 mod Places
 mod Leaves
+mod Lengthened
 mod Drafted
 mod Ending

@@ -1,10 +1,11 @@
 -- What is evaluated without an end: leaves, and calls on them.
-use Rattle.std.specs.Prelude.{◌≡◌, ◌≤◌, ◌<◌, ◌-◌, ℕ, ℤ, Some, List, drop}
-use Rattle.kernele.specs.Tree.{Name, Tree, Trees, none, and_then}
+use Rattle.std.specs.Prelude.{◌≡◌, ◌≤◌, ◌<◌, ◌-◌, ℕ, ℤ, Bool, true, false, Some, List, drop}
+use Rattle.ids.specs.declared.names.SlotId.{SlotId}
+use Rattle.kernele.specs.Tree.{Name, Tree, Trees, noun, call, none, and_then}
 use Rattle.code.specs.View.{trees_of_codes}
 use Rattle.code.specs.declared.code.Code.{Code}
 use Rattle.values.specs.Data.{Val, int, null}
-use Rattle.heap.specs.State.{Bind}
+use Rattle.heap.specs.State.{Bind, slot}
 use Rattle.erules.specs.At.{At}
 use Rattle.erules.specs.Outcomes.{End, value}
 use Rattle.erules.specs.Rules.{sought, seeking, noun_end, noun_read, Ends, Items, Runs}
@@ -32,3 +33,15 @@ AtHand a t steps v = (k n : ℕ) → k < 1000 → steps ≤ n → Ends k t (reco
 -- the first n items of a block gave values: what those behind them do, after the last of these values, is what all do
 abbrev pub GoesOn : ℕ → List Code → ℕ → At → At → Type 0
 GoesOn k items n a b = (v : Val) × ((o : End) (c : At) → Items k v (trees_of_codes (drop n items)) b o c → Items k null (trees_of_codes items) a o c)
+
+-- a tree calls a verb on a variable, whose slot is at hand, with one argument, which is at hand
+pub record Lengthens (a : At) (x : Name) (t : Tree) (i : SlotId) (verb : Name) (more : Val) : Type 0 where
+  pub argument : Tree
+  pub is : t ≡ call (noun x) verb (and_then argument none)
+  pub stands : StandsAtHand x (slot i) a
+  pub given : Leaf a argument more
+
+-- a tree was run and gave a value, or nothing has changed
+abbrev pub RanOrNot : Bool → ℕ → Tree → At → At → Type 0
+RanOrNot true k t a b = (v : Val) × Ends k t a (value v) b
+RanOrNot false k t a b = b ≡ a

@@ -5,3 +5,4 @@ pub mod View
 pub mod Found
 pub mod Reaches
 pub mod Drafts
+pub mod Growing

@@ -6,3 +6,4 @@ pub mod Verbs
 pub mod Replies
 pub mod View
 pub mod Laws
+pub mod Growing

@@ -104,7 +104,7 @@ fn joined_list(alloc: Global, first: &[Value], second: &[Value]) -> Result<Answe
 }
 
 /// Whether a list of the first items and the second is not too large.
-fn fits_list(first: &[Value], second: &[Value]) -> bool
+pub(crate) fn fits_list(first: &[Value], second: &[Value]) -> bool
     ensures { result ≡ within_limits (list (joined (vals_of first.now) (vals_of second.now))) }
 {
     match items_left(first, MOST_ITEMS_DEPTH, MOST_ITEMS_WEIGHT) {
@@ -114,7 +114,7 @@ fn fits_list(first: &[Value], second: &[Value]) -> bool
 }
 
 /// Adds the same items, shared, at the end.
-fn append(list: &mut Vec<Value>, items: &[Value]) -> Result<(), AllocError>
+pub(crate) fn append(list: &mut Vec<Value>, items: &[Value]) -> Result<(), AllocError>
     ensures { OnOk result (vals_of list.new.items ≡ joined (vals_of list.old.items) (vals_of items.now)) }
 {
     for item in items {

@@ -1,0 +1,58 @@
+// Lists that a verb makes longer where they stand.
+ghost use Rattle.std.specs.Prelude.{◌≡◌, IfOk, OnOk};
+ghost use Rattle.values.specs.Data.{and_val, no_vals};
+ghost use Rattle.values.specs.Growing.{Grown, ListGrown};
+ghost use Rattle.values.specs.Replies.{data_reply, joined};
+ghost use Rattle.values.specs.View.{val_of, vals_of};
+
+use crate::lists::{append, fits_list};
+use crate::value::Value;
+use crate::verb::{Verb, Word};
+use std::alloc::AllocError;
+use std::slice;
+use std::sync::Arc;
+
+/// Lets a list or a text be what a verb with one argument gives for it, where that is a longer one. Where nobody else
+/// holds it nothing is copied. Answers whether it did; a value that did not grow is as it was.
+pub fn grow(held: &mut Value, verb: &Verb, more: &Value) -> Result<bool, AllocError>
+    ensures { IfOk result (λ grew. Grown grew held.old (data_reply (val_of held.old) verb.now (and_val (val_of more.now) no_vals)) held.new) }
+{
+    match held {
+        Value::List(items) => match verb.word() {
+            Some(Word::With) => grow_list(items, slice::from_ref(more)),
+            Some(Word::Add) => match more.as_items() {
+                Some(more) => grow_list(items, more),
+                None => Ok(false),
+            },
+            _ => Ok(false),
+        },
+        _ => Ok(false),
+    }
+}
+
+/// Adds items at the end of a list, where it is not too large then.
+fn grow_list(list: &mut Arc<Vec<Value>>, more: &[Value]) -> Result<bool, AllocError>
+    ensures { IfOk result (λ grew. ListGrown grew list.old (vals_of more.now) list.new) }
+{
+    if !fits_list(list.as_slice(), more) {
+        return Ok(false);
+    }
+    match Arc::get_mut(list) {
+        Some(own) => append(own, more)?,
+        None => grow_copy(list, more)?,
+    }
+    Ok(true)
+}
+
+/// The same in a copy.
+fn grow_copy(list: &mut Arc<Vec<Value>>, more: &[Value]) -> Result<(), AllocError>
+    ensures { OnOk result (vals_of list.new.value.items ≡ joined (vals_of list.old.value.items) (vals_of more.now)) }
+{
+    let alloc = list.allocator().clone()?;
+    let items = list.as_slice();
+    let mut both = Vec::with_capacity(alloc, items.len() + more.len())?;
+    append(&mut both, items)?;
+    append(&mut both, more)?;
+    *list = Arc::new(alloc, both)?;
+    Ok(())
+}
