@@ -1,13 +1,15 @@
-// Lists that a verb makes longer where they stand.
+// Lists and texts that a verb makes longer where they stand.
 ghost use Rattle.std.specs.Prelude.{◌≡◌, IfOk, OnOk};
 ghost use Rattle.values.specs.Data.{and_val, no_vals};
-ghost use Rattle.values.specs.Growing.{Grown, ListGrown};
+ghost use Rattle.values.specs.Growing.{Grown, ListGrown, TextGrown};
 ghost use Rattle.values.specs.Replies.{data_reply, joined};
 ghost use Rattle.values.specs.View.{val_of, vals_of};
 
 use crate::lists::{append, fits_list};
+use crate::texts::fits_text;
 use crate::value::Value;
 use crate::verb::{Verb, Word};
+use ids::text::Text;
 use std::alloc::AllocError;
 use std::slice;
 use std::sync::Arc;
@@ -23,6 +25,13 @@ pub fn grow(held: &mut Value, verb: &Verb, more: &Value) -> Result<bool, AllocEr
             Some(Word::Add) => match more.as_items() {
                 Some(more) => grow_list(items, more),
                 None => Ok(false),
+            },
+            _ => Ok(false),
+        },
+        Value::Text(text) => match verb.word() {
+            Some(Word::Add) => match more {
+                Value::Text(more) => grow_text(text, more.as_str()),
+                _ => Ok(false),
             },
             _ => Ok(false),
         },
@@ -55,4 +64,15 @@ fn grow_copy(list: &mut Arc<Vec<Value>>, more: &[Value]) -> Result<(), AllocErro
     append(&mut both, more)?;
     *list = Arc::new(alloc, both)?;
     Ok(())
+}
+
+/// Adds a text at the end of another, where that is not too large then.
+fn grow_text(text: &mut Text, more: &str) -> Result<bool, AllocError>
+    ensures { IfOk result (λ grew. TextGrown grew text.old more.now text.new) }
+{
+    if !fits_text(text.as_str(), more) {
+        return Ok(false);
+    }
+    text.push_str(more)?;
+    Ok(true)
 }
