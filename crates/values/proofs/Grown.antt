@@ -1,26 +1,23 @@
 -- What grew where it stands is what a verb gives.
 use Rattle.std.proofs.Common.{◌≡◌, ℕ, Bool, true, false, List, ◌++◌, Option, Some, Result, Ok, Err, IfOk, refl, sym, ap, ◌∙◌}
 use Rattle.std.specs.declared.sync.Arc.{Arc}
-use Rattle.std.specs.declared.vec.Vec.{Vec}
 use Rattle.std.specs.declared.alloc.Global.{Global}
 use Rattle.std.specs.declared.alloc.AllocError.{AllocError}
 use Rattle.values.specs.Data.{Val, Vals, no_vals, and_val, Reply, gives, list, text}
 use Rattle.values.specs.Replies.{data_reply, limited, list_reply, text_reply, joined, items_in, wanted, list_table, text_table}
 use Rattle.values.specs.Growing.{Grown, ListGrown, TextGrown}
 use Rattle.values.specs.Verbs.{text_of}
-use Rattle.values.specs.View.{val_of, vals_of}
-use Rattle.values.specs.declared.value.Value as code
+use Rattle.values.specs.View.{val_of}
+use Rattle.values.specs.declared.value.Value.TheVariants as code
 use Rattle.values.specs.declared.value.Value.{Value}
 use Rattle.values.specs.declared.verb.Word.TheVariants as word
-use Rattle.values.proofs.Views.{val_of-List}
 
 -- a list that grew, as a value
-pub list_grown : (r : Result Bool AllocError) {old new : Value} {l m : Arc (Vec Value Global) Global} (s : List ℕ) (x : Val) (more : Vals) → old ≡ code.List l → new ≡ code.List m
-    → list_table (vals_of l.value.items) s (and_val x no_vals) ≡ list_reply (joined (vals_of l.value.items) more)
+pub list_grown : (r : Result Bool AllocError) {old new : Value} {l m : Arc Vals Global} (s : List ℕ) (x : Val) (more : Vals) → old ≡ code.List l → new ≡ code.List m
+    → list_table l.value s (and_val x no_vals) ≡ list_reply (joined l.value more)
     → IfOk r (λ g. ListGrown g l more m) → IfOk r (λ g. Grown g old (data_reply (val_of old) s (and_val x no_vals)) new)
 list_grown (Ok true) {l = l} {m = m} s x more p q e h =
-    ap (λ v. data_reply (val_of v) s (and_val x no_vals)) p ∙ ap (λ v. data_reply v s (and_val x no_vals)) (val_of-List l) ∙ e ∙ h
-    ∙ ap gives (sym (ap val_of q ∙ val_of-List m))
+    ap (λ v. data_reply (val_of v) s (and_val x no_vals)) p ∙ e ∙ h ∙ ap gives (sym (ap val_of q))
 list_grown (Ok false) s x more p q e h = q ∙ ap code.List h ∙ sym p
 list_grown (Err u) s x more p q e h = tt
 

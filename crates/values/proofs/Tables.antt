@@ -13,7 +13,7 @@ use Rattle.values.specs.View.{val_of, vals_of, reply_of, int_reply}
 use Rattle.values.specs.declared.integers.IntReply.{IntReply}
 use Rattle.values.specs.declared.integers.IntReply.TheVariants as int-reply
 use Rattle.values.specs.declared.value.Value.{Value}
-use Rattle.values.specs.declared.value.Value as code
+use Rattle.values.specs.declared.value.Value.TheVariants as code
 use Rattle.ids.specs.declared.names.ObjId.{ObjId}
 use Rattle.ids.specs.declared.names.EjId.{EjId}
 

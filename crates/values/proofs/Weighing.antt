@@ -59,3 +59,10 @@ joined_beyond us vs f = sym (one_above (1 + weights (joined us vs)) 65536 (1 + d
 -- the end of the items
 pub last_left : (xs : List Value) (i : ℕ) (left depth : ℕ) → length xs ≤ i → SomeIff (Some left) ((weights (vals_of (drop i xs)) ≤ left) × (deepest (vals_of (drop i xs)) ≤ depth)) (left - weights (vals_of (drop i xs)))
 last_left xs i left depth h = rw (drop_all i xs h) ((omega arith, omega arith), omega arith)
+
+-- whether a list of these keeps the limits
+pub within : (vs : Vals) → (weights vs ≤ 65535) × (deepest vs ≤ 63) → true ≡ within_limits (list vs)
+within vs f = sym (both_at_most (1 + weights vs) 65536 (1 + deepest vs) 64 (omega (arith, f.0)) (omega (arith, f.1)))
+
+pub beyond : (vs : Vals) → ¬ ((weights vs ≤ 65535) × (deepest vs ≤ 63)) → false ≡ within_limits (list vs)
+beyond vs f = sym (one_above (1 + weights vs) 65536 (1 + deepest vs) 64 (λ k. f (omega (arith, k.0), omega (arith, k.1))))

@@ -1,13 +1,14 @@
 // Lists and texts that a verb makes longer where they stand.
-ghost use Rattle.std.specs.Prelude.{◌≡◌, IfOk, OnOk};
+ghost use Rattle.std.specs.Prelude.{◌≡◌, ◌+◌, ◌≤◌, IfOk, OnOk};
 ghost use Rattle.values.specs.Data.{and_val, no_vals};
 ghost use Rattle.values.specs.Growing.{Grown, ListGrown, TextGrown};
+ghost use Rattle.values.specs.Limits.{deepest, weights};
 ghost use Rattle.values.specs.Replies.{data_reply, joined};
 ghost use Rattle.values.specs.View.{val_of, vals_of};
 
-use crate::lists::{append, fits_list};
+use crate::lists::fits_list;
 use crate::texts::fits_text;
-use crate::value::Value;
+use crate::value::{Items, Value};
 use crate::verb::{Verb, Word};
 use ids::text::Text;
 use std::alloc::AllocError;
@@ -40,28 +41,28 @@ pub fn grow(held: &mut Value, verb: &Verb, more: &Value) -> Result<bool, AllocEr
 }
 
 /// Adds items at the end of a list, where it is not too large then.
-fn grow_list(list: &mut Arc<Vec<Value>>, more: &[Value]) -> Result<bool, AllocError>
+fn grow_list(list: &mut Arc<Items>, more: &[Value]) -> Result<bool, AllocError>
     ensures { IfOk result (λ grew. ListGrown grew list.old (vals_of more.now) list.new) }
 {
-    if !fits_list(list.as_slice(), more) {
+    if !fits_list(&**list, more) {
         return Ok(false);
     }
     match Arc::get_mut(list) {
-        Some(own) => append(own, more)?,
+        Some(own) => own.extend(more)?,
         None => grow_copy(list, more)?,
     }
     Ok(true)
 }
 
 /// The same in a copy.
-fn grow_copy(list: &mut Arc<Vec<Value>>, more: &[Value]) -> Result<(), AllocError>
-    ensures { OnOk result (vals_of list.new.value.items ≡ joined (vals_of list.old.value.items) (vals_of more.now)) }
+fn grow_copy(list: &mut Arc<Items>, more: &[Value]) -> Result<(), AllocError>
+    requires light { weights list.old.value + weights (vals_of more.now) ≤ 65535 }
+    requires shallow { deepest (vals_of more.now) ≤ 63 }
+    ensures { OnOk result (list.new.value ≡ joined list.old.value (vals_of more.now)) }
 {
-    let alloc = list.allocator().clone()?;
-    let items = list.as_slice();
-    let mut both = Vec::with_capacity(alloc, items.len() + more.len())?;
-    append(&mut both, items)?;
-    append(&mut both, more)?;
+    let mut both = list.copy(more.len())?;
+    both.extend(more)?;
+    let alloc = both.allocator()?;
     *list = Arc::new(alloc, both)?;
     Ok(())
 }

@@ -1,10 +1,10 @@
-use Rattle.std.proofs.Common.{ap, ◌∙◌}
-use Rattle.values.specs.Data.{list}
-use Rattle.values.specs.Replies.{limited}
-use Rattle.values.specs.View.{vals_of}
-use Rattle.values.proofs.Views.{val_of-List}
-use Rattle.values.proofs.Tables.{replied}
+use Rattle.std.proofs.Common.{ap, sym, ◌∙◌}
+use Rattle.values.specs.Data.{gives, list}
+use Rattle.values.proofs.Tables.{kept, refused, replied}
 use Rattle.values.proofs.lists.list_value.Goals as goal
 
-pub returns : goal.returns
-returns c = replied c.limited.result _ _ (ap limited (val_of-List c.in_ok-new.field-0 ∙ ap (λ v. list (vals_of v.items)) c.in_ok-new.ensures.ok)) c.limited.ensures
+pub returns-in_ok-new-in-Some : goal.returns-in_ok-new-in-Some
+returns-in_ok-new-in-Some c = ?
+
+pub returns-in-None : goal.returns-in-None
+returns-in-None c = ?

@@ -34,8 +34,8 @@ same-returns-in_default-8 t c = other_broken c.in_default.field-0-0 c.args.b.now
 pub same-returns-in-List-List : goal.same-returns-in-List-List
 same-returns-in-List-List t c =
     c.same_items.ensures
-    ∙ ap (λ v. same_as v (list (vals_of c.as_slice-in-List-List.result.now))) (sym (list_is c.args.a.now c.in-List-List.xs c.deref.result.now c.as_slice.result.now c.in-List-List.is-0 c.deref.ensures c.as_slice.ensures.value))
-    ∙ ap (same_as (val_of c.args.a.now)) (sym (list_is c.args.b.now c.in-List-List.ys c.deref-in-List-List.result.now c.as_slice-in-List-List.result.now c.in-List-List.is-1 c.deref-in-List-List.ensures c.as_slice-in-List-List.ensures.value))
+    ∙ ap (λ v. same_as v (list (vals_of c.as_slice-in-List-List.result.now))) (sym (list_is c.args.a.now c.in-List-List.xs c.deref.result.now c.as_slice.result.now c.in-List-List.is-0 c.deref.ensures c.as_slice.ensures))
+    ∙ ap (same_as (val_of c.args.a.now)) (sym (list_is c.args.b.now c.in-List-List.ys c.deref-in-List-List.result.now c.as_slice-in-List-List.result.now c.in-List-List.is-1 c.deref-in-List-List.ensures c.as_slice-in-List-List.ensures))
 
 pub same_items-returns-then-xs-ys : goal.same_items-returns-then-xs-ys
 same_items-returns-then-xs-ys t c = lengths_differ c.args.xs.now c.args.ys.now c.if-xs-ys.true

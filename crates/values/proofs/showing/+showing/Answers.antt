@@ -6,7 +6,7 @@ use Rattle.values.proofs.ShownItems.{shown_first, shown_step, shown_end, between
 use Rattle.values.proofs.showing.+showing.Goals as goal
 
 pub write_value-returns-in-List : goal.write_value-returns-in-List
-write_value-returns-in-List t c = rw (list_is c.args.value.now c.in-List.items c.deref.result.now c.as_slice.result.now c.in-List.is c.deref.ensures c.as_slice.ensures.value) c.write_list.ensures
+write_value-returns-in-List t c = rw (list_is c.args.value.now c.in-List.items c.deref.result.now c.as_slice.result.now c.in-List.is c.deref.ensures c.as_slice.ensures) c.write_list.ensures
 
 pub write_list-loop-item-init : goal.write_list-loop-item-init
 write_list-loop-item-init t c = (ap (λ bs. string_bytes c.push_str.new.self ++ bs) (shown_first (vals_of c.args.items.now)), search rules)
