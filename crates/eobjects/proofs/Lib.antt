@@ -5,3 +5,4 @@ mod Leaves
 mod Drafted
 mod Ending
 mod Sent
+mod AtHand

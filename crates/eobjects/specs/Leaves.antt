@@ -1,14 +1,15 @@
 -- What is evaluated without an end: leaves, and calls on them.
 use Rattle.std.specs.Prelude.{◌≡◌, ◌≤◌, ◌<◌, ◌+◌, ◌-◌, ℕ, ℤ, Some, List, drop, true}
 use Rattle.ids.specs.declared.names.EjId.{EjId}
+use Rattle.ids.specs.declared.names.ObjId.{ObjId}
 use Rattle.kernele.specs.Tree.{Name, Tree, Trees, none, and_then}
 use Rattle.code.specs.View.{trees_of_codes}
 use Rattle.code.specs.declared.code.Code.{Code}
-use Rattle.values.specs.Data.{Val, int, null}
+use Rattle.values.specs.Data.{Val, int, null, object, no_vals, and_val}
 use Rattle.heap.specs.State.{Bind}
 use Rattle.erules.specs.At.{At}
-use Rattle.erules.specs.Outcomes.{End, value, halt}
-use Rattle.erules.specs.Rules.{sought, seeking, noun_end, noun_read, same_ejector, is_open, ejects, Ends, Items, Runs}
+use Rattle.erules.specs.Outcomes.{End, value, halt, values}
+use Rattle.erules.specs.Rules.{sought, seeking, noun_end, noun_read, same_ejector, is_open, ejects, Ends, Args, Items, Runs}
 
 -- a name stands for this, and to seek it touches no cell that was not touched before
 abbrev pub StandsAtHand : Name → Bind → At → Type 0
@@ -42,3 +43,7 @@ sent i is (halt h) = halt h
 -- a tree calls an ejector that is the same as this one, with one argument: two steps on, it ends as that argument ends, and there
 abbrev pub Returns : ℕ → At → EjId → Tree → Tree → Type 0
 Returns k a j t arg = (i : EjId) × (same_ejector j i ≡ true) × ((o : End) (b : At) → Ends (k + 1) arg (record a { left = a.left - 2 }) o b → Ends k t a (sent i b.opened o) b)
+
+-- a call's receiver gives this object, and its only argument this value; they take so many steps, and change nothing else
+abbrev pub GivesParts : ℕ → At → Tree → Trees → ObjId → Val → ℕ → Type 0
+GivesParts k a receiver args i v steps = (b : At) × Ends (k + 1) receiver a (value (object i)) b × Args (k + 1) args b (values (and_val v no_vals)) (record a { left = a.left - steps })

@@ -1,5 +1,5 @@
 //! Nouns, objects and calls: what names stand for, how they are bound and assigned, how objects are made, found and entered;
-//! and quick ways where integers or an ejector are at hand.
+//! and quick ways where integers, an ejector, or an object and what it is called with are at hand.
 //!
 //! What a function here gives or leaves is what the rules of evaluation say of its part.
 #![tactic(auto)]
@@ -7,5 +7,6 @@
 pub mod calls;
 pub mod nouns;
 pub mod objects;
+pub mod parts;
 pub mod quick;
 pub mod returns;

@@ -161,7 +161,7 @@ fn make(
 }
 
 /// What a call on an object leads to, which reads the object.
-pub(crate) fn object_target(
+pub fn object_target(
     w: &mut Working,
     id: ObjId,
     verb: &Verb,

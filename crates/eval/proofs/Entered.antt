@@ -1,18 +1,21 @@
 -- From the rules of calls and of Escapes to what the program's functions ensure.
-use Rattle.std.proofs.Common.{◌≡◌, ℕ, ◌+◌, Bool, List, length, take, subst, refl, sym, ap, ◌∙◌, rules}
+use Rattle.std.proofs.Common.{◌≡◌, ℕ, ◌+◌, Bool, List, [], ◌∷◌, length, take, subst, refl, sym, ap, ◌∙◌, rules}
 use Rattle.std.specs.Prelude.{Result, Ok, Err, IfOk, Vec, vec_len}
 use Rattle.std.specs.declared.alloc.Global.{Global}
 use Rattle.ids.specs.declared.names.EjId.{EjId}
+use Rattle.ids.specs.declared.names.ObjId.{ObjId}
 use Rattle.kernele.specs.Tree.{Name, Tree, Trees, call, escape_tree}
 use Rattle.code.specs.View.{tree_of_code, trees_of_codes}
 use Rattle.code.specs.declared.code.Code.{Code}
 use Rattle.kernele.specs.declared.tree.Pattern.{Pattern}
 use Rattle.kernele.specs.declared.tree.Pattern.TheVariants as pattern
-use Rattle.values.specs.Data.{Val, null, ejector}
-use Rattle.heap.specs.State.{Nouns}
+use Rattle.values.specs.Data.{Val, null, object, ejector, no_vals, and_val}
+use Rattle.values.specs.View.{val_of, vals_of}
+use Rattle.values.specs.declared.value.Value.{Value}
+use Rattle.heap.specs.State.{Nouns, object_cell, read}
 use Rattle.erules.specs.At.{At}
-use Rattle.erules.specs.Outcomes.{End, value, Gather}
-use Rattle.erules.specs.Rules.{Target, inside, leaving, gives, enters, target_of, called, next_ejector, escaping, escape_end, Ends, Runs, run_call_gives, run_call_enters, run_escape, Args, Items, Taking}
+use Rattle.erules.specs.Outcomes.{End, value, Gather, values}
+use Rattle.erules.specs.Rules.{Target, inside, leaving, gives, enters, reached, object_target, target_of, called, next_ejector, escaping, escape_end, Ends, Runs, run_call_gives, run_call_enters, run_escape, Args, Items, Taking}
 use Rattle.erules.specs.Locals.{locals_of}
 use Rattle.erules.specs.View.{at, opened_of}
 use Rattle.erules.specs.declared.local.Local.{Local}
@@ -21,7 +24,7 @@ use Rattle.erules.proofs.Opened.{taking_opened}
 use Rattle.erules.proofs.Seeking.{called_reads}
 use Rattle.erules.proofs.Steps.{runs_to, args_as}
 use Rattle.erules.proofs.Ejectors.{opened_truncated}
-use Rattle.eval.specs.Leading.{Leads}
+use Rattle.eval.specs.Leading.{Arrives, Leads}
 
 -- what a method's block does, where the caller's names come back behind it
 abbrev pub Enters : ℕ → Trees → Nouns → At → End → At → Type 0
@@ -40,17 +43,17 @@ pub call_as : {k : ℕ} {r s : Code} {verb : Name} {xs ys : List Code} {a b : At
 call_as {k = k} {s = s} {verb = verb} {xs = xs} {a = a} {b = b} {o = o} e f h =
     subst (λ xs. Runs k (call (tree_of_code s) verb (trees_of_codes xs)) a o b) f (subst (λ r. Runs k (call (tree_of_code r) verb (trees_of_codes xs)) a o b) e h)
 
--- a call whose target is an end
-pub call_given : {k : ℕ} {r : Tree} {verb : Name} {xs ys : List Code} {a b z : At} {v : Val} {m : Target} {o : End} → xs ≡ ys → Ends (k + 1) r a (value v) b → Leads (k + 1) (trees_of_codes xs) v verb b m z → m ≡ gives o → Runs k (call r verb (trees_of_codes ys)) a o z
-call_given same p l e = runs_to (run_call_gives p (args_as same l.args) (sym l.target ∙ e)) refl l.place
-
--- a call that enters a method
-pub call_entered : {k : ℕ} {r : Tree} {verb : Name} {xs ys : List Code} {a b y z : At} {v : Val} {m : Target} {ns : Nouns} {body : Trees} {o : End} → xs ≡ ys → Ends (k + 1) r a (value v) b → Leads (k + 1) (trees_of_codes xs) v verb b m y → m ≡ enters ns body
-    → Enters (k + 1) body ns y o z → Runs k (call r verb (trees_of_codes ys)) a o z
-call_entered {k = k} {y = y} {v = v} {ns = ns} {body = body} {o = o} same p l e h =
+-- a call, by what its target gives
+pub call_arrives : {k : ℕ} {r : Tree} {verb : Name} {xs ys : List Code} {a b y z : At} {v : Val} (m : Target) {o : End} → xs ≡ ys → Ends (k + 1) r a (value v) b → Leads (k + 1) (trees_of_codes xs) v verb b m y → Arrives (k + 1) m y o z → Runs k (call r verb (trees_of_codes ys)) a o z
+call_arrives (gives p) same r l h = runs_to (run_call_gives r (args_as same l.args) (sym l.target)) h.0 (h.1 ∙ l.place)
+call_arrives {k = k} {y = y} {v = v} (enters ns body) {o = o} same r l h =
     let place = l.place in
-    runs_to (run_call_enters {c = l.behind} {d = h.0} p (args_as same l.args) (sym l.target ∙ e) (subst (λ y. Items (k + 1) null body (inside ns y) o h.0) place h.1)) refl
+    runs_to (run_call_enters {c = l.behind} {d = h.0} r (args_as same l.args) (sym l.target) (subst (λ y. Items (k + 1) null body (inside ns y) o h.0) place h.1)) refl
     (h.2 ∙ left_behind v l.gather y l.behind h.0 place)
+
+-- a call on an object leads where its only argument was at hand
+pub parts_lead : {k : ℕ} {ts : Trees} {verb : Name} {a c z : At} {i : ObjId} {v : Value} {vs : List Value} {m : Target} → vs ≡ v ∷ [] → Args k ts a (values (and_val (val_of v) no_vals)) c → m ≡ object_target i (read c.state (object_cell i)) verb (vals_of vs) → z ≡ reached (object_cell i) c → Leads k ts (object i) verb a m z
+parts_lead {verb = verb} {c = c} {i = i} {v = v} is u e f = record { gather = values (and_val (val_of v) no_vals); behind = c; args = u; target = e ∙ ap (λ us. object_target i (read c.state (object_cell i)) verb (vals_of us)) is; place = f }
 
 -- as many Escapes are being evaluated as their vector says
 pub as_many : (opened : Vec EjId Global) {n : ℕ} → n ≡ vec_len opened → n ≡ length opened.items

@@ -6,20 +6,19 @@ ghost use Rattle.code.specs.Frames.{fits_all};
 ghost use Rattle.erules.specs.Fits.{fits_at, all_fit_at, frame_at, frame_behind};
 ghost use Rattle.code.specs.View.{tree_of_code, trees_of_codes};
 ghost use Rattle.values.specs.Data.{null, ejector as ejector_value};
-ghost use Rattle.erules.specs.At.{At};
 ghost use Rattle.values.specs.View.{val_of};
-ghost use Rattle.erules.specs.Rules.{Runs, Items, Taking, inside, leaving};
-ghost use Rattle.erules.specs.Locals.{locals_of};
+ghost use Rattle.erules.specs.Rules.{Runs, Items, Taking};
 ghost use Rattle.erules.specs.View.{at, end_of};
 ghost use Rattle.eobjects.specs.View.{target_view};
 ghost use Rattle.eval.specs.Escaping.{Escapes, IsNewest};
-ghost use Rattle.eval.specs.Leading.{Leads};
+ghost use Rattle.eval.specs.Leading.{Arrives, Leads};
 
 use crate::eval::{eval, eval_args, eval_item, eval_items};
 use code::code::Code;
 use eobjects::calls::{call_target, enter_method, leave_method, value_target};
 use eobjects::nouns::bind;
-use eobjects::objects::Target;
+use eobjects::objects::{Target, object_target};
+use eobjects::parts::parts_at_hand;
 use eobjects::quick::quick_value;
 use eobjects::returns::returned;
 use erules::blocks::{enter, leave};
@@ -73,18 +72,18 @@ fn eval_any_call(
     ensures { IfOk result (λ o. Runs level (call (tree_of_code receiver.now.value) verb.now (trees_of_codes args.now.value.items))
         (at w.old) (end_of o) (at w.new)) }
 {
+    if let Some(parts) = parts_at_hand(w, receiver, args, level)? {
+        w.steps -= parts.steps;
+        let args = slice::from_ref(&parts.argument);
+        let target = object_target(w, parts.object, verb, args)?;
+        return eval_led(w, target, level + 1);
+    }
     let received = match eval(w, receiver, level + 1)? {
         End::Value(value) => value,
         End::Halt(halt) => return Ok(End::Halt(halt)),
     };
     let target = eval_target(w, received, verb, args, level + 1)?;
-    match target {
-        Target::Gives(end) => Ok(end),
-        Target::Enters(entry) => {
-            let end = eval_method(w, entry, level + 1)?;
-            Ok(end)
-        }
-    }
+    eval_led(w, target, level + 1)
 }
 
 /// What a call leads to, once its arguments are evaluated. One, which most calls have, needs no list.
@@ -126,18 +125,23 @@ fn eval_with_one(
     }
 }
 
-/// Evaluates a method's block with the names that it begins with.
+/// How a call ends that leads to this: so, or as a method's block, which is evaluated with the names that it begins with.
 #[cycle(evaluate)]
-fn eval_method(w: &mut Working, entry: Entry, level: u32) -> Result<End, AllocError>
+#[inline(always)]
+fn eval_led(w: &mut Working, target: Target, level: u32) -> Result<End, AllocError>
     requires { level ≤ 1001 }
-    ensures { IfOk result (λ o. (d : At) × Items level null (trees_of_codes entry.body.value.items) (inside (locals_of entry.nouns.items) (at w.old)) (end_of o) d
-        × (at w.new ≡ leaving (at w.old) d)) }
+    ensures { IfOk result (λ o. Arrives level (target_view target) (at w.old) (end_of o) (at w.new)) }
 {
-    let Entry { nouns, body } = entry;
-    let caller = enter_method(w, nouns);
-    let end = eval_items(w, &body, level)?;
-    leave_method(w, caller);
-    Ok(end)
+    match target {
+        Target::Gives(end) => Ok(end),
+        Target::Enters(entry) => {
+            let Entry { nouns, body } = entry;
+            let caller = enter_method(w, nouns);
+            let end = eval_items(w, &body, level)?;
+            leave_method(w, caller);
+            Ok(end)
+        }
+    }
 }
 
 #[cycle(evaluate)]

@@ -13,7 +13,8 @@ use Rattle.eobjects.specs.View.{target_view}
 use Rattle.erules.specs.Rules.{at_budget, at_depth, at_node, run_null, run_bool, run_int, run_text, run_noun, run_call_receiver, run_list, run_same_left, run_same, goes, run_hide, run_if_goes, run_if_ends, run_while_again, run_while_halts, run_while_done, run_while_ends, run_for, run_for_ends, run_try, run_try_caught, run_object, args_halt}
 use Rattle.erules.proofs.Steps.{node, child, tested, children, slice_of, if_both, runs_as, runs_to, ends_to, args_begin, args_pushed, args_more, args_no_more, args_end, args_done, only_one, one_arg, items_more, items_no_more, items_end, blocks, taking, taking_ending, each, block_end, taking_end, each_more, each_no_more, each_end, next_round}
 use Rattle.eval.proofs.Halted.{ItemsHalt, all_done, halts_as, items_halted, both_halt, block_halts, halting, to_the_end}
-use Rattle.eval.proofs.Entered.{call_leads, leads_as, entered, call_as, call_given, call_entered, as_many, escape_over}
+use Rattle.eval.proofs.Entered.{call_leads, leads_as, entered, call_as, call_arrives, parts_lead, as_many, escape_over}
+use Rattle.eval.specs.Leading.{Arrives}
 use Rattle.erules.proofs.Scopes.{truncated, truncated-length}
 use Rattle.erules.proofs.Added.{goes_add, block_stays, taking_stays}
 use Rattle.erules.proofs.Fitting.{fits_then, all_fit_then, chosen_fits, repeated_fits, parts_fit, block_fits, entry_fits, round_fits, fits_from}
@@ -99,9 +100,6 @@ eval::eval_list-returns t c = IfOk-weaker _ _ _ (λ o h. runs_as (run_list (chil
 pub calling::eval_any_call-returns-in-Halt : goal.calling::eval_any_call-returns-in-Halt
 calling::eval_any_call-returns-in-Halt t c = run_call_receiver (child c.deref.ensures c.in-Halt.is c.in_ok-value.ensures)
 
-pub calling::eval_method-returns : goal.calling::eval_method-returns
-calling::eval_method-returns t c = entered (ap trees_of_codes (slice_of c.deref-2.ensures.value c.deref.ensures)) _ c.args.w.now c.eval_items.new.w (ap (λ v. v.items) c.enter_method-caller.ensures.names) c.enter_method-caller.ensures.own c.enter_method-caller.ensures.place c.in_ok-end.ensures c.leave_method.ensures
-
 pub calling::eval_escape-eval_naming-requires : goal.calling::eval_escape-eval_naming-requires
 calling::eval_escape-eval_naming-requires t c = (search rules, (search rules, (block_fits (slice_of c.deref-2.ensures.value c.deref.ensures) (ap (λ (a : At). frame_of a.nouns ++ c.args.name.now ∷ []) c.in_ok-ejector.ensures.place) c.requires.fits, newest_begun _ (at c.args.w.now) _ c.in_ok-ejector.ensures.named c.in_ok-ejector.ensures.place)))
 
@@ -109,6 +107,22 @@ pub calling::eval_escape-returns : goal.calling::eval_escape-returns
 calling::eval_escape-returns t c =
     escape_over c.args.name.now _ c.args.w.now c.eval_naming.new.w (as_many c.args.w.now.opened c.len-outer.ensures) c.in_ok-ejector.ensures.named c.in_ok-ejector.ensures.place refl
     (ap trees_of_codes (slice_of c.deref-2.ensures.value c.deref.ensures)) c.in_ok-end.ensures.1 c.close_escape.ensures c.in_ok-end.ensures.2
+
+pub calling::eval_led-eval_items-requires : goal.calling::eval_led-eval_items-requires
+calling::eval_led-eval_items-requires t c = (search rules, (search rules, entry_fits c.in-Enters.entry.nouns.items (at c.args.w.now) _ c.enter_method-caller.ensures.place (slice_of c.deref-2.ensures.value c.deref.ensures) c.in-Enters.entry.fits))
+
+pub calling::eval_led-returns-in_ok-end-in-Enters : goal.calling::eval_led-returns-in_ok-end-in-Enters
+calling::eval_led-returns-in_ok-end-in-Enters t c =
+    subst (λ m. Arrives c.args.level m (at c.args.w.now) (end_of c.in_ok-end-in-Enters.end) (at c.leave_method.new.w)) (sym (ap target_view c.in-Enters.is))
+    (entered (ap trees_of_codes (slice_of c.deref-2.ensures.value c.deref.ensures)) _ c.args.w.now c.eval_items.new.w (ap (λ v. v.items) c.enter_method-caller.ensures.names) c.enter_method-caller.ensures.own c.enter_method-caller.ensures.place c.in_ok-end-in-Enters.ensures c.leave_method.ensures)
+
+pub calling::eval_any_call-returns-in-Some : goal.calling::eval_any_call-returns-in-Some
+calling::eval_any_call-returns-in-Some t c =
+    let parts = subst (λ (m : Option Parts). IfSome m (λ p. GivesParts c.args.level (at c.args.w.now) (tree_of_code c.deref.result.now) (trees_of_codes c.deref-3.result.now) p.object (val_of p.argument) p.steps)) c.in-Some.is c.in_ok-parts.ensures.gives in
+    IfOk-weaker c.eval_led.result _ _ (λ o h. call_arrives _ (slice_of c.deref-3.ensures.value c.deref-2.ensures) (tested c.deref.ensures parts.1) (parts_lead c.from_ref.ensures.value parts.2 c.in_ok-target.ensures.target c.in_ok-target.ensures.reads) h) c.eval_led.ensures
+
+pub calling::eval_any_call-returns : goal.calling::eval_any_call-returns
+calling::eval_any_call-returns t c = IfOk-weaker c.eval_led.result _ _ (λ o h. call_arrives _ (slice_of c.deref-3.ensures.value c.deref-2.ensures) (child c.deref.ensures c.in-Value.is c.in_ok-value.ensures) c.in_ok-target.ensures h) c.eval_led.ensures
 
 pub calling::eval_naming-returns : goal.calling::eval_naming-returns
 calling::eval_naming-returns t c = (c.in_ok-end.ensures.0, taking_end (pattern.Name c.args.name.now) (ejector c.args.ejector) c.args.w.now c.eval_returning.new.w c.enter-outer.ensures.names c.enter-outer.ensures.own c.enter-outer.ensures.place c.in_ok-bind.ensures c.in_ok-end.ensures.1 c.leave.ensures, c.in_ok-end.ensures.2)
@@ -280,9 +294,6 @@ control::eval_block-returns t c = block_end c.args.w.now c.eval_items.new.w c.en
 pub control::eval_taking-returns : goal.control::eval_taking-returns
 control::eval_taking-returns t c = taking_end c.args.pattern.now (val_of c.args.value.now) c.args.w.now c.eval_items.new.w c.enter-outer.ensures.names c.enter-outer.ensures.own c.enter-outer.ensures.place c.in_ok-match_pattern.ensures c.in_ok-end.ensures c.leave.ensures
 
-pub calling::eval_method-eval_items-requires : goal.calling::eval_method-eval_items-requires
-calling::eval_method-eval_items-requires t c = (search rules, (search rules, entry_fits c.args.entry.nouns.items (at c.args.w.now) _ c.enter_method-caller.ensures.place (slice_of c.deref-2.ensures.value c.deref.ensures) c.args.entry.fits))
-
 pub control::eval_if-eval_block-requires : goal.control::eval_if-eval_block-requires
 control::eval_if-eval_block-requires t c = (search rules, (search rules, chosen_fits (slice_of c.deref-then-truth-2.ensures.value c.deref-then-truth.ensures) (tested c.deref.ensures c.in_ok-choice.ensures.1) (c.in_ok-choice.ensures.2 ∙ ap choice_view c.in-Goes.is) c.requires.fits.1))
 
@@ -334,15 +345,6 @@ eval::eval_same-eval-requires-2 t c = (search rules, fits_then c.deref-2.ensures
 pub calling::eval_call-returns-in-Some : goal.calling::eval_call-returns-in-Some
 calling::eval_call-returns-in-Some t c = call_as c.deref.ensures (slice_of c.deref-3.ensures.value c.deref-2.ensures) c.in-Some.ensures.runs
 
-pub calling::eval_any_call-returns-in-Gives : goal.calling::eval_any_call-returns-in-Gives
-calling::eval_any_call-returns-in-Gives t c =
-    call_given (slice_of c.deref-3.ensures.value c.deref-2.ensures) (child c.deref.ensures c.in-Value.is c.in_ok-value.ensures) c.in_ok-target.ensures (ap target_view c.in-Gives.is)
-
-pub calling::eval_any_call-returns-in_ok-end-in-Enters : goal.calling::eval_any_call-returns-in_ok-end-in-Enters
-calling::eval_any_call-returns-in_ok-end-in-Enters t c =
-    call_entered (slice_of c.deref-3.ensures.value c.deref-2.ensures) (child c.deref.ensures c.in-Value.is c.in_ok-value.ensures) c.in_ok-target.ensures (ap target_view c.in-Enters.is)
-    c.in_ok-end-in-Enters.ensures
-
 pub calling::eval_any_call-eval_target-requires : goal.calling::eval_any_call-eval_target-requires
 calling::eval_any_call-eval_target-requires t c = (search rules, (search rules, all_fit_then (slice_of c.deref-3.ensures.value c.deref-2.ensures) (child c.deref.ensures c.in-Value.is c.in_ok-value.ensures) c.requires.fits.1))
 
@@ -364,17 +366,11 @@ calling::eval_with_one-returns-in-Halt t c = record { gather = halted (halt_of c
 
 -- A step that fails claims nothing of what it leaves.
 
-pub calling::eval_any_call-returns-in_err-end-in-Enters : goal.calling::eval_any_call-returns-in_err-end-in-Enters
-calling::eval_any_call-returns-in_err-end-in-Enters t c = claims_nothing c.from_residual-in_err-end-in-Enters.result _ c.from_residual-in_err-end-in-Enters.ensures.0
-
 pub calling::eval_any_call-returns-in_err-target : goal.calling::eval_any_call-returns-in_err-target
 calling::eval_any_call-returns-in_err-target t c = claims_nothing c.from_residual-in_err-target.result _ c.from_residual-in_err-target.ensures.0
 
 pub calling::eval_any_call-returns-in_err-value : goal.calling::eval_any_call-returns-in_err-value
 calling::eval_any_call-returns-in_err-value t c = claims_nothing c.from_residual.result _ c.from_residual.ensures.0
-
-pub calling::eval_method-returns-in_err-end : goal.calling::eval_method-returns-in_err-end
-calling::eval_method-returns-in_err-end t c = claims_nothing c.from_residual.result _ c.from_residual.ensures.0
 
 pub calling::eval_target-returns-in_err-gathered : goal.calling::eval_target-returns-in_err-gathered
 calling::eval_target-returns-in_err-gathered t c = claims_nothing c.from_residual.result _ c.from_residual.ensures.0

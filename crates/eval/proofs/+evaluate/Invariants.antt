@@ -57,8 +57,8 @@ decreases-calling::eval_naming l = 6 * (1001 - l.level) + 3
 abbrev pub decreases-calling::eval_returning : goal.decreases-calling::eval_returning
 decreases-calling::eval_returning l = 6 * (1001 - l.level) + 2
 
-abbrev pub decreases-calling::eval_method : goal.decreases-calling::eval_method
-decreases-calling::eval_method l = 6 * (1001 - l.level) + 3
+abbrev pub decreases-calling::eval_led : goal.decreases-calling::eval_led
+decreases-calling::eval_led l = 6 * (1001 - l.level) + 3
 
 abbrev pub decreases-calling::eval_target : goal.decreases-calling::eval_target
 decreases-calling::eval_target l = 6 * (1001 - l.level) + 3
