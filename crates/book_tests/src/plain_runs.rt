@@ -38,22 +38,27 @@ fn answer(world: &World, asked: u64) -> Option<i64> {
     }
 }
 
-/// A birth and its turn, and a question and its turn, in order.
-fn events(rt: &(impl Abort + AllocGlobal)) -> Vec<Event> {
+/// A birth and its turn, and a question and its turn at the vat that this event bore, in order.
+fn events(rt: &(impl Abort + AllocGlobal), born: u64) -> Vec<Event> {
     let birth = Action::Birth(name(rt, "a"), program(rt, "var n := 20"));
     let ask = Action::Ask(name(rt, "a"), program(rt, "n := n + 1"));
     vec![in rt.alloc();
         event(1, birth),
         event(2, turn_at(1, 1)),
         event(3, ask),
-        event(4, turn_at(1, 3)),
+        event(4, turn_at(born, 3)),
     ]
     .expect(rt, "no memory")
 }
 
+/// Whether one of these events is not possible where it comes.
+fn is_impossible(rt: &(impl Abort + AllocGlobal), events: &[Event]) -> bool {
+    matches!(plain_run(rt.alloc(), events), Err(StepFault::Impossible))
+}
+
 #[test]
 fn a_plain_run(rt: HostRuntime) {
-    match plain_run(rt.alloc(), &events(&rt)) {
+    match plain_run(rt.alloc(), &events(&rt, 1)) {
         Ok(world) => {
             assert!(rt; answer(&world, 1) == Some(20));
             assert!(rt; answer(&world, 3) == Some(21));
@@ -65,21 +70,15 @@ fn a_plain_run(rt: HostRuntime) {
 /// Without its birth a turn is impossible, and so is a question that is asked of no vat.
 #[test]
 fn impossible_runs(rt: HostRuntime) {
-    let events = events(&rt);
-    for first in 1..4 {
-        assert!(rt;
-            matches!(
-                plain_run(rt.alloc(), &events[first..]),
-                Err(StepFault::Impossible)
-            )
-        );
-    }
+    let events = events(&rt, 1);
+    assert!(rt; events.len() == 4);
+    assert!(rt; is_impossible(&rt, &events[1..]));
+    assert!(rt; is_impossible(&rt, &events[2..]));
+    assert!(rt; is_impossible(&rt, &events[3..]));
 }
 
 /// A message has no turn at another vat than its own.
 #[test]
 fn a_turn_elsewhere(rt: HostRuntime) {
-    let mut events = events(&rt);
-    events[3] = event(4, turn_at(2, 3));
-    assert!(rt; matches!(plain_run(rt.alloc(), &events), Err(StepFault::Impossible)));
+    assert!(rt; is_impossible(&rt, &events(&rt, 2)));
 }
