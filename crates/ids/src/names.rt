@@ -6,16 +6,16 @@ ghost use Rattle.ids.specs.Names.{event_text, message_text, promise_text, slot_t
 use crate::text::Text;
 use std::fmt;
 
-/// The name of an event: a number drawn from the book's counter, from 1.
-#[derive(Clone, Copy, PartialEq, Eq, PartialOrd, Ord, Hash)]
+/// The name of an event: a number drawn from the book's counter, from 1. The default is no event's name.
+#[derive(Clone, Copy, Default, PartialEq, Eq, PartialOrd, Ord, Hash)]
 pub struct EventName(pub u64);
 
 /// A vat's number: the name of its birth.
 #[derive(Clone, Copy, PartialEq, Eq, PartialOrd, Ord, Hash)]
 pub struct VatNo(pub EventName);
 
-/// A message: the event that sent it, and its number among that event's messages, from 0.
-#[derive(Clone, Copy, PartialEq, Eq, PartialOrd, Ord, Hash)]
+/// A message: the event that sent it, and its number among that event's messages, from 0. The default is no message's name.
+#[derive(Clone, Copy, Default, PartialEq, Eq, PartialOrd, Ord, Hash)]
 pub struct MsgId {
     pub event: EventName,
     pub index: u32,

@@ -1,5 +1,5 @@
-// A text that many hold and nobody changes.
-ghost use Rattle.std.specs.Prelude.{◌≡◌, ℕ, List, IfOk, string_bytes, nat_eq, Some};
+// A text that many hold: it changes only where nobody else sees it.
+ghost use Rattle.std.specs.Prelude.{◌≡◌, ◌++◌, ℕ, List, IfOk, OnOk, string_bytes, nat_eq, Some};
 ghost use Rattle.std.proofs.Common.{refl, rules};
 ghost use Rattle.std.specs.Ordering.{nat_cmp};
 ghost use Rattle.std.specs.Hash as fed;
@@ -13,11 +13,11 @@ use std::fmt;
 use std::fmt::{Debug, Display, Formatter, Write};
 use std::hash::{Hash, Hasher};
 use std::marker::Model;
-use std::sync::ArcStr;
+use std::sync::Arc;
 
 /// A shared text: a name, a verb or a literal. Clauses see its bytes.
 pub struct Text {
-    shared: ArcStr,
+    shared: Arc<String>,
 }
 
 // By hand, so that what drops one elsewhere calls this and is not proved anew for all that it holds.
@@ -28,12 +28,12 @@ impl Drop for Text {
 }
 
 impl Model for Text {
-    ghost use Rattle.std.specs.Prelude.{List, ℕ};
-    ghost use Rattle.std.specs.Arc.{arc_str_bytes};
+    ghost use Rattle.std.specs.Prelude.{List, ℕ, string_bytes};
+    ghost use Rattle.std.specs.Arc.{arc_value};
 
     ghost Value = { List ℕ };
 
-    ghost view = { λ t. arc_str_bytes t.shared };
+    ghost view = { λ t. string_bytes (arc_value t.shared) };
 }
 
 impl Text {
@@ -41,17 +41,16 @@ impl Text {
     pub fn new(alloc: Global, text: &str) -> Result<Text, AllocError>
         ensures { IfOk result (λ t. t ≡ text.now) }
     {
-        Ok(Text {
-            shared: ArcStr::from_str(alloc, text)?,
-        })
+        Text::from_string(String::from_str(alloc, text)?)
     }
 
     /// A string as a text, not copied.
     pub fn from_string(text: String) -> Result<Text, AllocError>
         ensures { IfOk result (λ t. t ≡ string_bytes text) }
     {
+        let alloc = text.allocator().clone()?;
         Ok(Text {
-            shared: ArcStr::from_string(text)?,
+            shared: Arc::new(alloc, text)?,
         })
     }
 
@@ -60,8 +59,30 @@ impl Text {
         ensures { IfOk result (λ t. t ≡ self.now) }
     {
         Ok(Text {
-            shared: self.shared.clone()?,
+            shared: Arc::try_clone(&self.shared)?,
         })
+    }
+
+    /// Adds a text at the end, in place where nobody else holds this one, else in a copy of it.
+    pub fn push_str(&mut self, more: &str) -> Result<(), AllocError>
+        ensures { OnOk result (self.new ≡ self.old ++ more.now) }
+    {
+        match Arc::get_mut(&mut self.shared) {
+            Some(own) => own.push_str(more),
+            None => self.push_to_copy(more),
+        }
+    }
+
+    fn push_to_copy(&mut self, more: &str) -> Result<(), AllocError>
+        ensures { OnOk result (self.new ≡ self.old ++ more.now) }
+    {
+        let alloc = self.shared.allocator().clone()?;
+        let text = self.shared.as_str();
+        let mut both = String::with_capacity(alloc, text.len() + more.len())?;
+        both.push_str(text)?;
+        both.push_str(more)?;
+        *self = Text::from_string(both)?;
+        Ok(())
     }
 
     pub fn as_str(&self) -> &str

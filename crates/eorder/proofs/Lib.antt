@@ -1,0 +1,9 @@
+pub mod Places
+pub mod Covering
+pub mod Keeping
+pub mod Deeds
+pub mod Worlds
+pub mod Assigned
+pub mod Journals
+pub mod FenceSets
+pub mod Searching

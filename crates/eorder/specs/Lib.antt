@@ -1,0 +1,10 @@
+pub mod Places
+pub mod Acts
+pub mod Assigned
+pub mod Order
+pub mod Deeds
+pub mod Worlds
+pub mod Journals
+pub mod Fences
+pub mod Rules
+pub mod Theorems
