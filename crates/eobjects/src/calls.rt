@@ -6,15 +6,14 @@ ghost use Rattle.erules.specs.Locals.{locals_of};
 ghost use Rattle.erules.specs.View.{at, gather_of};
 ghost use Rattle.eobjects.specs.View.{callee_view, target_view};
 
-use crate::objects::{Target, object_target};
-use erules::end::{End, Gathered};
-use erules::escapes::ejector_end;
+use crate::objects::object_target;
+use erules::end::Stop;
+use erules::entry::Entry;
+use erules::escapes::call_ejector;
 use erules::local::Local;
-use erules::results::data_end;
+use erules::results::call_data;
 use erules::working::Working;
 use ids::names::{EjId, ObjId};
-use ids::text::Text;
-use std::alloc::AllocError;
 use std::mem;
 use values::value::Value;
 use values::verb::Verb;
@@ -34,38 +33,28 @@ pub struct Caller {
     own_scope: bool,
 }
 
-/// What a call leads to, once its arguments have ended.
+/// What a call with these arguments leads to: a method's block, or a value.
 pub fn call_target(
-    w: &mut Working,
-    receiver: Value,
-    verb: &Verb,
-    gathered: Gathered,
-) -> Result<Target, AllocError>
-    ensures target { IfOk result (λ t. target_view t
-        ≡ target_of (val_of receiver) verb.now (gather_of gathered) (at w.old)) }
-    ensures reads { IfOk result (λ t. at w.new ≡ called (val_of receiver) (gather_of gathered) (at w.old)) }
-{
-    match gathered {
-        Gathered::Values(args) => value_target(w, &receiver, verb, args.as_slice()),
-        Gathered::Halt(halt) => Ok(Target::Gives(End::Halt(halt))),
-    }
-}
-
-/// What a call with these arguments leads to.
-pub fn value_target(
     w: &mut Working,
     receiver: &Value,
     verb: &Verb,
     args: &[Value],
-) -> Result<Target, AllocError>
-    ensures target { IfOk result (λ t. target_view t
-        ≡ callee_target (callee_of (val_of receiver.now)) (val_of receiver.now) verb.now (vals_of args.now) (at w.old)) }
-    ensures reads { IfOk result (λ t. at w.new ≡ callee_read (callee_of (val_of receiver.now)) (at w.old)) }
+    into: &mut Value,
+) -> Result<Option<Entry>, Stop>
+    ensures { OnTarget result into.new w.new (λ t b. (t
+        ≡ callee_target (callee_of (val_of receiver.now)) (val_of receiver.now) verb.now (vals_of args.now) (at w.old))
+        × (b ≡ callee_read (callee_of (val_of receiver.now)) (at w.old))) }
 {
     match called_on(receiver) {
-        Callee::Object(id) => object_target(w, id, verb, args),
-        Callee::Ejector(id) => Ok(Target::Gives(ejector_end(w, id, verb, args)?)),
-        Callee::Datum => Ok(Target::Gives(data_end(w.alloc, receiver, verb, args)?)),
+        Callee::Object(id) => object_target(w, id, verb, args, into),
+        Callee::Ejector(id) => {
+            call_ejector(w, id, verb, args, into)?;
+            Ok(None)
+        }
+        Callee::Datum => {
+            call_data(w, receiver, verb, args, into)?;
+            Ok(None)
+        }
     }
 }
 

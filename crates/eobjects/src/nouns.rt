@@ -6,16 +6,18 @@ ghost use Rattle.values.specs.View.{val_of, vals_of};
 ghost use Rattle.code.specs.Frames.{place_in};
 ghost use Rattle.erules.specs.Fits.{frame_at};
 ghost use Rattle.heap.specs.State.{read, slot_cell};
-ghost use Rattle.erules.specs.Outcomes.{value as value_end};
+ghost use Rattle.erules.specs.Ends.{OnEnd, OnStop};
+ghost use Rattle.erules.specs.Outcomes.{thrown, value as value_end, halt as halt_end};
 ghost use Rattle.erules.specs.Rules.{binding as binding_of, matched, matched_all, taken, parts_of, parts_bound, parts_end, reached, seeking, noun_read, sought, sought_slot, held_end, undefined_noun};
 ghost use Rattle.erules.specs.Rules.{declared, declared_end, assigned, assigned_end};
 ghost use Rattle.erules.specs.Rules.{noun_end as noun_end_of};
 ghost use Rattle.heap.specs.View.{bind_of};
 ghost use Rattle.heap.specs.Drafts.{draft_of};
-ghost use Rattle.erules.specs.View.{at, end_of};
+ghost use Rattle.erules.specs.View.{at};
 
 use code::code::Place;
-use erules::end::{Abandon, End, Halt};
+use erules::end::{Abandon, Stop};
+use erules::halting::{abandon, throw};
 use erules::local::Local;
 use erules::wanted::mismatch;
 use erules::working::Working;
@@ -30,45 +32,61 @@ use values::value::Value;
 /// How many slots a turn may make.
 const MAX_SLOTS: usize = 4096;
 
-/// The value of a noun: a slot gives what it holds.
+/// Reads the value of a noun: a slot gives what it holds.
 #[inline(always)]
-pub fn noun_end(w: &mut Working, name: &Text, place: Place) -> Result<End, AllocError>
+pub fn read_noun(w: &mut Working, name: &Text, place: Place, into: &mut Value) -> Result<(), Stop>
     requires { place ≡ place_in (frame_at (at w.old)) name.now }
-    ensures ends { IfOk result (λ o. end_of o
-        ≡ noun_end_of (draft_of w.old.draft) name.now (sought name.now (at w.old))) }
-    ensures reads { IfOk result (λ o. at w.new ≡ noun_read name.now (at w.old)) }
+    ensures { OnEnd result into.new w.new (λ o b. (o
+        ≡ noun_end_of (draft_of w.old.draft) name.now (sought name.now (at w.old)))
+        × (b ≡ noun_read name.now (at w.old))) }
 {
     reach_name(w, name, place)?;
     match seek(w, name, place) {
-        Some(Binding::Fixed(value)) => Ok(End::Value(value.share()?)),
+        Some(Binding::Fixed(value)) => {
+            *into = value.share()?;
+            Ok(())
+        }
         Some(Binding::Slot(slot)) => {
             let slot = *slot;
-            slot_end(w, slot, name)
+            read_slot(w, slot, name, into)
         }
-        None => undefined(w.alloc, name),
+        None => Err(undefined(w, name)),
     }
 }
 
-/// What a slot gives that is read.
-fn slot_end(w: &mut Working, slot: SlotId, name: &Text) -> Result<End, AllocError>
-    ensures ends { IfOk result (λ o. end_of o
-        ≡ held_end name.now (read (draft_of w.old.draft) (slot_cell slot))) }
-    ensures reads { IfOk result (λ o. at w.new ≡ reached (slot_cell slot) (at w.old)) }
+/// Reads what a slot holds.
+fn read_slot(w: &mut Working, slot: SlotId, name: &Text, into: &mut Value) -> Result<(), Stop>
+    ensures { OnEnd result into.new w.new (λ o b. (o
+        ≡ held_end name.now (read (draft_of w.old.draft) (slot_cell slot)))
+        × (b ≡ reached (slot_cell slot) (at w.old))) }
 {
     w.draft.reach_slot(slot)?;
     match w.draft.read_slot(slot) {
-        Some(value) => Ok(End::Value(value.share()?)),
-        None => undefined(w.alloc, name),
+        Some(value) => {
+            *into = value.share()?;
+            Ok(())
+        }
+        None => Err(undefined(w, name)),
     }
 }
 
 /// What a name throws that stands for nothing.
-pub(crate) fn undefined(alloc: Global, name: &Text) -> Result<End, AllocError>
-    ensures { IfOk result (λ o. end_of o ≡ undefined_noun name.now) }
+#[inline(never)]
+pub(crate) fn undefined(w: &mut Working, name: &Text) -> Stop
+    ensures { OnStop result w.new (λ h b. (halt_end h ≡ undefined_noun name.now) × (b ≡ at w.old)) }
+{
+    match undefined_problem(w.alloc, name) {
+        Ok(problem) => throw(w, problem),
+        Err(AllocError) => Stop::Memory,
+    }
+}
+
+fn undefined_problem(alloc: Global, name: &Text) -> Result<Text, AllocError>
+    ensures { IfOk result (λ t. halt_end (thrown t) ≡ undefined_noun name.now) }
 {
     let mut problem = String::from_str(alloc, "undefined noun ")?;
     problem.push_str(name.as_str())?;
-    Ok(End::Halt(Halt::Thrown(Text::from_string(problem)?)))
+    Text::from_string(problem)
 }
 
 /// Reads the top noun's cell of a name that is in no scope.
@@ -117,18 +135,14 @@ pub fn match_pattern(w: &mut Working, pattern: &Pattern, value: &Value) -> Resul
 }
 
 /// Binds what a list of patterns names, where the value is a list of as many items.
-pub fn bind_parts(w: &mut Working, patterns: &[Pattern], value: Value) -> Result<End, AllocError>
-    ensures ends { IfOk result (λ o. end_of o
-        ≡ parts_end (value_end (val_of value)) (parts_of patterns.now (value_end (val_of value)))) }
-    ensures binds { IfOk result (λ o. at w.new
-        ≡ parts_bound patterns.now (parts_of patterns.now (value_end (val_of value))) (at w.old)) }
+pub fn bind_parts(w: &mut Working, patterns: &[Pattern], value: &Value) -> Result<(), Stop>
+    ensures { OnEnd result value.now w.new (λ o b. (o
+        ≡ parts_end (value_end (val_of value.now)) (parts_of patterns.now (value_end (val_of value.now))))
+        × (b ≡ parts_bound patterns.now (parts_of patterns.now (value_end (val_of value.now))) (at w.old))) }
 {
-    match parts(patterns, &value) {
-        Some(values) => {
-            match_all(w, patterns, values)?;
-            Ok(End::Value(value))
-        }
-        None => mismatch(w.alloc, "wrong list", &value),
+    match parts(patterns, value) {
+        Some(values) => Ok(match_all(w, patterns, values)?),
+        None => Err(mismatch(w, "wrong list", value)),
     }
 }
 
@@ -174,33 +188,31 @@ pub fn bind(w: &mut Working, name: &Text, binding: Binding) -> Result<(), AllocE
 }
 
 /// Makes a variable that holds this value, or abandons a turn that has made too many.
-pub fn declare(w: &mut Working, name: &Text, value: Value) -> Result<End, AllocError>
-    ensures ends { IfOk result (λ o. end_of o ≡ declared_end (value_end (val_of value)) (at w.old)) }
-    ensures makes { IfOk result (λ o. at w.new ≡ declared name.now (value_end (val_of value)) (at w.old)) }
+pub fn declare(w: &mut Working, name: &Text, value: &Value) -> Result<(), Stop>
+    ensures { OnEnd result value.now w.new (λ o b. (o ≡ declared_end (value_end (val_of value.now)) (at w.old))
+        × (b ≡ declared name.now (value_end (val_of value.now)) (at w.old))) }
 {
     if w.draft.slot_count() >= MAX_SLOTS {
-        return Ok(End::Halt(Halt::Abandoned(Abandon::Size)));
+        return Err(abandon(w, Abandon::Size));
     }
     let slot = w.draft.new_slot(value.share()?)?;
-    bind(w, name, Binding::Slot(slot))?;
-    Ok(End::Value(value))
+    Ok(bind(w, name, Binding::Slot(slot))?)
 }
 
 /// Lets the slot that a name stands for hold this value. What stands for no slot is undefined here:
 /// a program that assigns to a definition is refused before it runs.
-pub fn assign(w: &mut Working, name: &Text, place: Place, value: Value) -> Result<End, AllocError>
+pub fn assign(w: &mut Working, name: &Text, place: Place, value: &Value) -> Result<(), Stop>
     requires { place ≡ place_in (frame_at (at w.old)) name.now }
-    ensures ends { IfOk result (λ o. end_of o
-        ≡ assigned_end name.now (value_end (val_of value)) (sought_slot name.now (at w.old))) }
-    ensures writes { IfOk result (λ o. at w.new
-        ≡ assigned name.now (value_end (val_of value)) (at w.old)) }
+    ensures { OnEnd result value.now w.new (λ o b. (o
+        ≡ assigned_end name.now (value_end (val_of value.now)) (sought_slot name.now (at w.old)))
+        × (b ≡ assigned name.now (value_end (val_of value.now)) (at w.old))) }
 {
     reach_name(w, name, place)?;
     match seek_slot(w, name, place) {
         Some(slot) => {
             w.draft.write_slot(slot, value.share()?)?;
-            Ok(End::Value(value))
+            Ok(())
         }
-        None => undefined(w.alloc, name),
+        None => Err(undefined(w, name)),
     }
 }

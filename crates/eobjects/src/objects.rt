@@ -24,8 +24,9 @@ use crate::calls::empty_frame;
 use crate::nouns::{match_pattern, reach_name, seek, undefined};
 use code::code::{Capture as CaptureCode, MethodCode};
 use code::index::{MethodIndex, share_index};
-use erules::end::{Abandon, End, Halt};
+use erules::end::{Abandon, Stop};
 use erules::entry::Entry;
+use erules::halting::abandon;
 use erules::local::Local;
 use erules::results::no_such_method;
 use erules::working::Working;
@@ -43,20 +44,6 @@ use values::verb::Verb;
 /// How many objects a turn may make.
 const MAX_OBJECTS: usize = 4096;
 
-/// The names that an object captures, the newest last, or the first of them that stands for nothing.
-#[derive(Drop)]
-pub enum Capture {
-    Captured(Vec<Noun>),
-    Missing(Text),
-}
-
-/// What a call leads to: an end, or a method's block.
-#[derive(Drop)]
-pub enum Target {
-    Gives(End),
-    Enters(Entry),
-}
-
 /// Makes an object once its names are captured, and binds its pattern.
 pub fn define_object(
     w: &mut Working,
@@ -64,42 +51,40 @@ pub fn define_object(
     captures: &Arc<Vec<CaptureCode>>,
     methods: &Arc<Vec<MethodCode>>,
     index: &Option<Arc<MethodIndex>>,
-) -> Result<End, AllocError>
+    into: &mut Value,
+) -> Result<(), Stop>
     requires fits { (captured_names_of captures.now.value.items ≡ captures_of pattern.now (methods_of_codes methods.now.value.items))
         × all_placed (frame_at (at w.old)) captures.now.value.items
         × fits_methods (captured_names_of captures.now.value.items ++ only_names (name_of pattern.now)) methods.now.value.items
         × index_fits (index_in index.now) (methods_of_codes methods.now.value.items) }
-    ensures ends { IfOk result (λ o. end_of o
-        ≡ object_end (capture_of pattern.now (methods_of_codes methods.now.value.items) (at w.old)) (at w.old)) }
-    ensures makes { IfOk result (λ o. at w.new
-        ≡ with_object pattern.now (methods_of_codes methods.now.value.items)
+    ensures { OnEnd result into.new w.new (λ o b. (o
+        ≡ object_end (capture_of pattern.now (methods_of_codes methods.now.value.items) (at w.old)) (at w.old))
+        × (b ≡ with_object pattern.now (methods_of_codes methods.now.value.items)
         (capture_of pattern.now (methods_of_codes methods.now.value.items) (at w.old))
-        (capturing pattern.now (methods_of_codes methods.now.value.items) (at w.old))) }
+        (capturing pattern.now (methods_of_codes methods.now.value.items) (at w.old)))) }
 {
-    let capture = capture_all(w, captures.as_slice())?;
-    match capture {
-        Capture::Captured(nouns) => place(w, pattern, nouns, methods, index),
-        Capture::Missing(name) => undefined(w.alloc, &name),
-    }
+    let nouns = capture_all(w, captures.as_slice())?;
+    place(w, pattern, nouns, methods, index, into)
 }
 
-/// Captures names from the left, up to the first that stands for nothing. A variable is captured as its slot.
-fn capture_all(w: &mut Working, captures: &[CaptureCode]) -> Result<Capture, AllocError>
+/// Captures names from the left, the newest last. A variable is captured as its slot; the first name that stands for nothing
+/// throws.
+fn capture_all(w: &mut Working, captures: &[CaptureCode]) -> Result<Vec<Noun>, Stop>
     requires { all_placed (frame_at (at w.old)) captures.now }
-    ensures captures { IfOk result (λ c. capture_view c ≡ all_captured (captured []) (captured_names_of captures.now) (at w.old)) }
-    ensures reads { IfOk result (λ c. at w.new ≡ all_sought (captured []) (captured_names_of captures.now) (at w.old)) }
+    ensures { OnCapture result w.new (λ c b. (c ≡ all_captured (captured []) (captured_names_of captures.now) (at w.old))
+        × (b ≡ all_sought (captured []) (captured_names_of captures.now) (at w.old))) }
 {
-    let mut nouns = Vec::new(w.alloc);
+    let mut nouns = Vec::with_capacity(w.alloc, captures.len())?;
     let mut rest = captures;
     while let Some((first, others)) = rest.split_first() {
         reach_name(w, &first.name, first.place)?;
         match seek(w, &first.name, first.place) {
             Some(binding) => add_noun(&mut nouns, &first.name, binding.share()?)?,
-            None => return Ok(Capture::Missing(first.name.share()?)),
+            None => return Err(undefined(w, &first.name)),
         }
         rest = others;
     }
-    Ok(Capture::Captured(nouns))
+    Ok(nouns)
 }
 
 /// Adds a newer name to those that are captured.
@@ -118,21 +103,21 @@ fn place(
     nouns: Vec<Noun>,
     methods: &Arc<Vec<MethodCode>>,
     index: &Option<Arc<MethodIndex>>,
-) -> Result<End, AllocError>
+    into: &mut Value,
+) -> Result<(), Stop>
     requires fits { fits_methods (names_of nouns.items ++ only_names (name_of pattern.now)) methods.now.value.items }
     requires indexed { index_fits (index_in index.now) (methods_of_codes methods.now.value.items) }
-    ensures ends { IfOk result (λ o. end_of o ≡ placed_end (has_object_room (at w.old)) (at w.old)) }
-    ensures makes { IfOk result (λ o. at w.new ≡ placed (has_object_room (at w.old)) pattern.now
+    ensures { OnEnd result into.new w.new (λ o b. (o ≡ placed_end (has_object_room (at w.old)) (at w.old))
+        × (b ≡ placed (has_object_room (at w.old)) pattern.now
         (record { own = pattern.now; captured = nouns_of nouns.items; methods = methods_of_codes methods.now.value.items })
-        (at w.old)) }
+        (at w.old))) }
 {
     if w.draft.object_count() >= MAX_OBJECTS {
-        return Ok(End::Halt(Halt::Abandoned(Abandon::Size)));
+        return Err(abandon(w, Abandon::Size));
     }
     let made = make(w.alloc, pattern, nouns, methods, index)?;
-    let object = Value::Object(w.draft.new_object(made)?);
-    match_pattern(w, pattern, &object)?;
-    Ok(End::Value(object))
+    *into = Value::Object(w.draft.new_object(made)?);
+    Ok(match_pattern(w, pattern, into)?)
 }
 
 /// What an object with these names is made of. It shares its pattern and its methods with its definition.
@@ -166,40 +151,41 @@ pub(crate) fn object_target(
     id: ObjId,
     verb: &Verb,
     args: &[Value],
-) -> Result<Target, AllocError>
-    ensures target { IfOk result (λ t. target_view t
-        ≡ object_target_of id (read (draft_of w.old.draft) (object_cell id)) verb.now (vals_of args.now)) }
-    ensures reads { IfOk result (λ t. at w.new ≡ reached (object_cell id) (at w.old)) }
+    into: &mut Value,
+) -> Result<Option<Entry>, Stop>
+    ensures { OnTarget result into.new w.new (λ t b. (t
+        ≡ object_target_of id (read (draft_of w.old.draft) (object_cell id)) verb.now (vals_of args.now))
+        × (b ≡ reached (object_cell id) (at w.old))) }
 {
     w.draft.reach_object(id)?;
     let frame = empty_frame(w);
-    match w.draft.object(id) {
-        Some(object) => method_target(w.alloc, frame, id, object, verb, args),
-        None => Ok(Target::Gives(no_such_method(w.alloc, verb, args)?)),
+    let found = match w.draft.object(id) {
+        Some(object) => method_entry(frame, id, object, verb, args)?,
+        None => None,
+    };
+    if found.is_none() {
+        no_such_method(w, verb, args, into)?;
     }
+    Ok(found)
 }
 
 /// The method that a call on this object enters, with the names that it begins with, in an empty frame.
-fn method_target(
-    alloc: Global,
+fn method_entry(
     frame: Vec<Local>,
     id: ObjId,
     object: &Made,
     verb: &Verb,
     args: &[Value],
-) -> Result<Target, AllocError>
+) -> Result<Option<Entry>, AllocError>
     requires { frame.items ≡ [] }
-    ensures { IfOk result (λ t. target_view t
-        ≡ method_target_of id (object_of object.now) verb.now (vals_of args.now)
-        (method_in (methods_of_codes object.now.methods.value.items) verb.now (vals_of args.now))) }
 {
     match find_method(object, verb, args)? {
         Some(method) => {
             let nouns = method_nouns(frame, id, object, method.parameters.as_slice(), args)?;
             let body = Arc::try_clone(&method.body)?;
-            Ok(Target::Enters(Entry { nouns, body }))
+            Ok(Some(Entry { nouns, body }))
         }
-        None => Ok(Target::Gives(no_such_method(alloc, verb, args)?)),
+        None => Ok(None),
     }
 }
 

@@ -94,7 +94,7 @@ pub fn quick_setting(w: &Working, item: &Code, level: u32) -> Option<Setting>
 
 /// Assigns, in four steps. Gives the integer as a value.
 #[inline(always)]
-pub fn set(w: &mut Working, setting: Setting) -> Result<Value, AllocError>
+pub fn set(w: &mut Working, setting: Setting, into: &mut Value) -> Result<(), AllocError>
     requires { 4 ≤ w.old.steps }
     ensures value { IfOk result (λ v. val_of v ≡ int setting.integer) }
     ensures place { IfOk result (λ v. at w.new
@@ -103,11 +103,18 @@ pub fn set(w: &mut Working, setting: Setting) -> Result<Value, AllocError>
     w.draft
         .write_slot(setting.slot, Value::Int(setting.integer))?;
     w.steps -= 4;
-    Ok(Value::Int(setting.integer))
+    *into = Value::Int(setting.integer);
+    Ok(())
 }
 
 /// Runs the items at the head of a block that assign what integers at hand give. Answers how many they are.
-pub fn run_settings(w: &mut Working, items: &[Code], level: u32) -> Result<usize, AllocError>
+#[inline(always)]
+pub fn run_settings(
+    w: &mut Working,
+    items: &[Code],
+    level: u32,
+    into: &mut Value,
+) -> Result<usize, AllocError>
     requires { all_fit_at (at w.old) items.now }
     ensures within { IfOk result (λ n. n ≤ length items.now) }
     ensures runs { IfOk result (λ n. GoesOn level items.now n (at w.old) (at w.new)) }
@@ -118,7 +125,7 @@ pub fn run_settings(w: &mut Working, items: &[Code], level: u32) -> Result<usize
         let Some(setting) = quick_setting(w, item, level) else {
             return Ok(done);
         };
-        set(w, setting)?;
+        set(w, setting, into)?;
         done += 1;
     }
     Ok(done)

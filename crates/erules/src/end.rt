@@ -1,11 +1,12 @@
-// How evaluations end.
+// How evaluations end: with a value, which stands in the place that the caller gave, or stopped.
 ghost use Rattle.std.specs.Prelude.{◌≡◌};
 ghost use Rattle.erules.specs.Outcomes.{reason};
 ghost use Rattle.erules.specs.View.{cause_of};
+ghost use Rattle.erules.specs.declared.end.Stop.TheVariants as stop;
 
 use ids::names::EjId;
 use ids::text::Text;
-use std::sync::Arc;
+use std::alloc::{AllocError, AllocFailed};
 use values::value::Value;
 
 /// Why a turn is abandoned.
@@ -16,34 +17,37 @@ pub enum Abandon {
     Size,
 }
 
-/// What an ejector was given.
-#[derive(Drop)]
-pub struct Ejection {
-    pub ejector: EjId,
-    pub value: Value,
-}
-
-/// Why an expression has no value: a problem that was thrown, an ejection, or an abandoned turn.
+/// Why an expression has no value: a problem that was thrown, a value on its way to the Escape of its ejector, or an
+/// abandoned turn.
 #[derive(Drop)]
 pub enum Halt {
     Thrown(Text),
-    /// A value on its way to the Escape of its ejector: behind a pointer, so that ends stay small.
-    Ejected(Arc<Ejection>),
+    Ejected(EjId, Value),
     Abandoned(Abandon),
 }
 
-/// How an expression ends.
-#[derive(Drop)]
-pub enum End {
-    Value(Value),
-    Halt(Halt),
+/// Why an evaluation stopped without a value.
+#[derive(Clone, Copy)]
+pub enum Stop {
+    Memory,
+    /// The reason stands in the turn's `halt`, so that what every evaluation answers is small.
+    Halted,
 }
 
-/// How expressions in order end.
-#[derive(Drop)]
-pub enum Gathered {
-    Values(Vec<Value>),
-    Halt(Halt),
+impl From<AllocError> for Stop {
+    ghost from_gives = { λ _ s. s ≡ stop.Memory };
+
+    fn from(_error: AllocError) -> Self {
+        Stop::Memory
+    }
+}
+
+impl<T: Drop> From<AllocFailed<T>> for Stop {
+    ghost from_gives = { λ _ s. s ≡ stop.Memory };
+
+    fn from(_error: AllocFailed<T>) -> Self {
+        Stop::Memory
+    }
 }
 
 impl Abandon {

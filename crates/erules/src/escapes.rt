@@ -5,13 +5,12 @@ ghost use Rattle.values.specs.View.{val_of, vals_of};
 ghost use Rattle.erules.specs.Rules.{next_ejector, escaping, escape_end as escape_end_of, is_open as is_open_of, ejects, given as given_of, ejector_end as ejector_end_of};
 ghost use Rattle.erules.specs.View.{at, end_of, opened_of};
 
-use crate::end::{Ejection, End, Halt};
+use crate::end::{Halt, Stop};
+use crate::halting::throw_words;
 use crate::results::no_such_method;
 use crate::working::Working;
 use ids::names::EjId;
-use ids::text::Text;
 use std::alloc::AllocError;
-use std::sync::Arc;
 use values::value::Value;
 use values::verb::Verb;
 
@@ -35,42 +34,49 @@ pub fn close_escape(w: &mut Working, outer: usize)
     w.opened.truncate(outer);
 }
 
-/// How an Escape ends whose block ended so: a value that its own ejector was given is its value.
-pub fn escape_end(ejector: EjId, ended: End) -> Result<End, AllocError>
-    ensures { IfOk result (λ o. end_of o ≡ escape_end_of ejector (end_of ended)) }
+/// How an Escape ends whose block was answered so: a value that its own ejector was given is its value.
+pub fn end_escape(
+    w: &mut Working,
+    ejector: EjId,
+    answered: Result<(), Stop>,
+    into: &mut Value,
+) -> Result<(), Stop>
+    ensures { OnEnd answered into.old w.old (λ o a. OnEnd result into.new w.new (λ p b. (p ≡ escape_end_of ejector o) × (b ≡ a))) }
 {
-    match ended {
-        End::Value(value) => Ok(End::Value(value)),
-        End::Halt(halt) => match halt {
-            Halt::Thrown(problem) => Ok(End::Halt(Halt::Thrown(problem))),
-            Halt::Ejected(ejection) => {
-                if ejector.cmp(&ejection.ejector).is_eq() {
-                    Ok(End::Value(ejection.value.share()?))
+    match answered {
+        Ok(()) => Ok(()),
+        Err(Stop::Memory) => Err(Stop::Memory),
+        Err(Stop::Halted) => match &w.halt {
+            Halt::Ejected(ejected, value) => {
+                if ejector.cmp(ejected).is_eq() {
+                    *into = value.share()?;
+                    Ok(())
                 } else {
-                    Ok(End::Halt(Halt::Ejected(ejection)))
+                    Err(Stop::Halted)
                 }
             }
-            Halt::Abandoned(why) => Ok(End::Halt(Halt::Abandoned(why))),
+            Halt::Thrown(_) | Halt::Abandoned(_) => Err(Stop::Halted),
         },
     }
 }
 
 /// What a call on an ejector gives.
-pub fn ejector_end(
-    w: &Working,
+pub fn call_ejector(
+    w: &mut Working,
     ejector: EjId,
     verb: &Verb,
     args: &[Value],
-) -> Result<End, AllocError>
-    ensures { IfOk result (λ o. end_of o
-        ≡ ejector_end_of ejector (opened_of w.now.opened.items) verb.now (vals_of args.now)) }
+    into: &mut Value,
+) -> Result<(), Stop>
+    ensures { OnEnd result into.new w.new (λ o b. (o
+        ≡ ejector_end_of ejector (opened_of w.old.opened.items) verb.now (vals_of args.now)) × (b ≡ at w.old)) }
 {
     if verb.text().as_str() != "run" {
-        return no_such_method(w.alloc, verb, args);
+        return no_such_method(w, verb, args, into);
     }
     match given(args)? {
-        Some(value) => eject(w, ejector, value),
-        None => no_such_method(w.alloc, verb, args),
+        Some(value) => Err(eject(w, ejector, value)),
+        None => no_such_method(w, verb, args, into),
     }
 }
 
@@ -88,15 +94,15 @@ fn given(args: &[Value]) -> Result<Option<Value>, AllocError>
 }
 
 /// Sends a value to the Escape of an ejector, if that is being evaluated.
-fn eject(w: &Working, ejector: EjId, value: Value) -> Result<End, AllocError>
-    ensures { IfOk result (λ o. end_of o
-        ≡ ejects (is_open_of ejector (opened_of w.now.opened.items)) ejector (val_of value)) }
+fn eject(w: &mut Working, ejector: EjId, value: Value) -> Stop
+    ensures { OnStop result w.new (λ h b. (halt h
+        ≡ ejects (is_open_of ejector (opened_of w.old.opened.items)) ejector (val_of value)) × (b ≡ at w.old)) }
 {
     if is_open(&w.opened, ejector) {
-        let ejection = Ejection { ejector, value };
-        Ok(End::Halt(Halt::Ejected(Arc::new(w.alloc, ejection)?)))
+        w.halt = Halt::Ejected(ejector, value);
+        Stop::Halted
     } else {
-        Ok(End::Halt(Halt::Thrown(Text::new(w.alloc, "ejector is spent")?)))
+        throw_words(w, "ejector is spent")
     }
 }
 

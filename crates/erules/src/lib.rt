@@ -8,6 +8,7 @@ pub mod blocks;
 pub mod end;
 pub mod entry;
 pub mod escapes;
+pub mod halting;
 pub mod local;
 pub mod results;
 pub mod theorems;

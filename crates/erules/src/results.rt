@@ -1,71 +1,75 @@
-// What literals, lists and calls of data give, as ends.
-ghost use Rattle.std.specs.Prelude.{◌≡◌, IfOk};
-ghost use Rattle.values.specs.Data.{int};
-ghost use Rattle.values.specs.Replies.{text_reply, data_reply};
+// What literals, lists and calls of data give.
+ghost use Rattle.std.specs.Prelude.{◌≡◌};
+ghost use Rattle.values.specs.Replies.{text_reply, list_reply, data_reply};
 ghost use Rattle.values.specs.View.{val_of, vals_of, reply_of};
-ghost use Rattle.erules.specs.Outcomes.{value as value_end, reply_end};
-ghost use Rattle.erules.specs.Rules.{list_end as list_end_of, no_such_method as no_such_method_end};
-ghost use Rattle.erules.specs.View.{end_of, gather_of};
+ghost use Rattle.erules.specs.Ends.{OnEnd, OnStop};
+ghost use Rattle.erules.specs.Outcomes.{End as Ending, halt, reply_end};
+ghost use Rattle.erules.specs.Rules.{no_such_method as no_such_method_end};
+ghost use Rattle.erules.specs.View.{at};
 
-use crate::end::{End, Gathered, Halt};
+use crate::end::Stop;
+use crate::halting::throw;
+use crate::working::Working;
 use ids::text::Text;
-use std::alloc::{AllocError, Global};
 use values::calls::call_verb;
 use values::lists::list_value;
 use values::texts::text_value;
 use values::value::{Answer, Value};
 use values::verb::Verb;
 
-/// What an integer literal gives.
-pub fn int_end(n: i64) -> End
-    ensures { end_of result ≡ value_end (int n) }
-{
-    End::Value(Value::Int(n))
-}
-
 /// What a text literal gives.
-pub fn text_end(alloc: Global, text: &Text) -> Result<End, AllocError>
-    ensures { IfOk result (λ o. end_of o ≡ reply_end (text_reply text.now)) }
+pub fn give_text(w: &mut Working, text: &Text, into: &mut Value) -> Result<(), Stop>
+    ensures { OnEnd result into.new w.new (λ o b. (o ≡ reply_end (text_reply text.now)) × (b ≡ at w.old)) }
 {
-    Ok(answer_end(text_value(alloc, text)?))
+    let answer = text_value(w.alloc, text)?;
+    give(w, answer, into)
 }
 
-/// What a list literal gives, once its items are there.
-pub fn list_end(alloc: Global, gathered: Gathered) -> Result<End, AllocError>
-    ensures { IfOk result (λ o. end_of o ≡ list_end_of (gather_of gathered)) }
+/// What a list literal of these items gives.
+pub fn give_list(w: &mut Working, items: Vec<Value>, into: &mut Value) -> Result<(), Stop>
+    ensures { OnEnd result into.new w.new (λ o b. (o ≡ reply_end (list_reply (vals_of items.items))) × (b ≡ at w.old)) }
 {
-    match gathered {
-        Gathered::Values(values) => Ok(answer_end(list_value(alloc, values)?)),
-        Gathered::Halt(halt) => Ok(End::Halt(halt)),
-    }
+    let answer = list_value(w.alloc, items)?;
+    give(w, answer, into)
 }
 
 /// What a call on data gives.
-pub fn data_end(
-    alloc: Global,
+pub fn call_data(
+    w: &mut Working,
     receiver: &Value,
     verb: &Verb,
     args: &[Value],
-) -> Result<End, AllocError>
-    ensures { IfOk result (λ o. end_of o ≡ reply_end (data_reply (val_of receiver.now) verb.now (vals_of args.now))) }
+    into: &mut Value,
+) -> Result<(), Stop>
+    ensures { OnEnd result into.new w.new (λ o b. (o ≡ reply_end (data_reply (val_of receiver.now) verb.now (vals_of args.now))) × (b ≡ at w.old)) }
 {
-    Ok(answer_end(call_verb(alloc, receiver, verb, args)?))
+    let answer = call_verb(w.alloc, receiver, verb, args)?;
+    give(w, answer, into)
 }
 
 /// What a call gives on what has no such verb with so many arguments.
-pub fn no_such_method(alloc: Global, verb: &Verb, args: &[Value]) -> Result<End, AllocError>
-    ensures { IfOk result (λ o. end_of o ≡ no_such_method_end verb.now (vals_of args.now)) }
+pub fn no_such_method(
+    w: &mut Working,
+    verb: &Verb,
+    args: &[Value],
+    into: &mut Value,
+) -> Result<(), Stop>
+    ensures { OnEnd result into.new w.new (λ o b. (o ≡ no_such_method_end verb.now (vals_of args.now)) × (b ≡ at w.old)) }
 {
     // Null has no verb at all.
-    data_end(alloc, &Value::Null, verb, args)
+    call_data(w, &Value::Null, verb, args, into)
 }
 
-/// An answer of data as an end.
-fn answer_end(answer: Answer) -> End
-    ensures { end_of result ≡ reply_end (reply_of answer) }
+/// An answer of data as what an evaluation gives.
+#[inline(always)]
+fn give(w: &mut Working, answer: Answer, into: &mut Value) -> Result<(), Stop>
+    ensures { OnEnd result into.new w.new (λ o b. (o ≡ reply_end (reply_of answer)) × (b ≡ at w.old)) }
 {
     match answer {
-        Answer::Gives(value) => End::Value(value),
-        Answer::Throws(problem) => End::Halt(Halt::Thrown(problem)),
+        Answer::Gives(value) => {
+            *into = value;
+            Ok(())
+        }
+        Answer::Throws(problem) => Err(throw(w, problem)),
     }
 }

@@ -1,6 +1,7 @@
 // What a turn works on.
 ghost use Rattle.std.specs.Prelude.{◌+◌, ◌≤◌};
 
+use crate::end::Halt;
 use crate::local::Local;
 use heap::draft::Draft;
 use ids::names::EjId;
@@ -28,5 +29,7 @@ pub struct Working {
     pub ejectors: u32,
     /// The ejectors whose Escape is being evaluated, the newest last.
     pub opened: Vec<EjId>,
+    /// Why the last evaluation that was halted has no value.
+    pub halt: Halt,
     pub ghost counted: { ejectors + steps ≤ 4294967295 },
 }

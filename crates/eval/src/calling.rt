@@ -17,20 +17,19 @@ ghost use Rattle.eval.specs.Leading.{Leads};
 
 use crate::eval::{eval, eval_args, eval_item, eval_items};
 use code::code::Code;
-use eobjects::calls::{call_target, enter_method, leave_method, value_target};
+use eobjects::calls::{call_target, enter_method, leave_method};
 use eobjects::nouns::bind;
-use eobjects::objects::Target;
 use eobjects::quick::quick_value;
 use eobjects::returns::returned;
 use erules::blocks::{enter, leave};
-use erules::end::End;
+use erules::end::Stop;
 use erules::entry::Entry;
-use erules::escapes::{close_escape, escape_end, open_escape};
+use erules::escapes::{close_escape, end_escape, open_escape};
 use erules::working::Working;
 use heap::state::Binding;
 use ids::names::EjId;
 use ids::text::Text;
-use std::alloc::AllocError;
+use std::mem;
 use std::slice;
 use std::sync::Arc;
 use values::value::Value;
@@ -43,18 +42,19 @@ pub(crate) fn eval_call(
     verb: &Verb,
     args: &Arc<Vec<Code>>,
     level: u32,
-) -> Result<End, AllocError>
+    into: &mut Value,
+) -> Result<(), Stop>
     requires level { level ≤ 1000 }
     requires fits { fits_at (at w.old) receiver.now.value × fits_all w.old.own_scope (frame_behind (at w.old) receiver.now.value) args.now.value.items }
-    ensures { IfOk result (λ o. Runs level (call (tree_of_code receiver.now.value) verb.now (trees_of_codes args.now.value.items))
-        (at w.old) (end_of o) (at w.new)) }
+    ensures { OnEnd result into.new w.new (Runs level (call (tree_of_code receiver.now.value) verb.now (trees_of_codes args.now.value.items)) (at w.old)) }
 {
     match quick_value(w, receiver, verb, args, level) {
         Some(value) => {
             w.steps -= 2;
-            Ok(End::Value(value))
+            *into = value;
+            Ok(())
         }
-        None => eval_any_call(w, receiver, verb, args, level),
+        None => eval_any_call(w, receiver, verb, args, level, into),
     }
 }
 
@@ -67,23 +67,17 @@ fn eval_any_call(
     verb: &Verb,
     args: &Arc<Vec<Code>>,
     level: u32,
-) -> Result<End, AllocError>
+    into: &mut Value,
+) -> Result<(), Stop>
     requires level { level ≤ 1000 }
     requires fits { fits_at (at w.old) receiver.now.value × fits_all w.old.own_scope (frame_behind (at w.old) receiver.now.value) args.now.value.items }
-    ensures { IfOk result (λ o. Runs level (call (tree_of_code receiver.now.value) verb.now (trees_of_codes args.now.value.items))
-        (at w.old) (end_of o) (at w.new)) }
+    ensures { OnEnd result into.new w.new (Runs level (call (tree_of_code receiver.now.value) verb.now (trees_of_codes args.now.value.items)) (at w.old)) }
 {
-    let received = match eval(w, receiver, level + 1)? {
-        End::Value(value) => value,
-        End::Halt(halt) => return Ok(End::Halt(halt)),
-    };
-    let target = eval_target(w, received, verb, args, level + 1)?;
-    match target {
-        Target::Gives(end) => Ok(end),
-        Target::Enters(entry) => {
-            let end = eval_method(w, entry, level + 1)?;
-            Ok(end)
-        }
+    let mut called = Value::Null;
+    eval(w, receiver, level + 1, &mut called)?;
+    match eval_target(w, &called, verb, args, level + 1, into)? {
+        Some(entry) => eval_method(w, entry, level + 1, into),
+        None => Ok(()),
     }
 }
 
@@ -91,53 +85,37 @@ fn eval_any_call(
 #[cycle(evaluate)]
 fn eval_target(
     w: &mut Working,
-    receiver: Value,
+    receiver: &Value,
     verb: &Verb,
     args: &[Code],
     level: u32,
-) -> Result<Target, AllocError>
+    into: &mut Value,
+) -> Result<Option<Entry>, Stop>
     requires level { level ≤ 1001 }
     requires fits { all_fit_at (at w.old) args.now }
-    ensures { IfOk result (λ t. Leads level (trees_of_codes args.now) (val_of receiver) verb.now (at w.old) (target_view t) (at w.new)) }
+    ensures { OnTarget result into.new w.new (Leads level (trees_of_codes args.now) (val_of receiver.now) verb.now (at w.old)) }
 {
     if args.len() == 1 {
-        return eval_with_one(w, &receiver, verb, &args[0], level);
+        eval(w, &args[0], level, into)?;
+        let value = mem::replace(into, Value::Null);
+        return call_target(w, receiver, verb, slice::from_ref(&value), into);
     }
-    let gathered = eval_args(w, args, level)?;
-    call_target(w, receiver, verb, gathered)
-}
-
-/// What a call with one argument leads to, once that is evaluated.
-#[cycle(evaluate)]
-fn eval_with_one(
-    w: &mut Working,
-    receiver: &Value,
-    verb: &Verb,
-    arg: &Code,
-    level: u32,
-) -> Result<Target, AllocError>
-    requires level { level ≤ 1001 }
-    requires fits { fits_at (at w.old) arg.now }
-    ensures { IfOk result (λ t. Leads level (and_then (tree_of_code arg.now) none) (val_of receiver.now) verb.now (at w.old) (target_view t) (at w.new)) }
-{
-    match eval(w, arg, level)? {
-        End::Value(value) => value_target(w, receiver, verb, slice::from_ref(&value)),
-        End::Halt(halt) => Ok(Target::Gives(End::Halt(halt))),
-    }
+    let values = eval_args(w, args, level)?;
+    call_target(w, receiver, verb, &values, into)
 }
 
 /// Evaluates a method's block with the names that it begins with.
 #[cycle(evaluate)]
-fn eval_method(w: &mut Working, entry: Entry, level: u32) -> Result<End, AllocError>
+fn eval_method(w: &mut Working, entry: Entry, level: u32, into: &mut Value) -> Result<(), Stop>
     requires { level ≤ 1001 }
-    ensures { IfOk result (λ o. (d : At) × Items level null (trees_of_codes entry.body.value.items) (inside (locals_of entry.nouns.items) (at w.old)) (end_of o) d
-        × (at w.new ≡ leaving (at w.old) d)) }
+    ensures { OnEnd result into.new w.new (λ o b. (d : At) × Items level null (trees_of_codes entry.body.value.items) (inside (locals_of entry.nouns.items) (at w.old)) o d
+        × (b ≡ leaving (at w.old) d)) }
 {
     let Entry { nouns, body } = entry;
     let caller = enter_method(w, nouns);
-    let end = eval_items(w, &body, level)?;
+    let answer = eval_items(w, &body, level, into);
     leave_method(w, caller);
-    Ok(end)
+    answer
 }
 
 #[cycle(evaluate)]
@@ -146,18 +124,18 @@ pub(crate) fn eval_escape(
     name: &Text,
     body: &Arc<Vec<Code>>,
     level: u32,
-) -> Result<End, AllocError>
+    into: &mut Value,
+) -> Result<(), Stop>
     requires level { level ≤ 1000 }
     requires fits { fits_all false (frame_at (at w.old) ++ name.now ∷ []) body.now.value.items }
     requires counted { w.old.ejectors + w.old.steps < 4294967295 }
-    ensures { IfOk result (λ o. Runs level (escape_tree name.now (trees_of_codes body.now.value.items))
-        (at w.old) (end_of o) (at w.new)) }
+    ensures { OnEnd result into.new w.new (Runs level (escape_tree name.now (trees_of_codes body.now.value.items)) (at w.old)) }
 {
     let outer = w.opened.len();
     let ejector = open_escape(w)?;
-    let end = eval_naming(w, name, ejector, body, level + 1)?;
+    let answer = eval_naming(w, name, ejector, body, level + 1, into);
     close_escape(w, outer);
-    Ok(end)
+    answer
 }
 
 /// Evaluates an Escape's block, in whose own scope a name stands for its ejector, and ends the Escape.
@@ -168,17 +146,18 @@ fn eval_naming(
     ejector: EjId,
     items: &[Code],
     level: u32,
-) -> Result<End, AllocError>
+    into: &mut Value,
+) -> Result<(), Stop>
     requires level { level ≤ 1001 }
     requires fits { fits_all false (frame_at (at w.old) ++ name.now ∷ []) items.now }
     requires newest { IsNewest ejector (at w.old) }
-    ensures { IfOk result (λ r. Escapes r ejector (λ o. Taking level (pattern.Name name.now) (ejector_value ejector) (trees_of_codes items.now) (at w.old) o (at w.new))) }
+    ensures { OnEnd result into.new w.new (Escapes ejector (Taking level (pattern.Name name.now) (ejector_value ejector) (trees_of_codes items.now) (at w.old))) }
 {
     let outer = enter(w);
     bind(w, name, Binding::Fixed(Value::Ejector(ejector)))?;
-    let end = eval_returning(w, ejector, items, level)?;
+    let answer = eval_returning(w, ejector, items, level, into);
     leave(w, outer);
-    Ok(end)
+    answer
 }
 
 /// Evaluates the items of an Escape's block in order, and ends the Escape. What one of them returns is its value at once.
@@ -188,23 +167,24 @@ fn eval_returning(
     ejector: EjId,
     items: &[Code],
     level: u32,
-) -> Result<End, AllocError>
+    into: &mut Value,
+) -> Result<(), Stop>
     requires level { level ≤ 1001 }
     requires fits { all_fit_at (at w.old) items.now }
     requires newest { IsNewest ejector (at w.old) }
-    ensures { IfOk result (λ r. Escapes r ejector (λ o. Items level null (trees_of_codes items.now) (at w.old) o (at w.new))) }
+    ensures { OnEnd result into.new w.new (Escapes ejector (Items level null (trees_of_codes items.now) (at w.old))) }
 {
-    let mut last = Value::Null;
+    *into = Value::Null;
     for item in items {
         if let Some(given) = returned(w, ejector, item, level) {
             w.steps -= 2;
-            let ended = eval(w, given, level + 1)?;
-            return escape_end(ejector, ended);
+            let answer = eval(w, given, level + 1, into);
+            return end_escape(w, ejector, answer, into);
         }
-        match eval_item(w, item, level)? {
-            End::Value(v) => last = v,
-            End::Halt(halt) => return escape_end(ejector, End::Halt(halt)),
+        let answer = eval_item(w, item, level, into);
+        if answer.is_err() {
+            return end_escape(w, ejector, answer, into);
         }
     }
-    Ok(End::Value(last))
+    Ok(())
 }

@@ -14,13 +14,12 @@ ghost use Rattle.eval.specs.Halting.{BlockHalts};
 use crate::eval::{eval, eval_items};
 use code::code::Code;
 use eobjects::nouns::match_pattern;
-use eobjects::quick::{quick_truth, run_settings};
+use eobjects::quick::quick_truth;
 use erules::blocks::{enter, leave};
-use erules::end::{End, Halt};
-use erules::wanted::{Choosing, Listing, caught, choose, halt_in, items_of};
+use erules::end::Stop;
+use erules::wanted::{caught, choose, items_of};
 use erules::working::Working;
 use kernele::tree::Pattern;
-use std::alloc::AllocError;
 use std::sync::Arc;
 use values::value::Value;
 
@@ -31,23 +30,17 @@ pub(crate) fn eval_if(
     first: &Arc<Vec<Code>>,
     second: &Arc<Vec<Code>>,
     level: u32,
-) -> Result<End, AllocError>
+    into: &mut Value,
+) -> Result<(), Stop>
     requires level { level ≤ 1000 }
     requires fits { fits_at (at w.old) condition.now.value × fits_all false (frame_behind (at w.old) condition.now.value) first.now.value.items × fits_all false (frame_behind (at w.old) condition.now.value) second.now.value.items }
-    ensures { IfOk result (λ o. Runs level (if_tree (tree_of_code condition.now.value)
-        (trees_of_codes first.now.value.items) (trees_of_codes second.now.value.items))
-        (at w.old) (end_of o) (at w.new)) }
+    ensures { OnEnd result into.new w.new (Runs level (if_tree (tree_of_code condition.now.value)
+        (trees_of_codes first.now.value.items) (trees_of_codes second.now.value.items)) (at w.old)) }
 {
-    let choice = eval_condition(w, condition, level + 1)?;
-    match choice {
-        Choosing::Ends(end) => Ok(end),
-        Choosing::Goes(truth) => {
-            if truth {
-                eval_block(w, first, level + 1)
-            } else {
-                eval_block(w, second, level + 1)
-            }
-        }
+    if eval_condition(w, condition, level + 1, into)? {
+        eval_block(w, first, level + 1, into)
+    } else {
+        eval_block(w, second, level + 1, into)
     }
 }
 
@@ -57,30 +50,21 @@ pub(crate) fn eval_while(
     condition: &Arc<Code>,
     body: &Arc<Vec<Code>>,
     level: u32,
-) -> Result<End, AllocError>
+    into: &mut Value,
+) -> Result<(), Stop>
     requires level { level ≤ 1000 }
     requires fits { fits_at (at w.old) condition.now.value × fits_all false (frame_behind (at w.old) condition.now.value) body.now.value.items }
-    ensures { IfOk result (λ o. Runs level (while_tree (tree_of_code condition.now.value)
-        (trees_of_codes body.now.value.items))
-        (at w.old) (end_of o) (at w.new)) }
+    ensures { OnEnd result into.new w.new (Runs level (while_tree (tree_of_code condition.now.value)
+        (trees_of_codes body.now.value.items)) (at w.old)) }
 {
     let names = w.nouns.len();
-    'rounds: loop {
-        let choice = eval_condition(w, condition, level + 1)?;
-        match choice {
-            Choosing::Ends(end) => return Ok(end),
-            Choosing::Goes(truth) => {
-                if !truth {
-                    return Ok(End::Value(Value::Null));
-                }
-            }
-        }
-        if let Some(halt) = run_block(w, body, level + 1)? {
-            return Ok(End::Halt(halt));
-        }
+    while eval_condition(w, condition, level + 1, into)? {
+        eval_block(w, body, level + 1, into)?;
         // Names that the condition defined are not in scope at its next time.
         w.nouns.truncate(names);
     }
+    *into = Value::Null;
+    Ok(())
 }
 
 /// Evaluates a block for each value of a list from the left, up to the first that halts it.
@@ -91,25 +75,20 @@ pub(crate) fn eval_for(
     list: &Arc<Code>,
     body: &Arc<Vec<Code>>,
     level: u32,
-) -> Result<End, AllocError>
+    into: &mut Value,
+) -> Result<(), Stop>
     requires level { level ≤ 1000 }
     requires fits { fits_at (at w.old) list.now.value × fits_all false (frame_behind (at w.old) list.now.value ++ only_names (name_of pattern.now)) body.now.value.items }
-    ensures { IfOk result (λ o. Runs level (for_tree pattern.now (tree_of_code list.now.value)
-        (trees_of_codes body.now.value.items))
-        (at w.old) (end_of o) (at w.new)) }
+    ensures { OnEnd result into.new w.new (Runs level (for_tree pattern.now (tree_of_code list.now.value)
+        (trees_of_codes body.now.value.items)) (at w.old)) }
 {
-    let ended = eval(w, list, level + 1)?;
-    let values = match items_of(w.alloc, ended)? {
-        Listing::Listed(values) => values,
-        Listing::Ends(end) => return Ok(end),
-    };
+    eval(w, list, level + 1, into)?;
+    let values = items_of(w, into)?;
     for value in values.iter() {
-        let ended = eval_taking(w, pattern, value, body, level + 1)?;
-        if let Some(halt) = halt_in(ended) {
-            return Ok(End::Halt(halt));
-        }
+        eval_taking(w, pattern, value, body, level + 1, into)?;
     }
-    Ok(End::Value(Value::Null))
+    *into = Value::Null;
+    Ok(())
 }
 
 #[cycle(evaluate)]
@@ -119,86 +98,79 @@ pub(crate) fn eval_try(
     pattern: &Pattern,
     handler: &Arc<Vec<Code>>,
     level: u32,
-) -> Result<End, AllocError>
+    into: &mut Value,
+) -> Result<(), Stop>
     requires level { level ≤ 1000 }
     requires fits { fits_all false (frame_at (at w.old)) body.now.value.items × fits_all false (frame_at (at w.old) ++ only_names (name_of pattern.now)) handler.now.value.items }
-    ensures { IfOk result (λ o. Runs level (try_tree (trees_of_codes body.now.value.items) pattern.now
-        (trees_of_codes handler.now.value.items))
-        (at w.old) (end_of o) (at w.new)) }
+    ensures { OnEnd result into.new w.new (Runs level (try_tree (trees_of_codes body.now.value.items) pattern.now
+        (trees_of_codes handler.now.value.items)) (at w.old)) }
 {
-    let tried = eval_block(w, body, level + 1)?;
-    match caught(tried) {
-        Ok(problem) => {
-            let end = eval_taking(w, pattern, &Value::Text(problem), handler, level + 1)?;
-            Ok(end)
-        }
-        Err(end) => Ok(end),
+    match eval_block(w, body, level + 1, into) {
+        Ok(()) => Ok(()),
+        Err(Stop::Memory) => Err(Stop::Memory),
+        Err(Stop::Halted) => match caught(w)? {
+            Some(problem) => eval_taking(w, pattern, &Value::Text(problem), handler, level + 1, into),
+            None => Err(Stop::Halted),
+        },
     }
 }
 
-/// Evaluates a condition. One that compares integers at hand needs no end.
+/// Evaluates a condition. One that compares integers at hand needs no place for its value.
 #[cycle(evaluate)]
 #[inline(always)]
-fn eval_condition(w: &mut Working, condition: &Code, level: u32) -> Result<Choosing, AllocError>
+fn eval_condition(
+    w: &mut Working,
+    condition: &Code,
+    level: u32,
+    into: &mut Value,
+) -> Result<bool, Stop>
     requires level { level ≤ 1001 }
     requires fits { fits_at (at w.old) condition.now }
-    ensures { IfOk result (λ c. (o : Ending) × Ends level (tree_of_code condition.now) (at w.old) o (at w.new)
-        × (choice_of o ≡ choice_view c)) }
+    ensures { Chooses result w.new level (tree_of_code condition.now) (at w.old) }
 {
     match quick_truth(w, condition, level) {
         Some(truth) => {
             w.steps -= 3;
-            Ok(Choosing::Goes(truth))
+            Ok(truth)
         }
-        None => eval_any_condition(w, condition, level),
+        None => eval_any_condition(w, condition, level, into),
     }
 }
 
 /// A condition of any kind. It stands apart, so that a comparison of integers is small enough to stand in its loop.
 #[cycle(evaluate)]
 #[inline(never)]
-fn eval_any_condition(w: &mut Working, condition: &Code, level: u32) -> Result<Choosing, AllocError>
+fn eval_any_condition(
+    w: &mut Working,
+    condition: &Code,
+    level: u32,
+    into: &mut Value,
+) -> Result<bool, Stop>
     requires level { level ≤ 1001 }
     requires fits { fits_at (at w.old) condition.now }
-    ensures { IfOk result (λ c. (o : Ending) × Ends level (tree_of_code condition.now) (at w.old) o (at w.new)
-        × (choice_of o ≡ choice_view c)) }
+    ensures { Chooses result w.new level (tree_of_code condition.now) (at w.old) }
 {
-    let tested = eval(w, condition, level)?;
-    choose(w.alloc, tested)
+    eval(w, condition, level, into)?;
+    choose(w, into)
 }
 
-/// Evaluates a block whose value nobody wants, in a scope of its own. Assignments of integers at hand at its head need
-/// no end.
+/// Evaluates a block, in a scope of its own. Assignments of integers at hand at its head need no place for their right sides.
 #[cycle(evaluate)]
 #[inline(always)]
-fn run_block(w: &mut Working, items: &[Code], level: u32) -> Result<Option<Halt>, AllocError>
+pub(crate) fn eval_block(
+    w: &mut Working,
+    items: &[Code],
+    level: u32,
+    into: &mut Value,
+) -> Result<(), Stop>
     requires level { level ≤ 1001 }
     requires fits { fits_all false (frame_at (at w.old)) items.now }
-    ensures { IfOk result (λ h. BlockHalts level (trees_of_codes items.now) (at w.old) h (at w.new)) }
+    ensures { OnEnd result into.new w.new (Block level (trees_of_codes items.now) (at w.old)) }
 {
     let outer = enter(w);
-    let done = run_settings(w, items, level)?;
-    let halt = if done == items.len() {
-        None
-    } else {
-        let ended = eval_items(w, &items[done..], level)?;
-        halt_in(ended)
-    };
+    let answer = eval_items(w, items, level, into);
     leave(w, outer);
-    Ok(halt)
-}
-
-/// Evaluates a block, in a scope of its own.
-#[cycle(evaluate)]
-pub(crate) fn eval_block(w: &mut Working, items: &[Code], level: u32) -> Result<End, AllocError>
-    requires level { level ≤ 1001 }
-    requires fits { fits_all false (frame_at (at w.old)) items.now }
-    ensures { IfOk result (λ o. Block level (trees_of_codes items.now) (at w.old) (end_of o) (at w.new)) }
-{
-    let outer = enter(w);
-    let end = eval_items(w, items, level)?;
-    leave(w, outer);
-    Ok(end)
+    answer
 }
 
 /// Evaluates a block in whose own scope a pattern takes a value first.
@@ -209,15 +181,15 @@ pub(crate) fn eval_taking(
     value: &Value,
     items: &[Code],
     level: u32,
-) -> Result<End, AllocError>
+    into: &mut Value,
+) -> Result<(), Stop>
     requires level { level ≤ 1001 }
     requires fits { fits_all false (frame_at (at w.old) ++ only_names (name_of pattern.now)) items.now }
-    ensures { IfOk result (λ o. Taking level pattern.now (val_of value.now) (trees_of_codes items.now)
-        (at w.old) (end_of o) (at w.new)) }
+    ensures { OnEnd result into.new w.new (Taking level pattern.now (val_of value.now) (trees_of_codes items.now) (at w.old)) }
 {
     let outer = enter(w);
     match_pattern(w, pattern, value)?;
-    let end = eval_items(w, items, level)?;
+    let answer = eval_items(w, items, level, into);
     leave(w, outer);
-    Ok(end)
+    answer
 }

@@ -14,87 +14,96 @@ use crate::calling::{eval_call, eval_escape};
 use crate::control::{eval_block, eval_for, eval_if, eval_try, eval_while};
 use crate::right::take;
 use code::code::Code;
-use eobjects::nouns::noun_end;
+use eobjects::nouns::read_noun;
 use eobjects::objects::define_object;
 use eobjects::quick::{quick_setting, set};
-use erules::end::{Abandon, End, Gathered, Halt};
-use erules::results::{int_end, list_end, text_end};
+use erules::end::{Abandon, Stop};
+use erules::halting::abandon;
+use erules::results::{give_list, give_text};
 use erules::working::{DEEPEST, Working};
-use std::alloc::AllocError;
 use std::sync::Arc;
 use values::sameness::same;
 use values::value::Value;
 
-/// The value of an end, or an early return of what halted it.
-macro_rules! value {
-    ($end:expr) => {
-        match $end {
-            End::Value(value) => value,
-            End::Halt(halt) => return Ok(End::Halt(halt)),
-        }
-    };
-}
-
-/// Evaluates an expression at a level. Fails only for want of memory.
+/// Evaluates an expression at a level, and puts its value into a place.
 #[cycle(evaluate)]
-pub fn eval(w: &mut Working, e: &Code, level: u32) -> Result<End, AllocError>
+pub fn eval(w: &mut Working, e: &Code, level: u32, into: &mut Value) -> Result<(), Stop>
     requires fits { fits_at (at w.old) e.now }
-    ensures { IfOk result (λ o. Ends level (tree_of_code e.now) (at w.old) (end_of o) (at w.new)) }
+    ensures { OnEnd result into.new w.new (Ends level (tree_of_code e.now) (at w.old)) }
 {
     if w.steps == 0 {
-        return Ok(End::Halt(Halt::Abandoned(Abandon::Budget)));
+        return Err(abandon(w, Abandon::Budget));
     }
     w.steps -= 1;
     if level > DEEPEST {
-        return Ok(End::Halt(Halt::Abandoned(Abandon::Depth)));
+        return Err(abandon(w, Abandon::Depth));
     }
     match e {
-        Code::Null => Ok(End::Value(Value::Null)),
-        Code::Bool(b) => Ok(End::Value(Value::Bool(*b))),
-        Code::Int(n) => Ok(int_end(*n)),
-        Code::Text(text) => text_end(w.alloc, text),
-        Code::Noun(name, place) => noun_end(w, name, *place),
+        Code::Null => {
+            *into = Value::Null;
+            Ok(())
+        }
+        Code::Bool(b) => {
+            *into = Value::Bool(*b);
+            Ok(())
+        }
+        Code::Int(n) => {
+            *into = Value::Int(*n);
+            Ok(())
+        }
+        Code::Text(text) => give_text(w, text, into),
+        Code::Noun(name, place) => read_noun(w, name, *place, into),
         Code::Def(_, right)
         | Code::Var(_, right)
         | Code::Assign(_, _, right)
         | Code::DefList(_, right)
-        | Code::Throw(right) => eval_right(w, e, right, level),
-        Code::Call(receiver, verb, args) => eval_call(w, receiver, verb, args, level),
-        Code::List(items) => eval_list(w, items, level),
-        Code::Same(left, right) => eval_same(w, left, right, level),
-        Code::Hide(body) => eval_block(w, body, level + 1),
-        Code::If(condition, first, second) => eval_if(w, condition, first, second, level),
-        Code::While(condition, body) => eval_while(w, condition, body, level),
-        Code::For(pattern, list, body) => eval_for(w, pattern, list, body, level),
-        Code::Try(body, pattern, handler) => eval_try(w, body, pattern, handler, level),
+        | Code::Throw(right) => eval_right(w, e, right, level, into),
+        Code::Call(receiver, verb, args) => eval_call(w, receiver, verb, args, level, into),
+        Code::List(items) => eval_list(w, items, level, into),
+        Code::Same(left, right) => eval_same(w, left, right, level, into),
+        Code::Hide(body) => eval_block(w, body, level + 1, into),
+        Code::If(condition, first, second) => eval_if(w, condition, first, second, level, into),
+        Code::While(condition, body) => eval_while(w, condition, body, level, into),
+        Code::For(pattern, list, body) => eval_for(w, pattern, list, body, level, into),
+        Code::Try(body, pattern, handler) => eval_try(w, body, pattern, handler, level, into),
         Code::Object(pattern, captures, methods, index) => {
-            define_object(w, pattern, captures, methods, index)
+            define_object(w, pattern, captures, methods, index, into)
         }
-        Code::Escape(name, body) => eval_escape(w, name, body, level),
+        Code::Escape(name, body) => eval_escape(w, name, body, level, into),
     }
 }
 
 /// Evaluates the right side of an expression that has one, and has the expression take its value.
 #[cycle(evaluate)]
-fn eval_right(w: &mut Working, e: &Code, right: &Arc<Code>, level: u32) -> Result<End, AllocError>
+fn eval_right(
+    w: &mut Working,
+    e: &Code,
+    right: &Arc<Code>,
+    level: u32,
+    into: &mut Value,
+) -> Result<(), Stop>
     requires level { level ≤ 1000 }
     requires side { right_side e.now ≡ Some right.now.value }
     requires fits { fits_at (at w.old) e.now }
-    ensures { IfOk result (λ o. Runs level (tree_of_code e.now) (at w.old) (end_of o) (at w.new)) }
+    ensures { OnEnd result into.new w.new (Runs level (tree_of_code e.now) (at w.old)) }
 {
-    let value = value!(eval(w, right, level + 1)?);
-    take(w, e, value)
+    eval(w, right, level + 1, into)?;
+    take(w, e, into)
 }
 
 #[cycle(evaluate)]
-fn eval_list(w: &mut Working, items: &Arc<Vec<Code>>, level: u32) -> Result<End, AllocError>
+fn eval_list(
+    w: &mut Working,
+    items: &Arc<Vec<Code>>,
+    level: u32,
+    into: &mut Value,
+) -> Result<(), Stop>
     requires level { level ≤ 1000 }
     requires fits { all_fit_at (at w.old) items.now.value.items }
-    ensures { IfOk result (λ o. Runs level (list_tree (trees_of_codes items.now.value.items))
-        (at w.old) (end_of o) (at w.new)) }
+    ensures { OnEnd result into.new w.new (Runs level (list_tree (trees_of_codes items.now.value.items)) (at w.old)) }
 {
-    let gathered = eval_args(w, items, level + 1)?;
-    list_end(w.alloc, gathered)
+    let values = eval_args(w, items, level + 1)?;
+    give_list(w, values, into)
 }
 
 #[cycle(evaluate)]
@@ -103,60 +112,69 @@ fn eval_same(
     left: &Arc<Code>,
     right: &Arc<Code>,
     level: u32,
-) -> Result<End, AllocError>
+    into: &mut Value,
+) -> Result<(), Stop>
     requires level { level ≤ 1000 }
     requires fits { fits_at (at w.old) left.now.value × fits w.old.own_scope (frame_behind (at w.old) left.now.value) right.now.value }
-    ensures { IfOk result (λ o. Runs level (same_tree (tree_of_code left.now.value) (tree_of_code right.now.value))
-        (at w.old) (end_of o) (at w.new)) }
+    ensures { OnEnd result into.new w.new (Runs level (same_tree (tree_of_code left.now.value) (tree_of_code right.now.value)) (at w.old)) }
 {
-    let l = value!(eval(w, left, level + 1)?);
-    let r = value!(eval(w, right, level + 1)?);
-    Ok(End::Value(Value::Bool(same(&l, &r))))
+    let mut first = Value::Null;
+    eval(w, left, level + 1, &mut first)?;
+    eval(w, right, level + 1, into)?;
+    *into = Value::Bool(same(&first, into));
+    Ok(())
 }
 
 /// Evaluates arguments or items of a list from left to right.
 #[cycle(evaluate)]
-pub(crate) fn eval_args(w: &mut Working, args: &[Code], level: u32) -> Result<Gathered, AllocError>
+pub(crate) fn eval_args(w: &mut Working, args: &[Code], level: u32) -> Result<Vec<Value>, Stop>
     requires level { level ≤ 1001 }
     requires fits { all_fit_at (at w.old) args.now }
-    ensures { IfOk result (λ g. Args level (trees_of_codes args.now) (at w.old) (gather_of g) (at w.new)) }
+    ensures { OnAnswer result w.new (λ vs b. Args level (trees_of_codes args.now) (at w.old) (values (vals_of vs.items)) b)
+        (λ h b. Args level (trees_of_codes args.now) (at w.old) (halted h) b) }
 {
-    let mut values = Vec::new(w.alloc);
+    let mut values = Vec::with_capacity(w.alloc, args.len())?;
     for arg in args {
-        match eval(w, arg, level)? {
-            End::Value(v) => values.push(v)?,
-            End::Halt(halt) => return Ok(Gathered::Halt(halt)),
-        }
+        let mut value = Value::Null;
+        eval(w, arg, level, &mut value)?;
+        values.push(value)?;
     }
-    Ok(Gathered::Values(values))
+    Ok(values)
 }
 
 /// Evaluates the items of a block in order: the last one's value, or null.
 #[cycle(evaluate)]
-pub fn eval_items(w: &mut Working, items: &[Code], level: u32) -> Result<End, AllocError>
+pub fn eval_items(
+    w: &mut Working,
+    items: &[Code],
+    level: u32,
+    into: &mut Value,
+) -> Result<(), Stop>
     requires level { level ≤ 1001 }
     requires fits { all_fit_at (at w.old) items.now }
-    ensures { IfOk result (λ o. Items level null (trees_of_codes items.now) (at w.old) (end_of o) (at w.new)) }
+    ensures { OnEnd result into.new w.new (Items level null (trees_of_codes items.now) (at w.old)) }
 {
-    let mut last = Value::Null;
+    *into = Value::Null;
     for item in items {
-        match eval_item(w, item, level)? {
-            End::Value(v) => last = v,
-            End::Halt(halt) => return Ok(End::Halt(halt)),
-        }
+        eval_item(w, item, level, into)?;
     }
-    Ok(End::Value(last))
+    Ok(())
 }
 
-/// Evaluates an item of a block. One that assigns what integers at hand give needs no end for its right side.
+/// Evaluates an item of a block. One that assigns what integers at hand give needs no place for its right side.
 #[cycle(evaluate)]
 #[inline(always)]
-pub(crate) fn eval_item(w: &mut Working, item: &Code, level: u32) -> Result<End, AllocError>
+pub(crate) fn eval_item(
+    w: &mut Working,
+    item: &Code,
+    level: u32,
+    into: &mut Value,
+) -> Result<(), Stop>
     requires { fits_at (at w.old) item.now }
-    ensures { IfOk result (λ o. Ends level (tree_of_code item.now) (at w.old) (end_of o) (at w.new)) }
+    ensures { OnEnd result into.new w.new (Ends level (tree_of_code item.now) (at w.old)) }
 {
     match quick_setting(w, item, level) {
-        Some(setting) => Ok(End::Value(set(w, setting)?)),
-        None => eval(w, item, level),
+        Some(setting) => Ok(set(w, setting, into)?),
+        None => eval(w, item, level, into),
     }
 }

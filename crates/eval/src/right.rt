@@ -7,27 +7,24 @@ ghost use Rattle.eval.specs.Sides.{is_placed, taken_at, taken_end};
 
 use code::code::Code;
 use eobjects::nouns::{assign, bind_parts, declare, match_pattern};
-use erules::end::End;
+use erules::end::Stop;
 use erules::wanted::thrown;
 use erules::working::Working;
-use std::alloc::AllocError;
 use values::value::Value;
 
 /// Has an expression take the value of its right side. One that has none leaves the value as it is.
-pub(crate) fn take(w: &mut Working, e: &Code, value: Value) -> Result<End, AllocError>
+#[inline(always)]
+pub(crate) fn take(w: &mut Working, e: &Code, value: &Value) -> Result<(), Stop>
     requires { is_placed (at w.old) e.now }
-    ensures ends { IfOk result (λ o. end_of o ≡ taken_end e.now (value_end (val_of value)) (at w.old)) }
-    ensures place { IfOk result (λ o. at w.new ≡ taken_at e.now (value_end (val_of value)) (at w.old)) }
+    ensures { OnEnd result value.now w.new (λ o b. (o ≡ taken_end e.now (value_end (val_of value.now)) (at w.old))
+        × (b ≡ taken_at e.now (value_end (val_of value.now)) (at w.old))) }
 {
     match e {
-        Code::Def(pattern, _) => {
-            match_pattern(w, pattern, &value)?;
-            Ok(End::Value(value))
-        }
+        Code::Def(pattern, _) => Ok(match_pattern(w, pattern, value)?),
         Code::DefList(patterns, _) => bind_parts(w, patterns, value),
         Code::Var(name, _) => declare(w, name, value),
         Code::Assign(name, place, _) => assign(w, name, *place, value),
-        Code::Throw(_) => thrown(w.alloc, &value),
-        _ => Ok(End::Value(value)),
+        Code::Throw(_) => Err(thrown(w, value)),
+        _ => Ok(()),
     }
 }

@@ -17,7 +17,7 @@ ghost use Rattle.post.specs.DeliveryView.{delivery_of};
 ghost use Rattle.turn.specs.Runs.{RunsTo};
 
 use code::code::Code;
-use erules::end::{End, Halt};
+use erules::end::{Abandon, Halt, Stop};
 use erules::working::Working;
 use eval::eval::eval_items;
 use event::outcome::{Ended, Outcome};
@@ -76,13 +76,18 @@ fn run_items(
         steps: budget,
         ejectors: 0,
         opened: Vec::new(alloc),
+        halt: Halt::Abandoned(Abandon::Budget),
     };
-    let end = eval_items(&mut w, items, 1)?;
-    finish(w, end)
+    let mut value = Value::Null;
+    match eval_items(&mut w, items, 1, &mut value) {
+        Ok(()) => finish(w, Some(value)),
+        Err(Stop::Halted) => finish(w, None),
+        Err(Stop::Memory) => Err(AllocError),
+    }
 }
 
 /// The outcome of a turn that ended so.
-fn finish(w: Working, end: End) -> Result<Outcome, AllocError>
+fn finish(w: Working, value: Option<Value>) -> Result<Outcome, AllocError>
     ensures { IfOk result (λ r. RunsTo r (settled (end_of end)) (at w)) }
 {
     let Working {
@@ -94,8 +99,9 @@ fn finish(w: Working, end: End) -> Result<Outcome, AllocError>
         steps,
         ejectors: _,
         opened: _,
+        halt,
     } = w;
-    let ended = settle(alloc, end)?;
+    let ended = settle(alloc, value, halt)?;
     let result = published(alloc, &ended)?;
     let footprint = draft.finish()?;
     Ok(Outcome {
@@ -107,21 +113,21 @@ fn finish(w: Working, end: End) -> Result<Outcome, AllocError>
 }
 
 /// How a turn whose program ended so ends: a value past the limits of a value is a problem.
-fn settle(alloc: Global, end: End) -> Result<Ended, AllocError>
+fn settle(alloc: Global, value: Option<Value>, halt: Halt) -> Result<Ended, AllocError>
     ensures { IfOk result (λ e. ended_of e ≡ settled (end_of end)) }
 {
-    match end {
-        End::Value(value) => {
+    match value {
+        Some(value) => {
             if is_within_limits(&value) {
                 Ok(Ended::Value(value))
             } else {
                 Ok(Ended::Problem(Text::new(alloc, "value too large")?))
             }
         }
-        End::Halt(halt) => match halt {
+        None => match halt {
             Halt::Thrown(problem) => Ok(Ended::Problem(problem)),
             // No ejection leaves its Escape.
-            Halt::Ejected(_) => Ok(Ended::Problem(Text::new(alloc, "ejector is spent")?)),
+            Halt::Ejected(_, _) => Ok(Ended::Problem(Text::new(alloc, "ejector is spent")?)),
             Halt::Abandoned(why) => Ok(Ended::Abandoned(why)),
         },
     }
