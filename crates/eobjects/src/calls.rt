@@ -38,7 +38,7 @@ pub fn call_target(
     w: &mut Working,
     receiver: &Value,
     verb: &Verb,
-    args: &[Value],
+    args: &mut [Value],
     into: &mut Value,
 ) -> Result<Option<Entry>, Stop>
     ensures { OnTarget result into.new w.new (λ t b. (t

@@ -36,6 +36,7 @@ use ids::names::ObjId;
 use ids::text::Text;
 use kernele::tree::Pattern;
 use std::alloc::{AllocError, Global};
+use std::mem;
 use std::snapshot::Snapshot;
 use std::sync::Arc;
 use values::value::Value;
@@ -150,7 +151,7 @@ pub(crate) fn object_target(
     w: &mut Working,
     id: ObjId,
     verb: &Verb,
-    args: &[Value],
+    args: &mut [Value],
     into: &mut Value,
 ) -> Result<Option<Entry>, Stop>
     ensures { OnTarget result into.new w.new (λ t b. (t
@@ -175,7 +176,7 @@ fn method_entry(
     id: ObjId,
     object: &Made,
     verb: &Verb,
-    args: &[Value],
+    args: &mut [Value],
 ) -> Result<Option<Entry>, AllocError>
     requires { frame.items ≡ [] }
 {
@@ -238,23 +239,28 @@ fn scan_methods<'a>(
     None
 }
 
-/// The names that a method begins with: the object's, its own, and the parameters.
+/// The names that a method begins with: the object's, its own, and the parameters, which take the arguments.
 fn method_nouns(
     frame: Vec<Local>,
     id: ObjId,
     object: &Made,
     parameters: &[Pattern],
-    args: &[Value],
+    args: &mut [Value],
 ) -> Result<Vec<Local>, AllocError>
     requires empty { frame.items ≡ [] }
-    requires count { length args.now ≡ length parameters.now }
-    ensures { IfOk result (λ ns. locals_of ns.items ≡ named_all parameters.now (vals_of args.now)
+    requires count { length args.old ≡ length parameters.now }
+    ensures { IfOk result (λ ns. locals_of ns.items ≡ named_all parameters.now (vals_of args.old)
         (named object.now.own (object_value id) (nouns_of object.now.captured.value.items))) }
 {
     let mut nouns = copied(frame, object.captured.as_slice())?;
-    name_value(&mut nouns, &object.own, &Value::Object(id))?;
+    if let Pattern::Name(name) = &object.own {
+        add_local(&mut nouns, name, Binding::Fixed(Value::Object(id)))?;
+    }
     for i in 0..parameters.len() {
-        name_value(&mut nouns, &parameters[i], &args[i])?;
+        if let Pattern::Name(name) = &parameters[i] {
+            let value = mem::replace(&mut args[i], Value::Null);
+            add_local(&mut nouns, name, Binding::Fixed(value))?;
+        }
     }
     Ok(nouns)
 }
@@ -270,17 +276,8 @@ fn copied(mut frame: Vec<Local>, nouns: &[Noun]) -> Result<Vec<Local>, AllocErro
     Ok(frame)
 }
 
-/// Adds what a pattern names.
-fn name_value(nouns: &mut Vec<Local>, pattern: &Pattern, value: &Value) -> Result<(), AllocError>
-    ensures { OnOk result (locals_of nouns.new.items ≡ named pattern.now (val_of value.now) (locals_of nouns.old.items)) }
-{
-    match pattern {
-        Pattern::Name(name) => add_local(nouns, name, Binding::Fixed(value.share()?)),
-        Pattern::Ignore => Ok(()),
-    }
-}
-
 /// Adds a newer name to a frame.
+#[inline(always)]
 fn add_local(nouns: &mut Vec<Local>, name: &Text, binding: Binding) -> Result<(), AllocError>
     ensures { OnOk result (locals_of nouns.new.items ≡ (name.now, bind_of binding) ∷ locals_of nouns.old.items) }
 {

@@ -212,3 +212,26 @@ fn integer_of(w: &Working, name: &Text, place: Place) -> Option<i64>
         _ => None,
     }
 }
+
+/// The value of a noun at hand, where there is a step for it.
+#[inline(always)]
+pub fn noun_at_hand<'a>(w: &'a Working, e: &Code, level: u32) -> Option<&'a Value>
+    requires { fits_at (at w.now) e.now }
+    ensures steps { IfSome result (λ v. 1 ≤ w.now.steps) }
+    ensures ends { IfSome result (λ v. Ends level (tree_of_code e.now)
+        (at w.now) (value_end (val_of v.now)) (record (at w.now) { left = w.now.steps - 1 })) }
+{
+    match e {
+        Code::Noun(name, place) => {
+            if w.steps == 0 || level > DEEPEST {
+                return None;
+            }
+            match peek(w, name, *place) {
+                Some(Binding::Fixed(value)) => Some(value),
+                Some(Binding::Slot(slot)) => w.draft.peek_slot(*slot),
+                None => None,
+            }
+        }
+        _ => None,
+    }
+}

@@ -15,7 +15,7 @@ ghost use Rattle.eobjects.specs.View.{target_view};
 ghost use Rattle.eval.specs.Escaping.{Escapes, IsNewest};
 ghost use Rattle.eval.specs.Leading.{Leads};
 
-use crate::eval::{eval, eval_args, eval_item, eval_items};
+use crate::eval::{eval, eval_args, eval_item, eval_items, eval_part};
 use code::code::Code;
 use eobjects::calls::{call_target, enter_method, leave_method};
 use eobjects::nouns::bind;
@@ -29,7 +29,6 @@ use erules::working::Working;
 use heap::state::Binding;
 use ids::names::EjId;
 use ids::text::Text;
-use std::mem;
 use std::slice;
 use std::sync::Arc;
 use values::value::Value;
@@ -74,7 +73,7 @@ fn eval_any_call(
     ensures { OnEnd result into.new w.new (Runs level (call (tree_of_code receiver.now.value) verb.now (trees_of_codes args.now.value.items)) (at w.old)) }
 {
     let mut called = Value::Null;
-    eval(w, receiver, level + 1, &mut called)?;
+    eval_part(w, receiver, level + 1, &mut called)?;
     match eval_target(w, &called, verb, args, level + 1, into)? {
         Some(entry) => eval_method(w, entry, level + 1, into),
         None => Ok(()),
@@ -96,12 +95,12 @@ fn eval_target(
     ensures { OnTarget result into.new w.new (Leads level (trees_of_codes args.now) (val_of receiver.now) verb.now (at w.old)) }
 {
     if args.len() == 1 {
-        eval(w, &args[0], level, into)?;
-        let value = mem::replace(into, Value::Null);
-        return call_target(w, receiver, verb, slice::from_ref(&value), into);
+        let mut value = Value::Null;
+        eval_part(w, &args[0], level, &mut value)?;
+        return call_target(w, receiver, verb, slice::from_mut(&mut value), into);
     }
-    let values = eval_args(w, args, level)?;
-    call_target(w, receiver, verb, &values, into)
+    let mut values = eval_args(w, args, level)?;
+    call_target(w, receiver, verb, &mut values, into)
 }
 
 /// Evaluates a method's block with the names that it begins with.

@@ -14,7 +14,7 @@ ghost use Rattle.eval.specs.Halting.{BlockHalts};
 use crate::eval::{eval, eval_items};
 use code::code::Code;
 use eobjects::nouns::match_pattern;
-use eobjects::quick::quick_truth;
+use eobjects::quick::{quick_truth, run_settings};
 use erules::blocks::{enter, leave};
 use erules::end::Stop;
 use erules::wanted::{caught, choose, items_of};
@@ -59,7 +59,7 @@ pub(crate) fn eval_while(
 {
     let names = w.nouns.len();
     while eval_condition(w, condition, level + 1, into)? {
-        eval_block(w, body, level + 1, into)?;
+        run_block(w, body, level + 1, into)?;
         // Names that the condition defined are not in scope at its next time.
         w.nouns.truncate(names);
     }
@@ -152,6 +152,18 @@ fn eval_any_condition(
 {
     eval(w, condition, level, into)?;
     choose(w, into)
+}
+
+/// Evaluates a block in a loop. Where assignments of integers at hand are all that it has, no call is made.
+#[cycle(evaluate)]
+#[inline(always)]
+fn run_block(w: &mut Working, items: &[Code], level: u32, into: &mut Value) -> Result<(), Stop>
+{
+    let outer = enter(w);
+    let done = run_settings(w, items, level, into)?;
+    let answer = if done == items.len() { Ok(()) } else { eval_items(w, &items[done..], level, into) };
+    leave(w, outer);
+    answer
 }
 
 /// Evaluates a block, in a scope of its own. Assignments of integers at hand at its head need no place for their right sides.

@@ -16,7 +16,7 @@ use crate::right::take;
 use code::code::Code;
 use eobjects::nouns::read_noun;
 use eobjects::objects::define_object;
-use eobjects::quick::{quick_setting, set};
+use eobjects::quick::{noun_at_hand, quick_setting, set};
 use erules::end::{Abandon, Stop};
 use erules::halting::abandon;
 use erules::results::{give_list, give_text};
@@ -70,6 +70,28 @@ pub fn eval(w: &mut Working, e: &Code, level: u32, into: &mut Value) -> Result<(
             define_object(w, pattern, captures, methods, index, into)
         }
         Code::Escape(name, body) => eval_escape(w, name, body, level, into),
+    }
+}
+
+/// Evaluates a part of a construct. A noun at hand gives its value here.
+#[cycle(evaluate)]
+#[inline(always)]
+pub(crate) fn eval_part(
+    w: &mut Working,
+    e: &Code,
+    level: u32,
+    into: &mut Value,
+) -> Result<(), Stop>
+    requires { fits_at (at w.old) e.now }
+    ensures { OnEnd result into.new w.new (Ends level (tree_of_code e.now) (at w.old)) }
+{
+    match noun_at_hand(w, e, level) {
+        Some(value) => {
+            *into = value.share()?;
+            w.steps -= 1;
+            Ok(())
+        }
+        None => eval(w, e, level, into),
     }
 }
 
@@ -136,7 +158,7 @@ pub(crate) fn eval_args(w: &mut Working, args: &[Code], level: u32) -> Result<Ve
     let mut values = Vec::with_capacity(w.alloc, args.len())?;
     for arg in args {
         let mut value = Value::Null;
-        eval(w, arg, level, &mut value)?;
+        eval_part(w, arg, level, &mut value)?;
         values.push(value)?;
     }
     Ok(values)
@@ -175,6 +197,6 @@ pub(crate) fn eval_item(
 {
     match quick_setting(w, item, level) {
         Some(setting) => Ok(set(w, setting, into)?),
-        None => eval(w, item, level, into),
+        None => eval_part(w, item, level, into),
     }
 }
