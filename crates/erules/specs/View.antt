@@ -57,5 +57,5 @@ choice_view (code-choosing.Goes q) = goes q
 choice_view (code-choosing.Ends e) = ends (end_of e)
 
 abbrev pub listing_view : code-list.Listing → Listing
-listing_view (code-listing.Listed items) = listed (vals_of items.value.items)
+listing_view (code-listing.Listed items) = listed items.value
 listing_view (code-listing.Ends e) = unlisted (end_of e)

@@ -12,7 +12,7 @@ use crate::end::{End, Halt};
 use ids::text::Text;
 use std::alloc::{AllocError, Global};
 use std::sync::Arc;
-use values::value::Value;
+use values::value::{Items, Value};
 
 /// What a condition leads to: one of two ways, or an end.
 #[derive(Drop)]
@@ -24,7 +24,7 @@ pub enum Choosing {
 /// What a For goes over: the items of a list, or an end in place of them.
 #[derive(Drop)]
 pub enum Listing {
-    Listed(Arc<Vec<Value>>),
+    Listed(Arc<Items>),
     Ends(End),
 }
 
@@ -75,8 +75,8 @@ pub fn choose(alloc: Global, tested: End) -> Result<Choosing, AllocError>
 }
 
 /// The items of the list that a value is, shared.
-fn shared_items(value: &Value) -> Result<Option<Arc<Vec<Value>>>, AllocError>
-    ensures { IfOk result (λ l. option_map (λ a. vals_of a.value.items) l ≡ items_in (val_of value.now)) }
+fn shared_items(value: &Value) -> Result<Option<Arc<Items>>, AllocError>
+    ensures { IfOk result (λ l. option_map (λ a. a.value) l ≡ items_in (val_of value.now)) }
 {
     match value {
         Value::List(items) => Ok(Some(Arc::try_clone(items)?)),

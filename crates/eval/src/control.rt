@@ -103,7 +103,7 @@ pub(crate) fn eval_for(
         Listing::Listed(values) => values,
         Listing::Ends(end) => return Ok(end),
     };
-    for value in values.iter() {
+    for value in values.as_slice() {
         let ended = eval_taking(w, pattern, value, body, level + 1)?;
         if let Some(halt) = halt_in(ended) {
             return Ok(End::Halt(halt));
