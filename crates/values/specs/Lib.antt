@@ -9,3 +9,4 @@ pub mod View
 pub mod Items
 pub mod ItemsFall
 pub mod Laws
+pub mod Growing
