@@ -6,7 +6,7 @@ ghost use Rattle.values.specs.View.{val_of, vals_of};
 ghost use Rattle.code.specs.Frames.{place_in};
 ghost use Rattle.erules.specs.Fits.{frame_at};
 ghost use Rattle.heap.specs.State.{read, slot_cell};
-ghost use Rattle.erules.specs.Ends.{OnEnd, OnStop};
+ghost use Rattle.erules.specs.Answered.{OnEnd, OnStop};
 ghost use Rattle.erules.specs.Outcomes.{thrown, value as value_end, halt as halt_end};
 ghost use Rattle.erules.specs.Rules.{binding as binding_of, matched, matched_all, taken, parts_of, parts_bound, parts_end, reached, seeking, noun_read, sought, sought_slot, held_end, undefined_noun};
 ghost use Rattle.erules.specs.Rules.{declared, declared_end, assigned, assigned_end};

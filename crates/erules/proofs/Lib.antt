@@ -1,4 +1,5 @@
 pub mod Added
+pub mod Answering
 pub mod Captures
 pub mod Counted
 pub mod Determined

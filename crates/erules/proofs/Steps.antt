@@ -1,6 +1,5 @@
 -- From the rules to what the program's functions ensure.
 use Rattle.std.proofs.Common.{arith, ◌≡◌, ℕ, ◌+◌, ◌<◌, ◌≤◌, Bool, List, [], ◌∷◌, ◌++◌, subst, sym, ap, refl, length, take, drop, get_or, add-one, ◌∙◌, suc}
-use Rattle.std.specs.Prelude.{Result, Ok, Err, IfOk}
 use Rattle.std.proofs.Math.Seq.{drop-cons}
 use Rattle.std.proofs.lemmas.List.{drop_all}
 use Rattle.kernele.specs.Tree.{Tree, Trees, none, and_then}
@@ -13,14 +12,12 @@ use Rattle.erules.specs.At.{At}
 use Rattle.erules.specs.Outcomes.{End, Halt, value, halt, Gather, values, halted}
 use Rattle.erules.specs.Rules.{entering, leaving, again, matched, Ends, at_node, Runs, begun, Args, args_none, args_next, args_halt, Items, items_none, items_next, items_halt, Block, in_block, Taking, in_taking, Each, each_none, each_next, each_halt}
 use Rattle.erules.specs.Locals.{locals_of}
-use Rattle.erules.specs.View.{at, end_of, gather_of}
+use Rattle.erules.specs.View.{at}
 use Rattle.erules.proofs.Scopes.{truncated}
 use Rattle.erules.proofs.Grown.{Grown, items_grow, taken_grow}
 use Rattle.erules.specs.declared.local.Local.{Local}
 use Rattle.erules.specs.declared.working.Working.{Working}
 use Rattle.kernele.specs.declared.tree.Pattern.{Pattern}
-use Rattle.erules.specs.declared.end.End as code
-use Rattle.erules.specs.declared.end.Gathered.{Gathered}
 use Rattle.std.specs.declared.vec.Vec.{Vec}
 use Rattle.std.specs.declared.alloc.Global.{Global}
 
@@ -46,16 +43,9 @@ vals_of-push (x ∷ xs) v = ap (and_val (val_of x)) (vals_of-push xs v)
 pub node : (e : Code) {t : Tree} {k : ℕ} {a b : At} {o : End} → tree_of_code e ≡ t → Runs k t (begun a) o b → 0 < a.left → k ≤ 1000 → Ends k (tree_of_code e) a o b
 node e {k = k} {a = a} {b = b} {o = o} is r has fits = subst (λ u. Ends k u a o b) (sym is) (at_node has fits r)
 
--- what a call for a child gave, at the child and the arm that are known
-pub child : {e d : Code} {o p : code.End} {k : ℕ} {a b : At} → e ≡ d → o ≡ p → Ends k (tree_of_code e) a (end_of o) b → Ends k (tree_of_code d) a (end_of p) b
-child {d = d} {o = o} {k = k} {a = a} {b = b} same is h = subst (λ q. Ends k (tree_of_code d) a (end_of q) b) is (subst (λ x. Ends k (tree_of_code x) a (end_of o) b) same h)
-
--- the same where the end is not one of the program's
-pub tested : {d e : Code} {k : ℕ} {a b : At} {o : End} → d ≡ e → Ends k (tree_of_code d) a o b → Ends k (tree_of_code e) a o b
-tested {k = k} {a = a} {b = b} {o = o} same r = subst (λ x. Ends k (tree_of_code x) a o b) same r
-
-pub children : {xs ys : List Code} {g h : Gathered} {k : ℕ} {a b : At} → xs ≡ ys → g ≡ h → Args k (trees_of_codes xs) a (gather_of g) b → Args k (trees_of_codes ys) a (gather_of h) b
-children {ys = ys} {g = g} {k = k} {a = a} {b = b} same is r = subst (λ q. Args k (trees_of_codes ys) a (gather_of q) b) is (subst (λ x. Args k (trees_of_codes x) a (gather_of g) b) same r)
+-- what a call for a child gave, at the child that is known
+pub child : {d e : Code} {k : ℕ} {a b : At} {o : End} → d ≡ e → Ends k (tree_of_code d) a o b → Ends k (tree_of_code e) a o b
+child {k = k} {a = a} {b = b} {o = o} same r = subst (λ x. Ends k (tree_of_code x) a o b) same r
 
 -- values, and then how the rest ends
 abbrev pub after_values : Vals → Gather → Gather
@@ -117,20 +107,12 @@ runs_to {k = k} {t = t} {a = a} {c = c} {p = p} r e f = subst (λ o. Runs k t a 
 pub slice_of : {X : Type 0} {s : List X} {v u : Vec X Global} → s ≡ v.items → v ≡ u → s ≡ u.items
 slice_of e f = e ∙ ap (λ v. v.items) f
 
--- two facts on what a call returned give a third
-pub if_both : {X E : Type 0} (r : Result X E) (P Q R : X → Type 0) → ((x : X) → P x → Q x → R x) → IfOk r P → IfOk r Q → IfOk r R
-if_both (Ok x) P Q R h p q = h x p q
-if_both (Err e) P Q R h p q = tt
-
 -- a block's items, where its block is known
-pub blocks : {xs ys : List Code} {o p : code.End} {k : ℕ} {a b : At} → xs ≡ ys → o ≡ p → Block k (trees_of_codes xs) a (end_of o) b → Block k (trees_of_codes ys) a (end_of p) b
-blocks {ys = ys} {o = o} {k = k} {a = a} {b = b} same is r = subst (λ q. Block k (trees_of_codes ys) a (end_of q) b) is (subst (λ x. Block k (trees_of_codes x) a (end_of o) b) same r)
+pub blocks : {xs ys : List Code} {o : End} {k : ℕ} {a b : At} → xs ≡ ys → Block k (trees_of_codes xs) a o b → Block k (trees_of_codes ys) a o b
+blocks {o = o} {k = k} {a = a} {b = b} same r = subst (λ x. Block k (trees_of_codes x) a o b) same r
 
 pub taking : {xs ys : List Code} {k : ℕ} {p : Pattern} {v w : Val} {a b : At} {o : End} → xs ≡ ys → v ≡ w → Taking k p v (trees_of_codes xs) a o b → Taking k p w (trees_of_codes ys) a o b
 taking {ys = ys} {k = k} {p = p} {v = v} {a = a} {b = b} {o = o} same is r = subst (λ w. Taking k p w (trees_of_codes ys) a o b) is (subst (λ x. Taking k p v (trees_of_codes x) a o b) same r)
-
-pub taking_ending : {k : ℕ} {p : Pattern} {v : Val} {ts : Trees} {a b : At} {o q : End} → o ≡ q → Taking k p v ts a o b → Taking k p v ts a q b
-taking_ending {k = k} {p = p} {v = v} {ts = ts} {a = a} {b = b} e r = subst (λ q. Taking k p v ts a q b) e r
 
 pub each : {xs ys : List Code} {k : ℕ} {p : Pattern} {vs ws : List Value} {a b : At} {o : End} → xs ≡ ys → vs ≡ ws → Each k p (trees_of_codes xs) (vals_of vs) a o b → Each k p (trees_of_codes ys) (vals_of ws) a o b
 each {ys = ys} {k = k} {p = p} {vs = vs} {a = a} {b = b} {o = o} same is r = subst (λ ws. Each k p (trees_of_codes ys) (vals_of ws) a o b) is (subst (λ x. Each k p (trees_of_codes x) (vals_of vs) a o b) same r)

@@ -4,5 +4,6 @@ pub mod Outcomes
 pub mod Rules
 pub mod Derivations
 pub mod View
+pub mod Answered
 pub mod Laws
 pub mod Locals

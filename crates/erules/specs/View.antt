@@ -1,25 +1,16 @@
--- What the program's ends, choices and places stand for.
+-- What the program's halts and places stand for.
 use Rattle.std.specs.Prelude.{List, [], ◌∷◌}
 use Rattle.ids.specs.declared.names.EjId.{EjId}
-use Rattle.values.specs.View.{val_of, vals_of}
+use Rattle.values.specs.View.{val_of}
 use Rattle.erules.specs.At.{At}
 use Rattle.erules.specs.Locals.{locals_of}
 use Rattle.heap.specs.Drafts.{draft_of, counts_of, began_with, touched_of, written_of}
-use Rattle.erules.specs.Outcomes.{Cause, budget_spent, too_deep, too_large, Halt, thrown, ejected, abandoned, End, value, halt, Gather, values, halted}
-use Rattle.erules.specs.Rules.{Choice, goes, ends, Listing, listed, unlisted}
-use Rattle.erules.specs.declared.wanted.Choosing.{Choosing}
-use Rattle.erules.specs.declared.wanted.Choosing.TheVariants as code-choosing
-use Rattle.erules.specs.declared.wanted.Listing as code-list
-use Rattle.erules.specs.declared.wanted.Listing.TheVariants as code-listing
+use Rattle.erules.specs.Outcomes.{Cause, budget_spent, too_deep, too_large, Halt, thrown, ejected, abandoned}
 use Rattle.erules.specs.declared.working.Working.{Working}
 use Rattle.erules.specs.declared.end.Abandon.{Abandon}
 use Rattle.erules.specs.declared.end.Abandon.TheVariants as code-abandon
 use Rattle.erules.specs.declared.end.Halt as code
 use Rattle.erules.specs.declared.end.Halt.TheVariants as code-halt
-use Rattle.erules.specs.declared.end.End as code-ends
-use Rattle.erules.specs.declared.end.End.TheVariants as code-end
-use Rattle.erules.specs.declared.end.Gathered.{Gathered}
-use Rattle.erules.specs.declared.end.Gathered.TheVariants as code-gathered
 
 abbrev pub cause_of : Abandon → Cause
 cause_of code-abandon.Budget = budget_spent
@@ -28,16 +19,8 @@ cause_of code-abandon.Size = too_large
 
 abbrev pub halt_of : code.Halt → Halt
 halt_of (code-halt.Thrown problem) = thrown problem
-halt_of (code-halt.Ejected e) = ejected e.value.ejector (val_of e.value.value)
+halt_of (code-halt.Ejected j v) = ejected j (val_of v)
 halt_of (code-halt.Abandoned why) = abandoned (cause_of why)
-
-abbrev pub end_of : code-ends.End → End
-end_of (code-end.Value v) = value (val_of v)
-end_of (code-end.Halt h) = halt (halt_of h)
-
-abbrev pub gather_of : Gathered → Gather
-gather_of (code-gathered.Values vs) = values (vals_of vs.items)
-gather_of (code-gathered.Halt h) = halted (halt_of h)
 
 -- ejectors, the newest first: the program pushes the newest at the end
 abbrev pub ejectors_after : List EjId → List EjId → List EjId
@@ -50,12 +33,3 @@ opened_of items = ejectors_after [] items
 -- where the program stands
 abbrev pub at : Working → At
 at w = record { nouns = locals_of w.nouns.items; own_scope = w.own_scope; state = draft_of w.draft; left = w.steps; event = (counts_of w.draft).event; vat = (counts_of w.draft).vat; began = began_with w.draft; slots = (counts_of w.draft).slots; objects = (counts_of w.draft).objects; ejectors = w.ejectors; opened = opened_of w.opened.items; touched = touched_of w.draft; written = written_of w.draft }
-
--- what a condition leads to, and what stands where a list is wanted
-abbrev pub choice_view : Choosing → Choice
-choice_view (code-choosing.Goes q) = goes q
-choice_view (code-choosing.Ends e) = ends (end_of e)
-
-abbrev pub listing_view : code-list.Listing → Listing
-listing_view (code-listing.Listed items) = listed (vals_of items.value.items)
-listing_view (code-listing.Ends e) = unlisted (end_of e)

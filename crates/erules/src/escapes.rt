@@ -2,14 +2,17 @@
 ghost use Rattle.std.specs.Prelude.{◌≡◌, ◌<◌, ◌+◌, IfOk, OnErr, take};
 ghost use Rattle.std.specs.Option.{option_map};
 ghost use Rattle.values.specs.View.{val_of, vals_of};
+ghost use Rattle.erules.specs.Answered.{OnEnd, OnStop};
+ghost use Rattle.erules.specs.Outcomes.{halt};
 ghost use Rattle.erules.specs.Rules.{next_ejector, escaping, escape_end as escape_end_of, is_open as is_open_of, ejects, given as given_of, ejector_end as ejector_end_of};
-ghost use Rattle.erules.specs.View.{at, end_of, opened_of};
+ghost use Rattle.erules.specs.View.{at, opened_of};
 
 use crate::end::{Halt, Stop};
-use crate::halting::throw_words;
+use crate::halting::throw_made;
 use crate::results::no_such_method;
 use crate::working::Working;
 use ids::names::EjId;
+use ids::text::Text;
 use std::alloc::AllocError;
 use values::value::Value;
 use values::verb::Verb;
@@ -102,7 +105,8 @@ fn eject(w: &mut Working, ejector: EjId, value: Value) -> Stop
         w.halt = Halt::Ejected(ejector, value);
         Stop::Halted
     } else {
-        throw_words(w, "ejector is spent")
+        let problem = Text::new(w.alloc, "ejector is spent");
+        throw_made(w, problem)
     }
 }
 

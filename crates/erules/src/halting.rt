@@ -1,6 +1,6 @@
 // How evaluations stop: the reason is put into the turn, and the answer says only that there is one.
-ghost use Rattle.std.specs.Prelude.{◌≡◌};
-ghost use Rattle.erules.specs.Ends.{OnStop};
+ghost use Rattle.std.specs.Prelude.{◌≡◌, IsOkAnd};
+ghost use Rattle.erules.specs.Answered.{OnStop};
 ghost use Rattle.erules.specs.Outcomes.{thrown, abandoned};
 ghost use Rattle.erules.specs.View.{at, cause_of};
 
@@ -17,11 +17,11 @@ pub fn throw(w: &mut Working, problem: Text) -> Stop
     Stop::Halted
 }
 
-/// Throws a problem in these words.
-pub fn throw_words(w: &mut Working, words: &str) -> Stop
-    ensures { OnStop result w.new (λ h b. (h ≡ thrown words.now) × (b ≡ at w.old)) }
+/// Throws the problem that was made, if there was memory for it.
+pub fn throw_made(w: &mut Working, made: Result<Text, AllocError>) -> Stop
+    ensures { OnStop result w.new (λ h b. IsOkAnd made (λ problem. h ≡ thrown problem) × (b ≡ at w.old)) }
 {
-    match Text::new(w.alloc, words) {
+    match made {
         Ok(problem) => throw(w, problem),
         Err(AllocError) => Stop::Memory,
     }

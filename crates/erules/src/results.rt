@@ -2,7 +2,7 @@
 ghost use Rattle.std.specs.Prelude.{◌≡◌};
 ghost use Rattle.values.specs.Replies.{text_reply, list_reply, data_reply};
 ghost use Rattle.values.specs.View.{val_of, vals_of, reply_of};
-ghost use Rattle.erules.specs.Ends.{OnEnd, OnStop};
+ghost use Rattle.erules.specs.Answered.{OnEnd, OnStop};
 ghost use Rattle.erules.specs.Outcomes.{End as Ending, halt, reply_end};
 ghost use Rattle.erules.specs.Rules.{no_such_method as no_such_method_end};
 ghost use Rattle.erules.specs.View.{at};

@@ -2,69 +2,96 @@
 ghost use Rattle.std.specs.Prelude.{◌≡◌, IfOk};
 ghost use Rattle.std.specs.Option.{option_map};
 ghost use Rattle.values.specs.Replies.{items_in};
-ghost use Rattle.values.specs.View.{val_of, vals_of};
-ghost use Rattle.erules.specs.Ends.{OnChoice, OnListing, OnStop};
-ghost use Rattle.erules.specs.Rules.{bool_in, choice_of, listing_of, mismatch as mismatch_of, thrown_end, caught as caught_of};
-ghost use Rattle.erules.specs.Outcomes.{value as value_end, halt as halt_end};
+ghost use Rattle.values.specs.View.{val_of};
+ghost use Rattle.erules.specs.Answered.{OnAnswer, OnStop};
+ghost use Rattle.erules.specs.Rules.{bool_in, choice_of, ends, goes, listed, listing_of, unlisted, mismatch as mismatch_of, thrown_end, caught as caught_of};
+ghost use Rattle.erules.specs.Outcomes.{value as value_end, halt as halt_end, thrown as thrown_halt};
 ghost use Rattle.erules.specs.View.{at, halt_of};
 
 use crate::end::{Halt, Stop};
-use crate::halting::{throw, throw_words};
+use crate::halting::throw_made;
 use crate::working::Working;
 use ids::text::Text;
-use std::alloc::AllocError;
+use std::alloc::{AllocError, Global};
 use std::sync::Arc;
-use values::value::Value;
+use values::value::{Items, Value};
 
 /// What a value throws that is not of the kind that is wanted: these words, or its own problem, if it is broken.
 #[inline(never)]
 pub fn mismatch(w: &mut Working, words: &str, value: &Value) -> Stop
     ensures { OnStop result w.new (λ h b. (halt_end h ≡ mismatch_of words.now (val_of value.now)) × (b ≡ at w.old)) }
 {
+    let problem = mismatch_problem(w.alloc, words, value);
+    throw_made(w, problem)
+}
+
+fn mismatch_problem(alloc: Global, words: &str, value: &Value) -> Result<Text, AllocError>
+    ensures { IfOk result (λ t. halt_end (thrown_halt t) ≡ mismatch_of words.now (val_of value.now)) }
+{
     match value {
-        Value::Broken(problem) => match problem.share() {
-            Ok(problem) => throw(w, problem),
-            Err(AllocError) => Stop::Memory,
-        },
+        Value::Broken(problem) => problem.share(),
         Value::Null
         | Value::Bool(_)
         | Value::Int(_)
         | Value::Text(_)
         | Value::List(_)
         | Value::Object(_)
-        | Value::Ejector(_) => throw_words(w, words),
+        | Value::Ejector(_) => Text::new(alloc, words),
+    }
+}
+
+/// The truth value that a value is.
+fn as_bool(value: &Value) -> Option<bool>
+    ensures { result ≡ bool_in (val_of value.now) }
+{
+    match value {
+        Value::Bool(truth) => Some(*truth),
+        Value::Null
+        | Value::Int(_)
+        | Value::Text(_)
+        | Value::List(_)
+        | Value::Object(_)
+        | Value::Ejector(_)
+        | Value::Broken(_) => None,
     }
 }
 
 /// What a condition leads to that gave this value.
 pub fn choose(w: &mut Working, tested: &Value) -> Result<bool, Stop>
-    ensures { OnChoice result w.new (λ c b. (c ≡ choice_of (value_end (val_of tested.now))) × (b ≡ at w.old)) }
+    ensures { OnAnswer result w.new (λ q b. (choice_of (value_end (val_of tested.now)) ≡ goes q) × (b ≡ at w.old))
+        (λ h b. (choice_of (value_end (val_of tested.now)) ≡ ends (halt_end h)) × (b ≡ at w.old)) }
 {
-    match tested {
-        Value::Bool(truth) => Ok(*truth),
-        Value::Null
-        | Value::Int(_)
-        | Value::Text(_)
-        | Value::List(_)
-        | Value::Object(_)
-        | Value::Ejector(_)
-        | Value::Broken(_) => Err(mismatch(w, "not a truth value", tested)),
+    match as_bool(tested) {
+        Some(truth) => Ok(truth),
+        None => Err(mismatch(w, "not a truth value", tested)),
     }
 }
 
-/// What a For goes over whose list is this value: its items, shared.
-pub fn items_of(w: &mut Working, value: &Value) -> Result<Arc<Vec<Value>>, Stop>
-    ensures { OnListing result w.new (λ l b. (l ≡ listing_of (value_end (val_of value.now))) × (b ≡ at w.old)) }
+/// The items of the list that a value is, shared.
+fn shared_items(value: &Value) -> Result<Option<Arc<Items>>, AllocError>
+    ensures { IfOk result (λ l. option_map (λ a. a.value) l ≡ items_in (val_of value.now)) }
 {
     match value {
-        Value::List(items) => Ok(Arc::try_clone(items)?),
+        Value::List(items) => Ok(Some(Arc::try_clone(items)?)),
         Value::Null
         | Value::Bool(_)
         | Value::Int(_)
         | Value::Text(_)
         | Value::Object(_)
         | Value::Ejector(_)
-        | Value::Broken(_) => Err(mismatch(w, "not a list", value)),
+        | Value::Broken(_) => Ok(None),
+    }
+}
+
+/// What a For goes over whose list is this value: its items, shared.
+pub fn items_of(w: &mut Working, value: &Value) -> Result<Arc<Items>, Stop>
+    ensures { OnAnswer result w.new (λ items b. (listing_of (value_end (val_of value.now)) ≡ listed items.value) × (b ≡ at w.old))
+        (λ h b. (listing_of (value_end (val_of value.now)) ≡ unlisted (halt_end h)) × (b ≡ at w.old)) }
+{
+    let listed = shared_items(value)?;
+    match listed {
+        Some(items) => Ok(items),
+        None => Err(mismatch(w, "not a list", value)),
     }
 }
 
@@ -72,18 +99,22 @@ pub fn items_of(w: &mut Working, value: &Value) -> Result<Arc<Vec<Value>>, Stop>
 pub fn thrown(w: &mut Working, value: &Value) -> Stop
     ensures { OnStop result w.new (λ h b. (halt_end h ≡ thrown_end (value_end (val_of value.now))) × (b ≡ at w.old)) }
 {
+    let problem = thrown_problem(w.alloc, value);
+    throw_made(w, problem)
+}
+
+fn thrown_problem(alloc: Global, value: &Value) -> Result<Text, AllocError>
+    ensures { IfOk result (λ t. halt_end (thrown_halt t) ≡ thrown_end (value_end (val_of value.now))) }
+{
     match value {
-        Value::Text(problem) => match problem.share() {
-            Ok(problem) => throw(w, problem),
-            Err(AllocError) => Stop::Memory,
-        },
+        Value::Text(problem) => problem.share(),
         Value::Null
         | Value::Bool(_)
         | Value::Int(_)
         | Value::List(_)
         | Value::Object(_)
         | Value::Ejector(_)
-        | Value::Broken(_) => mismatch(w, "not a text", value),
+        | Value::Broken(_) => mismatch_problem(alloc, "not a text", value),
     }
 }
 

@@ -84,7 +84,7 @@ pub(crate) fn eval_for(
 {
     eval(w, list, level + 1, into)?;
     let values = items_of(w, into)?;
-    for value in values.iter() {
+    for value in values.as_slice() {
         eval_taking(w, pattern, value, body, level + 1, into)?;
     }
     *into = Value::Null;

@@ -1,24 +1,21 @@
 -- Values of different kinds are never the same.
 use Rattle.std.proofs.Common.{◌≡◌, ℕ, ℤ, Bool, true, false, ◌&&◌, List, [], ◌∷◌, length, ◌⊎◌, inl, inr, refl, sym, ap, ◌∙◌, arith}
 use Rattle.std.specs.declared.sync.Arc.{Arc}
-use Rattle.std.specs.declared.vec.Vec.{Vec}
 use Rattle.std.specs.declared.alloc.Global.{Global}
 use Rattle.ids.specs.declared.names.ObjId.{ObjId}
 use Rattle.ids.specs.declared.names.EjId.{EjId}
 use Rattle.values.specs.Data.{Vals, null, bool, int, text, list, object, ejector, broken}
 use Rattle.values.specs.Same.{same_as, same_items}
 use Rattle.values.specs.View.{val_of, vals_of}
-use Rattle.values.specs.declared.value.Value as code
-use Rattle.values.specs.declared.value.Value.TheVariants as view
+use Rattle.values.specs.declared.value.Value.TheVariants as code
 use Rattle.values.specs.declared.value.Value.{Value}
-use Rattle.values.proofs.Views.{list_again}
 
 pub other_null : (b : Value) → (b ≡ code.Null → ⊥) → false ≡ same_as null (val_of b)
 other_null code.Null h = absurd (h refl)
 other_null (code.Bool y) h = refl
 other_null (code.Int y) h = refl
 other_null (code.Text y) h = refl
-other_null (code.List' p shape items) h = refl
+other_null (code.List items) h = refl
 other_null (code.Object y) h = refl
 other_null (code.Ejector y) h = refl
 other_null (code.Broken y) h = refl
@@ -28,7 +25,7 @@ other_bool x code.Null h = refl
 other_bool x (code.Bool y) h = absurd (h y refl)
 other_bool x (code.Int y) h = refl
 other_bool x (code.Text y) h = refl
-other_bool x (code.List' p shape items) h = refl
+other_bool x (code.List items) h = refl
 other_bool x (code.Object y) h = refl
 other_bool x (code.Ejector y) h = refl
 other_bool x (code.Broken y) h = refl
@@ -38,7 +35,7 @@ other_int x code.Null h = refl
 other_int x (code.Bool y) h = refl
 other_int x (code.Int y) h = absurd (h y refl)
 other_int x (code.Text y) h = refl
-other_int x (code.List' p shape items) h = refl
+other_int x (code.List items) h = refl
 other_int x (code.Object y) h = refl
 other_int x (code.Ejector y) h = refl
 other_int x (code.Broken y) h = refl
@@ -48,17 +45,17 @@ other_text x code.Null h = refl
 other_text x (code.Bool y) h = refl
 other_text x (code.Int y) h = refl
 other_text x (code.Text y) h = absurd (h y refl)
-other_text x (code.List' p shape items) h = refl
+other_text x (code.List items) h = refl
 other_text x (code.Object y) h = refl
 other_text x (code.Ejector y) h = refl
 other_text x (code.Broken y) h = refl
 
-pub other_list : (vs : Vals) (b : Value) → ((y : Arc (Vec Value Global) Global) → b ≡ view.List y → ⊥) → false ≡ same_as (list vs) (val_of b)
+pub other_list : (vs : Vals) (b : Value) → ((y : Arc Vals Global) → b ≡ code.List y → ⊥) → false ≡ same_as (list vs) (val_of b)
 other_list vs code.Null h = refl
 other_list vs (code.Bool y) h = refl
 other_list vs (code.Int y) h = refl
 other_list vs (code.Text y) h = refl
-other_list vs (code.List' p shape items) h = absurd (h _ (list_again p shape items))
+other_list vs (code.List items) h = absurd (h _ refl)
 other_list vs (code.Object y) h = refl
 other_list vs (code.Ejector y) h = refl
 other_list vs (code.Broken y) h = refl
@@ -68,7 +65,7 @@ other_object x code.Null h = refl
 other_object x (code.Bool y) h = refl
 other_object x (code.Int y) h = refl
 other_object x (code.Text y) h = refl
-other_object x (code.List' p shape items) h = refl
+other_object x (code.List items) h = refl
 other_object x (code.Object y) h = absurd (h y refl)
 other_object x (code.Ejector y) h = refl
 other_object x (code.Broken y) h = refl
@@ -78,7 +75,7 @@ other_ejector x code.Null h = refl
 other_ejector x (code.Bool y) h = refl
 other_ejector x (code.Int y) h = refl
 other_ejector x (code.Text y) h = refl
-other_ejector x (code.List' p shape items) h = refl
+other_ejector x (code.List items) h = refl
 other_ejector x (code.Object y) h = refl
 other_ejector x (code.Ejector y) h = absurd (h y refl)
 other_ejector x (code.Broken y) h = refl
@@ -88,7 +85,7 @@ other_broken x code.Null h = refl
 other_broken x (code.Bool y) h = refl
 other_broken x (code.Int y) h = refl
 other_broken x (code.Text y) h = refl
-other_broken x (code.List' p shape items) h = refl
+other_broken x (code.List items) h = refl
 other_broken x (code.Object y) h = refl
 other_broken x (code.Ejector y) h = refl
 other_broken x (code.Broken y) h = absurd (h y refl)

@@ -6,3 +6,4 @@ pub mod ShownItems
 pub mod Equivalence
 pub mod VerbTexts
 pub mod Rows
+pub mod Grown

@@ -13,7 +13,7 @@ use Rattle.values.specs.View.{val_of, vals_of, reply_of, int_reply}
 use Rattle.values.specs.declared.integers.IntReply.{IntReply}
 use Rattle.values.specs.declared.integers.IntReply.TheVariants as int-reply
 use Rattle.values.specs.declared.value.Value.{Value}
-use Rattle.values.specs.declared.value.Value as code
+use Rattle.values.specs.declared.value.Value.TheVariants as code
 use Rattle.ids.specs.declared.names.ObjId.{ObjId}
 use Rattle.ids.specs.declared.names.EjId.{EjId}
 
@@ -66,6 +66,12 @@ joined_more us xs u i x h e f =
     ap (λ vs. joined vs (vals_of (drop (i + 1) xs))) (joined-vals_of us (u ∷ []))
     ∙ joined-joined (vals_of us) (and_val (val_of u) no_vals) (vals_of (drop (i + 1) xs))
     ∙ ap (joined (vals_of us)) (ap (λ v. and_val v (vals_of (drop (i + 1) xs))) f ∙ sym (vals_from xs i x h e))
+
+-- one more item behind a list's own
+pub joined_next : (us : Vals) (xs : List Value) (y : Val) (i : ℕ) (x : Value) → i < length xs → x ≡ get_or xs i x → y ≡ val_of x → joined (joined us (and_val y no_vals)) (vals_of (drop (i + 1) xs)) ≡ joined us (vals_of (drop i xs))
+joined_next us xs y i x h e f =
+    joined-joined us (and_val y no_vals) (vals_of (drop (i + 1) xs))
+    ∙ ap (joined us) (ap (λ v. and_val v (vals_of (drop (i + 1) xs))) f ∙ sym (vals_from xs i x h e))
 
 pub item_at-inside : (xs : List Value) (i : ℕ) (x : Value) → i < length xs → x ≡ get_or xs i x → Some (val_of x) ≡ item_at (vals_of xs) i
 item_at-inside [] i x h e = absurd (omega arith)

@@ -1,15 +1,17 @@
 -- Weights and depths of items, as the program counts them.
-use Rattle.std.proofs.Common.{◌≡◌, ℕ, true, false, ◌&&◌, nat_le, get_or, drop, is_some, ⊎_elim, ◌+◌, ◌-◌, ◌<◌, ◌≤◌, max, List, length, Option, Some, None, sym, arith}
+use Rattle.std.proofs.Common.{◌≡◌, ℕ, true, false, ◌&&◌, nat_le, get_or, drop, is_some, ⊎_elim, ◌+◌, ◌-◌, ◌<◌, ◌≤◌, max, List, [], ◌∷◌, ◌++◌, length, Option, Some, None, sym, ap, ◌∙◌, zero, suc, arith}
 use Rattle.std.specs.Option.{SomeIff}
+use Rattle.std.specs.Ordering.{nat_cmp, ord_max}
 use Rattle.std.proofs.lemmas.List.{drop_all}
 use Rattle.std.proofs.lemmas.Bool.{cases_lt}
 use Rattle.std.proofs.lemmas.Bool.Decides.{nat_tests}
-use Rattle.values.specs.Data.{Vals, no_vals, and_val, list}
+use Rattle.values.specs.Data.{Val, Vals, no_vals, and_val, list}
+use Rattle.values.specs.Items.{IsMeasured}
 use Rattle.values.specs.Limits.{weight, weights, list_depth, deepest}
 use Rattle.values.specs.Replies.{joined}
 use Rattle.values.specs.View.{val_of, vals_of}
 use Rattle.values.specs.declared.value.Value.{Value}
-use Rattle.values.proofs.Tables.{vals_from}
+use Rattle.values.proofs.Tables.{vals_from, joined-vals_of}
 use Rattle.values.specs.Limits.{within_limits}
 
 -- a list weighs 1 more than its items, and stands 1 deeper
@@ -59,3 +61,79 @@ joined_beyond us vs f = sym (one_above (1 + weights (joined us vs)) 65536 (1 + d
 -- the end of the items
 pub last_left : (xs : List Value) (i : ℕ) (left depth : ℕ) → length xs ≤ i → SomeIff (Some left) ((weights (vals_of (drop i xs)) ≤ left) × (deepest (vals_of (drop i xs)) ≤ depth)) (left - weights (vals_of (drop i xs)))
 last_left xs i left depth h = rw (drop_all i xs h) ((omega arith, omega arith), omega arith)
+
+-- whether a list of these keeps the limits
+pub within : (vs : Vals) → (weights vs ≤ 65535) × (deepest vs ≤ 63) → true ≡ within_limits (list vs)
+within vs f = sym (both_at_most (1 + weights vs) 65536 (1 + deepest vs) 64 (omega (arith, f.0)) (omega (arith, f.1)))
+
+pub beyond : (vs : Vals) → ¬ ((weights vs ≤ 65535) × (deepest vs ≤ 63)) → false ≡ within_limits (list vs)
+beyond vs f = sym (one_above (1 + weights vs) 65536 (1 + deepest vs) 64 (λ k. f (omega (arith, k.0), omega (arith, k.1))))
+
+-- the greater of two, as the program finds it
+max_of : (a b : ℕ) → ord_max nat_cmp a b ≡ max a b
+max_of a b = by_cases_le a b (λ h. grind (arith, nat_tests)) (λ h. grind (arith, nat_tests))
+
+-- how deep lists stand in items, with one item more
+pub deepest_more : (xs : List Value) (i : ℕ) (x : Value) (all depth next d : ℕ) → i < length xs → x ≡ get_or xs i x → d ≡ list_depth (val_of x) → next ≡ ord_max nat_cmp depth d
+    → max depth (deepest (vals_of (drop i xs))) ≡ all → max next (deepest (vals_of (drop (i + 1) xs))) ≡ all
+deepest_more xs i x all depth next d a e f g h =
+    let p : deepest (vals_of (drop i xs)) ≡ max (list_depth (val_of x)) (deepest (vals_of (drop (i + 1) xs))) = ap deepest (vals_from xs i x a e) in
+    let q : next ≡ max depth d = g ∙ max_of depth d in
+    omega arith
+
+pub deepest_end : (xs : List Value) (i all depth : ℕ) → length xs ≤ i → max depth (deepest (vals_of (drop i xs))) ≡ all → depth ≡ all
+deepest_end xs i all depth h g =
+    let p : deepest (vals_of (drop i xs)) ≡ 0 = ap (λ ys. deepest (vals_of ys)) (drop_all i xs h) in
+    omega arith
+
+-- what is kept beside items, with one item more at their end
+pub measured_more : (w d u e v : ℕ) (xs ys : List Value) (x : Value) (vs : Vals) → IsMeasured w d (vals_of xs) → vals_of xs ≡ vs → weights vs + weight (val_of x) ≤ 65535 → list_depth (val_of x) ≤ 63
+    → ys ≡ xs ++ x ∷ [] → u ≡ weight (val_of x) → e ≡ list_depth (val_of x) → v ≡ max d e → IsMeasured (w + u) v (vals_of ys)
+measured_more w d u e v xs ys x vs m is light shallow p q r s =
+    let all : vals_of ys ≡ joined (vals_of xs) (and_val (val_of x) no_vals) = ap vals_of p ∙ joined-vals_of xs (x ∷ []) in
+    let weigh : weights (vals_of ys) ≡ weights (vals_of xs) + (weight (val_of x) + 0) = ap weights all ∙ weights-joined (vals_of xs) (and_val (val_of x) no_vals) in
+    let stand : deepest (vals_of ys) ≡ max (deepest (vals_of xs)) (max (list_depth (val_of x)) 0) = ap deepest all ∙ deepest-joined (vals_of xs) (and_val (val_of x) no_vals) in
+    let same : weights (vals_of xs) ≡ weights vs = ap weights is in
+    let more : v ≡ max d e = s in
+    let wm : w ≡ weights (vals_of xs) = m.weight in
+    let dm : d ≡ deepest (vals_of xs) = m.depth in
+    let sm : deepest (vals_of xs) ≤ 63 = m.shallow in
+    record { weight = omega arith; depth = omega arith; light = omega arith; shallow = omega arith }
+
+-- an item among those that are left has room
+pub item_light : (xs : List Value) (i : ℕ) (x : Value) (y : Val) (w : ℕ) → i < length xs → x ≡ get_or xs i x → y ≡ val_of x → w + weights (vals_of (drop i xs)) ≤ 65535 → w + weight y ≤ 65535
+item_light xs i x y w a e f h =
+    let p : weights (vals_of (drop i xs)) ≡ weight (val_of x) + weights (vals_of (drop (i + 1) xs)) = ap weights (vals_from xs i x a e) in
+    let q : weight y ≡ weight (val_of x) = ap weight f in
+    omega arith
+
+pub item_shallow : (xs : List Value) (i : ℕ) (x : Value) (y : Val) → i < length xs → x ≡ get_or xs i x → y ≡ val_of x → deepest (vals_of (drop i xs)) ≤ 63 → list_depth y ≤ 63
+item_shallow xs i x y a e f h =
+    let p : deepest (vals_of (drop i xs)) ≡ max (list_depth (val_of x)) (deepest (vals_of (drop (i + 1) xs))) = ap deepest (vals_from xs i x a e) in
+    let q : list_depth y ≡ list_depth (val_of x) = ap list_depth f in
+    omega arith
+
+-- and so have those behind it
+pub rest_light : (xs : List Value) (i : ℕ) (x : Value) (y : Val) (us vs : Vals) → i < length xs → x ≡ get_or xs i x → y ≡ val_of x → vs ≡ joined us (and_val y no_vals) → weights us + weights (vals_of (drop i xs)) ≤ 65535 → weights vs + weights (vals_of (drop (i + 1) xs)) ≤ 65535
+rest_light xs i x y us vs a e f g h =
+    let p : weights (vals_of (drop i xs)) ≡ weight (val_of x) + weights (vals_of (drop (i + 1) xs)) = ap weights (vals_from xs i x a e) in
+    let q : weight y ≡ weight (val_of x) = ap weight f in
+    let r : weights vs ≡ weights us + (weight y + 0) = ap weights g ∙ weights-joined us (and_val y no_vals) in
+    omega arith
+
+pub rest_shallow : (xs : List Value) (i : ℕ) (x : Value) → i < length xs → x ≡ get_or xs i x → deepest (vals_of (drop i xs)) ≤ 63 → deepest (vals_of (drop (i + 1) xs)) ≤ 63
+rest_shallow xs i x a e h =
+    let p : deepest (vals_of (drop i xs)) ≡ max (list_depth (val_of x)) (deepest (vals_of (drop (i + 1) xs))) = ap deepest (vals_from xs i x a e) in
+    omega arith
+
+-- no item weighs more than all
+pub item_weighs : (xs : List Value) (i : ℕ) (x : Value) → i < length xs → x ≡ get_or xs i x → weight (val_of x) ≤ weights (vals_of xs)
+item_weighs [] i x h e = absurd (omega arith)
+item_weighs (y ∷ ys) zero x h e = let p : weight (val_of x) ≡ weight (val_of y) = ap (λ v. weight (val_of v)) e in omega arith
+item_weighs (y ∷ ys) (suc i) x h e = omega (arith, item_weighs ys i x (omega arith) e)
+
+-- nor does one of those that are left
+pub next_weighs : (us cs : List Value) (x : Value) (w : ℕ) → us ≡ x ∷ cs → weights (vals_of us) ≤ w → (weight (val_of x) ≤ w) × (weights (vals_of cs) ≤ w)
+next_weighs us cs x w p h =
+    let e : weights (vals_of us) ≡ weight (val_of x) + weights (vals_of cs) = ap (λ vs. weights (vals_of vs)) p in
+    (omega arith, omega arith)

@@ -1,8 +1,12 @@
 pub mod Data
+pub mod Coding
 pub mod Limits
 pub mod Same
 pub mod Shown
 pub mod Verbs
 pub mod Replies
 pub mod View
+pub mod Items
+pub mod ItemsFall
 pub mod Laws
+pub mod Growing

@@ -4,25 +4,20 @@ use Rattle.values.specs.Data.{Val, null, bool, int, text, list, object, ejector,
 use Rattle.values.specs.Replies.{no_method, wrong_kind}
 use Rattle.values.specs.declared.integers.IntReply.{IntReply}
 use Rattle.values.specs.declared.integers.IntReply.TheVariants as int-reply
-use Rattle.values.specs.declared.value.Value as code
+use Rattle.values.specs.declared.value.Value.TheVariants as code
 use Rattle.values.specs.declared.value.Value.{Value}
 use Rattle.values.specs.declared.value.Answer.{Answer}
 use Rattle.values.specs.declared.value.Answer.TheVariants as answer
 
-abbrev mutual
-  pub val_of : Value → Val
-  val_of code.Null = null
-  val_of (code.Bool b) = bool b
-  val_of (code.Int z) = int z
-  val_of (code.Text s) = text s
-  val_of (code.List' p shape items) = list (vals_of_row items)
-  val_of (code.Object o) = object o
-  val_of (code.Ejector j) = ejector j
-  val_of (code.Broken s) = broken s
-
-  pub vals_of_row : {n : _} → code.Row_of-Value n → Vals
-  vals_of_row code.end_of-Value = no_vals
-  vals_of_row (code.more_of-Value v rest) = and_val (val_of v) (vals_of_row rest)
+abbrev pub val_of : Value → Val
+val_of code.Null = null
+val_of (code.Bool b) = bool b
+val_of (code.Int z) = int z
+val_of (code.Text s) = text s
+val_of (code.List items) = list items.value
+val_of (code.Object o) = object o
+val_of (code.Ejector j) = ejector j
+val_of (code.Broken s) = broken s
 
 -- items of a list, or arguments
 abbrev pub vals_of : List Value → Vals

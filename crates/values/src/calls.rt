@@ -47,7 +47,7 @@ pub fn call_verb(
         Value::Bool(holds) => bool_call(alloc, *holds, verb, arguments),
         Value::Int(integer) => int_call(alloc, *integer, verb, arguments),
         Value::Text(text) => text_call(alloc, text, verb, arguments),
-        Value::List(items) => list_call(alloc, items.as_slice(), verb, arguments),
+        Value::List(items) => list_call(alloc, items, verb, arguments),
         Value::Broken(problem) => Ok(Answer::Throws(problem.share()?)),
     }
 }

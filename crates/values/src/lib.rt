@@ -2,6 +2,7 @@
 #![tactic(auto)]
 
 pub mod calls;
+pub mod growing;
 mod integers;
 pub mod limits;
 pub mod lists;

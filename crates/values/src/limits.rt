@@ -3,7 +3,7 @@ ghost use Rattle.std.specs.Prelude.{◌≡◌, ◌+◌, ◌-◌, ◌≤◌, Some
 ghost use Rattle.values.specs.Limits.{weight as weight_of, weights, list_depth, deepest, within_limits as within};
 ghost use Rattle.values.specs.View.{val_of, vals_of};
 
-use crate::value::Value;
+use crate::value::{Items, Value};
 
 /// The greatest weight of a value.
 const MOST_WEIGHT: u32 = 65_536;
@@ -11,7 +11,13 @@ const MOST_WEIGHT: u32 = 65_536;
 /// How deep lists may stand in a value.
 const MOST_DEPTH: u32 = 64;
 
-/// Whether a value is not too large. The walk stops as soon as a limit is passed.
+/// The weight that is left for the items of a list.
+pub(crate) const MOST_ITEMS_WEIGHT: u32 = 65_535;
+
+/// How deep lists may stand in the items of a list.
+pub(crate) const MOST_ITEMS_DEPTH: u32 = 63;
+
+/// Whether a value is not too large.
 pub fn is_within_limits(value: &Value) -> bool
     ensures { result ≡ within (val_of value.now) }
 {
@@ -19,7 +25,7 @@ pub fn is_within_limits(value: &Value) -> bool
 }
 
 /// What a value leaves of a weight; none, if it weighs more or its lists stand deeper.
-#[cycle(limits)]
+#[inline]
 fn weight_left(value: &Value, depth: u32, weight: u32) -> Option<u32>
     ensures { SomeIff result ((weight_of (val_of value.now) ≤ weight) × (list_depth (val_of value.now) ≤ depth)) (weight - weight_of (val_of value.now)) }
 {
@@ -30,12 +36,21 @@ fn weight_left(value: &Value, depth: u32, weight: u32) -> Option<u32>
         Value::Text(text) | Value::Broken(text) => left.checked_sub(u32::try_from(
             text.as_str().len(),
         ).ok()?),
-        Value::List(items) => items_left(items.as_slice(), depth.checked_sub(1)?, left),
+        Value::List(items) => list_left(items, depth.checked_sub(1)?, left),
     }
 }
 
+/// What the items of a list leave of a weight; none, if they weigh more or their lists stand deeper.
+fn list_left(items: &Items, depth: u32, weight: u32) -> Option<u32>
+    ensures { SomeIff result ((weights items.now ≤ weight) × (deepest items.now ≤ depth)) (weight - weights items.now) }
+{
+    if items.depth() > depth {
+        return None;
+    }
+    weight.checked_sub(items.weight())
+}
+
 /// What items leave of a weight; none, if they weigh more or their lists stand deeper.
-#[cycle(limits)]
 pub(crate) fn items_left(items: &[Value], depth: u32, weight: u32) -> Option<u32>
     ensures { SomeIff result ((weights (vals_of items.now) ≤ weight) × (deepest (vals_of items.now) ≤ depth)) (weight - weights (vals_of items.now)) }
 {
@@ -44,4 +59,44 @@ pub(crate) fn items_left(items: &[Value], depth: u32, weight: u32) -> Option<u32
         left = weight_left(item, depth, left)?;
     }
     Some(left)
+}
+
+/// What a value weighs that stands in a list.
+pub(crate) fn item_weight(value: &Value) -> u32
+    requires { weight_of (val_of value.now) ≤ 65535 }
+    ensures { result ≡ weight_of (val_of value.now) }
+{
+    match value {
+        Value::Null | Value::Bool(_) | Value::Int(_) => 1,
+        Value::Object(_) | Value::Ejector(_) => 1,
+        Value::Text(text) | Value::Broken(text) => text.as_str().len() as u32 + 1,
+        Value::List(items) => items.weight() + 1,
+    }
+}
+
+/// How deep lists stand in a value.
+pub(crate) fn item_depth(value: &Value) -> u32
+    ensures depth { result ≡ list_depth (val_of value.now) }
+{
+    match value {
+        Value::List(items) => items.depth() + 1,
+        Value::Null
+        | Value::Bool(_)
+        | Value::Int(_)
+        | Value::Text(_)
+        | Value::Object(_)
+        | Value::Ejector(_)
+        | Value::Broken(_) => 0,
+    }
+}
+
+/// How deep lists stand in items.
+pub(crate) fn deepest_of(items: &[Value]) -> u32
+    ensures { result ≡ deepest (vals_of items.now) }
+{
+    let mut depth = 0;
+    for item in items {
+        depth = depth.max(item_depth(item));
+    }
+    depth
 }

@@ -1,5 +1,7 @@
 // The verbs of texts, and text literals.
 ghost use Rattle.std.specs.Prelude.{◌≡◌, ◌++◌, IfOk, Bool, count_by};
+ghost use Rattle.values.specs.Data.{text};
+ghost use Rattle.values.specs.Limits.{within_limits};
 ghost use Rattle.values.specs.Replies.{text_table, text_add as add_reply, text_size as size_reply, text_reply, begins_character};
 ghost use Rattle.values.specs.View.{val_of, vals_of, reply_of};
 
@@ -77,11 +79,18 @@ fn text_add(alloc: Global, text: &str, argument: &Value) -> Result<Answer, Alloc
 fn joined_text(alloc: Global, first: &str, second: &str) -> Result<Answer, AllocError>
     ensures { IfOk result (λ a. reply_of a ≡ text_reply (first.now ++ second.now)) }
 {
-    if first.len() > MOST_BYTES || second.len() > MOST_BYTES - first.len() {
+    if !fits_text(first, second) {
         return thrown(alloc, "value too large");
     }
     let mut both = String::with_capacity(alloc, first.len() + second.len())?;
     both.push_str(first)?;
     both.push_str(second)?;
     Ok(Answer::Gives(Value::Text(Text::from_string(both)?)))
+}
+
+/// Whether a text of the first and the second is not too large.
+pub(crate) fn fits_text(first: &str, second: &str) -> bool
+    ensures { result ≡ within_limits (text (first.now ++ second.now)) }
+{
+    first.len() <= MOST_BYTES && second.len() <= MOST_BYTES - first.len()
 }

@@ -1,12 +1,14 @@
-use Rattle.std.proofs.Common.{ap, ◌++◌, string_bytes, rules}
+use Rattle.std.proofs.Common.{◌≡◌, ◌+◌, ◌≤◌, ap, ◌++◌, string_bytes, rules, arith}
 use Rattle.ids.proofs.Quoting.{after_last}
-use Rattle.values.specs.View.{vals_of}
+use Rattle.values.specs.View.{val_of, vals_of}
+use Rattle.values.specs.Limits.{weight, weights}
 use Rattle.values.proofs.Views.{list_is}
 use Rattle.values.proofs.ShownItems.{shown_first, shown_step, shown_end, between_brackets}
+use Rattle.values.proofs.Weighing.{item_weighs}
 use Rattle.values.proofs.showing.+showing.Goals as goal
 
 pub write_value-returns-in-List : goal.write_value-returns-in-List
-write_value-returns-in-List t c = rw (list_is c.args.value.now c.in-List.items c.deref.result.now c.as_slice.result.now c.in-List.is c.deref.ensures c.as_slice.ensures.value) c.write_list.ensures
+write_value-returns-in-List t c = rw (list_is c.args.value.now c.in-List.items c.deref.result.now c.as_slice.result.now c.in-List.is c.deref.ensures c.as_slice.ensures) c.write_list.ensures
 
 pub write_list-loop-item-init : goal.write_list-loop-item-init
 write_list-loop-item-init t c = (ap (λ bs. string_bytes c.push_str.new.self ++ bs) (shown_first (vals_of c.args.items.now)), search rules)
@@ -23,3 +25,13 @@ write_list-returns t c =
 
 pub write_value-returns-in-Object : goal.write_value-returns-in-Object
 write_value-returns-in-Object t c = search rules
+
+pub write_value-write_list-requires : goal.write_value-write_list-requires
+write_value-write_list-requires t c =
+    let w : weight (val_of c.args.value.now) ≡ 1 + weights (vals_of c.as_slice.result.now) = ap weight (list_is c.args.value.now c.in-List.items c.deref.result.now c.as_slice.result.now c.in-List.is c.deref.ensures c.as_slice.ensures) in
+    (omega arith, tt)
+
+pub write_list-write_value-requires : goal.write_list-write_value-requires
+write_list-write_value-requires t c =
+    let w : weight (val_of c.item-item.result) ≤ weights (vals_of c.args.items.now) = item_weighs c.args.items.now c.loop-item.item-index c.item-item.result c.loop-item-test.true c.item-item.is in
+    (omega arith, tt)

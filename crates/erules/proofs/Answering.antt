@@ -1,0 +1,65 @@
+-- What is said of an answer, from what is said of the answers before it.
+use Rattle.std.proofs.Common.{◌≡◌, ℕ, List, subst, sym, ap, ◌∙◌}
+use Rattle.std.specs.Prelude.{Result, Ok, Err, IfOk, IsOkAnd}
+use Rattle.std.specs.declared.alloc.AllocError.{AllocError}
+use Rattle.ids.specs.declared.text.Text.{Text}
+use Rattle.values.specs.declared.value.Value.{Value}
+use Rattle.erules.specs.At.{At}
+use Rattle.erules.specs.Outcomes.{Halt, End, thrown, halt}
+use Rattle.erules.specs.Answered.{OnStop, OnAnswer, OnEnd}
+use Rattle.erules.specs.declared.end.Stop.{Stop}
+use Rattle.erules.specs.declared.end.Stop.TheVariants as stop
+use Rattle.erules.specs.declared.working.Working.{Working}
+
+-- less is said of a stop
+pub stop_weaker : (s : Stop) (w : Working) (P Q : Halt → At → Type 0) → ((h : Halt) (b : At) → P h b → Q h b) → OnStop s w P → OnStop s w Q
+stop_weaker stop.Memory w P Q f p = tt
+stop_weaker stop.Halted w P Q f p = f _ _ p
+
+-- less is said of an end
+pub ends_weaker : {A : Type 0} (r : Result A Stop) (v : Value) (w : Working) (P Q : End → At → Type 0) → ((o : End) (b : At) → P o b → Q o b) → OnEnd r v w P → OnEnd r v w Q
+ends_weaker (Ok u) v w P Q f p = f _ _ p
+ends_weaker (Err s) v w P Q f p = stop_weaker s w (λ h b. P (halt h) b) (λ h b. Q (halt h) b) (λ h b. f (halt h) b) p
+
+-- a stop is handed on, and less is said of it
+pub handed_on : {A : Type 0} {s : Stop} (r : Result A Stop) (v : Value) (w : Working) (P : Halt → At → Type 0) (Q : End → At → Type 0) → r ≡ Err s → ((h : Halt) (b : At) → P h b → Q (halt h) b) → OnStop s w P → OnEnd r v w Q
+handed_on {s = s} r v w P Q e f p = subst (λ r. OnEnd r v w Q) (sym e) (stop_weaker s w P (λ h b. Q (halt h) b) f p)
+
+-- without memory nothing is said
+pub no_memory : {A : Type 0} {s : Stop} (r : Result A Stop) (w : Working) (P : A → At → Type 0) (Q : Halt → At → Type 0) → r ≡ Err s → s ≡ stop.Memory → OnAnswer r w P Q
+no_memory r w P Q e f = subst (λ r. OnAnswer r w P Q) (sym e) (subst (λ s. OnStop s w Q) (sym f) tt)
+
+-- a halt by a problem that was made
+pub thrown_as : (made : Result Text AllocError) (o : End) (h : Halt) → IfOk made (λ t. halt (thrown t) ≡ o) → IsOkAnd made (λ t. h ≡ thrown t) → halt h ≡ o
+thrown_as (Ok t) o h p q = ap halt q ∙ p
+thrown_as (Err e) o h p q = absurd q
+
+-- an end that is known by an equation
+pub end_is : {A : Type 0} (r : Result A Stop) (v : Value) (w : Working) (x y : End) (z : At) → x ≡ y → OnEnd r v w (λ o b. (o ≡ x) × (b ≡ z)) → OnEnd r v w (λ o b. (o ≡ y) × (b ≡ z))
+end_is r v w x y z e p = subst (λ y. OnEnd r v w (λ o b. (o ≡ y) × (b ≡ z))) e p
+
+pub stop_is : (s : Stop) (w : Working) (x y : End) (z : At) → x ≡ y → OnStop s w (λ h b. (halt h ≡ x) × (b ≡ z)) → OnStop s w (λ h b. (halt h ≡ y) × (b ≡ z))
+stop_is s w x y z e p = subst (λ y. OnStop s w (λ h b. (halt h ≡ y) × (b ≡ z))) e p
+
+-- a problem is thrown
+pub thrown_end_is : (s : Stop) (w : Working) (t : List ℕ) (y : End) (z : At) → halt (thrown t) ≡ y → OnStop s w (λ h b. (h ≡ thrown t) × (b ≡ z)) → OnStop s w (λ h b. (halt h ≡ y) × (b ≡ z))
+thrown_end_is stop.Memory w t y z e p = tt
+thrown_end_is stop.Halted w t y z e p = (ap halt p.0 ∙ e, p.1)
+
+-- a problem that was made is thrown
+pub made_is : (s : Stop) (w : Working) (made : Result Text AllocError) (t : Text) (z : At) → made ≡ Ok t → OnStop s w (λ h b. (h ≡ thrown t) × (b ≡ z)) → OnStop s w (λ h b. IsOkAnd made (λ problem. h ≡ thrown problem) × (b ≡ z))
+made_is s w made t z e p = subst (λ m. OnStop s w (λ h b. IsOkAnd m (λ problem. h ≡ thrown problem) × (b ≡ z))) (sym e) p
+
+pub made_end_is : (s : Stop) (w : Working) (made : Result Text AllocError) (y : End) (z : At) → IfOk made (λ t. halt (thrown t) ≡ y) → OnStop s w (λ h b. IsOkAnd made (λ problem. h ≡ thrown problem) × (b ≡ z)) → OnStop s w (λ h b. (halt h ≡ y) × (b ≡ z))
+made_end_is stop.Memory w made y z e p = tt
+made_end_is stop.Halted w made y z e p = (thrown_as made y _ e p.0, p.1)
+
+-- a halt in place of what is wanted
+pub unwanted : {X : Type 0} (s : Stop) (w : Working) (f : End → X) (x : X) (y : End) (z : At) → x ≡ f y → OnStop s w (λ h b. (halt h ≡ y) × (b ≡ z)) → OnStop s w (λ h b. (x ≡ f (halt h)) × (b ≡ z))
+unwanted stop.Memory w f x y z e p = tt
+unwanted stop.Halted w f x y z e p = (e ∙ ap f (sym p.0), p.1)
+
+-- a problem in words
+pub in_words : (made : Result Text AllocError) (words : List ℕ) (y : End) → halt (thrown words) ≡ y → IfOk made (λ t. t ≡ words) → IfOk made (λ t. halt (thrown t) ≡ y)
+in_words (Ok t) words y e p = ap (λ s. halt (thrown s)) p ∙ e
+in_words (Err x) words y e p = tt
