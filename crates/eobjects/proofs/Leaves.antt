@@ -8,7 +8,8 @@ use Rattle.code.specs.declared.code.Code.{Code}
 use Rattle.code.specs.declared.code.Place.{Place}
 use Rattle.values.specs.Data.{Val, int, null, no_vals, and_val, gives}
 use Rattle.values.specs.Replies.{data_reply}
-use Rattle.heap.specs.State.{Bind, slot, lookup, frame_of, slot_cell, held, read}
+use Rattle.std.specs.Prelude.{IfSome}
+use Rattle.heap.specs.State.{Bind, fixed, slot, lookup, frame_of, slot_cell, held, read}
 use Rattle.erules.specs.At.{At}
 use Rattle.erules.specs.Fits.{all_fit_at, fits_at, frame_at, frame_behind}
 use Rattle.eobjects.specs.Leaves.{StandsAtHand, GivesAtHand, Leaf, Operands, AtHand, GoesOn}
@@ -130,3 +131,16 @@ none_done items a = (null, λ o c h. h)
 -- one more item gave a value
 pub setting_done : {k : ℕ} (items : List Code) {i : ℕ} {x : Code} {a b c : At} {v : Val} → i < length items → x ≡ get_or items i x → Ends k (tree_of_code x) b (value v) c → GoesOn k items i a b → GoesOn k items (i + 1) a c
 setting_done items {v = v} h e ended goes = (v, λ o d rest. goes.1 o d (items_more items h e ended rest))
+
+-- a noun that stands for a value is at hand
+pub fixed_at_hand : (x : Name) (v : Val) (a : At) → StandsAtHand x (fixed v) a → GivesAtHand x v a
+fixed_at_hand x v a h = (ap (noun_end a.state x) h.0, ap (λ m. slot_read (slot_in m) (seeking x a)) h.0 ∙ h.1)
+
+-- a noun at hand ends with its value where there is a step for it
+pub noun_ends : (a : At) (e : Code) (x : Name) (v : Val) (k : ℕ) → tree_of_code e ≡ noun x → GivesAtHand x v a → 0 < a.left → k ≤ 1000 → Ends k (tree_of_code e) a (value v) (record a { left = a.left - 1 })
+noun_ends a e x v k is h some deep = leaf_ends a (tree_of_code e) v k a.left (noun_leaf a e x v is h) some deep
+
+pub slot_ends : {X : Type 0} (r : Option X) (f : X → Val) (a : At) (e : Code) (x : Name) (i : SlotId) (k : ℕ) → tree_of_code e ≡ noun x → StandsAtHand x (slot i) a → IfSome r (λ v. a.touched (slot_cell i) ≡ true) → IfSome r (λ v. read a.state (slot_cell i) ≡ Some (held (f v))) → 0 < a.left → k ≤ 1000
+    → IfSome r (λ v. Ends k (tree_of_code e) a (value (f v)) (record a { left = a.left - 1 }))
+slot_ends (Some y) f a e x i k is h touched here some deep = noun_ends a e x (f y) k is (slot_at_hand x i (f y) a h touched here) some deep
+slot_ends None f a e x i k is h touched here some deep = tt

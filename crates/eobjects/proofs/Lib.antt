@@ -5,3 +5,5 @@ mod Leaves
 mod Drafted
 mod Ending
 mod Sent
+mod Missing
+mod Targets

@@ -1,10 +1,10 @@
 // Calls: what they lead to, and how a method is entered and left.
-ghost use Rattle.std.specs.Prelude.{◌≡◌, [], IfOk};
+ghost use Rattle.std.specs.Prelude.{◌≡◌, []};
 ghost use Rattle.values.specs.View.{val_of, vals_of};
-ghost use Rattle.erules.specs.Rules.{callee_of, callee_target, callee_read, target_of, called, inside};
+ghost use Rattle.erules.specs.Rules.{callee_of, callee_target, callee_read, inside};
 ghost use Rattle.erules.specs.Locals.{locals_of};
-ghost use Rattle.erules.specs.View.{at, gather_of};
-ghost use Rattle.eobjects.specs.View.{callee_view, target_view};
+ghost use Rattle.erules.specs.View.{at};
+ghost use Rattle.eobjects.specs.View.{callee_view, OnTarget};
 
 use crate::objects::object_target;
 use erules::end::Stop;
@@ -42,7 +42,7 @@ pub fn call_target(
     into: &mut Value,
 ) -> Result<Option<Entry>, Stop>
     ensures { OnTarget result into.new w.new (λ t b. (t
-        ≡ callee_target (callee_of (val_of receiver.now)) (val_of receiver.now) verb.now (vals_of args.now) (at w.old))
+        ≡ callee_target (callee_of (val_of receiver.now)) (val_of receiver.now) verb.now (vals_of args.old) (at w.old))
         × (b ≡ callee_read (callee_of (val_of receiver.now)) (at w.old))) }
 {
     match called_on(receiver) {

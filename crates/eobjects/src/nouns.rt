@@ -17,7 +17,7 @@ ghost use Rattle.erules.specs.View.{at};
 
 use code::code::Place;
 use erules::end::{Abandon, Stop};
-use erules::halting::{abandon, throw};
+use erules::halting::{abandon, throw_made};
 use erules::local::Local;
 use erules::wanted::mismatch;
 use erules::working::Working;
@@ -75,10 +75,8 @@ fn read_slot(w: &mut Working, slot: SlotId, name: &Text, into: &mut Value) -> Re
 pub(crate) fn undefined(w: &mut Working, name: &Text) -> Stop
     ensures { OnStop result w.new (λ h b. (halt_end h ≡ undefined_noun name.now) × (b ≡ at w.old)) }
 {
-    match undefined_problem(w.alloc, name) {
-        Ok(problem) => throw(w, problem),
-        Err(AllocError) => Stop::Memory,
-    }
+    let problem = undefined_problem(w.alloc, name);
+    throw_made(w, problem)
 }
 
 fn undefined_problem(alloc: Global, name: &Text) -> Result<Text, AllocError>

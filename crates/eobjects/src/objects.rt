@@ -1,5 +1,5 @@
 // Objects: what they capture, how they are made, and how a call finds a method.
-ghost use Rattle.std.specs.Prelude.{◌≡◌, [], ◌∷◌, ◌++◌, IfOk, OnOk, length};
+ghost use Rattle.std.specs.Prelude.{◌≡◌, [], ◌∷◌, ◌++◌, IfNone, IfOk, OnOk, length};
 ghost use Rattle.std.specs.Option.{option_copied};
 ghost use Rattle.code.specs.Frames.{only_names, captured_names_of, all_placed, fits_methods};
 ghost use Rattle.code.specs.Index.{Indexes, index_in, index_fits};
@@ -7,18 +7,21 @@ ghost use Rattle.heap.specs.Names.{names_of};
 ghost use Rattle.erules.specs.Fits.{frame_at, FindsMethod};
 ghost use Rattle.scopes.specs.Free.{captures as captures_of};
 ghost use Rattle.scopes.specs.Scope.{name_of};
+ghost use Rattle.kernele.specs.Tree.{Name};
 ghost use Rattle.code.specs.View.{methods_of_codes};
 ghost use Rattle.values.specs.Data.{object as object_value};
 ghost use Rattle.values.specs.View.{val_of, vals_of};
 ghost use Rattle.heap.specs.State.{object_cell, read};
-ghost use Rattle.erules.specs.Rules.{reached, captured, all_captured, all_sought, capture_of, capturing, has_object_room, placed, placed_end};
-ghost use Rattle.erules.specs.Rules.{with_object, object_end, named, named_all, method_in};
+ghost use Rattle.erules.specs.Outcomes.{halt as halt_end};
+ghost use Rattle.erules.specs.Answered.{OnAnswer, OnEnd};
+ghost use Rattle.erules.specs.Rules.{reached, captured, missing, all_captured, all_sought, capture_of, capturing, has_object_room, placed, placed_end};
+ghost use Rattle.erules.specs.Rules.{with_object, object_end, named, named_all, method_in, gives, undefined_noun, no_such_method as no_such_method_end};
 ghost use Rattle.erules.specs.Rules.{method_target as method_target_of, object_target as object_target_of};
 ghost use Rattle.heap.specs.View.{bind_of, nouns_of, object_of};
 ghost use Rattle.heap.specs.Drafts.{draft_of};
 ghost use Rattle.erules.specs.Locals.{locals_of};
-ghost use Rattle.erules.specs.View.{at, end_of};
-ghost use Rattle.eobjects.specs.View.{capture_view, target_view};
+ghost use Rattle.erules.specs.View.{at};
+ghost use Rattle.eobjects.specs.View.{entered_or, OnTarget};
 
 use crate::calls::empty_frame;
 use crate::nouns::{match_pattern, reach_name, seek, undefined};
@@ -72,8 +75,12 @@ pub fn define_object(
 /// throws.
 fn capture_all(w: &mut Working, captures: &[CaptureCode]) -> Result<Vec<Noun>, Stop>
     requires { all_placed (frame_at (at w.old)) captures.now }
-    ensures { OnCapture result w.new (λ c b. (c ≡ all_captured (captured []) (captured_names_of captures.now) (at w.old))
-        × (b ≡ all_sought (captured []) (captured_names_of captures.now) (at w.old))) }
+    ensures { OnAnswer result w.new
+        (λ ns b. (captured (nouns_of ns.items) ≡ all_captured (captured []) (captured_names_of captures.now) (at w.old))
+            × (b ≡ all_sought (captured []) (captured_names_of captures.now) (at w.old)))
+        (λ h b. (x : Name) × (missing x ≡ all_captured (captured []) (captured_names_of captures.now) (at w.old))
+            × (halt_end h ≡ undefined_noun x)
+            × (b ≡ all_sought (captured []) (captured_names_of captures.now) (at w.old))) }
 {
     let mut nouns = Vec::with_capacity(w.alloc, captures.len())?;
     let mut rest = captures;
@@ -155,19 +162,39 @@ pub(crate) fn object_target(
     into: &mut Value,
 ) -> Result<Option<Entry>, Stop>
     ensures { OnTarget result into.new w.new (λ t b. (t
-        ≡ object_target_of id (read (draft_of w.old.draft) (object_cell id)) verb.now (vals_of args.now))
+        ≡ object_target_of id (read (draft_of w.old.draft) (object_cell id)) verb.now (vals_of args.old))
         × (b ≡ reached (object_cell id) (at w.old))) }
 {
     w.draft.reach_object(id)?;
     let frame = empty_frame(w);
-    let found = match w.draft.object(id) {
-        Some(object) => method_entry(frame, id, object, verb, args)?,
-        None => None,
-    };
-    if found.is_none() {
-        no_such_method(w, verb, args, into)?;
+    let entry = object_entry(w, frame, id, verb, args)?;
+    match entry {
+        Some(entry) => Ok(Some(entry)),
+        None => {
+            no_such_method(w, verb, args, into)?;
+            Ok(None)
+        }
     }
-    Ok(found)
+}
+
+/// The method that a call on an object enters, if it enters one.
+#[inline(always)]
+fn object_entry(
+    w: &Working,
+    frame: Vec<Local>,
+    id: ObjId,
+    verb: &Verb,
+    args: &mut [Value],
+) -> Result<Option<Entry>, AllocError>
+    requires { frame.items ≡ [] }
+    ensures entry { IfOk result (λ e. entered_or (gives (no_such_method_end verb.now (vals_of args.old))) e
+        ≡ object_target_of id (read (draft_of w.now.draft) (object_cell id)) verb.now (vals_of args.old)) }
+    ensures kept { IfOk result (λ e. IfNone e (args.new ≡ args.old)) }
+{
+    match w.draft.object(id) {
+        Some(object) => method_entry(frame, id, object, verb, args),
+        None => Ok(None),
+    }
 }
 
 /// The method that a call on this object enters, with the names that it begins with, in an empty frame.
@@ -179,6 +206,10 @@ fn method_entry(
     args: &mut [Value],
 ) -> Result<Option<Entry>, AllocError>
     requires { frame.items ≡ [] }
+    ensures entry { IfOk result (λ e. entered_or (gives (no_such_method_end verb.now (vals_of args.old))) e
+        ≡ method_target_of id (object_of object.now) verb.now (vals_of args.old)
+        (method_in (methods_of_codes object.now.methods.value.items) verb.now (vals_of args.old))) }
+    ensures kept { IfOk result (λ e. IfNone e (args.new ≡ args.old)) }
 {
     match find_method(object, verb, args)? {
         Some(method) => {
@@ -253,14 +284,10 @@ fn method_nouns(
         (named object.now.own (object_value id) (nouns_of object.now.captured.value.items))) }
 {
     let mut nouns = copied(frame, object.captured.as_slice())?;
-    if let Pattern::Name(name) = &object.own {
-        add_local(&mut nouns, name, Binding::Fixed(Value::Object(id)))?;
-    }
+    name_value(&mut nouns, &object.own, Value::Object(id))?;
     for i in 0..parameters.len() {
-        if let Pattern::Name(name) = &parameters[i] {
-            let value = mem::replace(&mut args[i], Value::Null);
-            add_local(&mut nouns, name, Binding::Fixed(value))?;
-        }
+        let value = mem::replace(&mut args[i], Value::Null);
+        name_value(&mut nouns, &parameters[i], value)?;
     }
     Ok(nouns)
 }
@@ -274,6 +301,17 @@ fn copied(mut frame: Vec<Local>, nouns: &[Noun]) -> Result<Vec<Local>, AllocErro
         add_local(&mut frame, &noun.name, noun.binding.share()?)?;
     }
     Ok(frame)
+}
+
+/// Adds what a pattern names.
+#[inline(always)]
+fn name_value(nouns: &mut Vec<Local>, pattern: &Pattern, value: Value) -> Result<(), AllocError>
+    ensures { OnOk result (locals_of nouns.new.items ≡ named pattern.now (val_of value) (locals_of nouns.old.items)) }
+{
+    match pattern {
+        Pattern::Name(name) => add_local(nouns, name, Binding::Fixed(value)),
+        Pattern::Ignore => Ok(()),
+    }
 }
 
 /// Adds a newer name to a frame.

@@ -1,6 +1,6 @@
 // What integers at hand, in literals and nouns, make possible without an end: they share, make and leave nothing.
 // A noun is at hand where the cells that it stands in were touched before: then nothing more is touched.
-ghost use Rattle.std.specs.Prelude.{◌≡◌, ◌≤◌, ◌-◌, IfOk, IfSome, drop, length};
+ghost use Rattle.std.specs.Prelude.{◌≡◌, ◌≤◌, ◌-◌, IfOk, IfSome, OnOk, drop, length};
 ghost use Rattle.kernele.specs.Tree.{call};
 ghost use Rattle.code.specs.View.{tree_of_code, trees_of_codes};
 ghost use Rattle.code.specs.Frames.{fits_all, place_in};
@@ -92,12 +92,12 @@ pub fn quick_setting(w: &Working, item: &Code, level: u32) -> Option<Setting>
     }
 }
 
-/// Assigns, in four steps. Gives the integer as a value.
+/// Assigns, in four steps, and puts the integer into a place.
 #[inline(always)]
 pub fn set(w: &mut Working, setting: Setting, into: &mut Value) -> Result<(), AllocError>
     requires { 4 ≤ w.old.steps }
-    ensures value { IfOk result (λ v. val_of v ≡ int setting.integer) }
-    ensures place { IfOk result (λ v. at w.new
+    ensures value { OnOk result (val_of into.new ≡ int setting.integer) }
+    ensures place { OnOk result (at w.new
         ≡ record (put (slot_cell setting.slot) (held (int setting.integer)) (at w.old)) { left = w.old.steps - 4 }) }
 {
     w.draft

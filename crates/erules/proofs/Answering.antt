@@ -1,6 +1,6 @@
 -- What is said of an answer, from what is said of the answers before it.
 use Rattle.std.proofs.Common.{◌≡◌, ℕ, List, subst, sym, ap, ◌∙◌}
-use Rattle.std.specs.Prelude.{Result, Ok, Err, IfOk, IsOkAnd}
+use Rattle.std.specs.Prelude.{Result, Ok, Err, IfOk, IsOkAnd, IsErrAnd}
 use Rattle.std.specs.declared.alloc.AllocError.{AllocError}
 use Rattle.ids.specs.declared.text.Text.{Text}
 use Rattle.values.specs.declared.value.Value.{Value}
@@ -22,8 +22,9 @@ ends_weaker (Ok u) v w P Q f p = f _ _ p
 ends_weaker (Err s) v w P Q f p = stop_weaker s w (λ h b. P (halt h) b) (λ h b. Q (halt h) b) (λ h b. f (halt h) b) p
 
 -- a stop is handed on, and less is said of it
-pub handed_on : {A : Type 0} {s : Stop} (r : Result A Stop) (v : Value) (w : Working) (P : Halt → At → Type 0) (Q : End → At → Type 0) → r ≡ Err s → ((h : Halt) (b : At) → P h b → Q (halt h) b) → OnStop s w P → OnEnd r v w Q
-handed_on {s = s} r v w P Q e f p = subst (λ r. OnEnd r v w Q) (sym e) (stop_weaker s w P (λ h b. Q (halt h) b) f p)
+pub handed_on : {A : Type 0} (r : Result A Stop) (s : Stop) (w : Working) (G : A → At → Type 0) (P Q : Halt → At → Type 0) → IsErrAnd r (λ t. t ≡ s) → ((h : Halt) (b : At) → P h b → Q h b) → OnStop s w P → OnAnswer r w G Q
+handed_on (Err t) s w G P Q e f p = stop_weaker t w P Q f (subst (λ s. OnStop s w P) (sym e) p)
+handed_on (Ok x) s w G P Q e f p = absurd e
 
 -- without memory nothing is said
 pub no_memory : {A : Type 0} {s : Stop} (r : Result A Stop) (w : Working) (P : A → At → Type 0) (Q : Halt → At → Type 0) → r ≡ Err s → s ≡ stop.Memory → OnAnswer r w P Q
@@ -63,3 +64,15 @@ unwanted stop.Halted w f x y z e p = (e ∙ ap f (sym p.0), p.1)
 pub in_words : (made : Result Text AllocError) (words : List ℕ) (y : End) → halt (thrown words) ≡ y → IfOk made (λ t. t ≡ words) → IfOk made (λ t. halt (thrown t) ≡ y)
 in_words (Ok t) words y e p = ap (λ s. halt (thrown s)) p ∙ e
 in_words (Err x) words y e p = tt
+
+-- the same, and of where it stands
+pub end_to : {A : Type 0} (r : Result A Stop) (v : Value) (w : Working) (x y : End) (z u : At) → x ≡ y → z ≡ u → OnEnd r v w (λ o b. (o ≡ x) × (b ≡ z)) → OnEnd r v w (λ o b. (o ≡ y) × (b ≡ u))
+end_to r v w x y z u e f p = subst (λ y. OnEnd r v w (λ o b. (o ≡ y) × (b ≡ u))) e (subst (λ u. OnEnd r v w (λ o b. (o ≡ x) × (b ≡ u))) f p)
+
+pub stop_to : (s : Stop) (w : Working) (x y : End) (z u : At) → x ≡ y → z ≡ u → OnStop s w (λ h b. (halt h ≡ x) × (b ≡ z)) → OnStop s w (λ h b. (halt h ≡ y) × (b ≡ u))
+stop_to s w x y z u e f p = subst (λ y. OnStop s w (λ h b. (halt h ≡ y) × (b ≡ u))) e (subst (λ u. OnStop s w (λ h b. (halt h ≡ x) × (b ≡ u))) f p)
+
+-- a halt that is known, as an end
+pub halt_to : (s : Stop) (w : Working) (x : Halt) (y : End) (z u : At) → halt x ≡ y → z ≡ u → OnStop s w (λ h b. (h ≡ x) × (b ≡ z)) → OnStop s w (λ h b. (halt h ≡ y) × (b ≡ u))
+halt_to stop.Memory w x y z u e f p = tt
+halt_to stop.Halted w x y z u e f p = (ap halt p.0 ∙ e, p.1 ∙ f)

@@ -73,20 +73,15 @@ method_other rest others m verb vs e p q =
     sym (ap (λ ms. method_in (methods_of_codes ms) verb (vals_of vs)) e
     ∙ (λ i. cond (p i && as_many-false m.parameters.value.items vs q i) (Some (m.parameters.value.items, trees_of_codes m.body.value.items)) (method_in (methods_of_codes others) verb (vals_of vs))))
 
--- what is made of what is captured, where names were sought for it
-pub object_by : {X E : Type 0} (r : Result X E) (p : Pattern) (ms : Methods) (c d : Capture) (a b z : At) → c ≡ d → a ≡ b → IfOk r (λ x. z ≡ with_object p ms c a) → IfOk r (λ x. z ≡ with_object p ms d b)
-object_by r p ms c d a b z q e h = subst (λ m. IfOk r (λ x. z ≡ with_object p ms m b)) q (subst (λ y. IfOk r (λ x. z ≡ with_object p ms c y)) e h)
-
 placed_ends : (room : Bool) (a : At) (q : Cells) → placed_end room (record a { touched = q }) ≡ placed_end room a
 placed_ends true a q = refl
 placed_ends false a q = refl
 
--- and it ends so
-pub object_ends : {X E : Type 0} (r : Result X E) (f : X → End) (p : Pattern) (ms : Methods) (ns : Nouns) (d : Capture) (a b : At) → captured ns ≡ d → b ≡ capturing p ms a → IfOk r (λ x. f x ≡ placed_end (has_object_room b) b) → IfOk r (λ x. f x ≡ object_end d a)
-object_ends r f p ms ns d a b q e h =
+-- what is made of what is captured ends so
+pub object_ends : (p : Pattern) (ms : Methods) (ns : Nouns) (d : Capture) (a b : At) → captured ns ≡ d → b ≡ capturing p ms a → placed_end (has_object_room b) b ≡ object_end d a
+object_ends p ms ns d a b q e =
     let reads : b ≡ record a { touched = (capturing p ms a).touched } = e ∙ captures_read (captured []) (captures p ms) a in
-    subst (λ m. IfOk r (λ x. f x ≡ object_end m a)) q
-    (subst (λ o. IfOk r (λ x. f x ≡ o)) (ap (λ (z : At). placed_end (has_object_room z) z) reads ∙ placed_ends (has_object_room a) a (capturing p ms a).touched) h)
+    ap (λ (z : At). placed_end (has_object_room z) z) reads ∙ placed_ends (has_object_room a) a (capturing p ms a).touched ∙ ap (λ m. object_end m a) q
 
 -- ---- the loops
 

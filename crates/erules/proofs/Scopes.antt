@@ -1,5 +1,5 @@
 -- On the names of scopes, of which the program pushes the newest at the end.
-use Rattle.std.proofs.Common.{◌≡◌, ℕ, ◌+◌, ◌<◌, ltb, arith, List, [], ◌∷◌, ◌++◌, length, take, drop, length-append, length-drop, append_assoc, Some, None, true, false, refl, sym, ap, ◌∙◌}
+use Rattle.std.proofs.Common.{◌≡◌, ℕ, ◌+◌, ◌<◌, ◌≤◌, ltb, arith, List, [], ◌∷◌, ◌++◌, length, take, drop, length-append, length-drop, append_assoc, Some, None, true, false, refl, sym, ap, ◌∙◌}
 use Rattle.std.specs.Prelude.{Result, Ok, Err, IfOk}
 use Rattle.std.proofs.lemmas.List.{take-append-drop, length-take-le}
 use Rattle.std.proofs.lemmas.Bool.Decides.{nat_tests}
@@ -45,6 +45,9 @@ assigned_nowhere x v a b h g = g ∙ sym (ap (λ m. slot_put v m (seeking x a)) 
 
 pub room : (n : ℕ) → n < 4096 → ltb n 4096 ≡ true
 room n h = grind (arith, nat_tests)
+
+pub no_room : (n : ℕ) → 4096 ≤ n → ltb n 4096 ≡ false
+no_room n h = grind (arith, nat_tests)
 
 -- a variable for whose slot there is room
 pub declared_there : (x : Name) (v w : Val) (i : SlotId) (a b c : At) → a.slots < 4096 → w ≡ v → i ≡ next_slot a → b ≡ slot_made w a → c ≡ binding x (slot i) b → c ≡ declared x (value v) a

@@ -1,11 +1,24 @@
-use Rattle.erules.specs.View.{at}
+use Rattle.std.proofs.Common.{ap, ◌∙◌}
+use Rattle.std.specs.Prelude.{codes}
 use Rattle.values.specs.View.{val_of}
-use Rattle.erules.proofs.Patterns.{none_bound}
-use Rattle.erules.proofs.Scopes.{if_any}
+use Rattle.erules.specs.Outcomes.{value}
+use Rattle.erules.specs.Rules.{listing_by, parts_bound, parts_end}
+use Rattle.erules.specs.View.{at}
+use Rattle.erules.proofs.Answering.{stop_to}
 use Rattle.eobjects.proofs.nouns.bind_parts.Goals as goal
 
 pub match_all-requires : goal.match_all-requires
 match_all-requires c = c.in-Some.ensures.count
 
-pub returns-in-None-clause-binds : goal.returns-in-None-clause-binds
-returns-in-None-clause-binds c = if_any c.mismatch.result (none_bound _ c.args.patterns.now (val_of c.args.value) (at c.args.w.now) c.in-None.ensures.items)
+pub returns-in_ok-match_all-in-Some : goal.returns-in_ok-match_all-in-Some
+returns-in_ok-match_all-in-Some c =
+    let v = val_of c.args.value.now in (
+      ap (λ m. parts_end (value v) (listing_by (codes "wrong list") v m)) c.in-Some.ensures.items,
+      c.in_ok-match_all-in-Some.ensures ∙ ap (λ m. parts_bound c.args.patterns.now (listing_by (codes "wrong list") v m) (at c.args.w.now)) c.in-Some.ensures.items,
+    )
+
+pub returns-in-None : goal.returns-in-None
+returns-in-None c =
+    let v = val_of c.args.value.now in
+    stop_to c.mismatch.result c.mismatch.new.w _ _ _ _ (ap (λ m. parts_end (value v) (listing_by (codes "wrong list") v m)) c.in-None.ensures.items)
+    (ap (λ m. parts_bound c.args.patterns.now (listing_by (codes "wrong list") v m) (at c.args.w.now)) c.in-None.ensures.items) c.mismatch.ensures

@@ -1,4 +1,4 @@
-use Rattle.std.proofs.Common.{sym, subst, ◌∙◌, []}
+use Rattle.std.proofs.Common.{refl, sym, subst, ◌∙◌, []}
 use Rattle.code.specs.Frames.{captured_names_of, all_placed}
 use Rattle.heap.specs.View.{bind_of, nouns_of}
 use Rattle.erules.specs.Fits.{frame_at}
@@ -6,6 +6,7 @@ use Rattle.erules.specs.Rules.{captured, all_captured, all_sought}
 use Rattle.erules.specs.View.{at}
 use Rattle.erules.proofs.Captures.{Captures, capture_ends, capture_goes, capture_done}
 use Rattle.erules.proofs.Seeking.{sought_again, frame_again}
+use Rattle.eobjects.proofs.Missing.{missing_here}
 use Rattle.eobjects.proofs.objects.capture_all.Goals as goal
 
 pub returns-in-None : goal.returns-in-None
@@ -18,8 +19,8 @@ returns-in-None c =
     let a = at c.loop-first.w in
     let b = at c.reach_name.new.w in
     let before = subst (λ cs. Captures (captured ns) (captured_names_of cs) a all z) c.in-Some.ensures.cases.0 c.loop-first.invariant.0 in
-    let ends = capture_ends ns x _ (captured_names_of c.in-Some.others.now) a b all z (c.in-None.ensures ∙ sought_again x a b c.in_ok-reach_name.ensures) c.in_ok-share-in-None.ensures c.in_ok-reach_name.ensures before in
-    record { captures = ends.0; reads = ends.1 }
+    let ends = capture_ends ns x x (captured_names_of c.in-Some.others.now) a b all z (c.in-None.ensures ∙ sought_again x a b c.in_ok-reach_name.ensures) refl c.in_ok-reach_name.ensures before in
+    missing_here c.undefined.result c.undefined.new.w x all b z ends.0 ends.1 c.undefined.ensures
 
 pub loop-first-preserved : goal.loop-first-preserved
 loop-first-preserved c =
@@ -36,8 +37,5 @@ loop-first-preserved c =
       subst (λ f. all_placed f c.in-Some.others.now) (sym (frame_again x a b c.in_ok-reach_name.ensures)) (subst (all_placed (frame_at a)) c.in-Some.ensures.cases.0 c.loop-first.invariant.1).1,
     )
 
-pub returns-clause-captures : goal.returns-clause-captures
-returns-clause-captures c = (capture_done _ _ c.loop-first.rest.now (at c.loop-first.w) c.in_default.ensures.cases c.loop-first.invariant.0).0
-
-pub returns-clause-reads : goal.returns-clause-reads
-returns-clause-reads c = (capture_done _ _ c.loop-first.rest.now (at c.loop-first.w) c.in_default.ensures.cases c.loop-first.invariant.0).1
+pub returns : goal.returns
+returns c = capture_done _ _ c.loop-first.rest.now (at c.loop-first.w) c.in_default.ensures.cases c.loop-first.invariant.0

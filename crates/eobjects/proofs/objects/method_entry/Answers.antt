@@ -1,4 +1,4 @@
-use Rattle.std.proofs.Common.{ap, subst, ◌++◌}
+use Rattle.std.proofs.Common.{ap, subst, sym, ◌∙◌, ◌++◌}
 use Rattle.std.specs.Option.{option_copied}
 use Rattle.code.specs.Frames.{only_names}
 use Rattle.scopes.specs.Scope.{name_of}
@@ -7,7 +7,7 @@ use Rattle.heap.specs.Names.{names_of}
 use Rattle.erules.specs.Fits.{FindsMethod}
 use Rattle.erules.proofs.Fitting.{method_fits}
 use Rattle.erules.proofs.Steps.{slice_of}
-use Rattle.eobjects.proofs.objects.method_target.Goals as goal
+use Rattle.eobjects.proofs.objects.method_entry.Goals as goal
 
 pub invariant_of-result : goal.invariant_of-result
 invariant_of-result c =
