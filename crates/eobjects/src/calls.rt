@@ -104,7 +104,8 @@ pub(crate) fn empty_frame(w: &mut Working) -> Vec<Local>
 
 /// Goes back to the caller's names, and keeps the method's frame for another one.
 pub fn leave_method(w: &mut Working, caller: Caller)
-    ensures { at w.new ≡ record (at w.old) { nouns = locals_of caller.nouns.items; own_scope = caller.own_scope } }
+    ensures place { at w.new ≡ record (at w.old) { nouns = locals_of caller.nouns.items; own_scope = caller.own_scope } }
+    ensures halt { w.new.halt ≡ w.old.halt }
 {
     let mut frame = mem::replace(&mut w.nouns, caller.nouns);
     w.own_scope = caller.own_scope;

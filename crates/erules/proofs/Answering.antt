@@ -5,10 +5,12 @@ use Rattle.std.specs.declared.alloc.AllocError.{AllocError}
 use Rattle.ids.specs.declared.text.Text.{Text}
 use Rattle.values.specs.declared.value.Value.{Value}
 use Rattle.erules.specs.At.{At}
-use Rattle.erules.specs.Outcomes.{Halt, End, thrown, halt}
+use Rattle.values.specs.View.{val_of}
+use Rattle.erules.specs.Outcomes.{Halt, End, thrown, value, halt}
 use Rattle.erules.specs.Answered.{OnStop, OnAnswer, OnEnd}
 use Rattle.erules.specs.declared.end.Stop.{Stop}
 use Rattle.erules.specs.declared.end.Stop.TheVariants as stop
+use Rattle.erules.specs.View.{at, halt_of}
 use Rattle.erules.specs.declared.working.Working.{Working}
 
 -- less is said of a stop
@@ -17,14 +19,14 @@ stop_weaker stop.Memory w P Q f p = tt
 stop_weaker stop.Halted w P Q f p = f _ _ p
 
 -- less is said of an end
-pub ends_weaker : {A : Type 0} (r : Result A Stop) (v : Value) (w : Working) (P Q : End → At → Type 0) → ((o : End) (b : At) → P o b → Q o b) → OnEnd r v w P → OnEnd r v w Q
-ends_weaker (Ok u) v w P Q f p = f _ _ p
-ends_weaker (Err s) v w P Q f p = stop_weaker s w (λ h b. P (halt h) b) (λ h b. Q (halt h) b) (λ h b. f (halt h) b) p
+pub ends_weaker : {A : Type 0} (r : Result A Stop) (v : Value) (w : Working) (P Q : End → At → Type 0) → OnEnd r v w P → ((o : End) (b : At) → P o b → Q o b) → OnEnd r v w Q
+ends_weaker (Ok u) v w P Q p f = f _ _ p
+ends_weaker (Err s) v w P Q p f = stop_weaker s w (λ h b. P (halt h) b) (λ h b. Q (halt h) b) (λ h b. f (halt h) b) p
 
 -- a stop is handed on, and less is said of it
-pub handed_on : {A : Type 0} (r : Result A Stop) (s : Stop) (w : Working) (G : A → At → Type 0) (P Q : Halt → At → Type 0) → IsErrAnd r (λ t. t ≡ s) → ((h : Halt) (b : At) → P h b → Q h b) → OnStop s w P → OnAnswer r w G Q
-handed_on (Err t) s w G P Q e f p = stop_weaker t w P Q f (subst (λ s. OnStop s w P) (sym e) p)
-handed_on (Ok x) s w G P Q e f p = absurd e
+pub handed_on : {A : Type 0} (r : Result A Stop) (s : Stop) (w : Working) (G : A → At → Type 0) (P Q : Halt → At → Type 0) → IsErrAnd r (λ t. t ≡ s) → OnStop s w P → ((h : Halt) (b : At) → P h b → Q h b) → OnAnswer r w G Q
+handed_on (Err t) s w G P Q e p f = stop_weaker t w P Q f (subst (λ s. OnStop s w P) (sym e) p)
+handed_on (Ok x) s w G P Q e p f = absurd e
 
 -- without memory nothing is said
 pub no_memory : {A : Type 0} {s : Stop} (r : Result A Stop) (w : Working) (P : A → At → Type 0) (Q : Halt → At → Type 0) → r ≡ Err s → s ≡ stop.Memory → OnAnswer r w P Q
@@ -76,3 +78,17 @@ stop_to s w x y z u e f p = subst (λ y. OnStop s w (λ h b. (halt h ≡ y) × (
 pub halt_to : (s : Stop) (w : Working) (x : Halt) (y : End) (z u : At) → halt x ≡ y → z ≡ u → OnStop s w (λ h b. (h ≡ x) × (b ≡ z)) → OnStop s w (λ h b. (halt h ≡ y) × (b ≡ u))
 halt_to stop.Memory w x y z u e f p = tt
 halt_to stop.Halted w x y z u e f p = (ap halt p.0 ∙ e, p.1 ∙ f)
+
+-- the same where the turn went on, and kept its halt
+pub ends_over : {A : Type 0} (r : Result A Stop) (v : Value) (w u : Working) (P Q : End → At → Type 0) → u.halt ≡ w.halt → OnEnd r v w P → ((o : End) → P o (at w) → Q o (at u)) → OnEnd r v u Q
+ends_over (Ok x) v w u P Q e p f = f _ p
+ends_over (Err stop.Memory) v w u P Q e p f = tt
+ends_over (Err stop.Halted) v w u P Q e p f = subst (λ h. Q (halt (halt_of h)) (at u)) (sym e) (f _ p)
+
+-- an evaluation stops as a part of it did
+pub ends_on : {A : Type 0} (r : Result A Stop) (s : Stop) (v : Value) (w : Working) (P Q : End → At → Type 0) → IsErrAnd r (λ t. t ≡ s) → OnStop s w (λ h b. P (halt h) b) → ((h : Halt) (b : At) → P (halt h) b → Q (halt h) b) → OnEnd r v w Q
+ends_on r s v w P Q e p f = handed_on r s w (λ u b. Q (value (val_of v)) b) (λ h b. P (halt h) b) (λ h b. Q (halt h) b) e p f
+
+-- what is said of a halt
+pub of_halted : (s : Stop) (w : Working) (Q : Halt → At → Type 0) → s ≡ stop.Halted → OnStop s w Q → Q (halt_of w.halt) (at w)
+of_halted s w Q e p = subst (λ s. OnStop s w Q) e p

@@ -30,7 +30,8 @@ pub fn enter(w: &mut Working) -> Outer
 
 /// Ends a block's scope.
 pub fn leave(w: &mut Working, outer: Outer)
-    ensures { at w.new ≡ record (at w.old) { nouns = locals_of (take outer.names w.old.nouns.items); own_scope = outer.own_scope } }
+    ensures place { at w.new ≡ record (at w.old) { nouns = locals_of (take outer.names w.old.nouns.items); own_scope = outer.own_scope } }
+    ensures halt { w.new.halt ≡ w.old.halt }
 {
     w.nouns.truncate(outer.names);
     w.own_scope = outer.own_scope;

@@ -5,7 +5,7 @@ ghost use Rattle.values.specs.View.{val_of, vals_of};
 ghost use Rattle.erules.specs.Answered.{OnEnd, OnStop};
 ghost use Rattle.erules.specs.Outcomes.{halt};
 ghost use Rattle.erules.specs.Rules.{next_ejector, escaping, escape_end as escape_end_of, is_open as is_open_of, ejects, given as given_of, ejector_end as ejector_end_of};
-ghost use Rattle.erules.specs.View.{at, opened_of};
+ghost use Rattle.erules.specs.View.{at, halt_of, opened_of};
 
 use crate::end::{Halt, Stop};
 use crate::halting::throw_made;
@@ -32,34 +32,26 @@ pub fn open_escape(w: &mut Working) -> Result<EjId, AllocError>
 
 /// Ends the Escapes that were begun since there were so many: their ejectors are spent.
 pub fn close_escape(w: &mut Working, outer: usize)
-    ensures { at w.new ≡ record (at w.old) { opened = opened_of (take outer w.old.opened.items) } }
+    ensures place { at w.new ≡ record (at w.old) { opened = opened_of (take outer w.old.opened.items) } }
+    ensures halt { w.new.halt ≡ w.old.halt }
 {
     w.opened.truncate(outer);
 }
 
-/// How an Escape ends whose block was answered so: a value that its own ejector was given is its value.
-pub fn end_escape(
-    w: &mut Working,
-    ejector: EjId,
-    answered: Result<(), Stop>,
-    into: &mut Value,
-) -> Result<(), Stop>
-    ensures { OnEnd answered into.old w.old (λ o a. OnEnd result into.new w.new (λ p b. (p ≡ escape_end_of ejector o) × (b ≡ a))) }
+/// How an Escape ends whose block was halted: a value that its own ejector was given is its value.
+pub fn end_escape(w: &mut Working, ejector: EjId, into: &mut Value) -> Result<(), Stop>
+    ensures { OnEnd result into.new w.new (λ o b. (o ≡ escape_end_of ejector (halt (halt_of w.old.halt))) × (b ≡ at w.old)) }
 {
-    match answered {
-        Ok(()) => Ok(()),
-        Err(Stop::Memory) => Err(Stop::Memory),
-        Err(Stop::Halted) => match &w.halt {
-            Halt::Ejected(ejected, value) => {
-                if ejector.cmp(ejected).is_eq() {
-                    *into = value.share()?;
-                    Ok(())
-                } else {
-                    Err(Stop::Halted)
-                }
+    match &w.halt {
+        Halt::Ejected(ejected, value) => {
+            if ejector.cmp(ejected).is_eq() {
+                *into = value.share()?;
+                Ok(())
+            } else {
+                Err(Stop::Halted)
             }
-            Halt::Thrown(_) | Halt::Abandoned(_) => Err(Stop::Halted),
-        },
+        }
+        Halt::Thrown(_) | Halt::Abandoned(_) => Err(Stop::Halted),
     }
 }
 

@@ -1,6 +1,6 @@
 -- From the rules of calls and of Escapes to what the program's functions ensure.
 use Rattle.std.proofs.Common.{◌≡◌, ℕ, ◌+◌, Bool, List, length, take, subst, refl, sym, ap, ◌∙◌, rules}
-use Rattle.std.specs.Prelude.{Result, Ok, Err, IfOk, Vec, vec_len}
+use Rattle.std.specs.Prelude.{Option, Result, Ok, Err, Vec, vec_len}
 use Rattle.std.specs.declared.alloc.Global.{Global}
 use Rattle.ids.specs.declared.names.EjId.{EjId}
 use Rattle.kernele.specs.Tree.{Name, Tree, Trees, call, escape_tree}
@@ -11,12 +11,17 @@ use Rattle.kernele.specs.declared.tree.Pattern.TheVariants as pattern
 use Rattle.values.specs.Data.{Val, null, ejector}
 use Rattle.heap.specs.State.{Nouns}
 use Rattle.erules.specs.At.{At}
-use Rattle.erules.specs.Outcomes.{End, value, Gather}
+use Rattle.values.specs.declared.value.Value.{Value}
+use Rattle.erules.specs.Outcomes.{End, Halt, value, halt, Gather, halted}
 use Rattle.erules.specs.Rules.{Target, inside, leaving, gives, enters, target_of, called, next_ejector, escaping, escape_end, Ends, Runs, run_call_gives, run_call_enters, run_escape, Args, Items, Taking}
 use Rattle.erules.specs.Locals.{locals_of}
 use Rattle.erules.specs.View.{at, opened_of}
 use Rattle.erules.specs.declared.local.Local.{Local}
+use Rattle.erules.specs.declared.end.Stop.{Stop}
+use Rattle.erules.specs.declared.end.Stop.TheVariants as stop
+use Rattle.erules.specs.declared.entry.Entry.{Entry}
 use Rattle.erules.specs.declared.working.Working.{Working}
+use Rattle.eobjects.specs.View.{OnTarget}
 use Rattle.erules.proofs.Opened.{taking_opened}
 use Rattle.erules.proofs.Seeking.{called_reads}
 use Rattle.erules.proofs.Steps.{runs_to, args_as}
@@ -69,11 +74,11 @@ escape_over {k = k} {ts = ts} {o = o} x xs w u {q = q} {j = j} {b = b} {z = z} {
     (subst (λ z. Runs k (escape_tree x ts) (at w) (escape_end (next_ejector (at w)) o) z) (sym (h ∙ ap (λ is. record (at u) { opened = is }) (opened_truncated w.opened.items u.opened.items n (next_ejector (at w)) l (taking_opened taken)))) (run_escape taken))
 
 -- a call leads where its arguments have been evaluated
-pub call_leads : {X E : Type 0} {k : ℕ} {ts : Trees} {a b : At} {g : Gather} (r : Result X E) (view : X → Target) (v : Val) (verb : Name) (z : At) → Args k ts a g b → IfOk r (λ x. view x ≡ target_of v verb g b) → IfOk r (λ x. z ≡ called v g b)
-    → IfOk r (λ x. Leads k ts v verb a (view x) z)
-call_leads {b = b} {g = g} (Ok x) view v verb z u h p = record { gather = g; behind = b; args = u; target = h; place = p }
-call_leads (Err e) view v verb z u h p = tt
+pub call_leads : (r : Result (Option Entry) Stop) (into : Value) (w : Working) {k : ℕ} {ts : Trees} {a b : At} {g : Gather} (v : Val) (verb : Name) → Args k ts a g b → OnTarget r into w (λ t z. (t ≡ target_of v verb g b) × (z ≡ called v g b)) → OnTarget r into w (Leads k ts v verb a)
+call_leads (Ok e) into w {b = b} {g = g} v verb u h = record { gather = g; behind = b; args = u; target = h.0; place = h.1 }
+call_leads (Err stop.Memory) into w v verb u h = tt
+call_leads (Err stop.Halted) into w {b = b} {g = g} v verb u h = record { gather = g; behind = b; args = u; target = h.0; place = h.1 }
 
--- the same, where the arguments are known otherwise
-pub leads_as : {X E : Type 0} {ts us : Trees} (r : Result X E) (view : X → Target) (k : ℕ) (v : Val) (verb : Name) (a b : At) → ts ≡ us → IfOk r (λ x. Leads k ts v verb a (view x) b) → IfOk r (λ x. Leads k us v verb a (view x) b)
-leads_as r view k v verb a b same h = subst (λ ts. IfOk r (λ x. Leads k ts v verb a (view x) b)) same h
+-- a call whose arguments are halted
+pub call_halts : {k : ℕ} {ts : Trees} {a b : At} (v : Val) (verb : Name) (h : Halt) → Args k ts a (halted h) b → Leads k ts v verb a (gives (halt h)) b
+call_halts {b = b} v verb h u = record { gather = halted h; behind = b; args = u; target = refl; place = refl }

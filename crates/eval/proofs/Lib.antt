@@ -1,4 +1,7 @@
 pub mod Entered
-pub mod Halted
+pub mod Beginning
+pub mod Choosing
+pub mod Repeating
+pub mod Unwanted
 pub mod Returning
 pub mod Sides

@@ -11,7 +11,7 @@ use Rattle.erules.specs.Rules.{same_ejector, is_open, ejects, escape_end, next_e
 use Rattle.erules.proofs.Opened.{ends_opened}
 use Rattle.erules.proofs.Steps.{items_no_more}
 use Rattle.eobjects.specs.Leaves.{Returns, sent}
-use Rattle.eval.specs.Escaping.{IsNewest}
+use Rattle.eval.specs.Escaping.{IsNewest, Escapes}
 
 -- the innermost Escape stays while a tree is evaluated
 pub newest_stays : {k : ℕ} {t : Tree} {a b : At} {o : End} (j : EjId) → Ends k t a o b → IsNewest j a → IsNewest j b
@@ -36,3 +36,7 @@ pub item_returns : {k : ℕ} (xs : List Code) {n : ℕ} {x : Code} {t : Tree} {a
 item_returns {k = k} xs {x = x} {a = a} {b = b} {j = j} {o = o} h e newest returns ended =
     let s = return_halts j returns.0 newest.0 o (ends_opened ended ∙ newest.1) returns.1 in
     (halt s.0, items_no_more xs h e (subst (λ q. Ends k (tree_of_code x) a q b) s.1 (returns.2 o b ended)), s.2)
+
+-- an Escape ends as its block ended, where the place is known otherwise
+pub escapes_to : (j : EjId) (block : End → At → Type 0) {o p : End} {a b : At} → block o a → p ≡ escape_end j o → b ≡ a → Escapes j block p b
+escapes_to j block {o = o} r e f = (o, subst (block o) (sym f) r, e)

@@ -1,4 +1,5 @@
 pub mod Escaping
-pub mod Halting
+pub mod Choosing
+pub mod Unwanted
 pub mod Leading
 pub mod Sides

@@ -1,6 +1,6 @@
 // Calls and Escapes in the evaluation: a method's block runs in the turn, and so does an Escape's.
-ghost use Rattle.std.specs.Prelude.{◌≡◌, ◌≤◌, ◌<◌, ◌+◌, ◌++◌, ◌∷◌, [], false, IfOk};
-ghost use Rattle.kernele.specs.Tree.{call, escape_tree, none, and_then};
+ghost use Rattle.std.specs.Prelude.{◌≡◌, ◌≤◌, ◌<◌, ◌+◌, ◌++◌, ◌∷◌, [], false};
+ghost use Rattle.kernele.specs.Tree.{call, escape_tree};
 ghost use Rattle.kernele.specs.declared.tree.Pattern.TheVariants as pattern;
 ghost use Rattle.code.specs.Frames.{fits_all};
 ghost use Rattle.erules.specs.Fits.{fits_at, all_fit_at, frame_at, frame_behind};
@@ -8,14 +8,15 @@ ghost use Rattle.code.specs.View.{tree_of_code, trees_of_codes};
 ghost use Rattle.values.specs.Data.{null, ejector as ejector_value};
 ghost use Rattle.erules.specs.At.{At};
 ghost use Rattle.values.specs.View.{val_of};
-ghost use Rattle.erules.specs.Rules.{Runs, Items, Taking, inside, leaving};
+ghost use Rattle.erules.specs.Answered.{OnEnd};
+ghost use Rattle.erules.specs.Rules.{Ends, Runs, Items, Taking, inside, leaving};
 ghost use Rattle.erules.specs.Locals.{locals_of};
-ghost use Rattle.erules.specs.View.{at, end_of};
-ghost use Rattle.eobjects.specs.View.{target_view};
+ghost use Rattle.erules.specs.View.{at};
+ghost use Rattle.eobjects.specs.View.{OnTarget};
 ghost use Rattle.eval.specs.Escaping.{Escapes, IsNewest};
 ghost use Rattle.eval.specs.Leading.{Leads};
 
-use crate::eval::{eval, eval_args, eval_item, eval_items, eval_part};
+use crate::eval::{eval_args, eval_item, eval_items, eval_part};
 use code::code::Code;
 use eobjects::calls::{call_target, enter_method, leave_method};
 use eobjects::nouns::bind;
@@ -74,7 +75,8 @@ fn eval_any_call(
 {
     let mut called = Value::Null;
     eval_part(w, receiver, level + 1, &mut called)?;
-    match eval_target(w, &called, verb, args, level + 1, into)? {
+    let entry = eval_target(w, &called, verb, args, level + 1, into)?;
+    match entry {
         Some(entry) => eval_method(w, entry, level + 1, into),
         None => Ok(()),
     }
@@ -177,13 +179,32 @@ fn eval_returning(
     for item in items {
         if let Some(given) = returned(w, ejector, item, level) {
             w.steps -= 2;
-            let answer = eval(w, given, level + 1, into);
-            return end_escape(w, ejector, answer, into);
+            return eval_returned(w, ejector, given, level + 1, into);
         }
-        let answer = eval_item(w, item, level, into);
-        if answer.is_err() {
-            return end_escape(w, ejector, answer, into);
+        match eval_item(w, item, level, into) {
+            Ok(()) => {}
+            Err(Stop::Memory) => return Err(Stop::Memory),
+            Err(Stop::Halted) => return end_escape(w, ejector, into),
         }
     }
     Ok(())
+}
+
+/// Evaluates what is returned to an Escape, and ends the Escape.
+#[cycle(evaluate)]
+fn eval_returned(
+    w: &mut Working,
+    ejector: EjId,
+    given: &Code,
+    level: u32,
+    into: &mut Value,
+) -> Result<(), Stop>
+    requires fits { fits_at (at w.old) given.now }
+    ensures { OnEnd result into.new w.new (Escapes ejector (Ends level (tree_of_code given.now) (at w.old))) }
+{
+    match eval_part(w, given, level, into) {
+        Ok(()) => Ok(()),
+        Err(Stop::Memory) => Err(Stop::Memory),
+        Err(Stop::Halted) => end_escape(w, ejector, into),
+    }
 }

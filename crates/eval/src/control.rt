@@ -1,15 +1,17 @@
 // Control: the constructs that have blocks, each block in a scope of its own.
-ghost use Rattle.std.specs.Prelude.{◌≡◌, ◌≤◌, ◌++◌, false, IfOk};
+ghost use Rattle.std.specs.Prelude.{◌≤◌, ◌++◌, false};
 ghost use Rattle.kernele.specs.Tree.{if_tree, while_tree, for_tree, try_tree};
 ghost use Rattle.code.specs.Frames.{fits_all, only_names};
-ghost use Rattle.erules.specs.Fits.{fits_at, frame_at, frame_behind};
+ghost use Rattle.erules.specs.Fits.{all_fit_at, fits_at, frame_at, frame_behind};
 ghost use Rattle.scopes.specs.Scope.{name_of};
 ghost use Rattle.code.specs.View.{tree_of_code, trees_of_codes};
+ghost use Rattle.values.specs.Data.{null};
 ghost use Rattle.values.specs.View.{val_of};
-ghost use Rattle.erules.specs.Outcomes.{End as Ending};
-ghost use Rattle.erules.specs.Rules.{Ends, Runs, Block, Taking, choice_of};
-ghost use Rattle.erules.specs.View.{at, choice_view, end_of};
-ghost use Rattle.eval.specs.Halting.{BlockHalts};
+ghost use Rattle.erules.specs.Answered.{OnEnd};
+ghost use Rattle.erules.specs.Rules.{Runs, Block, Items, Taking};
+ghost use Rattle.erules.specs.View.{at};
+ghost use Rattle.eval.specs.Choosing.{Chooses};
+ghost use Rattle.eval.specs.Unwanted.{OnSomeEnd};
 
 use crate::eval::{eval, eval_items};
 use code::code::Code;
@@ -37,7 +39,8 @@ pub(crate) fn eval_if(
     ensures { OnEnd result into.new w.new (Runs level (if_tree (tree_of_code condition.now.value)
         (trees_of_codes first.now.value.items) (trees_of_codes second.now.value.items)) (at w.old)) }
 {
-    if eval_condition(w, condition, level + 1, into)? {
+    let holds = eval_condition(w, condition, level + 1, into)?;
+    if holds {
         eval_block(w, first, level + 1, into)
     } else {
         eval_block(w, second, level + 1, into)
@@ -58,13 +61,16 @@ pub(crate) fn eval_while(
         (trees_of_codes body.now.value.items)) (at w.old)) }
 {
     let names = w.nouns.len();
-    while eval_condition(w, condition, level + 1, into)? {
+    'rounds: loop {
+        let holds = eval_condition(w, condition, level + 1, into)?;
+        if !holds {
+            *into = Value::Null;
+            return Ok(());
+        }
         run_block(w, body, level + 1, into)?;
         // Names that the condition defined are not in scope at its next time.
         w.nouns.truncate(names);
     }
-    *into = Value::Null;
-    Ok(())
 }
 
 /// Evaluates a block for each value of a list from the left, up to the first that halts it.
@@ -154,21 +160,37 @@ fn eval_any_condition(
     choose(w, into)
 }
 
-/// Evaluates a block in a loop. Where assignments of integers at hand are all that it has, no call is made.
+/// Evaluates a block whose value nobody wants, in a scope of its own.
 #[cycle(evaluate)]
 #[inline(always)]
 fn run_block(w: &mut Working, items: &[Code], level: u32, into: &mut Value) -> Result<(), Stop>
+    requires level { level ≤ 1001 }
+    requires fits { fits_all false (frame_at (at w.old)) items.now }
+    ensures { OnSomeEnd result w.new (Block level (trees_of_codes items.now) (at w.old)) }
 {
     let outer = enter(w);
-    let done = run_settings(w, items, level, into)?;
-    let answer = if done == items.len() { Ok(()) } else { eval_items(w, &items[done..], level, into) };
+    let answer = run_items(w, items, level, into);
     leave(w, outer);
     answer
 }
 
-/// Evaluates a block, in a scope of its own. Assignments of integers at hand at its head need no place for their right sides.
+/// Evaluates items whose value nobody wants. For assignments of integers at hand at their head no call is made.
 #[cycle(evaluate)]
 #[inline(always)]
+fn run_items(w: &mut Working, items: &[Code], level: u32, into: &mut Value) -> Result<(), Stop>
+    requires level { level ≤ 1001 }
+    requires fits { all_fit_at (at w.old) items.now }
+    ensures { OnSomeEnd result w.new (Items level null (trees_of_codes items.now) (at w.old)) }
+{
+    let done = run_settings(w, items, level, into)?;
+    if done == items.len() {
+        return Ok(());
+    }
+    eval_items(w, &items[done..], level, into)
+}
+
+/// Evaluates a block, in a scope of its own.
+#[cycle(evaluate)]
 pub(crate) fn eval_block(
     w: &mut Working,
     items: &[Code],

@@ -1,13 +1,16 @@
 // Evaluation: one small function for all constructs that have a right side alone, and one for each other; those that have
 // blocks are in `control`, what becomes of a right side's value is in `right`.
-ghost use Rattle.std.specs.Prelude.{◌≡◌, ◌≤◌, IfOk, Some};
+ghost use Rattle.std.specs.Prelude.{◌≡◌, ◌≤◌, Some};
 ghost use Rattle.kernele.specs.Tree.{list_tree, same_tree};
 ghost use Rattle.code.specs.Frames.{fits};
 ghost use Rattle.code.specs.View.{tree_of_code, trees_of_codes};
 ghost use Rattle.erules.specs.Fits.{fits_at, all_fit_at, frame_behind};
 ghost use Rattle.values.specs.Data.{null};
+ghost use Rattle.erules.specs.Answered.{OnAnswer, OnEnd};
+ghost use Rattle.erules.specs.Outcomes.{values, halted};
 ghost use Rattle.erules.specs.Rules.{Ends, Runs, Args, Items};
-ghost use Rattle.erules.specs.View.{at, end_of, gather_of};
+ghost use Rattle.erules.specs.View.{at};
+ghost use Rattle.values.specs.View.{vals_of};
 ghost use Rattle.eval.specs.Sides.{right_side};
 
 use crate::calling::{eval_call, eval_escape};

@@ -1,8 +1,9 @@
 // What an expression does with the value of its right side.
-ghost use Rattle.std.specs.Prelude.{◌≡◌, IfOk};
+ghost use Rattle.std.specs.Prelude.{◌≡◌};
 ghost use Rattle.values.specs.View.{val_of};
 ghost use Rattle.erules.specs.Outcomes.{value as value_end};
-ghost use Rattle.erules.specs.View.{at, end_of};
+ghost use Rattle.erules.specs.Answered.{OnEnd};
+ghost use Rattle.erules.specs.View.{at};
 ghost use Rattle.eval.specs.Sides.{is_placed, taken_at, taken_end};
 
 use code::code::Code;

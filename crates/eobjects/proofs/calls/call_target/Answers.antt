@@ -25,8 +25,8 @@ pub returns-in_err-call_data-in-Datum : goal.returns-in_err-call_data-in-Datum
 returns-in_err-call_data-in-Datum c =
     let v = val_of c.args.receiver.now in
     let a = at c.args.w.now in
-    handed_on c.from_residual-in_err-call_data-in-Datum.result c.in_err-call_data-in-Datum.field-0.0 c.call_data.new.w _ _ _ c.from_residual-in_err-call_data-in-Datum.ensures.1 (λ h b p. p)
-    (stops_call c.in_err-call_data-in-Datum.field-0.0 c.call_data.new.w _ _ a _ (ap (λ m. callee_target m v c.args.verb.now (vals_of c.args.args.now) a) c.in-Datum.ensures) (ap (λ m. callee_read m a) c.in-Datum.ensures) c.in_err-call_data-in-Datum.ensures)
+    handed_on c.from_residual-in_err-call_data-in-Datum.result c.in_err-call_data-in-Datum.field-0.0 c.call_data.new.w _ _ _ c.from_residual-in_err-call_data-in-Datum.ensures.1
+    (stops_call c.in_err-call_data-in-Datum.field-0.0 c.call_data.new.w _ _ a _ (ap (λ m. callee_target m v c.args.verb.now (vals_of c.args.args.now) a) c.in-Datum.ensures) (ap (λ m. callee_read m a) c.in-Datum.ensures) c.in_err-call_data-in-Datum.ensures) (λ h b p. p)
 
 pub returns-in_ok-call_ejector-in-Ejector : goal.returns-in_ok-call_ejector-in-Ejector
 returns-in_ok-call_ejector-in-Ejector c =
@@ -40,5 +40,5 @@ pub returns-in_err-call_ejector-in-Ejector : goal.returns-in_err-call_ejector-in
 returns-in_err-call_ejector-in-Ejector c =
     let v = val_of c.args.receiver.now in
     let a = at c.args.w.now in
-    handed_on c.from_residual.result c.in_err-call_ejector-in-Ejector.field-0.0 c.call_ejector.new.w _ _ _ c.from_residual.ensures.1 (λ h b p. p)
-    (stops_call c.in_err-call_ejector-in-Ejector.field-0.0 c.call_ejector.new.w _ _ a _ (ap (λ m. callee_target m v c.args.verb.now (vals_of c.args.args.now) a) c.in-Ejector.ensures) (ap (λ m. callee_read m a) c.in-Ejector.ensures) c.in_err-call_ejector-in-Ejector.ensures)
+    handed_on c.from_residual.result c.in_err-call_ejector-in-Ejector.field-0.0 c.call_ejector.new.w _ _ _ c.from_residual.ensures.1
+    (stops_call c.in_err-call_ejector-in-Ejector.field-0.0 c.call_ejector.new.w _ _ a _ (ap (λ m. callee_target m v c.args.verb.now (vals_of c.args.args.now) a) c.in-Ejector.ensures) (ap (λ m. callee_read m a) c.in-Ejector.ensures) c.in_err-call_ejector-in-Ejector.ensures) (λ h b p. p)

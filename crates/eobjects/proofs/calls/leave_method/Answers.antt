@@ -1,5 +1,5 @@
 use Rattle.std.proofs.Common.{rules}
 use Rattle.eobjects.proofs.calls.leave_method.Goals as goal
 
-pub returns : goal.returns
-returns c = search rules
+pub returns-clause-place : goal.returns-clause-place
+returns-clause-place c = search rules

@@ -35,5 +35,5 @@ returns-in_err-nouns c =
     let ms = methods_of_codes c.args.methods.now.value.items in
     let a = at c.args.w.now in
     let names : captured_names_of c.as_slice.result.now ≡ captures p ms = ap captured_names_of (slice_of c.as_slice.ensures.value c.deref.ensures) ∙ c.requires.fits.0 in
-    handed_on c.from_residual.result c.in_err-nouns.field-0.0 c.capture_all.new.w _ _ _ c.from_residual.ensures.1 (λ h b p. p)
-    (none_made c.in_err-nouns.field-0.0 c.capture_all.new.w p ms _ _ a _ _ (ap (λ xs. all_captured (captured []) xs a) names) (ap (λ xs. all_sought (captured []) xs a) names) c.in_err-nouns.ensures)
+    handed_on c.from_residual.result c.in_err-nouns.field-0.0 c.capture_all.new.w _ _ _ c.from_residual.ensures.1
+    (none_made c.in_err-nouns.field-0.0 c.capture_all.new.w p ms _ _ a _ _ (ap (λ xs. all_captured (captured []) xs a) names) (ap (λ xs. all_sought (captured []) xs a) names) c.in_err-nouns.ensures) (λ h b p. p)

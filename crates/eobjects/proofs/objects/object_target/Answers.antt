@@ -40,10 +40,10 @@ returns-in_err-no_such_method-in-None c =
     let d = c.reach_object.new.self in
     let e = c.in_ok-reach_object.ensures in
     let kept = subst (λ x. IfNone x (c.object_entry.new.args ≡ c.args.args.now)) c.in-None.is c.in_ok-entry.ensures.kept in
-    handed_on c.from_residual-in_err-no_such_method-in-None.result c.in_err-no_such_method-in-None.field-0.0 c.no_such_method.new.w _ _ _ c.from_residual-in_err-no_such_method-in-None.ensures.1 (λ h b p. p)
+    handed_on c.from_residual-in_err-no_such_method-in-None.result c.in_err-no_such_method-in-None.field-0.0 c.no_such_method.new.w _ _ _ c.from_residual-in_err-no_such_method-in-None.ensures.1
     (stops_call c.in_err-no_such_method-in-None.field-0.0 c.no_such_method.new.w _ _ _ _
     (ap (λ xs. gives (no_such_method c.args.verb.now (vals_of xs))) kept
     ∙ ap (entered_or (gives (no_such_method c.args.verb.now vs))) (sym c.in-None.is) ∙ c.in_ok-entry.ensures.entry
     ∙ ap (λ m. object_target c.args.id m c.args.verb.now vs) (ap (λ (a : At). read a.state (object_cell c.args.id)) c.empty_frame-frame.ensures.place ∙ ap (λ (s : State). read s (object_cell c.args.id)) e.state))
     (c.empty_frame-frame.ensures.place ∙ drafted_reached (object_cell c.args.id) (at c.args.w.now) (draft_of d) (counts_of d) (began_with d) (touched_of d) (written_of d) e.state e.counts e.began e.touched e.written)
-    c.in_err-no_such_method-in-None.ensures)
+    c.in_err-no_such_method-in-None.ensures) (λ h b p. p)

@@ -1,0 +1,24 @@
+-- Nodes that do not run.
+use Rattle.std.proofs.Common.{◌≡◌, ℕ, ◌<◌, subst, sym}
+use Rattle.kernele.specs.Tree.{Tree}
+use Rattle.erules.specs.At.{At}
+use Rattle.erules.specs.Answered.{OnStop}
+use Rattle.erules.specs.Outcomes.{Halt, halt, abandoned, budget_spent, too_deep}
+use Rattle.erules.specs.Rules.{begun, Ends, at_budget, at_depth}
+use Rattle.erules.specs.View.{at, halt_of}
+use Rattle.erules.specs.declared.end.Stop.{Stop}
+use Rattle.erules.specs.declared.end.Stop.TheVariants as stop
+use Rattle.erules.specs.declared.working.Working.{Working}
+
+ends_as : {k : ℕ} {t : Tree} {a b c : At} {h g : Halt} → h ≡ g → b ≡ c → Ends k t a (halt g) c → Ends k t a (halt h) b
+ends_as {k = k} {t = t} {a = a} {b = b} {g = g} e f r = subst (λ h. Ends k t a (halt h) b) (sym e) (subst (λ b. Ends k t a (halt g) b) (sym f) r)
+
+-- without a step left
+pub no_steps : (s : Stop) (w : Working) (k : ℕ) (t : Tree) (a : At) → a.left ≡ 0 → OnStop s w (λ h b. (h ≡ abandoned budget_spent) × (b ≡ a)) → OnStop s w (λ h b. Ends k t a (halt h) b)
+no_steps stop.Memory w k t a none p = tt
+no_steps stop.Halted w k t a none p = ends_as p.0 p.1 (at_budget none)
+
+-- too deep
+pub no_level : (s : Stop) (w : Working) (k : ℕ) (t : Tree) (a : At) → 0 < a.left → 1000 < k → OnStop s w (λ h b. (h ≡ abandoned too_deep) × (b ≡ begun a)) → OnStop s w (λ h b. Ends k t a (halt h) b)
+no_level stop.Memory w k t a some deep p = tt
+no_level stop.Halted w k t a some deep p = ends_as p.0 p.1 (at_depth some deep)
