@@ -220,7 +220,7 @@ impl Draft {
     }
 
     /// Lets what a slot of the turn's own holds be what a verb with one argument gives for it, where that verb adds to it.
-    /// Answers whether it did; else nothing has changed.
+    /// Answers whether it did; else nothing has changed. Where memory runs out the slot may hold a part.
     #[inline]
     pub fn grow_slot(&mut self, slot: SlotId, verb: &Verb, more: &Value) -> Result<bool, AllocError>
         ensures grown { IfOk result (λ grew. SlotGrows grew slot verb.now (val_of more.now) self.old self.new) }
