@@ -1,6 +1,7 @@
 pub mod Cells
 pub mod Names
 pub mod Overlaid
+pub mod Growing
 pub mod Reaching
 pub mod Alike
 pub mod Drafting

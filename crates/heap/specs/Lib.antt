@@ -7,3 +7,4 @@ pub mod Reaches
 pub mod Drafted
 pub mod DraftView
 pub mod Drafts
+pub mod Growing

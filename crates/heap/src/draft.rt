@@ -11,7 +11,9 @@ use ids::text::Text;
 use std::alloc::{AllocError, Global};
 use std::marker::Model;
 use std::sync::Arc;
+use values::growing::grow;
 use values::value::Value;
+use values::verb::Verb;
 
 /// A vat's state under a turn, which says what the turn touched of it. What the turn makes stands apart, by its number.
 #[derive(Drop)]
@@ -46,6 +48,7 @@ impl Draft {
     ghost use Rattle.heap.specs.Found.{Found, touched_in, writes_in};
     ghost use Rattle.heap.specs.Reaches.{state_in};
     ghost use Rattle.heap.specs.Drafts.{is_of, with_slots, with_objects, and_slots, and_objects, draft_of, counts_of, touched_of, writes_of, written_of, began_with, IsUnwritten};
+    ghost use Rattle.heap.specs.Growing.{SlotGrows, lengthens};
     ghost use Rattle.values.specs.View.{val_of};
 
     /// A state in which this event begins in this vat, of which it has made nothing yet.
@@ -213,6 +216,22 @@ impl Draft {
             Ok(())
         } else {
             self.base.write_slot(slot, value)
+        }
+    }
+
+    /// Lets what a slot of the turn's own holds be what a verb with one argument gives for it, where that verb adds to it.
+    /// Answers whether it did; else nothing has changed. Where memory runs out the slot may hold a part.
+    #[inline]
+    pub fn grow_slot(&mut self, slot: SlotId, verb: &Verb, more: &Value) -> Result<bool, AllocError>
+        ensures grown { IfOk result (λ grew. SlotGrows grew slot verb.now (val_of more.now) self.old self.new) }
+        ensures when { IfOk result (λ grew. grew ≡ (is_of (counts_of self.old).event (counts_of self.old).vat slot.event slot.vat && ltb slot.index (counts_of self.old).slots && lengthens verb.now (val_of more.now) (read (draft_of self.old) (slot_cell slot)))) }
+        ensures counts { counts_of self.new ≡ counts_of self.old }
+        ensures began { began_with self.new ≡ began_with self.old }
+    {
+        if self.is_own(slot.event, slot.vat, slot.index, self.slots.len()) {
+            grow(&mut self.slots[slot.index as usize], verb, more)
+        } else {
+            Ok(false)
         }
     }
 

@@ -1,6 +1,6 @@
 -- A list's code stands for the list of its items.
-use Rattle.std.proofs.Common.{◌≡◌, List, refl, sym, ap, ◌∙◌}
-use Rattle.values.specs.Data.{Vals, list, and_val}
+use Rattle.std.proofs.Common.{◌≡◌, List, sym, ap, ◌∙◌}
+use Rattle.values.specs.Data.{Vals, list}
 use Rattle.values.specs.View.{val_of, vals_of}
 use Rattle.values.specs.declared.value.Value.TheVariants as code
 use Rattle.values.specs.declared.value.Value.{Value}

@@ -55,19 +55,9 @@ pub joined_within : (us vs : Vals) (left : ℕ) (r : Option ℕ) → (weights us
 joined_within us vs left None f g h = sym (one_above (1 + weights (joined us vs)) 65536 (1 + deepest (joined us vs)) 64 (λ k. h (omega (arith, k.0, weights-joined us vs, f.0), omega (arith, k.1, deepest-joined us vs))))
 joined_within us vs left (Some x) f g h = sym (both_at_most (1 + weights (joined us vs)) 65536 (1 + deepest (joined us vs)) 64 (omega (arith, weights-joined us vs, h.0.0, f.0)) (omega (arith, deepest-joined us vs, h.0.1, f.1)))
 
-pub joined_beyond : (us vs : Vals) → ¬ ((weights us ≤ 65535) × (deepest us ≤ 63)) → false ≡ within_limits (list (joined us vs))
-joined_beyond us vs f = sym (one_above (1 + weights (joined us vs)) 65536 (1 + deepest (joined us vs)) 64 (λ k. f (omega (arith, k.0, weights-joined us vs), omega (arith, k.1, deepest-joined us vs))))
-
 -- the end of the items
 pub last_left : (xs : List Value) (i : ℕ) (left depth : ℕ) → length xs ≤ i → SomeIff (Some left) ((weights (vals_of (drop i xs)) ≤ left) × (deepest (vals_of (drop i xs)) ≤ depth)) (left - weights (vals_of (drop i xs)))
 last_left xs i left depth h = rw (drop_all i xs h) ((omega arith, omega arith), omega arith)
-
--- whether a list of these keeps the limits
-pub within : (vs : Vals) → (weights vs ≤ 65535) × (deepest vs ≤ 63) → true ≡ within_limits (list vs)
-within vs f = sym (both_at_most (1 + weights vs) 65536 (1 + deepest vs) 64 (omega (arith, f.0)) (omega (arith, f.1)))
-
-pub beyond : (vs : Vals) → ¬ ((weights vs ≤ 65535) × (deepest vs ≤ 63)) → false ≡ within_limits (list vs)
-beyond vs f = sym (one_above (1 + weights vs) 65536 (1 + deepest vs) 64 (λ k. f (omega (arith, k.0), omega (arith, k.1))))
 
 -- the greater of two, as the program finds it
 max_of : (a b : ℕ) → ord_max nat_cmp a b ≡ max a b

@@ -16,7 +16,8 @@ use std::slice;
 use std::sync::Arc;
 
 /// Lets a list or a text be what a verb with one argument gives for it, where that verb adds to it. Where nobody else
-/// holds it nothing is copied. Answers whether it did; a value that did not grow is as it was.
+/// holds it nothing is copied. Answers whether it did; a value that did not grow is as it was. Where memory runs out
+/// a part may have been added.
 pub fn grow(held: &mut Value, verb: &Verb, more: &Value) -> Result<bool, AllocError>
     ensures grown { IfOk result (λ grew. Grown grew held.old (data_reply (val_of held.old) verb.now (and_val (val_of more.now) no_vals)) held.new) }
     ensures when { IfOk result (λ grew. grew ≡ (adds_to (val_of held.old) verb.now (val_of more.now) && is_some (value_given (data_reply (val_of held.old) verb.now (and_val (val_of more.now) no_vals))))) }
