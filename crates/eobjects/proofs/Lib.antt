@@ -7,3 +7,4 @@ mod Ending
 mod Sent
 mod Missing
 mod Targets
+mod Entering
