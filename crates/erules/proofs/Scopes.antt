@@ -117,13 +117,13 @@ kept_captured cs xs k n h less =
 pub oldest_kept : (cs : List Noun) (xs ys : List Local) (j k n : ℕ) → k ≤ length cs → j ≡ min k n → ys ≡ take (n - j) xs → names_in cs j ys ≡ oldest n (names_in cs k xs)
 oldest_kept cs xs ys j k n h e f =
     elim (cases_lt n k) [
-      inl more ↦
-        let last : j ≡ n = e ∙ min-eq_right (omega (arith, more)) in
-        let none : n - j ≡ 0 = omega (arith, last) in
-        (λ i. names_in cs (last i) (f i)) ∙ ap (λ m. names_in cs n (take m xs)) none ∙ sym (kept_captured cs xs k n h (omega (arith, more)))
-    | inr less ↦
-        let last : j ≡ k = e ∙ min-eq_left less in
-        (λ i. names_in cs (last i) (f i)) ∙ sym (kept_locals cs xs k (n - j) n h less (ap (λ i. n - i) last))
+      | inl more ↦
+          let last : j ≡ n = e ∙ min-eq_right (omega (arith, more)) in
+          let none : n - j ≡ 0 = omega (arith, last) in
+          (λ i. names_in cs (last i) (f i)) ∙ ap (λ m. names_in cs n (take m xs)) none ∙ sym (kept_captured cs xs k n h (omega (arith, more)))
+      | inr less ↦
+          let last : j ≡ k = e ∙ min-eq_left less in
+          (λ i. names_in cs (last i) (f i)) ∙ sym (kept_locals cs xs k (n - j) n h less (ap (λ i. n - i) last))
     ]
 
 -- where there are no more than these, all are kept

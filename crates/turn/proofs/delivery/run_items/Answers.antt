@@ -7,4 +7,4 @@ use Rattle.turn.proofs.delivery.run_items.Goals as goal
 pub returns : goal.returns
 returns c =
     let same = ap state_of c.in_ok-try_clone.ensures in
-    IfOk-weaker c.finish.result _ _ (λ r h. (_, _, program_items refl c.new-2.ensures.items c.new-4.ensures.items (c.new.ensures.state ∙ same) c.new.ensures.counts (c.new.ensures.began ∙ same) c.new.ensures.touched c.new.ensures.written c.in_ok-end.ensures, h)) c.finish.ensures
+    IfOk-weaker c.finish.result _ _ (λ r h. (_, _, program_items refl c.new-4.ensures.items c.new-6.ensures.items (c.new.ensures.state ∙ same) c.new.ensures.counts (c.new.ensures.began ∙ same) c.new.ensures.touched c.new.ensures.written c.in_ok-end.ensures, h)) c.finish.ensures
