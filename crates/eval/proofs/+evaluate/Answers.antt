@@ -1,4 +1,4 @@
-use Rattle.std.proofs.Common.{◌≡◌, rules, arith, ap, ◌∙◌, ◌+◌, ◌-◌, refl, sym, subst, length, take, drop, ◌++◌, ◌∷◌, []}
+use Rattle.std.proofs.Common.{◌≡◌, rules, arith, ap, ◌∙◌, ◌+◌, ◌-◌, refl, sym, subst, length, ◌++◌, ◌∷◌, []}
 use Rattle.code.specs.View.{tree_of_code, trees_of_codes}
 use Rattle.code.proofs.Views.{tree_of_code-Call, tree_of_code-List, tree_of_code-Hide, tree_of_code-If, tree_of_code-While, tree_of_code-For, tree_of_code-Try, tree_of_code-Object, tree_of_code-Escape}
 use Rattle.kernele.specs.declared.tree.Pattern.TheVariants as pattern
@@ -13,9 +13,9 @@ use Rattle.eval.specs.Leading.{Leads}
 use Rattle.code.specs.View.{methods_of_codes}
 use Rattle.kernele.specs.Tree.{list_tree}
 use Rattle.eval.specs.Sides.{taken_at, taken_end}
-use Rattle.erules.specs.Rules.{begun, noun_end, noun_read, sought, object_end, with_object, capture_of, capturing, Ends, Runs, Args, Items, Block, Taking, Each, at_node, gives, escape_end, choice_of, ends, listing_of, unlisted, run_null, run_bool, run_int, run_text, run_noun, run_call_receiver, run_list, run_same_left, run_same, goes, run_hide, run_if_goes, run_if_ends, run_while_again, run_while_halts, run_while_done, run_while_ends, run_for, run_for_ends, run_try, run_try_caught, run_object, args_halt}
+use Rattle.erules.specs.Rules.{begun, noun_end, noun_read, sought, object_end, with_object, capture_of, capturing, Ends, Runs, Args, Items, Block, Taking, at_node, gives, escape_end, choice_of, ends, listing_of, unlisted, run_null, run_bool, run_int, run_text, run_noun, run_call_receiver, run_list, run_same_left, run_same, goes, run_hide, run_if_goes, run_if_ends, run_while_again, run_while_halts, run_while_done, run_while_ends, run_for_ends, run_try, run_try_caught, run_object, args_halt}
 use Rattle.erules.proofs.Answering.{ends_weaker, ends_on, handed_on, ends_over, of_halted}
-use Rattle.erules.proofs.Steps.{node, child, slice_of, runs_as, runs_to, ends_to, args_as, args_begin, args_pushed, args_more, args_no_more, args_end, args_done, only_one, one_arg, items_more, items_no_more, items_end, blocks, taking, each, block_end, taking_end, each_more, each_no_more, each_end, next_round}
+use Rattle.erules.proofs.Steps.{node, child, slice_of, runs_as, runs_to, ends_to, args_as, args_begin, args_pushed, args_more, args_no_more, args_end, args_done, only_one, one_arg, items_more, items_no_more, items_end, blocks, taking, block_end, taking_end, each_more, each_no_more, each_end, next_round}
 use Rattle.values.specs.Data.{bool, ejector, null}
 use Rattle.eval.proofs.Choosing.{chosen}
 use Rattle.eval.proofs.Repeating.{for_runs}
@@ -29,7 +29,6 @@ use Rattle.code.proofs.Fitting.{fits-Call, fits-List, fits-Hide, fits-If, fits-W
 use Rattle.code.specs.Frames.{only_names}
 use Rattle.scopes.specs.Scope.{name_of}
 use Rattle.heap.specs.State.{frame_of}
-use Rattle.heap.specs.Drafts.{draft_of}
 use Rattle.erules.specs.Fits.{fits_at, all_fit_at}
 use Rattle.erules.proofs.Grown.{round_grow}
 use Rattle.erules.proofs.Spent.{condition_less, block_left}
