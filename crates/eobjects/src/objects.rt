@@ -77,10 +77,10 @@ fn capture_all(w: &mut Working, captures: &[CaptureCode]) -> Result<Vec<Noun>, S
     requires { all_placed (frame_at (at w.old)) captures.now }
     ensures { OnAnswer result w.new
         (λ ns b. (captured (nouns_of ns.items) ≡ all_captured (captured []) (captured_names_of captures.now) (at w.old))
-            × (b ≡ all_sought (captured []) (captured_names_of captures.now) (at w.old)))
+        × (b ≡ all_sought (captured []) (captured_names_of captures.now) (at w.old)))
         (λ h b. (x : Name) × (missing x ≡ all_captured (captured []) (captured_names_of captures.now) (at w.old))
-            × (halt_end h ≡ undefined_noun x)
-            × (b ≡ all_sought (captured []) (captured_names_of captures.now) (at w.old))) }
+        × (halt_end h ≡ undefined_noun x)
+        × (b ≡ all_sought (captured []) (captured_names_of captures.now) (at w.old))) }
 {
     let mut nouns = Vec::with_capacity(w.alloc, captures.len())?;
     let mut rest = captures;

@@ -115,7 +115,14 @@ pub(crate) fn eval_try(
         Ok(()) => Ok(()),
         Err(Stop::Memory) => Err(Stop::Memory),
         Err(Stop::Halted) => match caught(w)? {
-            Some(problem) => eval_taking(w, pattern, &Value::Text(problem), handler, level + 1, into),
+            Some(problem) => eval_taking(
+                w,
+                pattern,
+                &Value::Text(problem),
+                handler,
+                level + 1,
+                into,
+            ),
             None => Err(Stop::Halted),
         },
     }

@@ -79,12 +79,7 @@ pub fn eval(w: &mut Working, e: &Code, level: u32, into: &mut Value) -> Result<(
 /// Evaluates a part of a construct. A noun at hand gives its value here.
 #[cycle(evaluate)]
 #[inline(always)]
-pub(crate) fn eval_part(
-    w: &mut Working,
-    e: &Code,
-    level: u32,
-    into: &mut Value,
-) -> Result<(), Stop>
+pub(crate) fn eval_part(w: &mut Working, e: &Code, level: u32, into: &mut Value) -> Result<(), Stop>
     requires { fits_at (at w.old) e.now }
     ensures { OnEnd result into.new w.new (Ends level (tree_of_code e.now) (at w.old)) }
 {
@@ -169,12 +164,7 @@ pub(crate) fn eval_args(w: &mut Working, args: &[Code], level: u32) -> Result<Ve
 
 /// Evaluates the items of a block in order: the last one's value, or null.
 #[cycle(evaluate)]
-pub fn eval_items(
-    w: &mut Working,
-    items: &[Code],
-    level: u32,
-    into: &mut Value,
-) -> Result<(), Stop>
+pub fn eval_items(w: &mut Working, items: &[Code], level: u32, into: &mut Value) -> Result<(), Stop>
     requires level { level ≤ 1001 }
     requires fits { all_fit_at (at w.old) items.now }
     ensures { OnEnd result into.new w.new (Items level null (trees_of_codes items.now) (at w.old)) }

@@ -201,11 +201,11 @@ pub calling::eval_any_call-returns-in_err-entry : goal.calling::eval_any_call-re
 calling::eval_any_call-returns-in_err-entry t c = handed_on c.from_residual-in_err-entry.result c.in_err-entry.field-0.0 c.eval_target.new.w (λ u b. Runs c.args.level _ _ (value (val_of c.eval_target.new.into)) b) (λ h b. Leads (c.args.level + 1) _ _ _ _ (gives (halt h)) b) (λ h b. Runs c.args.level _ _ (halt h) b) c.from_residual-in_err-entry.ensures.1 c.in_err-entry.ensures (λ h b r. call_given (slice_of c.deref-3.ensures.value c.deref-2.ensures) (child c.deref.ensures c.in_ok-eval_part.ensures) r refl)
 
 pub calling::eval_any_call-returns-in-Some : goal.calling::eval_any_call-returns-in-Some
-calling::eval_any_call-returns-in-Some t c = 
+calling::eval_any_call-returns-in-Some t c =
     ends_weaker c.eval_method.result c.eval_method.new.into c.eval_method.new.w (Enters (c.args.level + 1) _ _ _) (Runs c.args.level _ _) c.eval_method.ensures (λ o b h. call_entered (slice_of c.deref-3.ensures.value c.deref-2.ensures) (child c.deref.ensures c.in_ok-eval_part.ensures) c.in_ok-entry.ensures (ap (entered_or (gives (value (val_of c.eval_target.new.into)))) c.in-Some.is) h)
 
 pub calling::eval_any_call-returns : goal.calling::eval_any_call-returns
-calling::eval_any_call-returns t c = 
+calling::eval_any_call-returns t c =
     call_given (slice_of c.deref-3.ensures.value c.deref-2.ensures) (child c.deref.ensures c.in_ok-eval_part.ensures) c.in_ok-entry.ensures (ap (entered_or (gives (value (val_of c.eval_target.new.into)))) c.in-None.is)
 
 pub calling::eval_any_call-eval_target-requires : goal.calling::eval_any_call-eval_target-requires
@@ -218,7 +218,7 @@ pub calling::eval_target-returns-in_err-eval_part : goal.calling::eval_target-re
 calling::eval_target-returns-in_err-eval_part t c = handed_on c.from_residual.result c.in_err-eval_part.field-0.0 c.eval_part.new.w (λ e b. Leads c.args.level (trees_of_codes c.args.args.now) (val_of c.args.receiver.now) c.args.verb.now (at c.args.w.now) (entered_or (gives (value (val_of c.args.into.now))) e) b) (λ h b. Ends c.args.level _ _ (halt h) b) (λ h b. Leads c.args.level (trees_of_codes c.args.args.now) (val_of c.args.receiver.now) c.args.verb.now (at c.args.w.now) (gives (halt h)) b) c.from_residual.ensures.1 c.in_err-eval_part.ensures (λ h b r. call_halts (val_of c.args.receiver.now) c.args.verb.now h (args_as (only_one c.args.args.now c.index-args-0.result (search rules) c.index-args-0.is) (args_halt r)))
 
 pub calling::eval_target-returns-then-args-eq1 : goal.calling::eval_target-returns-then-args-eq1
-calling::eval_target-returns-then-args-eq1 t c = 
+calling::eval_target-returns-then-args-eq1 t c =
     call_leads c.call_target.result c.call_target.new.into c.call_target.new.w (val_of c.args.receiver.now) c.args.verb.now
     (args_as (only_one c.args.args.now c.index-args-0.result (search rules) c.index-args-0.is) (one_arg c.from_mut.ensures.value c.in_ok-eval_part.ensures)) c.call_target.ensures
 
@@ -226,7 +226,7 @@ pub calling::eval_target-returns-in_err-values : goal.calling::eval_target-retur
 calling::eval_target-returns-in_err-values t c = handed_on c.from_residual-in_err-values.result c.in_err-values.field-0.0 c.eval_args.new.w (λ e b. Leads c.args.level (trees_of_codes c.args.args.now) (val_of c.args.receiver.now) c.args.verb.now (at c.args.w.now) (entered_or (gives (value (val_of c.args.into.now))) e) b) (λ h b. Args c.args.level (trees_of_codes c.args.args.now) (at c.args.w.now) (halted h) b) (λ h b. Leads c.args.level (trees_of_codes c.args.args.now) (val_of c.args.receiver.now) c.args.verb.now (at c.args.w.now) (gives (halt h)) b) c.from_residual-in_err-values.ensures.1 c.in_err-values.ensures (λ h b r. call_halts (val_of c.args.receiver.now) c.args.verb.now h r)
 
 pub calling::eval_target-returns : goal.calling::eval_target-returns
-calling::eval_target-returns t c = 
+calling::eval_target-returns t c =
     call_leads c.call_target-2.result c.call_target-2.new.into c.call_target-2.new.w (val_of c.args.receiver.now) c.args.verb.now
     (subst (λ xs. Args c.args.level (trees_of_codes c.args.args.now) (at c.args.w.now) (values (vals_of xs)) (at c.eval_args.new.w)) (sym c.deref_mut.ensures.value) c.in_ok-values.ensures) c.call_target-2.ensures
 
@@ -240,14 +240,14 @@ pub calling::eval_escape-eval_naming-answer-requires : goal.calling::eval_escape
 calling::eval_escape-eval_naming-answer-requires t c = (search rules, (search rules, (block_fits (slice_of c.deref-2.ensures.value c.deref.ensures) (ap (λ (a : At). frame_of a.nouns ++ c.args.name.now ∷ []) c.in_ok-ejector.ensures.place) c.requires.fits, newest_begun _ (at c.args.w.now) _ c.in_ok-ejector.ensures.named c.in_ok-ejector.ensures.place)))
 
 pub calling::eval_escape-returns : goal.calling::eval_escape-returns
-calling::eval_escape-returns t c = 
-    ends_over c.eval_naming-answer.result c.eval_naming-answer.new.into c.eval_naming-answer.new.w c.close_escape.new.w (Escapes _ (Taking (c.args.level + 1) _ _ _ _)) (Runs c.args.level _ _) c.close_escape.ensures.halt c.eval_naming-answer.ensures (λ o r. 
+calling::eval_escape-returns t c =
+    ends_over c.eval_naming-answer.result c.eval_naming-answer.new.into c.eval_naming-answer.new.w c.close_escape.new.w (Escapes _ (Taking (c.args.level + 1) _ _ _ _)) (Runs c.args.level _ _) c.close_escape.ensures.halt c.eval_naming-answer.ensures (λ o r.
     escape_over c.args.name.now _ c.args.w.now c.eval_naming-answer.new.w (as_many c.args.w.now.opened c.len-outer.ensures) c.in_ok-ejector.ensures.named c.in_ok-ejector.ensures.place refl
     (ap trees_of_codes (slice_of c.deref-2.ensures.value c.deref.ensures)) r.1 c.close_escape.ensures.place r.2)
 
 pub calling::eval_naming-returns : goal.calling::eval_naming-returns
-calling::eval_naming-returns t c = 
-    ends_over c.eval_returning-answer.result c.eval_returning-answer.new.into c.eval_returning-answer.new.w c.leave.new.w (Escapes c.args.ejector (Items c.args.level _ _ _)) (Escapes c.args.ejector (Taking c.args.level (pattern.Name c.args.name.now) (ejector c.args.ejector) (trees_of_codes c.args.items.now) (at c.args.w.now))) c.leave.ensures.halt c.eval_returning-answer.ensures (λ o r. 
+calling::eval_naming-returns t c =
+    ends_over c.eval_returning-answer.result c.eval_returning-answer.new.into c.eval_returning-answer.new.w c.leave.new.w (Escapes c.args.ejector (Items c.args.level _ _ _)) (Escapes c.args.ejector (Taking c.args.level (pattern.Name c.args.name.now) (ejector c.args.ejector) (trees_of_codes c.args.items.now) (at c.args.w.now))) c.leave.ensures.halt c.eval_returning-answer.ensures (λ o r.
     (r.0, taking_end (pattern.Name c.args.name.now) (ejector c.args.ejector) c.args.w.now c.eval_returning-answer.new.w c.enter-outer.ensures.names c.enter-outer.ensures.own c.enter-outer.ensures.place c.in_ok-bind.ensures r.1 c.leave.ensures.place, r.2))
 
 pub calling::eval_returning-eval_returned-requires : goal.calling::eval_returning-eval_returned-requires
@@ -260,14 +260,14 @@ pub calling::eval_returning-eval_item-requires : goal.calling::eval_returning-ev
 calling::eval_returning-eval_item-requires t c = (search rules, (fits_from _ _ c.args.items.now c.loop-item.item-index _ c.loop-item-test.true c.item-item.is c.loop-item.invariant.1).0)
 
 pub calling::eval_returning-returns-in-Some : goal.calling::eval_returning-returns-in-Some
-calling::eval_returning-returns-in-Some t c = 
-    ends_weaker c.eval_returned.result c.eval_returned.new.into c.eval_returned.new.w (Escapes c.args.ejector (Ends (c.args.level + 1) _ _)) (Escapes c.args.ejector (Items c.args.level null (trees_of_codes c.args.items.now) (at c.args.w.now))) c.eval_returned.ensures (λ o b h. 
+calling::eval_returning-returns-in-Some t c =
+    ends_weaker c.eval_returned.result c.eval_returned.new.into c.eval_returned.new.w (Escapes c.args.ejector (Ends (c.args.level + 1) _ _)) (Escapes c.args.ejector (Items c.args.level null (trees_of_codes c.args.items.now) (at c.args.w.now))) c.eval_returned.ensures (λ o b h.
     let p = item_returns c.args.items.now c.loop-item-test.true c.item-item.is c.loop-item.invariant.2 c.in-Some.ensures.returns h.1 in
     (p.0, c.loop-item.invariant.0 _ _ p.1, h.2 ∙ p.2))
 
 pub calling::eval_returning-returns-in-Err-Halted : goal.calling::eval_returning-returns-in-Err-Halted
-calling::eval_returning-returns-in-Err-Halted t c = 
-    ends_weaker c.end_escape.result c.end_escape.new.into c.end_escape.new.w (λ o b. (o ≡ escape_end c.args.ejector (halt (halt_of c.eval_item.new.w.halt))) × (b ≡ at c.eval_item.new.w)) (Escapes c.args.ejector (Items c.args.level null (trees_of_codes c.args.items.now) (at c.args.w.now))) c.end_escape.ensures (λ o b h. 
+calling::eval_returning-returns-in-Err-Halted t c =
+    ends_weaker c.end_escape.result c.end_escape.new.into c.end_escape.new.w (λ o b. (o ≡ escape_end c.args.ejector (halt (halt_of c.eval_item.new.w.halt))) × (b ≡ at c.eval_item.new.w)) (Escapes c.args.ejector (Items c.args.level null (trees_of_codes c.args.items.now) (at c.args.w.now))) c.end_escape.ensures (λ o b h.
     escapes_to c.args.ejector (Items c.args.level null (trees_of_codes c.args.items.now) (at c.args.w.now)) (c.loop-item.invariant.0 _ _ (items_no_more _ c.loop-item-test.true c.item-item.is (of_halted c.in-Err-Halted.field-0 c.eval_item.new.w (λ h b. Ends c.args.level _ _ (halt h) b) c.in-Err-Halted.field-0-is c.in-Err-Halted.ensures))) h.0 h.1)
 
 pub calling::eval_returning-loop-item-preserved : goal.calling::eval_returning-loop-item-preserved
@@ -308,13 +308,13 @@ pub control::eval_while-returns-then-not-holds : goal.control::eval_while-return
 control::eval_while-returns-then-not-holds t c = c.rounds.invariant.0 _ _ (run_while_done (child c.deref.ensures c.in_ok-holds.ensures.1) (c.in_ok-holds.ensures.2 ∙ ap goes c.if-not-holds.true))
 
 pub control::eval_while-returns-in_err-run_block : goal.control::eval_while-returns-in_err-run_block
-control::eval_while-returns-in_err-run_block t c = ends_on c.from_residual-in_err-run_block.result c.in_err-run_block.field-0.0 c.run_block.new.into c.run_block.new.w (Block (c.args.level + 1) _ _) (Runs c.args.level _ _) c.from_residual-in_err-run_block.ensures.1 c.in_err-run_block.ensures (λ h b r. c.rounds.invariant.0 _ _ (run_while_halts (child c.deref.ensures c.in_ok-holds.ensures.1) (c.in_ok-holds.ensures.2 ∙ ap goes c.if-not-holds.false) (blocks (slice_of c.deref-in-rounds-2.ensures.value c.deref-in-rounds.ensures)  r)))
+control::eval_while-returns-in_err-run_block t c = ends_on c.from_residual-in_err-run_block.result c.in_err-run_block.field-0.0 c.run_block.new.into c.run_block.new.w (Block (c.args.level + 1) _ _) (Runs c.args.level _ _) c.from_residual-in_err-run_block.ensures.1 c.in_err-run_block.ensures (λ h b r. c.rounds.invariant.0 _ _ (run_while_halts (child c.deref.ensures c.in_ok-holds.ensures.1) (c.in_ok-holds.ensures.2 ∙ ap goes c.if-not-holds.false) (blocks (slice_of c.deref-in-rounds-2.ensures.value c.deref-in-rounds.ensures) r)))
 
 pub control::eval_while-rounds-preserved : goal.control::eval_while-rounds-preserved
-control::eval_while-rounds-preserved t c = 
+control::eval_while-rounds-preserved t c =
     let ended = c.in_ok-run_block.ensures.1 in
     let g = round_grow c.in_ok-holds.ensures.1 ended in (
-      λ o b h. c.rounds.invariant.0 _ _ (run_while_again (child c.deref.ensures c.in_ok-holds.ensures.1) (c.in_ok-holds.ensures.2 ∙ ap goes c.if-not-holds.false) (blocks (slice_of c.deref-in-rounds-2.ensures.value c.deref-in-rounds.ensures)  ended) (next_round c.rounds.w c.run_block.new.w c.rounds.invariant.1 g c.truncate.ensures.items h)),
+      λ o b h. c.rounds.invariant.0 _ _ (run_while_again (child c.deref.ensures c.in_ok-holds.ensures.1) (c.in_ok-holds.ensures.2 ∙ ap goes c.if-not-holds.false) (blocks (slice_of c.deref-in-rounds-2.ensures.value c.deref-in-rounds.ensures) ended) (next_round c.rounds.w c.run_block.new.w c.rounds.invariant.1 g c.truncate.ensures.items h)),
       truncated-length c.rounds.w.nouns.items c.run_block.new.w.nouns.items c.len-names.result c.rounds.invariant.1 g ∙ ap length (sym c.truncate.ensures.items),
       round_fits (at c.rounds.w) (record (at c.run_block.new.w) { nouns = locals_of c.truncate.new.self.items }) c.args.condition.now.value c.args.body.now.value.items (ap locals_of c.truncate.ensures.items ∙ truncated c.rounds.w.nouns.items c.run_block.new.w.nouns.items c.len-names.result c.rounds.invariant.1 g)
           ((block_stays ended).1 ∙ (goes_add c.in_ok-holds.ensures.1 c.in_ok-holds.ensures.2).1) c.rounds.invariant.2,
