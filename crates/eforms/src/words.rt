@@ -4,7 +4,6 @@ ghost use Rattle.eforms.specs.Forms.{literal_of, ref_word_of};
 ghost use Rattle.eforms.specs.View.{GivesTree};
 
 use etoken::token::Reserved;
-use ids::text::Text;
 use kernele::tree::Expr;
 
 /// The literal that a word is, if it is one.
@@ -29,10 +28,10 @@ pub enum RefWord {
 
 impl RefWord {
     /// The one that a name is, if it is one.
-    pub fn of(name: &Text) -> Option<RefWord>
+    pub fn of(name: &str) -> Option<RefWord>
         ensures { result ≡ ref_word_of name.now }
     {
-        match name.as_str() {
+        match name {
             "promise" => Some(RefWord::Promise),
             "broken" => Some(RefWord::Broken),
             "state" => Some(RefWord::State),

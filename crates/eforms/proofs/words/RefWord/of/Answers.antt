@@ -1,4 +1,4 @@
-use Rattle.std.proofs.Common.{ap, sym, ◌∙◌}
+use Rattle.std.proofs.Common.{ap, sym}
 use Rattle.eforms.specs.Forms.{ref_word_of}
 use Rattle.eforms.proofs.words.RefWord.of.Goals as goal
 
