@@ -95,14 +95,8 @@ fn write_rest(e: &Expr, out: &mut String) -> Result<(), AllocError>
         Expr::Def(_, value) | Expr::Var(_, value) | Expr::Assign(_, value) => {
             write_part(" := ", value, out)
         }
-        Expr::Call(_, verb, args) => {
-            write_name(".", verb, out)?;
-            write_parts("(", args, ")", out)
-        }
-        Expr::Send(_, verb, args) => {
-            write_name(" <- ", verb, out)?;
-            write_parts("(", args, ")", out)
-        }
+        Expr::Call(_, verb, args) => write_message(".", verb, args, out),
+        Expr::Send(_, verb, args) => write_message(" <- ", verb, args, out),
         Expr::Same(_, right) => {
             write_part(" == ", right, out)?;
             out.push_str(")")
@@ -127,6 +121,20 @@ fn write_rest(e: &Expr, out: &mut String) -> Result<(), AllocError>
             write_catch(pattern, handler, out)
         }
     }
+}
+
+/// Writes a word, and a verb with its arguments behind it.
+#[cycle(print)]
+fn write_message(
+    word: &str,
+    verb: &Text,
+    args: &Arc<Vec<Expr>>,
+    out: &mut String,
+) -> Result<(), AllocError>
+    ensures { OnOk result (string_bytes out.new ≡ string_bytes out.old ++ (word.now ++ message verb.now (spelled_parts (trees_of args.now.value.items)))) }
+{
+    write_name(word, verb, out)?;
+    write_parts("(", args, ")", out)
 }
 
 /// Writes what a problem is bound to, and its handler.

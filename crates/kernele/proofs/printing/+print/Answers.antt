@@ -49,9 +49,9 @@ pub write_beginning-returns-in-Try : goal.write_beginning-returns-in-Try
 write_beginning-returns-in-Try t c =
     rw (ap tree_of c.in-Try.is ∙ tree_of-Try c.in-Try.body c.in-Try.field-1 c.in-Try.field-2) c.write_block-in-Try.ensures
 
-pub write_rest-returns-in_ok-write_name-in-Call : goal.write_rest-returns-in_ok-write_name-in-Call
-write_rest-returns-in_ok-write_name-in-Call t c =
-    rw (ap tree_of c.in-Call.is ∙ tree_of-Call c.in-Call.field-0 c.in-Call.verb c.in-Call.args) (search (rules, IfOk-equal, append_assoc))
+pub write_rest-returns-in-Call : goal.write_rest-returns-in-Call
+write_rest-returns-in-Call t c =
+    rw (ap tree_of c.in-Call.is ∙ tree_of-Call c.in-Call.field-0 c.in-Call.verb c.in-Call.args) c.write_message.ensures
 
 pub write_rest-returns-in_ok-write_block-in-If : goal.write_rest-returns-in_ok-write_block-in-If
 write_rest-returns-in_ok-write_block-in-If t c =
@@ -69,9 +69,9 @@ pub write_rest-returns-in-Try : goal.write_rest-returns-in-Try
 write_rest-returns-in-Try t c =
     rw (ap tree_of c.in-Try.is ∙ tree_of-Try c.in-Try.field-0 c.in-Try.pattern c.in-Try.handler) c.write_catch.ensures
 
-pub write_rest-returns-in_ok-write_name-in-Send : goal.write_rest-returns-in_ok-write_name-in-Send
-write_rest-returns-in_ok-write_name-in-Send t c =
-    rw (ap tree_of c.in-Send.is ∙ tree_of-Send c.in-Send.field-0 c.in-Send.verb c.in-Send.args) (search (rules, IfOk-equal, append_assoc))
+pub write_rest-returns-in-Send : goal.write_rest-returns-in-Send
+write_rest-returns-in-Send t c =
+    rw (ap tree_of c.in-Send.is ∙ tree_of-Send c.in-Send.field-0 c.in-Send.verb c.in-Send.args) c.write_message-in-Send.ensures
 
 pub write_rest-returns-in-When : goal.write_rest-returns-in-When
 write_rest-returns-in-When t c =
