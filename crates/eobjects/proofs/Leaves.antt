@@ -25,7 +25,7 @@ sought_left : (x : Name) (m : Option Bind) (n : ℕ) (a : At) → sought_in x m 
 sought_left x (Some b) n a = refl
 sought_left x None n a = refl
 
-seeking_left : (x : Name) (n : ℕ) (a : At) → seeking x (record a { left = n }) ≡ record (seeking x a) { left = n }
+pub seeking_left : (x : Name) (n : ℕ) (a : At) → seeking x (record a { left = n }) ≡ record (seeking x a) { left = n }
 seeking_left x n a = sought_left x (lookup a.nouns x) n a
 
 slot_left : (i : Option SlotId) (n : ℕ) (a : At) → slot_read i (record a { left = n }) ≡ record (slot_read i a) { left = n }
@@ -46,8 +46,11 @@ slot_at_hand x i v a h touched is = (
 pub integer_leaf : (a : At) (e : Code) (z y : ℤ) → tree_of_code e ≡ int_tree z → y ≡ z → Leaf a (tree_of_code e) (int y)
 integer_leaf a e z y is same = λ k n. subst (λ t. Runs k t (record a { left = n }) (value (int y)) (record a { left = n })) (sym is) (runs_as run_int (ap (λ x. value (int x)) same))
 
+pub leaf_of_noun : (a : At) (x : Name) (v : Val) → GivesAtHand x v a → Leaf a (noun x) v
+leaf_of_noun a x v h = λ k n. runs_to run_noun (sym h.0) (sym (noun_left x n a ∙ ap (λ (b : At). record b { left = n }) h.1))
+
 pub noun_leaf : (a : At) (e : Code) (x : Name) (v : Val) → tree_of_code e ≡ noun x → GivesAtHand x v a → Leaf a (tree_of_code e) v
-noun_leaf a e x v is h = λ k n. subst (λ t. Runs k t (record a { left = n }) (value v) (record a { left = n })) (sym is) (runs_to run_noun (sym h.0) (sym (noun_left x n a ∙ ap (λ (b : At). record b { left = n }) h.1)))
+noun_leaf a e x v is h = subst (λ t. Leaf a t v) (sym is) (leaf_of_noun a x v h)
 
 -- what fits behind a leaf fits where the leaf stands
 pub leaf_fits : (a : At) (e : Code) {v : Val} (es : List Code) → Leaf a (tree_of_code e) v → fits_all a.own_scope (after a.own_scope (tree_of_code e) (frame_of a.nouns)) es → all_fit_at a es
@@ -56,7 +59,7 @@ leaf_fits a e es leaf h = all_fit_then {k = 1} {t = tree_of_code e} {a = record 
 pub leaf_ends : (a : At) (t : Tree) (v : Val) (k n : ℕ) → Leaf a t v → 0 < n → k ≤ 1000 → Ends k t (record a { left = n }) (value v) (record a { left = n - 1 })
 leaf_ends a t v k n leaf some deep = at_node some deep (leaf k (n - 1))
 
-twice : (n : ℕ) → n - 1 - 1 ≡ n - 2
+pub twice : (n : ℕ) → n - 1 - 1 ≡ n - 2
 twice n = omega arith
 
 -- a call on two leaves
@@ -85,7 +88,7 @@ pub integers_run : (a : At) {k : ℕ} {r : Tree} {ts : Trees} {verb : Name} {x y
     → Runs k (call r verb ts) a (value v) (record a { left = a.left - 2 })
 integers_run a {verb = verb} both two deep f g h = call_runs a both two deep (reply_as verb f g h)
 
-thrice : (n : ℕ) → n - 1 - 2 ≡ n - 3
+pub thrice : (n : ℕ) → n - 1 - 2 ≡ n - 3
 thrice n = omega arith
 
 call_at_hand : (a : At) {r : Tree} {ts : Trees} {verb : Name} {x y : ℤ} {v : Val} → Operands a r ts x y → data_reply (int x) verb (and_val (int y) no_vals) ≡ gives v → AtHand a (call r verb ts) 3 v
@@ -103,7 +106,7 @@ pub code_at_hand : (a : At) (e : Code) (r s : Code) {es fs : List Code} {verb : 
 code_at_hand a e r s {fs = fs} {verb = verb} {x = x} {y = y} {v = v} is f g both m n h =
     subst (λ t. AtHand a t 3 v) (sym is) (call_at_hand a (subst (λ c. Operands a (tree_of_code c) (trees_of_codes fs) x y) f (subst (λ cs. Operands a (tree_of_code r) (trees_of_codes cs) x y) g both)) (reply_as verb m n h))
 
-fourth : (n : ℕ) → n - 4 ≡ n - 1 - 3
+pub fourth : (n : ℕ) → n - 4 ≡ n - 1 - 3
 fourth n = omega arith
 
 -- the name of an assignment is at its place where the right side is at hand

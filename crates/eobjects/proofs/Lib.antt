@@ -2,6 +2,7 @@ mod Methods
 mod Reached
 mod Places
 mod Leaves
+mod Lengthened
 mod Drafted
 mod Ending
 mod Sent

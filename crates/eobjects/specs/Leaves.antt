@@ -1,11 +1,12 @@
--- What is evaluated without an end: leaves, and calls on them.
-use Rattle.std.specs.Prelude.{◌≡◌, ◌≤◌, ◌<◌, ◌+◌, ◌-◌, ℕ, ℤ, Some, List, drop, true}
+-- What is evaluated by no call of the evaluation: leaves, calls on them, and assignments of these.
+use Rattle.std.specs.Prelude.{◌≡◌, ◌≤◌, ◌<◌, ◌+◌, ◌-◌, ℕ, ℤ, Bool, true, false, Some, List, drop}
 use Rattle.ids.specs.declared.names.EjId.{EjId}
-use Rattle.kernele.specs.Tree.{Name, Tree, Trees, none, and_then}
+use Rattle.ids.specs.declared.names.SlotId.{SlotId}
+use Rattle.kernele.specs.Tree.{Name, Tree, Trees, noun, call, none, and_then}
 use Rattle.code.specs.View.{trees_of_codes}
 use Rattle.code.specs.declared.code.Code.{Code}
 use Rattle.values.specs.Data.{Val, int, null}
-use Rattle.heap.specs.State.{Bind}
+use Rattle.heap.specs.State.{Bind, slot}
 use Rattle.erules.specs.At.{At}
 use Rattle.erules.specs.Outcomes.{End, value, halt}
 use Rattle.erules.specs.Rules.{sought, seeking, noun_end, noun_read, same_ejector, is_open, ejects, Ends, Items, Runs}
@@ -42,3 +43,15 @@ sent i is (halt h) = halt h
 -- a tree calls an ejector that is the same as this one, with one argument: two steps on, it ends as that argument ends, and there
 abbrev pub Returns : ℕ → At → EjId → Tree → Tree → Type 0
 Returns k a j t arg = (i : EjId) × (same_ejector j i ≡ true) × ((o : End) (b : At) → Ends (k + 1) arg (record a { left = a.left - 2 }) o b → Ends k t a (sent i b.opened o) b)
+
+-- a tree calls a verb on a variable, whose slot is at hand, with one argument, which is at hand
+pub record Lengthens (a : At) (x : Name) (t : Tree) (i : SlotId) (verb : Name) (more : Val) : Type 0 where
+  pub argument : Tree
+  pub is : t ≡ call (noun x) verb (and_then argument none)
+  pub stands : StandsAtHand x (slot i) a
+  pub given : Leaf a argument more
+
+-- a tree was run and gave a value, or nothing has changed
+abbrev pub RanOrNot : Bool → ℕ → Tree → At → At → Type 0
+RanOrNot true k t a b = (v : Val) × Ends k t a (value v) b
+RanOrNot false k t a b = b ≡ a

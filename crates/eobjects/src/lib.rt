@@ -5,6 +5,7 @@
 #![tactic(auto)]
 
 pub mod calls;
+mod growing;
 pub mod nouns;
 pub mod objects;
 pub mod quick;

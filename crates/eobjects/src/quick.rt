@@ -1,4 +1,4 @@
-// What integers at hand, in literals and nouns, make possible without an end: they share, make and leave nothing.
+// What values at hand make possible without a call of the evaluation: integers in literals and nouns, and any value of a noun.
 // A noun is at hand where the cells that it stands in were touched before: then nothing more is touched.
 ghost use Rattle.std.specs.Prelude.{◌≡◌, ◌≤◌, ◌-◌, IfOk, IfSome, OnOk, drop, length};
 ghost use Rattle.kernele.specs.Tree.{call};
@@ -8,12 +8,14 @@ ghost use Rattle.values.specs.Data.{bool, int};
 ghost use Rattle.values.specs.View.{val_of};
 ghost use Rattle.heap.specs.State.{held, slot, slot_cell};
 ghost use Rattle.heap.specs.View.{bind_of};
+ghost use Rattle.erules.specs.At.{At};
 ghost use Rattle.erules.specs.Fits.{all_fit_at, fits_at, frame_at, frame_behind};
-ghost use Rattle.eobjects.specs.Leaves.{AtHand, GivesAtHand, GoesOn, Leaf, Operands, StandsAtHand};
+ghost use Rattle.eobjects.specs.Leaves.{AtHand, GivesAtHand, GoesOn, Leaf, Operands, RanOrNot, StandsAtHand};
 ghost use Rattle.erules.specs.Outcomes.{value as value_end};
 ghost use Rattle.erules.specs.Rules.{Ends, Runs, put};
 ghost use Rattle.erules.specs.View.{at};
 
+use crate::growing::grow_variable;
 use crate::nouns::binding_at;
 use code::code::{Code, Place};
 use erules::working::{DEEPEST, Working};
@@ -108,7 +110,8 @@ pub fn set(w: &mut Working, setting: Setting, into: &mut Value) -> Result<(), Al
     Ok(())
 }
 
-/// Runs the items at the head of a block that assign what integers at hand give. Answers how many they are.
+/// Runs the items at the head of a block that assign what integers at hand give, or make longer what their variables hold.
+/// Answers how many they are.
 #[inline(always)]
 pub fn run_settings(
     w: &mut Working,
@@ -124,12 +127,64 @@ pub fn run_settings(
     let mut done = 0;
     for item in items {
         let Some(setting) = quick_setting(w, item, level) else {
-            return Ok(done);
+            return match item {
+                Code::Assign(_, _, _) => run_from(w, items, done, level, into),
+                _ => Ok(done),
+            };
         };
         set(w, setting, into)?;
         done += 1;
     }
     Ok(done)
+}
+
+/// The same from an item on that assigns something else than what integers at hand give. It stands apart, so that a block
+/// of such assignments alone costs little.
+#[inline(never)]
+fn run_from(
+    w: &mut Working,
+    items: &[Code],
+    start: usize,
+    level: u32,
+    into: &mut Value,
+) -> Result<usize, AllocError>
+    requires within { start ≤ length items.now }
+    requires fits { all_fit_at (at w.old) (drop start items.now) }
+    ensures within { IfOk result (λ n. n ≤ length items.now) }
+    ensures runs { IfOk result (λ n. (a : At) → GoesOn level items.now start a (at w.old) → GoesOn level items.now n a (at w.new)) }
+    ensures fits { IfOk result (λ n. all_fit_at (at w.new) (drop n items.now)) }
+{
+    for place in start..items.len() {
+        let ran = run_quickly(w, &items[place], level, into)?;
+        if !ran {
+            return Ok(place);
+        }
+    }
+    Ok(items.len())
+}
+
+/// Runs an item that makes longer what its variable holds, or assigns what integers at hand give. Answers whether it did;
+/// else nothing has changed.
+#[inline(always)]
+fn run_quickly(
+    w: &mut Working,
+    item: &Code,
+    level: u32,
+    into: &mut Value,
+) -> Result<bool, AllocError>
+    requires { fits_at (at w.old) item.now }
+    ensures { IfOk result (λ ran. RanOrNot ran level (tree_of_code item.now) (at w.old) (at w.new)) }
+{
+    match quick_setting(w, item, level) {
+        Some(setting) => {
+            set(w, setting, into)?;
+            Ok(true)
+        }
+        None => match item {
+            Code::Assign(name, _, right) => grow_variable(w, name, right, level),
+            _ => Ok(false),
+        },
+    }
 }
 
 /// The value of a call on integers at hand, if it gives one.
@@ -188,7 +243,7 @@ pub(crate) fn peek<'a>(w: &'a Working, name: &Text, place: Place) -> Option<&'a 
 
 /// The slot that a name stands for, if it is found so.
 #[inline(always)]
-fn slot_of(w: &Working, name: &Text, place: Place) -> Option<SlotId>
+pub(crate) fn slot_of(w: &Working, name: &Text, place: Place) -> Option<SlotId>
     requires { place ≡ place_in (frame_at (at w.now)) name.now }
     ensures { IfSome result (λ i. StandsAtHand name.now (slot i) (at w.now)) }
 {

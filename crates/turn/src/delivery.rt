@@ -6,12 +6,12 @@ ghost use Rattle.code.specs.View.{trees_of_codes};
 ghost use Rattle.values.specs.Data.{null};
 ghost use Rattle.values.specs.View.{val_of};
 ghost use Rattle.erules.specs.At.{At};
-ghost use Rattle.erules.specs.Outcomes.{End as ModelEnd};
+ghost use Rattle.erules.specs.Outcomes.{End as ModelEnd, value as value_end, halt as halt_end};
 ghost use Rattle.erules.specs.Rules.{Items};
 ghost use Rattle.event.specs.Turn.{start, settled, published as published_of};
 ghost use Rattle.heap.specs.Found.{Found};
 ghost use Rattle.heap.specs.View.{state_of};
-ghost use Rattle.erules.specs.View.{at, end_of};
+ghost use Rattle.erules.specs.View.{at, halt_of};
 ghost use Rattle.event.specs.Outcomes.{ended_of, Meets};
 ghost use Rattle.post.specs.DeliveryView.{delivery_of};
 ghost use Rattle.turn.specs.Runs.{RunsTo};
@@ -82,15 +82,21 @@ fn run_items(
     };
     let mut value = Value::Null;
     match eval_items(&mut w, items, 1, &mut value) {
-        Ok(()) => finish(w, Some(value)),
-        Err(Stop::Halted) => finish(w, None),
+        Ok(()) => {
+            let ended = settle(alloc, value)?;
+            finish(w, ended)
+        }
+        Err(Stop::Halted) => {
+            let ended = halted(alloc, &w.halt)?;
+            finish(w, ended)
+        }
         Err(Stop::Memory) => Err(AllocError),
     }
 }
 
 /// The outcome of a turn that ended so.
-fn finish(w: Working, value: Option<Value>) -> Result<Outcome, AllocError>
-    ensures { IfOk result (λ r. RunsTo r (settled (end_of end)) (at w)) }
+fn finish(w: Working, ended: Ended) -> Result<Outcome, AllocError>
+    ensures { IfOk result (λ r. RunsTo r (ended_of ended) (at w)) }
 {
     let Working {
         alloc,
@@ -103,9 +109,8 @@ fn finish(w: Working, value: Option<Value>) -> Result<Outcome, AllocError>
         steps,
         ejectors: _,
         opened: _,
-        halt,
+        halt: _,
     } = w;
-    let ended = settle(alloc, value, halt)?;
     let result = published(alloc, &ended)?;
     let footprint = draft.finish()?;
     Ok(Outcome {
@@ -116,24 +121,26 @@ fn finish(w: Working, value: Option<Value>) -> Result<Outcome, AllocError>
     })
 }
 
-/// How a turn whose program ended so ends: a value past the limits of a value is a problem.
-fn settle(alloc: Global, value: Option<Value>, halt: Halt) -> Result<Ended, AllocError>
-    ensures { IfOk result (λ e. ended_of e ≡ settled (end_of end)) }
+/// How a turn whose program gave this value ends: a value past the limits of a value is a problem.
+fn settle(alloc: Global, value: Value) -> Result<Ended, AllocError>
+    ensures { IfOk result (λ e. ended_of e ≡ settled (value_end (val_of value))) }
 {
-    match value {
-        Some(value) => {
-            if is_within_limits(&value) {
-                Ok(Ended::Value(value))
-            } else {
-                Ok(Ended::Problem(Text::new(alloc, "value too large")?))
-            }
-        }
-        None => match halt {
-            Halt::Thrown(problem) => Ok(Ended::Problem(problem)),
-            // No ejection leaves its Escape.
-            Halt::Ejected(_, _) => Ok(Ended::Problem(Text::new(alloc, "ejector is spent")?)),
-            Halt::Abandoned(why) => Ok(Ended::Abandoned(why)),
-        },
+    if is_within_limits(&value) {
+        Ok(Ended::Value(value))
+    } else {
+        Ok(Ended::Problem(Text::new(alloc, "value too large")?))
+    }
+}
+
+/// How a turn whose program was halted ends.
+fn halted(alloc: Global, halt: &Halt) -> Result<Ended, AllocError>
+    ensures { IfOk result (λ e. ended_of e ≡ settled (halt_end (halt_of halt.now))) }
+{
+    match halt {
+        Halt::Thrown(problem) => Ok(Ended::Problem(problem.share()?)),
+        // No ejection leaves its Escape.
+        Halt::Ejected(_, _) => Ok(Ended::Problem(Text::new(alloc, "ejector is spent")?)),
+        Halt::Abandoned(why) => Ok(Ended::Abandoned(*why)),
     }
 }
 

@@ -1,4 +1,6 @@
-use Rattle.std.proofs.Common.{◌+◌, refl, ap, sym, subst}
+use Rattle.std.proofs.Common.{◌+◌, arith, drop, refl, ap, sym, subst}
+use Rattle.std.proofs.lemmas.Result.{IfOk-weaker}
+use Rattle.erules.specs.Fits.{all_fit_at}
 use Rattle.eobjects.specs.Leaves.{GoesOn}
 use Rattle.erules.specs.View.{at}
 use Rattle.erules.proofs.Fitting.{all_fit_then, fits_from}
@@ -21,8 +23,17 @@ loop-item-preserved c =
 pub loop-item-init : goal.loop-item-init
 loop-item-init c = record { counted = refl; runs = none_done c.args.items.now (at c.args.w.now); fits = c.requires }
 
-pub returns-in_default-clause-runs : goal.returns-in_default-clause-runs
-returns-in_default-clause-runs c = subst (λ n. GoesOn c.args.level c.args.items.now n (at c.args.w.now) (at c.loop-item.w)) (sym c.loop-item.invariant.counted) c.loop-item.invariant.runs
+pub run_from-requires : goal.run_from-requires
+run_from-requires c = record {
+  within = omega (arith, c.loop-item.invariant.counted, c.loop-item-test.true);
+  fits = subst (λ n. all_fit_at (at c.loop-item.w) (drop n c.args.items.now)) (sym c.loop-item.invariant.counted) c.loop-item.invariant.fits;
+}
+
+pub returns-in-Assign-clause-runs : goal.returns-in-Assign-clause-runs
+returns-in-Assign-clause-runs c = IfOk-weaker c.run_from.result _ _ (λ n h. h (at c.args.w.now) (subst (λ n. GoesOn c.args.level c.args.items.now n (at c.args.w.now) (at c.loop-item.w)) (sym c.loop-item.invariant.counted) c.loop-item.invariant.runs)) c.run_from.ensures.runs
+
+pub returns-in_default-item-clause-runs : goal.returns-in_default-item-clause-runs
+returns-in_default-item-clause-runs c = subst (λ n. GoesOn c.args.level c.args.items.now n (at c.args.w.now) (at c.loop-item.w)) (sym c.loop-item.invariant.counted) c.loop-item.invariant.runs
 
 pub returns-clause-runs : goal.returns-clause-runs
 returns-clause-runs c = subst (λ n. GoesOn c.args.level c.args.items.now n (at c.args.w.now) (at c.loop-item.w)) (sym c.loop-item.invariant.counted) c.loop-item.invariant.runs

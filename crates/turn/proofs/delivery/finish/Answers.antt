@@ -1,6 +1,5 @@
-use Rattle.std.proofs.Common.{is_some, refl, sym, ap, ◌∙◌}
+use Rattle.std.proofs.Common.{is_some, refl, sym, ◌∙◌}
 use Rattle.heap.proofs.Drafting.{draft_as_written}
-use Rattle.event.specs.Turn.{published}
 use Rattle.turn.proofs.delivery.finish.Goals as goal
 
 pub returns : goal.returns
@@ -9,7 +8,7 @@ returns c = record {
   written = λ i k. is_some (c.in_ok-footprint.ensures.written i k);
   holds = λ k x h. draft_as_written c.args.w.draft k x (sym (λ i. c.in_ok-footprint.ensures.written i k) ∙ h);
   found = c.in_ok-footprint.ensures.found;
-  result = c.in_ok-result.ensures ∙ ap published c.in_ok-ended.ensures;
-  end = c.in_ok-ended.ensures;
+  result = c.in_ok-result.ensures;
+  end = refl;
   left = refl;
 }
