@@ -1,4 +1,5 @@
-// What nests deepest, on a stack as large as that on which the program answers commands, and budgets at their ends.
+// What nests deepest: texts on a stack as large as that on which the program answers commands, evaluation on a smaller one, as a
+// thread of many would have it; and budgets at their ends.
 
 use crate::tables::{expect, expect_text, limits, nested, session_of};
 use std::process::Abort;
@@ -6,9 +7,13 @@ use std::rt::Runtime;
 use std::thread::{Builder, Threads};
 use stepper::{STACK, replies};
 
-/// Runs commands on a stack as large as the program's own, and compares the replies.
-fn expect_on_its_stack(
+/// The stack of a thread that only runs turns, in bytes: level 1,000 fits it.
+const STACK_OF_TURNS: usize = 16 << 20;
+
+/// Runs commands on a stack of this size, and compares the replies.
+fn expect_on_a_stack(
     rt: &(impl Runtime + AllocGlobal + Threads + Abort),
+    size: usize,
     commands: &str,
     wanted: &str,
 ) {
@@ -16,7 +21,7 @@ fn expect_on_its_stack(
     let commands = String::from_str(alloc, commands).expect(rt, "no memory");
     let answering = move || replies(alloc, commands.as_bytes(), limits(10_000));
     let thread = Builder::new()
-        .stack_size(STACK)
+        .stack_size(size)
         .spawn(rt, answering)
         .expect(rt, "no thread");
     match thread.join(rt) {
@@ -32,7 +37,7 @@ fn expect_on_its_stack(
     }
 }
 
-/// Asks a text of a vat on such a stack, and compares the refusal.
+/// Asks a text of a vat on the program's own stack, and compares the refusal.
 fn expect_refusal_of(
     rt: &(impl Runtime + AllocGlobal + Threads + Abort),
     text: &str,
@@ -40,7 +45,7 @@ fn expect_refusal_of(
 ) {
     let commands = format!(in rt.alloc(); "vat a () 0\nask a {text}\n").expect(rt, "no memory");
     let wanted = format!(in rt.alloc(); "ok e1 e1.m0\n{wanted}\n").expect(rt, "no memory");
-    expect_on_its_stack(rt, &commands, &wanted);
+    expect_on_a_stack(rt, STACK, &commands, &wanted);
 }
 
 /// A loop over each list of a loop, or a condition behind each `else`, as deep as the tokens of a text allow: the texts
@@ -79,13 +84,27 @@ ok e4 value null
 > ask a [f(498)]
 ok e5 e5.m0
 > turn e5.m0
+ok e6 abandoned "calls too deep"
+
+> vat a () 1
+> def f { method run(n) { if (n > 0) { try { escape e { for x in [n] { e(f(n - 1)) } } } catch p { p } } else { n } } }
+ok e1 e1.m0
+> turn e1.m0
+ok e2 value <e2.o0>
+> ask a f(124)
+ok e3 e3.m0
+> turn e3.m0
+ok e4 value 0
+> ask a f(200)
+ok e5 e5.m0
+> turn e5.m0
 ok e6 abandoned "calls too deep""#;
 
 #[test]
 fn deep_calls(rt: HostRuntime) {
     for part in DEEP_CALLS.split("\n\n") {
         let session = session_of(&rt, part);
-        expect_on_its_stack(&rt, &session.commands, &session.wanted);
+        expect_on_a_stack(&rt, STACK_OF_TURNS, &session.commands, &session.wanted);
     }
 }
 
@@ -98,7 +117,7 @@ fn the_deepest_tree_at_the_deepest_level(rt: HostRuntime) {
     ).expect(&rt, "no memory");
     let wanted =
         "ok e1 e1.m0\nok e2 value <e2.o1>\nok e3 e3.m0\nok e4 value 198\nok e5 e5.m0\nok e6 abandoned \"calls too deep\"\n";
-    expect_on_its_stack(&rt, &commands, wanted);
+    expect_on_a_stack(&rt, STACK_OF_TURNS, &commands, wanted);
 }
 
 /// The least budget and the largest one.
