@@ -5,7 +5,9 @@ use Rattle.std.specs.Ordering.{is_eq}
 use Rattle.std.proofs.lemmas.Bool.{and_parts, eq-eqb}
 use Rattle.std.proofs.lemmas.Slice.Eq.{bytes_eq-Decides}
 use Rattle.ids.proofs.Keys.{equal, equal_self, exact_vats, exact_messages, exact_promises, exact_slots, exact_objects, message_self, promise_self, slot_self, object_self}
+use Rattle.ids.proofs.References.{reference_equal, reference_self}
 use Rattle.ids.specs.Cells.{vat_cmp, message_cmp, promise_cmp, slot_cmp, object_cmp}
+use Rattle.ids.specs.References.{same_reference}
 use Rattle.ids.specs.declared.names.SlotId.{SlotId}
 use Rattle.ids.specs.declared.names.ObjId.{ObjId}
 use Rattle.ids.specs.declared.names.MsgId.{MsgId}
@@ -33,6 +35,12 @@ same_exact (key.Object i) (key.Object j) h = ap key.Object (exact_objects i j (e
 same_exact (key.Top v x) (key.Top w y) h =
     let p = and_parts (is_eq (vat_cmp v w)) (bytes_eq x y) h in
     ap₂ key.Top (exact_vats v w (equal (vat_cmp v w) p.0)) ((bytes_eq-Decides x y).0 p.1)
+same_exact (key.View v p) (key.View w q) h =
+    let t = and_parts (is_eq (vat_cmp v w)) (is_eq (promise_cmp p q)) h in
+    ap₂ key.View (exact_vats v w (equal (vat_cmp v w) t.0)) (exact_promises p q (equal (promise_cmp p q) t.1))
+same_exact (key.Fence v r) (key.Fence w t) h =
+    let p = and_parts (is_eq (vat_cmp v w)) (same_reference r t) h in
+    ap₂ key.Fence (exact_vats v w (equal (vat_cmp v w) p.0)) (reference_equal r t p.1)
 same_exact (key.Msg m) (key.Msg n) h = ap key.Msg (exact_messages m n (equal (message_cmp m n) h))
 same_exact (key.Board p) (key.Board q) h = ap key.Board (exact_promises p q (equal (promise_cmp p q) h))
 same_exact _ _ h = cc
@@ -42,6 +50,8 @@ same_self (key.Name x) = (bytes_eq-Decides x x).1 refl
 same_self (key.Slot s) = slot_self s
 same_self (key.Object i) = object_self i
 same_self (key.Top v x) = ap₂ (λ a b. is_eq a && b) (equal_self v.0.0) ((bytes_eq-Decides x x).1 refl)
+same_self (key.View v p) = ap₂ (λ a b. is_eq a && b) (equal_self v.0.0) (promise_self p)
+same_self (key.Fence v r) = ap₂ (λ a b. is_eq a && b) (equal_self v.0.0) (reference_self r)
 same_self (key.Msg m) = message_self m
 same_self (key.Board p) = promise_self p
 

@@ -8,6 +8,10 @@ use Rattle.ids.specs.declared.names.SlotId.{SlotId}
 use Rattle.ids.specs.declared.names.ObjId.{ObjId}
 use Rattle.ids.specs.declared.names.MsgId.{MsgId}
 use Rattle.ids.specs.declared.names.PromId.{PromId}
+use Rattle.ids.specs.declared.names.EjId.{EjId}
+use Rattle.ids.specs.contracts.reference.ReferencePartialEq.TheImpl as test
+use Rattle.ids.specs.declared.reference.Reference.{Reference}
+use Rattle.ids.specs.declared.reference.Reference.TheVariants as reference
 
 -- numbers of which each equals its other
 abbrev pub same_two : ℕ → ℕ → ℕ → ℕ → Bool
@@ -50,3 +54,15 @@ pub exact_promise : (a b : PromId) → same_three a.event.0 b.event.0 a.index b.
 exact_promise a b h =
     let q = three_equal a.event.0 b.event.0 a.index b.index a.home.0.0 b.home.0.0 h in
     λ k. record { event = record { 0 = q.0 k }; index = q.1 k; home = record { 0 = record { 0 = q.2 k } } }
+
+exact_ejector : (a b : EjId) → same_three a.event.0 b.event.0 a.index b.index a.vat.0.0 b.vat.0.0 ≡ true → a ≡ b
+exact_ejector a b h =
+    let q = three_equal a.event.0 b.event.0 a.index b.index a.vat.0.0 b.vat.0.0 h in
+    λ k. record { event = record { 0 = q.0 k }; index = q.1 k; vat = record { 0 = record { 0 = q.2 k } } }
+
+-- references that the test of the program finds equal
+pub exact_reference : (a b : Reference) → (test.ghosts).eq a b ≡ true → a ≡ b
+exact_reference (reference.Object i) (reference.Object j) h = ap reference.Object (exact_object i j h)
+exact_reference (reference.Ejector i) (reference.Ejector j) h = ap reference.Ejector (exact_ejector i j h)
+exact_reference (reference.Promise p) (reference.Promise q) h = ap reference.Promise (exact_promise p q h)
+exact_reference _ _ h = cc

@@ -1,8 +1,9 @@
 // Keys of cells.
 ghost use Rattle.std.specs.Prelude.{◌≡◌, true, IfOk};
-ghost use Rattle.ids.specs.KeyLaws.{exact_text, exact_vat, exact_slot, exact_object, exact_message, exact_promise};
+ghost use Rattle.ids.specs.KeyLaws.{exact_text, exact_vat, exact_slot, exact_object, exact_message, exact_promise, exact_reference};
 
 use crate::names::{MsgId, ObjId, PromId, SlotId, VatNo};
+use crate::reference::Reference;
 use crate::text::Text;
 use std::alloc::AllocError;
 use std::hash::Hash;
@@ -18,6 +19,10 @@ pub enum CellKey {
     Object(ObjId),
     /// What a name that a vat's script defined stands for.
     Top(VatNo, Text),
+    /// What a vat knows of a promise that has come into it.
+    View(VatNo, PromId),
+    /// The messages that a vat keeps behind a reference.
+    Fence(VatNo, Reference),
     Msg(MsgId),
     /// What a promise was published as.
     Board(PromId),
@@ -33,6 +38,8 @@ impl CellKey {
             CellKey::Slot(slot) => CellKey::Slot(*slot),
             CellKey::Object(object) => CellKey::Object(*object),
             CellKey::Top(vat, name) => CellKey::Top(*vat, name.share()?),
+            CellKey::View(vat, promise) => CellKey::View(*vat, *promise),
+            CellKey::Fence(vat, reference) => CellKey::Fence(*vat, *reference),
             CellKey::Msg(message) => CellKey::Msg(*message),
             CellKey::Board(promise) => CellKey::Board(*promise),
         })
@@ -78,6 +85,12 @@ impl Key for MsgId {
 
 impl Key for PromId {
     ghost exact = { exact_promise };
+
+    ghost clone_is_same = { λ a b h. h };
+}
+
+impl Key for Reference {
+    ghost exact = { exact_reference };
 
     ghost clone_is_same = { λ a b h. h };
 }
