@@ -12,7 +12,10 @@ use Rattle.ids.specs.declared.names.SlotId.{SlotId}
 use Rattle.ids.specs.declared.names.ObjId.{ObjId}
 use Rattle.ids.specs.declared.names.MsgId.{MsgId}
 use Rattle.ids.specs.declared.names.PromId.{PromId}
-use Rattle.ids.specs.KeyLaws.{same_two, same_three, exact_slot, exact_object, exact_message, exact_promise}
+use Rattle.ids.specs.KeyLaws.{same_two, same_three, exact_slot, exact_object, exact_message, exact_promise, exact_reference}
+use Rattle.ids.specs.contracts.reference.ReferencePartialEq.TheImpl as test
+use Rattle.ids.specs.declared.reference.Reference.{Reference}
+use Rattle.ids.specs.declared.reference.Reference.TheVariants as reference
 use Rattle.ids.specs.CellKeys.{same_key, SameIsEqual, EventsTellApart}
 use Rattle.ids.specs.declared.cells.CellKey.{CellKey}
 use Rattle.ids.specs.declared.cells.CellKey.TheVariants as key
@@ -84,3 +87,12 @@ promises_agree s t = agree _ _ (λ h. ap (λ x. is_eq (promise_cmp s x)) (sym (e
 
 pub messages_agree : (s t : MsgId) → same_two s.event.0 t.event.0 s.index t.index ≡ is_eq (message_cmp s t)
 messages_agree s t = agree _ _ (λ h. ap (λ x. is_eq (message_cmp s x)) (sym (exact_message s t h)) ∙ message_self s) (λ h. let e : s ≡ t = exact_messages s t (equal (message_cmp s t) h) in ap (λ x. same_two s.event.0 x.event.0 s.index x.index) (sym e) ∙ two_self s.event.0 s.index)
+
+-- and so do those of references
+test_self : (r : Reference) → (test.ghosts).eq r r ≡ true
+test_self (reference.Promise p) = three_self p.event.0 p.index p.home.0.0
+test_self (reference.Object i) = three_self i.event.0 i.index i.vat.0.0
+test_self (reference.Ejector j) = three_self j.event.0 j.index j.vat.0.0
+
+pub references_agree : (r t : Reference) → (test.ghosts).eq r t ≡ same_reference r t
+references_agree r t = agree _ _ (λ h. ap (λ x. same_reference r x) (sym (exact_reference r t h)) ∙ reference_self r) (λ h. ap (λ x. (test.ghosts).eq r x) (sym (reference_equal r t h)) ∙ test_self r)

@@ -1,10 +1,10 @@
 // What messages are sent on.
 use crate::names::{EjId, ObjId, PromId};
 
-/// What a message can be sent on: an object, an ejector or a promise.
+/// What a message can be sent on: a promise, an object or an ejector. Their order is that of lists of references.
 #[derive(Clone, Copy, PartialEq, Eq, PartialOrd, Ord, Hash)]
 pub enum Reference {
+    Promise(PromId),
     Object(ObjId),
     Ejector(EjId),
-    Promise(PromId),
 }
