@@ -7,6 +7,8 @@ use Rattle.ids.specs.declared.names.PromId.{PromId}
 use Rattle.ids.specs.declared.names.SlotId.{SlotId}
 use Rattle.ids.specs.declared.names.ObjId.{ObjId}
 use Rattle.ids.specs.declared.names.EjId.{EjId}
+use Rattle.ids.specs.declared.reference.Reference.{Reference}
+use Rattle.ids.specs.declared.reference.Reference.TheVariants as reference
 
 -- e4
 abbrev pub event_text : EventName → List ℕ
@@ -31,3 +33,9 @@ object_text o = event_text o.event ++ codes ".o" ++ decimal o.index
 -- e2.j0
 abbrev pub ejector_text : EjId → List ℕ
 ejector_text j = event_text j.event ++ codes ".j" ++ decimal j.index
+
+-- e8.p1, e2.o0 or e2.j0
+abbrev pub reference_text : Reference → List ℕ
+reference_text (reference.Promise p) = promise_text p
+reference_text (reference.Object i) = object_text i
+reference_text (reference.Ejector j) = ejector_text j
