@@ -47,13 +47,17 @@ module _ {K V : Type 0} (cell : K → Cell) (content : V → heap.Content) where
       (λ xs x. ap (λ l. kept_left e v (left_in l)) (map-append (entry_in cell content) xs (x ∷ [])) ∙ ap (kept_left e v) (left_both (entries_in cell content xs) (entries_in cell content (x ∷ [])) ∙ ap (λ l. left_in (entries_in cell content xs) ++ l) (append-nil (left_at (entry_in cell content x).0 (entry_in cell content x).1))) ∙ kept_both e v (left_in (entries_in cell content xs)) _)
       es i x base done more h d m
 
--- three parts that were added one after another
-pub kept_thrice : (e : EventName) (v : VatNo) (xs ys zs : List Entry) (start one two three : Record cells) → one ≡ start ++ kept_left e v (left_in xs) → two ≡ one ++ kept_left e v (left_in ys) → three ≡ two ++ kept_left e v (left_in zs)
-    → three ≡ start ++ kept_left e v (left_in (xs ++ (ys ++ zs)))
-kept_thrice e v xs ys zs start one two three h g f =
-    f ∙ ap (λ l. l ++ kept_left e v (left_in zs)) (g ∙ ap (λ l. l ++ kept_left e v (left_in ys)) h)
-    ∙ ap (λ l. l ++ kept_left e v (left_in zs)) (append_assoc start (kept_left e v (left_in xs)) (kept_left e v (left_in ys))) ∙ append_assoc start (kept_left e v (left_in xs) ++ kept_left e v (left_in ys)) (kept_left e v (left_in zs))
-    ∙ ap (λ l. start ++ l) (append_assoc (kept_left e v (left_in xs)) (kept_left e v (left_in ys)) (kept_left e v (left_in zs)) ∙ ap (λ l. kept_left e v (left_in xs) ++ l) (sym (kept_more ys zs)) ∙ sym (kept_more xs (ys ++ zs)))
-  where
-    kept_more : (xs ys : List Entry) → kept_left e v (left_in (xs ++ ys)) ≡ kept_left e v (left_in xs) ++ kept_left e v (left_in ys)
-    kept_more xs ys = ap (kept_left e v) (left_both xs ys) ∙ kept_both e v (left_in xs) (left_in ys)
+-- what was added in front of the rest is what all parts leave
+pub kept_more : (e : EventName) (v : VatNo) (xs ys : List Entry) → kept_left e v (left_in (xs ++ ys)) ≡ kept_left e v (left_in xs) ++ kept_left e v (left_in ys)
+kept_more e v xs ys = ap (kept_left e v) (left_both xs ys) ∙ kept_both e v (left_in xs) (left_in ys)
+
+-- a part that was added, and then the rest
+pub kept_then : (e : EventName) (v : VatNo) (xs ys : List Entry) (start one end : Record cells) → one ≡ start ++ kept_left e v (left_in xs) → end ≡ one ++ kept_left e v (left_in ys) → end ≡ start ++ kept_left e v (left_in (xs ++ ys))
+kept_then e v xs ys start one end h g =
+    g ∙ ap (λ l. l ++ kept_left e v (left_in ys)) h ∙ append_assoc start (kept_left e v (left_in xs)) (kept_left e v (left_in ys))
+    ∙ ap (λ l. start ++ l) (sym (kept_more e v xs ys))
+
+-- the same of keys
+pub keys_then : (v : VatNo) (xs ys : List Entry) (start one end : List CellKey) → one ≡ start ++ keys_in v xs → end ≡ one ++ keys_in v ys → end ≡ start ++ keys_in v (xs ++ ys)
+keys_then v xs ys start one end h g =
+    g ∙ ap (λ l. l ++ keys_in v ys) h ∙ append_assoc start (keys_in v xs) (keys_in v ys) ∙ ap (λ l. start ++ l) (sym (map-append _ xs ys))

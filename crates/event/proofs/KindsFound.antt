@@ -4,8 +4,8 @@ use Rattle.std.specs.Option.{option_map}
 use Rattle.cells.specs.Touches.{touch}
 use Rattle.cells.specs.declared.touches.Touch.{Touch}
 use Rattle.values.specs.View.{val_of}
-use Rattle.heap.specs.State.{top, slot_cell, object_cell, Content, bound, held, made}
-use Rattle.heap.specs.View.{bind_of, object_of, state_of, same_name, same_slot, same_object}
+use Rattle.heap.specs.State.{top, slot_cell, object_cell, view_cell, fence_cell, Content, bound, held, made, viewed, fenced}
+use Rattle.heap.specs.View.{bind_of, object_of, view_of, state_of, same_name, same_slot, same_object, same_promise, same_target}
 use Rattle.heap.specs.Found.{Found, touch_of}
 use Rattle.heap.specs.declared.reach.Footprint.{Footprint}
 use Rattle.heap.specs.declared.state.VatState.{VatState}
@@ -30,11 +30,19 @@ module _ (r : Footprint) (s : VatState) where
   abbrev pub ObjectsFound : Type 0
   ObjectsFound = FoundIn same_object (λ m. made (object_of m)) r.objects s.objects
 
+  abbrev pub ViewsFound : Type 0
+  ViewsFound = FoundIn same_promise (λ k. viewed (view_of k)) r.views s.views
+
+  abbrev pub FencesFound : Type 0
+  FencesFound = FoundIn same_target fenced r.fences s.fences
+
   -- the cells of all kinds are all cells
-  pub found_all_kinds : TopsFound → SlotsFound → ObjectsFound → Found r (state_of s)
-  found_all_kinds tops slots objects (top x) t e = found_told (λ b. bound (bind_of b)) (touch same_name r.tops x) t (state_of s (top x)) (tops x) e
-  found_all_kinds tops slots objects (slot_cell i) t e = found_told (λ v. held (val_of v)) (touch same_slot r.slots i) t (state_of s (slot_cell i)) (slots i) e
-  found_all_kinds tops slots objects (object_cell i) t e = found_told (λ m. made (object_of m)) (touch same_object r.objects i) t (state_of s (object_cell i)) (objects i) e
+  pub found_all_kinds : TopsFound → SlotsFound → ObjectsFound → ViewsFound → FencesFound → Found r (state_of s)
+  found_all_kinds tops slots objects views fences (top x) t e = found_told (λ b. bound (bind_of b)) (touch same_name r.tops x) t (state_of s (top x)) (tops x) e
+  found_all_kinds tops slots objects views fences (slot_cell i) t e = found_told (λ v. held (val_of v)) (touch same_slot r.slots i) t (state_of s (slot_cell i)) (slots i) e
+  found_all_kinds tops slots objects views fences (object_cell i) t e = found_told (λ m. made (object_of m)) (touch same_object r.objects i) t (state_of s (object_cell i)) (objects i) e
+  found_all_kinds tops slots objects views fences (view_cell p) t e = found_told (λ k. viewed (view_of k)) (touch same_promise r.views p) t (state_of s (view_cell p)) (views p) e
+  found_all_kinds tops slots objects views fences (fence_cell q) t e = found_told fenced (touch same_target r.fences q) t (state_of s (fence_cell q)) (fences q) e
 
   -- and those of one kind are among them
   pub tops_found : Found r (state_of s) → TopsFound
@@ -45,3 +53,9 @@ module _ (r : Footprint) (s : VatState) where
 
   pub objects_found : Found r (state_of s) → ObjectsFound
   objects_found all i t e = all (object_cell i) (record { found = option_map (λ m. made (object_of m)) t.found; written = option_map (λ m. made (object_of m)) t.written }) (ap (touch_of (λ m. made (object_of m))) e)
+
+  pub views_found : Found r (state_of s) → ViewsFound
+  views_found all p t e = all (view_cell p) (record { found = option_map (λ k. viewed (view_of k)) t.found; written = option_map (λ k. viewed (view_of k)) t.written }) (ap (touch_of (λ k. viewed (view_of k))) e)
+
+  pub fences_found : Found r (state_of s) → FencesFound
+  fences_found all q t e = all (fence_cell q) (record { found = option_map fenced t.found; written = option_map fenced t.written }) (ap (touch_of fenced) e)

@@ -20,7 +20,7 @@ use Rattle.ids.specs.declared.cells.CellKey.TheVariants as key
 use Rattle.cells.specs.Touches.{standing}
 use Rattle.cells.specs.declared.touches.Touch.{Touch}
 use Rattle.heap.specs.State as heap
-use Rattle.heap.specs.State.{Cell, top, slot_cell, object_cell, same_cell}
+use Rattle.heap.specs.State.{Cell, top, slot_cell, object_cell, view_cell, fence_cell, same_cell}
 use Rattle.heap.specs.Found.{touch_in, touched_in, writes_in, written_part, left_by}
 use Rattle.heap.specs.declared.reach.Footprint.{Footprint}
 use Rattle.erules.specs.Outcomes.{End, value, halt, thrown, ejected, abandoned}
@@ -126,6 +126,8 @@ module _ (e : EventName) (m : MsgId) (g : Message) (v : VatNo) (o : code.Outcome
       none_end (top x) = refl
       none_end (slot_cell i) = refl
       none_end (object_cell i) = refl
+      none_end (view_cell p) = refl
+      none_end (fence_cell r) = refl
 
   -- the record of all that it writes
   recorded : kept_left e v left ++ record_of cells e.0 ends ≡ record_of cells e.0 (writes_at v left ++ ends)

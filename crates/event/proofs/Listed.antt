@@ -8,13 +8,14 @@ use Rattle.history.specs.Records.{Record, Apart}
 use Rattle.history.specs.Subject.{found}
 use Rattle.history.proofs.Lists.{all_map}
 use Rattle.ids.specs.CellKeys.{same_key}
-use Rattle.ids.specs.Cells.{slot_cmp, object_cmp}
+use Rattle.ids.specs.Cells.{slot_cmp, object_cmp, promise_cmp}
 use Rattle.ids.specs.declared.names.EventName.{EventName}
 use Rattle.ids.specs.declared.names.VatNo.{VatNo}
 use Rattle.ids.specs.declared.cells.CellKey.{CellKey}
-use Rattle.ids.proofs.Keys.{equal, equal_self, exact_slots, exact_objects, slot_self, object_self}
+use Rattle.ids.proofs.Keys.{equal, equal_self, exact_slots, exact_objects, exact_promises, slot_self, object_self, promise_self}
+use Rattle.ids.proofs.References.{reference_equal, reference_self}
 use Rattle.heap.specs.State as heap
-use Rattle.heap.specs.State.{Cell, top, slot_cell, object_cell, same_cell}
+use Rattle.heap.specs.State.{Cell, top, slot_cell, object_cell, view_cell, fence_cell, same_cell}
 use Rattle.post.specs.World.{cell_key, content_of}
 use Rattle.post.specs.Theory.{cells}
 use Rattle.event.specs.Entries.{Entry, cells_in, keys_in, left_at, left_in, writes_at, kept_left}
@@ -26,6 +27,8 @@ pub cell_exact : (c d : Cell) → same_cell c d ≡ true → c ≡ d
 cell_exact (top x) (top y) h = ap top ((bytes_eq-Decides x y).0 h)
 cell_exact (slot_cell i) (slot_cell j) h = ap slot_cell (exact_slots i j (equal (slot_cmp i j) h))
 cell_exact (object_cell i) (object_cell j) h = ap object_cell (exact_objects i j (equal (object_cmp i j) h))
+cell_exact (view_cell p) (view_cell q) h = ap view_cell (exact_promises p q (equal (promise_cmp p q) h))
+cell_exact (fence_cell r) (fence_cell t) h = ap fence_cell (reference_equal r t h)
 cell_exact _ _ h = cc
 
 -- each is the same as itself
@@ -33,6 +36,8 @@ pub cell_self : (c : Cell) → same_cell c c ≡ true
 cell_self (top x) = (bytes_eq-Decides x x).1 refl
 cell_self (slot_cell i) = slot_self i
 cell_self (object_cell i) = object_self i
+cell_self (view_cell p) = promise_self p
+cell_self (fence_cell r) = reference_self r
 
 -- which of two stands first makes no difference
 cell_turned : (c d : Cell) → same_cell c d ≡ false → same_cell d c ≡ false
@@ -45,14 +50,30 @@ cell_turned c d h = by (same_cell d c) refl
 -- the keys of a vat's cells are the same where the cells are
 keys_agree : (v : VatNo) (c d : Cell) → same_key (cell_key v c) (cell_key v d) ≡ same_cell c d
 keys_agree v (top x) (top y) = rw (equal_self v.0.0) refl
-keys_agree v (top x) (slot_cell j) = refl
-keys_agree v (top x) (object_cell j) = refl
-keys_agree v (slot_cell i) (top y) = refl
-keys_agree v (slot_cell i) (slot_cell j) = refl
-keys_agree v (slot_cell i) (object_cell j) = refl
-keys_agree v (object_cell i) (top y) = refl
-keys_agree v (object_cell i) (slot_cell j) = refl
-keys_agree v (object_cell i) (object_cell j) = refl
+keys_agree v (view_cell p) (view_cell q) = rw (equal_self v.0.0) refl
+keys_agree v (fence_cell r) (fence_cell t) = rw (equal_self v.0.0) refl
+keys_agree v (top x) (slot_cell y) = refl
+keys_agree v (top x) (object_cell y) = refl
+keys_agree v (top x) (view_cell y) = refl
+keys_agree v (top x) (fence_cell y) = refl
+keys_agree v (slot_cell x) (top y) = refl
+keys_agree v (slot_cell x) (slot_cell y) = refl
+keys_agree v (slot_cell x) (object_cell y) = refl
+keys_agree v (slot_cell x) (view_cell y) = refl
+keys_agree v (slot_cell x) (fence_cell y) = refl
+keys_agree v (object_cell x) (top y) = refl
+keys_agree v (object_cell x) (slot_cell y) = refl
+keys_agree v (object_cell x) (object_cell y) = refl
+keys_agree v (object_cell x) (view_cell y) = refl
+keys_agree v (object_cell x) (fence_cell y) = refl
+keys_agree v (view_cell x) (top y) = refl
+keys_agree v (view_cell x) (slot_cell y) = refl
+keys_agree v (view_cell x) (object_cell y) = refl
+keys_agree v (view_cell x) (fence_cell y) = refl
+keys_agree v (fence_cell x) (top y) = refl
+keys_agree v (fence_cell x) (slot_cell y) = refl
+keys_agree v (fence_cell x) (object_cell y) = refl
+keys_agree v (fence_cell x) (view_cell y) = refl
 
 -- ---- what is looked up
 

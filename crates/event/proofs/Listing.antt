@@ -7,9 +7,10 @@ use Rattle.ids.specs.declared.names.VatNo.{VatNo}
 use Rattle.ids.specs.declared.cells.CellKey.{CellKey}
 use Rattle.ids.specs.declared.cells.CellKey.TheVariants as key
 use Rattle.ids.proofs.CellKeys.{same_exact, same_self}
+use Rattle.ids.proofs.References.{reference_equal, reference_self}
 use Rattle.history.specs.Subject.{found}
 use Rattle.heap.specs.State as heap
-use Rattle.heap.specs.State.{Cell, top, slot_cell, object_cell, same_cell, State}
+use Rattle.heap.specs.State.{Cell, top, slot_cell, object_cell, view_cell, fence_cell, same_cell, State}
 use Rattle.post.specs.World.{Content, content_of, cell_key}
 use Rattle.event.specs.Events.{events}
 
@@ -27,6 +28,11 @@ cell_exact (object_cell i) (object_cell j) h = ap object_cell (object_of (same_e
   where
     object_of : key.Object i ≡ key.Object j → i ≡ j
     object_of e = cc
+cell_exact (view_cell p) (view_cell q) h = ap view_cell (promise_of (same_exact (key.Board p) (key.Board q) h))
+  where
+    promise_of : key.Board p ≡ key.Board q → p ≡ q
+    promise_of e = cc
+cell_exact (fence_cell r) (fence_cell t) h = ap fence_cell (reference_equal r t h)
 cell_exact _ _ h = cc
 
 -- and each is the same as itself
@@ -34,12 +40,16 @@ pub cell_self : (c : Cell) → same_cell c c ≡ true
 cell_self (top x) = same_self (key.Name x)
 cell_self (slot_cell s) = same_self (key.Slot s)
 cell_self (object_cell i) = same_self (key.Object i)
+cell_self (view_cell p) = same_self (key.Board p)
+cell_self (fence_cell r) = reference_self r
 
 -- one key names one cell of a vat
 pub one_cell : (v : VatNo) (c d : Cell) → cell_key v c ≡ cell_key v d → c ≡ d
 one_cell v (top x) (top y) h = cc
 one_cell v (slot_cell s) (slot_cell t) h = cc
 one_cell v (object_cell i) (object_cell j) h = cc
+one_cell v (view_cell p) (view_cell q) h = cc
+one_cell v (fence_cell r) (fence_cell t) h = cc
 one_cell v _ _ h = cc
 
 -- tests that lead to one another agree

@@ -11,8 +11,8 @@ use Rattle.cells.specs.Touches.{touched_list}
 use Rattle.cells.specs.declared.touches.Touch.{Touch}
 use Rattle.values.specs.View.{val_of}
 use Rattle.heap.specs.State as heap
-use Rattle.heap.specs.State.{Cell, top, slot_cell, object_cell, bound, held, made}
-use Rattle.heap.specs.View.{bind_of, object_of, same_name, same_slot, same_object}
+use Rattle.heap.specs.State.{Cell, top, slot_cell, object_cell, view_cell, fence_cell, bound, held, made, viewed, fenced}
+use Rattle.heap.specs.View.{bind_of, object_of, view_of, same_name, same_slot, same_object, same_promise, same_target}
 use Rattle.heap.specs.declared.reach.Footprint.{Footprint}
 use Rattle.post.specs.World.{Content, content_of, cell_key}
 use Rattle.post.specs.Theory.{cells}
@@ -34,13 +34,19 @@ entries_in cell content es = map (entry_in cell content) es
 -- all cells of a footprint
 abbrev pub entries_of : Footprint → List Entry
 entries_of r =
-    entries_in top (λ b. bound (bind_of b)) (touched_list r.tops) ++ (entries_in slot_cell (λ v. held (val_of v)) (touched_list r.slots) ++ entries_in object_cell (λ m. made (object_of m)) (touched_list r.objects))
+    entries_in top (λ b. bound (bind_of b)) (touched_list r.tops)
+    ++ (entries_in slot_cell (λ v. held (val_of v)) (touched_list r.slots)
+    ++ (entries_in object_cell (λ m. made (object_of m)) (touched_list r.objects)
+    ++ (entries_in view_cell (λ k. viewed (view_of k)) (touched_list r.views)
+    ++ entries_in fence_cell fenced (touched_list r.fences))))
 
 -- no key of a footprint stands twice
 pub record EachOnce (r : Footprint) : Type 0 where
   pub tops : IsDistinct same_name (keys_of (touched_list r.tops))
   pub slots : IsDistinct same_slot (keys_of (touched_list r.slots))
   pub objects : IsDistinct same_object (keys_of (touched_list r.objects))
+  pub views : IsDistinct same_promise (keys_of (touched_list r.views))
+  pub fences : IsDistinct same_target (keys_of (touched_list r.fences))
 
 -- the cells alone, and their keys in the world
 abbrev pub cells_in : List Entry → List Cell

@@ -2,17 +2,18 @@
 ghost use Rattle.std.specs.Prelude.{◌≡◌, ◌↔◌, IsTrue};
 ghost use Rattle.std.specs.Option.{option_map, option_copied};
 ghost use Rattle.heap.specs.Found.{Found};
-ghost use Rattle.heap.specs.State.{Content, bound, held, made};
-ghost use Rattle.heap.specs.View.{bind_of, object_of, state_of};
+ghost use Rattle.heap.specs.State.{Content, bound, held, made, viewed, fenced};
+ghost use Rattle.heap.specs.View.{bind_of, object_of, view_of, state_of};
 ghost use Rattle.values.specs.View.{val_of};
 ghost use Rattle.event.specs.Finds.{FoundIn};
 
 use cells::store::CellStore;
 use cells::touches::Touches;
+use eorder::fence::Fence;
 use heap::made::Made;
 use heap::reach::Footprint;
-use heap::sameness::{same_binding, same_made};
-use heap::state::{Binding, VatState};
+use heap::sameness::{same_binding, same_made, same_view};
+use heap::state::{Binding, VatState, View};
 use ids::cells::Key;
 use values::sameness::same;
 use values::value::Value;
@@ -39,6 +40,22 @@ impl Held for Value {
 
     fn is_same(&self, other: &Value) -> bool {
         same(self, other)
+    }
+}
+
+impl Held for View {
+    ghost content = { λ k. viewed (view_of k) };
+
+    fn is_same(&self, other: &View) -> bool {
+        same_view(self, other)
+    }
+}
+
+impl Held for Fence {
+    ghost content = { fenced };
+
+    fn is_same(&self, other: &Fence) -> bool {
+        Fence::is_same(self, other)
     }
 }
 
@@ -84,4 +101,6 @@ pub fn is_found(footprint: &Footprint, state: &VatState) -> bool
     hold_found(&state.tops, &footprint.tops)
         && hold_found(&state.slots, &footprint.slots)
         && hold_found(&state.objects, &footprint.objects)
+        && hold_found(&state.views, &footprint.views)
+        && hold_found(&state.fences, &footprint.fences)
 }

@@ -4,8 +4,8 @@ ghost use Rattle.std.specs.Option.{option_map};
 ghost use Rattle.std.specs.List.{IsDistinct};
 ghost use Rattle.std.specs.Map.{keys_of};
 ghost use Rattle.cells.specs.Touches.{touched_list};
-ghost use Rattle.heap.specs.State.{Cell, Content, top, slot_cell, object_cell, bound, held, made};
-ghost use Rattle.heap.specs.View.{bind_of, object_of};
+ghost use Rattle.heap.specs.State.{Cell, Content, top, slot_cell, object_cell, view_cell, fence_cell, bound, held, made, viewed, fenced};
+ghost use Rattle.heap.specs.View.{bind_of, object_of, view_of};
 ghost use Rattle.post.specs.Theory.{kepts_of, kept_of};
 ghost use Rattle.post.specs.World as model;
 ghost use Rattle.event.specs.Entries.{entries_in, entries_of, keys_in, EachOnce, left_at, left_in, kept_left, kept_at};
@@ -13,11 +13,13 @@ ghost use Rattle.values.specs.View.{val_of};
 
 use cells::store::Record;
 use cells::touches::{Touch, Touches};
+use eorder::fence::Fence;
 use heap::made::Made;
 use heap::reach::Footprint;
-use heap::state::Binding;
+use heap::state::{Binding, View};
 use ids::cells::{CellKey, Key};
-use ids::names::{EventName, ObjId, SlotId, VatNo};
+use ids::names::{EventName, ObjId, PromId, SlotId, VatNo};
+use ids::reference::Reference;
 use ids::text::Text;
 use post::record::CellRecord;
 use std::alloc::AllocError;
@@ -110,6 +112,48 @@ impl VatKey<Made> for ObjId {
     }
 }
 
+impl VatKey<View> for PromId {
+    ghost cell = { view_cell };
+
+    ghost content = { λ k. viewed (view_of k) };
+
+    fn in_world(&self, vat: VatNo) -> Result<CellKey, AllocError> {
+        Ok(CellKey::View(vat, *self))
+    }
+
+    fn written(&self, vat: VatNo, value: &View, event: EventName) -> Result<CellRecord, AllocError> {
+        Ok(CellRecord::View(
+            vat,
+            Record {
+                key: *self,
+                content: Some(value.share()?),
+                writer: Some(event),
+            },
+        ))
+    }
+}
+
+impl VatKey<Fence> for Reference {
+    ghost cell = { fence_cell };
+
+    ghost content = { fenced };
+
+    fn in_world(&self, vat: VatNo) -> Result<CellKey, AllocError> {
+        Ok(CellKey::Fence(vat, *self))
+    }
+
+    fn written(&self, vat: VatNo, value: &Fence, event: EventName) -> Result<CellRecord, AllocError> {
+        Ok(CellRecord::Fence(
+            vat,
+            Record {
+                key: *self,
+                content: Some(value.share()?),
+                writer: Some(event),
+            },
+        ))
+    }
+}
+
 /// Adds the keys of cells of one kind.
 fn add_keys<K: VatKey<V> + Drop, V: Drop>(
     keys: &mut Vec<CellKey>,
@@ -169,7 +213,9 @@ pub(crate) fn touch_cells(
 {
     add_keys(keys, vat, &footprint.tops)?;
     add_keys(keys, vat, &footprint.slots)?;
-    add_keys(keys, vat, &footprint.objects)
+    add_keys(keys, vat, &footprint.objects)?;
+    add_keys(keys, vat, &footprint.views)?;
+    add_keys(keys, vat, &footprint.fences)
 }
 
 /// Adds records of the cells of a footprint in a vat that were written. Fails only for want of memory.
@@ -183,5 +229,7 @@ pub(crate) fn record_cells(
 {
     add_records(records, event, vat, &footprint.tops)?;
     add_records(records, event, vat, &footprint.slots)?;
-    add_records(records, event, vat, &footprint.objects)
+    add_records(records, event, vat, &footprint.objects)?;
+    add_records(records, event, vat, &footprint.views)?;
+    add_records(records, event, vat, &footprint.fences)
 }

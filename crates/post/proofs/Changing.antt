@@ -5,8 +5,10 @@ use Rattle.cells.specs.Seen.{Seen}
 use Rattle.ids.specs.CellKeys.{same_key}
 use Rattle.ids.specs.Cells.{vat_cmp}
 use Rattle.ids.specs.KeyLaws.{exact_vat}
-use Rattle.ids.proofs.Keys.{equal, equal_self, exact_vats, exact_slots, exact_objects}
-use Rattle.ids.specs.Cells.{slot_cmp, object_cmp}
+use Rattle.ids.proofs.Keys.{equal, equal_self, exact_vats, exact_slots, exact_objects, exact_promises}
+use Rattle.ids.proofs.References.{reference_equal}
+use Rattle.ids.specs.References.{same_reference}
+use Rattle.ids.specs.Cells.{slot_cmp, object_cmp, promise_cmp}
 use Rattle.std.specs.Option.{IsSome, option_map}
 use Rattle.std.specs.Ordering.{is_eq}
 use Rattle.std.specs.Str.{bytes_eq}
@@ -14,7 +16,7 @@ use Rattle.std.proofs.lemmas.Slice.Eq.{bytes_eq-Decides}
 use Rattle.ids.specs.declared.names.VatNo.{VatNo}
 use Rattle.ids.specs.declared.cells.CellKey.{CellKey}
 use Rattle.ids.specs.declared.cells.CellKey.TheVariants as key
-use Rattle.heap.specs.State.{Content, Cell, top, slot_cell, object_cell, same_cell}
+use Rattle.heap.specs.State.{Content, Cell, top, slot_cell, object_cell, view_cell, fence_cell, same_cell}
 use Rattle.heap.specs.View.{seen_in, told}
 use Rattle.heap.specs.declared.state.VatState.{VatState}
 use Rattle.post.specs.World.{same_vat, lives_in, cell_key, content_of}
@@ -34,14 +36,30 @@ vat_self v = eq-eqb v.0.0 v.0.0 refl
 
 same_keys : (v w : VatNo) (c d : Cell) → same_vat v w ≡ true → same_key (cell_key v c) (cell_key w d) ≡ same_cell c d
 same_keys v w (top x) (top y) h = subst (λ u. same_key (key.Top v x) (key.Top u y) ≡ bytes_eq x y) (exact_vat v w h) (rw (equal_self v.0.0) refl)
-same_keys v w (top x) (slot_cell j) h = refl
-same_keys v w (top x) (object_cell j) h = refl
-same_keys v w (slot_cell i) (top y) h = refl
-same_keys v w (slot_cell i) (slot_cell j) h = refl
-same_keys v w (slot_cell i) (object_cell j) h = refl
-same_keys v w (object_cell i) (top y) h = refl
-same_keys v w (object_cell i) (slot_cell j) h = refl
-same_keys v w (object_cell i) (object_cell j) h = refl
+same_keys v w (view_cell p) (view_cell q) h = subst (λ u. same_key (key.View v p) (key.View u q) ≡ is_eq (promise_cmp p q)) (exact_vat v w h) (rw (equal_self v.0.0) refl)
+same_keys v w (fence_cell r) (fence_cell t) h = subst (λ u. same_key (key.Fence v r) (key.Fence u t) ≡ same_reference r t) (exact_vat v w h) (rw (equal_self v.0.0) refl)
+same_keys v w (top x) (slot_cell y) h = refl
+same_keys v w (top x) (object_cell y) h = refl
+same_keys v w (top x) (view_cell y) h = refl
+same_keys v w (top x) (fence_cell y) h = refl
+same_keys v w (slot_cell x) (top y) h = refl
+same_keys v w (slot_cell x) (slot_cell y) h = refl
+same_keys v w (slot_cell x) (object_cell y) h = refl
+same_keys v w (slot_cell x) (view_cell y) h = refl
+same_keys v w (slot_cell x) (fence_cell y) h = refl
+same_keys v w (object_cell x) (top y) h = refl
+same_keys v w (object_cell x) (slot_cell y) h = refl
+same_keys v w (object_cell x) (object_cell y) h = refl
+same_keys v w (object_cell x) (view_cell y) h = refl
+same_keys v w (object_cell x) (fence_cell y) h = refl
+same_keys v w (view_cell x) (top y) h = refl
+same_keys v w (view_cell x) (slot_cell y) h = refl
+same_keys v w (view_cell x) (object_cell y) h = refl
+same_keys v w (view_cell x) (fence_cell y) h = refl
+same_keys v w (fence_cell x) (top y) h = refl
+same_keys v w (fence_cell x) (slot_cell y) h = refl
+same_keys v w (fence_cell x) (object_cell y) h = refl
+same_keys v w (fence_cell x) (view_cell y) h = refl
 
 not_true : (b : Bool) → (b ≡ true → false ≡ true) → b ≡ false
 not_true true h = sym (h refl)
@@ -55,19 +73,41 @@ other_keys : (v w : VatNo) (c d : Cell) → lives_in c v ≡ true → lives_in d
 other_keys v w (top x) (top y) g h n = not_true _ (λ e.
     let p = and_parts (is_eq (vat_cmp v w)) (bytes_eq x y) e in
     sym n ∙ ap (λ u. same_vat v u) (sym (exact_vats v w (equal (vat_cmp v w) p.0))) ∙ vat_self v)
-other_keys v w (top x) (slot_cell j) g h n = refl
-other_keys v w (top x) (object_cell j) g h n = refl
-other_keys v w (slot_cell i) (top y) g h n = refl
 other_keys v w (slot_cell i) (slot_cell j) g h n = not_true _ (λ e. sym n ∙ met v w i.vat j.vat g h (ap (λ s. s.vat) (exact_slots i j (equal (slot_cmp i j) e))))
-other_keys v w (slot_cell i) (object_cell j) g h n = refl
-other_keys v w (object_cell i) (top y) g h n = refl
-other_keys v w (object_cell i) (slot_cell j) g h n = refl
 other_keys v w (object_cell i) (object_cell j) g h n = not_true _ (λ e. sym n ∙ met v w i.vat j.vat g h (ap (λ s. s.vat) (exact_objects i j (equal (object_cmp i j) e))))
+other_keys v w (view_cell p) (view_cell q) g h n = not_true _ (λ e.
+    let t = and_parts (is_eq (vat_cmp v w)) (is_eq (promise_cmp p q)) e in
+    sym n ∙ ap (λ u. same_vat v u) (sym (exact_vats v w (equal (vat_cmp v w) t.0))) ∙ vat_self v)
+other_keys v w (fence_cell r) (fence_cell t) g h n = not_true _ (λ e.
+    let p = and_parts (is_eq (vat_cmp v w)) (same_reference r t) e in
+    sym n ∙ ap (λ u. same_vat v u) (sym (exact_vats v w (equal (vat_cmp v w) p.0))) ∙ vat_self v)
+other_keys v w (top x) (slot_cell y) g h n = refl
+other_keys v w (top x) (object_cell y) g h n = refl
+other_keys v w (top x) (view_cell y) g h n = refl
+other_keys v w (top x) (fence_cell y) g h n = refl
+other_keys v w (slot_cell x) (top y) g h n = refl
+other_keys v w (slot_cell x) (object_cell y) g h n = refl
+other_keys v w (slot_cell x) (view_cell y) g h n = refl
+other_keys v w (slot_cell x) (fence_cell y) g h n = refl
+other_keys v w (object_cell x) (top y) g h n = refl
+other_keys v w (object_cell x) (slot_cell y) g h n = refl
+other_keys v w (object_cell x) (view_cell y) g h n = refl
+other_keys v w (object_cell x) (fence_cell y) g h n = refl
+other_keys v w (view_cell x) (top y) g h n = refl
+other_keys v w (view_cell x) (slot_cell y) g h n = refl
+other_keys v w (view_cell x) (object_cell y) g h n = refl
+other_keys v w (view_cell x) (fence_cell y) g h n = refl
+other_keys v w (fence_cell x) (top y) g h n = refl
+other_keys v w (fence_cell x) (slot_cell y) g h n = refl
+other_keys v w (fence_cell x) (object_cell y) g h n = refl
+other_keys v w (fence_cell x) (view_cell y) g h n = refl
 
 same_exact : (c d : Cell) → same_cell c d ≡ true → c ≡ d
 same_exact (top x) (top y) h = ap top ((bytes_eq-Decides x y).0 h)
 same_exact (slot_cell i) (slot_cell j) h = ap slot_cell (exact_slots i j (equal (slot_cmp i j) h))
 same_exact (object_cell i) (object_cell j) h = ap object_cell (exact_objects i j (equal (object_cmp i j) h))
+same_exact (view_cell p) (view_cell q) h = ap view_cell (exact_promises p q (equal (promise_cmp p q) h))
+same_exact (fence_cell r) (fence_cell t) h = ap fence_cell (reference_equal r t h)
 same_exact _ _ h = cc
 
 -- ---- states of which the same is seen
@@ -78,6 +118,8 @@ module _ (old new : VatNo → Option Home) where
   seen_same h (key.Slot s) = ap (told content_of) (h s.vat (slot_cell s))
   seen_same h (key.Object i) = ap (told content_of) (h i.vat (object_cell i))
   seen_same h (key.Top v x) = ap (told content_of) (h v (top x))
+  seen_same h (key.View v p) = ap (told content_of) (h v (view_cell p))
+  seen_same h (key.Fence v r) = ap (told content_of) (h v (fence_cell r))
   seen_same h (key.Msg m) = refl
   seen_same h (key.Board p) = refl
 
@@ -86,6 +128,8 @@ module _ (old new : VatNo → Option Home) where
   ready_same h (key.Slot s) = h s.vat (slot_cell s)
   ready_same h (key.Object i) = h i.vat (object_cell i)
   ready_same h (key.Top v x) = h v (top x)
+  ready_same h (key.View v p) = h v (view_cell p)
+  ready_same h (key.Fence v r) = h v (fence_cell r)
   ready_same h (key.Msg m) = refl
   ready_same h (key.Board p) = refl
 
@@ -94,6 +138,8 @@ module _ (old new : VatNo → Option Home) where
   ready_kept h (key.Slot s) g = h s.vat (slot_cell s) g
   ready_kept h (key.Object i) g = h i.vat (object_cell i) g
   ready_kept h (key.Top v x) g = h v (top x) g
+  ready_kept h (key.View v p) g = h v (view_cell p) g
+  ready_kept h (key.Fence v r) g = h v (fence_cell r) g
   ready_kept h (key.Msg m) g = g
   ready_kept h (key.Board p) g = g
 
@@ -146,24 +192,32 @@ module _ (old new : VatNo → Option Home) (a : VatNo) (h g : Home) (there : old
     seen_exchanged (key.Slot s) = one_exchanged s.vat (slot_cell s) (vat_self s.vat)
     seen_exchanged (key.Object i) = one_exchanged i.vat (object_cell i) (vat_self i.vat)
     seen_exchanged (key.Top v y) = one_exchanged v (top y) refl
+    seen_exchanged (key.View v p) = one_exchanged v (view_cell p) refl
+    seen_exchanged (key.Fence v r) = one_exchanged v (fence_cell r) refl
     seen_exchanged (key.Name y) = no_vat (key.Name y) (no_name c)
       where
         no_name : (d : Cell) → same_key (cell_key a d) (key.Name y) ≡ false
         no_name (top z) = refl
         no_name (slot_cell s) = refl
         no_name (object_cell i) = refl
+        no_name (view_cell q) = refl
+        no_name (fence_cell r) = refl
     seen_exchanged (key.Msg m) = no_vat (key.Msg m) (no_message c)
       where
         no_message : (d : Cell) → same_key (cell_key a d) (key.Msg m) ≡ false
         no_message (top z) = refl
         no_message (slot_cell s) = refl
         no_message (object_cell i) = refl
+        no_message (view_cell q) = refl
+        no_message (fence_cell r) = refl
     seen_exchanged (key.Board p) = no_vat (key.Board p) (no_promise c)
       where
         no_promise : (d : Cell) → same_key (cell_key a d) (key.Board p) ≡ false
         no_promise (top z) = refl
         no_promise (slot_cell s) = refl
         no_promise (object_cell i) = refl
+        no_promise (view_cell q) = refl
+        no_promise (fence_cell r) = refl
 
 -- a vat that has a state, by what was asked
 pub written : {A P : Type 0} {o : Option A} {x : A} → o ≡ Some x → (IsSome o → P) → P

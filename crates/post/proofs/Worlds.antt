@@ -13,7 +13,7 @@ use Rattle.ids.specs.declared.cells.CellKey.TheVariants as key
 use Rattle.kernele.specs.Tree.{Name}
 use Rattle.values.specs.View.{val_of}
 use Rattle.heap.specs.State as heap
-use Rattle.heap.specs.State.{Cell, top, slot_cell, object_cell}
+use Rattle.heap.specs.State.{Cell, top, slot_cell, object_cell, view_cell, fence_cell}
 use Rattle.heap.specs.View.{same_name, told, state_of}
 use Rattle.heap.specs.declared.state.VatState.{VatState}
 use Rattle.post.specs.World.{Content, vat, message, published, same_vat, content_of, cell_content, vat_state}
@@ -33,6 +33,8 @@ module _ (s t : World) where
   seen_each names homes messages board (key.Slot i) = homes (key.Slot i)
   seen_each names homes messages board (key.Object i) = homes (key.Object i)
   seen_each names homes messages board (key.Top v x) = homes (key.Top v x)
+  seen_each names homes messages board (key.View v p) = homes (key.View v p)
+  seen_each names homes messages board (key.Fence v r) = homes (key.Fence v r)
   seen_each names homes messages board (key.Msg m) = ap (told (λ g. message (message_of g))) (messages m)
   seen_each names homes messages board (key.Board p) = ap (told (λ v. published (val_of v))) (board p)
 
@@ -48,6 +50,8 @@ module _ (s t : World) where
   ready_each names homes messages board (key.Slot i) = homes (key.Slot i)
   ready_each names homes messages board (key.Object i) = homes (key.Object i)
   ready_each names homes messages board (key.Top v x) = homes (key.Top v x)
+  ready_each names homes messages board (key.View v p) = homes (key.View v p)
+  ready_each names homes messages board (key.Fence v r) = homes (key.Fence v r)
   ready_each names homes messages board (key.Msg m) = messages m
   ready_each names homes messages board (key.Board p) = board p
 
@@ -63,6 +67,8 @@ module _ (s t : World) where
   ready_more names homes messages board (key.Slot i) = homes (key.Slot i)
   ready_more names homes messages board (key.Object i) = homes (key.Object i)
   ready_more names homes messages board (key.Top v x) = homes (key.Top v x)
+  ready_more names homes messages board (key.View v p) = homes (key.View v p)
+  ready_more names homes messages board (key.Fence v r) = homes (key.Fence v r)
   ready_more names homes messages board (key.Msg m) = messages m
   ready_more names homes messages board (key.Board p) = board p
 
@@ -72,6 +78,8 @@ nothing_seen s names homes messages board (key.Name x) = ap (told (λ v. vat (va
 nothing_seen s names homes messages board (key.Slot i) = homes (key.Slot i)
 nothing_seen s names homes messages board (key.Object i) = homes (key.Object i)
 nothing_seen s names homes messages board (key.Top v x) = homes (key.Top v x)
+nothing_seen s names homes messages board (key.View v p) = homes (key.View v p)
+nothing_seen s names homes messages board (key.Fence v r) = homes (key.Fence v r)
 nothing_seen s names homes messages board (key.Msg m) = ap (told (λ g. message (message_of g))) (messages m)
 nothing_seen s names homes messages board (key.Board p) = ap (told (λ v. published (val_of v))) (board p)
 
@@ -81,6 +89,8 @@ back None = refl
 back (Some (heap.bound b)) = refl
 back (Some (heap.held v)) = refl
 back (Some (heap.made o)) = refl
+back (Some (heap.viewed k)) = refl
+back (Some (heap.fenced names)) = refl
 
 -- ---- the state of a vat in a world is what is seen of it
 
@@ -95,6 +105,8 @@ module _ (s : World) (v : VatNo) where
 
   pub state_is_seen : (c : Cell) → vat_state (world_of s) v c ≡ (seen_at (homes_of s.homes v) c).0
   state_is_seen (top x) = back (seen_at (homes_of s.homes v) (top x)).0
+  state_is_seen (view_cell p) = back (seen_at (homes_of s.homes v) (view_cell p)).0
+  state_is_seen (fence_cell r) = back (seen_at (homes_of s.homes v) (fence_cell r)).0
   state_is_seen (slot_cell i) = own_or_none i.vat (slot_cell i) (s.homes.own_cells v (slot_cell i))
   state_is_seen (object_cell i) = own_or_none i.vat (object_cell i) (s.homes.own_cells v (object_cell i))
 

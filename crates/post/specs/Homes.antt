@@ -6,8 +6,8 @@ use Rattle.ids.specs.declared.names.VatNo.{VatNo}
 use Rattle.cells.specs.Seen.{Seen}
 use Rattle.cells.specs.Seen as cells
 use Rattle.heap.specs.Sets.{found_contents}
-use Rattle.heap.specs.State.{Content, Cell, top, slot_cell, object_cell}
-use Rattle.heap.specs.View.{seen_in, same_name, same_slot, same_object}
+use Rattle.heap.specs.State.{Content, Cell, top, slot_cell, object_cell, view_cell, fence_cell}
+use Rattle.heap.specs.View.{seen_in, same_name, same_slot, same_object, same_promise, same_target}
 use Rattle.heap.specs.declared.state.VatState.{VatState}
 use Rattle.post.specs.World.{same_vat, lives_in}
 use Rattle.post.specs.declared.home.Home.{Home}
@@ -27,6 +27,8 @@ abbrev pub has_room_in : VatState → Cell → Bool
 has_room_in s (top x) = cells.has_room same_name s.tops x
 has_room_in s (slot_cell i) = cells.has_room same_slot s.slots i
 has_room_in s (object_cell i) = cells.has_room same_object s.objects i
+has_room_in s (view_cell p) = cells.has_room same_promise s.views p
+has_room_in s (fence_cell r) = cells.has_room same_target s.fences r
 
 -- a cell can be exchanged: the state is the vat's own and has room for it
 abbrev pub is_ready_in : Home → Cell → Bool

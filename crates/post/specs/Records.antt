@@ -5,7 +5,7 @@ use Rattle.ids.specs.declared.cells.CellKey.{CellKey}
 use Rattle.ids.specs.declared.cells.CellKey.TheVariants as key
 use Rattle.values.specs.View.{val_of}
 use Rattle.heap.specs.State as heap
-use Rattle.heap.specs.View.{bind_of, object_of, told}
+use Rattle.heap.specs.View.{bind_of, object_of, view_of, told}
 use Rattle.post.specs.World.{Content, vat, message, published, content_of}
 use Rattle.post.specs.Messages.{vat_of, message_of}
 use Rattle.post.specs.declared.record.CellRecord.{CellRecord}
@@ -17,6 +17,8 @@ record_of (cell_record.Name r) = (key.Name r.key, told (λ v. vat (vat_of v)) (r
 record_of (cell_record.Slot r) = (key.Slot r.key, told content_of (told (λ v. heap.held (val_of v)) (r.content, r.writer)))
 record_of (cell_record.Object r) = (key.Object r.key, told content_of (told (λ m. heap.made (object_of m)) (r.content, r.writer)))
 record_of (cell_record.Top v r) = (key.Top v r.key, told content_of (told (λ b. heap.bound (bind_of b)) (r.content, r.writer)))
+record_of (cell_record.View v r) = (key.View v r.key, told content_of (told (λ k. heap.viewed (view_of k)) (r.content, r.writer)))
+record_of (cell_record.Fence v r) = (key.Fence v r.key, told content_of (told heap.fenced (r.content, r.writer)))
 record_of (cell_record.Msg r) = (key.Msg r.key, told (λ g. message (message_of g)) (r.content, r.writer))
 record_of (cell_record.Board r) = (key.Board r.key, told (λ v. published (val_of v)) (r.content, r.writer))
 

@@ -31,6 +31,8 @@ seen_of_world w (key.Name x) = told (λ v. vat (vat_of v)) (cells.seen same_name
 seen_of_world w (key.Slot s) = seen_of_homes w.homes (key.Slot s)
 seen_of_world w (key.Object i) = seen_of_homes w.homes (key.Object i)
 seen_of_world w (key.Top v x) = seen_of_homes w.homes (key.Top v x)
+seen_of_world w (key.View v p) = seen_of_homes w.homes (key.View v p)
+seen_of_world w (key.Fence v r) = seen_of_homes w.homes (key.Fence v r)
 seen_of_world w (key.Msg m) = told (λ g. message (message_of g)) (cells.seen same_message w.messages m)
 seen_of_world w (key.Board p) = told (λ v. published (val_of v)) (cells.seen same_promise w.board p)
 
@@ -44,5 +46,7 @@ is_ready w (key.Name x) = cells.has_room same_name w.names x
 is_ready w (key.Slot s) = ready_of_homes w.homes (key.Slot s)
 is_ready w (key.Object i) = ready_of_homes w.homes (key.Object i)
 is_ready w (key.Top v x) = ready_of_homes w.homes (key.Top v x)
+is_ready w (key.View v p) = ready_of_homes w.homes (key.View v p)
+is_ready w (key.Fence v r) = ready_of_homes w.homes (key.Fence v r)
 is_ready w (key.Msg m) = cells.has_room same_message w.messages m
 is_ready w (key.Board p) = cells.has_room same_promise w.board p

@@ -4,7 +4,7 @@ use Rattle.kernele.specs.Tree.{Name}
 use Rattle.scopes.specs.declared.naming.TopName.{TopName}
 use Rattle.values.specs.Data.{Val}
 use Rattle.heap.specs.State as heap
-use Rattle.heap.specs.State.{Bind, Object, Cell, top, slot_cell, object_cell, State}
+use Rattle.heap.specs.State.{Bind, Object, View, Cell, top, slot_cell, object_cell, view_cell, fence_cell, State}
 use Rattle.post.specs.Delivery.{Delivery}
 use Rattle.ids.specs.CellKeys.{same_key}
 use Rattle.ids.specs.declared.names.EventName.{EventName}
@@ -34,13 +34,15 @@ pub record Message : Type 0 where
   pub place : Place
   deriving IsSet as Message-set
 
--- what a cell holds: a vat by its name, a top name's meaning, a slot's value, what an object is, a message, or what a promise was
--- published as
+-- what a cell holds: a vat by its name, a top name's meaning, a slot's value, what an object is, what a vat knows of a promise, the
+-- messages that it keeps behind a reference, a message, or what a promise was published as
 pub data Content : Type 0 where
   vat : (x : Vat) → Content
   bound : (b : Bind) → Content
   held : (v : Val) → Content
   made : (o : Object) → Content
+  viewed : (k : View) → Content
+  fenced : (names : List MsgId) → Content
   message : (g : Message) → Content
   published : (v : Val) → Content
   deriving IsSet as Content-set
@@ -93,6 +95,8 @@ abbrev pub cell_key : VatNo → Cell → CellKey
 cell_key v (top x) = key.Top v x
 cell_key v (slot_cell s) = key.Slot s
 cell_key v (object_cell i) = key.Object i
+cell_key v (view_cell p) = key.View v p
+cell_key v (fence_cell r) = key.Fence v r
 
 abbrev pub same_vat : VatNo → VatNo → Bool
 same_vat v w = nat_eq v.0.0 w.0.0
@@ -102,17 +106,23 @@ abbrev pub lives_in : Cell → VatNo → Bool
 lives_in (top x) v = true
 lives_in (slot_cell s) v = same_vat s.vat v
 lives_in (object_cell i) v = same_vat i.vat v
+lives_in (view_cell p) v = true
+lives_in (fence_cell r) v = true
 
 -- what a vat's cell holds, as a content of the world, and back
 abbrev pub content_of : heap.Content → Content
 content_of (heap.bound b) = bound b
 content_of (heap.held v) = held v
 content_of (heap.made o) = made o
+content_of (heap.viewed k) = viewed k
+content_of (heap.fenced names) = fenced names
 
 abbrev pub cell_content : Option Content → Option heap.Content
 cell_content (Some (bound b)) = Some (heap.bound b)
 cell_content (Some (held v)) = Some (heap.held v)
 cell_content (Some (made o)) = Some (heap.made o)
+cell_content (Some (viewed k)) = Some (heap.viewed k)
+cell_content (Some (fenced names)) = Some (heap.fenced names)
 cell_content _ = None
 
 -- the state of a vat in a world: it has no cell of another vat

@@ -4,15 +4,17 @@ ghost use Rattle.std.specs.Arc.{arc_value};
 ghost use Rattle.ids.specs.declared.names.SlotId.{SlotId};
 ghost use Rattle.ids.specs.declared.names.ObjId.{ObjId};
 ghost use Rattle.values.specs.View.{val_of};
-ghost use Rattle.heap.specs.State.{Cell, top, slot_cell, object_cell, bound, held, made, same_cell};
-ghost use Rattle.heap.specs.View.{bind_of, object_of, seen_in, told};
+ghost use Rattle.heap.specs.State.{Cell, top, slot_cell, object_cell, view_cell, fence_cell, bound, held, made, viewed, fenced, same_cell};
+ghost use Rattle.heap.specs.View.{bind_of, object_of, view_of, seen_in, told};
 ghost use Rattle.post.specs.Homes.{state_in, is_own, is_ready_in};
 
 use cells::store::Record;
 use cells::swaps::Swaps;
+use eorder::fence::Fence;
 use heap::made::Made;
-use heap::state::{Binding, VatState};
-use ids::names::{ObjId, SlotId};
+use heap::state::{Binding, VatState, View};
+use ids::names::{ObjId, PromId, SlotId};
+use ids::reference::Reference;
 use ids::text::Text;
 use std::alloc::{AllocError, Global};
 use std::mem;
@@ -108,6 +110,32 @@ impl Home {
         }
     }
 
+    /// Makes the state the vat's own, with room for a view. What it holds stays. Fails only for want of memory.
+    pub(crate) fn make_room_for_view(&mut self, alloc: Global, promise: PromId) -> Result<(), AllocError>
+        ensures ok { OnOk result (is_ready_in self.new (view_cell promise) ≡ true) }
+        ensures seen { (c : Cell) → seen_in (state_in self.new) c ≡ seen_in (state_in self.old) c }
+        ensures ready { (c : Cell) → is_ready_in self.old c ≡ true → is_ready_in self.new c ≡ true }
+    {
+        self.make_own(alloc)?;
+        match self {
+            Home::Own(own) => own.views.make_room(promise),
+            Home::Shared(_) => unreachable!(),
+        }
+    }
+
+    /// Makes the state the vat's own, with room for a fence. What it holds stays. Fails only for want of memory.
+    pub(crate) fn make_room_for_fence(&mut self, alloc: Global, reference: Reference) -> Result<(), AllocError>
+        ensures ok { OnOk result (is_ready_in self.new (fence_cell reference) ≡ true) }
+        ensures seen { (c : Cell) → seen_in (state_in self.new) c ≡ seen_in (state_in self.old) c }
+        ensures ready { (c : Cell) → is_ready_in self.old c ≡ true → is_ready_in self.new c ≡ true }
+    {
+        self.make_own(alloc)?;
+        match self {
+            Home::Own(own) => own.fences.make_room(reference),
+            Home::Shared(_) => unreachable!(),
+        }
+    }
+
     /// Makes the state the vat's own, with room for a slot. What it holds stays. Fails only for want of memory.
     pub(crate) fn make_room_for_slot(
         &mut self,
@@ -153,6 +181,36 @@ impl Home {
     {
         match self {
             Home::Own(own) => own.tops.swap_record(kept, swaps),
+            Home::Shared(_) => unreachable!(),
+        }
+    }
+
+    /// Exchanges the record of a view with its cell. It takes no memory.
+    pub(crate) fn swap_view(&mut self, kept: &mut Record<PromId, View>, swaps: &mut Swaps)
+        requires { is_ready_in self.old (view_cell kept.old.key) ≡ true }
+        ensures seen { (c : Cell) → seen_in (state_in self.new) c ≡ cond (same_cell (view_cell kept.old.key) c) (told (λ k. viewed (view_of k)) (kept.old.content, kept.old.writer)) (seen_in (state_in self.old) c) }
+        ensures ready { (c : Cell) → is_ready_in self.new c ≡ is_ready_in self.old c }
+        ensures key { kept.new.key ≡ kept.old.key }
+        ensures exchanged { told (λ k. viewed (view_of k)) (kept.new.content, kept.new.writer) ≡ seen_in (state_in self.old) (view_cell kept.old.key) }
+        ensures counted { swaps.new ≡ (swaps.old + 1) % 2 ^ 64 }
+    {
+        match self {
+            Home::Own(own) => own.views.swap_record(kept, swaps),
+            Home::Shared(_) => unreachable!(),
+        }
+    }
+
+    /// Exchanges the record of a fence with its cell. It takes no memory.
+    pub(crate) fn swap_fence(&mut self, kept: &mut Record<Reference, Fence>, swaps: &mut Swaps)
+        requires { is_ready_in self.old (fence_cell kept.old.key) ≡ true }
+        ensures seen { (c : Cell) → seen_in (state_in self.new) c ≡ cond (same_cell (fence_cell kept.old.key) c) (told fenced (kept.old.content, kept.old.writer)) (seen_in (state_in self.old) c) }
+        ensures ready { (c : Cell) → is_ready_in self.new c ≡ is_ready_in self.old c }
+        ensures key { kept.new.key ≡ kept.old.key }
+        ensures exchanged { told fenced (kept.new.content, kept.new.writer) ≡ seen_in (state_in self.old) (fence_cell kept.old.key) }
+        ensures counted { swaps.new ≡ (swaps.old + 1) % 2 ^ 64 }
+    {
+        match self {
+            Home::Own(own) => own.fences.swap_record(kept, swaps),
             Home::Shared(_) => unreachable!(),
         }
     }

@@ -7,17 +7,19 @@ ghost use Rattle.ids.specs.declared.names.VatNo.{VatNo};
 ghost use Rattle.ids.specs.declared.cells.CellKey.{CellKey};
 ghost use Rattle.ids.specs.declared.cells.CellKey.TheVariants as key;
 ghost use Rattle.values.specs.View.{val_of};
-ghost use Rattle.heap.specs.State.{Cell, bound, held, made};
-ghost use Rattle.heap.specs.View.{bind_of, object_of, told, seen_in};
+ghost use Rattle.heap.specs.State.{Cell, bound, held, made, viewed, fenced};
+ghost use Rattle.heap.specs.View.{bind_of, object_of, view_of, told, seen_in};
 ghost use Rattle.post.specs.Homes.{OwnCells, own_cells-prop, state_in, seen_at, is_ready_at};
 ghost use Rattle.post.specs.World.{content_of};
 
 use crate::home::Home;
 use cells::store::Record;
 use cells::swaps::Swaps;
+use eorder::fence::Fence;
 use heap::made::Made;
-use heap::state::{Binding, VatState};
-use ids::names::{EventName, ObjId, SlotId, VatNo};
+use heap::state::{Binding, VatState, View};
+use ids::names::{EventName, ObjId, PromId, SlotId, VatNo};
+use ids::reference::Reference;
 use ids::text::Text;
 use indexmap::IndexMap;
 use std::alloc::{AllocError, Global};
@@ -59,6 +61,26 @@ impl Homes {
     {
         match self.state(vat) {
             Some(state) => state.tops.last_writer(name),
+            None => None,
+        }
+    }
+
+    /// The event that wrote a view last.
+    pub(crate) fn view_writer(&self, vat: VatNo, promise: PromId) -> Option<EventName>
+        ensures { result ≡ (seen_of_homes self.now (key.View vat promise)).1 }
+    {
+        match self.state(vat) {
+            Some(state) => state.views.last_writer(&promise),
+            None => None,
+        }
+    }
+
+    /// The event that wrote a fence last.
+    pub(crate) fn fence_writer(&self, vat: VatNo, reference: Reference) -> Option<EventName>
+        ensures { result ≡ (seen_of_homes self.now (key.Fence vat reference)).1 }
+    {
+        match self.state(vat) {
+            Some(state) => state.fences.last_writer(&reference),
             None => None,
         }
     }
@@ -125,6 +147,42 @@ impl Homes {
         }
     }
 
+    /// Makes the state of the vat of a view its own, with room for it. What is seen stays. Fails only for want of memory.
+    pub(crate) fn make_room_for_view(
+        &mut self,
+        alloc: Global,
+        vat: VatNo,
+        promise: PromId,
+    ) -> Result<(), AllocError>
+        ensures ok { OnOk result (ready_of_homes self.new (key.View vat promise) ≡ true) }
+        ensures ready { (k : CellKey) → ready_of_homes self.old k ≡ true → ready_of_homes self.new k ≡ true }
+        ensures seen { seen_of_homes self.new ≡ seen_of_homes self.old }
+    {
+        self.add(alloc, vat)?;
+        match self.homes.get_mut(&vat) {
+            Some(home) => home.make_room_for_view(alloc, promise),
+            None => unreachable!(),
+        }
+    }
+
+    /// Makes the state of the vat of a fence its own, with room for it. What is seen stays. Fails only for want of memory.
+    pub(crate) fn make_room_for_fence(
+        &mut self,
+        alloc: Global,
+        vat: VatNo,
+        reference: Reference,
+    ) -> Result<(), AllocError>
+        ensures ok { OnOk result (ready_of_homes self.new (key.Fence vat reference) ≡ true) }
+        ensures ready { (k : CellKey) → ready_of_homes self.old k ≡ true → ready_of_homes self.new k ≡ true }
+        ensures seen { seen_of_homes self.new ≡ seen_of_homes self.old }
+    {
+        self.add(alloc, vat)?;
+        match self.homes.get_mut(&vat) {
+            Some(home) => home.make_room_for_fence(alloc, reference),
+            None => unreachable!(),
+        }
+    }
+
     /// Makes the state of the vat of a slot its own, with room for it. What is seen stays. Fails only for want of memory.
     pub(crate) fn make_room_for_slot(
         &mut self,
@@ -175,6 +233,46 @@ impl Homes {
     {
         match self.homes.get_mut(&vat) {
             Some(home) => home.swap_top(kept, swaps),
+            None => unreachable!(),
+        }
+    }
+
+    /// Exchanges the record of a view with its cell. It takes no memory.
+    pub(crate) fn swap_view(
+        &mut self,
+        vat: VatNo,
+        kept: &mut Record<PromId, View>,
+        swaps: &mut Swaps,
+    )
+        requires { ready_of_homes self.old (key.View vat kept.old.key) ≡ true }
+        ensures seen { (k : CellKey) → seen_of_homes self.new k ≡ cond (same_key (key.View vat kept.old.key) k) (told content_of (told (λ k. viewed (view_of k)) (kept.old.content, kept.old.writer))) (seen_of_homes self.old k) }
+        ensures ready { ready_of_homes self.new ≡ ready_of_homes self.old }
+        ensures key { kept.new.key ≡ kept.old.key }
+        ensures exchanged { told content_of (told (λ k. viewed (view_of k)) (kept.new.content, kept.new.writer)) ≡ seen_of_homes self.old (key.View vat kept.old.key) }
+        ensures counted { swaps.new ≡ (swaps.old + 1) % 2 ^ 64 }
+    {
+        match self.homes.get_mut(&vat) {
+            Some(home) => home.swap_view(kept, swaps),
+            None => unreachable!(),
+        }
+    }
+
+    /// Exchanges the record of a fence with its cell. It takes no memory.
+    pub(crate) fn swap_fence(
+        &mut self,
+        vat: VatNo,
+        kept: &mut Record<Reference, Fence>,
+        swaps: &mut Swaps,
+    )
+        requires { ready_of_homes self.old (key.Fence vat kept.old.key) ≡ true }
+        ensures seen { (k : CellKey) → seen_of_homes self.new k ≡ cond (same_key (key.Fence vat kept.old.key) k) (told content_of (told fenced (kept.old.content, kept.old.writer))) (seen_of_homes self.old k) }
+        ensures ready { ready_of_homes self.new ≡ ready_of_homes self.old }
+        ensures key { kept.new.key ≡ kept.old.key }
+        ensures exchanged { told content_of (told fenced (kept.new.content, kept.new.writer)) ≡ seen_of_homes self.old (key.Fence vat kept.old.key) }
+        ensures counted { swaps.new ≡ (swaps.old + 1) % 2 ^ 64 }
+    {
+        match self.homes.get_mut(&vat) {
+            Some(home) => home.swap_fence(kept, swaps),
             None => unreachable!(),
         }
     }

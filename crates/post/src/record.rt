@@ -6,10 +6,12 @@ ghost use Rattle.post.specs.Records.{record_of};
 use crate::message::Message;
 use crate::vat::Vat;
 use cells::store::Record;
+use eorder::fence::Fence;
 use heap::made::Made;
-use heap::state::Binding;
+use heap::state::{Binding, View};
 use ids::cells::CellKey;
 use ids::names::{MsgId, ObjId, PromId, SlotId, VatNo};
+use ids::reference::Reference;
 use ids::text::Text;
 use std::alloc::AllocError;
 use values::value::Value;
@@ -21,6 +23,10 @@ pub enum CellRecord {
     Object(Record<ObjId, Made>),
     /// Of a name that the vat's script defined.
     Top(VatNo, Record<Text, Binding>),
+    /// Of a promise that has come into the vat.
+    View(VatNo, Record<PromId, View>),
+    /// Of a reference that the vat has sent on or that came in.
+    Fence(VatNo, Record<Reference, Fence>),
     Msg(Record<MsgId, Message>),
     Board(Record<PromId, Value>),
 }
@@ -33,6 +39,8 @@ impl Drop for CellRecord {
             | CellRecord::Slot(_)
             | CellRecord::Object(_)
             | CellRecord::Top(_, _)
+            | CellRecord::View(_, _)
+            | CellRecord::Fence(_, _)
             | CellRecord::Msg(_)
             | CellRecord::Board(_) => {}
         }
@@ -49,6 +57,8 @@ impl CellRecord {
             CellRecord::Slot(kept) => CellKey::Slot(kept.key),
             CellRecord::Object(kept) => CellKey::Object(kept.key),
             CellRecord::Top(vat, kept) => CellKey::Top(*vat, kept.key.share()?),
+            CellRecord::View(vat, kept) => CellKey::View(*vat, kept.key),
+            CellRecord::Fence(vat, kept) => CellKey::Fence(*vat, kept.key),
             CellRecord::Msg(kept) => CellKey::Msg(kept.key),
             CellRecord::Board(kept) => CellKey::Board(kept.key),
         })
@@ -64,6 +74,12 @@ impl CellRecord {
             (CellRecord::Object(kept), CellKey::Object(object)) => kept.key == *object,
             (CellRecord::Top(vat, kept), CellKey::Top(home, name)) => {
                 *vat == *home && kept.key == *name
+            }
+            (CellRecord::View(vat, kept), CellKey::View(home, promise)) => {
+                *vat == *home && kept.key == *promise
+            }
+            (CellRecord::Fence(vat, kept), CellKey::Fence(home, reference)) => {
+                *vat == *home && kept.key == *reference
             }
             (CellRecord::Msg(kept), CellKey::Msg(message)) => kept.key == *message,
             (CellRecord::Board(kept), CellKey::Board(promise)) => kept.key == *promise,

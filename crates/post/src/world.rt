@@ -103,6 +103,8 @@ impl World {
             CellKey::Slot(slot) => self.homes.slot_writer(*slot),
             CellKey::Object(object) => self.homes.object_writer(*object),
             CellKey::Top(vat, name) => self.homes.top_writer(*vat, name),
+            CellKey::View(vat, promise) => self.homes.view_writer(*vat, *promise),
+            CellKey::Fence(vat, reference) => self.homes.fence_writer(*vat, *reference),
             CellKey::Msg(message) => self.messages.last_writer(message),
             CellKey::Board(promise) => self.board.last_writer(promise),
         }
@@ -120,6 +122,8 @@ impl World {
             CellKey::Slot(slot) => self.homes.make_room_for_slot(alloc, slot),
             CellKey::Object(object) => self.homes.make_room_for_object(alloc, object),
             CellKey::Top(vat, name) => self.homes.make_room_for_top(alloc, vat, name),
+            CellKey::View(vat, promise) => self.homes.make_room_for_view(alloc, vat, promise),
+            CellKey::Fence(vat, reference) => self.homes.make_room_for_fence(alloc, vat, reference),
             CellKey::Msg(message) => self.messages.make_room(message),
             CellKey::Board(promise) => self.board.make_room(promise),
         }
@@ -147,6 +151,8 @@ impl World {
             CellRecord::Slot(kept) => self.homes.swap_slot(kept, swaps),
             CellRecord::Object(kept) => self.homes.swap_object(kept, swaps),
             CellRecord::Top(vat, kept) => self.homes.swap_top(*vat, kept, swaps),
+            CellRecord::View(vat, kept) => self.homes.swap_view(*vat, kept, swaps),
+            CellRecord::Fence(vat, kept) => self.homes.swap_fence(*vat, kept, swaps),
             CellRecord::Msg(kept) => self.messages.swap_record(kept, swaps),
             CellRecord::Board(kept) => self.board.swap_record(kept, swaps),
         }

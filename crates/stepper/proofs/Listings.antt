@@ -16,15 +16,15 @@ use Rattle.ids.specs.declared.names.ObjId.{ObjId}
 use Rattle.ids.specs.Cells.{slot_cmp, object_cmp}
 use Rattle.std.specs.Ordering.{nat_cmp}
 use Rattle.std.specs.Cmp.Lexicographic.{slice_cmp}
-use Rattle.values.specs.declared.value.Value.{Value}
-use Rattle.heap.specs.State.{State, nothing, read, top, slot_cell, object_cell}
-use Rattle.heap.specs.View.{tops_of, slots_of, objects_of}
-use Rattle.heap.specs.declared.state.Binding.{Binding}
-use Rattle.heap.specs.declared.made.Made.{Made}
+use Rattle.heap.specs.State.{State, nothing, read, top, slot_cell, object_cell, view_cell, fence_cell}
+use Rattle.heap.specs.View.{tops_of, slots_of, objects_of, views_of, fences_of}
+use Rattle.heap.specs.declared.state.Contents.{Contents}
+use Rattle.ids.specs.declared.reference.Reference.{Reference}
+use Rattle.ids.specs.contracts.reference.ReferenceOrd.TheImpl as reference_order
 use Rattle.kernele.specs.Tree.{Name}
 use Rattle.post.specs.World.{Content, World, vat_state}
-use Rattle.stepper.specs.Show.{Lists, noun_lines, slot_lines, object_lines, vat_line, StateLines, VatLines, vat_lines_none, vat_lines_more, number_in, ByBirth, message_lines, board_lines, Shows}
-use Rattle.stepper.specs.ShowView.{entries_as, nouns_in, slots_in, objects_in, Written}
+use Rattle.stepper.specs.Show.{Lists, noun_lines, slot_lines, object_lines, view_lines, fence_lines, vat_line, StateLines, VatLines, vat_lines_none, vat_lines_more, number_in, ByBirth, message_lines, board_lines, Shows}
+use Rattle.stepper.specs.ShowView.{entries_as, nouns_in, slots_in, objects_in, views_in, fences_in, Written}
 
 keys_as : {K V W : Type 0} (f : V → W) (es : List (K × V)) → map (λ e. e.0) (entries_as f es) ≡ keys_of es
 keys_as f [] = refl
@@ -59,34 +59,65 @@ by_birth_along at now vs h b = record {
   all = λ x v e. b.all x v (ap number_in (h x) ∙ e);
 }
 
--- the lines of a state's nouns, slots and objects
-pub state_written : (s : State) (m : BTreeMap (List ℕ) Binding) (n : BTreeMap SlotId Value) (o : BTreeMap ObjId Made) (before later last now : List ℕ)
-    → later ≡ before ++ noun_lines (nouns_in m) → last ≡ later ++ slot_lines (slots_in n) → now ≡ last ++ object_lines (objects_in o)
-    → Lists (slice_cmp nat_cmp) (tops_of m) (nouns_in m) → Lists slot_cmp (slots_of n) (slots_in n) → Lists object_cmp (objects_of o) (objects_in o)
-    → ((x : List ℕ) → tops_of m x ≡ read s (top x)) → ((i : SlotId) → slots_of n i ≡ read s (slot_cell i)) → ((i : ObjId) → objects_of o i ≡ read s (object_cell i))
-    → Written (StateLines s) before now
-state_written s m n o before later last now f g k lm ln lo sm sn so =
-    let nouns = noun_lines (nouns_in m) in
-    let slots = slot_lines (slots_in n) in
-    let objects = object_lines (objects_in o) in (
-      nouns ++ (slots ++ objects),
-      record {
-        nouns = nouns_in m;
-        nouns_listed = lists_along (slice_cmp nat_cmp) _ _ (nouns_in m) sm lm;
-        slots = slots_in n;
-        slots_listed = lists_along slot_cmp _ _ (slots_in n) sn ln;
-        objects = objects_in o;
-        objects_listed = lists_along object_cmp _ _ (objects_in o) so lo;
-        whole = refl;
-      },
-      k ∙ ap (λ t. t ++ objects) (g ∙ ap (λ t. t ++ slots) f) ∙ append_assoc (before ++ nouns) slots objects ∙ append_assoc before nouns (slots ++ objects),
-    )
+-- one text behind another, behind what stood there before
+texts_then : (before a b mid now : List ℕ) → mid ≡ before ++ a → now ≡ mid ++ b → now ≡ before ++ (a ++ b)
+texts_then before a b mid now f g = g ∙ ap (λ t. t ++ b) f ∙ append_assoc before a b
+
+-- the lines of all kinds of cells of a state
+module _ (s : State) (c : Contents) where
+  abbrev nouns : List ℕ
+  nouns = noun_lines (nouns_in c.nouns)
+
+  abbrev slots : List ℕ
+  slots = slot_lines (slots_in c.slots)
+
+  abbrev objects : List ℕ
+  objects = object_lines (objects_in c.objects)
+
+  abbrev views : List ℕ
+  views = view_lines (views_in c.views)
+
+  abbrev fences : List ℕ
+  fences = fence_lines (fences_in c.fences)
+
+  -- what the maps hold is what the state does, and each is listed
+  pub record AreListed : Type 0 where
+    pub nouns_there : (x : List ℕ) → tops_of c.nouns x ≡ read s (top x)
+    pub slots_there : (i : SlotId) → slots_of c.slots i ≡ read s (slot_cell i)
+    pub objects_there : (i : ObjId) → objects_of c.objects i ≡ read s (object_cell i)
+    pub views_there : (p : PromId) → views_of c.views p ≡ read s (view_cell p)
+    pub fences_there : (r : Reference) → fences_of c.fences r ≡ read s (fence_cell r)
+    pub nouns_listed : Lists (slice_cmp nat_cmp) (tops_of c.nouns) (nouns_in c.nouns)
+    pub slots_listed : Lists slot_cmp (slots_of c.slots) (slots_in c.slots)
+    pub objects_listed : Lists object_cmp (objects_of c.objects) (objects_in c.objects)
+    pub views_listed : Lists promise_cmp (views_of c.views) (views_in c.views)
+    pub fences_listed : Lists (reference_order.ghosts).cmp (fences_of c.fences) (fences_in c.fences)
+
+  pub state_written : AreListed → (before one two three four now : List ℕ) → one ≡ before ++ nouns → two ≡ one ++ slots → three ≡ two ++ objects → four ≡ three ++ views → now ≡ four ++ fences → Written (StateLines s) before now
+  state_written l before one two three four now f g h k m = (
+    nouns ++ (slots ++ (objects ++ (views ++ fences))),
+    record {
+      nouns = nouns_in c.nouns;
+      nouns_listed = lists_along (slice_cmp nat_cmp) _ _ (nouns_in c.nouns) l.nouns_there l.nouns_listed;
+      slots = slots_in c.slots;
+      slots_listed = lists_along slot_cmp _ _ (slots_in c.slots) l.slots_there l.slots_listed;
+      objects = objects_in c.objects;
+      objects_listed = lists_along object_cmp _ _ (objects_in c.objects) l.objects_there l.objects_listed;
+      views = views_in c.views;
+      views_listed = lists_along promise_cmp _ _ (views_in c.views) l.views_there l.views_listed;
+      fences = fences_in c.fences;
+      fences_listed = lists_along (reference_order.ghosts).cmp _ _ (fences_in c.fences) l.fences_there l.fences_listed;
+      whole = refl;
+    },
+    texts_then before nouns (slots ++ (objects ++ (views ++ fences))) one now f
+    (texts_then one slots (objects ++ (views ++ fences)) two now g (texts_then two objects (views ++ fences) three now h (texts_then three views fences four now k m))),
+  )
 
 -- of a vat without a state nothing is written
 pub nothing_written : (s : State) (now : List ℕ) → s ≡ nothing → Written (StateLines s) now now
 nothing_written s now e =
     subst (λ z. Written (StateLines z) now now) (sym e)
-    ([], record { nouns = []; nouns_listed = lists_none (slice_cmp nat_cmp); slots = []; slots_listed = lists_none slot_cmp; objects = []; objects_listed = lists_none object_cmp; whole = refl }, sym (append-nil now))
+    ([], record { nouns = []; nouns_listed = lists_none (slice_cmp nat_cmp); slots = []; slots_listed = lists_none slot_cmp; objects = []; objects_listed = lists_none object_cmp; views = []; views_listed = lists_none promise_cmp; fences = []; fences_listed = lists_none (reference_order.ghosts).cmp; whole = refl }, sym (append-nil now))
 
 -- the lines of the same state
 pub state_along : (s t : State) (before now : List ℕ) → s ≡ t → Written (StateLines s) before now → Written (StateLines t) before now

@@ -5,20 +5,22 @@ use Rattle.std.specs.Cmp.Lexicographic.{slice_cmp}
 use Rattle.std.specs.declared.cmp.Ordering.{Ordering}
 use Rattle.std.specs.List.Sorted.{IsStrictlySortedBy}
 use Rattle.std.specs.Map.{lookup}
-use Rattle.ids.specs.Names.{event_text, message_text, promise_text, slot_text, object_text}
+use Rattle.ids.specs.Names.{event_text, message_text, promise_text, slot_text, object_text, reference_text}
 use Rattle.ids.specs.Cells.{vat_cmp, message_cmp, promise_cmp, slot_cmp, object_cmp}
 use Rattle.ids.specs.declared.names.VatNo.{VatNo}
 use Rattle.ids.specs.declared.names.MsgId.{MsgId}
 use Rattle.ids.specs.declared.names.PromId.{PromId}
 use Rattle.ids.specs.declared.names.SlotId.{SlotId}
 use Rattle.ids.specs.declared.names.ObjId.{ObjId}
+use Rattle.ids.specs.declared.reference.Reference.{Reference}
+use Rattle.ids.specs.contracts.reference.ReferenceOrd.TheImpl as reference_order
 use Rattle.ids.specs.declared.cells.CellKey.TheVariants as key
 use Rattle.kernele.specs.Tree.{Name}
 use Rattle.kernele.specs.declared.tree.Pattern.{Pattern}
 use Rattle.kernele.specs.declared.tree.Pattern.TheVariants as pattern
 use Rattle.values.specs.Shown.{shown}
 use Rattle.heap.specs.State as state
-use Rattle.heap.specs.State.{State, top, slot_cell, object_cell, bound, fixed, slot, held, made}
+use Rattle.heap.specs.State.{State, top, slot_cell, object_cell, view_cell, fence_cell, bound, fixed, slot, held, made, viewed, pending, resolved, fenced}
 use Rattle.post.specs.World.{Place, at_vat, done, Content, vat, message, published, World, vat_state}
 
 -- xs has the contents of a finite map with their keys, in the order of the keys
@@ -34,12 +36,20 @@ abbrev pub pattern_text : Pattern → List ℕ
 pattern_text (pattern.Name x) = x
 pattern_text pattern.Ignore = codes "_"
 
--- VALUE, or slot SLOT, or what an object was bound to
+-- MSG MSG .., each behind a space
+abbrev pub names_text : List MsgId → List ℕ
+names_text [] = []
+names_text (m ∷ ms) = codes " " ++ (message_text m ++ names_text ms)
+
+-- VALUE, or slot SLOT, or what an object was bound to, or what is known of a promise, or the messages behind a reference
 abbrev pub content_text : state.Content → List ℕ
 content_text (bound (fixed v)) = shown v
 content_text (bound (slot s)) = codes "slot " ++ slot_text s
 content_text (held v) = shown v
 content_text (made o) = pattern_text o.own
+content_text (viewed pending) = codes " open"
+content_text (viewed (resolved v)) = codes " = " ++ shown v
+content_text (fenced names) = names_text names
 
 --  noun NAME = VALUE, or noun NAME = slot SLOT
 abbrev pub noun_line : Name × state.Content → List ℕ
@@ -65,6 +75,22 @@ abbrev pub object_lines : List (ObjId × state.Content) → List ℕ
 object_lines [] = []
 object_lines (e ∷ es) = object_line e ++ object_lines es
 
+--  view PROM open, or view PROM = VALUE
+abbrev pub view_line : PromId × state.Content → List ℕ
+view_line e = codes " view " ++ (promise_text e.0 ++ (content_text e.1 ++ line_feed))
+
+abbrev pub view_lines : List (PromId × state.Content) → List ℕ
+view_lines [] = []
+view_lines (e ∷ es) = view_line e ++ view_lines es
+
+--  fence REF: MSG MSG ..
+abbrev pub fence_line : Reference × state.Content → List ℕ
+fence_line e = codes " fence " ++ (reference_text e.0 ++ (codes ":" ++ (content_text e.1 ++ line_feed)))
+
+abbrev pub fence_lines : List (Reference × state.Content) → List ℕ
+fence_lines [] = []
+fence_lines (e ∷ es) = fence_line e ++ fence_lines es
+
 -- the top nouns of a vat, in order of bytes
 abbrev pub Nouns : State → List (Name × state.Content) → Type 0
 Nouns s es = Lists (slice_cmp nat_cmp) (λ x. s (top x)) es
@@ -77,11 +103,19 @@ Slots s es = Lists slot_cmp (λ i. s (slot_cell i)) es
 abbrev pub Objects : State → List (ObjId × state.Content) → Type 0
 Objects s es = Lists object_cmp (λ i. s (object_cell i)) es
 
+-- what a vat knows of promises, in order of their names
+abbrev pub Views : State → List (PromId × state.Content) → Type 0
+Views s es = Lists promise_cmp (λ p. s (view_cell p)) es
+
+-- the fences of a vat: of promises, of objects and of ejectors, each in order of their names
+abbrev pub Fences : State → List (Reference × state.Content) → Type 0
+Fences s es = Lists (reference_order.ghosts).cmp (λ r. s (fence_cell r)) es
+
 -- vat NAME EVENT
 abbrev pub vat_line : VatNo → Name → List ℕ
 vat_line v x = codes "vat " ++ (x ++ (codes " " ++ (event_text v.0 ++ line_feed)))
 
--- the lines of a vat's state: those of its nouns, of its slots and of its objects
+-- the lines of a vat's state: those of its nouns, of its slots, of its objects, of its views and of its fences
 pub record StateLines (s : State) (lines : List ℕ) : Type 0 where
   pub nouns : List (Name × state.Content)
   pub nouns_listed : Nouns s nouns
@@ -89,7 +123,11 @@ pub record StateLines (s : State) (lines : List ℕ) : Type 0 where
   pub slots_listed : Slots s slots
   pub objects : List (ObjId × state.Content)
   pub objects_listed : Objects s objects
-  pub whole : lines ≡ noun_lines nouns ++ (slot_lines slots ++ object_lines objects)
+  pub views : List (PromId × state.Content)
+  pub views_listed : Views s views
+  pub fences : List (Reference × state.Content)
+  pub fences_listed : Fences s fences
+  pub whole : lines ≡ noun_lines nouns ++ (slot_lines slots ++ (object_lines objects ++ (view_lines views ++ fence_lines fences)))
 
 -- the lines of vats: each its own, then those of its state
 pub data VatLines (w : World) : List (VatNo × Name) → List ℕ → Type 0 where

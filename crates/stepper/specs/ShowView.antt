@@ -4,15 +4,17 @@ use Rattle.std.specs.BTreeMap.{BTreeMap}
 use Rattle.kernele.specs.Tree.{Name}
 use Rattle.values.specs.View.{val_of}
 use Rattle.values.specs.declared.value.Value.{Value}
-use Rattle.heap.specs.View.{bind_of, object_of}
+use Rattle.heap.specs.View.{bind_of, object_of, view_of}
 use Rattle.heap.specs.declared.state.Binding.{Binding}
 use Rattle.heap.specs.declared.made.Made.{Made}
+use Rattle.heap.specs.declared.state.View.{View}
 use Rattle.heap.specs.State as state
-use Rattle.heap.specs.State.{bound, held, made}
+use Rattle.heap.specs.State.{bound, held, made, viewed, fenced}
 use Rattle.ids.specs.declared.names.MsgId.{MsgId}
 use Rattle.ids.specs.declared.names.PromId.{PromId}
 use Rattle.ids.specs.declared.names.SlotId.{SlotId}
 use Rattle.ids.specs.declared.names.ObjId.{ObjId}
+use Rattle.ids.specs.declared.reference.Reference.{Reference}
 use Rattle.post.specs.World.{Content, message, published}
 use Rattle.post.specs.Messages.{message_of}
 use Rattle.post.specs.declared.message.Message.{Message}
@@ -30,6 +32,12 @@ slot_entries es = entries_as (λ v. held (val_of v)) es
 abbrev pub object_entries : List (ObjId × Made) → List (ObjId × state.Content)
 object_entries es = entries_as (λ m. made (object_of m)) es
 
+abbrev pub view_entries : List (PromId × View) → List (PromId × state.Content)
+view_entries es = entries_as (λ k. viewed (view_of k)) es
+
+abbrev pub fence_entries : List (Reference × List MsgId) → List (Reference × state.Content)
+fence_entries es = entries_as fenced es
+
 abbrev pub message_entries : List (MsgId × Message) → List (MsgId × Content)
 message_entries es = entries_as (λ g. message (message_of g)) es
 
@@ -44,6 +52,12 @@ slots_in m = slot_entries m.entries
 
 abbrev pub objects_in : BTreeMap ObjId Made → List (ObjId × state.Content)
 objects_in m = object_entries m.entries
+
+abbrev pub views_in : BTreeMap PromId View → List (PromId × state.Content)
+views_in m = view_entries m.entries
+
+abbrev pub fences_in : BTreeMap Reference (List MsgId) → List (Reference × state.Content)
+fences_in m = fence_entries m.entries
 
 abbrev pub messages_in : BTreeMap MsgId Message → List (MsgId × Content)
 messages_in m = message_entries m.entries

@@ -5,20 +5,23 @@ ghost use Rattle.std.specs.Cmp.Lexicographic.{slice_cmp};
 ghost use Rattle.std.specs.Option.{option_map};
 ghost use Rattle.std.specs.Ordering.{nat_cmp};
 ghost use Rattle.ids.specs.Cells.{message_cmp, promise_cmp, slot_cmp, object_cmp};
+ghost use Rattle.ids.specs.contracts.reference.ReferenceOrd.TheImpl as reference_order;
 ghost use Rattle.values.specs.View.{val_of};
 ghost use Rattle.values.specs.Shown.{shown};
-ghost use Rattle.heap.specs.State.{bound, held, made};
-ghost use Rattle.heap.specs.View.{bind_of, object_of, state_of, tops_of, slots_of, objects_of};
+ghost use Rattle.heap.specs.State.{bound, held, made, viewed, fenced};
+ghost use Rattle.heap.specs.View.{bind_of, object_of, view_of, state_of, tops_of, slots_of, objects_of, views_of, fences_of};
 ghost use Rattle.post.specs.Listed.{names_in};
 ghost use Rattle.post.specs.Messages.{place_of, message_of};
 ghost use Rattle.post.specs.View.{world_of};
 ghost use Rattle.post.specs.World.{message as message_content, published, vat_state};
-ghost use Rattle.stepper.specs.Show.{pattern_text, content_text, noun_line, noun_lines, slot_line, slot_lines, object_line, object_lines, vat_line, place_text, message_line, message_lines, board_line, board_lines, Lists, ByBirth, StateLines, VatLines, Shows};
-ghost use Rattle.stepper.specs.ShowView.{nouns_in, slots_in, objects_in, messages_in, board_in, Written};
+ghost use Rattle.stepper.specs.Show.{pattern_text, content_text, noun_line, noun_lines, slot_line, slot_lines, object_line, object_lines, view_line, view_lines, names_text, fence_line, fence_lines, vat_line, place_text, message_line, message_lines, board_line, board_lines, Lists, ByBirth, StateLines, VatLines, Shows};
+ghost use Rattle.stepper.specs.ShowView.{nouns_in, slots_in, objects_in, views_in, fences_in, messages_in, board_in, Written};
 
+use eorder::fence::Fence;
 use heap::made::Made;
-use heap::state::{Binding, VatState};
+use heap::state::{Binding, VatState, View};
 use ids::names::{MsgId, ObjId, PromId, SlotId, VatNo};
+use ids::reference::Reference;
 use ids::text::Text;
 use kernele::tree::Pattern;
 use post::message::{Message, Place};
@@ -104,6 +107,60 @@ fn write_objects(objects: &BTreeMap<ObjId, Made>, out: &mut String) -> Result<()
     Ok(())
 }
 
+fn write_view(promise: PromId, view: &View, out: &mut String) -> Result<(), AllocError>
+    ensures { OnOk result (string_bytes out.new ≡ string_bytes out.old ++ view_line (promise, viewed (view_of view.now))) }
+{
+    write!(out, " view {promise}")?;
+    match view {
+        View::Open => out.push_str(" open")?,
+        View::Resolved(value) => {
+            out.push_str(" = ")?;
+            write_value(value, out)?;
+        }
+    }
+    out.push_str("\n")
+}
+
+/// Writes what is known of promises, in order of their names.
+fn write_views(views: &BTreeMap<PromId, View>, out: &mut String) -> Result<(), AllocError>
+    ensures written { OnOk result (string_bytes out.new ≡ string_bytes out.old ++ view_lines (views_in views.now)) }
+    ensures listed { OnOk result (Lists promise_cmp (views_of views.now) (views_in views.now)) }
+{
+    for (promise, view) in views.iter() {
+        write_view(*promise, view, out)?;
+    }
+    Ok(())
+}
+
+/// Writes names of messages, each behind a space.
+fn write_names(names: &[MsgId], out: &mut String) -> Result<(), AllocError>
+    ensures { OnOk result (string_bytes out.new ≡ string_bytes out.old ++ names_text names.now) }
+{
+    for name in names {
+        write!(out, " {name}")?;
+    }
+    Ok(())
+}
+
+fn write_fence(reference: Reference, fence: &Fence, out: &mut String) -> Result<(), AllocError>
+    ensures { OnOk result (string_bytes out.new ≡ string_bytes out.old ++ fence_line (reference, fenced fence.now)) }
+{
+    write!(out, " fence {reference}:")?;
+    write_names(fence.names(), out)?;
+    out.push_str("\n")
+}
+
+/// Writes fences in order of their references.
+fn write_fences(fences: &BTreeMap<Reference, Fence>, out: &mut String) -> Result<(), AllocError>
+    ensures written { OnOk result (string_bytes out.new ≡ string_bytes out.old ++ fence_lines (fences_in fences.now)) }
+    ensures listed { OnOk result (Lists (reference_order.ghosts).cmp (fences_of fences.now) (fences_in fences.now)) }
+{
+    for (reference, fence) in fences.iter() {
+        write_fence(*reference, fence, out)?;
+    }
+    Ok(())
+}
+
 fn write_vat(number: VatNo, name: &Text, out: &mut String) -> Result<(), AllocError>
     ensures { OnOk result (string_bytes out.new ≡ string_bytes out.old ++ vat_line number name.now) }
 {
@@ -111,7 +168,7 @@ fn write_vat(number: VatNo, name: &Text, out: &mut String) -> Result<(), AllocEr
     write!(out, "vat {name} {event}\n")
 }
 
-/// Writes the top nouns, the slots and the objects of a vat's state.
+/// Writes the top nouns, the slots, the objects, the views and the fences of a vat's state.
 fn write_state(alloc: Global, state: &VatState, out: &mut String) -> Result<(), AllocError>
     ensures { OnOk result (Written (StateLines (state_of state.now)) (string_bytes out.old) (string_bytes out.new)) }
 {
@@ -119,6 +176,8 @@ fn write_state(alloc: Global, state: &VatState, out: &mut String) -> Result<(), 
     write_nouns(&contents.nouns, out)?;
     write_slots(&contents.slots, out)?;
     write_objects(&contents.objects, out)?;
+    write_views(&contents.views, out)?;
+    write_fences(&contents.fences, out)?;
     Ok(())
 }
 
@@ -151,7 +210,7 @@ fn vats_by_birth(
     Ok(vats)
 }
 
-/// Writes the vats in order of birth, each with its top nouns, slots and objects.
+/// Writes the vats in order of birth, each with what it holds.
 fn write_vats(
     alloc: Global,
     vats: &BTreeMap<VatNo, Text>,

@@ -4,5 +4,17 @@ use Rattle.stepper.proofs.show.write_state.Goals as goal
 
 pub returns : goal.returns
 returns c =
-    state_written (state_of c.args.state.now) c.in_ok-contents.contents.nouns c.in_ok-contents.contents.slots c.in_ok-contents.contents.objects _ _ _ _ c.in_ok-write_nouns.ensures.written c.in_ok-write_slots.ensures.written c.in_ok-write_objects.ensures.written
-    c.in_ok-write_nouns.ensures.listed c.in_ok-write_slots.ensures.listed c.in_ok-write_objects.ensures.listed c.in_ok-contents.ensures.nouns c.in_ok-contents.ensures.slots c.in_ok-contents.ensures.objects
+    state_written (state_of c.args.state.now) c.in_ok-contents.contents
+    (record {
+      nouns_there = c.in_ok-contents.ensures.nouns;
+      slots_there = c.in_ok-contents.ensures.slots;
+      objects_there = c.in_ok-contents.ensures.objects;
+      views_there = c.in_ok-contents.ensures.views;
+      fences_there = c.in_ok-contents.ensures.fences;
+      nouns_listed = c.in_ok-write_nouns.ensures.listed;
+      slots_listed = c.in_ok-write_slots.ensures.listed;
+      objects_listed = c.in_ok-write_objects.ensures.listed;
+      views_listed = c.in_ok-write_views.ensures.listed;
+      fences_listed = c.in_ok-write_fences.ensures.listed;
+    })
+    _ _ _ _ _ _ c.in_ok-write_nouns.ensures.written c.in_ok-write_slots.ensures.written c.in_ok-write_objects.ensures.written c.in_ok-write_views.ensures.written c.in_ok-write_fences.ensures.written

@@ -11,6 +11,12 @@ returns-in-Object-clause-ready c = ready_alike c.args.self.now (record { names =
 pub returns-in-Top-clause-ready : goal.returns-in-Top-clause-ready
 returns-in-Top-clause-ready c = ready_alike c.args.self.now (record { names = c.args.self.now.names; homes = c.swap_top.new.self; messages = c.args.self.now.messages; board = c.args.self.now.board }) (λ k. refl) (λ k. ap (λ f. f k) c.swap_top.ensures.ready) (λ k. refl) (λ k. refl)
 
+pub returns-in-View-clause-ready : goal.returns-in-View-clause-ready
+returns-in-View-clause-ready c = ready_alike c.args.self.now (record { names = c.args.self.now.names; homes = c.swap_view.new.self; messages = c.args.self.now.messages; board = c.args.self.now.board }) (λ k. refl) (λ k. ap (λ f. f k) c.swap_view.ensures.ready) (λ k. refl) (λ k. refl)
+
+pub returns-in-Fence-clause-ready : goal.returns-in-Fence-clause-ready
+returns-in-Fence-clause-ready c = ready_alike c.args.self.now (record { names = c.args.self.now.names; homes = c.swap_fence.new.self; messages = c.args.self.now.messages; board = c.args.self.now.board }) (λ k. refl) (λ k. ap (λ f. f k) c.swap_fence.ensures.ready) (λ k. refl) (λ k. refl)
+
 pub returns-in-Msg-clause-exchanged : goal.returns-in-Msg-clause-exchanged
 returns-in-Msg-clause-exchanged c = rw (c.in-Msg.is, c.swap_record-in-Msg.ensures.key, c.swap_record-in-Msg.ensures.content, c.swap_record-in-Msg.ensures.writer) refl
 
