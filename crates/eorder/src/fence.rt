@@ -123,3 +123,13 @@ impl Fence {
         Ok(())
     }
 }
+
+impl Clone for Fence {
+    ghost use Rattle.std.specs.Prelude.{◌≡◌};
+
+    ghost is_clone = { λ a b. b ≡ a };
+
+    fn clone(&self) -> Result<Fence, AllocError> {
+        self.share()
+    }
+}

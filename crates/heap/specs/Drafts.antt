@@ -5,7 +5,7 @@ use Rattle.ids.specs.declared.names.EventName.{EventName}
 use Rattle.ids.specs.declared.names.VatNo.{VatNo}
 use Rattle.values.specs.declared.value.Value.{Value}
 use Rattle.values.specs.View.{val_of}
-use Rattle.heap.specs.State.{top, slot_cell, object_cell, Content, held, made, State, Cells}
+use Rattle.heap.specs.State.{slot_cell, object_cell, Content, held, made, State, Cells}
 use Rattle.heap.specs.View.{object_of, state_of}
 use Rattle.heap.specs.Drafted.{Drafted}
 use Rattle.heap.specs.Found.{touched_in, writes_in, over_state}
@@ -26,27 +26,23 @@ over f None c = c
 
 -- a state with the slots that a turn made over it, by their number
 abbrev pub with_slots : EventName → VatNo → List Value → State → State
-with_slots e v slots s (top x) = s (top x)
 with_slots e v slots s (slot_cell i) = over (λ x. held (val_of x)) (own_item (is_of e v i.event i.vat) slots i.index) (s (slot_cell i))
-with_slots e v slots s (object_cell i) = s (object_cell i)
+with_slots e v slots s c = s c
 
 -- the same of the objects that it made
 abbrev pub with_objects : EventName → VatNo → List Made → State → State
-with_objects e v objects s (top x) = s (top x)
-with_objects e v objects s (slot_cell i) = s (slot_cell i)
 with_objects e v objects s (object_cell i) = over (λ m. made (object_of m)) (own_item (is_of e v i.event i.vat) objects i.index) (s (object_cell i))
+with_objects e v objects s c = s c
 
 -- a set of cells, and the slots that a turn made
 abbrev pub and_slots : EventName → VatNo → List Value → Cells → Cells
-and_slots e v slots q (top x) = q (top x)
 and_slots e v slots q (slot_cell i) = is_some (own_item (is_of e v i.event i.vat) slots i.index) || q (slot_cell i)
-and_slots e v slots q (object_cell i) = q (object_cell i)
+and_slots e v slots q c = q c
 
 -- the same of the objects that it made
 abbrev pub and_objects : EventName → VatNo → List Made → Cells → Cells
-and_objects e v objects q (top x) = q (top x)
-and_objects e v objects q (slot_cell i) = q (slot_cell i)
 and_objects e v objects q (object_cell i) = is_some (own_item (is_of e v i.event i.vat) objects i.index) || q (object_cell i)
+and_objects e v objects q c = q c
 
 -- a vat's state under a turn
 abbrev pub draft_of : Drafted → State

@@ -8,9 +8,9 @@ use Rattle.cells.specs.Touches.{standing, touch}
 use Rattle.cells.specs.declared.touches.Touch.{Touch}
 use Rattle.values.specs.declared.value.Value.{Value}
 use Rattle.values.specs.View.{val_of}
-use Rattle.heap.specs.State.{Cell, top, slot_cell, object_cell, Content, bound, held, made, State, Cells}
+use Rattle.heap.specs.State.{Cell, top, slot_cell, object_cell, view_cell, fence_cell, Content, bound, held, made, viewed, fenced, State, Cells}
 use Rattle.heap.specs.Sets.{found_contents}
-use Rattle.heap.specs.View.{bind_of, object_of, same_name, same_slot, same_object}
+use Rattle.heap.specs.View.{bind_of, object_of, view_of, same_name, same_slot, same_object, same_promise, same_target}
 use Rattle.heap.specs.declared.state.Binding.{Binding}
 use Rattle.heap.specs.declared.made.Made.{Made}
 use Rattle.heap.specs.declared.reach.Footprint.{Footprint}
@@ -25,6 +25,8 @@ abbrev pub touch_in : Footprint → Cell → Option (Touch Content)
 touch_in r (top x) = touch_of (λ b. bound (bind_of b)) (touch same_name r.tops x)
 touch_in r (slot_cell i) = touch_of (λ v. held (val_of v)) (touch same_slot r.slots i)
 touch_in r (object_cell i) = touch_of (λ m. made (object_of m)) (touch same_object r.objects i)
+touch_in r (view_cell p) = touch_of (λ k. viewed (view_of k)) (touch same_promise r.views p)
+touch_in r (fence_cell t) = touch_of fenced (touch same_target r.fences t)
 
 -- a cell was touched
 abbrev pub touched_in : Footprint → Cells

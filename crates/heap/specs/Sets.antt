@@ -4,7 +4,7 @@ use Rattle.std.proofs.Props.{props}
 use Rattle.kernele.specs.declared.tree.Pattern.{Pattern}
 use Rattle.kernele.specs.Tree.{Name, Methods, Methods-set}
 use Rattle.values.specs.Data.{Val, Val-set}
-use Rattle.heap.specs.State.{Bind, Bind-set, Nouns, Object, Object-set, Content, Content-set}
+use Rattle.heap.specs.State.{Bind, Bind-set, Nouns, Object, Object-set, View, View-set, Content, Content-set}
 
 names : IsSet Name
 names = hlevel props
@@ -30,8 +30,11 @@ nouns = hlevel (props, binds)
 pub objects : IsSet Object
 objects = Object-set patterns nouns methods
 
+pub views : IsSet View
+views = View-set vals
+
 pub contents : IsSet Content
-contents = Content-set binds vals objects
+contents = Content-set binds vals objects views (hlevel props)
 
 pub found_contents : IsSet (Option Content)
 found_contents = hlevel (props, contents)

@@ -2,9 +2,13 @@
 use Rattle.std.specs.Prelude.{Bool, false, ◌||◌, Option, Some, None, List, [], ◌∷◌, ◌++◌, cond}
 use Rattle.std.specs.Str.{bytes_eq}
 use Rattle.std.specs.Ordering.{is_eq}
-use Rattle.ids.specs.Cells.{slot_cmp, object_cmp}
+use Rattle.ids.specs.Cells.{slot_cmp, object_cmp, promise_cmp}
+use Rattle.ids.specs.References.{same_reference}
 use Rattle.ids.specs.declared.names.SlotId.{SlotId}
 use Rattle.ids.specs.declared.names.ObjId.{ObjId}
+use Rattle.ids.specs.declared.names.PromId.{PromId}
+use Rattle.ids.specs.declared.names.MsgId.{MsgId}
+use Rattle.ids.specs.declared.reference.Reference.{Reference}
 use Rattle.kernele.specs.Tree.{Name, Methods}
 use Rattle.kernele.specs.declared.tree.Pattern.{Pattern}
 use Rattle.values.specs.Data.{Val}
@@ -36,17 +40,29 @@ pub record Object : Type 0 where
   pub methods : Methods
   deriving IsSet as Object-set
 
--- a cell of a vat: a name that its script defined, a slot, or an object
+-- what a vat knows of a promise that has come into it: it is open, or resolved to a value
+pub data View : Type 0 where
+  pending : View
+  resolved : (v : Val) → View
+  deriving IsSet as View-set
+
+-- a cell of a vat: a name that its script defined, a slot, an object, what it knows of a promise, or what it keeps
+-- behind a reference
 pub data Cell : Type 0 where
   top : (x : Name) → Cell
   slot_cell : (s : SlotId) → Cell
   object_cell : (i : ObjId) → Cell
+  view_cell : (p : PromId) → Cell
+  fence_cell : (r : Reference) → Cell
 
--- what a cell holds: a name's meaning, a slot's value, or what an object is
+-- what a cell holds: a name's meaning, a slot's value, what an object is, what is known of a promise, or the messages
+-- behind a reference
 pub data Content : Type 0 where
   bound : (b : Bind) → Content
   held : (v : Val) → Content
   made : (o : Object) → Content
+  viewed : (k : View) → Content
+  fenced : (names : List MsgId) → Content
   deriving IsSet as Content-set
 
 abbrev pub State : Type 0
@@ -60,6 +76,8 @@ abbrev pub same_cell : Cell → Cell → Bool
 same_cell (top x) (top y) = bytes_eq x y
 same_cell (slot_cell s) (slot_cell t) = is_eq (slot_cmp s t)
 same_cell (object_cell i) (object_cell j) = is_eq (object_cmp i j)
+same_cell (view_cell p) (view_cell q) = is_eq (promise_cmp p q)
+same_cell (fence_cell r) (fence_cell t) = same_reference r t
 same_cell _ _ = false
 
 -- the one way to read a cell, and the one way to write it

@@ -5,8 +5,10 @@ ghost use Rattle.std.specs.Option.{option_map};
 
 use crate::made::Made;
 use crate::reach::{Footprint, Reach};
-use crate::state::{Binding, VatState};
-use ids::names::{EjId, EventName, ObjId, SlotId, VatNo};
+use crate::state::{Binding, VatState, View};
+use eorder::fence::Fence;
+use ids::names::{EjId, EventName, ObjId, PromId, SlotId, VatNo};
+use ids::reference::Reference;
 use ids::text::Text;
 use std::alloc::{AllocError, Global};
 use std::marker::Model;
@@ -43,8 +45,8 @@ impl Model for Draft {
 }
 
 impl Draft {
-    ghost use Rattle.heap.specs.State.{top, slot_cell, object_cell, bound, held, made, read, write, also, no_cells};
-    ghost use Rattle.heap.specs.View.{bind_of, object_of, state_of};
+    ghost use Rattle.heap.specs.State.{top, slot_cell, object_cell, view_cell, fence_cell, bound, held, made, viewed, fenced, read, write, also, no_cells};
+    ghost use Rattle.heap.specs.View.{bind_of, object_of, view_of, state_of};
     ghost use Rattle.heap.specs.Found.{Found, touched_in, writes_in};
     ghost use Rattle.heap.specs.Reaches.{state_in};
     ghost use Rattle.heap.specs.Drafts.{is_of, with_slots, with_objects, and_slots, and_objects, draft_of, counts_of, touched_of, writes_of, written_of, began_with, IsUnwritten};
@@ -283,6 +285,88 @@ impl Draft {
         };
         self.objects.push(object)?;
         Ok(id)
+    }
+
+    /// What is known of a promise. It touches nothing.
+    pub fn known(&self, promise: PromId) -> Option<&View>
+        ensures { option_map (λ k. viewed (view_of k.now)) result
+            ≡ read (draft_of self.now) (view_cell promise) }
+    {
+        self.base.view(promise)
+    }
+
+    /// What is known of a promise that was touched before.
+    pub fn peek_view(&self, promise: PromId) -> Option<&View>
+        ensures touched { IfSome result (λ k. touched_of self.now (view_cell promise) ≡ true) }
+        ensures content { IfSome result (λ k. read (draft_of self.now) (view_cell promise) ≡ Some (viewed (view_of k.now))) }
+    {
+        self.base.touched_view(promise)
+    }
+
+    /// Touches what is known of a promise. Without memory nothing more is touched.
+    pub fn reach_view(&mut self, promise: PromId) -> Result<(), AllocError>
+        ensures state { draft_of self.new ≡ draft_of self.old }
+        ensures touched { OnOk result (touched_of self.new ≡ also (view_cell promise) (touched_of self.old)) }
+        ensures err { OnErr result (touched_of self.new ≡ touched_of self.old) }
+        ensures written { written_of self.new ≡ written_of self.old }
+        ensures counts { counts_of self.new ≡ counts_of self.old }
+        ensures began { began_with self.new ≡ began_with self.old }
+    {
+        self.base.reach_view(promise)
+    }
+
+    /// Lets this be known of a promise. Without memory for a new one nothing more is touched or written.
+    pub fn write_view(&mut self, promise: PromId, view: View) -> Result<(), AllocError>
+        ensures ok { OnOk result
+            (draft_of self.new ≡ write (draft_of self.old) (view_cell promise) (viewed (view_of view))) }
+        ensures touched { OnOk result (touched_of self.new ≡ also (view_cell promise) (touched_of self.old)) }
+        ensures written { OnOk result (written_of self.new ≡ also (view_cell promise) (written_of self.old)) }
+        ensures err { OnErr result (IsUnwritten self.old self.new) }
+        ensures counts { counts_of self.new ≡ counts_of self.old }
+        ensures began { began_with self.new ≡ began_with self.old }
+    {
+        self.base.write_view(promise, view)
+    }
+
+    /// The messages that are kept behind a reference. It touches nothing.
+    pub fn fence(&self, reference: Reference) -> Option<&Fence>
+        ensures { option_map (λ f. fenced f.now) result
+            ≡ read (draft_of self.now) (fence_cell reference) }
+    {
+        self.base.fence(reference)
+    }
+
+    /// The messages behind a reference that was touched before.
+    pub fn peek_fence(&self, reference: Reference) -> Option<&Fence>
+        ensures touched { IfSome result (λ f. touched_of self.now (fence_cell reference) ≡ true) }
+        ensures content { IfSome result (λ f. read (draft_of self.now) (fence_cell reference) ≡ Some (fenced f.now)) }
+    {
+        self.base.touched_fence(reference)
+    }
+
+    /// Touches the messages behind a reference. Without memory nothing more is touched.
+    pub fn reach_fence(&mut self, reference: Reference) -> Result<(), AllocError>
+        ensures state { draft_of self.new ≡ draft_of self.old }
+        ensures touched { OnOk result (touched_of self.new ≡ also (fence_cell reference) (touched_of self.old)) }
+        ensures err { OnErr result (touched_of self.new ≡ touched_of self.old) }
+        ensures written { written_of self.new ≡ written_of self.old }
+        ensures counts { counts_of self.new ≡ counts_of self.old }
+        ensures began { began_with self.new ≡ began_with self.old }
+    {
+        self.base.reach_fence(reference)
+    }
+
+    /// Lets these messages be behind a reference. Without memory for a new one nothing more is touched or written.
+    pub fn write_fence(&mut self, reference: Reference, fence: Fence) -> Result<(), AllocError>
+        ensures ok { OnOk result
+            (draft_of self.new ≡ write (draft_of self.old) (fence_cell reference) (fenced fence)) }
+        ensures touched { OnOk result (touched_of self.new ≡ also (fence_cell reference) (touched_of self.old)) }
+        ensures written { OnOk result (written_of self.new ≡ also (fence_cell reference) (written_of self.old)) }
+        ensures err { OnErr result (IsUnwritten self.old self.new) }
+        ensures counts { counts_of self.new ≡ counts_of self.old }
+        ensures began { began_with self.new ≡ began_with self.old }
+    {
+        self.base.write_fence(reference, fence)
     }
 
     /// What the turn touched, with what it found and what it wrote: all that it made is written there.

@@ -2,15 +2,17 @@
 ghost use Rattle.std.specs.Prelude.{◌≡◌, None, Some, true, IfOk, IfSome, OnOk, OnErr};
 ghost use Rattle.std.specs.Arc.{arc_value};
 ghost use Rattle.std.specs.Option.{option_map};
-ghost use Rattle.heap.specs.State.{Cell, top, slot_cell, object_cell, bound, held, made, no_cells, nothing, also, read, write};
-ghost use Rattle.heap.specs.View.{bind_of, object_of, state_of};
+ghost use Rattle.heap.specs.State.{Cell, top, slot_cell, object_cell, view_cell, fence_cell, bound, held, made, viewed, fenced, no_cells, nothing, also, read, write};
+ghost use Rattle.heap.specs.View.{bind_of, object_of, view_of, state_of};
 ghost use Rattle.values.specs.View.{val_of};
 ghost use Rattle.heap.specs.Found.{Found, found-prop};
 
 use crate::made::Made;
-use crate::state::{Binding, VatState};
+use crate::state::{Binding, VatState, View};
 use cells::touches::{Touch, Touches};
-use ids::names::{ObjId, SlotId};
+use eorder::fence::Fence;
+use ids::names::{ObjId, PromId, SlotId};
+use ids::reference::Reference;
 use ids::text::Text;
 use std::alloc::{AllocError, Global};
 use std::sync::Arc;
@@ -22,6 +24,8 @@ pub struct Footprint {
     pub tops: Touches<Text, Binding>,
     pub slots: Touches<SlotId, Value>,
     pub objects: Touches<ObjId, Made>,
+    pub views: Touches<PromId, View>,
+    pub fences: Touches<Reference, Fence>,
 }
 
 /// The state that a turn began with, shared, and what it touched of it.
@@ -43,6 +47,8 @@ impl Footprint {
             tops: Touches::new(alloc),
             slots: Touches::new(alloc),
             objects: Touches::new(alloc),
+            views: Touches::new(alloc),
+            fences: Touches::new(alloc),
         }
     }
 
@@ -90,6 +96,38 @@ impl Footprint {
             let found = state.found_object(object)?;
             let written = None;
             self.objects.add(object, Touch { found, written })?;
+        }
+        Ok(())
+    }
+
+    /// Touches what is known of a promise, whose content is that of the state that the turn began with.
+    fn reach_view(&mut self, state: &VatState, promise: PromId) -> Result<(), AllocError>
+        ensures found { Found self.old (state_of state.now) → Found self.new (state_of state.now) }
+        ensures state { over_state self.new (state_of state.now) ≡ over_state self.old (state_of state.now) }
+        ensures touched { OnOk result (touched_in self.new ≡ also (view_cell promise) (touched_in self.old)) }
+        ensures written { writes_in self.new ≡ writes_in self.old }
+        ensures err { OnErr result ((c : Cell) → touch_in self.new c ≡ touch_in self.old c) }
+    {
+        if !self.views.has(&promise) {
+            let found = state.found_view(promise)?;
+            let written = None;
+            self.views.add(promise, Touch { found, written })?;
+        }
+        Ok(())
+    }
+
+    /// Touches the messages behind a reference, which are those of the state that the turn began with.
+    fn reach_fence(&mut self, state: &VatState, reference: Reference) -> Result<(), AllocError>
+        ensures found { Found self.old (state_of state.now) → Found self.new (state_of state.now) }
+        ensures state { over_state self.new (state_of state.now) ≡ over_state self.old (state_of state.now) }
+        ensures touched { OnOk result (touched_in self.new ≡ also (fence_cell reference) (touched_in self.old)) }
+        ensures written { writes_in self.new ≡ writes_in self.old }
+        ensures err { OnErr result ((c : Cell) → touch_in self.new c ≡ touch_in self.old c) }
+    {
+        if !self.fences.has(&reference) {
+            let found = state.found_fence(reference)?;
+            let written = None;
+            self.fences.add(reference, Touch { found, written })?;
         }
         Ok(())
     }
@@ -152,6 +190,52 @@ impl Footprint {
             }
         }
     }
+
+    /// Lets this be known of a promise.
+    fn write_view(
+        &mut self,
+        state: &VatState,
+        promise: PromId,
+        view: View,
+    ) -> Result<(), AllocError>
+        ensures found { Found self.old (state_of state.now) → Found self.new (state_of state.now) }
+        ensures state { OnOk result (over_state self.new (state_of state.now) ≡ write (over_state self.old (state_of state.now)) (view_cell promise) (viewed (view_of view))) }
+        ensures touched { OnOk result (touched_in self.new ≡ also (view_cell promise) (touched_in self.old)) }
+        ensures written { OnOk result (writes_in self.new ≡ write (writes_in self.old) (view_cell promise) (viewed (view_of view))) }
+        ensures err { OnErr result ((c : Cell) → touch_in self.new c ≡ touch_in self.old c) }
+    {
+        match self.views.write(&promise, view) {
+            Ok(()) => Ok(()),
+            Err(view) => {
+                let found = state.found_view(promise)?;
+                let written = Some(view);
+                self.views.add(promise, Touch { found, written })
+            }
+        }
+    }
+
+    /// Lets these messages be behind a reference.
+    fn write_fence(
+        &mut self,
+        state: &VatState,
+        reference: Reference,
+        fence: Fence,
+    ) -> Result<(), AllocError>
+        ensures found { Found self.old (state_of state.now) → Found self.new (state_of state.now) }
+        ensures state { OnOk result (over_state self.new (state_of state.now) ≡ write (over_state self.old (state_of state.now)) (fence_cell reference) (fenced fence)) }
+        ensures touched { OnOk result (touched_in self.new ≡ also (fence_cell reference) (touched_in self.old)) }
+        ensures written { OnOk result (writes_in self.new ≡ write (writes_in self.old) (fence_cell reference) (fenced fence)) }
+        ensures err { OnErr result ((c : Cell) → touch_in self.new c ≡ touch_in self.old c) }
+    {
+        match self.fences.write(&reference, fence) {
+            Ok(()) => Ok(()),
+            Err(fence) => {
+                let found = state.found_fence(reference)?;
+                let written = Some(fence);
+                self.fences.add(reference, Touch { found, written })
+            }
+        }
+    }
 }
 
 impl Reach {
@@ -202,6 +286,26 @@ impl Reach {
         }
     }
 
+    /// What is known of a promise.
+    pub(crate) fn view(&self, promise: PromId) -> Option<&View>
+        ensures { option_map (λ k. viewed (view_of k.now)) result ≡ read (state_in self.now) (view_cell promise) }
+    {
+        match self.footprint.views.get(&promise) {
+            Some(touch) => touch.content(),
+            None => self.state.view(promise),
+        }
+    }
+
+    /// The messages behind a reference.
+    pub(crate) fn fence(&self, reference: Reference) -> Option<&Fence>
+        ensures { option_map (λ f. fenced f.now) result ≡ read (state_in self.now) (fence_cell reference) }
+    {
+        match self.footprint.fences.get(&reference) {
+            Some(touch) => touch.content(),
+            None => self.state.fence(reference),
+        }
+    }
+
     /// What a top noun that was touched stands for.
     pub(crate) fn touched_top(&self, name: &Text) -> Option<&Binding>
         ensures touched { IfSome result (λ b. touched_in self.now.footprint (top name.now) ≡ true) }
@@ -220,6 +324,28 @@ impl Reach {
         ensures content { IfSome result (λ v. read (state_in self.now) (slot_cell slot) ≡ Some (held (val_of v.now))) }
     {
         match self.footprint.slots.get(&slot) {
+            Some(touch) => touch.content(),
+            None => None,
+        }
+    }
+
+    /// What is known of a promise that was touched.
+    pub(crate) fn touched_view(&self, promise: PromId) -> Option<&View>
+        ensures touched { IfSome result (λ k. touched_in self.now.footprint (view_cell promise) ≡ true) }
+        ensures content { IfSome result (λ k. read (state_in self.now) (view_cell promise) ≡ Some (viewed (view_of k.now))) }
+    {
+        match self.footprint.views.get(&promise) {
+            Some(touch) => touch.content(),
+            None => None,
+        }
+    }
+
+    /// The messages behind a reference that was touched.
+    pub(crate) fn touched_fence(&self, reference: Reference) -> Option<&Fence>
+        ensures touched { IfSome result (λ f. touched_in self.now.footprint (fence_cell reference) ≡ true) }
+        ensures content { IfSome result (λ f. read (state_in self.now) (fence_cell reference) ≡ Some (fenced f.now)) }
+    {
+        match self.footprint.fences.get(&reference) {
             Some(touch) => touch.content(),
             None => None,
         }
@@ -258,6 +384,28 @@ impl Reach {
         self.footprint.reach_object(&self.state, object)
     }
 
+    /// Touches what is known of a promise.
+    pub(crate) fn reach_view(&mut self, promise: PromId) -> Result<(), AllocError>
+        ensures state { state_in self.new ≡ state_in self.old }
+        ensures touched { OnOk result (touched_in self.new.footprint ≡ also (view_cell promise) (touched_in self.old.footprint)) }
+        ensures written { writes_in self.new.footprint ≡ writes_in self.old.footprint }
+        ensures err { OnErr result ((c : Cell) → touch_in self.new.footprint c ≡ touch_in self.old.footprint c) }
+        ensures beneath { self.new.state ≡ self.old.state }
+    {
+        self.footprint.reach_view(&self.state, promise)
+    }
+
+    /// Touches the messages behind a reference.
+    pub(crate) fn reach_fence(&mut self, reference: Reference) -> Result<(), AllocError>
+        ensures state { state_in self.new ≡ state_in self.old }
+        ensures touched { OnOk result (touched_in self.new.footprint ≡ also (fence_cell reference) (touched_in self.old.footprint)) }
+        ensures written { writes_in self.new.footprint ≡ writes_in self.old.footprint }
+        ensures err { OnErr result ((c : Cell) → touch_in self.new.footprint c ≡ touch_in self.old.footprint c) }
+        ensures beneath { self.new.state ≡ self.old.state }
+    {
+        self.footprint.reach_fence(&self.state, reference)
+    }
+
     /// Lets a top noun stand for this.
     pub(crate) fn write_top(&mut self, name: Text, binding: Binding) -> Result<(), AllocError>
         ensures state { OnOk result (state_in self.new ≡ write (state_in self.old) (top name) (bound (bind_of binding))) }
@@ -290,6 +438,32 @@ impl Reach {
         ensures beneath { self.new.state ≡ self.old.state }
     {
         self.footprint.write_object(&self.state, id, object)
+    }
+
+    /// Lets this be known of a promise.
+    pub(crate) fn write_view(&mut self, promise: PromId, view: View) -> Result<(), AllocError>
+        ensures state { OnOk result (state_in self.new ≡ write (state_in self.old) (view_cell promise) (viewed (view_of view))) }
+        ensures touched { OnOk result (touched_in self.new.footprint ≡ also (view_cell promise) (touched_in self.old.footprint)) }
+        ensures written { OnOk result (writes_in self.new.footprint ≡ write (writes_in self.old.footprint) (view_cell promise) (viewed (view_of view))) }
+        ensures err { OnErr result ((c : Cell) → touch_in self.new.footprint c ≡ touch_in self.old.footprint c) }
+        ensures beneath { self.new.state ≡ self.old.state }
+    {
+        self.footprint.write_view(&self.state, promise, view)
+    }
+
+    /// Lets these messages be behind a reference.
+    pub(crate) fn write_fence(
+        &mut self,
+        reference: Reference,
+        fence: Fence,
+    ) -> Result<(), AllocError>
+        ensures state { OnOk result (state_in self.new ≡ write (state_in self.old) (fence_cell reference) (fenced fence)) }
+        ensures touched { OnOk result (touched_in self.new.footprint ≡ also (fence_cell reference) (touched_in self.old.footprint)) }
+        ensures written { OnOk result (writes_in self.new.footprint ≡ write (writes_in self.old.footprint) (fence_cell reference) (fenced fence)) }
+        ensures err { OnErr result ((c : Cell) → touch_in self.new.footprint c ≡ touch_in self.old.footprint c) }
+        ensures beneath { self.new.state ≡ self.old.state }
+    {
+        self.footprint.write_fence(&self.state, reference, fence)
     }
 
     /// What was touched of the state, which is given back.

@@ -1,9 +1,9 @@
 // When the contents of two cells are the same.
 ghost use Rattle.std.specs.Prelude.{◌≡◌, ◌↔◌, IsTrue};
-ghost use Rattle.heap.specs.View.{bind_of, nouns_of, object_of};
+ghost use Rattle.heap.specs.View.{bind_of, nouns_of, object_of, view_of};
 
 use crate::made::Made;
-use crate::state::{Binding, Noun};
+use crate::state::{Binding, Noun, View};
 use code::sameness::{same_methods, same_pattern};
 use std::sync::Arc;
 use values::sameness::same;
@@ -26,6 +26,17 @@ pub fn same_made(a: &Made, b: &Made) -> bool
     same_pattern(&a.own, &b.own)
         && same_nouns(&a.captured, &b.captured)
         && same_methods(&a.methods, &b.methods)
+}
+
+/// Whether the same is known of two promises.
+pub fn same_view(a: &View, b: &View) -> bool
+    ensures { IsTrue result ↔ (view_of a.now ≡ view_of b.now) }
+{
+    match (a, b) {
+        (View::Open, View::Open) => true,
+        (View::Resolved(x), View::Resolved(y)) => same(x, y),
+        _ => false,
+    }
 }
 
 fn same_nouns(xs: &Arc<Vec<Noun>>, ys: &Arc<Vec<Noun>>) -> bool
