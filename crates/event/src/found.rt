@@ -5,7 +5,7 @@ ghost use Rattle.heap.specs.Found.{Found};
 ghost use Rattle.heap.specs.State.{Content, bound, held, made, viewed, fenced};
 ghost use Rattle.heap.specs.View.{bind_of, object_of, view_of, state_of};
 ghost use Rattle.values.specs.View.{val_of};
-ghost use Rattle.event.specs.Finds.{FoundIn};
+ghost use Rattle.event.specs.Finds.{FoundIn, KindsFound};
 
 use cells::store::CellStore;
 use cells::touches::Touches;
@@ -94,13 +94,20 @@ fn hold_found<K: Key + Drop, V: Held + Drop>(
     true
 }
 
-/// Whether a state holds what a turn found in each cell that it touched.
-pub fn is_found(footprint: &Footprint, state: &VatState) -> bool
-    ensures { IsTrue result ↔ Found footprint.now (state_of state.now) }
+/// Whether the cells of each kind hold what a turn found in those that it touched.
+fn hold_kinds(footprint: &Footprint, state: &VatState) -> bool
+    ensures { IsTrue result ↔ KindsFound footprint.now state.now }
 {
     hold_found(&state.tops, &footprint.tops)
         && hold_found(&state.slots, &footprint.slots)
         && hold_found(&state.objects, &footprint.objects)
         && hold_found(&state.views, &footprint.views)
         && hold_found(&state.fences, &footprint.fences)
+}
+
+/// Whether a state holds what a turn found in each cell that it touched.
+pub fn is_found(footprint: &Footprint, state: &VatState) -> bool
+    ensures { IsTrue result ↔ Found footprint.now (state_of state.now) }
+{
+    hold_kinds(footprint, state)
 }
