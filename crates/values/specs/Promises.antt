@@ -1,7 +1,13 @@
 -- Promises in values.
-use Rattle.std.specs.Prelude.{Bool, true, false, ◌||◌, cond, codes}
+use Rattle.std.specs.Prelude.{Bool, true, false, ◌||◌, cond, codes, Option, Some, None}
+use Rattle.ids.specs.declared.names.PromId.{PromId}
 use Rattle.values.specs.Data.{Val, bool, list, promise, Vals, no_vals, and_val, Reply, gives, throws}
 use Rattle.values.specs.Same.{same_as}
+
+-- the promise that a value is
+abbrev pub promise_of : Val → Option PromId
+promise_of (promise p) = Some p
+promise_of _ = None
 
 -- whether a promise stands in a value, at any depth
 abbrev mutual

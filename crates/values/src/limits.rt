@@ -62,7 +62,7 @@ pub(crate) fn items_left(items: &[Value], depth: u32, weight: u32) -> Option<u32
 }
 
 /// What a value weighs that stands in a list.
-pub(crate) fn item_weight(value: &Value) -> u32
+pub fn item_weight(value: &Value) -> u32
     requires { weight_of (val_of value.now) ≤ 65535 }
     ensures { result ≡ weight_of (val_of value.now) }
 {

@@ -3,7 +3,7 @@ ghost use Rattle.std.specs.Prelude.{◌≡◌, ◌≤◌, ◌+◌, is_some, IfOk
 ghost use Rattle.std.specs.Option.{option_map};
 ghost use Rattle.values.specs.Data.{and_val, list, no_vals};
 ghost use Rattle.values.specs.Limits.{deepest, list_depth, weight, weights, within_limits};
-ghost use Rattle.values.specs.Promises.{promises_in};
+ghost use Rattle.values.specs.Promises.{promise_of, promises_in};
 ghost use Rattle.values.specs.Replies.{int_in, items_in, joined};
 ghost use Rattle.values.specs.View.{val_of, vals_of};
 
@@ -226,6 +226,23 @@ impl Value {
             | Value::Object(_)
             | Value::Ejector(_)
             | Value::Promise(_)
+            | Value::Broken(_) => { None }
+        }
+    }
+
+    /// The promise that it is.
+    pub fn as_promise(&self) -> Option<PromId>
+        ensures { result ≡ promise_of (val_of self.now) }
+    {
+        match self {
+            Value::Promise(promise) => Some(*promise),
+            Value::Null
+            | Value::Bool(_)
+            | Value::Int(_)
+            | Value::Text(_)
+            | Value::List(_)
+            | Value::Object(_)
+            | Value::Ejector(_)
             | Value::Broken(_) => { None }
         }
     }
