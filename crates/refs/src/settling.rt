@@ -48,9 +48,12 @@ fn settle_at<R: Resolve>(
     ensures through { OnOk result (through.new.items ≡ through.old.items ++ (settling_at (R.resolutions map.now) depth left (val_of value.now)).through) }
 {
     let end = end_of(map, value, through)?;
+    if !has_promise(&end) {
+        return Ok(fitting(end, depth, left));
+    }
     match end.as_items() {
-        Some(items) if has_promise(&end) => settle_list(alloc, map, items, depth, left, through),
-        _ => Ok(fitting(end, depth, left)),
+        Some(items) => settle_list(alloc, map, items, depth, left, through),
+        None => Ok(fitting(end, depth, left)),
     }
 }
 
@@ -73,12 +76,12 @@ fn settle_list<R: Resolve>(
     if depth == 0 || left == 0 {
         return Ok(None);
     }
-    let mut left = left - 1;
+    let mut rest = left - 1;
     let mut row = Vec::with_capacity(alloc, items.len())?;
     for item in items {
-        match settle_at(alloc, map, item, depth - 1, left, through)? {
+        match settle_at(alloc, map, item, depth - 1, rest, through)? {
             Some(settled) => {
-                left -= item_weight(&settled);
+                rest -= item_weight(&settled);
                 row.push(settled)?;
             }
             None => return Ok(None),
