@@ -4,7 +4,8 @@ use Rattle.std.specs.declared.sync.Arc.{Arc}
 use Rattle.std.specs.declared.alloc.Global.{Global}
 use Rattle.ids.specs.declared.names.ObjId.{ObjId}
 use Rattle.ids.specs.declared.names.EjId.{EjId}
-use Rattle.values.specs.Data.{Vals, null, bool, int, text, list, object, ejector, broken}
+use Rattle.ids.specs.declared.names.PromId.{PromId}
+use Rattle.values.specs.Data.{Vals, null, bool, int, text, list, object, ejector, promise, broken}
 use Rattle.values.specs.Same.{same_as, same_items}
 use Rattle.values.specs.View.{val_of, vals_of}
 use Rattle.values.specs.declared.value.Value.TheVariants as code
@@ -18,6 +19,7 @@ other_null (code.Text y) h = refl
 other_null (code.List items) h = refl
 other_null (code.Object y) h = refl
 other_null (code.Ejector y) h = refl
+other_null (code.Promise y) h = refl
 other_null (code.Broken y) h = refl
 
 pub other_bool : (x : Bool) (b : Value) → ((y : Bool) → b ≡ code.Bool y → ⊥) → false ≡ same_as (bool x) (val_of b)
@@ -28,6 +30,7 @@ other_bool x (code.Text y) h = refl
 other_bool x (code.List items) h = refl
 other_bool x (code.Object y) h = refl
 other_bool x (code.Ejector y) h = refl
+other_bool x (code.Promise y) h = refl
 other_bool x (code.Broken y) h = refl
 
 pub other_int : (x : ℤ) (b : Value) → ((y : ℤ) → b ≡ code.Int y → ⊥) → false ≡ same_as (int x) (val_of b)
@@ -38,6 +41,7 @@ other_int x (code.Text y) h = refl
 other_int x (code.List items) h = refl
 other_int x (code.Object y) h = refl
 other_int x (code.Ejector y) h = refl
+other_int x (code.Promise y) h = refl
 other_int x (code.Broken y) h = refl
 
 pub other_text : (x : List ℕ) (b : Value) → ((y : List ℕ) → b ≡ code.Text y → ⊥) → false ≡ same_as (text x) (val_of b)
@@ -48,6 +52,7 @@ other_text x (code.Text y) h = absurd (h y refl)
 other_text x (code.List items) h = refl
 other_text x (code.Object y) h = refl
 other_text x (code.Ejector y) h = refl
+other_text x (code.Promise y) h = refl
 other_text x (code.Broken y) h = refl
 
 pub other_list : (vs : Vals) (b : Value) → ((y : Arc Vals Global) → b ≡ code.List y → ⊥) → false ≡ same_as (list vs) (val_of b)
@@ -58,6 +63,7 @@ other_list vs (code.Text y) h = refl
 other_list vs (code.List items) h = absurd (h _ refl)
 other_list vs (code.Object y) h = refl
 other_list vs (code.Ejector y) h = refl
+other_list vs (code.Promise y) h = refl
 other_list vs (code.Broken y) h = refl
 
 pub other_object : (x : ObjId) (b : Value) → ((y : ObjId) → b ≡ code.Object y → ⊥) → false ≡ same_as (object x) (val_of b)
@@ -68,6 +74,7 @@ other_object x (code.Text y) h = refl
 other_object x (code.List items) h = refl
 other_object x (code.Object y) h = absurd (h y refl)
 other_object x (code.Ejector y) h = refl
+other_object x (code.Promise y) h = refl
 other_object x (code.Broken y) h = refl
 
 pub other_ejector : (x : EjId) (b : Value) → ((y : EjId) → b ≡ code.Ejector y → ⊥) → false ≡ same_as (ejector x) (val_of b)
@@ -78,7 +85,19 @@ other_ejector x (code.Text y) h = refl
 other_ejector x (code.List items) h = refl
 other_ejector x (code.Object y) h = refl
 other_ejector x (code.Ejector y) h = absurd (h y refl)
+other_ejector x (code.Promise y) h = refl
 other_ejector x (code.Broken y) h = refl
+
+pub other_promise : (x : PromId) (b : Value) → ((y : PromId) → b ≡ code.Promise y → ⊥) → false ≡ same_as (promise x) (val_of b)
+other_promise x code.Null h = refl
+other_promise x (code.Bool y) h = refl
+other_promise x (code.Int y) h = refl
+other_promise x (code.Text y) h = refl
+other_promise x (code.List items) h = refl
+other_promise x (code.Object y) h = refl
+other_promise x (code.Ejector y) h = refl
+other_promise x (code.Promise y) h = absurd (h y refl)
+other_promise x (code.Broken y) h = refl
 
 pub other_broken : (x : List ℕ) (b : Value) → ((y : List ℕ) → b ≡ code.Broken y → ⊥) → false ≡ same_as (broken x) (val_of b)
 other_broken x code.Null h = refl
@@ -88,6 +107,7 @@ other_broken x (code.Text y) h = refl
 other_broken x (code.List items) h = refl
 other_broken x (code.Object y) h = refl
 other_broken x (code.Ejector y) h = refl
+other_broken x (code.Promise y) h = refl
 other_broken x (code.Broken y) h = absurd (h y refl)
 
 and_false : (p q : Bool) → false ≡ q → false ≡ p && q

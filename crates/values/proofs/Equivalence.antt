@@ -3,8 +3,9 @@ use Rattle.std.proofs.Common.{◌≡◌, ℕ, ℤ, pos, negsuc, Bool, true, fals
 use Rattle.std.specs.Str.{bytes_eq}
 use Rattle.std.proofs.lemmas.Slice.Eq.{bytes_eq-Decides}
 use Rattle.std.proofs.lemmas.Bool.{false≢true, eqb-true, eq-eqb}
-use Rattle.ids.proofs.Keys.{object_self, object_equal, ejector_self, ejector_equal}
-use Rattle.values.specs.Data.{Val, null, bool, int, text, list, object, ejector, broken, Vals, no_vals, and_val}
+use Rattle.ids.proofs.Keys.{equal as same_name, object_self, object_equal, ejector_self, ejector_equal, promise_self, exact_promises}
+use Rattle.ids.specs.Cells.{promise_cmp}
+use Rattle.values.specs.Data.{Val, null, bool, int, text, list, object, ejector, promise, broken, Vals, no_vals, and_val}
 use Rattle.values.specs.Same.{same_as, same_items, same_bool, same_int}
 use Rattle.values.specs.Laws.{SameBothWays, SameAsAThird}
 
@@ -31,6 +32,7 @@ mutual
   itself (list vs) = items_itself vs
   itself (object o) = object_self o
   itself (ejector j) = ejector_self j
+  itself (promise p) = promise_self p
   itself (broken s) = bytes_itself s
 
   items_itself : (vs : Vals) → same_items vs vs ≡ true
@@ -68,6 +70,7 @@ mutual
   equal (list vs) (list ws) e = ap list (items_equal vs ws e)
   equal (object o) (object p) e = ap object (object_equal o p e)
   equal (ejector j) (ejector k) e = ap ejector (ejector_equal j k e)
+  equal (promise p) (promise q) e = ap promise (exact_promises p q (same_name (promise_cmp p q) e))
   equal (broken s) (broken t) e = ap broken ((bytes_eq-Decides s t).0 e)
   equal _ _ e = absurd (false≢true e)
 

@@ -3,8 +3,13 @@ use Rattle.std.proofs.Common.{◌≡◌, ℕ, Bool, true, false, ◌&&◌, cond,
 use Rattle.std.specs.Str.{bytes_eq}
 use Rattle.std.specs.declared.alloc.AllocError.{AllocError}
 use Rattle.values.specs.Data.{Val, list, Vals, no_vals, and_val, Reply, gives, throws}
-use Rattle.values.specs.Growing.{items_added, adds_to}
+use Rattle.values.specs.Growing.{items_added, adds_to, Grown, ListGrown}
 use Rattle.values.specs.Limits.{within_limits}
+use Rattle.values.specs.View.{val_of}
+use Rattle.values.specs.declared.value.Value.{Value}
+use Rattle.values.specs.declared.value.Value.TheVariants as code
+use Rattle.std.specs.declared.sync.Arc.{Arc}
+use Rattle.std.specs.declared.alloc.Global.{Global}
 use Rattle.values.specs.Replies.{items_in, wanted, limited, list_reply, joined, list_add, list_with, list_table, data_reply, value_given}
 
 -- the rows that make a list longer
@@ -29,3 +34,14 @@ pub list_when : (r : Result Bool AllocError) (us more : Vals) (s : List ℕ) (x 
     → IfOk r (λ g. g ≡ (adds_to v s x && is_some (value_given (data_reply v s (and_val x no_vals)))))
 list_when (Ok g) us more s x v p e h = h ∙ when_added us more s x v p e
 list_when (Err u) us more s x v p e h = tt
+
+grown_rest : (g : Bool) (v w : Value) (items after : Arc Vals Global) (more : Vals) (s : List ℕ) (x : Val) → v ≡ code.List items → w ≡ code.List after → Some more ≡ items_added s x → ListGrown g items more after
+    → Grown g v (data_reply (val_of v) s (and_val x no_vals)) w
+grown_rest true v w items after more s x p q e h =
+    ap (λ u. data_reply (val_of u) s (and_val x no_vals)) p ∙ row_added (bytes_eq s (codes "add")) (bytes_eq s (codes "with")) items.value x more _ e ∙ h ∙ ap (λ u. gives (val_of u)) (sym q)
+grown_rest false v w items after more s x p q e h = q ∙ ap code.List h ∙ sym p
+
+pub list_grown : (r : Result Bool AllocError) (v w : Value) (items after : Arc Vals Global) (more : Vals) (s : List ℕ) (x : Val) → v ≡ code.List items → w ≡ code.List after → Some more ≡ items_added s x → IfOk r (λ g. ListGrown g items more after)
+    → IfOk r (λ g. Grown g v (data_reply (val_of v) s (and_val x no_vals)) w)
+list_grown (Ok g) v w items after more s x p q e h = grown_rest g v w items after more s x p q e h
+list_grown (Err u) v w items after more s x p q e h = tt

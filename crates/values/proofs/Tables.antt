@@ -16,6 +16,7 @@ use Rattle.values.specs.declared.value.Value.{Value}
 use Rattle.values.specs.declared.value.Value.TheVariants as code
 use Rattle.ids.specs.declared.names.ObjId.{ObjId}
 use Rattle.ids.specs.declared.names.EjId.{EjId}
+use Rattle.ids.specs.declared.names.PromId.{PromId}
 
 pub count_of-vals_of : (vs : List Value) → count_of (vals_of vs) ≡ length vs
 count_of-vals_of [] = refl
@@ -101,11 +102,12 @@ kept v b e f = ap (λ t. cond t (gives v) (throws (codes "value too large"))) (s
 pub refused : (v : Val) (b : Bool) → b ≡ within_limits v → b ≡ false → throws (codes "value too large") ≡ limited v
 refused v b e f = ap (λ t. cond t (gives v) (throws (codes "value too large"))) (sym f ∙ e)
 
--- null, objects and ejectors have no verbs of data
-pub no_verbs : (v : Value) → (v ≡ code.Null) ⊎ (((o : ObjId) × (v ≡ code.Object o)) ⊎ ((j : EjId) × (v ≡ code.Ejector j))) → data_reply (val_of v) ≡ no_method
+-- null and references have no verbs of data
+pub no_verbs : (v : Value) → (v ≡ code.Null) ⊎ (((o : ObjId) × (v ≡ code.Object o)) ⊎ (((j : EjId) × (v ≡ code.Ejector j)) ⊎ ((p : PromId) × (v ≡ code.Promise p)))) → data_reply (val_of v) ≡ no_method
 no_verbs v (inl e) = ap (λ x. data_reply (val_of x)) e
 no_verbs v (inr (inl f)) = ap (λ x. data_reply (val_of x)) f.1
-no_verbs v (inr (inr f)) = ap (λ x. data_reply (val_of x)) f.1
+no_verbs v (inr (inr (inl f))) = ap (λ x. data_reply (val_of x)) f.1
+no_verbs v (inr (inr (inr f))) = ap (λ x. data_reply (val_of x)) f.1
 
 -- an integer's reply that throws gives no value
 pub none_given : (r : IntReply) (verb : List ℕ) (y : ℤ) (q : Reply) → (r ≡ int-reply.TooLarge) ⊎ ((r ≡ int-reply.DivisionByZero) ⊎ ((r ≡ int-reply.WrongArgument) ⊎ (r ≡ int-reply.NoMethod))) → int_reply r verb (int y) ≡ q → None ≡ value_given q

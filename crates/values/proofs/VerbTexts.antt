@@ -5,7 +5,7 @@ use Rattle.std.proofs.lemmas.Slice.Eq.{bytes_eq-Decides}
 use Rattle.values.specs.declared.verb.Word.TheVariants as word
 use Rattle.values.specs.declared.verb.Word.{Word}
 use Rattle.values.specs.Verbs.{text_of, words, word_among, word_of}
-use Rattle.values.specs.Data.{Val, null, bool, int, text, list, object, ejector, broken, Vals, no_vals, and_val}
+use Rattle.values.specs.Data.{Val, null, bool, int, text, list, object, ejector, promise, broken, Vals, no_vals, and_val}
 use Rattle.values.specs.Replies.{data_reply}
 use Rattle.values.specs.Laws.{lacking}
 
@@ -51,4 +51,5 @@ others (list us) s (and_val v no_vals) e = grind arith
 others (list us) s (and_val v (and_val w ws)) e = refl
 others (object o) s vs e = refl
 others (ejector j) s vs e = refl
+others (promise p) s vs e = refl
 others (broken p) s vs e = refl

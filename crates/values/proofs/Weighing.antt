@@ -1,5 +1,5 @@
 -- Weights and depths of items, as the program counts them.
-use Rattle.std.proofs.Common.{◌≡◌, ℕ, true, false, ◌&&◌, nat_le, get_or, drop, is_some, ⊎_elim, ◌+◌, ◌-◌, ◌<◌, ◌≤◌, max, List, [], ◌∷◌, ◌++◌, length, Option, Some, None, sym, ap, ◌∙◌, zero, suc, arith}
+use Rattle.std.proofs.Common.{◌≡◌, ℕ, Bool, true, false, ◌&&◌, ◌||◌, refl, nat_le, get_or, drop, is_some, ⊎_elim, ◌+◌, ◌-◌, ◌<◌, ◌≤◌, max, List, [], ◌∷◌, ◌++◌, length, Option, Some, None, sym, ap, ◌∙◌, zero, suc, arith}
 use Rattle.std.specs.Option.{SomeIff}
 use Rattle.std.specs.Ordering.{nat_cmp, ord_max}
 use Rattle.std.proofs.lemmas.List.{drop_all}
@@ -8,6 +8,7 @@ use Rattle.std.proofs.lemmas.Bool.Decides.{nat_tests}
 use Rattle.values.specs.Data.{Val, Vals, no_vals, and_val, list}
 use Rattle.values.specs.Items.{IsMeasured}
 use Rattle.values.specs.Limits.{weight, weights, list_depth, deepest}
+use Rattle.values.specs.Promises.{promise_in, promises_in}
 use Rattle.values.specs.Replies.{joined}
 use Rattle.values.specs.View.{val_of, vals_of}
 use Rattle.values.specs.declared.value.Value.{Value}
@@ -26,6 +27,18 @@ weights-joined (and_val u us) vs = omega (arith, weights-joined us vs)
 pub deepest-joined : (us vs : Vals) → deepest (joined us vs) ≡ max (deepest us) (deepest vs)
 deepest-joined no_vals vs = omega arith
 deepest-joined (and_val u us) vs = omega (arith, deepest-joined us vs)
+
+or_no : (b : Bool) → b ≡ (b || false)
+or_no true = refl
+or_no false = refl
+
+or_or : (a b c : Bool) → (a || (b || c)) ≡ ((a || b) || c)
+or_or true b c = refl
+or_or false b c = refl
+
+pub promises-joined : (us vs : Vals) → promises_in (joined us vs) ≡ (promises_in us || promises_in vs)
+promises-joined no_vals vs = refl
+promises-joined (and_val u us) vs = ap (λ t. promise_in u || t) (promises-joined us vs) ∙ or_or (promise_in u) (promises_in us) (promises_in vs)
 
 one_more : (r : Option ℕ) (w d ws ds left next depth : ℕ) → (w ≤ left) × (d ≤ depth) → next ≡ left - w → SomeIff r ((ws ≤ next) × (ds ≤ depth)) (next - ws) → SomeIff r ((w + ws ≤ left) × (max d ds ≤ depth)) (left - (w + ws))
 one_more None w d ws ds left next depth f g h = λ k. h (omega (arith, k.0, f.0), omega (arith, k.1))
@@ -76,11 +89,18 @@ deepest_end xs i all depth h g =
     let p : deepest (vals_of (drop i xs)) ≡ 0 = ap (λ ys. deepest (vals_of ys)) (drop_all i xs h) in
     omega arith
 
+-- whether one of two holds, as the program finds it
+pub one_holds : {p b : Bool} (q : Bool) → b ≡ p → p ≡ true → b ≡ (p || q)
+one_holds q e f = e ∙ f ∙ ap (λ t. t || q) (sym f)
+
+pub none_held : {p q r b : Bool} → b ≡ r → r ≡ q → p ≡ false → b ≡ (p || q)
+none_held {q = q} e f g = e ∙ f ∙ ap (λ t. t || q) (sym g)
+
 -- what is kept beside items, with one item more at their end
-pub measured_more : (w d u e v : ℕ) (xs ys : List Value) (x : Value) (vs : Vals) → IsMeasured w d (vals_of xs) → vals_of xs ≡ vs → weights vs + weight (val_of x) ≤ 65535 → list_depth (val_of x) ≤ 63
-    → ys ≡ xs ++ x ∷ [] → u ≡ weight (val_of x) → e ≡ list_depth (val_of x) → v ≡ max d e → IsMeasured (w + u) v (vals_of ys)
-measured_more w d u e v xs ys x vs m is light shallow p q r s =
-    let all : vals_of ys ≡ joined (vals_of xs) (and_val (val_of x) no_vals) = ap vals_of p ∙ joined-vals_of xs (x ∷ []) in
+pub measured_more : (w d u e v : ℕ) (p b : Bool) (xs ys : List Value) (x : Value) (vs : Vals) → IsMeasured w d p (vals_of xs) → vals_of xs ≡ vs → weights vs + weight (val_of x) ≤ 65535 → list_depth (val_of x) ≤ 63
+    → ys ≡ xs ++ x ∷ [] → u ≡ weight (val_of x) → e ≡ list_depth (val_of x) → v ≡ max d e → b ≡ (p || promise_in (val_of x)) → IsMeasured (w + u) v b (vals_of ys)
+measured_more w d u e v p b xs ys x vs m is light shallow a f r s h =
+    let all : vals_of ys ≡ joined (vals_of xs) (and_val (val_of x) no_vals) = ap vals_of a ∙ joined-vals_of xs (x ∷ []) in
     let weigh : weights (vals_of ys) ≡ weights (vals_of xs) + (weight (val_of x) + 0) = ap weights all ∙ weights-joined (vals_of xs) (and_val (val_of x) no_vals) in
     let stand : deepest (vals_of ys) ≡ max (deepest (vals_of xs)) (max (list_depth (val_of x)) 0) = ap deepest all ∙ deepest-joined (vals_of xs) (and_val (val_of x) no_vals) in
     let same : weights (vals_of xs) ≡ weights vs = ap weights is in
@@ -88,7 +108,9 @@ measured_more w d u e v xs ys x vs m is light shallow p q r s =
     let wm : w ≡ weights (vals_of xs) = m.weight in
     let dm : d ≡ deepest (vals_of xs) = m.depth in
     let sm : deepest (vals_of xs) ≤ 63 = m.shallow in
-    record { weight = omega arith; depth = omega arith; light = omega arith; shallow = omega arith }
+    let some : promises_in (vals_of ys) ≡ (promises_in (vals_of xs) || promises_in (and_val (val_of x) no_vals)) = ap promises_in all ∙ promises-joined (vals_of xs) (and_val (val_of x) no_vals) in
+    let mark : b ≡ promises_in (vals_of ys) = h ∙ ap (λ t. t || promise_in (val_of x)) m.promise ∙ ap (λ t. promises_in (vals_of xs) || t) (or_no (promise_in (val_of x))) ∙ sym some in
+    record { weight = omega arith; depth = omega arith; promise = mark; light = omega arith; shallow = omega arith }
 
 -- an item among those that are left has room
 pub item_light : (xs : List Value) (i : ℕ) (x : Value) (y : Val) (w : ℕ) → i < length xs → x ≡ get_or xs i x → y ≡ val_of x → w + weights (vals_of (drop i xs)) ≤ 65535 → w + weight y ≤ 65535

@@ -5,7 +5,8 @@ use Rattle.std.proofs.Common.{refl, ap, arith}
 use base.Stored.{Gv, gnil, gnum, gcons, Coded, coded_ℕ, coded_ℤ, coded_bool, coded_list, num}
 use Rattle.ids.specs.declared.names.ObjId.{ObjId}
 use Rattle.ids.specs.declared.names.EjId.{EjId}
-use Rattle.values.specs.Data.{Val, null, bool, int, text, list, object, ejector, broken, Vals, no_vals, and_val}
+use Rattle.ids.specs.declared.names.PromId.{PromId}
+use Rattle.values.specs.Data.{Val, null, bool, int, text, list, object, ejector, promise, broken, Vals, no_vals, and_val}
 
 abbrev object_code : Coded ObjId
 object_code = code_by (ℕ × (ℕ × ℕ)) (coded× coded_ℕ (coded× coded_ℕ coded_ℕ)) (λ o. (o.event.0, (o.index, o.vat.0.0)))
@@ -14,6 +15,10 @@ object_code = code_by (ℕ × (ℕ × ℕ)) (coded× coded_ℕ (coded× coded_�
 abbrev ejector_code : Coded EjId
 ejector_code = code_by (ℕ × (ℕ × ℕ)) (coded× coded_ℕ (coded× coded_ℕ coded_ℕ)) (λ j. (j.event.0, (j.index, j.vat.0.0)))
     (λ p. record { event = record { 0 = p.0 }; index = p.1.0; vat = record { 0 = record { 0 = p.1.1 } } }) (λ _. refl)
+
+abbrev promise_code : Coded PromId
+promise_code = code_by (ℕ × (ℕ × ℕ)) (coded× coded_ℕ (coded× coded_ℕ coded_ℕ)) (λ p. (p.event.0, (p.index, p.home.0.0)))
+    (λ q. record { event = record { 0 = q.0 }; index = q.1.0; home = record { 0 = record { 0 = q.1.1 } } }) (λ _. refl)
 
 abbrev text_code : Coded (List ℕ)
 text_code = coded_list coded_ℕ
@@ -41,7 +46,8 @@ abbrev mutual
   code_val (list vs) = gcons (gnum 5) (code_vals vs)
   code_val (object o) = gcons (gnum 6) (object_code.code o)
   code_val (ejector j) = gcons (gnum 7) (ejector_code.code j)
-  code_val (broken s) = gcons (gnum 8) (text_code.code s)
+  code_val (promise p) = gcons (gnum 8) (promise_code.code p)
+  code_val (broken s) = gcons (gnum 9) (text_code.code s)
 
   pub code_vals : Vals → Gv
   code_vals no_vals = gcons (gnum 1) gnil
@@ -56,6 +62,7 @@ mutual
   val_inj (list a) (list b) p = ap list (vals_inj a b (ap tail p))
   val_inj (object a) (object b) p = ap object (object_code.inj a b (ap tail p))
   val_inj (ejector a) (ejector b) p = ap ejector (ejector_code.inj a b (ap tail p))
+  val_inj (promise a) (promise b) p = ap promise (promise_code.inj a b (ap tail p))
   val_inj (broken a) (broken b) p = ap broken (text_code.inj a b (ap tail p))
   val_inj _ _ p = let e = ap kind p in absurd (omega arith)
 

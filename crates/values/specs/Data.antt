@@ -2,6 +2,7 @@
 use Rattle.std.specs.Prelude.{ℕ, ℤ, Bool, List}
 use Rattle.ids.specs.declared.names.ObjId.{ObjId}
 use Rattle.ids.specs.declared.names.EjId.{EjId}
+use Rattle.ids.specs.declared.names.PromId.{PromId}
 
 mutual
   pub data Val : Type 0 where
@@ -12,6 +13,7 @@ mutual
     list : (vs : Vals) → Val
     object : (o : ObjId) → Val
     ejector : (j : EjId) → Val
+    promise : (p : PromId) → Val
     broken : (problem : List ℕ) → Val
     deriving IsSet as Val-set
 

@@ -16,6 +16,7 @@ deep_le-weight (code.Text s) = omega arith
 deep_le-weight (code.List items) = omega arith
 deep_le-weight (code.Object o) = omega arith
 deep_le-weight (code.Ejector j) = omega arith
+deep_le-weight (code.Promise p) = omega arith
 deep_le-weight (code.Broken s) = omega arith
 
 pub most_le-weights : (vs : List Value) → most deep-Value vs ≤ weights (vals_of vs)

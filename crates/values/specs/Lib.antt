@@ -2,6 +2,7 @@ pub mod Data
 pub mod Coding
 pub mod Limits
 pub mod Same
+pub mod Promises
 pub mod Shown
 pub mod Verbs
 pub mod Replies

@@ -2,7 +2,7 @@
 use Rattle.std.specs.Prelude.{ℕ, zero, suc, ◌+◌, ◌/◌, ◌^◌, ℤ, pos, negsuc, ◌+ℤ◌, ◌-ℤ◌, ◌*ℤ◌, neg_ℤ, int_lt, int_le, Bool, not, ◌&&◌, cond, nat_lt, nat_le, Option, Some, None, List, ◌++◌, codes, count_by}
 use Rattle.std.specs.Fmt.{decimal}
 use Rattle.std.specs.Str.{bytes_eq}
-use Rattle.values.specs.Data.{Val, null, bool, int, text, list, object, ejector, broken, Vals, no_vals, and_val, Reply, gives, throws}
+use Rattle.values.specs.Data.{Val, null, bool, int, text, list, object, ejector, promise, broken, Vals, no_vals, and_val, Reply, gives, throws}
 use Rattle.values.specs.Limits.{within_limits}
 
 abbrev pub count_of : Vals → ℕ
@@ -193,7 +193,7 @@ list_table vs =
 
 -- ---- the tables together
 
--- a receiver that is broken throws its problem before anything else; objects and ejectors have no verbs of data
+-- a receiver that is broken throws its problem before anything else; references have no verbs of data
 abbrev pub data_reply : Val → Table
 data_reply null = no_method
 data_reply (bool b) = bool_table b
@@ -202,6 +202,7 @@ data_reply (text s) = text_table s
 data_reply (list vs) = list_table vs
 data_reply (object o) = no_method
 data_reply (ejector j) = no_method
+data_reply (promise p) = no_method
 data_reply (broken problem) = λ verb vs. throws problem
 
 -- ---- what a reply gives, if it does not throw

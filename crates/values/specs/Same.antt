@@ -2,8 +2,8 @@
 use Rattle.std.specs.Prelude.{ℤ, pos, negsuc, Bool, true, false, not, ◌&&◌, nat_eq}
 use Rattle.std.specs.Ordering.{is_eq}
 use Rattle.std.specs.Str.{bytes_eq}
-use Rattle.ids.specs.Cells.{object_cmp, ejector_cmp}
-use Rattle.values.specs.Data.{Val, null, bool, int, text, list, object, ejector, broken, Vals, no_vals, and_val}
+use Rattle.ids.specs.Cells.{object_cmp, ejector_cmp, promise_cmp}
+use Rattle.values.specs.Data.{Val, null, bool, int, text, list, object, ejector, promise, broken, Vals, no_vals, and_val}
 
 abbrev pub same_bool : Bool → Bool → Bool
 same_bool true b = b
@@ -14,7 +14,7 @@ same_int (pos a) (pos b) = nat_eq a b
 same_int (negsuc a) (negsuc b) = nat_eq a b
 same_int _ _ = false
 
--- data by content, lists item by item, objects and ejectors by name, broken values by problem; different kinds are never the same
+-- data by content, lists item by item, references by name, broken values by problem; different kinds are never the same
 abbrev mutual
   pub same_as : Val → Val → Bool
   same_as null null = true
@@ -24,6 +24,7 @@ abbrev mutual
   same_as (list vs) (list ws) = same_items vs ws
   same_as (object a) (object b) = is_eq (object_cmp a b)
   same_as (ejector a) (ejector b) = is_eq (ejector_cmp a b)
+  same_as (promise a) (promise b) = is_eq (promise_cmp a b)
   same_as (broken a) (broken b) = bytes_eq a b
   same_as _ _ = false
 

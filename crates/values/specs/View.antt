@@ -1,6 +1,6 @@
 -- What the program's values stand for.
 use Rattle.std.specs.Prelude.{ℕ, List, [], ◌∷◌, codes}
-use Rattle.values.specs.Data.{Val, null, bool, int, text, list, object, ejector, broken, Vals, no_vals, and_val, Reply, gives, throws}
+use Rattle.values.specs.Data.{Val, null, bool, int, text, list, object, ejector, promise, broken, Vals, no_vals, and_val, Reply, gives, throws}
 use Rattle.values.specs.Replies.{no_method, wrong_kind}
 use Rattle.values.specs.declared.integers.IntReply.{IntReply}
 use Rattle.values.specs.declared.integers.IntReply.TheVariants as int-reply
@@ -17,6 +17,7 @@ val_of (code.Text s) = text s
 val_of (code.List items) = list items.value
 val_of (code.Object o) = object o
 val_of (code.Ejector j) = ejector j
+val_of (code.Promise p) = promise p
 val_of (code.Broken s) = broken s
 
 -- items of a list, or arguments

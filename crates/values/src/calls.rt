@@ -28,7 +28,7 @@ pub fn data_call(
 
 /// What a verb of data leads to. A broken receiver throws its problem; else the verb and the number
 /// of arguments are looked up first, then the arguments' kinds are tested, and then the result.
-/// Null, objects and ejectors have no verbs of data. No texts are compared.
+/// Null and references have no verbs of data. No texts are compared.
 #[inline(always)]
 pub fn call_verb(
     alloc: Global,
@@ -39,7 +39,7 @@ pub fn call_verb(
     ensures { IfOk result (λ a. reply_of a ≡ data_reply (val_of receiver.now) verb.now (vals_of arguments.now)) }
 {
     match receiver {
-        Value::Null | Value::Object(_) | Value::Ejector(_) => no_method(
+        Value::Null | Value::Object(_) | Value::Ejector(_) | Value::Promise(_) => no_method(
             alloc,
             verb,
             arguments.len(),

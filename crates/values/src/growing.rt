@@ -36,6 +36,7 @@ pub fn grow(held: &mut Value, verb: &Verb, more: &Value) -> Result<bool, AllocEr
         | Value::Int(_)
         | Value::Object(_)
         | Value::Ejector(_)
+        | Value::Promise(_)
         | Value::Broken(_) => Ok(false),
     }
 }
@@ -64,6 +65,7 @@ fn text_added<'a>(verb: &Verb, more: &'a Value) -> Option<&'a str>
             | Value::List(_)
             | Value::Object(_)
             | Value::Ejector(_)
+            | Value::Promise(_)
             | Value::Broken(_) => None,
         },
         _ => None,

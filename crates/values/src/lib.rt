@@ -6,6 +6,7 @@ pub mod growing;
 mod integers;
 pub mod limits;
 pub mod lists;
+pub mod promises;
 mod replies;
 pub mod sameness;
 pub mod showing;

@@ -26,13 +26,13 @@ pub fn is_within_limits(value: &Value) -> bool
 
 /// What a value leaves of a weight; none, if it weighs more or its lists stand deeper.
 #[inline]
-fn weight_left(value: &Value, depth: u32, weight: u32) -> Option<u32>
+pub fn weight_left(value: &Value, depth: u32, weight: u32) -> Option<u32>
     ensures { SomeIff result ((weight_of (val_of value.now) ≤ weight) × (list_depth (val_of value.now) ≤ depth)) (weight - weight_of (val_of value.now)) }
 {
     let left = weight.checked_sub(1)?;
     match value {
         Value::Null | Value::Bool(_) | Value::Int(_) => Some(left),
-        Value::Object(_) | Value::Ejector(_) => Some(left),
+        Value::Object(_) | Value::Ejector(_) | Value::Promise(_) => Some(left),
         Value::Text(text) | Value::Broken(text) => left.checked_sub(u32::try_from(
             text.as_str().len(),
         ).ok()?),
@@ -62,13 +62,13 @@ pub(crate) fn items_left(items: &[Value], depth: u32, weight: u32) -> Option<u32
 }
 
 /// What a value weighs that stands in a list.
-pub(crate) fn item_weight(value: &Value) -> u32
+pub fn item_weight(value: &Value) -> u32
     requires { weight_of (val_of value.now) ≤ 65535 }
     ensures { result ≡ weight_of (val_of value.now) }
 {
     match value {
         Value::Null | Value::Bool(_) | Value::Int(_) => 1,
-        Value::Object(_) | Value::Ejector(_) => 1,
+        Value::Object(_) | Value::Ejector(_) | Value::Promise(_) => 1,
         Value::Text(text) | Value::Broken(text) => text.as_str().len() as u32 + 1,
         Value::List(items) => items.weight() + 1,
     }
@@ -86,6 +86,7 @@ pub(crate) fn item_depth(value: &Value) -> u32
         | Value::Text(_)
         | Value::Object(_)
         | Value::Ejector(_)
+        | Value::Promise(_)
         | Value::Broken(_) => 0,
     }
 }

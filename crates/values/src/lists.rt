@@ -2,7 +2,7 @@
 ghost use Rattle.std.specs.Prelude.{◌≡◌, ◌+◌, ◌≤◌, IsTrue, IfOk, OnOk, option_map};
 ghost use Rattle.values.specs.Data.{list};
 ghost use Rattle.values.specs.Limits.{deepest, weights, within_limits};
-ghost use Rattle.values.specs.Replies.{list_table, list_add as add_reply, list_with as with_reply, list_get as get_reply, list_size as size_reply, at_index, list_reply, joined};
+ghost use Rattle.values.specs.Replies.{list_table, list_add as add_reply, list_with as with_reply, list_get as get_reply, list_size as size_reply, at_index, list_reply, joined, value_given};
 ghost use Rattle.values.specs.View.{val_of, vals_of, reply_of};
 
 use crate::limits::{MOST_ITEMS_DEPTH, MOST_ITEMS_WEIGHT, items_left};
@@ -20,6 +20,16 @@ pub fn list_value(alloc: Global, items: Vec<Value>) -> Result<Answer, AllocError
     match Items::new(items) {
         Some(items) => Ok(Answer::Gives(Value::List(Arc::new(alloc, items)?))),
         None => thrown(alloc, "value too large"),
+    }
+}
+
+/// A list of items; none, if it is too large.
+pub fn list_within(alloc: Global, items: Vec<Value>) -> Result<Option<Value>, AllocError>
+    ensures { IfOk result (λ o. option_map val_of o ≡ value_given (list_reply (vals_of items.items))) }
+{
+    match Items::new(items) {
+        Some(items) => Ok(Some(Value::List(Arc::new(alloc, items)?))),
+        None => Ok(None),
     }
 }
 

@@ -77,6 +77,7 @@ pub(crate) fn wrong_argument(alloc: Global, argument: &Value) -> Result<Answer, 
         | Value::Text(_)
         | Value::List(_)
         | Value::Object(_)
-        | Value::Ejector(_) => { thrown(alloc, "bad argument") }
+        | Value::Ejector(_)
+        | Value::Promise(_) => { thrown(alloc, "bad argument") }
     }
 }

@@ -32,6 +32,7 @@ pub fn write_value(value: &Value, out: &mut String) -> Result<(), AllocError>
         Value::List(items) => write_list(items.as_slice(), out),
         Value::Object(object) => write!(out, "<{object}>"),
         Value::Ejector(ejector) => write!(out, "<{ejector}>"),
+        Value::Promise(promise) => write!(out, "<{promise}>"),
         Value::Broken(problem) => write_broken(problem.as_str(), out),
     }
 }

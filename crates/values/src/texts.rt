@@ -71,6 +71,7 @@ fn text_add(alloc: Global, text: &str, argument: &Value) -> Result<Answer, Alloc
         | Value::List(_)
         | Value::Object(_)
         | Value::Ejector(_)
+        | Value::Promise(_)
         | Value::Broken(_) => wrong_argument(alloc, argument),
     }
 }

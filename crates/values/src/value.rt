@@ -3,6 +3,7 @@ ghost use Rattle.std.specs.Prelude.{◌≡◌, ◌≤◌, ◌+◌, is_some, IfOk
 ghost use Rattle.std.specs.Option.{option_map};
 ghost use Rattle.values.specs.Data.{and_val, list, no_vals};
 ghost use Rattle.values.specs.Limits.{deepest, list_depth, weight, weights, within_limits};
+ghost use Rattle.values.specs.Promises.{promise_of, promises_in};
 ghost use Rattle.values.specs.Replies.{int_in, items_in, joined};
 ghost use Rattle.values.specs.View.{val_of, vals_of};
 
@@ -10,19 +11,22 @@ use crate::limits::{
     MOST_ITEMS_DEPTH, MOST_ITEMS_WEIGHT, deepest_of, item_depth, item_weight, items_left,
 };
 use crate::lists::append;
-use ids::names::{EjId, ObjId};
+use crate::promises::{has_promise, have_promises};
+use ids::names::{EjId, ObjId, PromId};
 use ids::text::Text;
 use std::alloc::{AllocError, Global};
 use std::marker::Model;
 use std::sync::Arc;
 
-/// The items of a list that is not too large, with what they weigh and how deep lists stand in them. Clauses see the items.
+/// The items of a list that is not too large, with what they weigh, how deep lists stand in them, and whether a promise
+/// does. Clauses see the items.
 #[cycle(value)]
 #[derive(Drop)]
 pub struct Items {
     row: Vec<Value>,
     weight: u32,
     depth: u32,
+    promised: bool,
 }
 
 /// A value.
@@ -36,6 +40,7 @@ pub enum Value {
     List(Arc<Items>),
     Object(ObjId),
     Ejector(EjId),
+    Promise(PromId),
     /// A broken reference, with its problem.
     Broken(Text),
 }
@@ -62,7 +67,7 @@ impl Model for Items {
 
     ghost view = { λ a. vals_of a.row.items };
 
-    ghost invariant = { λ a. IsMeasured a.weight a.depth (vals_of a.row.items) };
+    ghost invariant = { λ a. IsMeasured a.weight a.depth a.promised (vals_of a.row.items) };
 
     ghost size = { weights };
 
@@ -80,10 +85,12 @@ impl Items {
     {
         let left = items_left(row.as_slice(), MOST_ITEMS_DEPTH, MOST_ITEMS_WEIGHT)?;
         let depth = deepest_of(row.as_slice());
+        let promised = have_promises(row.as_slice());
         Some(Items {
             row,
             weight: MOST_ITEMS_WEIGHT - left,
             depth,
+            promised,
         })
     }
 
@@ -118,6 +125,14 @@ impl Items {
         self.depth
     }
 
+    /// Whether a promise stands in the items.
+    #[inline(always)]
+    pub(crate) fn promised(&self) -> bool
+        ensures { result ≡ promises_in self.now }
+    {
+        self.promised
+    }
+
     /// Adds an item at the end.
     pub(crate) fn push(&mut self, item: Value) -> Result<(), AllocError>
         requires light { weights self.old + weight (val_of item) ≤ 65535 }
@@ -126,9 +141,11 @@ impl Items {
     {
         let weight = self.weight + item_weight(&item);
         let depth = self.depth.max(item_depth(&item));
+        let promised = self.promised || has_promise(&item);
         self.row.push(item)?;
         self.weight = weight;
         self.depth = depth;
+        self.promised = promised;
         Ok(())
     }
 
@@ -155,6 +172,7 @@ impl Items {
             row,
             weight: self.weight,
             depth: self.depth,
+            promised: self.promised,
         })
     }
 }
@@ -173,6 +191,7 @@ impl Value {
             Value::List(items) => Ok(Value::List(Arc::try_clone(items)?)),
             Value::Object(object) => Ok(Value::Object(*object)),
             Value::Ejector(ejector) => Ok(Value::Ejector(*ejector)),
+            Value::Promise(promise) => Ok(Value::Promise(*promise)),
             Value::Broken(problem) => Ok(Value::Broken(problem.share()?)),
         }
     }
@@ -189,6 +208,7 @@ impl Value {
             | Value::List(_)
             | Value::Object(_)
             | Value::Ejector(_)
+            | Value::Promise(_)
             | Value::Broken(_) => { None }
         }
     }
@@ -203,6 +223,24 @@ impl Value {
             | Value::Bool(_)
             | Value::Int(_)
             | Value::Text(_)
+            | Value::Object(_)
+            | Value::Ejector(_)
+            | Value::Promise(_)
+            | Value::Broken(_) => { None }
+        }
+    }
+
+    /// The promise that it is.
+    pub fn as_promise(&self) -> Option<PromId>
+        ensures { result ≡ promise_of (val_of self.now) }
+    {
+        match self {
+            Value::Promise(promise) => Some(*promise),
+            Value::Null
+            | Value::Bool(_)
+            | Value::Int(_)
+            | Value::Text(_)
+            | Value::List(_)
             | Value::Object(_)
             | Value::Ejector(_)
             | Value::Broken(_) => { None }

@@ -5,7 +5,7 @@ use Rattle.values.specs.Same.{same_as}
 use Rattle.values.specs.View.{val_of, vals_of}
 use Rattle.values.specs.Limits.{weight, weights}
 use Rattle.values.proofs.Views.{list_is}
-use Rattle.values.proofs.Differing.{other_null, other_bool, other_int, other_text, other_list, other_object, other_ejector, other_broken, lengths_differ, differs_here, same_rest, same_end, lengths_rest}
+use Rattle.values.proofs.Differing.{other_null, other_bool, other_int, other_text, other_list, other_object, other_ejector, other_promise, other_broken, lengths_differ, differs_here, same_rest, same_end, lengths_rest}
 use Rattle.values.proofs.Weighing.{next_weighs}
 use Rattle.values.proofs.sameness.+sameness.Goals as goal
 
@@ -31,7 +31,10 @@ pub same-returns-in_default-7 : goal.same-returns-in_default-7
 same-returns-in_default-7 t c = other_ejector c.in_default.field-0-0 c.args.b.now c.in_default.not-Ejector-1 ∙ ap (λ a. same_as (val_of a) (val_of c.args.b.now)) (sym c.in_default.is-0)
 
 pub same-returns-in_default-8 : goal.same-returns-in_default-8
-same-returns-in_default-8 t c = other_broken c.in_default.field-0-0 c.args.b.now c.in_default.not-Broken-1 ∙ ap (λ a. same_as (val_of a) (val_of c.args.b.now)) (sym c.in_default.is-0)
+same-returns-in_default-8 t c = other_promise c.in_default.field-0-0 c.args.b.now c.in_default.not-Promise-1 ∙ ap (λ a. same_as (val_of a) (val_of c.args.b.now)) (sym c.in_default.is-0)
+
+pub same-returns-in_default-9 : goal.same-returns-in_default-9
+same-returns-in_default-9 t c = other_broken c.in_default.field-0-0 c.args.b.now c.in_default.not-Broken-1 ∙ ap (λ a. same_as (val_of a) (val_of c.args.b.now)) (sym c.in_default.is-0)
 
 pub same-returns-in-List-List : goal.same-returns-in-List-List
 same-returns-in-List-List t c =

@@ -26,6 +26,9 @@ write_list-returns t c =
 pub write_value-returns-in-Object : goal.write_value-returns-in-Object
 write_value-returns-in-Object t c = search rules
 
+pub write_value-returns-in-Promise : goal.write_value-returns-in-Promise
+write_value-returns-in-Promise t c = search rules
+
 pub write_value-write_list-requires : goal.write_value-write_list-requires
 write_value-write_list-requires t c =
     let w : weight (val_of c.args.value.now) ≡ 1 + weights (vals_of c.as_slice.result.now) = ap weight (list_is c.args.value.now c.in-List.items c.deref.result.now c.as_slice.result.now c.in-List.is c.deref.ensures c.as_slice.ensures) in

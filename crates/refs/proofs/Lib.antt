@@ -1,0 +1,4 @@
+pub mod Steps
+pub mod Way
+pub mod Settled
+pub mod Making

@@ -1,0 +1,1 @@
+-- Laws of walks and of settled forms.

@@ -1,0 +1,5 @@
+pub mod Walks
+pub mod Leads
+pub mod Settling
+pub mod Kinds
+pub mod Laws
