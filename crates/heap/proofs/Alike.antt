@@ -8,10 +8,17 @@ use Rattle.values.proofs.Equivalence.{itself, equal}
 use Rattle.code.specs.View.{methods_of_codes}
 use Rattle.code.specs.Sameness.{pattern_alike, methods_alike}
 use Rattle.code.proofs.Alike.{pattern_told, methods_told}
-use Rattle.heap.specs.State.{Bind, fixed, Nouns}
+use Rattle.heap.specs.State.{Bind, fixed, View, resolved, Nouns}
 use Rattle.heap.specs.View.{bind_of, nouns_of, nouns_after, object_of}
 use Rattle.heap.specs.declared.made.Made.{Made}
 use Rattle.heap.specs.declared.state.Noun.{Noun}
+
+-- two values, by which what has them is told apart
+values_tell : {A : Type 0} (f : Val → A) (back : A → Val → Val) → ((v w : Val) → back (f v) w ≡ v) → {a b : A} (v w : Val) (r : Bool) → a ≡ f v → b ≡ f w → r ≡ same_as v w → IsTrue r ↔ (a ≡ b)
+values_tell f back is {a = a} {b = b} v w r p q e = (
+  λ t. p ∙ ap f (equal v w (sym e ∙ t)) ∙ sym q,
+  λ s. let same : v ≡ w = sym (is v v) ∙ ap (λ x. back x v) (sym p ∙ s ∙ q) ∙ is w v in e ∙ ap (same_as v) (sym same) ∙ itself v,
+)
 
 value_in : Bind → Val → Val
 value_in (fixed v) w = v
@@ -20,10 +27,16 @@ value_in _ w = w
 -- two values that names stand for
 pub fixed_told : {a b : Bind} (v w : Val) (r : Bool) → a ≡ fixed v → b ≡ fixed w → r ≡ same_as v w → IsTrue r ↔ (a ≡ b)
 unfolding value_in
-fixed_told {a = a} {b = b} v w r p q e = (
-  λ t. p ∙ ap fixed (equal v w (sym e ∙ t)) ∙ sym q,
-  λ s. let same : v ≡ w = ap (λ x. value_in x v) (sym p ∙ s ∙ q) in e ∙ ap (same_as v) (sym same) ∙ itself v,
-)
+fixed_told v w r p q e = values_tell fixed value_in (λ v w. refl) v w r p q e
+
+value_of : View → Val → Val
+value_of (resolved v) w = v
+value_of _ w = w
+
+-- two values that promises are resolved to
+pub resolved_told : {a b : View} (v w : Val) (r : Bool) → a ≡ resolved v → b ≡ resolved w → r ≡ same_as v w → IsTrue r ↔ (a ≡ b)
+unfolding value_of
+resolved_told v w r p q e = values_tell resolved value_of (λ v w. refl) v w r p q e
 
 -- a name with what it stands for
 abbrev pub as_noun : Noun → Name × Bind

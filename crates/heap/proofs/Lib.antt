@@ -3,5 +3,6 @@ pub mod Names
 pub mod Overlaid
 pub mod Growing
 pub mod Reaching
+pub mod CellKinds
 pub mod Alike
 pub mod Drafting

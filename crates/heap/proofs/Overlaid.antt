@@ -14,7 +14,7 @@ use Rattle.ids.specs.declared.names.SlotId.{SlotId}
 use Rattle.ids.specs.declared.names.ObjId.{ObjId}
 use Rattle.values.specs.declared.value.Value.{Value}
 use Rattle.values.specs.View.{val_of}
-use Rattle.heap.specs.State.{Cell, top, slot_cell, object_cell, Content, held, made, State, Cells, also, same_cell, write}
+use Rattle.heap.specs.State.{Cell, slot_cell, object_cell, Content, held, made, State, Cells, also, same_cell, write}
 use Rattle.heap.specs.View.{object_of}
 use Rattle.heap.specs.Drafts.{is_of, own_item, over, with_slots, with_objects, and_slots, and_objects}
 use Rattle.heap.specs.declared.made.Made.{Made}
@@ -128,9 +128,8 @@ beneath f a v g h b w i j xs d c e = over_by f (same_numbers g i h b j w) (own_i
 
 slot_placed : (e : EventName) (v : VatNo) (xs ys : List Value) (s : State) (i : ℕ) (x : Value) → ((j : ℕ) → slice_get ys j ≡ cond (i == j) (Some x) (slice_get xs j)) → (c : Cell)
     → with_slots e v ys s c ≡ write (with_slots e v xs s) (slot_cell (record { event = e; index = i; vat = v })) (held (val_of x)) c
-slot_placed e v xs ys s i x h (top y) = refl
 slot_placed e v xs ys s i x h (slot_cell t) = placed (λ x. held (val_of x)) e.0 v.0.0 t.event.0 t.vat.0.0 i t.index xs ys x (s (slot_cell t)) (h t.index)
-slot_placed e v xs ys s i x h (object_cell t) = refl
+slot_placed e v xs ys s i x h _ = refl
 
 -- an own slot with another value is a cell that was written
 slots_placed : (e : EventName) (v : VatNo) (xs ys : List Value) (s : State) (i : ℕ) (x : Value) → ((j : ℕ) → slice_get ys j ≡ cond (i == j) (Some x) (slice_get xs j))
@@ -139,9 +138,8 @@ slots_placed e v xs ys s i x h = λ k c. slot_placed e v xs ys s i x h c k
 
 slot_beneath : (e : EventName) (v : VatNo) (xs : List Value) (s : State) (i : SlotId) (d : Content) → own_item (is_of e v i.event i.vat) xs i.index ≡ None → (c : Cell)
     → with_slots e v xs (write s (slot_cell i) d) c ≡ write (with_slots e v xs s) (slot_cell i) d c
-slot_beneath e v xs s i d h (top y) = refl
 slot_beneath e v xs s i d h (slot_cell t) = beneath (λ x. held (val_of x)) e.0 v.0.0 i.event.0 i.vat.0.0 t.event.0 t.vat.0.0 i.index t.index xs d (s (slot_cell t)) h
-slot_beneath e v xs s i d h (object_cell t) = refl
+slot_beneath e v xs s i d h _ = refl
 
 -- a slot that is not the turn's own is written beneath
 slots_beneath : (e : EventName) (v : VatNo) (xs : List Value) (s : State) (i : SlotId) (d : Content) → own_item (is_of e v i.event i.vat) xs i.index ≡ None
@@ -149,9 +147,8 @@ slots_beneath : (e : EventName) (v : VatNo) (xs : List Value) (s : State) (i : S
 slots_beneath e v xs s i d h = λ k c. slot_beneath e v xs s i d h c k
 
 slot_none : (e : EventName) (v : VatNo) (s : State) (c : Cell) → with_slots e v [] s c ≡ s c
-slot_none e v s (top y) = refl
 slot_none e v s (slot_cell t) = ap (λ y. over (λ x. held (val_of x)) y (s (slot_cell t))) (none_either_way (is_of e v t.event t.vat) None refl)
-slot_none e v s (object_cell t) = refl
+slot_none e v s _ = refl
 
 -- no slots over a state leave it as it is
 pub slots_none : (e : EventName) (v : VatNo) (xs : List Value) (s : State) → xs ≡ [] → with_slots e v xs s ≡ s
@@ -161,9 +158,8 @@ slots_none e v xs s h = ap (λ xs. with_slots e v xs s) h ∙ (λ k c. slot_none
 
 object_placed : (e : EventName) (v : VatNo) (xs ys : List Made) (s : State) (i : ℕ) (x : Made) → ((j : ℕ) → slice_get ys j ≡ cond (i == j) (Some x) (slice_get xs j)) → (c : Cell)
     → with_objects e v ys s c ≡ write (with_objects e v xs s) (object_cell (record { event = e; index = i; vat = v })) (made (object_of x)) c
-object_placed e v xs ys s i x h (top y) = refl
-object_placed e v xs ys s i x h (slot_cell t) = refl
 object_placed e v xs ys s i x h (object_cell t) = placed (λ m. made (object_of m)) e.0 v.0.0 t.event.0 t.vat.0.0 i t.index xs ys x (s (object_cell t)) (h t.index)
+object_placed e v xs ys s i x h _ = refl
 
 -- one more object is a cell that was written
 objects_placed : (e : EventName) (v : VatNo) (xs ys : List Made) (s : State) (i : ℕ) (x : Made) → ((j : ℕ) → slice_get ys j ≡ cond (i == j) (Some x) (slice_get xs j))
@@ -172,9 +168,8 @@ objects_placed e v xs ys s i x h = λ k c. object_placed e v xs ys s i x h c k
 
 object_beneath : (e : EventName) (v : VatNo) (xs : List Made) (s : State) (i : ObjId) (d : Content) → own_item (is_of e v i.event i.vat) xs i.index ≡ None → (c : Cell)
     → with_objects e v xs (write s (object_cell i) d) c ≡ write (with_objects e v xs s) (object_cell i) d c
-object_beneath e v xs s i d h (top y) = refl
-object_beneath e v xs s i d h (slot_cell t) = refl
 object_beneath e v xs s i d h (object_cell t) = beneath (λ m. made (object_of m)) e.0 v.0.0 i.event.0 i.vat.0.0 t.event.0 t.vat.0.0 i.index t.index xs d (s (object_cell t)) h
+object_beneath e v xs s i d h _ = refl
 
 -- an object that is not the turn's own is written beneath
 objects_beneath : (e : EventName) (v : VatNo) (xs : List Made) (s : State) (i : ObjId) (d : Content) → own_item (is_of e v i.event i.vat) xs i.index ≡ None
@@ -182,9 +177,8 @@ objects_beneath : (e : EventName) (v : VatNo) (xs : List Made) (s : State) (i : 
 objects_beneath e v xs s i d h = λ k c. object_beneath e v xs s i d h c k
 
 object_none : (e : EventName) (v : VatNo) (s : State) (c : Cell) → with_objects e v [] s c ≡ s c
-object_none e v s (top y) = refl
-object_none e v s (slot_cell t) = refl
 object_none e v s (object_cell t) = ap (λ y. over (λ m. made (object_of m)) y (s (object_cell t))) (none_either_way (is_of e v t.event t.vat) None refl)
+object_none e v s _ = refl
 
 -- no objects over a state leave it as it is
 pub objects_none : (e : EventName) (v : VatNo) (xs : List Made) (s : State) → xs ≡ [] → with_objects e v xs s ≡ s
@@ -192,21 +186,24 @@ objects_none e v xs s h = ap (λ xs. with_objects e v xs s) h ∙ (λ k c. objec
 
 -- ---- cells of other kinds
 
-top_passes : (e : EventName) (v : VatNo) (xs : List Value) (os : List Made) (s : State) (x : List ℕ) (d : Content) (c : Cell)
-    → with_objects e v os (with_slots e v xs (write s (top x) d)) c ≡ write (with_objects e v os (with_slots e v xs s)) (top x) d c
-top_passes e v xs os s x d (top y) = refl
-top_passes e v xs os s x d (slot_cell t) = refl
-top_passes e v xs os s x d (object_cell t) = refl
+other_passes : (e : EventName) (v : VatNo) (xs : List Value) (os : List Made) (s : State) (k : Cell) (d : Content) → ((t : SlotId) → same_cell k (slot_cell t) ≡ false) → ((t : ObjId) → same_cell k (object_cell t) ≡ false) → (c : Cell)
+    → with_objects e v os (with_slots e v xs (write s k d)) c ≡ write (with_objects e v os (with_slots e v xs s)) k d c
+other_passes e v xs os s k d p q (slot_cell t) =
+    ap (λ b. over (λ x. held (val_of x)) (own_item (is_of e v t.event t.vat) xs t.index) (cond b (Some d) (s (slot_cell t)))) (p t)
+    ∙ sym (ap (λ b. cond b (Some d) (over (λ x. held (val_of x)) (own_item (is_of e v t.event t.vat) xs t.index) (s (slot_cell t)))) (p t))
+other_passes e v xs os s k d p q (object_cell t) =
+    ap (λ b. over (λ m. made (object_of m)) (own_item (is_of e v t.event t.vat) os t.index) (cond b (Some d) (s (object_cell t)))) (q t)
+    ∙ sym (ap (λ b. cond b (Some d) (over (λ m. made (object_of m)) (own_item (is_of e v t.event t.vat) os t.index) (s (object_cell t)))) (q t))
+other_passes e v xs os s k d p q _ = refl
 
--- a top noun is written beneath
-pub tops_pass : (e : EventName) (v : VatNo) (xs : List Value) (os : List Made) (s : State) (x : List ℕ) (d : Content)
-    → with_objects e v os (with_slots e v xs (write s (top x) d)) ≡ write (with_objects e v os (with_slots e v xs s)) (top x) d
-tops_pass e v xs os s x d = λ k c. top_passes e v xs os s x d c k
+-- what is no slot and no object is written beneath
+pub others_pass : (e : EventName) (v : VatNo) (xs : List Value) (os : List Made) (s : State) (k : Cell) (d : Content) → ((t : SlotId) → same_cell k (slot_cell t) ≡ false) → ((t : ObjId) → same_cell k (object_cell t) ≡ false)
+    → with_objects e v os (with_slots e v xs (write s k d)) ≡ write (with_objects e v os (with_slots e v xs s)) k d
+others_pass e v xs os s k d p q = λ i c. other_passes e v xs os s k d p q c i
 
 slot_passes : (e : EventName) (v : VatNo) (os : List Made) (s : State) (i : SlotId) (d : Content) (c : Cell) → with_objects e v os (write s (slot_cell i) d) c ≡ write (with_objects e v os s) (slot_cell i) d c
-slot_passes e v os s i d (top y) = refl
-slot_passes e v os s i d (slot_cell t) = refl
 slot_passes e v os s i d (object_cell t) = refl
+slot_passes e v os s i d _ = refl
 
 -- a slot is written beneath the objects
 slots_pass : (e : EventName) (v : VatNo) (os : List Made) (s : State) (i : SlotId) (d : Content) → with_objects e v os (write s (slot_cell i) d) ≡ write (with_objects e v os s) (slot_cell i) d
@@ -304,29 +301,25 @@ or_between false b c = refl
 
 slot_in_set : (e : EventName) (v : VatNo) (xs ys : List Value) (q : Cells) (i : ℕ) (x : Value) → ((j : ℕ) → slice_get ys j ≡ cond (i == j) (Some x) (slice_get xs j)) → (c : Cell)
     → and_slots e v ys q c ≡ also (slot_cell (record { event = e; index = i; vat = v })) (and_slots e v xs q) c
-slot_in_set e v xs ys q i x h (top y) = refl
 slot_in_set e v xs ys q i x h (slot_cell t) =
     ap (λ p. p || q (slot_cell t)) (is_placed (λ x. held (val_of x)) e.0 v.0.0 t.event.0 t.vat.0.0 i t.index xs ys x (h t.index))
     ∙ or_before (same_numbers e.0 i v.0.0 t.event.0 t.index t.vat.0.0) (is_some (own_item (is_of e v t.event t.vat) xs t.index)) (q (slot_cell t))
-slot_in_set e v xs ys q i x h (object_cell t) = refl
+slot_in_set e v xs ys q i x h _ = refl
 
 object_in_set : (e : EventName) (v : VatNo) (xs ys : List Made) (q : Cells) (i : ℕ) (x : Made) → ((j : ℕ) → slice_get ys j ≡ cond (i == j) (Some x) (slice_get xs j)) → (c : Cell)
     → and_objects e v ys q c ≡ also (object_cell (record { event = e; index = i; vat = v })) (and_objects e v xs q) c
-object_in_set e v xs ys q i x h (top y) = refl
-object_in_set e v xs ys q i x h (slot_cell t) = refl
 object_in_set e v xs ys q i x h (object_cell t) =
     ap (λ p. p || q (object_cell t)) (is_placed (λ m. made (object_of m)) e.0 v.0.0 t.event.0 t.vat.0.0 i t.index xs ys x (h t.index))
     ∙ or_before (same_numbers e.0 i v.0.0 t.event.0 t.index t.vat.0.0) (is_some (own_item (is_of e v t.event t.vat) xs t.index)) (q (object_cell t))
+object_in_set e v xs ys q i x h _ = refl
 
 slots_swap : (e : EventName) (v : VatNo) (xs : List Value) (q : Cells) (k c : Cell) → and_slots e v xs (also k q) c ≡ also k (and_slots e v xs q) c
-slots_swap e v xs q k (top y) = refl
 slots_swap e v xs q k (slot_cell t) = or_between (is_some (own_item (is_of e v t.event t.vat) xs t.index)) (same_cell k (slot_cell t)) (q (slot_cell t))
-slots_swap e v xs q k (object_cell t) = refl
+slots_swap e v xs q k _ = refl
 
 objects_swap : (e : EventName) (v : VatNo) (xs : List Made) (q : Cells) (k c : Cell) → and_objects e v xs (also k q) c ≡ also k (and_objects e v xs q) c
-objects_swap e v xs q k (top y) = refl
-objects_swap e v xs q k (slot_cell t) = refl
 objects_swap e v xs q k (object_cell t) = or_between (is_some (own_item (is_of e v t.event t.vat) xs t.index)) (same_cell k (object_cell t)) (q (object_cell t))
+objects_swap e v xs q k _ = refl
 
 -- a cell is touched beneath
 pub touched_beneath : (e : EventName) (v : VatNo) (xs : List Value) (os : List Made) (q r : Cells) (k : Cell) → r ≡ also k q
@@ -363,14 +356,12 @@ object_touched e v xs ys q x n l p =
     ∙ sym (ap (λ n. also (object_cell (record { event = e; index = n; vat = v })) (and_objects e v xs q)) l)
 
 set_of_no_slots : (e : EventName) (v : VatNo) (q : Cells) (c : Cell) → and_slots e v [] q c ≡ q c
-set_of_no_slots e v q (top y) = refl
 set_of_no_slots e v q (slot_cell t) = ap (λ p. is_some p || q (slot_cell t)) (none_either_way (is_of e v t.event t.vat) None refl)
-set_of_no_slots e v q (object_cell t) = refl
+set_of_no_slots e v q _ = refl
 
 set_of_no_objects : (e : EventName) (v : VatNo) (q : Cells) (c : Cell) → and_objects e v [] q c ≡ q c
-set_of_no_objects e v q (top y) = refl
-set_of_no_objects e v q (slot_cell t) = refl
 set_of_no_objects e v q (object_cell t) = ap (λ p. is_some p || q (object_cell t)) (none_either_way (is_of e v t.event t.vat) None refl)
+set_of_no_objects e v q _ = refl
 
 -- no slots, and no objects, are no cells more
 pub no_slots_touched : (e : EventName) (v : VatNo) (xs : List Value) (q : Cells) → xs ≡ [] → and_slots e v xs q ≡ q
@@ -412,6 +403,6 @@ over_alike f (Some y) w c x h e = e
 -- a cell that a turn wrote holds what it wrote there
 pub holds_what_was_written : (e : EventName) (v : VatNo) (xs : List Value) (os : List Made) (w s : State) → ((c : Cell) (x : Content) → w c ≡ Some x → s c ≡ Some x)
     → (c : Cell) (x : Content) → with_objects e v os (with_slots e v xs w) c ≡ Some x → with_objects e v os (with_slots e v xs s) c ≡ Some x
-holds_what_was_written e v xs os w s h (top y) x is = h (top y) x is
 holds_what_was_written e v xs os w s h (slot_cell i) x is = over_alike (λ v. held (val_of v)) (own_item (is_of e v i.event i.vat) xs i.index) (w (slot_cell i)) (s (slot_cell i)) x (h (slot_cell i) x) is
 holds_what_was_written e v xs os w s h (object_cell i) x is = over_alike (λ m. made (object_of m)) (own_item (is_of e v i.event i.vat) os i.index) (w (object_cell i)) (s (object_cell i)) x (h (object_cell i) x) is
+holds_what_was_written e v xs os w s h c x is = h c x is

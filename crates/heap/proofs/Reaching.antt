@@ -4,30 +4,14 @@ use Rattle.std.specs.Option.{option_map}
 use Rattle.cells.specs.Touches.{standing}
 use Rattle.cells.specs.declared.touches.Touch.{Touch}
 use Rattle.std.proofs.lemmas.Slice.Eq.{bytes_eq-Decides}
-use Rattle.ids.specs.Cells.{slot_cmp, object_cmp}
-use Rattle.ids.specs.declared.names.SlotId.{SlotId}
-use Rattle.ids.specs.declared.names.ObjId.{ObjId}
-use Rattle.ids.proofs.Keys.{equal, exact_slots, exact_objects}
-use Rattle.ids.proofs.CellKeys.{slots_agree, objects_agree}
-use Rattle.kernele.specs.Tree.{Name}
-use Rattle.cells.specs.Touches.{touch}
+use Rattle.ids.specs.Cells.{slot_cmp, object_cmp, promise_cmp}
+use Rattle.ids.proofs.Keys.{equal, exact_slots, exact_objects, exact_promises}
+use Rattle.ids.proofs.References.{reference_equal}
 use Rattle.cells.specs.Clones.{ContentClones, AreClones}
 use Rattle.cells.specs.Seen.{Seen}
-use Rattle.cells.specs.declared.touches.Touches.{Touches}
-use Rattle.values.specs.declared.value.Value.{Value}
-use Rattle.values.specs.View.{val_of}
-use Rattle.heap.specs.State.{Content, Cell, top, slot_cell, object_cell, bound, held, made, State, Cells, also, write, same_cell}
-use Rattle.heap.specs.View.{told, bind_of, object_of, same_name, same_slot, same_object}
-use Rattle.heap.specs.Found.{touch_of, touch_in, written_part, standing_over}
-use Rattle.heap.specs.declared.state.Binding.{Binding}
-use Rattle.heap.specs.declared.made.Made.{Made}
-use Rattle.heap.specs.declared.reach.Footprint.{Footprint}
-
-module _ {V : Type 0} (f : V → Content) where
-  -- one cell is known to be so
-  pub one_touched : (b : Bool) (t : Touch V) (o : Option (Touch V)) → touch_of f (cond b (Some t) o) ≡ cond b (touch_of f (Some t)) (touch_of f o)
-  one_touched true t o = refl
-  one_touched false t o = refl
+use Rattle.heap.specs.State.{Content, Cell, top, slot_cell, object_cell, view_cell, fence_cell, State, Cells, also, write, same_cell}
+use Rattle.heap.specs.View.{told}
+use Rattle.heap.specs.Found.{written_part, standing_over}
 
 -- ---- what follows of a cell of which it is known
 
@@ -49,6 +33,8 @@ same_exact : (c d : Cell) → same_cell c d ≡ true → c ≡ d
 same_exact (top x) (top y) h = ap top ((bytes_eq-Decides x y).0 h)
 same_exact (slot_cell i) (slot_cell j) h = ap slot_cell (exact_slots i j (equal (slot_cmp i j) h))
 same_exact (object_cell i) (object_cell j) h = ap object_cell (exact_objects i j (equal (object_cmp i j) h))
+same_exact (view_cell p) (view_cell q) h = ap view_cell (exact_promises p q (equal (promise_cmp p q) h))
+same_exact (fence_cell r) (fence_cell t) h = ap fence_cell (reference_equal r t h)
 same_exact _ _ h = cc
 
 by_cases : {X : Type 0} (b : Bool) (x y z : X) → (b ≡ true → x ≡ z) → (b ≡ false → y ≡ z) → cond b x y ≡ z
@@ -95,42 +81,6 @@ module _ (old new : Cell → Option (Touch Content)) (k : Cell) (t : Touch Conte
       where
         at : (c : Cell) → k ≡ c → t.written ≡ written_part (old c)
         at c m = subst (λ c. t.written ≡ written_part (old c)) m (unwritten ∙ ap written_part (sym none))
-
--- ---- of which kind the cell is
-
-module _ (r : Footprint) where
-  pub tops_touched : (ts : Touches Name Binding) (x : Name) (t : Touch Binding) → ((q : Name) → touch same_name ts q ≡ cond (same_name x q) (Some t) (touch same_name r.tops q))
-      → (c : Cell) → touch_in (record r { tops = ts }) c ≡ cond (same_cell (top x) c) (touch_of (λ b. bound (bind_of b)) (Some t)) (touch_in r c)
-  tops_touched ts x t h (top y) = ap (touch_of _) (h y) ∙ one_touched (λ b. bound (bind_of b)) (same_name x y) t (touch same_name r.tops y)
-  tops_touched ts x t h (slot_cell i) = refl
-  tops_touched ts x t h (object_cell i) = refl
-
-  pub slots_touched : (ts : Touches SlotId Value) (k : SlotId) (t : Touch Value) → ((q : SlotId) → touch same_slot ts q ≡ cond (same_slot k q) (Some t) (touch same_slot r.slots q))
-      → (c : Cell) → touch_in (record r { slots = ts }) c ≡ cond (same_cell (slot_cell k) c) (touch_of (λ v. held (val_of v)) (Some t)) (touch_in r c)
-  slots_touched ts k t h (top y) = refl
-  slots_touched ts k t h (slot_cell i) = ap (touch_of _) (h i) ∙ one_touched (λ v. held (val_of v)) (same_slot k i) t (touch same_slot r.slots i) ∙ ap (λ b. cond b (touch_of (λ v. held (val_of v)) (Some t)) (touch_in r (slot_cell i))) (slots_agree k i)
-  slots_touched ts k t h (object_cell i) = refl
-
-  pub objects_touched : (ts : Touches ObjId Made) (k : ObjId) (t : Touch Made) → ((q : ObjId) → touch same_object ts q ≡ cond (same_object k q) (Some t) (touch same_object r.objects q))
-      → (c : Cell) → touch_in (record r { objects = ts }) c ≡ cond (same_cell (object_cell k) c) (touch_of (λ m. made (object_of m)) (Some t)) (touch_in r c)
-  objects_touched ts k t h (top y) = refl
-  objects_touched ts k t h (slot_cell i) = refl
-  objects_touched ts k t h (object_cell i) = ap (touch_of _) (h i) ∙ one_touched (λ m. made (object_of m)) (same_object k i) t (touch same_object r.objects i) ∙ ap (λ b. cond b (touch_of (λ m. made (object_of m)) (Some t)) (touch_in r (object_cell i))) (objects_agree k i)
-
-  pub tops_same : (ts : Touches Name Binding) → ((q : Name) → touch same_name ts q ≡ touch same_name r.tops q) → (c : Cell) → touch_in (record r { tops = ts }) c ≡ touch_in r c
-  tops_same ts h (top y) = ap (touch_of (λ b. bound (bind_of b))) (h y)
-  tops_same ts h (slot_cell i) = refl
-  tops_same ts h (object_cell i) = refl
-
-  pub slots_same : (ts : Touches SlotId Value) → ((q : SlotId) → touch same_slot ts q ≡ touch same_slot r.slots q) → (c : Cell) → touch_in (record r { slots = ts }) c ≡ touch_in r c
-  slots_same ts h (top y) = refl
-  slots_same ts h (slot_cell i) = ap (touch_of (λ v. held (val_of v))) (h i)
-  slots_same ts h (object_cell i) = refl
-
-  pub objects_same : (ts : Touches ObjId Made) → ((q : ObjId) → touch same_object ts q ≡ touch same_object r.objects q) → (c : Cell) → touch_in (record r { objects = ts }) c ≡ touch_in r c
-  objects_same ts h (top y) = refl
-  objects_same ts h (slot_cell i) = refl
-  objects_same ts h (object_cell i) = ap (touch_of (λ m. made (object_of m))) (h i)
 
 -- ---- nothing was touched
 

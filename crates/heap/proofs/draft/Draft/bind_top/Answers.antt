@@ -1,35 +1,24 @@
-use Rattle.std.proofs.Common.{◌≡◌, ◌≤◌, length, arith, rules, sym, ap, subst, ◌∙◌, set}
-use Rattle.std.proofs.lemmas.Result.{on_ok_weaker, on_err_weaker, IfOk-weaker}
-use Rattle.std.specs.Arc.{arc_value}
-use Rattle.values.specs.View.{val_of}
-use Rattle.heap.specs.State.{State, Cells, top, slot_cell, object_cell, bound, held, made, write}
-use Rattle.heap.specs.View.{bind_of, object_of, state_of}
-use Rattle.heap.specs.Found.{Found, touched_in, writes_in}
-use Rattle.heap.specs.Reaches.{state_in}
-use Rattle.heap.specs.DraftView.{drafted}
-use Rattle.heap.specs.Drafts.{is_of, with_slots, with_objects, and_slots, and_objects, writes_of, draft_of, touched_of}
-use Rattle.heap.proofs.Drafting.{unwritten}
-use Rattle.heap.proofs.Overlaid.{slots_none, objects_none, no_slots_touched, no_objects_touched, slot_made, slot_touched, object_made, object_touched, own_written, own_touched, beneath_written, touched_beneath, tops_pass, same_set, written_also, empty_list, slots_kept, objects_kept, slots_set_kept, objects_set_kept}
+use Rattle.std.proofs.Common.{refl}
+use Rattle.std.proofs.lemmas.Result.{on_ok_weaker, on_err_weaker}
+use Rattle.heap.specs.State.{top, bound}
+use Rattle.heap.specs.View.{bind_of}
+use Rattle.heap.proofs.Drafting.{unwritten, one_touched, other_state, other_writes}
 use Rattle.heap.proofs.draft.Draft.bind_top.Goals as goal
 
 pub returns-clause-ok : goal.returns-clause-ok
 returns-clause-ok c =
     let d = c.self.inside in rw (← c.self.view_is) (
-    on_ok_weaker c.write_top.result (λ e.
-    ap (λ s. with_objects d.event d.vat d.objects.items (with_slots d.event d.vat d.slots.items s)) e ∙ tops_pass d.event d.vat d.slots.items d.objects.items (state_in d.base) c.args.name (bound (bind_of c.args.binding))
-    ) c.write_top.ensures.state)
+    on_ok_weaker c.write_top.result (other_state d c.write_top.new.self (top c.args.name) (bound (bind_of c.args.binding)) (λ _. refl) (λ _. refl)) c.write_top.ensures.state)
 
 pub returns-clause-touched : goal.returns-clause-touched
 returns-clause-touched c =
     let d = c.self.inside in rw (← c.self.view_is) (
-    on_ok_weaker c.write_top.result (λ e. touched_beneath d.event d.vat d.slots.items d.objects.items (touched_in d.base.footprint) (touched_in c.write_top.new.self.footprint) (top c.args.name) e) c.write_top.ensures.touched)
+    on_ok_weaker c.write_top.result (one_touched d c.write_top.new.self (top c.args.name)) c.write_top.ensures.touched)
 
 pub returns-clause-written : goal.returns-clause-written
 returns-clause-written c =
     let d = c.self.inside in rw (← c.self.view_is) (
-    on_ok_weaker c.write_top.result (λ e. written_also (top c.args.name) (bound (bind_of c.args.binding)) (writes_of (drafted d)) _ (
-    ap (λ s. with_objects d.event d.vat d.objects.items (with_slots d.event d.vat d.slots.items s)) e ∙ tops_pass d.event d.vat d.slots.items d.objects.items (writes_in d.base.footprint) c.args.name (bound (bind_of c.args.binding))
-    )) c.write_top.ensures.written)
+    on_ok_weaker c.write_top.result (other_writes d c.write_top.new.self (top c.args.name) (bound (bind_of c.args.binding)) (λ _. refl) (λ _. refl)) c.write_top.ensures.written)
 
 pub returns-clause-err : goal.returns-clause-err
 returns-clause-err c =
