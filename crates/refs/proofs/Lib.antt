@@ -2,3 +2,5 @@ pub mod Steps
 pub mod Way
 pub mod Settled
 pub mod Making
+pub mod Rules
+pub mod Open

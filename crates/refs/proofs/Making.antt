@@ -1,5 +1,5 @@
 -- Settled forms, as the program makes them.
-use Rattle.std.proofs.Common.{◌≡◌, ℕ, zero, suc, ◌+◌, ◌-◌, ◌<◌, ◌≤◌, nat_le, Bool, true, false, ◌&&◌, cond, List, [], ◌∷◌, ◌++◌, length, get_or, drop, Option, Some, None, option_map, Result, Ok, Err, IfOk, ◌⊎◌, inl, inr, refl, sym, ap, ◌∙◌, subst, append-nil, append_assoc, max, codes, arith}
+use Rattle.std.proofs.Common.{◌≡◌, ℕ, zero, suc, ◌+◌, ◌-◌, ◌<◌, ◌≤◌, true, false, cond, List, [], ◌∷◌, ◌++◌, length, drop, Option, Some, None, option_map, Result, Ok, Err, IfOk, ◌⊎◌, inl, inr, refl, sym, ap, ◌∙◌, append-nil, append_assoc, max, codes, arith}
 use Rattle.std.specs.Result.{OnOk}
 use Rattle.std.specs.declared.alloc.AllocError.{AllocError}
 use Rattle.std.proofs.lemmas.Bool.{le-leb}
@@ -8,15 +8,15 @@ use Rattle.std.proofs.lemmas.List.{drop_all}
 use Rattle.ids.specs.declared.names.PromId.{PromId}
 use Rattle.values.specs.Data.{Val, promise, list, gives, throws, Vals, no_vals, and_val}
 use Rattle.values.specs.Limits.{weight, weights, list_depth, deepest, within_limits}
-use Rattle.values.specs.Promises.{promise_of, promise_in, promises_in}
+use Rattle.values.specs.Promises.{promise_of, promise_in}
 use Rattle.values.specs.Replies.{items_in, joined, list_reply, value_given}
 use Rattle.values.specs.View.{val_of, vals_of}
 use Rattle.values.specs.declared.value.Value.{Value}
-use Rattle.values.proofs.Tables.{vals_from, joined-vals_of, joined-joined}
+use Rattle.values.proofs.Tables.{joined-vals_of, joined-joined}
 use Rattle.values.proofs.Weighing.{weights-joined, deepest-joined}
-use Rattle.refs.specs.Settling.{Settling, ItemsSettling, fitted, too_large, and_behind, settle_items, settle_list, settle_end, settle_at, list_at}
+use Rattle.refs.specs.Settling.{Settling, ItemsSettling, fitted, too_large, and_behind, settle_items, settle_end, settle_at, list_at}
 use Rattle.refs.specs.Walks.{Resolutions, walked, followed}
-use Rattle.refs.proofs.Settled.{settle_at-is, settle_plain, settle_within, settle_own, leaf, no_list, Within}
+use Rattle.refs.proofs.Settled.{settle_at-is, settle_plain, settle_own, leaf, no_list, Within}
 
 -- ---- a value by its end
 

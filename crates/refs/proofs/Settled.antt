@@ -1,14 +1,14 @@
 -- Settled forms: what they weigh, and those in which no promise stands.
-use Rattle.std.proofs.Common.{◌≡◌, ℕ, zero, suc, ◌+◌, ◌-◌, ◌<◌, ◌≤◌, max, nat_le, Bool, true, false, ◌&&◌, ◌||◌, cond, List, [], ◌∷◌, ◌++◌, Option, Some, None, option_map, ◌⊎◌, inl, inr, refl, sym, ap, ◌∙◌, subst, append-nil, arith}
-use Rattle.std.proofs.lemmas.Bool.{and_parts, leb-true, le-leb, false≢true}
+use Rattle.std.proofs.Common.{◌≡◌, ℕ, zero, suc, ◌+◌, ◌-◌, ◌≤◌, max, nat_le, Bool, true, false, ◌&&◌, ◌||◌, cond, List, [], ◌++◌, Option, Some, None, option_map, refl, sym, ap, ◌∙◌, subst, arith}
+use Rattle.std.proofs.lemmas.Bool.{leb-true}
 use Rattle.std.proofs.lemmas.Bool.Decides.{nat_tests}
 use Rattle.ids.specs.declared.names.PromId.{PromId}
 use Rattle.values.specs.Data.{Val, null, bool, int, text, list, object, ejector, promise, broken, Vals, no_vals, and_val}
 use Rattle.values.specs.Limits.{weight, weights, list_depth, deepest}
 use Rattle.values.specs.Promises.{promise_of, promise_in, promises_in}
 use Rattle.values.specs.Replies.{items_in}
-use Rattle.refs.specs.Settling.{Settling, ItemsSettling, fitted, too_large, and_behind, settle_items, settle_list, settle_end, settle_walk, no_lists, settle_at, list_at, settling}
-use Rattle.refs.specs.Walks.{Resolutions, walked, followed}
+use Rattle.refs.specs.Settling.{Settling, ItemsSettling, fitted, and_behind, settle_items, settle_list, settle_end, settle_walk, no_lists, settle_at, list_at}
+use Rattle.refs.specs.Walks.{Resolutions, followed}
 use Rattle.refs.proofs.Way.{own_end}
 
 -- ---- by the end

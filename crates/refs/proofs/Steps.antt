@@ -1,9 +1,9 @@
 -- One step of a walk.
-use Rattle.std.proofs.Common.{◌≡◌, ℕ, zero, suc, List, [], ◌∷◌, ◌++◌, Option, Some, None, true, false, cond, refl, ap, ◌∙◌}
+use Rattle.std.proofs.Common.{◌≡◌, ℕ, zero, suc, List, [], ◌∷◌, ◌++◌, Some, None, true, false, cond, refl, ap, ◌∙◌}
 use Rattle.ids.specs.declared.names.PromId.{PromId}
 use Rattle.values.specs.Data.{Val, promise}
 use Rattle.values.specs.Promises.{promise_of}
-use Rattle.refs.specs.Walks.{Resolutions, came, Walk, ended, circled, onward, stepped, stopped, walk, most_walked}
+use Rattle.refs.specs.Walks.{Resolutions, came, ended, circled, onward, stepped, stopped, walk}
 
 -- a value that is no promise ends the walk
 pub walk-value : (n : ℕ) (m : Resolutions) (seen : List PromId) (v : Val) → promise_of v ≡ None → walk n m seen v ≡ ended v

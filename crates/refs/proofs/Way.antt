@@ -1,5 +1,5 @@
 -- A walk that has come some way.
-use Rattle.std.proofs.Common.{◌≡◌, ℕ, zero, suc, ◌+◌, ◌<◌, ◌^◌, List, [], ◌∷◌, ◌++◌, length, drop, length-append, ◌≤◌, Option, Some, None, true, false, refl, sym, ap, ◌∙◌, append_assoc, append-nil, Result, Ok, Err, IfOk, arith}
+use Rattle.std.proofs.Common.{◌≡◌, ℕ, zero, suc, ◌+◌, ◌<◌, ◌^◌, List, [], ◌∷◌, ◌++◌, length, drop, length-append, ◌≤◌, Some, None, true, false, refl, sym, ap, ◌∙◌, append_assoc, append-nil, Result, Ok, Err, IfOk, arith}
 use Rattle.std.specs.Result.{OnOk}
 use Rattle.std.specs.declared.alloc.AllocError.{AllocError}
 use Rattle.std.specs.Option.{unwrap_or}

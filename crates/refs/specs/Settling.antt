@@ -1,5 +1,5 @@
 -- Settled forms.
-use Rattle.std.specs.Prelude.{ℕ, zero, suc, ◌-◌, Bool, cond, ◌&&◌, nat_le, Option, Some, None, option_map, List, [], ◌++◌}
+use Rattle.std.specs.Prelude.{ℕ, zero, suc, ◌-◌, cond, ◌&&◌, nat_le, Option, Some, None, option_map, List, [], ◌++◌}
 use Rattle.ids.specs.declared.names.PromId.{PromId}
 use Rattle.values.specs.Data.{Val, list, Vals, no_vals, and_val}
 use Rattle.values.specs.Limits.{weight, list_depth}

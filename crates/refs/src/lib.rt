@@ -5,3 +5,4 @@ pub mod ends;
 pub mod kinds;
 pub mod resolve;
 pub mod settling;
+pub mod theorems;

@@ -1,4 +1,4 @@
-use Rattle.std.proofs.Common.{◌+◌, true, false, Some, length, length-append, ◌≡◌, ◌∷◌, [], ◌++◌, ◌∙◌, sym, ap, drop, arith, refl, subst, List, append-nil}
+use Rattle.std.proofs.Common.{◌+◌, true, false, Some, length, length-append, ◌≡◌, ◌∷◌, [], ◌++◌, ◌∙◌, sym, ap, drop, arith, subst, List, append-nil}
 use Rattle.ids.specs.declared.names.PromId.{PromId}
 use Rattle.values.specs.Data.{promise}
 use Rattle.values.specs.View.{val_of}

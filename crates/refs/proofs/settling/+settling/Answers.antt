@@ -1,12 +1,11 @@
-use Rattle.std.proofs.Common.{◌≡◌, ℕ, ◌+◌, ◌-◌, ◌*◌, ◌≤◌, ◌++◌, drop, Some, None, option_map, inl, inr, sym, ap, ◌∙◌, subst, arith}
-use Rattle.values.specs.Data.{list, Vals, and_val, no_vals}
+use Rattle.std.proofs.Common.{ℕ, ◌+◌, ◌-◌, ◌++◌, drop, option_map, inl, inr, sym, ap, ◌∙◌, subst, arith}
+use Rattle.values.specs.Data.{list, Vals}
 use Rattle.values.specs.Limits.{weight}
-use Rattle.values.specs.Replies.{joined}
 use Rattle.values.specs.View.{val_of, vals_of}
 use Rattle.values.proofs.Tables.{vals_from}
-use Rattle.refs.specs.Settling.{settle_at, settle_items, list_at, fitted}
+use Rattle.refs.specs.Settling.{settle_at, list_at}
 use Rattle.refs.specs.Walks.{walked}
-use Rattle.refs.proofs.Settled.{settle_within, Within}
+use Rattle.refs.proofs.Settled.{settle_within}
 use Rattle.refs.proofs.Making.{IsSettled, list_found, plain_found, list_one, settled_more, settled_ends, list_given, settled_is, through_is, none_left, row_more}
 use Rattle.refs.proofs.settling.+settling.Goals as goal
 

@@ -1,4 +1,4 @@
-use Rattle.std.proofs.Common.{ℕ, ◌+◌, ◌-◌, ◌*◌, ◌<◌, drop}
+use Rattle.std.proofs.Common.{◌+◌, ◌-◌, ◌*◌, drop}
 use Rattle.values.specs.View.{vals_of}
 use Rattle.refs.specs.Settling.{settle_at}
 use Rattle.refs.proofs.Making.{IsSettled}

@@ -1,0 +1,21 @@
+// Laws of the definitions that the other contracts name.
+ghost use Rattle.refs.specs.Laws.{WhatEndsIsLed, WhatHasNoEndCircles, WhatIsLedEnds, WhatCirclesHasNoEnd, OneEnd, NoEndInARing, SettledIsWithinLimits, SettledIsOpen, SettledSettlesToItself, ListOfItselfHasNone};
+
+/// The walk that is computed is the one of the rules, which lead to at most one end.
+pub fn walks_are_lawful()
+    ensures led { WhatEndsIsLed }
+    ensures ringed { WhatHasNoEndCircles }
+    ensures found { WhatIsLedEnds }
+    ensures without_end { WhatCirclesHasNoEnd }
+    ensures one { OneEnd }
+    ensures exclusive { NoEndInARing }
+{}
+
+/// A settled form keeps the limits of a value, has no promise in it that leads on, and settles to itself. A promise that
+/// was resolved to a list of itself has none.
+pub fn settled_forms_are_lawful()
+    ensures within { SettledIsWithinLimits }
+    ensures open_promises { SettledIsOpen }
+    ensures again { SettledSettlesToItself }
+    ensures unfolded { ListOfItselfHasNone }
+{}
