@@ -5,9 +5,8 @@ use Rattle.history.specs.Subject.{Footprint}
 use Rattle.history.specs.Journal.{Entry}
 use Rattle.ids.specs.declared.cells.CellKey.{CellKey}
 use Rattle.kernele.specs.declared.tree.Pattern.{Pattern}
-use Rattle.kernele.specs.Tree.{Name, Trees, Trees-set, Methods, Methods-set}
-use Rattle.values.specs.Data.{Val, Val-set}
-use Rattle.heap.specs.State.{Bind, Bind-set, Nouns, Object, Object-set}
+use Rattle.kernele.specs.Tree.{Name, Trees, Trees-set}
+use Rattle.heap.specs.Sets.{vals, binds, objects, views}
 use Rattle.post.specs.Delivery.{Delivery, Delivery-set}
 use Rattle.post.specs.Events.{Act, Event}
 use Rattle.post.specs.World.{Vat, Vat-set, Place, Place-set, Message, Message-set, Content, Content-set, World}
@@ -25,21 +24,6 @@ pattern_lists = hlevel (props, patterns)
 trees : IsSet Trees
 trees = Trees-set (hlevel props) (hlevel props) names patterns pattern_lists
 
-methods : IsSet Methods
-methods = Methods-set (hlevel props) (hlevel props) names patterns pattern_lists
-
-vals : IsSet Val
-vals = Val-set (hlevel props) (hlevel props) names (hlevel props) (hlevel props)
-
-binds : IsSet Bind
-binds = Bind-set vals (hlevel props)
-
-nouns : IsSet Nouns
-nouns = hlevel (props, binds)
-
-objects : IsSet Object
-objects = Object-set patterns nouns methods
-
 deliveries : IsSet Delivery
 deliveries = Delivery-set trees
 
@@ -53,7 +37,7 @@ messages : IsSet Message
 messages = Message-set deliveries (hlevel props) (hlevel props) places
 
 contents : IsSet Content
-contents = Content-set vats binds vals objects messages
+contents = Content-set vats binds vals objects views (hlevel props) messages
 
 pub World-set : IsSet World
 World-set = hlevel (props, contents)

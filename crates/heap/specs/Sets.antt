@@ -19,7 +19,7 @@ methods : IsSet Methods
 methods = Methods-set (hlevel props) (hlevel props) names patterns pattern_lists
 
 pub vals : IsSet Val
-vals = Val-set (hlevel props) (hlevel props) names (hlevel props) (hlevel props)
+vals = Val-set (hlevel props) (hlevel props) names (hlevel props) (hlevel props) (hlevel props)
 
 pub binds : IsSet Bind
 binds = Bind-set vals (hlevel props)
