@@ -1,8 +1,9 @@
 // Calls: what they lead to, and how a method is entered and left.
-ghost use Rattle.std.specs.Prelude.{◌≡◌, []};
+ghost use Rattle.std.specs.Prelude.{◌≡◌, ◌≤◌, [], length};
 ghost use Rattle.values.specs.View.{val_of, vals_of};
 ghost use Rattle.erules.specs.Rules.{callee_of, callee_target, callee_read, inside};
-ghost use Rattle.erules.specs.Locals.{locals_of};
+ghost use Rattle.heap.specs.View.{nouns_of};
+ghost use Rattle.erules.specs.Locals.{locals_after, names_in};
 ghost use Rattle.erules.specs.View.{at};
 ghost use Rattle.eobjects.specs.View.{callee_view, OnTarget};
 
@@ -13,8 +14,10 @@ use erules::escapes::call_ejector;
 use erules::local::Local;
 use erules::results::call_data;
 use erules::working::Working;
+use heap::state::Noun;
 use ids::names::{EjId, ObjId};
 use std::mem;
+use std::sync::Arc;
 use values::value::Value;
 use values::verb::Verb;
 
@@ -29,8 +32,11 @@ pub enum Callee {
 /// What a caller's names were when the method was entered.
 #[derive(Drop)]
 pub struct Caller {
+    captured: Arc<Vec<Noun>>,
+    older: usize,
     nouns: Vec<Local>,
     own_scope: bool,
+    ghost within: { older ≤ length captured.value.items },
 }
 
 /// What a call with these arguments leads to: a method's block, or a value.
@@ -74,16 +80,22 @@ fn called_on(value: &Value) -> Callee
     }
 }
 
-/// Begins a method with names of its own, in place of those of the caller.
-pub fn enter_method(w: &mut Working, nouns: Vec<Local>) -> Caller
+/// Begins a method with what its object captured and with names of its own, in place of those of the caller.
+pub fn enter_method(w: &mut Working, captured: Arc<Vec<Noun>>, nouns: Vec<Local>) -> Caller
+    ensures captured { result.captured ≡ w.old.captured }
+    ensures older { result.older ≡ w.old.older }
     ensures names { result.nouns ≡ w.old.nouns }
     ensures own { result.own_scope ≡ w.old.own_scope }
-    ensures place { at w.new ≡ inside (locals_of nouns.items) (at w.old) }
+    ensures place { at w.new ≡ inside (locals_after (nouns_of captured.value.items) nouns.items) (at w.old) }
 {
+    let older = captured.len();
     let caller = Caller {
+        captured: mem::replace(&mut w.captured, captured),
+        older: w.older,
         nouns: mem::replace(&mut w.nouns, nouns),
         own_scope: w.own_scope,
     };
+    w.older = older;
     w.own_scope = false;
     caller
 }
@@ -104,10 +116,12 @@ pub(crate) fn empty_frame(w: &mut Working) -> Vec<Local>
 
 /// Goes back to the caller's names, and keeps the method's frame for another one.
 pub fn leave_method(w: &mut Working, caller: Caller)
-    ensures place { at w.new ≡ record (at w.old) { nouns = locals_of caller.nouns.items; own_scope = caller.own_scope } }
+    ensures place { at w.new ≡ record (at w.old) { nouns = names_in caller.captured.value.items caller.older caller.nouns.items; own_scope = caller.own_scope } }
     ensures halt { w.new.halt ≡ w.old.halt }
 {
     let mut frame = mem::replace(&mut w.nouns, caller.nouns);
+    w.captured = caller.captured;
+    w.older = caller.older;
     w.own_scope = caller.own_scope;
     frame.clear();
     // Where there is no memory to keep it, it is dropped.

@@ -16,6 +16,7 @@ ghost use Rattle.erules.specs.Rules.{Ends, Runs, put};
 ghost use Rattle.erules.specs.View.{at};
 
 use crate::growing::grow_variable;
+use crate::nouns::binding_at;
 use code::code::{Code, Place};
 use erules::working::{DEEPEST, Working};
 use heap::state::Binding;
@@ -235,7 +236,7 @@ pub(crate) fn peek<'a>(w: &'a Working, name: &Text, place: Place) -> Option<&'a 
     ensures { IfSome result (λ b. StandsAtHand name.now (bind_of b.now) (at w.now)) }
 {
     match place {
-        Place::Frame(i) => Some(&w.nouns[i].binding),
+        Place::Frame(i) => Some(binding_at(w, i)),
         Place::Top => w.draft.peek_top(name),
     }
 }

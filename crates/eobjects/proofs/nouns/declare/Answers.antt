@@ -1,4 +1,4 @@
-use Rattle.std.proofs.Common.{◌∙◌, arith, refl, sym, ap}
+use Rattle.std.proofs.Common.{arith, sym, ap}
 use Rattle.heap.specs.Drafts.{draft_of, counts_of, began_with, touched_of, written_of}
 use Rattle.erules.specs.Rules.{variable_end, variable_made}
 use Rattle.erules.specs.View.{at}

@@ -1,9 +1,4 @@
-use Rattle.std.proofs.Common.{ap, sym, ◌∙◌, rules}
-use Rattle.std.specs.Prelude.{codes, cond}
-use Rattle.std.specs.Str.{bytes_eq}
-use Rattle.values.specs.View.{vals_of}
-use Rattle.erules.specs.Rules.{ejection, no_such_method}
-use Rattle.erules.specs.View.{opened_of}
+use Rattle.std.proofs.Common.{rules}
 use Rattle.erules.proofs.Answering.{end_is, stop_is}
 use Rattle.erules.proofs.escapes.call_ejector.Goals as goal
 
