@@ -8,8 +8,8 @@ use Rattle.heap.specs.declared.state.Noun.{Noun}
 use Rattle.erules.specs.Locals.{locals_after, names_in}
 use Rattle.erules.specs.declared.local.Local.{Local}
 
-counted : (cs : Vec Noun Global) {n : ℕ} → n ≡ vec_len cs → n ≡ length cs.items
+pub counted : (cs : Vec Noun Global) {n : ℕ} → n ≡ vec_len cs → n ≡ length cs.items
 counted cs e = search rules
 
-pub all_in_scope : (cs : Vec Noun Global) (xs : List Local) {n : ℕ} → n ≡ vec_len cs → names_in cs.items n xs ≡ locals_after (nouns_of cs.items) xs
-all_in_scope cs xs {n = n} e = ap (λ ds. locals_after (nouns_of ds) xs) (take_all n cs.items (omega (arith, counted cs e)))
+pub all_in_scope : (cs : List Noun) (xs : List Local) {n : ℕ} → n ≡ length cs → names_in cs n xs ≡ locals_after (nouns_of cs) xs
+all_in_scope cs xs {n = n} e = ap (λ ds. locals_after (nouns_of ds) xs) (take_all n cs (omega (arith, e)))

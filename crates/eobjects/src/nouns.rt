@@ -118,10 +118,15 @@ pub(crate) fn binding_at<'a>(w: &'a Working, position: usize) -> &'a Binding
     requires { position < length (at w.now).nouns }
     ensures { (x : Name) → newest (frame_at (at w.now)) x ≡ Some position → lookup (at w.now).nouns x ≡ Some (bind_of result.now) }
 {
-    if position < w.older {
-        &w.captured[position].binding
-    } else {
-        &w.nouns[position - w.older].binding
+    match &w.captured {
+        Some(captured) => {
+            if position < w.older {
+                &captured[position].binding
+            } else {
+                &w.nouns[position - w.older].binding
+            }
+        }
+        None => &w.nouns[position].binding,
     }
 }
 

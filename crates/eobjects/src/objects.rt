@@ -19,7 +19,7 @@ ghost use Rattle.erules.specs.Rules.{with_object, object_end, named, named_all, 
 ghost use Rattle.erules.specs.Rules.{method_target as method_target_of, object_target as object_target_of};
 ghost use Rattle.heap.specs.View.{bind_of, nouns_of, object_of};
 ghost use Rattle.heap.specs.Drafts.{draft_of};
-ghost use Rattle.erules.specs.Locals.{locals_after};
+ghost use Rattle.erules.specs.Locals.{captured_in, locals_after};
 ghost use Rattle.erules.specs.View.{at};
 ghost use Rattle.eobjects.specs.View.{entered_or, OnTarget};
 
@@ -213,9 +213,9 @@ fn method_entry(
 {
     match find_method(object, verb, args)? {
         Some(method) => {
-            let nouns = method_nouns(frame, id, object, method.parameters.as_slice(), args)?;
-            let captured = Arc::try_clone(&object.captured)?;
+            let captured = share_captured(&object.captured)?;
             let body = Arc::try_clone(&method.body)?;
+            let nouns = method_nouns(frame, id, object, method.parameters.as_slice(), args)?;
             Ok(Some(Entry {
                 captured,
                 nouns,
@@ -223,6 +223,18 @@ fn method_entry(
             }))
         }
         None => Ok(None),
+    }
+}
+
+/// What an object captured, shared, if it captured anything.
+#[inline(always)]
+fn share_captured(captured: &Arc<Vec<Noun>>) -> Result<Option<Arc<Vec<Noun>>>, AllocError>
+    ensures { IfOk result (λ c. captured_in c ≡ captured.now.value.items) }
+{
+    if captured.is_empty() {
+        Ok(None)
+    } else {
+        Ok(Some(Arc::try_clone(captured)?))
     }
 }
 

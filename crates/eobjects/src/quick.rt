@@ -269,6 +269,19 @@ fn integer_of(w: &Working, name: &Text, place: Place) -> Option<i64>
     }
 }
 
+/// What a noun gives, if it is at hand.
+#[inline(always)]
+pub(crate) fn value_at_hand<'a>(w: &'a Working, name: &Text, place: Place) -> Option<&'a Value>
+    requires { place ≡ place_in (frame_at (at w.now)) name.now }
+    ensures { IfSome result (λ v. GivesAtHand name.now (val_of v.now) (at w.now)) }
+{
+    match peek(w, name, place) {
+        Some(Binding::Fixed(value)) => Some(value),
+        Some(Binding::Slot(slot)) => w.draft.peek_slot(*slot),
+        None => None,
+    }
+}
+
 /// The value of a noun at hand, where there is a step for it.
 #[inline(always)]
 pub fn noun_at_hand<'a>(w: &'a Working, e: &Code, level: u32) -> Option<&'a Value>
@@ -282,11 +295,7 @@ pub fn noun_at_hand<'a>(w: &'a Working, e: &Code, level: u32) -> Option<&'a Valu
             if w.steps == 0 || level > DEEPEST {
                 return None;
             }
-            match peek(w, name, *place) {
-                Some(Binding::Fixed(value)) => Some(value),
-                Some(Binding::Slot(slot)) => w.draft.peek_slot(*slot),
-                None => None,
-            }
+            value_at_hand(w, name, *place)
         }
         _ => None,
     }

@@ -1,5 +1,6 @@
 // What a turn works on.
 ghost use Rattle.std.specs.Prelude.{◌+◌, ◌≤◌, length};
+ghost use Rattle.erules.specs.Locals.{captured_in};
 
 use crate::end::Halt;
 use crate::local::Local;
@@ -21,8 +22,8 @@ pub struct Working {
     pub draft: Draft,
     /// Whether the innermost scope is the script's own.
     pub own_scope: bool,
-    /// The names that the object of the method under way captured, the newest last. Outside of methods there are none.
-    pub captured: Arc<Vec<Noun>>,
+    /// The names that the object of the method under way captured, the newest last, if it captured any. Outside of methods there are none.
+    pub captured: Option<Arc<Vec<Noun>>>,
     /// How many of them are in scope: from the oldest on, and in a method all.
     pub older: usize,
     /// The names of the scopes entered so far, the newest last. They are newer than those that were captured.
@@ -37,6 +38,6 @@ pub struct Working {
     pub opened: Vec<EjId>,
     /// Why the last evaluation that was halted has no value.
     pub halt: Halt,
-    pub ghost within: { older ≤ length captured.value.items },
+    pub ghost within: { older ≤ length (captured_in captured) },
     pub ghost counted: { ejectors + steps ≤ 4294967295 },
 }

@@ -71,7 +71,7 @@ fn run_items(
         alloc,
         draft: Draft::new(alloc, Arc::try_clone(state)?, event, vat),
         own_scope,
-        captured: Arc::new(alloc, Vec::new(alloc))?,
+        captured: None,
         older: 0,
         nouns: Vec::new(alloc),
         spare: Vec::new(alloc),

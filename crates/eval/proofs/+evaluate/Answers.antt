@@ -37,10 +37,10 @@ use Rattle.eval.proofs.Sides.{runs_right, halts_right, right_fits, right_placed,
 use Rattle.eval.proofs.+evaluate.Goals as goal
 
 pub eval::eval-returns-then-w-eq0 : goal.eval::eval-returns-then-w-eq0
-eval::eval-returns-then-w-eq0 t c = no_steps c.abandon.result c.abandon.new.w _ _ _ (search rules) c.abandon.ensures
+eval::eval-returns-then-w-eq0 t c = no_steps c.abandon.result c.abandon.new.w _ _ _ (search rules) c.abandon.ensures.end
 
 pub eval::eval-returns-then-level-gt-DEEPEST : goal.eval::eval-returns-then-level-gt-DEEPEST
-eval::eval-returns-then-level-gt-DEEPEST t c = no_level c.abandon-then-level-gt-DEEPEST.result c.abandon-then-level-gt-DEEPEST.new.w _ _ (at c.args.w.now) (omega arith) c.if-level-gt-DEEPEST.true c.abandon-then-level-gt-DEEPEST.ensures
+eval::eval-returns-then-level-gt-DEEPEST t c = no_level c.abandon-then-level-gt-DEEPEST.result c.abandon-then-level-gt-DEEPEST.new.w _ _ (at c.args.w.now) (omega arith) c.if-level-gt-DEEPEST.true c.abandon-then-level-gt-DEEPEST.ensures.end
 
 pub eval::eval-returns-in-Null : goal.eval::eval-returns-in-Null
 eval::eval-returns-in-Null t c = node c.args.e.now (ap tree_of_code c.in-Null.is) run_null (omega arith) c.if-level-gt-DEEPEST.false
@@ -229,10 +229,10 @@ calling::eval_target-returns t c =
     (subst (λ xs. Args c.args.level (trees_of_codes c.args.args.now) (at c.args.w.now) (values (vals_of xs)) (at c.eval_args.new.w)) (sym c.deref_mut.ensures.value) c.in_ok-values.ensures) c.call_target-2.ensures
 
 pub calling::eval_method-returns : goal.calling::eval_method-returns
-calling::eval_method-returns t c = ends_over c.eval_items-answer.result c.eval_items-answer.new.into c.eval_items-answer.new.w c.leave_method.new.w (Items c.args.level _ _ _) (Enters c.args.level _ _ _) c.leave_method.ensures.halt c.eval_items-answer.ensures (λ o r. entered (ap trees_of_codes (slice_of c.deref-2.ensures.value c.deref.ensures)) _ c.args.w.now c.eval_items-answer.new.w (ap (λ s. s.value.items) c.enter_method-caller.ensures.captured) c.enter_method-caller.ensures.older (ap (λ v. v.items) c.enter_method-caller.ensures.names) c.enter_method-caller.ensures.own c.enter_method-caller.ensures.place r c.leave_method.ensures.place)
+calling::eval_method-returns t c = ends_over c.eval_items-answer.result c.eval_items-answer.new.into c.eval_items-answer.new.w c.leave_method.new.w (Items c.args.level _ _ _) (Enters c.args.level _ _ _) c.leave_method.ensures.halt c.eval_items-answer.ensures (λ o r. entered (ap trees_of_codes (slice_of c.deref-2.ensures.value c.deref.ensures)) _ c.args.w.now c.eval_items-answer.new.w (ap captured_in c.enter_method-caller.ensures.captured) c.enter_method-caller.ensures.older (ap (λ v. v.items) c.enter_method-caller.ensures.names) c.enter_method-caller.ensures.own c.enter_method-caller.ensures.place r c.leave_method.ensures.place)
 
 pub calling::eval_method-eval_items-answer-requires : goal.calling::eval_method-eval_items-answer-requires
-calling::eval_method-eval_items-answer-requires t c = (search rules, (search rules, entry_fits c.args.entry.captured.value.items c.args.entry.nouns.items (at c.args.w.now) _ c.enter_method-caller.ensures.place (slice_of c.deref-2.ensures.value c.deref.ensures) c.args.entry.fits))
+calling::eval_method-eval_items-answer-requires t c = (search rules, (search rules, entry_fits (captured_in c.args.entry.captured) c.args.entry.nouns.items (at c.args.w.now) _ c.enter_method-caller.ensures.place (slice_of c.deref-2.ensures.value c.deref.ensures) c.args.entry.fits))
 
 pub calling::eval_escape-eval_naming-answer-requires : goal.calling::eval_escape-eval_naming-answer-requires
 calling::eval_escape-eval_naming-answer-requires t c = (search rules, (search rules, (block_fits (slice_of c.deref-2.ensures.value c.deref.ensures) (ap (λ (a : At). frame_of a.nouns ++ c.args.name.now ∷ []) c.in_ok-ejector.ensures.place) c.requires.fits, newest_begun _ (at c.args.w.now) _ c.in_ok-ejector.ensures.named c.in_ok-ejector.ensures.place)))

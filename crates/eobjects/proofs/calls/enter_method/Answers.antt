@@ -1,6 +1,5 @@
 use Rattle.std.proofs.Common.{ap, ◌∙◌}
-use Rattle.std.specs.Prelude.{vec_len}
-use Rattle.erules.specs.Locals.{names_in}
+use Rattle.erules.specs.Locals.{captured_in, names_in}
 use Rattle.erules.specs.Rules.{inside}
 use Rattle.erules.specs.View.{at}
 use Rattle.eobjects.proofs.Entering.{all_in_scope}
@@ -8,6 +7,6 @@ use Rattle.eobjects.proofs.calls.enter_method.Goals as goal
 
 pub returns-clause-place : goal.returns-clause-place
 returns-clause-place c =
-    ap (λ ns. inside ns (at c.args.w.now))
-    ((λ i. names_in (c.replace.ensures.after i).value.items c.len-older.result (c.replace-2.ensures.after i).items)
-    ∙ all_in_scope c.args.captured.value c.args.nouns.items (c.len-older.ensures ∙ ap vec_len c.deref.ensures))
+    let shared = c.replace_captured-captured.ensures in
+    (λ i. inside (names_in (shared.captured i) (shared.older i) (c.replace-nouns.ensures.after i).items) (shared.place i))
+    ∙ ap (λ ns. inside ns (at c.args.w.now)) (all_in_scope (captured_in c.args.captured) c.args.nouns.items c.count_captured-count.ensures)
