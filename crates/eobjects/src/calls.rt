@@ -115,7 +115,11 @@ fn count_captured(captured: &Option<Arc<Vec<Noun>>>) -> usize
 
 /// Puts so many of the names that were captured into scope, in place of those that were in it. Answers what was captured before.
 #[inline(always)]
-fn replace_captured(w: &mut Working, captured: Option<Arc<Vec<Noun>>>, older: usize) -> Option<Arc<Vec<Noun>>>
+fn replace_captured(
+    w: &mut Working,
+    captured: Option<Arc<Vec<Noun>>>,
+    older: usize,
+) -> Option<Arc<Vec<Noun>>>
     requires { older ≤ length (captured_in captured) }
     ensures before { captured_in result ≡ captured_in w.old.captured }
     ensures captured { captured_in w.new.captured ≡ captured_in captured }

@@ -6,6 +6,7 @@ use Rattle.values.specs.Replies.{list_reply, text_reply}
 use Rattle.values.specs.View.{val_of, vals_of}
 use Rattle.erules.specs.At.{At}
 use Rattle.erules.specs.Outcomes.{halt, halted, value, values, reply_end}
+use Rattle.erules.specs.Locals.{captured_in}
 use Rattle.erules.specs.View.{at, halt_of}
 use Rattle.eobjects.specs.View.{entered_or}
 use Rattle.eval.specs.Escaping.{Escapes}
