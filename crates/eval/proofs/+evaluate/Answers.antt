@@ -230,7 +230,7 @@ calling::eval_target-returns t c =
     (subst (λ xs. Args c.args.level (trees_of_codes c.args.args.now) (at c.args.w.now) (values (vals_of xs)) (at c.eval_args.new.w)) (sym c.deref_mut.ensures.value) c.in_ok-values.ensures) c.call_target-2.ensures
 
 pub calling::eval_method-returns : goal.calling::eval_method-returns
-calling::eval_method-returns t c = ends_over c.eval_items-answer.result c.eval_items-answer.new.into c.eval_items-answer.new.w c.leave_method.new.w (Items c.args.level _ _ _) (Enters c.args.level _ _ _) c.leave_method.ensures.halt c.eval_items-answer.ensures (λ o r. entered (ap trees_of_codes (slice_of c.deref-2.ensures.value c.deref.ensures)) _ c.args.w.now c.eval_items-answer.new.w (ap captured_in c.enter_method-caller.ensures.captured) c.enter_method-caller.ensures.older (ap (λ v. v.items) c.enter_method-caller.ensures.names) c.enter_method-caller.ensures.own c.enter_method-caller.ensures.place r c.leave_method.ensures.place)
+calling::eval_method-returns t c = ends_over c.eval_items-answer.result c.eval_items-answer.new.into c.eval_items-answer.new.w c.leave_method.new.w (Items c.args.level _ _ _) (Enters c.args.level _ _ _) c.leave_method.ensures.halt c.eval_items-answer.ensures (λ o r. entered (ap trees_of_codes (slice_of c.deref-2.ensures.value c.deref.ensures)) _ c.args.w.now c.eval_items-answer.new.w c.enter_method-caller.ensures.captured c.enter_method-caller.ensures.older (ap (λ v. v.items) c.enter_method-caller.ensures.names) c.enter_method-caller.ensures.own c.enter_method-caller.ensures.place r c.leave_method.ensures.place)
 
 pub calling::eval_method-eval_items-answer-requires : goal.calling::eval_method-eval_items-answer-requires
 calling::eval_method-eval_items-answer-requires t c = (search rules, (search rules, entry_fits (captured_in c.args.entry.captured) c.args.entry.nouns.items (at c.args.w.now) _ c.enter_method-caller.ensures.place (slice_of c.deref-2.ensures.value c.deref.ensures) c.args.entry.fits))
