@@ -140,10 +140,16 @@ pub fixed_at_hand : (x : Name) (v : Val) (a : At) → StandsAtHand x (fixed v) a
 fixed_at_hand x v a h = (ap (noun_end a.state x) h.0, ap (λ m. slot_read (slot_in m) (seeking x a)) h.0 ∙ h.1)
 
 -- a noun at hand ends with its value where there is a step for it
-pub noun_ends : (a : At) (e : Code) (x : Name) (v : Val) (k : ℕ) → tree_of_code e ≡ noun x → GivesAtHand x v a → 0 < a.left → k ≤ 1000 → Ends k (tree_of_code e) a (value v) (record a { left = a.left - 1 })
+noun_ends : (a : At) (e : Code) (x : Name) (v : Val) (k : ℕ) → tree_of_code e ≡ noun x → GivesAtHand x v a → 0 < a.left → k ≤ 1000 → Ends k (tree_of_code e) a (value v) (record a { left = a.left - 1 })
 noun_ends a e x v k is h some deep = leaf_ends a (tree_of_code e) v k a.left (noun_leaf a e x v is h) some deep
 
-pub slot_ends : {X : Type 0} (r : Option X) (f : X → Val) (a : At) (e : Code) (x : Name) (i : SlotId) (k : ℕ) → tree_of_code e ≡ noun x → StandsAtHand x (slot i) a → IfSome r (λ v. a.touched (slot_cell i) ≡ true) → IfSome r (λ v. read a.state (slot_cell i) ≡ Some (held (f v))) → 0 < a.left → k ≤ 1000
+-- the same of a noun that may be at hand
+pub given_ends : {X : Type 0} (r : Option X) (f : X → Val) (a : At) (e : Code) (x : Name) (k : ℕ) → tree_of_code e ≡ noun x → IfSome r (λ v. GivesAtHand x (f v) a) → 0 < a.left → k ≤ 1000
     → IfSome r (λ v. Ends k (tree_of_code e) a (value (f v)) (record a { left = a.left - 1 }))
-slot_ends (Some y) f a e x i k is h touched here some deep = noun_ends a e x (f y) k is (slot_at_hand x i (f y) a h touched here) some deep
-slot_ends None f a e x i k is h touched here some deep = tt
+given_ends (Some y) f a e x k is h some deep = noun_ends a e x (f y) k is h some deep
+given_ends None f a e x k is h some deep = tt
+
+-- what holds anyway holds of what may be there
+pub where_some : {X P : Type 0} (r : Option X) → P → IfSome r (λ v. P)
+where_some (Some y) p = p
+where_some None p = tt

@@ -1,7 +1,7 @@
 -- Assignments that make longer what a variable holds.
 use Rattle.std.proofs.Common.{arith, ◌≡◌, ℕ, ◌-◌, ◌+◌, ◌<◌, ◌≤◌, List, [], ◌∷◌, Bool, true, false, Option, Some, None, IfSome, Bor, refl, sym, ap, ◌∙◌, subst}
 use Rattle.ids.specs.declared.names.SlotId.{SlotId}
-use Rattle.kernele.specs.Tree.{Name, Tree, Trees, null_tree, bool_tree, text_tree, noun, call, assign, none, and_then}
+use Rattle.kernele.specs.Tree.{Name, Tree, null_tree, bool_tree, text_tree, noun, call, assign, none, and_then}
 use Rattle.code.specs.View.{tree_of_code, trees_of_codes}
 use Rattle.std.proofs.Common.{append-nil}
 use Rattle.code.specs.Frames.{Frame, behind, after, fits_all}
@@ -11,7 +11,7 @@ use Rattle.values.specs.Data.{Val, Vals, null, bool, int, text, list, object, ej
 use Rattle.values.specs.Replies.{data_reply, text_reply}
 use Rattle.values.specs.View.{val_of}
 use Rattle.values.specs.declared.value.Value.{Value}
-use Rattle.heap.specs.State.{fixed, slot, slot_cell, held, read}
+use Rattle.heap.specs.State.{slot, slot_cell, held, read}
 use Rattle.heap.specs.Drafts.{draft_of, counts_of, began_with, touched_of, written_of}
 use Rattle.heap.specs.Growing.{SlotGrew, SlotGrows}
 use Rattle.heap.specs.Drafted.{Drafted}
@@ -19,7 +19,7 @@ use Rattle.erules.specs.At.{At}
 use Rattle.erules.specs.View.{at}
 use Rattle.erules.specs.declared.working.Working.{Working}
 use Rattle.eobjects.proofs.Drafted.{drafted, drafted_put}
-use Rattle.erules.specs.Outcomes.{value, values, reply_end}
+use Rattle.erules.specs.Outcomes.{value, reply_end}
 use Rattle.erules.specs.Rules as rules
 use Rattle.erules.specs.Rules.{put, slot_in, sought_slot, seeking, slot_put, slot_read, noun_end, assigned_end, on_datum, callee_of, callee_target, callee_read, called, target_of, Ends, Runs, at_node, run_null, run_bool, run_text, run_assign, run_call_gives, args_none, args_next}
 use Rattle.erules.proofs.Steps.{runs_as, runs_to}

@@ -8,3 +8,4 @@ mod Ending
 mod Sent
 mod Missing
 mod Targets
+mod Entering

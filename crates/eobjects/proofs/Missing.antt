@@ -1,5 +1,5 @@
 -- A name that an object is to capture and that stands for nothing.
-use Rattle.std.proofs.Common.{◌≡◌, refl, sym, ap, ◌∙◌}
+use Rattle.std.proofs.Common.{◌≡◌, ap, ◌∙◌}
 use Rattle.kernele.specs.Tree.{Name, Methods}
 use Rattle.kernele.specs.declared.tree.Pattern.{Pattern}
 use Rattle.erules.specs.At.{At}

@@ -4,7 +4,8 @@ use Rattle.code.specs.View.{trees_of_codes}
 use Rattle.values.specs.View.{val_of}
 use Rattle.values.specs.declared.value.Value.{Value}
 use Rattle.erules.specs.At.{At}
-use Rattle.erules.specs.Locals.{locals_of}
+use Rattle.heap.specs.View.{nouns_of}
+use Rattle.erules.specs.Locals.{captured_in, locals_after}
 use Rattle.erules.specs.Outcomes.{value, halt}
 use Rattle.erules.specs.Rules.{Callee, on_object, on_ejector, on_datum, Target, gives, enters}
 use Rattle.erules.specs.Answered.{OnAnswer}
@@ -22,7 +23,7 @@ callee_view code-callees.Datum = on_datum
 
 -- what a call leads to that enters a method, or else this
 abbrev pub entered_or : Target → Option Entry → Target
-entered_or t (Some e) = enters (locals_of e.nouns.items) (trees_of_codes e.body.value.items)
+entered_or t (Some e) = enters (locals_after (nouns_of (captured_in e.captured)) e.nouns.items) (trees_of_codes e.body.value.items)
 entered_or t None = t
 
 -- for the answer of a call, whose value is put into a place where it enters no method: this holds of what it leads to

@@ -1,18 +1,17 @@
 // Lists and texts that a variable holds, made longer where they stand.
 ghost use Rattle.std.specs.Prelude.{◌≡◌, IfOk, IfSome};
 ghost use Rattle.kernele.specs.Tree.{assign, call, noun};
-ghost use Rattle.code.specs.Frames.{fits_all, place_in};
+ghost use Rattle.code.specs.Frames.{fits_all};
 ghost use Rattle.code.specs.View.{tree_of_code, trees_of_codes};
 ghost use Rattle.values.specs.View.{val_of};
 ghost use Rattle.heap.specs.State.{slot};
-ghost use Rattle.erules.specs.Fits.{fits_at, frame_at, frame_behind};
+ghost use Rattle.erules.specs.Fits.{fits_at, frame_behind};
 ghost use Rattle.erules.specs.View.{at};
-ghost use Rattle.eobjects.specs.Leaves.{GivesAtHand, Leaf, Lengthens, RanOrNot, StandsAtHand};
+ghost use Rattle.eobjects.specs.Leaves.{Leaf, Lengthens, RanOrNot, StandsAtHand};
 
-use crate::quick::{peek, slot_of};
-use code::code::{Code, Place};
+use crate::quick::{slot_of, value_at_hand};
+use code::code::Code;
 use erules::working::{DEEPEST, Working};
-use heap::state::Binding;
 use ids::names::SlotId;
 use ids::text::Text;
 use std::alloc::AllocError;
@@ -129,17 +128,5 @@ fn leaf_value(w: &Working, e: &Code) -> Result<Option<Value>, AllocError>
             None => Ok(None),
         },
         _ => Ok(None),
-    }
-}
-
-/// What a noun gives, if it is at hand.
-fn value_at_hand<'a>(w: &'a Working, name: &Text, place: Place) -> Option<&'a Value>
-    requires { place ≡ place_in (frame_at (at w.now)) name.now }
-    ensures { IfSome result (λ v. GivesAtHand name.now (val_of v.now) (at w.now)) }
-{
-    match peek(w, name, place) {
-        Some(Binding::Fixed(value)) => Some(value),
-        Some(Binding::Slot(slot)) => w.draft.peek_slot(*slot),
-        None => None,
     }
 }

@@ -1,11 +1,12 @@
 // Nouns: what they stand for, and how they are bound, declared and assigned.
-ghost use Rattle.std.specs.Prelude.{◌≡◌, IfOk, IfSome, OnOk, length};
+ghost use Rattle.std.specs.Prelude.{◌≡◌, ◌<◌, IfOk, IfSome, OnOk, Some, length};
 ghost use Rattle.std.specs.Option.{option_map};
 ghost use Rattle.values.specs.Replies.{items_in};
 ghost use Rattle.values.specs.View.{val_of, vals_of};
-ghost use Rattle.code.specs.Frames.{place_in};
+ghost use Rattle.kernele.specs.Tree.{Name};
+ghost use Rattle.code.specs.Frames.{newest, place_in};
 ghost use Rattle.erules.specs.Fits.{frame_at};
-ghost use Rattle.heap.specs.State.{read, slot_cell};
+ghost use Rattle.heap.specs.State.{lookup, read, slot_cell};
 ghost use Rattle.erules.specs.Answered.{OnEnd, OnStop};
 ghost use Rattle.erules.specs.Outcomes.{thrown, value as value_end, halt as halt_end};
 ghost use Rattle.erules.specs.Rules.{binding as binding_of, matched, matched_all, taken, parts_of, parts_bound, parts_end, reached, seeking, noun_read, sought, sought_slot, held_end, undefined_noun};
@@ -106,8 +107,26 @@ pub(crate) fn seek<'a>(w: &'a Working, name: &Text, place: Place) -> Option<&'a 
     ensures { option_map (λ b. bind_of b.now) result ≡ sought name.now (at w.now) }
 {
     match place {
-        Place::Frame(i) => Some(&w.nouns[i].binding),
+        Place::Frame(i) => Some(binding_at(w, i)),
         Place::Top => w.draft.top(name),
+    }
+}
+
+/// What the name at this position stands for, counted from the oldest: those that were captured come first.
+#[inline(always)]
+pub(crate) fn binding_at<'a>(w: &'a Working, position: usize) -> &'a Binding
+    requires { position < length (at w.now).nouns }
+    ensures { (x : Name) → newest (frame_at (at w.now)) x ≡ Some position → lookup (at w.now).nouns x ≡ Some (bind_of result.now) }
+{
+    match &w.captured {
+        Some(captured) => {
+            if position < w.older {
+                &captured[position].binding
+            } else {
+                &w.nouns[position - w.older].binding
+            }
+        }
+        None => &w.nouns[position].binding,
     }
 }
 

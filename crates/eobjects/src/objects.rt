@@ -11,7 +11,7 @@ ghost use Rattle.kernele.specs.Tree.{Name};
 ghost use Rattle.code.specs.View.{methods_of_codes};
 ghost use Rattle.values.specs.Data.{object as object_value};
 ghost use Rattle.values.specs.View.{val_of, vals_of};
-ghost use Rattle.heap.specs.State.{object_cell, read};
+ghost use Rattle.heap.specs.State.{Nouns, object_cell, read};
 ghost use Rattle.erules.specs.Outcomes.{halt as halt_end};
 ghost use Rattle.erules.specs.Answered.{OnAnswer, OnEnd};
 ghost use Rattle.erules.specs.Rules.{reached, captured, missing, all_captured, all_sought, capture_of, capturing, has_object_room, placed, placed_end};
@@ -19,7 +19,7 @@ ghost use Rattle.erules.specs.Rules.{with_object, object_end, named, named_all, 
 ghost use Rattle.erules.specs.Rules.{method_target as method_target_of, object_target as object_target_of};
 ghost use Rattle.heap.specs.View.{bind_of, nouns_of, object_of};
 ghost use Rattle.heap.specs.Drafts.{draft_of};
-ghost use Rattle.erules.specs.Locals.{locals_of};
+ghost use Rattle.erules.specs.Locals.{captured_in, locals_after};
 ghost use Rattle.erules.specs.View.{at};
 ghost use Rattle.eobjects.specs.View.{entered_or, OnTarget};
 
@@ -213,11 +213,28 @@ fn method_entry(
 {
     match find_method(object, verb, args)? {
         Some(method) => {
-            let nouns = method_nouns(frame, id, object, method.parameters.as_slice(), args)?;
+            let captured = share_captured(&object.captured)?;
             let body = Arc::try_clone(&method.body)?;
-            Ok(Some(Entry { nouns, body }))
+            let nouns = method_nouns(frame, id, object, method.parameters.as_slice(), args)?;
+            Ok(Some(Entry {
+                captured,
+                nouns,
+                body,
+            }))
         }
         None => Ok(None),
+    }
+}
+
+/// What an object captured, shared, if it captured anything.
+#[inline(always)]
+fn share_captured(captured: &Arc<Vec<Noun>>) -> Result<Option<Arc<Vec<Noun>>>, AllocError>
+    ensures { IfOk result (λ c. captured_in c ≡ captured.now.value.items) }
+{
+    if captured.is_empty() {
+        Ok(None)
+    } else {
+        Ok(Some(Arc::try_clone(captured)?))
     }
 }
 
@@ -270,20 +287,20 @@ fn scan_methods<'a>(
     None
 }
 
-/// The names that a method begins with: the object's, its own, and the parameters, which take the arguments.
+/// The names that a method begins with behind those that its object captured: the object's own, and the parameters, which take the
+/// arguments.
 fn method_nouns(
-    frame: Vec<Local>,
+    mut nouns: Vec<Local>,
     id: ObjId,
     object: &Made,
     parameters: &[Pattern],
     args: &mut [Value],
 ) -> Result<Vec<Local>, AllocError>
-    requires empty { frame.items ≡ [] }
+    requires empty { nouns.items ≡ [] }
     requires count { length args.old ≡ length parameters.now }
-    ensures { IfOk result (λ ns. locals_of ns.items ≡ named_all parameters.now (vals_of args.old)
+    ensures { IfOk result (λ ns. locals_after (nouns_of object.now.captured.value.items) ns.items ≡ named_all parameters.now (vals_of args.old)
         (named object.now.own (object_value id) (nouns_of object.now.captured.value.items))) }
 {
-    let mut nouns = copied(frame, object.captured.as_slice())?;
     name_value(&mut nouns, &object.own, Value::Object(id))?;
     for i in 0..parameters.len() {
         let value = mem::replace(&mut args[i], Value::Null);
@@ -292,21 +309,10 @@ fn method_nouns(
     Ok(nouns)
 }
 
-/// The same names in an empty frame, with what they stand for shared.
-fn copied(mut frame: Vec<Local>, nouns: &[Noun]) -> Result<Vec<Local>, AllocError>
-    requires { frame.items ≡ [] }
-    ensures { IfOk result (λ ns. locals_of ns.items ≡ nouns_of nouns.now) }
-{
-    for noun in nouns {
-        add_local(&mut frame, &noun.name, noun.binding.share()?)?;
-    }
-    Ok(frame)
-}
-
 /// Adds what a pattern names.
 #[inline(always)]
 fn name_value(nouns: &mut Vec<Local>, pattern: &Pattern, value: Value) -> Result<(), AllocError>
-    ensures { OnOk result (locals_of nouns.new.items ≡ named pattern.now (val_of value) (locals_of nouns.old.items)) }
+    ensures { OnOk result ((ns : Nouns) → locals_after ns nouns.new.items ≡ named pattern.now (val_of value) (locals_after ns nouns.old.items)) }
 {
     match pattern {
         Pattern::Name(name) => add_local(nouns, name, Binding::Fixed(value)),
@@ -317,7 +323,7 @@ fn name_value(nouns: &mut Vec<Local>, pattern: &Pattern, value: Value) -> Result
 /// Adds a newer name to a frame.
 #[inline(always)]
 fn add_local(nouns: &mut Vec<Local>, name: &Text, binding: Binding) -> Result<(), AllocError>
-    ensures { OnOk result (locals_of nouns.new.items ≡ (name.now, bind_of binding) ∷ locals_of nouns.old.items) }
+    ensures { OnOk result ((ns : Nouns) → locals_after ns nouns.new.items ≡ (name.now, bind_of binding) ∷ locals_after ns nouns.old.items) }
 {
     let name = Snapshot::of(name);
     nouns.push(Local { name, binding })?;

@@ -16,6 +16,7 @@ ghost use Rattle.erules.specs.Rules.{Ends, Runs, put};
 ghost use Rattle.erules.specs.View.{at};
 
 use crate::growing::grow_variable;
+use crate::nouns::binding_at;
 use code::code::{Code, Place};
 use erules::working::{DEEPEST, Working};
 use heap::state::Binding;
@@ -235,7 +236,7 @@ pub(crate) fn peek<'a>(w: &'a Working, name: &Text, place: Place) -> Option<&'a 
     ensures { IfSome result (λ b. StandsAtHand name.now (bind_of b.now) (at w.now)) }
 {
     match place {
-        Place::Frame(i) => Some(&w.nouns[i].binding),
+        Place::Frame(i) => Some(binding_at(w, i)),
         Place::Top => w.draft.peek_top(name),
     }
 }
@@ -268,6 +269,19 @@ fn integer_of(w: &Working, name: &Text, place: Place) -> Option<i64>
     }
 }
 
+/// What a noun gives, if it is at hand.
+#[inline(always)]
+pub(crate) fn value_at_hand<'a>(w: &'a Working, name: &Text, place: Place) -> Option<&'a Value>
+    requires { place ≡ place_in (frame_at (at w.now)) name.now }
+    ensures { IfSome result (λ v. GivesAtHand name.now (val_of v.now) (at w.now)) }
+{
+    match peek(w, name, place) {
+        Some(Binding::Fixed(value)) => Some(value),
+        Some(Binding::Slot(slot)) => w.draft.peek_slot(*slot),
+        None => None,
+    }
+}
+
 /// The value of a noun at hand, where there is a step for it.
 #[inline(always)]
 pub fn noun_at_hand<'a>(w: &'a Working, e: &Code, level: u32) -> Option<&'a Value>
@@ -281,11 +295,7 @@ pub fn noun_at_hand<'a>(w: &'a Working, e: &Code, level: u32) -> Option<&'a Valu
             if w.steps == 0 || level > DEEPEST {
                 return None;
             }
-            match peek(w, name, *place) {
-                Some(Binding::Fixed(value)) => Some(value),
-                Some(Binding::Slot(slot)) => w.draft.peek_slot(*slot),
-                None => None,
-            }
+            value_at_hand(w, name, *place)
         }
         _ => None,
     }

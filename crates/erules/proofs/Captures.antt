@@ -1,6 +1,5 @@
 -- On what objects capture, and on the names that a method begins with.
-use Rattle.std.proofs.Common.{arith, Bool, ◌≡◌, ℕ, ◌+◌, ◌<◌, ◌≤◌, List, [], ◌∷◌, ◌++◌, length, drop, get_or, Option, Some, None, true, false, ◌&&◌, cond, refl, sym, ap, ◌∙◌, subst, suc, add-one, append_assoc, append-nil}
-use Rattle.std.specs.Prelude.{Result, IfOk}
+use Rattle.std.proofs.Common.{arith, Bool, ◌≡◌, ℕ, ◌+◌, ◌<◌, ◌≤◌, List, [], ◌∷◌, ◌++◌, length, drop, get_or, Option, Some, None, true, false, ◌&&◌, cond, refl, sym, ap, ◌∙◌, suc, add-one, append_assoc, append-nil}
 use Rattle.std.proofs.Math.Seq.{drop-cons}
 use Rattle.std.proofs.lemmas.List.{drop_all}
 use Rattle.std.specs.Str.{bytes_eq}
@@ -15,11 +14,8 @@ use Rattle.values.specs.View.{val_of, vals_of}
 use Rattle.values.specs.declared.value.Value.{Value}
 use Rattle.heap.specs.State.{Bind, Nouns, Object, Cells, frame_of}
 use Rattle.erules.specs.At.{At}
-use Rattle.heap.specs.View.{bind_of, nouns_after}
-use Rattle.heap.specs.declared.state.Noun.{Noun}
 use Rattle.erules.proofs.Patterns.{as_many-true, as_many-false}
-use Rattle.erules.specs.Rules.{sought, seeking, Capture, captured, missing, and_captured, all_captured, all_sought, named, named_all, method_in, as_many, next_object, has_object_room, object_made, placed, with_object, matched, given}
-use Rattle.erules.specs.Outcomes.{End}
+use Rattle.erules.specs.Rules.{sought, seeking, Capture, captured, missing, and_captured, all_captured, all_sought, named, named_all, method_in, as_many, next_object, has_object_room, object_made, placed, matched, given}
 use Rattle.erules.specs.Rules.{capturing, placed_end, object_end}
 use Rattle.erules.proofs.Scopes.{room}
 use Rattle.erules.proofs.Seeking.{captures_read}
@@ -45,14 +41,6 @@ named_more ps vs i p v ns h g e f =
 -- no pattern is left
 pub named_end : (ps : List Pattern) (vs : Vals) (i : ℕ) (ns : Nouns) → length ps ≤ i → named_all (drop i ps) vs ns ≡ ns
 named_end ps vs i ns h = ap (λ qs. named_all qs vs ns) (drop_all i ps h)
-
--- one more name is copied
-pub copied_more : (ns : Nouns) (xs : List Noun) (i : ℕ) (n : Noun) → i < length xs → n ≡ get_or xs i n → nouns_after ns (drop i xs) ≡ nouns_after ((n.name, bind_of n.binding) ∷ ns) (drop (i + 1) xs)
-copied_more ns xs i n h e = rw add-one (ap (nouns_after ns) (drop-cons xs i n h) ∙ ap (λ m. nouns_after ((m.name, bind_of m.binding) ∷ ns) (drop (suc i) xs)) (sym e))
-
--- no name is left
-pub copied_end : (ns : Nouns) (xs : List Noun) (i : ℕ) → length xs ≤ i → nouns_after ns (drop i xs) ≡ ns
-copied_end ns xs i h = ap (nouns_after ns) (drop_all i xs h)
 
 -- the next method is the one that is sought
 pub method_here : (rest others : List MethodCode) (m : MethodCode) (verb : Name) (vs : List Value) → rest ≡ m ∷ others → bytes_eq m.verb verb ≡ true → length vs ≡ length m.parameters.value.items
@@ -82,12 +70,6 @@ pub object_ends : (p : Pattern) (ms : Methods) (ns : Nouns) (d : Capture) (a b :
 object_ends p ms ns d a b q e =
     let reads : b ≡ record a { touched = (capturing p ms a).touched } = e ∙ captures_read (captured []) (captures p ms) a in
     ap (λ (z : At). placed_end (has_object_room z) z) reads ∙ placed_ends (has_object_room a) a (capturing p ms a).touched ∙ ap (λ m. object_end m a) q
-
--- ---- the loops
-
-pub copy_step : (ns ms : Nouns) (xs : List Noun) (i : ℕ) (n : Noun) (c : Bind) (all : Nouns) → i < length xs → n ≡ get_or xs i n → c ≡ bind_of n.binding → ms ≡ ((n.name, c) ∷ ns)
-    → nouns_after ns (drop i xs) ≡ all → nouns_after ms (drop (i + 1) xs) ≡ all
-copy_step ns ms xs i n c all h e g m p = ap (λ ks. nouns_after ks (drop (i + 1) xs)) (m ∙ ap (λ d. (n.name, d) ∷ ns) g) ∙ sym (copied_more ns xs i n h e) ∙ p
 
 -- an object for which there is room
 pub placed_there : (p : Pattern) (o q : Object) (i : ObjId) (a b c : At) → a.objects < 4096 → q ≡ o → i ≡ next_object a → b ≡ object_made q a → c ≡ matched p (object i) b → c ≡ placed (has_object_room a) p o a

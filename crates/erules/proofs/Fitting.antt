@@ -19,7 +19,7 @@ use Rattle.heap.specs.State.{Nouns, frame_of}
 use Rattle.heap.specs.Names.{names_of}
 use Rattle.heap.specs.View.{nouns_of}
 use Rattle.heap.proofs.Names.{frame_of_nouns}
-use Rattle.erules.specs.Locals.{local_names, locals_of}
+use Rattle.erules.specs.Locals.{local_names, locals_after}
 use Rattle.erules.proofs.Locals.{frame_of_locals}
 use Rattle.erules.specs.declared.local.Local.{Local}
 use Rattle.heap.specs.declared.state.Noun.{Noun}
@@ -61,8 +61,8 @@ pub block_fits : {f g : Frame} {ds es : List Code} → ds ≡ es → g ≡ f →
 block_fits {g = g} {es = es} same e h = subst (fits_all false g) (sym same) (subst (λ f. fits_all false f es) (sym e) h)
 
 -- a method's block fits the names that it begins with
-pub entry_fits : (ns : List Local) (a b : At) {ds es : List Code} → b ≡ inside (locals_of ns) a → ds ≡ es → fits_all false (local_names ns) es → all_fit_at b ds
-entry_fits ns a b {ds = ds} e same h = subst (λ b. all_fit_at b ds) (sym e) (block_fits same (frame_of_locals ns) h)
+pub entry_fits : (cs : List Noun) (ns : List Local) (a b : At) {ds es : List Code} → b ≡ inside (locals_after (nouns_of cs) ns) a → ds ≡ es → fits_all false (names_of cs ++ local_names ns) es → all_fit_at b ds
+entry_fits cs ns a b {ds = ds} e same h = subst (λ b. all_fit_at b ds) (sym e) (block_fits same (frame_of_locals cs ns) h)
 
 -- the parts of a While fit at its next round
 pub round_fits : (a b : At) (e : Code) (es : List Code) → b.nouns ≡ a.nouns → b.own_scope ≡ a.own_scope → fits_at a e × fits_all false (frame_behind a e) es → fits_at b e × fits_all false (frame_behind b e) es
@@ -99,13 +99,14 @@ all_named_frame (p ∷ ps) (and_val v vs) ns e =
     ∙ ap (λ xs. frame_of ns ++ xs) (sym (map-append (λ (t : TopName). t.name) (name_of p) (names_of_all ps)))
 
 -- the names that a method begins with
-method_frame : (xs : List Local) (ys : List Noun) (own : Pattern) (i : Val) (ps : List Pattern) (vs : List Value) → locals_of xs ≡ named_all ps (vals_of vs) (named own i (nouns_of ys)) → length vs ≡ length ps
-    → local_names xs ≡ (names_of ys ++ only_names (name_of own)) ++ only_names (names_of_all ps)
+method_frame : (xs : List Local) (ys : List Noun) (own : Pattern) (i : Val) (ps : List Pattern) (vs : List Value) → locals_after (nouns_of ys) xs ≡ named_all ps (vals_of vs) (named own i (nouns_of ys)) → length vs ≡ length ps
+    → names_of ys ++ local_names xs ≡ (names_of ys ++ only_names (name_of own)) ++ only_names (names_of_all ps)
 method_frame xs ys own i ps vs e l =
-    sym (frame_of_locals xs) ∙ ap frame_of e ∙ all_named_frame ps (vals_of vs) (named own i (nouns_of ys)) (as_many-true ps vs l)
+    sym (frame_of_locals ys xs) ∙ ap frame_of e ∙ all_named_frame ps (vals_of vs) (named own i (nouns_of ys)) (as_many-true ps vs l)
     ∙ ap (λ f. f ++ only_names (names_of_all ps)) (named_frame own i (nouns_of ys) ∙ ap (λ f. f ++ only_names (name_of own)) (frame_of_nouns ys))
 
 -- a method's block fits them
-pub method_fits : {ps qs : List Pattern} {ds es : List Code} (xs : List Local) (ys : List Noun) (own : Pattern) (i : Val) (vs : List Value) → locals_of xs ≡ named_all qs (vals_of vs) (named own i (nouns_of ys)) → qs ≡ ps → length vs ≡ length ps → ds ≡ es
-    → fits_all false ((names_of ys ++ only_names (name_of own)) ++ only_names (names_of_all ps)) es → fits_all false (local_names xs) ds
-method_fits {ps = ps} xs ys own i vs e q l same h = block_fits same (method_frame xs ys own i ps vs (e ∙ ap (λ ps. named_all ps (vals_of vs) (named own i (nouns_of ys))) q) l) h
+pub method_fits : {ps qs : List Pattern} {ds es : List Code} {cs : List Noun} (xs : List Local) (ys : List Noun) (own : Pattern) (i : Val) (vs : List Value) → locals_after (nouns_of ys) xs ≡ named_all qs (vals_of vs) (named own i (nouns_of ys)) → qs ≡ ps → length vs ≡ length ps → cs ≡ ys → ds ≡ es
+    → fits_all false ((names_of ys ++ only_names (name_of own)) ++ only_names (names_of_all ps)) es → fits_all false (names_of cs ++ local_names xs) ds
+method_fits {ps = ps} xs ys own i vs e q l shared same h =
+    block_fits same (ap (λ cs. names_of cs ++ local_names xs) shared ∙ method_frame xs ys own i ps vs (e ∙ ap (λ ps. named_all ps (vals_of vs) (named own i (nouns_of ys))) q) l) h

@@ -1,5 +1,5 @@
 -- From the rules to what the program's functions ensure.
-use Rattle.std.proofs.Common.{arith, ◌≡◌, ℕ, ◌+◌, ◌<◌, ◌≤◌, Bool, List, [], ◌∷◌, ◌++◌, subst, sym, ap, refl, length, take, drop, get_or, add-one, ◌∙◌, suc}
+use Rattle.std.proofs.Common.{arith, ◌≡◌, ℕ, ◌+◌, ◌<◌, ◌≤◌, Bool, List, [], ◌∷◌, ◌++◌, subst, sym, ap, refl, length, drop, get_or, add-one, ◌∙◌, suc}
 use Rattle.std.proofs.Math.Seq.{drop-cons}
 use Rattle.std.proofs.lemmas.List.{drop_all}
 use Rattle.kernele.specs.Tree.{Tree, Trees, none, and_then}
@@ -11,11 +11,10 @@ use Rattle.values.specs.declared.value.Value.{Value}
 use Rattle.erules.specs.At.{At}
 use Rattle.erules.specs.Outcomes.{End, Halt, value, halt, Gather, values, halted}
 use Rattle.erules.specs.Rules.{entering, leaving, again, matched, Ends, at_node, Runs, begun, Args, args_none, args_next, args_halt, Items, items_none, items_next, items_halt, Block, in_block, Taking, in_taking, Each, each_none, each_next, each_halt}
-use Rattle.erules.specs.Locals.{locals_of}
+use Rattle.erules.specs.Locals.{oldest}
 use Rattle.erules.specs.View.{at}
 use Rattle.erules.proofs.Scopes.{truncated}
 use Rattle.erules.proofs.Grown.{Grown, items_grow, taken_grow}
-use Rattle.erules.specs.declared.local.Local.{Local}
 use Rattle.erules.specs.declared.working.Working.{Working}
 use Rattle.kernele.specs.declared.tree.Pattern.{Pattern}
 use Rattle.std.specs.declared.vec.Vec.{Vec}
@@ -118,17 +117,17 @@ pub each : {xs ys : List Code} {k : ℕ} {p : Pattern} {vs ws : List Value} {a b
 each {ys = ys} {k = k} {p = p} {vs = vs} {a = a} {b = b} {o = o} same is r = subst (λ ws. Each k p (trees_of_codes ys) (vals_of ws) a o b) is (subst (λ x. Each k p (trees_of_codes x) (vals_of vs) a o b) same r)
 
 -- the names of a scope are truncated to those from before it
-place_after : (w u : Working) (z : At) (n : ℕ) (own : Bool) → n ≡ length w.nouns.items → own ≡ w.own_scope → Grown (at w) (at u) → z ≡ record (at u) { nouns = locals_of (take n u.nouns.items); own_scope = own } → z ≡ leaving (at w) (at u)
-place_after w u z n own e f g h = h ∙ (λ i. record (at u) { nouns = truncated w.nouns.items u.nouns.items n e g i; own_scope = f i })
+place_after : (w u : Working) (z : At) (n : ℕ) (own : Bool) → n ≡ length (at w).nouns → own ≡ w.own_scope → Grown (at w) (at u) → z ≡ record (at u) { nouns = oldest n (at u).nouns; own_scope = own } → z ≡ leaving (at w) (at u)
+place_after w u z n own e f g h = h ∙ (λ i. record (at u) { nouns = truncated (at w).nouns (at u).nouns n e g i; own_scope = f i })
 
 -- a block's scope ends
-pub block_end : {k : ℕ} {ts : Trees} (w u : Working) {b z : At} {n : ℕ} {own : Bool} {o : End} → n ≡ length w.nouns.items → own ≡ w.own_scope → b ≡ entering (at w) → Items k null ts b o (at u) → z ≡ record (at u) { nouns = locals_of (take n u.nouns.items); own_scope = own } → Block k ts (at w) o z
+pub block_end : {k : ℕ} {ts : Trees} (w u : Working) {b z : At} {n : ℕ} {own : Bool} {o : End} → n ≡ length (at w).nouns → own ≡ w.own_scope → b ≡ entering (at w) → Items k null ts b o (at u) → z ≡ record (at u) { nouns = oldest n (at u).nouns; own_scope = own } → Block k ts (at w) o z
 block_end {k = k} {ts = ts} w u {z = z} {n = n} {own = own} {o = o} e f q r h =
     let s : Items k null ts (entering (at w)) o (at u) = subst (λ x. Items k null ts x o (at u)) q r in
     subst (λ x. Block k ts (at w) o x) (sym (place_after w u z n own e f (items_grow s) h)) (in_block s)
 
 -- the same of a block that takes a value
-pub taking_end : {k : ℕ} {ts : Trees} (p : Pattern) (v : Val) (w u : Working) {b c z : At} {n : ℕ} {own : Bool} {o : End} → n ≡ length w.nouns.items → own ≡ w.own_scope → b ≡ entering (at w) → c ≡ matched p v b → Items k null ts c o (at u) → z ≡ record (at u) { nouns = locals_of (take n u.nouns.items); own_scope = own } → Taking k p v ts (at w) o z
+pub taking_end : {k : ℕ} {ts : Trees} (p : Pattern) (v : Val) (w u : Working) {b c z : At} {n : ℕ} {own : Bool} {o : End} → n ≡ length (at w).nouns → own ≡ w.own_scope → b ≡ entering (at w) → c ≡ matched p v b → Items k null ts c o (at u) → z ≡ record (at u) { nouns = oldest n (at u).nouns; own_scope = own } → Taking k p v ts (at w) o z
 taking_end {k = k} {ts = ts} p v w u {z = z} {n = n} {own = own} {o = o} e f q m r h =
     let s : Items k null ts (matched p v (entering (at w))) o (at u) = subst (λ x. Items k null ts x o (at u)) (m ∙ ap (matched p v) q) r in
     subst (λ x. Taking k p v ts (at w) o x) (sym (place_after w u z n own e f (taken_grow p v (entering (at w)) s) h)) (in_taking s)
@@ -148,10 +147,9 @@ pub each_end : {k : ℕ} {p : Pattern} {ts : Trees} (xs : List Value) {i : ℕ} 
 each_end {k = k} {p = p} {ts = ts} xs {i = i} {a = a} h = subst (λ ys. Each k p ts (vals_of ys) a (value null) a) (sym (drop_all i xs h)) each_none
 
 -- what the next rounds of a While give, where the names are those of this round's beginning
-pub next_round : {k : ℕ} {t : Tree} (w u : Working) {zs : List Local} {n : ℕ} {p : End} {e : At} → n ≡ length w.nouns.items → Grown (at w) (at u) → zs ≡ take n u.nouns.items → Runs k t (record (at u) { nouns = locals_of zs }) p e → Runs k t (again (at w) (at u)) p e
+pub next_round : {k : ℕ} {t : Tree} (w u : Working) {b : At} {n : ℕ} {p : End} {e : At} → n ≡ length (at w).nouns → Grown (at w) (at u) → b ≡ record (at u) { nouns = oldest n (at u).nouns } → Runs k t b p e → Runs k t (again (at w) (at u)) p e
 next_round {k = k} {t = t} w u {n = n} {p = p} {e = e} l g h r =
-    subst (λ ns. Runs k t (record (at u) { nouns = ns }) p e) (truncated w.nouns.items u.nouns.items n l g)
-    (subst (λ zs. Runs k t (record (at u) { nouns = locals_of zs }) p e) h r)
+    subst (λ ns. Runs k t (record (at u) { nouns = ns }) p e) (truncated (at w).nouns (at u).nouns n l g) (subst (λ b. Runs k t b p e) h r)
 
 -- arguments, where their slice is known otherwise
 pub args_as : {xs ys : List Code} {k : ℕ} {a b : At} {g : Gather} → xs ≡ ys → Args k (trees_of_codes xs) a g b → Args k (trees_of_codes ys) a g b

@@ -1,7 +1,7 @@
 // Scopes of blocks: their names end with them.
-ghost use Rattle.std.specs.Prelude.{◌≡◌, length, take};
+ghost use Rattle.std.specs.Prelude.{◌≡◌, length};
 ghost use Rattle.erules.specs.Rules.{entering};
-ghost use Rattle.erules.specs.Locals.{locals_of};
+ghost use Rattle.erules.specs.Locals.{oldest};
 ghost use Rattle.erules.specs.View.{at};
 
 use crate::working::Working;
@@ -14,14 +14,34 @@ pub struct Outer {
     own_scope: bool,
 }
 
+/// How many names are in scope.
+#[inline(always)]
+pub fn count_names(w: &Working) -> usize
+    ensures { result ≡ length (at w.now).nouns }
+{
+    w.older + w.nouns.len()
+}
+
+/// Ends the scope of all names but the oldest ones, as many as this.
+#[inline(always)]
+pub fn keep_names(w: &mut Working, count: usize)
+    ensures place { at w.new ≡ record (at w.old) { nouns = oldest count (at w.old).nouns } }
+    ensures halt { w.new.halt ≡ w.old.halt }
+{
+    if count_names(w) > count {
+        w.older = w.older.min(count);
+        w.nouns.truncate(count - w.older);
+    }
+}
+
 /// Begins a scope of a block's own.
 pub fn enter(w: &mut Working) -> Outer
-    ensures names { result.names ≡ length w.old.nouns.items }
+    ensures names { result.names ≡ length (at w.old).nouns }
     ensures own { result.own_scope ≡ w.old.own_scope }
     ensures place { at w.new ≡ entering (at w.old) }
 {
     let outer = Outer {
-        names: w.nouns.len(),
+        names: count_names(w),
         own_scope: w.own_scope,
     };
     w.own_scope = false;
@@ -30,9 +50,9 @@ pub fn enter(w: &mut Working) -> Outer
 
 /// Ends a block's scope.
 pub fn leave(w: &mut Working, outer: Outer)
-    ensures place { at w.new ≡ record (at w.old) { nouns = locals_of (take outer.names w.old.nouns.items); own_scope = outer.own_scope } }
+    ensures place { at w.new ≡ record (at w.old) { nouns = oldest outer.names (at w.old).nouns; own_scope = outer.own_scope } }
     ensures halt { w.new.halt ≡ w.old.halt }
 {
-    w.nouns.truncate(outer.names);
+    keep_names(w, outer.names);
     w.own_scope = outer.own_scope;
 }

@@ -1,5 +1,5 @@
 // Escapes: ejectors are made, end their Escape, and are spent behind it.
-ghost use Rattle.std.specs.Prelude.{◌≡◌, ◌<◌, ◌+◌, IfOk, OnErr, take};
+ghost use Rattle.std.specs.Prelude.{◌≡◌, ◌<◌, ◌+◌, IfOk, OnErr, take, true};
 ghost use Rattle.std.specs.Option.{option_map};
 ghost use Rattle.values.specs.View.{val_of, vals_of};
 ghost use Rattle.erules.specs.Answered.{OnEnd, OnStop};
@@ -90,7 +90,8 @@ fn given(args: &[Value]) -> Result<Option<Value>, AllocError>
 
 /// Sends a value to the Escape of an ejector, if that is being evaluated.
 fn eject(w: &mut Working, ejector: EjId, value: Value) -> Stop
-    ensures { OnStop result w.new (λ h b. (halt h
+    ensures stop { is_open_of ejector (opened_of w.old.opened.items) ≡ true → result ≡ Stop.Halted }
+    ensures end { OnStop result w.new (λ h b. (halt h
         ≡ ejects (is_open_of ejector (opened_of w.old.opened.items)) ejector (val_of value)) × (b ≡ at w.old)) }
 {
     if is_open(&w.opened, ejector) {

@@ -1,5 +1,5 @@
 // How evaluations stop: the reason is put into the turn, and the answer says only that there is one.
-ghost use Rattle.std.specs.Prelude.{◌≡◌, IsOkAnd};
+ghost use Rattle.std.specs.Prelude.{◌≡◌, IfOk, IsOkAnd};
 ghost use Rattle.erules.specs.Answered.{OnStop};
 ghost use Rattle.erules.specs.Outcomes.{thrown, abandoned};
 ghost use Rattle.erules.specs.View.{at, cause_of};
@@ -11,7 +11,8 @@ use std::alloc::AllocError;
 
 /// Throws a problem.
 pub fn throw(w: &mut Working, problem: Text) -> Stop
-    ensures { OnStop result w.new (λ h b. (h ≡ thrown problem) × (b ≡ at w.old)) }
+    ensures stop { result ≡ Stop.Halted }
+    ensures end { OnStop result w.new (λ h b. (h ≡ thrown problem) × (b ≡ at w.old)) }
 {
     w.halt = Halt::Thrown(problem);
     Stop::Halted
@@ -19,7 +20,8 @@ pub fn throw(w: &mut Working, problem: Text) -> Stop
 
 /// Throws the problem that was made, if there was memory for it.
 pub fn throw_made(w: &mut Working, made: Result<Text, AllocError>) -> Stop
-    ensures { OnStop result w.new (λ h b. IsOkAnd made (λ problem. h ≡ thrown problem) × (b ≡ at w.old)) }
+    ensures stop { IfOk made (λ problem. result ≡ Stop.Halted) }
+    ensures end { OnStop result w.new (λ h b. IsOkAnd made (λ problem. h ≡ thrown problem) × (b ≡ at w.old)) }
 {
     match made {
         Ok(problem) => throw(w, problem),
@@ -29,7 +31,8 @@ pub fn throw_made(w: &mut Working, made: Result<Text, AllocError>) -> Stop
 
 /// Abandons the turn.
 pub fn abandon(w: &mut Working, why: Abandon) -> Stop
-    ensures { OnStop result w.new (λ h b. (h ≡ abandoned (cause_of why)) × (b ≡ at w.old)) }
+    ensures stop { result ≡ Stop.Halted }
+    ensures end { OnStop result w.new (λ h b. (h ≡ abandoned (cause_of why)) × (b ≡ at w.old)) }
 {
     w.halt = Halt::Abandoned(why);
     Stop::Halted

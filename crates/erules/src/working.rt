@@ -1,11 +1,14 @@
 // What a turn works on.
-ghost use Rattle.std.specs.Prelude.{◌+◌, ◌≤◌};
+ghost use Rattle.std.specs.Prelude.{◌+◌, ◌≤◌, length};
+ghost use Rattle.erules.specs.Locals.{captured_in};
 
 use crate::end::Halt;
 use crate::local::Local;
 use heap::draft::Draft;
+use heap::state::Noun;
 use ids::names::EjId;
 use std::alloc::Global;
+use std::sync::Arc;
 
 /// The deepest level at which a node may begin.
 pub const DEEPEST: u32 = 1000;
@@ -19,7 +22,11 @@ pub struct Working {
     pub draft: Draft,
     /// Whether the innermost scope is the script's own.
     pub own_scope: bool,
-    /// The names of the scopes entered so far, the newest last.
+    /// The names that the object of the method under way captured, the newest last, if it captured any. Outside of methods there are none.
+    pub captured: Option<Arc<Vec<Noun>>>,
+    /// How many of them are in scope: from the oldest on, and in a method all.
+    pub older: usize,
+    /// The names of the scopes entered so far, the newest last. They are newer than those that were captured.
     pub nouns: Vec<Local>,
     /// Emptied frames, which the methods that are entered next can have.
     pub spare: Vec<Vec<Local>>,
@@ -31,5 +38,6 @@ pub struct Working {
     pub opened: Vec<EjId>,
     /// Why the last evaluation that was halted has no value.
     pub halt: Halt,
+    pub ghost within: { older ≤ length (captured_in captured) },
     pub ghost counted: { ejectors + steps ≤ 4294967295 },
 }

@@ -5,7 +5,6 @@ use Rattle.erules.specs.At.{At}
 use Rattle.erules.specs.Answered.{OnStop}
 use Rattle.erules.specs.Outcomes.{Halt, halt, abandoned, budget_spent, too_deep}
 use Rattle.erules.specs.Rules.{begun, Ends, at_budget, at_depth}
-use Rattle.erules.specs.View.{at, halt_of}
 use Rattle.erules.specs.declared.end.Stop.{Stop}
 use Rattle.erules.specs.declared.end.Stop.TheVariants as stop
 use Rattle.erules.specs.declared.working.Working.{Working}

@@ -14,7 +14,8 @@ use Rattle.erules.specs.At.{At}
 use Rattle.values.specs.declared.value.Value.{Value}
 use Rattle.erules.specs.Outcomes.{End, Halt, value, halt, Gather, halted}
 use Rattle.erules.specs.Rules.{Target, inside, leaving, gives, enters, target_of, called, next_ejector, escaping, escape_end, Ends, Runs, run_call_gives, run_call_enters, run_escape, Args, Items, Taking}
-use Rattle.erules.specs.Locals.{locals_of}
+use Rattle.heap.specs.declared.state.Noun.{Noun}
+use Rattle.erules.specs.Locals.{captured_in, names_in}
 use Rattle.erules.specs.View.{at, opened_of}
 use Rattle.erules.specs.declared.local.Local.{Local}
 use Rattle.erules.specs.declared.end.Stop.{Stop}
@@ -32,9 +33,9 @@ use Rattle.eval.specs.Leading.{Leads}
 abbrev pub Enters : ℕ → Trees → Nouns → At → End → At → Type 0
 Enters k ts ns a o z = (d : At) × Items k null ts (inside ns a) o d × (z ≡ leaving a d)
 
-pub entered : {k : ℕ} {ts bodies : Trees} {o : End} → bodies ≡ ts → (ns : Nouns) (w u : Working) {b z : At} {names : List Local} {own : Bool} → names ≡ w.nouns.items → own ≡ w.own_scope → b ≡ inside ns (at w) → Items k null bodies b o (at u)
-    → z ≡ record (at u) { nouns = locals_of names; own_scope = own } → Enters k ts ns (at w) o z
-entered {k = k} {ts = ts} {o = o} d ns w u {b = b} e f q r h = (at u, subst (λ x. Items k null ts x o (at u)) q (subst (λ us. Items k null us b o (at u)) d r), h ∙ (λ i. record (at u) { nouns = locals_of (e i); own_scope = f i }))
+pub entered : {k : ℕ} {ts bodies : Trees} {o : End} → bodies ≡ ts → (ns : Nouns) (w u : Working) {b z : At} {captured : List Noun} {older : ℕ} {names : List Local} {own : Bool} → captured ≡ captured_in w.captured → older ≡ w.older → names ≡ w.nouns.items → own ≡ w.own_scope → b ≡ inside ns (at w) → Items k null bodies b o (at u)
+    → z ≡ record (at u) { nouns = names_in captured older names; own_scope = own } → Enters k ts ns (at w) o z
+entered {k = k} {ts = ts} {o = o} d ns w u {b = b} p n e f q r h = (at u, subst (λ x. Items k null ts x o (at u)) q (subst (λ us. Items k null us b o (at u)) d r), h ∙ (λ i. record (at u) { nouns = names_in (p i) (n i) (e i); own_scope = f i }))
 
 -- a call reads no name: behind it are those of before
 left_behind : (v : Val) (g : Gather) (y c d : At) → y ≡ called v g c → leaving y d ≡ leaving c d

@@ -1,5 +1,5 @@
 -- A For over the items of its list.
-use Rattle.std.proofs.Common.{◌≡◌, ℕ, ◌+◌, List, subst, ap, ◌∙◌}
+use Rattle.std.proofs.Common.{◌≡◌, ℕ, ◌+◌, List, subst}
 use Rattle.kernele.specs.Tree.{Tree, Trees, for_tree}
 use Rattle.kernele.specs.declared.tree.Pattern.{Pattern}
 use Rattle.values.specs.Data.{Vals}

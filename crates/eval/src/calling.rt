@@ -10,7 +10,8 @@ ghost use Rattle.erules.specs.At.{At};
 ghost use Rattle.values.specs.View.{val_of};
 ghost use Rattle.erules.specs.Answered.{OnEnd};
 ghost use Rattle.erules.specs.Rules.{Ends, Runs, Items, Taking, inside, leaving};
-ghost use Rattle.erules.specs.Locals.{locals_of};
+ghost use Rattle.heap.specs.View.{nouns_of};
+ghost use Rattle.erules.specs.Locals.{captured_in, locals_after};
 ghost use Rattle.erules.specs.View.{at};
 ghost use Rattle.eobjects.specs.View.{OnTarget};
 ghost use Rattle.eval.specs.Escaping.{Escapes, IsNewest};
@@ -109,11 +110,15 @@ fn eval_target(
 #[cycle(evaluate)]
 fn eval_method(w: &mut Working, entry: Entry, level: u32, into: &mut Value) -> Result<(), Stop>
     requires { level ≤ 1001 }
-    ensures { OnEnd result into.new w.new (λ o b. (d : At) × Items level null (trees_of_codes entry.body.value.items) (inside (locals_of entry.nouns.items) (at w.old)) o d
+    ensures { OnEnd result into.new w.new (λ o b. (d : At) × Items level null (trees_of_codes entry.body.value.items) (inside (locals_after (nouns_of (captured_in entry.captured)) entry.nouns.items) (at w.old)) o d
         × (b ≡ leaving (at w.old) d)) }
 {
-    let Entry { nouns, body } = entry;
-    let caller = enter_method(w, nouns);
+    let Entry {
+        captured,
+        nouns,
+        body,
+    } = entry;
+    let caller = enter_method(w, captured, nouns);
     let answer = eval_items(w, &body, level, into);
     leave_method(w, caller);
     answer

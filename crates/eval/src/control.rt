@@ -17,7 +17,7 @@ use crate::eval::{eval, eval_items};
 use code::code::Code;
 use eobjects::nouns::match_pattern;
 use eobjects::quick::{quick_truth, run_settings};
-use erules::blocks::{enter, leave};
+use erules::blocks::{count_names, enter, keep_names, leave};
 use erules::end::Stop;
 use erules::wanted::{caught, choose, items_of};
 use erules::working::Working;
@@ -60,7 +60,7 @@ pub(crate) fn eval_while(
     ensures { OnEnd result into.new w.new (Runs level (while_tree (tree_of_code condition.now.value)
         (trees_of_codes body.now.value.items)) (at w.old)) }
 {
-    let names = w.nouns.len();
+    let names = count_names(w);
     'rounds: loop {
         let holds = eval_condition(w, condition, level + 1, into)?;
         if !holds {
@@ -69,7 +69,7 @@ pub(crate) fn eval_while(
         }
         run_block(w, body, level + 1, into)?;
         // Names that the condition defined are not in scope at its next time.
-        w.nouns.truncate(names);
+        keep_names(w, names);
     }
 }
 

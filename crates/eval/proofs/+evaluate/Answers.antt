@@ -1,4 +1,4 @@
-use Rattle.std.proofs.Common.{◌≡◌, rules, arith, ap, ◌∙◌, ◌+◌, ◌-◌, refl, sym, subst, length, take, drop, ◌++◌, ◌∷◌, []}
+use Rattle.std.proofs.Common.{◌≡◌, rules, arith, ap, ◌∙◌, ◌+◌, ◌-◌, refl, sym, subst, length, ◌++◌, ◌∷◌, []}
 use Rattle.code.specs.View.{tree_of_code, trees_of_codes}
 use Rattle.code.proofs.Views.{tree_of_code-Call, tree_of_code-List, tree_of_code-Hide, tree_of_code-If, tree_of_code-While, tree_of_code-For, tree_of_code-Try, tree_of_code-Object, tree_of_code-Escape}
 use Rattle.kernele.specs.declared.tree.Pattern.TheVariants as pattern
@@ -6,6 +6,7 @@ use Rattle.values.specs.Replies.{list_reply, text_reply}
 use Rattle.values.specs.View.{val_of, vals_of}
 use Rattle.erules.specs.At.{At}
 use Rattle.erules.specs.Outcomes.{halt, halted, value, values, reply_end}
+use Rattle.erules.specs.Locals.{captured_in}
 use Rattle.erules.specs.View.{at, halt_of}
 use Rattle.eobjects.specs.View.{entered_or}
 use Rattle.eval.specs.Escaping.{Escapes}
@@ -13,24 +14,22 @@ use Rattle.eval.specs.Leading.{Leads}
 use Rattle.code.specs.View.{methods_of_codes}
 use Rattle.kernele.specs.Tree.{list_tree}
 use Rattle.eval.specs.Sides.{taken_at, taken_end}
-use Rattle.erules.specs.Rules.{begun, noun_end, noun_read, sought, object_end, with_object, capture_of, capturing, Ends, Runs, Args, Items, Block, Taking, Each, at_node, gives, escape_end, choice_of, ends, listing_of, unlisted, run_null, run_bool, run_int, run_text, run_noun, run_call_receiver, run_list, run_same_left, run_same, goes, run_hide, run_if_goes, run_if_ends, run_while_again, run_while_halts, run_while_done, run_while_ends, run_for, run_for_ends, run_try, run_try_caught, run_object, args_halt}
+use Rattle.erules.specs.Rules.{begun, noun_end, noun_read, sought, object_end, with_object, capture_of, capturing, Ends, Runs, Args, Items, Block, Taking, at_node, gives, escape_end, choice_of, ends, listing_of, unlisted, run_null, run_bool, run_int, run_text, run_noun, run_call_receiver, run_list, run_same_left, run_same, goes, run_hide, run_if_goes, run_if_ends, run_while_again, run_while_halts, run_while_done, run_while_ends, run_for_ends, run_try, run_try_caught, run_object, args_halt}
 use Rattle.erules.proofs.Answering.{ends_weaker, ends_on, handed_on, ends_over, of_halted}
-use Rattle.erules.proofs.Steps.{node, child, slice_of, runs_as, runs_to, ends_to, args_as, args_begin, args_pushed, args_more, args_no_more, args_end, args_done, only_one, one_arg, items_more, items_no_more, items_end, blocks, taking, each, block_end, taking_end, each_more, each_no_more, each_end, next_round}
+use Rattle.erules.proofs.Steps.{node, child, slice_of, runs_as, runs_to, ends_to, args_as, args_begin, args_pushed, args_more, args_no_more, args_end, args_done, only_one, one_arg, items_more, items_no_more, items_end, blocks, taking, block_end, taking_end, each_more, each_no_more, each_end, next_round}
 use Rattle.values.specs.Data.{bool, ejector, null}
 use Rattle.eval.proofs.Choosing.{chosen}
 use Rattle.eval.proofs.Repeating.{for_runs}
 use Rattle.eval.proofs.Beginning.{no_steps, no_level}
 use Rattle.eval.proofs.Unwanted.{all_done, done_then, some_over, to_the_end}
 use Rattle.eval.proofs.Entered.{Enters, call_leads, call_halts, entered, call_as, call_given, call_entered, as_many, escape_over}
-use Rattle.erules.proofs.Scopes.{truncated, truncated-length}
+use Rattle.erules.proofs.Scopes.{truncated}
 use Rattle.erules.proofs.Added.{goes_add, block_stays, taking_stays}
 use Rattle.erules.proofs.Fitting.{fits_then, all_fit_then, chosen_fits, repeated_fits, parts_fit, block_fits, entry_fits, round_fits, fits_from}
 use Rattle.code.proofs.Fitting.{fits-Call, fits-List, fits-Hide, fits-If, fits-While, fits-For, fits-Try, fits-Object, fits-Escape}
 use Rattle.code.specs.Frames.{only_names}
 use Rattle.scopes.specs.Scope.{name_of}
 use Rattle.heap.specs.State.{frame_of}
-use Rattle.heap.specs.Drafts.{draft_of}
-use Rattle.erules.specs.Locals.{locals_of}
 use Rattle.erules.specs.Fits.{fits_at, all_fit_at}
 use Rattle.erules.proofs.Grown.{round_grow}
 use Rattle.erules.proofs.Spent.{condition_less, block_left}
@@ -39,10 +38,10 @@ use Rattle.eval.proofs.Sides.{runs_right, halts_right, right_fits, right_placed,
 use Rattle.eval.proofs.+evaluate.Goals as goal
 
 pub eval::eval-returns-then-w-eq0 : goal.eval::eval-returns-then-w-eq0
-eval::eval-returns-then-w-eq0 t c = no_steps c.abandon.result c.abandon.new.w _ _ _ (search rules) c.abandon.ensures
+eval::eval-returns-then-w-eq0 t c = no_steps c.abandon.result c.abandon.new.w _ _ _ (search rules) c.abandon.ensures.end
 
 pub eval::eval-returns-then-level-gt-DEEPEST : goal.eval::eval-returns-then-level-gt-DEEPEST
-eval::eval-returns-then-level-gt-DEEPEST t c = no_level c.abandon-then-level-gt-DEEPEST.result c.abandon-then-level-gt-DEEPEST.new.w _ _ (at c.args.w.now) (omega arith) c.if-level-gt-DEEPEST.true c.abandon-then-level-gt-DEEPEST.ensures
+eval::eval-returns-then-level-gt-DEEPEST t c = no_level c.abandon-then-level-gt-DEEPEST.result c.abandon-then-level-gt-DEEPEST.new.w _ _ (at c.args.w.now) (omega arith) c.if-level-gt-DEEPEST.true c.abandon-then-level-gt-DEEPEST.ensures.end
 
 pub eval::eval-returns-in-Null : goal.eval::eval-returns-in-Null
 eval::eval-returns-in-Null t c = node c.args.e.now (ap tree_of_code c.in-Null.is) run_null (omega arith) c.if-level-gt-DEEPEST.false
@@ -231,10 +230,10 @@ calling::eval_target-returns t c =
     (subst (λ xs. Args c.args.level (trees_of_codes c.args.args.now) (at c.args.w.now) (values (vals_of xs)) (at c.eval_args.new.w)) (sym c.deref_mut.ensures.value) c.in_ok-values.ensures) c.call_target-2.ensures
 
 pub calling::eval_method-returns : goal.calling::eval_method-returns
-calling::eval_method-returns t c = ends_over c.eval_items-answer.result c.eval_items-answer.new.into c.eval_items-answer.new.w c.leave_method.new.w (Items c.args.level _ _ _) (Enters c.args.level _ _ _) c.leave_method.ensures.halt c.eval_items-answer.ensures (λ o r. entered (ap trees_of_codes (slice_of c.deref-2.ensures.value c.deref.ensures)) _ c.args.w.now c.eval_items-answer.new.w (ap (λ v. v.items) c.enter_method-caller.ensures.names) c.enter_method-caller.ensures.own c.enter_method-caller.ensures.place r c.leave_method.ensures.place)
+calling::eval_method-returns t c = ends_over c.eval_items-answer.result c.eval_items-answer.new.into c.eval_items-answer.new.w c.leave_method.new.w (Items c.args.level _ _ _) (Enters c.args.level _ _ _) c.leave_method.ensures.halt c.eval_items-answer.ensures (λ o r. entered (ap trees_of_codes (slice_of c.deref-2.ensures.value c.deref.ensures)) _ c.args.w.now c.eval_items-answer.new.w c.enter_method-caller.ensures.captured c.enter_method-caller.ensures.older (ap (λ v. v.items) c.enter_method-caller.ensures.names) c.enter_method-caller.ensures.own c.enter_method-caller.ensures.place r c.leave_method.ensures.place)
 
 pub calling::eval_method-eval_items-answer-requires : goal.calling::eval_method-eval_items-answer-requires
-calling::eval_method-eval_items-answer-requires t c = (search rules, (search rules, entry_fits c.args.entry.nouns.items (at c.args.w.now) _ c.enter_method-caller.ensures.place (slice_of c.deref-2.ensures.value c.deref.ensures) c.args.entry.fits))
+calling::eval_method-eval_items-answer-requires t c = (search rules, (search rules, entry_fits (captured_in c.args.entry.captured) c.args.entry.nouns.items (at c.args.w.now) _ c.enter_method-caller.ensures.place (slice_of c.deref-2.ensures.value c.deref.ensures) c.args.entry.fits))
 
 pub calling::eval_escape-eval_naming-answer-requires : goal.calling::eval_escape-eval_naming-answer-requires
 calling::eval_escape-eval_naming-answer-requires t c = (search rules, (search rules, (block_fits (slice_of c.deref-2.ensures.value c.deref.ensures) (ap (λ (a : At). frame_of a.nouns ++ c.args.name.now ∷ []) c.in_ok-ejector.ensures.place) c.requires.fits, newest_begun _ (at c.args.w.now) _ c.in_ok-ejector.ensures.named c.in_ok-ejector.ensures.place)))
@@ -313,15 +312,16 @@ control::eval_while-returns-in_err-run_block t c = ends_on c.from_residual-in_er
 pub control::eval_while-rounds-preserved : goal.control::eval_while-rounds-preserved
 control::eval_while-rounds-preserved t c =
     let ended = c.in_ok-run_block.ensures.1 in
-    let g = round_grow c.in_ok-holds.ensures.1 ended in (
-      λ o b h. c.rounds.invariant.0 _ _ (run_while_again (child c.deref.ensures c.in_ok-holds.ensures.1) (c.in_ok-holds.ensures.2 ∙ ap goes c.if-not-holds.false) (blocks (slice_of c.deref-in-rounds-2.ensures.value c.deref-in-rounds.ensures) ended) (next_round c.rounds.w c.run_block.new.w c.rounds.invariant.1 g c.truncate.ensures.items h)),
-      truncated-length c.rounds.w.nouns.items c.run_block.new.w.nouns.items c.len-names.result c.rounds.invariant.1 g ∙ ap length (sym c.truncate.ensures.items),
-      round_fits (at c.rounds.w) (record (at c.run_block.new.w) { nouns = locals_of c.truncate.new.self.items }) c.args.condition.now.value c.args.body.now.value.items (ap locals_of c.truncate.ensures.items ∙ truncated c.rounds.w.nouns.items c.run_block.new.w.nouns.items c.len-names.result c.rounds.invariant.1 g)
-          ((block_stays ended).1 ∙ (goes_add c.in_ok-holds.ensures.1 c.in_ok-holds.ensures.2).1) c.rounds.invariant.2,
+    let g = round_grow c.in_ok-holds.ensures.1 ended in
+    let kept = ap (λ (b : At). b.nouns) c.keep_names.ensures.place ∙ truncated (at c.rounds.w).nouns (at c.run_block.new.w).nouns c.count_names-names.result c.rounds.invariant.1 g in (
+      λ o b h. c.rounds.invariant.0 _ _ (run_while_again (child c.deref.ensures c.in_ok-holds.ensures.1) (c.in_ok-holds.ensures.2 ∙ ap goes c.if-not-holds.false) (blocks (slice_of c.deref-in-rounds-2.ensures.value c.deref-in-rounds.ensures) ended) (next_round c.rounds.w c.run_block.new.w c.rounds.invariant.1 g c.keep_names.ensures.place h)),
+      c.rounds.invariant.1 ∙ ap length (sym kept),
+      round_fits (at c.rounds.w) (at c.keep_names.new.w) c.args.condition.now.value c.args.body.now.value.items kept
+          (ap (λ (b : At). b.own_scope) c.keep_names.ensures.place ∙ (block_stays ended).1 ∙ (goes_add c.in_ok-holds.ensures.1 c.in_ok-holds.ensures.2).1) c.rounds.invariant.2,
     )
 
 pub control::eval_while-rounds-smaller : goal.control::eval_while-rounds-smaller
-control::eval_while-rounds-smaller t c = omega (arith, condition_less c.in_ok-holds.ensures.1 (c.in_ok-holds.ensures.2 ∙ ap goes c.if-not-holds.false), block_left c.in_ok-run_block.ensures.1)
+control::eval_while-rounds-smaller t c = omega (arith, condition_less c.in_ok-holds.ensures.1 (c.in_ok-holds.ensures.2 ∙ ap goes c.if-not-holds.false), block_left c.in_ok-run_block.ensures.1, ap (λ (b : At). b.left) c.keep_names.ensures.place)
 
 pub control::eval_while-eval_condition-requires : goal.control::eval_while-eval_condition-requires
 control::eval_while-eval_condition-requires t c = (search rules, (search rules, subst (fits_at (at c.rounds.w)) (sym c.deref.ensures) c.rounds.invariant.2.0))

@@ -121,7 +121,7 @@ invariant-control::eval_for-loop-value l =
 -- what the rounds from here on give is what all give, and each round begins with as many names, which its parts fit
 abbrev pub invariant-control::eval_while-rounds : goal.invariant-control::eval_while-rounds
 invariant-control::eval_while-rounds l =
-    ((o : End) (b : At) → Runs l.level (while_tree (tree_of_code l.condition.value) (trees_of_codes l.body.value.items)) (at l.w) o b → Runs l.level (while_tree (tree_of_code l.condition.value) (trees_of_codes l.body.value.items)) (at l.initial.w) o b) × (l.names ≡ length l.w.nouns.items)
+    ((o : End) (b : At) → Runs l.level (while_tree (tree_of_code l.condition.value) (trees_of_codes l.body.value.items)) (at l.w) o b → Runs l.level (while_tree (tree_of_code l.condition.value) (trees_of_codes l.body.value.items)) (at l.initial.w) o b) × (l.names ≡ length (at l.w).nouns)
     × (fits_at (at l.w) l.condition.value × fits_all false (frame_behind (at l.w) l.condition.value) l.body.value.items)
 
 abbrev pub decreases-control::eval_while-rounds : goal.decreases-control::eval_while-rounds

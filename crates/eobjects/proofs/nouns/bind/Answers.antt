@@ -1,12 +1,12 @@
-use Rattle.std.proofs.Common.{ap, ◌∷◌, ◌∙◌}
+use Rattle.std.proofs.Common.{ap, take, ◌∷◌, ◌∙◌}
 use Rattle.std.proofs.lemmas.Result.{on_ok_weaker}
 use Rattle.heap.specs.State.{top, bound}
-use Rattle.heap.specs.View.{bind_of}
 use Rattle.heap.specs.Drafts.{draft_of, counts_of, began_with, touched_of, written_of}
-use Rattle.erules.specs.Locals.{locals_of}
+use Rattle.heap.specs.View.{bind_of, nouns_of}
+use Rattle.erules.specs.Locals.{captured_in, locals_after}
 use Rattle.erules.specs.View.{at}
 use Rattle.eobjects.proofs.Drafted.{put_all}
-use Rattle.erules.proofs.Scopes.{locals_of-push, bound_on_top, bound_inside}
+use Rattle.erules.proofs.Scopes.{locals_after-push, bound_on_top, bound_inside}
 use Rattle.eobjects.proofs.nouns.bind.Goals as goal
 
 pub returns-in_ok-share : goal.returns-in_ok-share
@@ -18,5 +18,6 @@ returns-in_ok-share c =
 
 pub returns-in_ok-push : goal.returns-in_ok-push
 returns-in_ok-push c =
+    let older = nouns_of (take c.args.w.now.older (captured_in c.args.w.now.captured)) in
     bound_inside c.args.name.now (bind_of c.args.binding) (at c.args.w.now) _ c.if-w.false
-    (ap locals_of c.in_ok-push.ensures.items ∙ locals_of-push c.args.w.now.nouns.items _ ∙ ap (λ x. (x, bind_of c.args.binding) ∷ locals_of c.args.w.now.nouns.items) c.of-name.ensures)
+    (ap (locals_after older) c.in_ok-push.ensures.items ∙ locals_after-push older c.args.w.now.nouns.items _ ∙ ap (λ x. (x, bind_of c.args.binding) ∷ (at c.args.w.now).nouns) c.of-name.ensures)

@@ -1,4 +1,4 @@
-use Rattle.std.proofs.Common.{◌∙◌, arith, refl, sym, ap}
+use Rattle.std.proofs.Common.{arith, sym, ap}
 use Rattle.heap.specs.Drafts.{draft_of, counts_of, began_with, touched_of, written_of}
 use Rattle.erules.specs.Rules.{variable_end, variable_made}
 use Rattle.erules.specs.View.{at}
@@ -11,7 +11,7 @@ use Rattle.eobjects.proofs.nouns.declare.Goals as goal
 pub returns-then-slot_count-ge-MAX_SLOTS : goal.returns-then-slot_count-ge-MAX_SLOTS
 returns-then-slot_count-ge-MAX_SLOTS c =
     let full = no_room _ (omega (arith, c.if-slot_count-ge-MAX_SLOTS.true)) in
-    halt_to c.abandon.result c.abandon.new.w _ _ _ _ (ap (λ r. variable_end r (val_of c.args.value.now)) (sym full)) (ap (λ r. variable_made r c.args.name.now (val_of c.args.value.now) (at c.args.w.now)) (sym full)) c.abandon.ensures
+    halt_to c.abandon.result c.abandon.new.w _ _ _ _ (ap (λ r. variable_end r (val_of c.args.value.now)) (sym full)) (ap (λ r. variable_made r c.args.name.now (val_of c.args.value.now) (at c.args.w.now)) (sym full)) c.abandon.ensures.end
 
 pub returns : goal.returns
 returns c =

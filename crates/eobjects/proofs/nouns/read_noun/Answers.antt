@@ -1,8 +1,6 @@
 use Rattle.std.proofs.Common.{ap, ◌∙◌, sym, refl, Some}
 use Rattle.heap.specs.View.{bind_of}
 use Rattle.heap.specs.declared.state.Binding.{Binding}
-use Rattle.values.specs.View.{val_of}
-use Rattle.erules.specs.Outcomes.{value}
 use Rattle.erules.specs.View.{at}
 use Rattle.erules.proofs.Answering.{end_to, stop_to}
 use Rattle.eobjects.proofs.Ending.{of_fixed, of_slot, of_none}

@@ -3,7 +3,7 @@ use Rattle.code.specs.Frames.{captured_names_of, only_names, fits_methods}
 use Rattle.code.specs.View.{methods_of_codes}
 use Rattle.scopes.specs.Scope.{name_of}
 use Rattle.scopes.specs.Free.{captures}
-use Rattle.erules.specs.Rules.{captured, all_captured, all_sought, with_object, object_end}
+use Rattle.erules.specs.Rules.{captured, all_captured, all_sought, with_object}
 use Rattle.heap.specs.View.{nouns_of}
 use Rattle.heap.proofs.Names.{frame_of_nouns}
 use Rattle.erules.specs.View.{at}

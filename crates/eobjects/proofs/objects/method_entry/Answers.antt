@@ -1,4 +1,4 @@
-use Rattle.std.proofs.Common.{ap, subst, sym, ◌∙◌, ◌++◌}
+use Rattle.std.proofs.Common.{ap, subst, ◌++◌}
 use Rattle.std.specs.Option.{option_copied}
 use Rattle.code.specs.Frames.{only_names}
 use Rattle.scopes.specs.Scope.{name_of}
@@ -16,5 +16,5 @@ invariant_of-result c =
     let fit = found.fits frame c.args.object.now.fits in
     record {
       fits = method_fits c.in_ok-nouns-in-Some.nouns.items c.args.object.now.captured.value.items c.args.object.now.own (object c.args.id) c.args.args.now
-          c.in_ok-nouns-in-Some.ensures (slice_of c.as_slice.ensures.value c.deref.ensures) found.count (ap (λ v. v.items) c.in_ok-body-in-Some.ensures) fit;
+          c.in_ok-nouns-in-Some.ensures (slice_of c.as_slice.ensures.value c.deref.ensures) found.count c.in_ok-captured-in-Some.ensures (ap (λ v. v.items) c.in_ok-body-in-Some.ensures) fit;
     }

@@ -1,4 +1,4 @@
-use Rattle.std.proofs.Common.{◌≡◌, None, Some, ap, sym, subst, ◌∙◌}
+use Rattle.std.proofs.Common.{◌≡◌, ap, sym, subst, ◌∙◌}
 use Rattle.std.specs.Prelude.{IfNone}
 use Rattle.heap.specs.State.{State, object_cell, read}
 use Rattle.heap.specs.Drafts.{draft_of, counts_of, began_with, touched_of, written_of}

@@ -15,7 +15,7 @@ use Rattle.eobjects.proofs.objects.place.Goals as goal
 pub returns-then-object_count-ge-MAX_OBJECTS : goal.returns-then-object_count-ge-MAX_OBJECTS
 returns-then-object_count-ge-MAX_OBJECTS c =
     let full = no_room _ (omega (arith, c.if-object_count-ge-MAX_OBJECTS.true)) in
-    halt_to c.abandon.result c.abandon.new.w _ _ _ _ (ap (λ r. placed_end r (at c.args.w.now)) (sym full)) (ap (λ r. placed r c.args.pattern.now (record { own = c.args.pattern.now; captured = nouns_of c.args.nouns.items; methods = methods_of_codes c.args.methods.now.value.items }) (at c.args.w.now)) (sym full)) c.abandon.ensures
+    halt_to c.abandon.result c.abandon.new.w _ _ _ _ (ap (λ r. placed_end r (at c.args.w.now)) (sym full)) (ap (λ r. placed r c.args.pattern.now (record { own = c.args.pattern.now; captured = nouns_of c.args.nouns.items; methods = methods_of_codes c.args.methods.now.value.items }) (at c.args.w.now)) (sym full)) c.abandon.ensures.end
 
 pub returns : goal.returns
 returns c =

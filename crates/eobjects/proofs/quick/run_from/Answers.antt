@@ -1,4 +1,4 @@
-use Rattle.std.proofs.Common.{arith, ◌+◌, refl, sym, subst, drop}
+use Rattle.std.proofs.Common.{arith, refl, sym, subst, drop}
 use Rattle.eobjects.specs.Leaves.{GoesOn}
 use Rattle.erules.specs.Fits.{all_fit_at}
 use Rattle.erules.specs.View.{at}

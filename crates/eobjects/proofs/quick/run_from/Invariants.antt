@@ -1,4 +1,4 @@
-use Rattle.std.proofs.Common.{◌≡◌, drop}
+use Rattle.std.proofs.Common.{drop}
 use Rattle.erules.specs.At.{At}
 use Rattle.erules.specs.Fits.{all_fit_at}
 use Rattle.eobjects.specs.Leaves.{GoesOn}

@@ -5,4 +5,4 @@ use Rattle.erules.proofs.Answering.{thrown_end_is}
 use Rattle.erules.proofs.results.give.Goals as goal
 
 pub returns-in-Throws : goal.returns-in-Throws
-returns-in-Throws c = thrown_end_is c.throw.result c.throw.new.w _ _ _ (ap (λ a. reply_end (reply_of a)) (sym c.in-Throws.is)) c.throw.ensures
+returns-in-Throws c = thrown_end_is c.throw.result c.throw.new.w _ _ _ (ap (λ a. reply_end (reply_of a)) (sym c.in-Throws.is)) c.throw.ensures.end

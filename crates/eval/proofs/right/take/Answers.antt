@@ -1,8 +1,7 @@
-use Rattle.std.proofs.Common.{◌≡◌, ◌∙◌, List, ap, sym, subst, refl}
+use Rattle.std.proofs.Common.{◌≡◌, ◌∙◌, List, ap, sym}
 use Rattle.kernele.specs.declared.tree.Pattern.{Pattern}
 use Rattle.code.specs.declared.code.Code.{Code}
 use Rattle.values.specs.View.{val_of}
-use Rattle.erules.specs.Answered.{OnEnd}
 use Rattle.erules.specs.Outcomes.{value}
 use Rattle.erules.specs.Rules.{parts_bound, parts_end, parts_of}
 use Rattle.erules.specs.View.{at}

@@ -5,7 +5,7 @@ use Rattle.erules.specs.View.{at}
 use Rattle.eobjects.specs.Leaves.{StandsAtHand}
 use Rattle.eobjects.proofs.Leaves.{fixed_at_hand}
 use Rattle.eobjects.proofs.Lengthened.{slot_gives}
-use Rattle.eobjects.proofs.growing.value_at_hand.Goals as goal
+use Rattle.eobjects.proofs.quick.value_at_hand.Goals as goal
 
 pub returns-in-Some-Fixed : goal.returns-in-Some-Fixed
 returns-in-Some-Fixed c = fixed_at_hand c.args.name.now _ (at c.args.w.now) (subst (λ (b : Binding). StandsAtHand c.args.name.now (bind_of b) (at c.args.w.now)) c.in-Some-Fixed.field-0-is c.in-Some-Fixed.ensures)
