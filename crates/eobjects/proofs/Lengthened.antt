@@ -7,7 +7,7 @@ use Rattle.std.proofs.Common.{append-nil}
 use Rattle.code.specs.Frames.{Frame, behind, after, fits_all}
 use Rattle.code.specs.declared.code.Code.{Code}
 use Rattle.erules.specs.Fits.{all_fit_at, frame_at, frame_behind}
-use Rattle.values.specs.Data.{Val, Vals, null, bool, int, text, list, object, ejector, broken, no_vals, and_val, gives}
+use Rattle.values.specs.Data.{Val, Vals, null, bool, int, text, list, object, ejector, promise, broken, no_vals, and_val, gives}
 use Rattle.values.specs.Replies.{data_reply, text_reply}
 use Rattle.values.specs.View.{val_of}
 use Rattle.values.specs.declared.value.Value.{Value}
@@ -35,6 +35,7 @@ datum (text s) verb vs w h = refl
 datum (list us) verb vs w h = refl
 datum (object o) verb vs w h = absurd (cc)
 datum (ejector j) verb vs w h = absurd (cc)
+datum (promise p) verb vs w h = refl
 datum (broken p) verb vs w h = refl
 
 -- a call on leaves of any kind

@@ -76,6 +76,7 @@ fn called_on(value: &Value) -> Callee
         | Value::Int(_)
         | Value::Text(_)
         | Value::List(_)
+        | Value::Promise(_)
         | Value::Broken(_) => Callee::Datum,
     }
 }

@@ -9,7 +9,7 @@ use Rattle.scopes.specs.declared.naming.TopName.{TopName}
 use Rattle.kernele.specs.declared.tree.Pattern.{Pattern}
 use Rattle.kernele.specs.declared.tree.Pattern.TheVariants as pattern
 use Rattle.code.specs.Frames.{Frame, only_names, behind}
-use Rattle.values.specs.Data.{Val, null, bool, int, text, list, broken, object, ejector, Vals, no_vals, and_val}
+use Rattle.values.specs.Data.{Val, null, bool, int, text, list, broken, object, ejector, promise, Vals, no_vals, and_val}
 use Rattle.values.specs.Replies.{items_in, list_reply, text_in}
 use Rattle.heap.specs.State.{Bind, fixed, slot, Object, frame_of}
 use Rattle.erules.specs.At.{At}
@@ -120,6 +120,7 @@ mismatch_adds words (text s) ts a b = tt
 mismatch_adds words (list vs) ts a b = tt
 mismatch_adds words (object i) ts a b = tt
 mismatch_adds words (ejector j) ts a b = tt
+mismatch_adds words (promise p) ts a b = tt
 mismatch_adds words (broken problem) ts a b = tt
 
 counted_adds : (ps : List Pattern) (v : Val) (vs : Vals) (q : Bool) (a : At) → as_many ps vs ≡ q

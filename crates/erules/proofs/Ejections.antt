@@ -7,9 +7,9 @@ use Rattle.ids.specs.declared.names.ObjId.{ObjId}
 use Rattle.ids.specs.declared.names.SlotId.{SlotId}
 use Rattle.kernele.specs.Tree.{Name, Tree, Trees}
 use Rattle.kernele.specs.declared.tree.Pattern.{Pattern}
-use Rattle.values.specs.Data.{Val, null, bool, int, text, list, object, ejector, broken, Vals, Reply, gives as gives_reply, throws}
+use Rattle.values.specs.Data.{Val, null, bool, int, text, list, object, ejector, promise, broken, Vals, Reply, gives as gives_reply, throws}
 use Rattle.values.specs.Replies.{data_reply, list_reply, text_reply, text_in, items_in, no_method}
-use Rattle.heap.specs.State.{Bind, fixed, slot, Object, slot_cell, object_cell, Content, bound, held, made, State, read}
+use Rattle.heap.specs.State.{Bind, fixed, slot, Object, slot_cell, object_cell, Content, bound, held, made, viewed, fenced, State, read}
 use Rattle.erules.specs.At.{At}
 use Rattle.erules.specs.Outcomes.{thrown, ejected, abandoned, End, value, halt, Gather, values, halted, reply_end}
 use Rattle.erules.specs.Rules.{sought, sought_slot, held_end, noun_end, mismatch, Listing, listed, unlisted, listing_by, listing_of, taken, parts_of, parts_end, has_room, variable_end, declared_end, assigned_end, gather_first}
@@ -51,6 +51,8 @@ held_inside : (x : Name) (c : Option Content) (js : List EjId) → Inside (held_
 held_inside x (Some (bound b)) js = tt
 held_inside x (Some (held v)) js = tt
 held_inside x (Some (made o)) js = tt
+held_inside x (Some (viewed k)) js = tt
+held_inside x (Some (fenced names)) js = tt
 held_inside x None js = tt
 
 noun_inside : (s : State) (x : Name) (m : Option Bind) (js : List EjId) → Inside (noun_end s x m) js
@@ -66,6 +68,7 @@ mismatch_inside words (text s) js = tt
 mismatch_inside words (list vs) js = tt
 mismatch_inside words (object i) js = tt
 mismatch_inside words (ejector j) js = tt
+mismatch_inside words (promise p) js = tt
 mismatch_inside words (broken problem) js = tt
 
 variable_inside : (room : Bool) (v : Val) (js : List EjId) → Inside (variable_end room v) js
@@ -154,6 +157,8 @@ called_inside : (i : ObjId) (c : Option Content) (verb : Name) (vs : Vals) (js :
 called_inside i (Some (made o)) verb vs js = method_inside i o verb vs (method_in o.methods verb vs) js
 called_inside i (Some (bound b)) verb vs js = reply_inside (no_method verb vs) js
 called_inside i (Some (held v)) verb vs js = reply_inside (no_method verb vs) js
+called_inside i (Some (viewed k)) verb vs js = reply_inside (no_method verb vs) js
+called_inside i (Some (fenced names)) verb vs js = reply_inside (no_method verb vs) js
 called_inside i None verb vs js = reply_inside (no_method verb vs) js
 
 callee_inside : (m : Callee) (v : Val) (verb : Name) (vs : Vals) (a : At) → TargetInside (callee_target m v verb vs a) a.opened

@@ -1,11 +1,6 @@
 -- In a state that agrees on the cells touched, a tree ends the same and touches the same cells.
 use Rattle.std.proofs.Common.{◌≡◌, ℕ, ◌+◌, List, [], ◌∷◌, Option, Some, None, Bool, true, false, cond, refl, sym, ap, ◌∙◌, subst}
 use Rattle.std.proofs.lemmas.Bool.{or_left}
-use Rattle.std.proofs.lemmas.Slice.Eq.{bytes_eq-Decides}
-use Rattle.std.specs.Ordering.{is_eq, ordering_reverse}
-use Rattle.std.specs.declared.cmp.Ordering.{Ordering}
-use Rattle.std.specs.declared.cmp.Ordering.TheVariants.{Less, Equal, Greater}
-use Rattle.ids.specs.Cells.{slot_cmp, object_cmp}
 use Rattle.ids.specs.declared.names.SlotId.{SlotId}
 use Rattle.kernele.specs.Tree.{Name, Tree, Trees, noun, assign, object_tree, Methods}
 use Rattle.scopes.specs.Free.{captures}
@@ -13,7 +8,7 @@ use Rattle.kernele.specs.declared.tree.Pattern.{Pattern}
 use Rattle.kernele.specs.declared.tree.Pattern.TheVariants as pattern
 use Rattle.values.specs.Data.{Val, null, object, Vals, no_vals, and_val}
 use Rattle.heap.specs.State.{Bind, Nouns, fixed, slot, lookup, Object, Cell, top, slot_cell, object_cell, Content, bound, held, made, same_cell, State, write, Cells}
-use Rattle.heap.proofs.Cells.{slot_cmp_total, object_cmp_total}
+use Rattle.heap.proofs.Reaching.{cell_self}
 use Rattle.erules.specs.At.{At}
 use Rattle.erules.specs.Outcomes.{End, value, halt, Gather, values, halted}
 use Rattle.erules.specs.Rules.{reached, put, sought_in, seeking, slot_read, slot_put, noun_read, Listing, listed, unlisted, parts_of, parts_bound, matched_all, top_bind, found, sought, slot_in, sought_slot, held_end, noun_end, bound_in, defined, next_slot, has_room, slot_made, variable_made, declared, declared_end, assigned, assigned_end, matched}
@@ -73,19 +68,9 @@ module _ (w : State) where
   behind : {q : Cells} (u s v t : State) → ((c : Cell) → u c ≡ s c → v c ≡ t c) → AgreeOn q u s → AgreeOn q v t
   behind u s v t kept h = λ c e. kept c (h c e)
 
-  its_own : (o : Ordering) → o ≡ ordering_reverse o → is_eq o ≡ true
-  its_own Less e = absurd (cc)
-  its_own Equal e = refl
-  its_own Greater e = absurd (cc)
-
-  same_itself : (c : Cell) → same_cell c c ≡ true
-  same_itself (top x) = (bytes_eq-Decides x x).1 refl
-  same_itself (slot_cell i) = its_own (slot_cmp i i) (slot_cmp_total.antisymm i i)
-  same_itself (object_cell i) = its_own (object_cmp i i) (object_cmp_total.antisymm i i)
-
   -- states agree on a cell that was reached
   on_reached : (c : Cell) (a : At) (u t : State) → AgreeOn (reached c a).touched u t → u c ≡ t c
-  on_reached c a u t h = h c (or_left (same_cell c c) (a.touched c) (same_itself c))
+  on_reached c a u t h = h c (or_left (same_cell c c) (a.touched c) (cell_self c))
 
   -- ---- what follows alike
 

@@ -36,9 +36,7 @@ undefined_noun x = halt (thrown (codes "undefined noun " ++ x))
 -- what a top noun's cell says that its name stands for
 abbrev pub top_bind : Option Content → Option Bind
 top_bind (Some (bound b)) = Some b
-top_bind (Some (held v)) = None
-top_bind (Some (made o)) = None
-top_bind None = None
+top_bind _ = None
 
 -- what a name stands for: its own meaning in the scopes, else the vat's top noun of that name
 abbrev pub found : State → Name → Option Bind → Option Bind
@@ -68,9 +66,7 @@ sought_slot x a = slot_in (sought x a)
 -- what a slot's cell gives; a turn never finds it empty
 abbrev pub held_end : Name → Option Content → End
 held_end x (Some (held v)) = value v
-held_end x (Some (bound b)) = undefined_noun x
-held_end x (Some (made o)) = undefined_noun x
-held_end x None = undefined_noun x
+held_end x _ = undefined_noun x
 
 -- a noun's value, by what it stands for: a slot gives what it holds
 abbrev pub noun_end : State → Name → Option Bind → End
@@ -298,9 +294,7 @@ method_target i o verb vs None = gives (no_such_method verb vs)
 -- a call on an object, by what its cell holds
 abbrev pub object_target : ObjId → Option Content → Name → Vals → Target
 object_target i (Some (made o)) verb vs = method_target i o verb vs (method_in o.methods verb vs)
-object_target i (Some (bound b)) verb vs = gives (no_such_method verb vs)
-object_target i (Some (held v)) verb vs = gives (no_such_method verb vs)
-object_target i None verb vs = gives (no_such_method verb vs)
+object_target i _ verb vs = gives (no_such_method verb vs)
 
 abbrev pub same_ejector : EjId → EjId → Bool
 same_ejector i j = is_eq (ejector_cmp i j)

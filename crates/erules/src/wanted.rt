@@ -36,7 +36,8 @@ fn mismatch_problem(alloc: Global, words: &str, value: &Value) -> Result<Text, A
         | Value::Text(_)
         | Value::List(_)
         | Value::Object(_)
-        | Value::Ejector(_) => Text::new(alloc, words),
+        | Value::Ejector(_)
+        | Value::Promise(_) => Text::new(alloc, words),
     }
 }
 
@@ -52,6 +53,7 @@ fn as_bool(value: &Value) -> Option<bool>
         | Value::List(_)
         | Value::Object(_)
         | Value::Ejector(_)
+        | Value::Promise(_)
         | Value::Broken(_) => None,
     }
 }
@@ -79,6 +81,7 @@ fn shared_items(value: &Value) -> Result<Option<Arc<Items>>, AllocError>
         | Value::Text(_)
         | Value::Object(_)
         | Value::Ejector(_)
+        | Value::Promise(_)
         | Value::Broken(_) => Ok(None),
     }
 }
@@ -114,6 +117,7 @@ fn thrown_problem(alloc: Global, value: &Value) -> Result<Text, AllocError>
         | Value::List(_)
         | Value::Object(_)
         | Value::Ejector(_)
+        | Value::Promise(_)
         | Value::Broken(_) => mismatch_problem(alloc, "not a text", value),
     }
 }

@@ -19,7 +19,8 @@ use Rattle.post.specs.World.{Vat, Place, at_vat, done, Message, Content, World, 
 use Rattle.event.specs.Touched.{delivery_touched, delivery_written}
 use Rattle.event.specs.Events.{Foot, Turn, Turns, Leaves, DeliversOn, InOrder, awaited, is_abandoned, done_and_published, ask_foot, turn_foot, Does, births, asks, turns, events}
 use Rattle.event.proofs.Turns.{delivery_same, delivery_framed, SameCells, delivery_cells}
-use Rattle.event.proofs.Listing.{cell_self, all_front, all_rest, keys_alike, at_cell, any_write, behind_writes, found_alike, found_before}
+use Rattle.heap.proofs.Reaching.{cell_self}
+use Rattle.event.proofs.Listing.{all_front, all_rest, keys_alike, at_cell, any_write, behind_writes, found_alike, found_before}
 
 -- what waits in order in one world does so in another that holds the same message
 in_order_alike : (after : Option MsgId) (w v : World) → AllByRecursion (λ k. v k ≡ w k) (awaited after) → InOrder w after → InOrder v after

@@ -6,42 +6,13 @@ use Rattle.ids.specs.CellKeys.{same_key}
 use Rattle.ids.specs.declared.names.VatNo.{VatNo}
 use Rattle.ids.specs.declared.cells.CellKey.{CellKey}
 use Rattle.ids.specs.declared.cells.CellKey.TheVariants as key
-use Rattle.ids.proofs.CellKeys.{same_exact, same_self}
-use Rattle.ids.proofs.References.{reference_equal, reference_self}
+use Rattle.ids.proofs.CellKeys.{same_exact as key_exact, same_self as key_self}
 use Rattle.history.specs.Subject.{found}
 use Rattle.heap.specs.State as heap
 use Rattle.heap.specs.State.{Cell, top, slot_cell, object_cell, view_cell, fence_cell, same_cell, State}
+use Rattle.heap.proofs.Reaching.{cell_exact, cell_self}
 use Rattle.post.specs.World.{Content, content_of, cell_key}
 use Rattle.event.specs.Events.{events}
-
--- cells that are the same are one cell
-pub cell_exact : (c d : Cell) → same_cell c d ≡ true → c ≡ d
-cell_exact (top x) (top y) h = ap top (name_of (same_exact (key.Name x) (key.Name y) h))
-  where
-    name_of : key.Name x ≡ key.Name y → x ≡ y
-    name_of e = cc
-cell_exact (slot_cell s) (slot_cell t) h = ap slot_cell (slot_of (same_exact (key.Slot s) (key.Slot t) h))
-  where
-    slot_of : key.Slot s ≡ key.Slot t → s ≡ t
-    slot_of e = cc
-cell_exact (object_cell i) (object_cell j) h = ap object_cell (object_of (same_exact (key.Object i) (key.Object j) h))
-  where
-    object_of : key.Object i ≡ key.Object j → i ≡ j
-    object_of e = cc
-cell_exact (view_cell p) (view_cell q) h = ap view_cell (promise_of (same_exact (key.Board p) (key.Board q) h))
-  where
-    promise_of : key.Board p ≡ key.Board q → p ≡ q
-    promise_of e = cc
-cell_exact (fence_cell r) (fence_cell t) h = ap fence_cell (reference_equal r t h)
-cell_exact _ _ h = cc
-
--- and each is the same as itself
-pub cell_self : (c : Cell) → same_cell c c ≡ true
-cell_self (top x) = same_self (key.Name x)
-cell_self (slot_cell s) = same_self (key.Slot s)
-cell_self (object_cell i) = same_self (key.Object i)
-cell_self (view_cell p) = same_self (key.Board p)
-cell_self (fence_cell r) = reference_self r
 
 -- one key names one cell of a vat
 pub one_cell : (v : VatNo) (c d : Cell) → cell_key v c ≡ cell_key v d → c ≡ d
@@ -76,7 +47,7 @@ module _ (v : VatNo) where
   key_of_some : (k : CellKey) (cs : List Cell) → list_any (same_key k) (map (cell_key v) cs) ≡ true → (c : Cell) × (k ≡ cell_key v c) × (list_any (same_cell c) cs ≡ true)
   key_of_some k [] h = absurd (false≢true h)
   key_of_some k (c ∷ cs) h = elim (or_cases (same_key k (cell_key v c)) _ h) [
-    | inl e ↦ (c, same_exact k (cell_key v c) e, or_left _ _ (cell_self c))
+    | inl e ↦ (c, key_exact k (cell_key v c) e, or_left _ _ (cell_self c))
     | inr e ↦ let d = key_of_some k cs e in (d.0, d.1, or_right (same_cell d.0 c) _ d.2)
   ]
 
@@ -84,7 +55,7 @@ module _ (v : VatNo) where
   key_is_some : (c : Cell) (cs : List Cell) → list_any (same_cell c) cs ≡ true → list_any (same_key (cell_key v c)) (map (cell_key v) cs) ≡ true
   key_is_some c [] h = absurd (false≢true h)
   key_is_some c (d ∷ cs) h = elim (or_cases (same_cell c d) _ h) [
-    | inl e ↦ or_left _ _ (subst (λ x. same_key (cell_key v c) (cell_key v x) ≡ true) (cell_exact c d e) (same_self (cell_key v c)))
+    | inl e ↦ or_left _ _ (subst (λ x. same_key (cell_key v c) (cell_key v x) ≡ true) (cell_exact c d e) (key_self (cell_key v c)))
     | inr e ↦ or_right (same_key (cell_key v c) (cell_key v d)) _ (key_is_some c cs e)
   ]
 
@@ -137,7 +108,7 @@ module _ (v : VatNo) where
     where
       first : (b : Bool) → same_key (cell_key v p.0) k ≡ b → cond b (Some (content_of p.1)) (found events (writes_of left) k) ≡ Some x
           → (found events (writes_of left) k ≡ Some x → Finds s left k x) → Finds s (p ∷ left) k x
-      first true g is ih = (p.0, p.1, same_exact (cell_key v p.0) k g, or_left _ _ (cell_self p.0), q, only is)
+      first true g is ih = (p.0, p.1, key_exact (cell_key v p.0) k g, or_left _ _ (cell_self p.0), q, only is)
         where
           only : Some (content_of p.1) ≡ Some x → x ≡ content_of p.1
           only is = cc
@@ -152,7 +123,7 @@ module _ (v : VatNo) where
           → (list_any (same_cell c) (map (λ q. q.0) left) ≡ true → found events (writes_of left) (cell_key v c) ≡ None → ⊥) → ⊥
       first true g is ih = cc
       first false g is ih = elim (or_cases (same_cell c p.0) _ h) [
-        | inl m ↦ false≢true (sym g ∙ subst (λ x. same_key (cell_key v x) (cell_key v c) ≡ true) (cell_exact c p.0 m) (same_self (cell_key v c)))
+        | inl m ↦ false≢true (sym g ∙ subst (λ x. same_key (cell_key v x) (cell_key v c) ≡ true) (cell_exact c p.0 m) (key_self (cell_key v c)))
         | inr m ↦ ih m is
       ]
 

@@ -18,6 +18,7 @@ use Rattle.ids.specs.declared.cells.CellKey.{CellKey}
 use Rattle.ids.specs.declared.cells.CellKey.TheVariants as key
 use Rattle.heap.specs.State.{Content, Cell, top, slot_cell, object_cell, view_cell, fence_cell, same_cell}
 use Rattle.heap.specs.View.{seen_in, told}
+use Rattle.heap.proofs.Reaching.{cell_exact}
 use Rattle.heap.specs.declared.state.VatState.{VatState}
 use Rattle.post.specs.World.{same_vat, lives_in, cell_key, content_of}
 use Rattle.post.specs.Homes.{state_in, seen_at, is_ready_in, is_ready_at}
@@ -102,14 +103,6 @@ other_keys v w (fence_cell x) (slot_cell y) g h n = refl
 other_keys v w (fence_cell x) (object_cell y) g h n = refl
 other_keys v w (fence_cell x) (view_cell y) g h n = refl
 
-same_exact : (c d : Cell) → same_cell c d ≡ true → c ≡ d
-same_exact (top x) (top y) h = ap top ((bytes_eq-Decides x y).0 h)
-same_exact (slot_cell i) (slot_cell j) h = ap slot_cell (exact_slots i j (equal (slot_cmp i j) h))
-same_exact (object_cell i) (object_cell j) h = ap object_cell (exact_objects i j (equal (object_cmp i j) h))
-same_exact (view_cell p) (view_cell q) h = ap view_cell (exact_promises p q (equal (promise_cmp p q) h))
-same_exact (fence_cell r) (fence_cell t) h = ap fence_cell (reference_equal r t h)
-same_exact _ _ h = cc
-
 -- ---- states of which the same is seen
 
 module _ (old new : VatNo → Option Home) where
@@ -174,7 +167,7 @@ module _ (old new : VatNo → Option Home) (a : VatNo) (h g : Home) (there : old
     pub own_exchanged : ((v : VatNo) (d : Cell) → lives_in d v ≡ false → (seen_at (old v) d).0 ≡ None) → (v : VatNo) (d : Cell) → lives_in d v ≡ false → (seen_at (new v) d).0 ≡ None
     own_exchanged own v d n =
         either (λ o m. (seen_at o d).0 ≡ None → (seen_at m d).0 ≡ None) v
-        (λ e was. ap (λ (s : Seen Content). s.0) (exchanged d ∙ ap (λ b. cond b x (seen_in (state_in h) d)) (not_true _ (λ same. sym n ∙ ap (λ q. lives_in q v) (sym (same_exact c d same)) ∙ ap (λ u. lives_in c u) (sym (exact_vat a v e)) ∙ lives))) ∙ was)
+        (λ e was. ap (λ (s : Seen Content). s.0) (exchanged d ∙ ap (λ b. cond b x (seen_in (state_in h) d)) (not_true _ (λ same. sym n ∙ ap (λ q. lives_in q v) (sym (cell_exact c d same)) ∙ ap (λ u. lives_in c u) (sym (exact_vat a v e)) ∙ lives))) ∙ was)
         (λ e o was. was)
         (own v d n)
 
