@@ -1,5 +1,5 @@
-//! The state of a vat: a finite map from top nouns to what they stand for, from slots to values and from objects to
-//! what they are.
+//! The state of a vat: a finite map from top nouns to what they stand for, from slots to values, from objects to what they
+//! are, from promises to what is known of them, and from references to the messages behind them.
 #![tactic(auto)]
 
 pub mod draft;
