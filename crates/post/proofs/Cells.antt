@@ -1,5 +1,5 @@
 -- The cells of a state after those of one kind changed.
-use Rattle.std.proofs.Common.{◌≡◌, Bool, true, false, cond, refl, ap, ◌∙◌}
+use Rattle.std.proofs.Common.{◌≡◌, Bool, List, true, false, cond, refl, ap, ◌∙◌}
 use Rattle.cells.specs.Seen as cells
 use Rattle.cells.specs.Seen.{Seen}
 use Rattle.cells.specs.declared.store.CellStore.{CellStore}

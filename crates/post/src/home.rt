@@ -1,5 +1,5 @@
 // A vat's state, its own or shared with tickets. What is its own is exchanged with no memory.
-ghost use Rattle.std.specs.Prelude.{◌≡◌, ◌+◌, ◌%◌, ◌^◌, true, cond, IfOk, IfErr, OnOk, OnErr};
+ghost use Rattle.std.specs.Prelude.{◌≡◌, ◌+◌, ◌%◌, ◌^◌, true, false, cond, IfOk, IfErr, OnOk, OnErr};
 ghost use Rattle.std.specs.Arc.{arc_value};
 ghost use Rattle.ids.specs.declared.names.SlotId.{SlotId};
 ghost use Rattle.ids.specs.declared.names.ObjId.{ObjId};
@@ -76,9 +76,9 @@ impl Home {
         Ok(())
     }
 
-    /// The state, shared: from then on it is not the vat's own. What it holds stays. Fails only for want of memory.
-    pub(crate) fn share(&mut self, alloc: Global) -> Result<Arc<VatState>, AllocError>
-        ensures shared { IfOk result (λ s. arc_value s ≡ state_in self.old) }
+    /// Makes the state one that can be shared. What it holds stays. Fails only for want of memory.
+    fn make_shared(&mut self, alloc: Global) -> Result<(), AllocError>
+        ensures ok { OnOk result (is_own self.new ≡ false) }
         ensures seen { state_in self.new ≡ state_in self.old }
     {
         if let Home::Own(own) = self {
@@ -91,6 +91,15 @@ impl Home {
                 }
             }
         }
+        Ok(())
+    }
+
+    /// The state, shared: from then on it is not the vat's own. What it holds stays. Fails only for want of memory.
+    pub(crate) fn share(&mut self, alloc: Global) -> Result<Arc<VatState>, AllocError>
+        ensures shared { IfOk result (λ s. arc_value s ≡ state_in self.old) }
+        ensures seen { state_in self.new ≡ state_in self.old }
+    {
+        self.make_shared(alloc)?;
         match self {
             Home::Own(_) => unreachable!(),
             Home::Shared(shared) => Arc::try_clone(shared),
