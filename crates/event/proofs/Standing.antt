@@ -7,7 +7,7 @@ use Rattle.std.proofs.lemmas.List.{map-append}
 use Rattle.std.proofs.lemmas.List.Folds.{list_any-append}
 use Rattle.std.proofs.lemmas.Map.Keys.{IsDistinct-head, IsDistinct-tail}
 use Rattle.std.specs.Str.{bytes_eq}
-use Rattle.ids.proofs.CellKeys.{slots_agree, objects_agree, promises_agree}
+use Rattle.ids.proofs.CellKeys.{slots_agree, objects_agree, promises_agree, references_agree}
 use Rattle.kernele.specs.Tree.{Name}
 use Rattle.cells.specs.Touches.{touch, touched_list}
 use Rattle.cells.specs.declared.touches.Touch.{Touch}

@@ -98,11 +98,19 @@ fn hold_found<K: Key + Drop, V: Held + Drop>(
 fn hold_kinds(footprint: &Footprint, state: &VatState) -> bool
     ensures { IsTrue result ↔ KindsFound footprint.now state.now }
 {
-    hold_found(&state.tops, &footprint.tops)
-        && hold_found(&state.slots, &footprint.slots)
-        && hold_found(&state.objects, &footprint.objects)
-        && hold_found(&state.views, &footprint.views)
-        && hold_found(&state.fences, &footprint.fences)
+    if !hold_found(&state.tops, &footprint.tops) {
+        return false;
+    }
+    if !hold_found(&state.slots, &footprint.slots) {
+        return false;
+    }
+    if !hold_found(&state.objects, &footprint.objects) {
+        return false;
+    }
+    if !hold_found(&state.views, &footprint.views) {
+        return false;
+    }
+    hold_found(&state.fences, &footprint.fences)
 }
 
 /// Whether a state holds what a turn found in each cell that it touched.
