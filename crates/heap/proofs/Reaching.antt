@@ -3,15 +3,12 @@ use Rattle.std.proofs.Common.{◌≡◌, Result, Ok, Err, OnOk, OnErr, Option, S
 use Rattle.std.specs.Option.{option_map}
 use Rattle.cells.specs.Touches.{standing}
 use Rattle.cells.specs.declared.touches.Touch.{Touch}
-use Rattle.std.proofs.lemmas.Slice.Eq.{bytes_eq-Decides}
-use Rattle.ids.specs.Cells.{slot_cmp, object_cmp, promise_cmp}
-use Rattle.ids.proofs.Keys.{equal, exact_slots, exact_objects, exact_promises}
-use Rattle.ids.proofs.References.{reference_equal}
 use Rattle.cells.specs.Clones.{ContentClones, AreClones}
 use Rattle.cells.specs.Seen.{Seen}
-use Rattle.heap.specs.State.{Content, Cell, top, slot_cell, object_cell, view_cell, fence_cell, State, Cells, also, write, same_cell}
+use Rattle.heap.specs.State.{Content, Cell, State, Cells, also, write, same_cell}
 use Rattle.heap.specs.View.{told}
 use Rattle.heap.specs.Found.{written_part, standing_over}
+use Rattle.heap.proofs.Cells.{cell_exact}
 
 -- ---- what follows of a cell of which it is known
 
@@ -29,21 +26,13 @@ writes_one false t o = refl
 
 -- ---- cells that are the same
 
-same_exact : (c d : Cell) → same_cell c d ≡ true → c ≡ d
-same_exact (top x) (top y) h = ap top ((bytes_eq-Decides x y).0 h)
-same_exact (slot_cell i) (slot_cell j) h = ap slot_cell (exact_slots i j (equal (slot_cmp i j) h))
-same_exact (object_cell i) (object_cell j) h = ap object_cell (exact_objects i j (equal (object_cmp i j) h))
-same_exact (view_cell p) (view_cell q) h = ap view_cell (exact_promises p q (equal (promise_cmp p q) h))
-same_exact (fence_cell r) (fence_cell t) h = ap fence_cell (reference_equal r t h)
-same_exact _ _ h = cc
-
 by_cases : {X : Type 0} (b : Bool) (x y z : X) → (b ≡ true → x ≡ z) → (b ≡ false → y ≡ z) → cond b x y ≡ z
 by_cases true x y z h g = h refl
 by_cases false x y z h g = g refl
 
 -- a cell that was touched before makes the set no larger
 pub also_there : (k : Cell) (q : Cells) → q k ≡ true → q ≡ also k q
-also_there k q h = λ i c. there (same_cell k c) (q c) (λ e. ap q (sym (same_exact k c e)) ∙ h) i
+also_there k q h = λ i c. there (same_cell k c) (q c) (λ e. ap q (sym (cell_exact k c e)) ∙ h) i
   where
     there : (b p : Bool) → (b ≡ true → p ≡ true) → p ≡ (b || p)
     there true p h = h refl
@@ -65,19 +54,19 @@ module _ (old new : Cell → Option (Touch Content)) (k : Cell) (t : Touch Conte
   still_found s h g c u e = one (same_cell k c) refl (sym (is c) ∙ e)
     where
       one : (b : Bool) → same_cell k c ≡ b → cond b (Some t) (old c) ≡ Some u → u.found ≡ s c
-      one true m e = let p : t ≡ u = cc in ap (λ (u : Touch Content). u.found) (sym p) ∙ h ∙ ap s (same_exact k c m)
+      one true m e = let p : t ≡ u = cc in ap (λ (u : Touch Content). u.found) (sym p) ∙ h ∙ ap s (cell_exact k c m)
       one false m e = g c u e
 
   -- a cell of which nothing was known is only read
   module _ (none : old k ≡ None) (s : State) (found : t.found ≡ s k) (unwritten : t.written ≡ None) where
     pub state_read : ◌≡◌ {A = State} (λ c. standing_over (new c) (s c)) (λ c. standing_over (old c) (s c))
-    state_read = λ i c. (ap (λ o. standing_over o (s c)) (is c) ∙ stands_one (same_cell k c) t (old c) (s c) ∙ by_cases (same_cell k c) _ _ _ (λ m. at c (same_exact k c m)) (λ m. refl)) i
+    state_read = λ i c. (ap (λ o. standing_over o (s c)) (is c) ∙ stands_one (same_cell k c) t (old c) (s c) ∙ by_cases (same_cell k c) _ _ _ (λ m. at c (cell_exact k c m)) (λ m. refl)) i
       where
         at : (c : Cell) → k ≡ c → standing t.found t.written ≡ standing_over (old c) (s c)
         at c m = subst (λ c. standing t.found t.written ≡ standing_over (old c) (s c)) m (ap (standing t.found) unwritten ∙ found ∙ ap (λ o. standing_over o (s k)) (sym none))
 
     pub writes_read : ◌≡◌ {A = State} (λ c. written_part (new c)) (λ c. written_part (old c))
-    writes_read = λ i c. (ap written_part (is c) ∙ writes_one (same_cell k c) t (old c) ∙ by_cases (same_cell k c) _ _ _ (λ m. at c (same_exact k c m)) (λ m. refl)) i
+    writes_read = λ i c. (ap written_part (is c) ∙ writes_one (same_cell k c) t (old c) ∙ by_cases (same_cell k c) _ _ _ (λ m. at c (cell_exact k c m)) (λ m. refl)) i
       where
         at : (c : Cell) → k ≡ c → t.written ≡ written_part (old c)
         at c m = subst (λ c. t.written ≡ written_part (old c)) m (unwritten ∙ ap written_part (sym none))
