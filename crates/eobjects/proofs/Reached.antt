@@ -1,7 +1,7 @@
 -- A cell that was touched before is touched by no reading.
 use Rattle.std.proofs.Common.{◌≡◌, Bool, true, false, ◌||◌, refl, sym, ap, ◌∙◌}
 use Rattle.heap.specs.State.{Cell, same_cell, Cells, also}
-use Rattle.heap.proofs.Reaching.{cell_exact}
+use Rattle.heap.proofs.Cells.{cell_exact}
 use Rattle.erules.specs.At.{At}
 use Rattle.erules.specs.Rules.{reached}
 

@@ -8,7 +8,7 @@ use Rattle.kernele.specs.declared.tree.Pattern.{Pattern}
 use Rattle.kernele.specs.declared.tree.Pattern.TheVariants as pattern
 use Rattle.values.specs.Data.{Val, null, object, Vals, no_vals, and_val}
 use Rattle.heap.specs.State.{Bind, Nouns, fixed, slot, lookup, Object, Cell, top, slot_cell, object_cell, Content, bound, held, made, same_cell, State, write, Cells}
-use Rattle.heap.proofs.Reaching.{cell_self}
+use Rattle.heap.proofs.Cells.{cell_self}
 use Rattle.erules.specs.At.{At}
 use Rattle.erules.specs.Outcomes.{End, value, halt, Gather, values, halted}
 use Rattle.erules.specs.Rules.{reached, put, sought_in, seeking, slot_read, slot_put, noun_read, Listing, listed, unlisted, parts_of, parts_bound, matched_all, top_bind, found, sought, slot_in, sought_slot, held_end, noun_end, bound_in, defined, next_slot, has_room, slot_made, variable_made, declared, declared_end, assigned, assigned_end, matched}

@@ -23,7 +23,7 @@ use Rattle.event.specs.Ready.{misplaced, lost_message, awaits, early_message, Is
 use Rattle.event.specs.Laws.{CanHappen}
 use Rattle.event.specs.declared.ready.Unready.{Unready}
 use Rattle.event.specs.declared.ready.Unready.TheVariants as why
-use Rattle.heap.proofs.Reaching.{cell_exact, cell_self}
+use Rattle.heap.proofs.Cells.{cell_exact, cell_self}
 use Rattle.event.proofs.Listing.{tests_agree}
 
 -- ---- a turn touches finitely many cells

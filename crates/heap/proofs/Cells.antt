@@ -1,23 +1,32 @@
--- On the orders of the names of cells, and the tests of whether two are the same.
-use Rattle.std.proofs.Common.{◌≡◌, refl}
-use Rattle.std.specs.Cmp.{IsTotalOrder}
-use Rattle.std.proofs.lemmas.Cmp.{then_total, on_total, nat_cmp_total}
-use Rattle.ids.specs.Cells.{slot_cmp, object_cmp}
-use Rattle.ids.specs.declared.names.SlotId.{SlotId}
-use Rattle.ids.specs.declared.names.ObjId.{ObjId}
+-- On the cells of a vat.
+use Rattle.std.proofs.Common.{◌≡◌, true, refl, ap}
+use Rattle.std.proofs.lemmas.Slice.Eq.{bytes_eq-Decides}
+use Rattle.ids.specs.Cells.{slot_cmp, object_cmp, promise_cmp}
+use Rattle.ids.specs.References.{same_reference}
 use Rattle.ids.specs.declared.reference.Reference.{Reference}
 use Rattle.ids.specs.declared.reference.Reference.TheVariants as reference
-use Rattle.ids.specs.References.{same_reference}
+use Rattle.ids.proofs.Keys.{equal, exact_slots, exact_objects, exact_promises, slot_self, object_self, promise_self}
 use Rattle.ids.proofs.CellKeys.{objects_agree, promises_agree}
+use Rattle.ids.proofs.References.{reference_equal, reference_self}
+use Rattle.heap.specs.State.{Cell, top, slot_cell, object_cell, view_cell, fence_cell, same_cell}
 use Rattle.heap.specs.View.{same_target}
 
--- the order of slots is total: it compares numbers, one after another
-pub slot_cmp_total : IsTotalOrder slot_cmp
-slot_cmp_total = then_total (on_total (λ (s : SlotId). s.event.0) nat_cmp_total) (then_total (on_total (λ (s : SlotId). s.index) nat_cmp_total) (on_total (λ (s : SlotId). s.vat.0.0) nat_cmp_total))
+-- cells that are the same are one cell
+pub cell_exact : (c d : Cell) → same_cell c d ≡ true → c ≡ d
+cell_exact (top x) (top y) h = ap top ((bytes_eq-Decides x y).0 h)
+cell_exact (slot_cell i) (slot_cell j) h = ap slot_cell (exact_slots i j (equal (slot_cmp i j) h))
+cell_exact (object_cell i) (object_cell j) h = ap object_cell (exact_objects i j (equal (object_cmp i j) h))
+cell_exact (view_cell p) (view_cell q) h = ap view_cell (exact_promises p q (equal (promise_cmp p q) h))
+cell_exact (fence_cell r) (fence_cell t) h = ap fence_cell (reference_equal r t h)
+cell_exact _ _ h = cc
 
--- and so is the order of objects
-pub object_cmp_total : IsTotalOrder object_cmp
-object_cmp_total = then_total (on_total (λ (o : ObjId). o.event.0) nat_cmp_total) (then_total (on_total (λ (o : ObjId). o.index) nat_cmp_total) (on_total (λ (o : ObjId). o.vat.0.0) nat_cmp_total))
+-- and each is the same as itself
+pub cell_self : (c : Cell) → same_cell c c ≡ true
+cell_self (top x) = (bytes_eq-Decides x x).1 refl
+cell_self (slot_cell i) = slot_self i
+cell_self (object_cell i) = object_self i
+cell_self (view_cell p) = promise_self p
+cell_self (fence_cell r) = reference_self r
 
 -- the test of the program and that of the definitions agree on references: ejectors are told apart as objects are
 pub references_agree : (r t : Reference) → same_target r t ≡ same_reference r t

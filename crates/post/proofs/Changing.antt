@@ -18,7 +18,7 @@ use Rattle.ids.specs.declared.cells.CellKey.{CellKey}
 use Rattle.ids.specs.declared.cells.CellKey.TheVariants as key
 use Rattle.heap.specs.State.{Content, Cell, top, slot_cell, object_cell, view_cell, fence_cell, same_cell}
 use Rattle.heap.specs.View.{seen_in, told}
-use Rattle.heap.proofs.Reaching.{cell_exact}
+use Rattle.heap.proofs.Cells.{cell_exact}
 use Rattle.heap.specs.declared.state.VatState.{VatState}
 use Rattle.post.specs.World.{same_vat, lives_in, cell_key, content_of}
 use Rattle.post.specs.Homes.{state_in, seen_at, is_ready_in, is_ready_at}
