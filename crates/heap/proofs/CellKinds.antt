@@ -6,7 +6,7 @@ use Rattle.ids.specs.declared.names.ObjId.{ObjId}
 use Rattle.ids.specs.declared.names.PromId.{PromId}
 use Rattle.ids.specs.declared.names.MsgId.{MsgId}
 use Rattle.ids.specs.declared.reference.Reference.{Reference}
-use Rattle.ids.proofs.CellKeys.{slots_agree, objects_agree, promises_agree}
+use Rattle.ids.proofs.CellKeys.{slots_agree, objects_agree, promises_agree, references_agree}
 use Rattle.kernele.specs.Tree.{Name}
 use Rattle.cells.specs.Touches.{touch}
 use Rattle.cells.specs.declared.touches.Touch.{Touch}
@@ -20,7 +20,6 @@ use Rattle.heap.specs.declared.state.Binding.{Binding}
 use Rattle.heap.specs.declared.state.View.{View}
 use Rattle.heap.specs.declared.made.Made.{Made}
 use Rattle.heap.specs.declared.reach.Footprint.{Footprint}
-use Rattle.heap.proofs.Cells.{references_agree}
 use Rattle.heap.proofs.Reaching.{touched_more, state_written, writes_more, still_found, state_read, writes_read, state_same, writes_same, found_same, some_is, none_is}
 
 -- what is known of a cell where this was found and this was written

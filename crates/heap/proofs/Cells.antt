@@ -2,14 +2,9 @@
 use Rattle.std.proofs.Common.{◌≡◌, true, refl, ap}
 use Rattle.std.proofs.lemmas.Slice.Eq.{bytes_eq-Decides}
 use Rattle.ids.specs.Cells.{slot_cmp, object_cmp, promise_cmp}
-use Rattle.ids.specs.References.{same_reference}
-use Rattle.ids.specs.declared.reference.Reference.{Reference}
-use Rattle.ids.specs.declared.reference.Reference.TheVariants as reference
 use Rattle.ids.proofs.Keys.{equal, exact_slots, exact_objects, exact_promises, slot_self, object_self, promise_self}
-use Rattle.ids.proofs.CellKeys.{objects_agree, promises_agree}
 use Rattle.ids.proofs.References.{reference_equal, reference_self}
 use Rattle.heap.specs.State.{Cell, top, slot_cell, object_cell, view_cell, fence_cell, same_cell}
-use Rattle.heap.specs.View.{same_target}
 
 -- cells that are the same are one cell
 pub cell_exact : (c d : Cell) → same_cell c d ≡ true → c ≡ d
@@ -27,10 +22,3 @@ cell_self (slot_cell i) = slot_self i
 cell_self (object_cell i) = object_self i
 cell_self (view_cell p) = promise_self p
 cell_self (fence_cell r) = reference_self r
-
--- the test of the program and that of the definitions agree on references: ejectors are told apart as objects are
-pub references_agree : (r t : Reference) → same_target r t ≡ same_reference r t
-references_agree (reference.Object i) (reference.Object j) = objects_agree i j
-references_agree (reference.Ejector i) (reference.Ejector j) = objects_agree (record { event = i.event; index = i.index; vat = i.vat }) (record { event = j.event; index = j.index; vat = j.vat })
-references_agree (reference.Promise p) (reference.Promise q) = promises_agree p q
-references_agree _ _ = refl
