@@ -1,5 +1,5 @@
 -- Expressions that have a right side.
-use Rattle.std.proofs.Common.{◌≡◌, ◌⊎◌, inl, inr, ℕ, ◌+◌, Some, ap, subst}
+use Rattle.std.proofs.Common.{◌≡◌, ◌⊎◌, inl, inr, ℕ, ◌+◌, Some, refl, ap, subst}
 use Rattle.std.specs.declared.sync.Arc.{Arc}
 use Rattle.std.specs.declared.vec.Vec.{Vec}
 use Rattle.std.specs.declared.alloc.Global.{Global}
@@ -66,3 +66,15 @@ side_of right (inr (inl is)) = ap right_side is.1
 side_of right (inr (inr (inl is))) = ap right_side is.2
 side_of right (inr (inr (inr (inl is)))) = ap right_side is.1
 side_of right (inr (inr (inr (inr is)))) = ap right_side is
+
+-- an expression of another kind has no right side: the value is left as it is
+pub takes_nothing : (e : Code) (o : End) (a : At)
+    → ((x : Pattern) (r : Arc Code Global) → e ≡ code.Def x r → ⊥) → ((x : Name) (r : Arc Code Global) → e ≡ code.Var x r → ⊥)
+    → ((x : Name) (p : Place) (r : Arc Code Global) → e ≡ code.Assign x p r → ⊥) → ((ps : Arc (Vec Pattern Global) Global) (r : Arc Code Global) → e ≡ code.DefList ps r → ⊥)
+    → ((r : Arc Code Global) → e ≡ code.Throw r → ⊥) → (o ≡ taken_end e o a) × (a ≡ taken_at e o a)
+takes_nothing (code.Def' x p r) o a d v s l t = absurd (d x (record { ptr = p.ptr; value = r }) refl)
+takes_nothing (code.Var' x p r) o a d v s l t = absurd (v x (record { ptr = p.ptr; value = r }) refl)
+takes_nothing (code.Assign' x at p r) o a d v s l t = absurd (s x at (record { ptr = p.ptr; value = r }) refl)
+takes_nothing (code.DefList' ps p r) o a d v s l t = absurd (l ps (record { ptr = p.ptr; value = r }) refl)
+takes_nothing (code.Throw' p r) o a d v s l t = absurd (t (record { ptr = p.ptr; value = r }) refl)
+takes_nothing _ o a d v s l t = (refl, refl)

@@ -8,6 +8,7 @@ use Rattle.erules.specs.View.{at}
 use Rattle.erules.proofs.Answering.{end_to, stop_to}
 use Rattle.erules.proofs.Steps.{slice_of}
 use Rattle.eval.specs.Sides.{taken_at, taken_end}
+use Rattle.eval.proofs.Sides.{takes_nothing}
 use Rattle.eval.proofs.right.take.Goals as goal
 
 pub returns-in_ok-match_pattern-in-Def : goal.returns-in_ok-match_pattern-in-Def
@@ -41,3 +42,6 @@ returns-in-Throw c =
     let o = value (val_of c.args.value.now) in
     let a = at c.args.w.now in
     stop_to c.thrown.result c.thrown.new.w _ _ _ _ (ap (λ (e : Code). taken_end e o a) (sym c.in-Throw.is)) (ap (λ (e : Code). taken_at e o a) (sym c.in-Throw.is)) c.thrown.ensures
+
+pub returns-in_default : goal.returns-in_default
+returns-in_default c = takes_nothing c.args.e.now (value (val_of c.args.value.now)) (at c.args.w.now) c.in_default.not-Def c.in_default.not-Var c.in_default.not-Assign c.in_default.not-DefList c.in_default.not-Throw
