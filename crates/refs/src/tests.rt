@@ -1,6 +1,5 @@
 // Where values lead to.
-ghost use Rattle.std.specs.Prelude.{nat_eq, cond};
-ghost use Rattle.std.specs.Option.{Some as some, None as none};
+ghost use Rattle.std.specs.Prelude.{nat_eq, cond, None, Some};
 ghost use Rattle.values.specs.View.{val_of};
 
 use crate::ends::end_of;
@@ -22,7 +21,7 @@ struct Two {
 }
 
 impl Resolve for Two {
-    ghost resolutions = { λ t p. cond (nat_eq p.index 0) (some (val_of t.first)) (cond (nat_eq p.index 1) (some (val_of t.second)) none) };
+    ghost resolutions = { λ t p. cond (nat_eq p.index 0) (Some (val_of t.first)) (cond (nat_eq p.index 1) (Some (val_of t.second)) None) };
 
     fn resolution(&self, promise: PromId) -> Option<&Value> {
         if promise.index == 0 {
@@ -124,8 +123,14 @@ fn lists(rt: HostRuntime) {
         second: to(2),
     };
     let inner = list(&rt, vec![in rt.alloc(); to(0)].expect(&rt, "no memory"));
-    let outer = list(&rt, vec![in rt.alloc(); inner, to(1), to(0)].expect(&rt, "no memory"));
-    assert_eq!(rt; settled(&rt, &known, &outer).as_str(), "[[7], <e8.p2>, 7] 0 1 2 0");
+    let outer = list(
+        &rt,
+        vec![in rt.alloc(); inner, to(1), to(0)].expect(&rt, "no memory"),
+    );
+    assert_eq!(rt;
+        settled(&rt, &known, &outer).as_str(),
+        "[[7], <e8.p2>, 7] 0 1 2 0"
+    );
 }
 
 /// A promise that was resolved to a list of itself passes the depth: each of 64 lists is unfolded, and one more is found.
@@ -155,8 +160,14 @@ fn weights_run(rt: HostRuntime) {
         first: Value::Text(Text::from_string(letters).expect(&rt, "no memory")),
         second: Value::Null,
     };
-    let one = list(&rt, vec![in rt.alloc(); to(0), to(1)].expect(&rt, "no memory"));
-    let two = list(&rt, vec![in rt.alloc(); to(1), to(0), to(0), to(1)].expect(&rt, "no memory"));
+    let one = list(
+        &rt,
+        vec![in rt.alloc(); to(0), to(1)].expect(&rt, "no memory"),
+    );
+    let two = list(
+        &rt,
+        vec![in rt.alloc(); to(1), to(0), to(0), to(1)].expect(&rt, "no memory"),
+    );
     let mut through = Vec::new(rt.alloc());
     assert!(rt;
         settle(&heavy, &one, &mut through)
