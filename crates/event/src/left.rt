@@ -121,7 +121,12 @@ impl VatKey<View> for PromId {
         Ok(CellKey::View(vat, *self))
     }
 
-    fn written(&self, vat: VatNo, value: &View, event: EventName) -> Result<CellRecord, AllocError> {
+    fn written(
+        &self,
+        vat: VatNo,
+        value: &View,
+        event: EventName,
+    ) -> Result<CellRecord, AllocError> {
         Ok(CellRecord::View(
             vat,
             Record {
@@ -142,7 +147,12 @@ impl VatKey<Fence> for Reference {
         Ok(CellKey::Fence(vat, *self))
     }
 
-    fn written(&self, vat: VatNo, value: &Fence, event: EventName) -> Result<CellRecord, AllocError> {
+    fn written(
+        &self,
+        vat: VatNo,
+        value: &Fence,
+        event: EventName,
+    ) -> Result<CellRecord, AllocError> {
         Ok(CellRecord::Fence(
             vat,
             Record {

@@ -120,7 +120,11 @@ impl Home {
     }
 
     /// Makes the state the vat's own, with room for a view. What it holds stays. Fails only for want of memory.
-    pub(crate) fn make_room_for_view(&mut self, alloc: Global, promise: PromId) -> Result<(), AllocError>
+    pub(crate) fn make_room_for_view(
+        &mut self,
+        alloc: Global,
+        promise: PromId,
+    ) -> Result<(), AllocError>
         ensures ok { OnOk result (is_ready_in self.new (view_cell promise) ≡ true) }
         ensures seen { (c : Cell) → seen_in (state_in self.new) c ≡ seen_in (state_in self.old) c }
         ensures ready { (c : Cell) → is_ready_in self.old c ≡ true → is_ready_in self.new c ≡ true }
@@ -133,7 +137,11 @@ impl Home {
     }
 
     /// Makes the state the vat's own, with room for a fence. What it holds stays. Fails only for want of memory.
-    pub(crate) fn make_room_for_fence(&mut self, alloc: Global, reference: Reference) -> Result<(), AllocError>
+    pub(crate) fn make_room_for_fence(
+        &mut self,
+        alloc: Global,
+        reference: Reference,
+    ) -> Result<(), AllocError>
         ensures ok { OnOk result (is_ready_in self.new (fence_cell reference) ≡ true) }
         ensures seen { (c : Cell) → seen_in (state_in self.new) c ≡ seen_in (state_in self.old) c }
         ensures ready { (c : Cell) → is_ready_in self.old c ≡ true → is_ready_in self.new c ≡ true }

@@ -4,3 +4,4 @@ pub mod Settled
 pub mod Making
 pub mod Rules
 pub mod Open
+pub mod Hurried

@@ -5,4 +5,6 @@ pub mod ends;
 pub mod kinds;
 pub mod resolve;
 pub mod settling;
+#[cfg(test)]
+mod tests;
 pub mod theorems;

@@ -7,16 +7,10 @@ use crate::ends::end_of;
 use crate::resolve::Resolve;
 use ids::names::PromId;
 use std::alloc::{AllocError, Global};
-use values::limits::{item_weight, weight_left};
+use values::limits::{MOST_DEPTH, MOST_WEIGHT, item_weight, weight_left};
 use values::lists::list_within;
 use values::promises::has_promise;
 use values::value::Value;
-
-/// How deep lists may stand in a settled form.
-const MOST_DEPTH: u32 = 64;
-
-/// The greatest weight of a settled form.
-const MOST_WEIGHT: u32 = 65_536;
 
 /// The settled form of a value: its end, in lists item by item from the left; none, if it passes a limit of values. Each
 /// promise of each walk is added to `through`, in order, until the first item that passes.

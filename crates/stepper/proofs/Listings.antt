@@ -110,7 +110,7 @@ module _ (s : State) (c : Contents) where
       whole = refl;
     },
     texts_then before nouns (slots ++ (objects ++ (views ++ fences))) one now f
-    (texts_then one slots (objects ++ (views ++ fences)) two now g (texts_then two objects (views ++ fences) three now h (texts_then three views fences four now k m))),
+        (texts_then one slots (objects ++ (views ++ fences)) two now g (texts_then two objects (views ++ fences) three now h (texts_then three views fences four now k m))),
   )
 
 -- of a vat without a state nothing is written

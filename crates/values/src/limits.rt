@@ -6,10 +6,10 @@ ghost use Rattle.values.specs.View.{val_of, vals_of};
 use crate::value::{Items, Value};
 
 /// The greatest weight of a value.
-const MOST_WEIGHT: u32 = 65_536;
+pub const MOST_WEIGHT: u32 = 65_536;
 
 /// How deep lists may stand in a value.
-const MOST_DEPTH: u32 = 64;
+pub const MOST_DEPTH: u32 = 64;
 
 /// The weight that is left for the items of a list.
 pub(crate) const MOST_ITEMS_WEIGHT: u32 = 65_535;

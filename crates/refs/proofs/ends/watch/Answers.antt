@@ -4,7 +4,7 @@ use Rattle.values.specs.Data.{promise}
 use Rattle.values.specs.View.{val_of}
 use Rattle.refs.specs.Walks.{came}
 use Rattle.refs.proofs.Way.{IsOnTheWay, way_begins, way_circles, way_open, way_ends, way_goes, added_none, added_one, added, is_promise, shared_is, on_ok}
-use Rattle.refs.proofs.ends.follow.Goals as goal
+use Rattle.refs.proofs.ends.watch.Goals as goal
 
 pub loop-init : goal.loop-init
 loop-init g c =

@@ -1,6 +1,6 @@
 use Rattle.std.proofs.Common.{◌≡◌, ◌+◌, ◌++◌, drop, length}
 use Rattle.refs.proofs.Way.{IsOnTheWay}
-use Rattle.refs.proofs.ends.follow.Given as goal
+use Rattle.refs.proofs.ends.watch.Given as goal
 
 -- the promises that were added are those of the walk so far
 abbrev pub invariant-loop : goal.invariant-loop
