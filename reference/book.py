@@ -47,8 +47,8 @@ class Book:
         return self.enter(f"forward {message}", cells)
 
     def learn(self, name, promise):
-        cells = Cells(self.world)
-        events.learn(cells, name, self.with_home(promise))
+        vat, cells = events.found_vat(Cells(self.world), name).number, Cells(self.world)
+        events.learn(cells, vat, self.with_home(promise))
         return self.enter(f"learn {name} {promise}", cells)
 
     def with_home(self, promise):

@@ -107,14 +107,14 @@ def forward(cells, name):
     cells.write(("message", name), replace(message, place=Flying(walk.end.vat)))
 
 
-def learn(cells, name, promise):
+def learn(cells, vat, promise):
     """A promise that is open in the view, and on the board. A vat may learn of its own promises too: those whose turn was
     abandoned, and those that came into the vat after they were published.
 
     It is entered in the view, with the fourth rule; the promises in the value come in; then the fences that were published with
-    it come in, by the third rule.
+    it come in, by the third rule. The event has the vat's number: its Name is not touched, so a birth is no cause of it.
     """
-    home = Home(cells, found_vat(cells, name).number)
+    home = Home(cells, vat)
     if home.read("view", promise) is not OPEN:
         raise Refusal("B7 NothingToLearn")
     published = cells.read(("board", promise))
