@@ -17,49 +17,46 @@ class Book:
     def world(self):
         return self.journal.world
 
-    def enter(self, told, cells, vat=None, notes=()):
-        """Enters an event that is possible, where there is room for one; that is looked at last."""
+    def enter(self, told, does):
+        """Enters an event that is possible, where there is room for one; that is looked at last. Answers its entry and what
+        else the event tells."""
+        cells = Cells(self.world)
+        answer = does(cells)
         if len(self.journal.entries) >= MOST_ENTRIES or self.next > MOST_NAMES:
             raise Refusal("B8 Full")
-        event = self.next
-        self.journal.enter(Entry(event, told, cells.touched, cells.written, vat, list(notes)))
+        entry = Entry(self.next, told, cells.touched, cells.written, does)
+        self.journal.enter(entry)
         self.next += 1
-        return event
+        return entry, answer
 
     def birth(self, name, earlier, items):
-        cells = Cells(self.world)
-        message = events.birth(cells, self.next, name, earlier, items)
-        return self.enter(f"birth {name}", cells), message
+        event = self.next
+        return self.enter(f"birth {name}", lambda cells: events.birth(cells, event, name, earlier, items))
 
     def ask(self, name, items):
-        cells = Cells(self.world)
-        message = events.ask(cells, self.next, name, items)
-        return self.enter(f"ask {name}", cells), message
+        event = self.next
+        return self.enter(f"ask {name}", lambda cells: events.ask(cells, event, name, items))
 
     def arrive(self, message):
-        cells = Cells(self.world)
-        events.arrive(cells, message)
-        return self.enter(f"arrive {message}", cells)
+        return self.enter(f"arrive {message}", lambda cells: events.arrive(cells, message))
 
     def forward(self, message):
-        cells = Cells(self.world)
-        events.forward(cells, message)
-        return self.enter(f"forward {message}", cells)
+        return self.enter(f"forward {message}", lambda cells: events.forward(cells, message))
 
     def learn(self, name, promise):
-        vat, cells = events.found_vat(Cells(self.world), name).number, Cells(self.world)
-        events.learn(cells, vat, self.with_home(promise))
-        return self.enter(f"learn {name} {promise}", cells)
+        """The command names the vat, the event has its number."""
+        vat, known = events.found_vat(Cells(self.world), name).number, self.with_home(promise)
+        return self.enter(f"learn {name} {promise}", lambda cells: events.learn(cells, vat, known))
 
     def with_home(self, promise):
         """The promise of this name with the home that it was made with, if it was: commands name it without."""
         return next((cell[2] for cell in self.world if cell[0] == "view" and cell[2] == promise), promise)
 
     def turn(self, message):
-        cells = Cells(self.world)
-        vat, outcome = events.turn(cells, self.next, message, self.budget)
-        notes = [{"kind": "Got", "message": str(message)}, *outcome.notes]
-        return self.enter(f"turn {message}", cells, vat, notes), outcome
+        event, budget = self.next, self.budget
+        entry, (vat, outcome) = self.enter(f"turn {message}", lambda cells: events.turn(cells, event, message, budget))
+        entry.vat, entry.notes = vat, [{"kind": "Got", "message": str(message)}, *outcome.notes]
+        return entry, outcome
 
     def vats(self):
         """The vats by number."""

@@ -170,8 +170,8 @@ class Engine:
         if len(lines) < count:
             raise Refusal("S4 Truncated")
         script = "\n".join([text_of(line) for line in lines])
-        born, opening = self.book.birth(name, earlier, self.read(script))
-        return f"ok e{born} {opening}"
+        entry, opening = self.book.birth(name, earlier, self.read(script))
+        return f"ok e{entry.event} {opening}"
 
     def ask(self, text):
         """The program is the rest of the line behind the blanks after the name, and may be empty."""
@@ -179,19 +179,19 @@ class Engine:
         if not found:
             raise BadWord
         name, program = vat_name(found[1]), self.read(found[2])
-        asked, queued = self.book.ask(name, program)
-        return f"ok e{asked} {queued}"
+        entry, queued = self.book.ask(name, program)
+        return f"ok e{entry.event} {queued}"
 
     def read(self, text):
         return read(text.encode(), self.has_references)
 
     def act(self, word, *names):
         """Does what is enabled, or what a command names."""
+        entry, outcome = getattr(self.book, word)(*names)
         if word != "turn":
-            return f"ok e{getattr(self.book, word)(*names)}"
-        event_name, outcome = self.book.turn(*names)
+            return f"ok e{entry.event}"
         told = shown(outcome.told) if outcome.kind == "value" else quoted(outcome.told)
-        return f"ok e{event_name} {outcome.kind} {told}"
+        return f"ok e{entry.event} {outcome.kind} {told}"
 
     def step(self):
         action = next(self.book.enabled(), None)

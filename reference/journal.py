@@ -6,12 +6,13 @@ from reading import Refusal
 
 @dataclass
 class Entry:
-    """An event: its name, what the journal tells of it, the cells that it touched and what it wrote. A turn has its vat and
-    its records for the log."""
+    """An event: its name, what the journal tells of it, the cells that it touched, what it wrote, and what does it again on
+    the cells of any world. A turn has its vat and its records for the log."""
     event: int
     told: str
     touched: set
     written: dict
+    does: object
     vat: object = None
     notes: list = field(default_factory=list)
     causes: set = field(default_factory=set)
