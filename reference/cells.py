@@ -14,8 +14,8 @@ from dataclasses import dataclass, field
 
 @dataclass
 class Cells:
-    """The world that an event finds, the cells that it touches, and what it writes. What it finds absent, and what it writes,
-    it touches."""
+    """The world that an event finds, the cells that it touches, and what it writes. It touches what it finds absent too,
+    and what it writes. A write of equal content is a write."""
     world: dict
     touched: set = field(default_factory=set)
     written: dict = field(default_factory=dict)

@@ -1,6 +1,6 @@
 """What a program may name, how large it may be, and what an object or a `when` captures."""
-from reading import (Assign, BreakRef, Call, Define, DefineList, Escape, For, Hide, If, List, Literal, NewPromise, Noun, Null,
-                     Object, Refusal, Same, Send, StateRef, Throw, Try, Variable, When, While)
+from reading import (Assign, BreakRef, Call, Define, DefineList, Escape, For, Hide, If, List, Literal, NewPromise, Noun,
+                     Null, Object, Refusal, Same, Send, StateRef, Throw, Try, Variable, When, While)
 
 MOST_NODES, MOST_DEPTH = 16_384, 200
 
@@ -170,8 +170,8 @@ class Captures(Walk):
 
 
 def check(items, own=(), around=None):
-    """The names of a program's own scope. A script has its earlier vats' names there from the beginning; an asked program has
-    a scope around it, with the names that its vat knows."""
+    """The names of a program's own scope. A script has its earlier vats' names there from the beginning; an asked program
+    has a scope around it, with the names that its vat knows."""
     if sum(map(size, items)) > MOST_NODES:
         raise Refusal("K5 TooLong")
     if max(map(depth, items), default=0) > MOST_DEPTH:

@@ -15,8 +15,8 @@ class BadWord(Refusal):
 
 
 def lines_of(data):
-    """The lines without their ends: a line feed, and one carriage return before it. What stands behind the last line feed is a
-    line if it is not empty, and keeps a carriage return."""
+    """Each line as it stands before its line feed, and without one carriage return there. What stands behind the last line
+    feed is a line if it is not empty, and keeps a carriage return."""
     *whole, last = data.split(b"\n")
     return [(it, it.removesuffix(b"\r")) for it in whole] + ([(last, last)] if last else [])
 
@@ -37,9 +37,10 @@ def words_of(text):
 
 
 def number(word, most=MOST_NUMBER, least=0):
-    if not re.fullmatch("[0-9]+", word) or not least <= int(word) <= most:
+    digits = word.lstrip("0") or "0"
+    if not re.fullmatch("[0-9]+", word) or len(digits) > len(str(most)) or not least <= int(digits) <= most:
         raise BadWord
-    return int(word)
+    return int(digits)
 
 
 def event(word):

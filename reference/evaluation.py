@@ -1,8 +1,8 @@
 """How a program is evaluated among the cells of its vat."""
 from checking import captures, captures_of_when
 from contents import Made, Resolver
-from reading import (Assign, BreakRef, Call, Define, DefineList, Escape, For, Hide, If, List, Literal, NewPromise, Noun, Null,
-                     Object, Same, Send, StateRef, Throw, Try, Variable, When, While)
+from reading import (Assign, BreakRef, Call, Define, DefineList, Escape, For, Hide, If, List, Literal, NewPromise, Noun,
+                     Null, Object, Same, Send, StateRef, Throw, Try, Variable, When, While)
 from references import end_of, settled, state_of
 from values import (Broken, EjectorName, ObjectName, PromiseName, Reference, SlotName, Thrown, data_call, limited, no_method,
                     promises_in, same, wanted)
@@ -46,8 +46,8 @@ class Turn(Working):
         return meaning
 
     def captured(self, scope, names):
-        """Captures go in order of the text. A capture touches Top and never Slot; an undefined top noun throws at its own, and
-        the Tops before it are touched."""
+        """Captures go in order of the text. A capture touches Top and never Slot; an undefined top noun throws at its
+        own capture, and the Tops until then are touched, its own absent one too."""
         return tuple((name, self.meaning(scope, name)) for name in names)
 
     def bind(self, scope, name, meaning):
@@ -71,8 +71,8 @@ class Turn(Working):
         return self.items(scope, items, level)
 
     def datum(self, value, kind, problem):
-        """The end of a value where a datum of this kind is wanted. A broken end throws its problem; an unresolved promise and
-        another reference are of the wrong kind."""
+        """The end of a value where a datum of this kind is wanted. A broken end throws its problem; an unresolved promise
+        and another reference are of the wrong kind."""
         end = end_of(self.home, value)
         if isinstance(end, Broken):
             raise Thrown(end.problem)

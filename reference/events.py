@@ -6,10 +6,9 @@ from cells import Home
 from checking import check
 from contents import OPEN, Asked, At, Done, Flying, Message, Opening, Published, Sent, Vat, Waiting
 from deliveries import run
-from ordering import EMPTY
+from ordering import EMPTY, enter, receive
 from reading import Refusal
 from references import bring, end_of
-from ordering import enter, receive
 from values import MessageName, PromiseName, Reference
 
 MOST_STEPS = 1_000_000
@@ -25,11 +24,12 @@ class Walk:
 
 
 def walk_from(cells, target):
-    """The walk of a message, None in a ring. The Board of each promise on the way is touched, also the absent one at which it
-    ends.
+    """The walk of a message, None in a ring. The Board of each promise on the way is touched, also the absent one at which
+    it ends.
 
-    Awaited is the fence that was published with each reference on the way. The fences of references inside of a list at which
-    the walk ends are not awaited, and the target's own fence is not looked up: the message has it in what it comes after.
+    Awaited is the fence that was published with each reference on the way, the one at the end among them. The fences of
+    references inside of a list at which the walk ends are not awaited, and the target's own fence is not looked up: the
+    message has it in what it comes after.
     """
     end, fences, awaited, walked = target, {}, EMPTY, []
     while isinstance(end, PromiseName):
@@ -67,8 +67,8 @@ def opening_result(vat):
 
 
 def birth(cells, event, name, earlier, items):
-    """The name must be free; the Name of each earlier vat is touched. Of the vat itself nothing is written but its name and its
-    opening message."""
+    """The name must be free; the Name of each earlier vat is touched. Of the vat itself nothing is written but its name
+    and its opening message. Its program is checked last."""
     if cells.read(("name", name)) is not None:
         raise Refusal(f"B2 NameTaken {name}")
     numbers = [found_vat(cells, it).number for it in earlier]
@@ -111,8 +111,9 @@ def learn(cells, vat, promise):
     """A promise that is open in the view, and on the board. A vat may learn of its own promises too: those whose turn was
     abandoned, and those that came into the vat after they were published.
 
-    It is entered in the view, with the fourth rule; the promises in the value come in; then the fences that were published with
-    it come in, by the third rule. The event has the vat's number: its Name is not touched, so a birth is no cause of it.
+    It is entered in the view, with the fourth rule; the promises in the value come in; then the fences that were published
+    with it come in, by the third rule. So where the value has the promise itself in it, that comes in as what it now
+    settles to. The event has the vat's number: its Name is not touched, so a birth is no cause of it.
     """
     home = Home(cells, vat)
     if home.read("view", promise) is not OPEN:
@@ -156,8 +157,8 @@ def early(cells, awaited):
 
 
 def turn(cells, event, name, budget):
-    """The outcome of a turn, with its vat. Written are the message, those that were sent, and what was published; the vat's own
-    cells were written by the turn, unless it was abandoned."""
+    """The outcome of a turn, with its vat. Written are the message, those that were sent, and what was published; the vat's
+    own cells were written by the turn, unless it was abandoned. No Name is touched."""
     if not 1 <= budget <= MOST_STEPS:
         raise Refusal("B19 BadBudget")
     message, walk = ready(cells, name)

@@ -13,7 +13,8 @@ def fence_of(home, reference):
 def add_to_fence(home, reference, names):
     """Adds names to the fence of what a reference settles to; the end alone says whether that is a reference.
 
-    The Views of the walk are touched whether there are names or not; the Fence is touched, and written, only where there are.
+    The Views of the walk are touched whether there are names or not; the Fence is touched, and written, only where there
+    are.
     """
     end = end_of(home, reference)
     if names and isinstance(end, Reference):
@@ -21,8 +22,9 @@ def add_to_fence(home, reference, names):
 
 
 def send_on(home, target, message):
-    """First rule: what the message comes after is the fence of its settled target, which then is the message alone. This holds
-    for each reference: also an object or an ejector of the vat itself. A target that is no reference has no fence."""
+    """First rule: what the message comes after is the fence of its settled target, which then is the message alone. This
+    holds for each reference, also for an object or an ejector of the vat itself; its Object is not touched. A target that
+    is no reference has no fence."""
     if not isinstance(target, Reference):
         return EMPTY
     after = fence_of(home, target)

@@ -213,9 +213,10 @@ def token_at(text, start):
     first = chr(text[start]) if text[start] < 128 else ""
     if first.isdigit():
         end = end_of(text, start, str.isdigit)
-        if int(text[start:end]) >= 2 ** 63:
+        digits = text[start:end].lstrip(b"0") or b"0"
+        if len(digits) > 19 or int(digits) >= 2 ** 63:
             raise Refusal(f"L4 IntegerTooLarge {start}")
-        return Token("INT", start, int(text[start:end])), end
+        return Token("INT", start, int(digits)), end
     if first == '"':
         return text_token(text, start)
     if first.isalpha() or first == "_":

@@ -27,8 +27,8 @@ def end_of(home, value):
 def settled(home, value):
     """The end of a value, and in a list that of each item, at every depth, from the left.
 
-    One running weight is kept over the items in the order of the text, a list's own 1 before its items. It stops at the first
-    part that passes a limit, so the Views behind that part are not touched; those on the way to it are.
+    One running weight is kept over the items in the order of the text, a list's own 1 before its items. It stops at the
+    first part that passes a limit, so the Views behind that part are not touched; those on the way to it are.
     """
     total = 0
 

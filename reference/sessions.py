@@ -172,8 +172,8 @@ class OneVat(RandomSession):
 
 
 class SeveralVats(RandomSession):
-    """Sessions of vats that know each other. What is enabled is done in random order; so promises are learnt early or late, and
-    messages are forwarded, arrive and are run across one another."""
+    """Sessions of vats that know each other. What is enabled is done in random order; so promises are learnt early or late,
+    and messages are forwarded, arrive and are run across one another."""
     NAMES = ["ann", "bob", "cat", "dan", "eve"]
 
     def __init__(self, seed, has_logs=False):
@@ -244,6 +244,8 @@ class SeveralVats(RandomSession):
             self.birth()
         ways = {self.ask: 6, self.act: 8, self.act_often: 8, self.step: 2, self.run_on: 0.3, self.miss: 1.5, self.birth: 0.7,
                 self.change: self.undoes}
+        ends = ["enabled", "show", "journal"]
         if self.has_logs:
             ways[self.log] = 1
-        return self.go(ways, [6, 12, 25, 50], [*(self.has_logs * [f"log {it}" for it in self.NAMES]), "enabled", "show", "journal"])
+            ends += [f"log {it}" for it in self.NAMES]
+        return self.go(ways, [6, 12, 25, 50], ends)

@@ -48,8 +48,8 @@ def list_journal(journal):
 
 
 def log_of(book, loop):
-    """The records of the live turns of the vat of this name, which are numbered in the journal's present order; none where there
-    is no such vat."""
+    """The records of the live turns of the vat of this name, which are numbered in the journal's present order; none where
+    there is no such vat."""
     numbers = {name: number for number, name in book.vats().items()}
     turns = [it for it in book.journal.entries if it.is_live and it.vat is not None and it.vat == numbers.get(loop)]
     records = [record_of(loop, turn, number, note)

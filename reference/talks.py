@@ -1,4 +1,5 @@
-"""Random scripts and programs of vats that know each other: they send, wait, pass references and resolvers on, and resolve."""
+"""Random scripts and programs of vats that know each other: they send, wait, pass references and resolvers on, and
+resolve."""
 import re
 
 from programs import Program
@@ -95,7 +96,7 @@ SIGNATURES = [signature(method) for method in METHODS]
 
 
 class Talk:
-    """Writes a script or a program in which these names stand; some of them are of other vats, and are written more often."""
+    """Writes a script or a program in which these names stand; others are of other vats, and are written more often."""
 
     def __init__(self, random, names, others):
         self.random, self.names, self.others, self.made = random, [*names], [*others], 0

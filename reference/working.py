@@ -14,9 +14,9 @@ class Abandoned(Exception):
 
 
 class Working:
-    """The cells of the vat, the steps that are left, and what is kept back until the turn ends: messages, what was published,
-    and the records for the log. Slots, objects and messages are counted each by itself (resolvers are objects, whens are
-    messages); promises and ejectors are not limited."""
+    """The cells of the vat, the steps that are left, and what is kept back until the turn ends: messages, what was
+    published, and the records for the log. Slots, objects and messages are counted each by itself (resolvers are objects,
+    whens are messages); promises and ejectors are not limited."""
 
     def __init__(self, home, event, steps):
         self.home, self.event, self.steps = home, event, steps
@@ -59,8 +59,8 @@ class Working:
 
     def send(self, receiver, verb, arguments):
         """A promise for the result. In this order: the receiver is settled; the arguments, from the left; the message is
-        counted; it gets the fence of the target (first rule); then the arguments' references travel with their fences (second
-        rule: an argument that is the target itself travels with this message); the promise is made.
+        counted; it gets the fence of the target (first rule); then the arguments' references travel with their fences
+        (second rule: an argument that is the target itself travels with this message); the promise is made.
 
         The home of the promise is the vat to which the message goes first: that of the target object, ejector or promise. It
         is there at once where that is this vat, and where the target is data or broken.
