@@ -236,6 +236,16 @@ class SeveralVats(RandomSession):
                                       f"learn {name} {self.random.choice(promises)}", f"learn {name} e{self.event()}.p0",
                                       f"turn {message}x", "learn ann", "run 1000001"]))
 
+    def again(self):
+        """A closed set is undone, something else happens, and the set is redone: what came between may stand in its way."""
+        live = self.marked(True)
+        if live:
+            cone = {it.event for it in self.book.journal.cone(self.random.choice(live[-12:]))}
+            self.mark("undo", sorted(cone))
+            for _ in range(self.random.choice([1, 1, 2, 3])):
+                self.random.choice([self.act, self.act, self.ask])()
+            self.mark("redo", sorted(cone))
+
     def log(self):
         self.give(f"log {self.random.choice(self.NAMES)}")
 
@@ -243,7 +253,7 @@ class SeveralVats(RandomSession):
         for _ in range(self.random.randint(2, 4)):
             self.birth()
         ways = {self.ask: 6, self.act: 8, self.act_often: 8, self.step: 2, self.run_on: 0.3, self.miss: 1.5, self.birth: 0.7,
-                self.change: self.undoes}
+                self.change: self.undoes, self.again: self.undoes / 2}
         ends = ["enabled", "show", "journal"]
         if self.has_logs:
             ways[self.log] = 1

@@ -61,6 +61,14 @@ ITEMS = [
     "r <- resolve(E)",
     'r.smash("gone")',
     "try { last.resolve(E) } catch e { e }",
+    "try { r.smash(E) } catch e { [e, E] }",
+    "try { r.resolve(E) } catch e { [e, E] }",
+    "try { r.resolve([E, O]); p == E } catch e { e }",
+    "E == { r.resolve(E); E }",
+    'try { when (throw("thrown")) -> { last } } catch e { [e, S] }',
+    "try { when ({ n := n + 1; E }) -> { last } catch e { r } } catch e { S }",
+    "p <- M; r.resolve(E)",
+    "p <- M; S; r.resolve([E, O])",
     "E <- resolve(E)",
     "when (E) -> { S } catch e { S }",
     "when (S) -> { E }",
@@ -83,7 +91,8 @@ ITEMS = [
 ]
 
 
-WRECKS = ('throw("thrown")', "while (true) { S }", "r.smash")
+# What ends a turn early, or leaves little to be done, stands in few scripts.
+WRECKS = ('throw("thrown")', "while (true)", "r.smash", "r.resolve")
 
 
 def signature(method):
@@ -156,8 +165,15 @@ class Talk:
         methods = [f" method {it} {{ {body} }}" for it, body in METHODS.items() if self.chance(0.85)]
         lines += ["def o {", *methods, "}"]
         self.names += ["p", "r", "o", "last"]
+        if self.chance(0.2):
+            # It has no settled form, and the value behind it is looked at only where it is made.
+            lines += ["def [ring, tie] := Ref.promise()", f"tie.resolve([ring, {self.other()}])"]
+            self.names.append("ring")
         if self.chance(0.3):
             harmless = [it for it in ITEMS if not it.startswith(WRECKS)]
             lines += [self.item(harmless) for _ in range(self.random.randint(1, 3))]
+        if self.chance(0.06):
+            place = self.random.choice([1, 2, 3, len(lines)])
+            lines.insert(place, self.random.choice(['throw("early")', "while (true) { var i := 0; i := i + 1 }"]))
         ends = {"o": 24, "p": 3, "[o, p]": 1, "r": 1, "o <- own()": 1, "last": 2}
         return "\n".join([*lines, *self.random.choices([*ends], [*ends.values()])])
