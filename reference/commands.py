@@ -129,6 +129,8 @@ class Engine:
                 return [self.step() or "idle"]
             case "run":
                 return self.steps(*arguments(words, lambda it: number(it, MOST_RUNS)))
+            case "work":
+                return [self.work(*arguments(words, lambda it: number(it, 64, 1), lambda it: number(it, MOST_RUNS)))]
             case "enabled":
                 arguments(words)
                 found = [" ".join(map(str, action)) for action in book.enabled()]
@@ -205,3 +207,12 @@ class Engine:
             yield reply or "idle"
             if not reply:
                 return
+
+    def work(self, _, turns):
+        """One worker stands for all of them, and takes what is enabled first: one of the orders that are allowed. The count
+        of turns is tested before each action."""
+        done = 0
+        while done < turns and (action := next(self.book.enabled(), None)):
+            self.act(*action)
+            done += action[0] == "turn"
+        return f"ok work {done}"

@@ -34,7 +34,8 @@ METHODS = {
     "run()": "escape k { last := k; k(p) }",
     "get(x)": "[last, p, x]",
 }
-# E stands for an expression, O for another vat, M for a verb with arguments, S for a send, D for a new name.
+# E stands for an expression, O for another vat, M for a verb with arguments, S for a send. D, P and R stand for new names,
+# each for the same one in the whole item.
 ITEMS = [
     "E",
     "(O <- give()) <- M",
@@ -56,7 +57,15 @@ ITEMS = [
     "def D := S",
     "last := E",
     "last := S",
-    "def [D, D] := Ref.promise()",
+    "def [P, R] := Ref.promise()",
+    "def [P, R] := Ref.promise(); P <- M; R.resolve(E)",
+    "def [P, R] := Ref.promise(); try { P.put({ R.resolve(o); E }) } catch e { e }",
+    "def [P, R] := Ref.promise(); P <- put({ R.resolve(E); P })",
+    "def [P, R] := Ref.promise(); try { P == { R.resolve(E); E } } catch e { e }",
+    "def [P, R] := Ref.promise(); R.resolve([E, O]); last := (def [_, D] := P); D <- M",
+    "def [P, R] := Ref.promise(); R.resolve(E); last := [P].with(P)",
+    "def [P, R] := Ref.promise(); R.resolve(E); last := [P, E][0]",
+    "def [P, R] := Ref.promise(); R.resolve(E); for x in [P, E] { last := x }",
     "r.resolve(E)",
     "r <- resolve(E)",
     'r.smash("gone")',
@@ -141,17 +150,14 @@ class Talk:
         return f"{receiver} <- {self.message()}"
 
     def item(self, items=ITEMS):
-        """An item with something written for each large letter that stands alone. What it defines can be used behind it; a
-        name that is written again in the item is the newest."""
-        item, defined = self.random.choice(items), []
-        writers = {"E": self.expression, "S": self.send, "O": self.other, "M": self.message}
-        written = []
-        for part in re.split(r"\b([ESOMD])\b", item):
-            if part == "D" and (item.startswith("def [D") or not defined):
-                defined.append(self.fresh())
-            written.append(defined[-1] if part == "D" else writers[part]() if part in writers else part)
-        self.names += defined
-        return "".join(written)
+        """An item with something written for each large letter that stands alone. What it defines can be used behind it."""
+        defined = {}
+        writers = {"E": self.expression, "S": self.send, "O": self.other, "M": self.message,
+                   **{letter: lambda it=letter: defined.setdefault(it, self.fresh()) for letter in "DPR"}}
+        parts = re.split(r"\b([ESOMDPR])\b", self.random.choice(items))
+        written = "".join(writers[part]() if part in writers else part for part in parts)
+        self.names += defined.values()
+        return written
 
     def program(self):
         if self.chance(0.04):
