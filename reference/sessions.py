@@ -206,12 +206,12 @@ class SeveralVats(RandomSession):
         if self.replies[-1].startswith("ok") and self.chance(0.7):
             self.give(f"turn e{self.book.next - 1}.m0")
 
-    def act(self):
-        """What is enabled, any of it, but rather what a message does than what a vat learns."""
-        found = [*self.book.enabled()]
+    def act(self, without=(), learning=1):
+        """What is enabled, any of it but these, rather what a message does than what a vat learns."""
+        found = [action for action in (" ".join(map(str, it)) for it in self.book.enabled()) if action not in without]
         if found:
-            weights = [1 if action[0] == "learn" else 4 for action in found]
-            self.give(" ".join(map(str, self.random.choices(found, weights)[0])))
+            weights = [learning if action.startswith("learn") else 4 for action in found]
+            self.give(self.random.choices(found, weights)[0])
 
     def act_often(self):
         for _ in range(self.random.choice([2, 4, 8])):
@@ -240,11 +240,15 @@ class SeveralVats(RandomSession):
         """A closed set is undone, something else happens, and the set is redone: what came between may stand in its way."""
         live = self.marked(True)
         if live:
-            cone = {it.event for it in self.book.journal.cone(self.random.choice(live[-12:]))}
-            self.mark("undo", sorted(cone))
-            for _ in range(self.random.choice([1, 1, 2, 3])):
-                self.random.choice([self.act, self.act, self.ask])()
-            self.mark("redo", sorted(cone))
+            cone = self.book.journal.cone(self.random.choice(live[-12:]))
+            events = sorted(it.event for it in cone)
+            self.mark("undo", events)
+            for _ in range(self.random.choice([1, 2, 3])):
+                if self.chance(0.15):
+                    self.ask()
+                else:
+                    self.act({it.told for it in cone}, learning=4)
+            self.mark("redo", events)
 
     def log(self):
         self.give(f"log {self.random.choice(self.NAMES)}")

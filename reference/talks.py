@@ -4,7 +4,7 @@ import re
 
 from programs import Program
 
-# The methods of a vat's object, by the number of their parameters. What a method leaves in `last` is met again later.
+# The methods of a vat's object. O stands for another vat. What a method leaves in `last` is met again later.
 METHODS = {
     "put(x)": "last := x",
     "give()": "last",
@@ -28,6 +28,8 @@ METHODS = {
     "later(x, y)": "when (x) -> { x <- put(y); y }",
     "state(x)": "[Ref.state(x), Ref.state(last)]",
     "near(x)": "x.give()",
+    "tell(x)": "O <- put(x); x",
+    "hand(x, y)": "O <- settle(y, x); O <- give()",
     "is(x, y)": "x == y",
     "fail(x)": 'x <- bump(); throw("failed")',
     "spin(x)": "last := x; while (true) { x <- bump() }",
@@ -48,6 +50,8 @@ ITEMS = [
     "O <- put(O); O <- relay(O)",
     "O <- tie(O)",
     "O <- settle(r, O)",
+    "def D := O <- M; O <- tell(D); D <- M",
+    "def D := O <- make(); O <- hand(D, E); O <- tell(D)",
     "S",
     "S",
     "S",
@@ -168,8 +172,9 @@ class Talk:
         """As a rule it ends with the vat's object; its earlier vats are among the names."""
         first = self.random.choice(["null", "p", *self.others, *self.others])
         lines = ["def [p, r] := Ref.promise()", f"var last := {first}", "var n := 0"]
-        methods = [f" method {it} {{ {body} }}" for it, body in METHODS.items() if self.chance(0.85)]
-        lines += ["def o {", *methods, "}"]
+        others = self.others or ["o"]
+        methods = {it: re.sub(r"\bO\b", lambda _: self.random.choice(others), body) for it, body in METHODS.items()}
+        lines += ["def o {", *(f" method {it} {{ {body} }}" for it, body in methods.items() if self.chance(0.85)), "}"]
         self.names += ["p", "r", "o", "last"]
         if self.chance(0.2):
             # It has no settled form, and the value behind it is looked at only where it is made.
