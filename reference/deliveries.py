@@ -41,9 +41,11 @@ def delivered(turn, content, walk):
                 raise Thrown(end.problem)
             return turn.block(None, node.handler, 1, [*captured, (node.pattern, end.problem)])
         case Sent(_, verb, arguments, fences):
-            # The arguments come in, then a list at which the walk ends, with the fences that were published with it; one
-            # that is the target itself, without a walk, comes in again with no fences. All come in before the verb is
-            # looked up, also where the end is broken or has no such verb.
+            # The arguments come in, then a list at which the walk ends, with the fences that were published with it. A
+            # list that is the target itself, without a walk, comes in again with no fences: the Views of its references'
+            # walks are touched. All come in before the verb is looked up, also where the end is broken, is data, or has no
+            # such verb. An object at which the walk ends does not come in: its published fence was awaited, and is not
+            # added to the vat's.
             come_in(turn.home, arguments, fences)
             if isinstance(walk.end, tuple):
                 come_in(turn.home, walk.end, walk.fences)
@@ -51,6 +53,7 @@ def delivered(turn, content, walk):
 
 
 def come_in(home, value, fences):
+    """The promises in a value come in, then the fences of its references, each for what the reference settles to here."""
     bring(home, value)
     receive(home, value, fences)
 

@@ -178,7 +178,8 @@ class Turn(Working):
         return made
 
     def same(self, left, right):
-        """Both are settled, the left one first, and only then looked at."""
+        """Both sides are evaluated, then both are settled, the left one first, and only then looked at: a side that has no
+        settled form is told before a promise is. Where the left side has none the right one's Views are not touched."""
         left, right = settled(self.home, left), settled(self.home, right)
         if any(promises_in((left, right))):
             raise Thrown("not settled")

@@ -27,7 +27,8 @@ def walk_from(cells, target):
     """The walk of a message, None in a ring. The Board of each promise on the way is touched, also the absent one at which
     it ends.
 
-    Awaited is the fence that was published with each reference on the way, the one at the end among them. The fences of
+    The board alone is followed, so no View is touched. Awaited is the fence that was published with each reference on the
+    way, the one at the end among them. The fences of
     references inside of a list at which the walk ends are not awaited, and the target's own fence is not looked up: the
     message has it in what it comes after.
     """
@@ -129,8 +130,9 @@ def learn(cells, vat, promise):
 def ready(cells, name):
     """The message, and its walk if it is one that was sent, where it may be delivered.
 
-    Touched are the Board of the walk, or the Views of a when's value, and the message of each name that is awaited, done or
-    not. Messages of the author and whens have no walk; a when comes after nothing.
+    Touched are the Board of the walk, or the Views of a when's value, and the message of each name that is awaited. Messages
+    of the author and whens have no walk; a when comes after nothing, not even its vat's opening. Where a walk ends,
+    or that it does not, is asked before what is awaited on the way.
     """
     message = found_message(cells, name, At)
     vat, walk, awaited = message.place.vat, None, message.after

@@ -67,6 +67,7 @@ ITEMS = [
     "def [P, R] := Ref.promise(); P <- put({ R.resolve(E); P })",
     "def [P, R] := Ref.promise(); try { P == { R.resolve(E); E } } catch e { e }",
     "def [P, R] := Ref.promise(); R.resolve([E, O]); last := (def [_, D] := P); D <- M",
+    "def [P, R] := Ref.promise(); R.resolve(E); def [D, _] := [P, E]",
     "def [P, R] := Ref.promise(); R.resolve(E); last := [P].with(P)",
     "def [P, R] := Ref.promise(); R.resolve(E); last := [P, E][0]",
     "def [P, R] := Ref.promise(); R.resolve(E); for x in [P, E] { last := x }",

@@ -62,8 +62,9 @@ class Working:
         counted; it gets the fence of the target (first rule); then the arguments' references travel with their fences
         (second rule: an argument that is the target itself travels with this message); the promise is made.
 
-        The home of the promise is the vat to which the message goes first: that of the target object, ejector or promise. It
-        is there at once where that is this vat, and where the target is data or broken.
+        References in a list that is the target do not travel, so their Fences are not touched. The home of the promise is
+        the vat to which the message goes first: that of the target object, ejector or promise. The message is there at once
+        where that is this vat, and where the target is data or broken.
         """
         target = settled(self.home, receiver)
         arguments = tuple(settled(self.home, argument) for argument in arguments)
@@ -100,14 +101,16 @@ class Working:
         self.notes.append({"kind": "Resolved", "condition": str(promise)})
 
     def publish(self, promise, value):
-        """The fences that travel with the value are those from before the promise is entered; it is entered in the vat's own
-        view only where it has come into the vat. Its View is touched, absent or not."""
+        """The fences that travel with the value are those of this moment, not of the turn's end, and from before the promise
+        is entered. It is entered in the vat's own view only where it has come into the vat; its View is touched, absent or
+        not."""
         self.published[promise] = Published(value, fences_with(self.home, [value]))
         if has_come(self.home, promise):
             enter(self.home, promise, value)
 
     def end_with(self, promise, kind, told):
-        """The turn ends with a value, which is settled already, or with a problem."""
+        """The turn ends with a value, which is settled already, or with a problem, which is entered in the view likewise. A
+        turn whose value is broken, by no throw, has no comment."""
         if kind == "problem":
             self.notes.append({"kind": "Comment", "text": told})
         self.publish(promise, told if kind == "value" else Broken(told))
