@@ -184,9 +184,9 @@ class SeveralVats(RandomSession):
     def birth(self):
         known = [*self.vats()]
         fresh = [it for it in self.NAMES if it not in known]
-        name = self.random.choice(fresh if fresh and self.chance(0.97) else self.NAMES)
+        name = self.random.choice(fresh if fresh and self.chance(0.94) else self.NAMES)
         earlier = self.random.sample(known, self.random.randint(min(1, len(known)), min(3, len(known))))
-        if self.chance(0.03):
+        if self.chance(0.06):
             earlier.append(self.random.choice(self.NAMES))
         script = self.spoilt(0.03, Talk(self.random, [], earlier).script())
         self.give("\n".join([f"vat {name} ({' '.join(earlier)}) {script.count(chr(10)) + 1}", script]))
@@ -207,10 +207,11 @@ class SeveralVats(RandomSession):
             self.give(f"turn e{self.book.next - 1}.m0")
 
     def act(self, without=(), learning=1):
-        """What is enabled, any of it but these, rather what a message does than what a vat learns."""
+        """What is enabled, any of it but these, rather what a message does than what a vat learns; most often a forwarding,
+        which seldom is."""
         found = [action for action in (" ".join(map(str, it)) for it in self.book.enabled()) if action not in without]
         if found:
-            weights = [learning if action.startswith("learn") else 4 for action in found]
+            weights = [{"learn": learning, "forward": 20}.get(action.split()[0], 4) for action in found]
             self.give(self.random.choices(found, weights)[0])
 
     def act_often(self):
@@ -232,7 +233,7 @@ class SeveralVats(RandomSession):
             message = self.random.choice(waiting)
         promises = [str(cell[2]) for cell in self.book.world if cell[0] == "view"] or ["e1.p0"]
         name = self.random.choice(self.NAMES)
-        self.give(self.random.choice([f"turn {message}", f"forward {message}", f"arrive {message}",
+        self.give(self.random.choice([f"turn {message}", f"turn {message}", f"forward {message}", f"arrive {message}",
                                       f"learn {name} {self.random.choice(promises)}", f"learn {name} e{self.event()}.p0",
                                       f"turn {message}x", "learn ann", "run 1000001"]))
 
