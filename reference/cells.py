@@ -1,10 +1,21 @@
-"""Cells of the world. A cell is named by its kind, the vat that it belongs to, if it belongs to one, and its own name."""
+"""Cells of the world. A cell is named by its kind, the vat that it belongs to, if it belongs to one, and its own name.
+
+    ("name", TEXT)               contents.Vat
+    ("message", MESSAGE)         contents.Message
+    ("board", PROMISE)           contents.Published
+    ("top", VAT, TEXT)           what a top noun of a vat stands for: a value, or a variable's slot
+    ("slot", VAT, SLOT)          the value of a variable
+    ("object", VAT, OBJECT)      contents.Made or contents.Resolver
+    ("view", VAT, PROMISE)       contents.OPEN, or the value that the vat knows the promise resolved to
+    ("fence", VAT, REFERENCE)    a set of names of messages; where the cell is absent the set is empty
+"""
 from dataclasses import dataclass, field
 
 
 @dataclass
 class Cells:
-    """The world that an event finds, the cells that it touches, and what it writes."""
+    """The world that an event finds, the cells that it touches, and what it writes. It touches what it finds absent too,
+    and what it writes. A write of equal content is a write."""
     world: dict
     touched: set = field(default_factory=set)
     written: dict = field(default_factory=dict)
@@ -16,6 +27,19 @@ class Cells:
     def write(self, cell, content):
         self.touched.add(cell)
         self.written[cell] = content
+
+
+@dataclass
+class Home:
+    """The cells of one vat among all cells."""
+    cells: Cells
+    vat: int
+
+    def read(self, kind, name, absent=None):
+        return self.cells.read((kind, self.vat, name), absent)
+
+    def write(self, kind, name, content):
+        self.cells.write((kind, self.vat, name), content)
 
 
 def listed(world, *beginning):

@@ -1,19 +1,19 @@
-"""What a program may name, how large it may be, and what an object captures."""
-from reading import (Assign, Call, Define, DefineList, Escape, For, Hide, If, List, Literal, Noun, Null, Object, Refusal,
-                     Same, Throw, Try, Variable, While)
+"""What a program may name, how large it may be, and what an object or a `when` captures."""
+from reading import (Assign, BreakRef, Call, Define, DefineList, Escape, For, Hide, If, List, Literal, NewPromise, Noun,
+                     Null, Object, Refusal, Same, Send, StateRef, Throw, Try, Variable, When, While)
 
 MOST_NODES, MOST_DEPTH = 16_384, 200
 
 
 def children(node):
     match node:
-        case Null() | Literal() | Noun():
+        case Null() | Literal() | Noun() | NewPromise():
             return ()
         case Define(_, right) | DefineList(_, right) | Variable(_, right) | Assign(_, right):
             return (right,)
-        case Throw(problem):
-            return (problem,)
-        case Call(receiver, _, arguments):
+        case Throw(part) | BreakRef(part) | StateRef(part):
+            return (part,)
+        case Call(receiver, _, arguments) | Send(receiver, _, arguments):
             return (receiver, *arguments)
         case List(items):
             return items
@@ -29,6 +29,8 @@ def children(node):
             return (items, *block)
         case Try(block, _, handler):
             return (*block, *handler)
+        case When(value, block, _, handler):
+            return (value, *block, *(handler or ()))
         case Object(_, methods):
             return tuple(item for method in methods for item in method.block)
 
@@ -117,6 +119,10 @@ class Walk:
             case Try(block, pattern, handler):
                 self.block(block)
                 self.block(handler, (pattern,))
+            case When(value, block, pattern, handler):
+                self.node(value)
+                self.block(block)
+                self.block(handler or (), (pattern,))
             case Escape(name, block):
                 self.block(block, (name,))
             case _:
@@ -163,13 +169,14 @@ class Captures(Walk):
             self.names = [*self.names[:before], name, *(it for it in self.names[before:] if it != name)]
 
 
-def check(items, top_names=None):
-    """The names that a program defines in its own scope; it is a script where no top names are given."""
+def check(items, own=(), around=None):
+    """The names of a program's own scope. A script has its earlier vats' names there from the beginning; an asked program
+    has a scope around it, with the names that its vat knows."""
     if sum(map(size, items)) > MOST_NODES:
         raise Refusal("K5 TooLong")
     if max(map(depth, items), default=0) > MOST_DEPTH:
         raise Refusal("K4 TooDeep")
-    walk = Check([{}] if top_names is None else [top_names, {}])
+    walk = Check([{name: False for name in own}] if around is None else [around, {}])
     walk.all(items)
     return walk.scopes[-1]
 
@@ -179,4 +186,12 @@ def captures(made):
     walk = Captures([{} if made.pattern is None else {made.pattern: False}])
     for method in made.methods:
         walk.block(method.block, method.parameters)
+    return walk.names
+
+
+def captures_of_when(made):
+    """The names that a `when` captures, behind its value."""
+    walk = Captures([{}])
+    walk.block(made.block)
+    walk.block(made.handler or (), (made.pattern,))
     return walk.names

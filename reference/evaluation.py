@@ -1,140 +1,19 @@
-"""Turns: how a program is evaluated among the cells of its vat."""
-import itertools
-import operator
-from dataclasses import dataclass
+"""How a program is evaluated among the cells of its vat."""
+from checking import captures, captures_of_when
+from contents import Made, Resolver
+from reading import (Assign, BreakRef, Call, Define, DefineList, Escape, For, Hide, If, List, Literal, NewPromise, Noun,
+                     Null, Object, Same, Send, StateRef, Throw, Try, Variable, When, While)
+from references import end_of, settled, state_of
+from values import (Broken, EjectorName, ObjectName, PromiseName, Reference, SlotName, Thrown, data_call, limited, no_method,
+                    promises_in, same, wanted)
+from working import Abandoned, Working
 
-from checking import captures
-from reading import (Assign, Call, Define, DefineList, Escape, For, Hide, If, List, Literal, Noun, Null, Object, Same, Throw,
-                     Try, Variable, While)
-
-MOST_WEIGHT, MOST_LISTS, DEEPEST, MOST_MADE = 65_536, 64, 1_000, 4_096
+DEEPEST = 1_000
 UNDEFINED = object()
-INTEGER_VERBS = {"add": operator.add, "subtract": operator.sub, "multiply": operator.mul, "floorDivide": operator.floordiv,
-                 "lessThan": operator.lt, "atMost": operator.le, "moreThan": operator.gt, "atLeast": operator.ge}
-SHOWN_ESCAPES = str.maketrans({'"': '\\"', "\\": "\\\\", "\n": "\\n", "\t": "\\t", "\r": "\\r"})
-
-
-class Thrown(Exception):
-    """A problem."""
 
 
 class Ejected(Exception):
     """An ejector, and the value that it was given."""
-
-
-class Abandoned(Exception):
-    """Why nothing of the turn remains."""
-
-
-@dataclass(frozen=True, order=True)
-class Reference:
-    """An object `o`, an ejector `j` or a slot `s`: named by its event and a number."""
-    event: int
-    kind: str
-    index: int
-
-    def __str__(self):
-        return f"e{self.event}.{self.kind}{self.index}"
-
-
-@dataclass(frozen=True)
-class Broken:
-    problem: str
-
-
-def is_slot(meaning):
-    """Whether a name stands for a variable, and not for a value."""
-    return isinstance(meaning, Reference) and meaning.kind == "s"
-
-
-def quoted(text):
-    return f'"{text.translate(SHOWN_ESCAPES)}"'
-
-
-def shown(value):
-    if value is None or isinstance(value, bool):
-        return {None: "null", True: "true", False: "false"}[value]
-    if isinstance(value, str):
-        return quoted(value)
-    if isinstance(value, tuple):
-        return f"[{', '.join(map(shown, value))}]"
-    if isinstance(value, Broken):
-        return f"<broken {quoted(value.problem)}>"
-    return f"<{value}>" if isinstance(value, Reference) else str(value)
-
-
-def weight(value):
-    if isinstance(value, str):
-        return 1 + len(value.encode())
-    return 1 + sum(map(weight, value)) if isinstance(value, tuple) else 1
-
-
-def list_depth(value):
-    return 1 + max(map(list_depth, value), default=0) if isinstance(value, tuple) else 0
-
-
-def is_within_limits(value):
-    return weight(value) <= MOST_WEIGHT and list_depth(value) <= MOST_LISTS
-
-
-def limited(value):
-    if not is_within_limits(value):
-        raise Thrown("value too large")
-    return value
-
-
-def same(one, other):
-    if type(one) is not type(other):
-        return False
-    if isinstance(one, tuple):
-        return len(one) == len(other) and all(map(same, one, other))
-    return one == other
-
-
-def wanted(value, kind, problem):
-    if type(value) is not kind:
-        raise Thrown(problem)
-    return value
-
-
-def integer_call(left, verb, right):
-    if verb == "floorDivide" and right == 0:
-        raise Thrown("division by zero")
-    return in_range(INTEGER_VERBS[verb](left, right))
-
-
-def in_range(result):
-    if type(result) is int and not -2 ** 63 <= result < 2 ** 63:
-        raise Thrown("integer too large")
-    return result
-
-
-def item_at(items, index):
-    if not 0 <= index < len(items):
-        raise Thrown("index out of range")
-    return items[index]
-
-
-def data_call(receiver, verb, arguments):
-    """What a verb of data gives."""
-    match receiver, verb, arguments:
-        case bool(), "not", ():
-            return not receiver
-        case bool(), _, _:
-            pass
-        case int(), "negate", ():
-            return in_range(-receiver)
-        case int(), _, (argument,) if verb in INTEGER_VERBS:
-            return integer_call(receiver, verb, wanted(argument, int, "bad argument"))
-        case str() | tuple(), "size", ():
-            return len(receiver)
-        case str() | tuple(), "add", (argument,):
-            return limited(receiver + wanted(argument, type(receiver), "bad argument"))
-        case tuple(), "with", (argument,):
-            return limited((*receiver, argument))
-        case tuple(), "get", (argument,):
-            return item_at(receiver, wanted(argument, int, "bad argument"))
-    raise Thrown(f"no method {verb}/{len(arguments)}")
 
 
 class Scope:
@@ -146,36 +25,36 @@ class Scope:
         self.is_script = is_script
 
 
-class Turn:
-    """The cells of its vat are what the top nouns stand for, what the slots hold, and each object with what it captured."""
+class Turn(Working):
+    """Evaluates. A node begins: the budget is tested, its step is taken, its level is tested. Then its parts are evaluated
+    from the left. What a construct touches of the vat's cells is what it reads and writes here by `home`."""
 
-    def __init__(self, cells, vat, event, budget):
-        self.cells, self.vat, self.event, self.steps = cells, vat, event, budget
-        self.numbers = {kind: itertools.count() for kind in "soj"}
+    def __init__(self, home, event, steps):
+        super().__init__(home, event, steps)
         self.open = []
 
-    def new(self, kind):
-        index = next(self.numbers[kind])
-        if kind != "j" and index >= MOST_MADE:
-            raise Abandoned("turn too large")
-        return Reference(self.event, kind, index)
-
     def meaning(self, scope, name):
+        """What a name stands for. One that no scope around has is a top noun: its Top is touched, an absent one too."""
         names = scope.names
         while names is not None:
             spelled, meaning, names = names
             if spelled == name:
                 return meaning
-        meaning = self.cells.read(("top", self.vat, name), UNDEFINED)
+        meaning = self.home.read("top", name, UNDEFINED)
         if meaning is UNDEFINED:
             raise Thrown(f"undefined noun {name}")
         return meaning
+
+    def captured(self, scope, names):
+        """Captures go in order of the text. A capture touches Top and never Slot; an undefined top noun throws at its
+        own capture, and the Tops until then are touched, its own absent one too."""
+        return tuple((name, self.meaning(scope, name)) for name in names)
 
     def bind(self, scope, name, meaning):
         if name is None:
             return
         if scope.is_script:
-            self.cells.write(("top", self.vat, name), meaning)
+            self.home.write("top", name, meaning)
         else:
             scope.names = (name, meaning, scope.names)
 
@@ -191,8 +70,16 @@ class Turn:
             self.bind(scope, name, value)
         return self.items(scope, items, level)
 
+    def datum(self, value, kind, problem):
+        """The end of a value where a datum of this kind is wanted. A broken end throws its problem; an unresolved promise
+        and another reference are of the wrong kind."""
+        end = end_of(self.home, value)
+        if isinstance(end, Broken):
+            raise Thrown(end.problem)
+        return wanted(end, kind, problem)
+
     def truth(self, scope, condition, level):
-        return wanted(self.value(scope, condition, level), bool, "not a truth value")
+        return self.datum(self.value(scope, condition, level), bool, "not a truth value")
 
     def value(self, scope, node, level):
         if self.steps == 0:
@@ -211,7 +98,7 @@ class Turn:
                 return limited(value)
             case Noun(name):
                 meaning = self.meaning(scope, name)
-                return self.cells.read(("slot", self.vat, meaning)) if is_slot(meaning) else meaning
+                return self.home.read("slot", meaning) if isinstance(meaning, SlotName) else meaning
             case Define(pattern, right):
                 value = self.value(scope, right, level)
                 self.bind(scope, pattern, value)
@@ -220,30 +107,41 @@ class Turn:
                 return self.define_list(scope, patterns, self.value(scope, right, level))
             case Variable(name, right):
                 value = self.value(scope, right, level)
-                slot = self.new("s")
-                self.cells.write(("slot", self.vat, slot), value)
-                self.bind(scope, name, slot)
+                self.bind(scope, name, self.new_slot(value))
                 return value
             case Assign(name, right):
                 value = self.value(scope, right, level)
-                self.cells.write(("slot", self.vat, self.meaning(scope, name)), value)
+                self.home.write("slot", self.meaning(scope, name), value)
                 return value
             case List(items):
                 return limited(tuple(self.value(scope, item, level) for item in items))
             case Same(left, right):
-                return same(self.value(scope, left, level), self.value(scope, right, level))
+                left = self.value(scope, left, level)
+                return self.same(left, self.value(scope, right, level))
             case Hide(block):
                 return self.block(scope.names, block, level)
             case If(condition, first, second):
                 chosen = first if self.truth(scope, condition, level) else second
                 return self.block(scope.names, chosen, level)
             case Throw(problem):
-                raise Thrown(wanted(self.value(scope, problem, level), str, "not a text"))
+                raise Thrown(self.datum(self.value(scope, problem, level), str, "not a text"))
             case Object():
                 return self.define_object(scope, node)
             case Call(receiver, verb, arguments):
                 receiver = self.value(scope, receiver, level)
                 return self.call(receiver, verb, tuple(self.value(scope, it, level) for it in arguments), level)
+            case Send(receiver, verb, arguments):
+                receiver = self.value(scope, receiver, level)
+                return self.send(receiver, verb, tuple(self.value(scope, it, level) for it in arguments))
+            case When(value):
+                value = self.value(scope, value, level)
+                return self.wait(value, node, self.captured(scope, captures_of_when(node)))
+            case NewPromise():
+                return self.promise_and_resolver()
+            case BreakRef(problem):
+                return Broken(self.datum(self.value(scope, problem, level), str, "not a text"))
+            case StateRef(value):
+                return state_of(self.home, self.value(scope, value, level))
             case Escape(name, block):
                 return self.escape(scope, name, block, level)
             case Try(block, pattern, handler):
@@ -253,7 +151,7 @@ class Turn:
                     caught = str(problem)
                 return self.block(scope.names, handler, level, [(pattern, caught)])
             case For(pattern, items, block):
-                for item in wanted(self.value(scope, items, level), tuple, "not a list"):
+                for item in self.datum(self.value(scope, items, level), tuple, "not a list"):
                     self.block(scope.names, block, level, [(pattern, item)])
                 return None
             case While(condition, block):
@@ -264,21 +162,31 @@ class Turn:
                 return None
 
     def define_list(self, scope, patterns, value):
-        if type(value) is not tuple or len(value) != len(patterns):
+        """The items are bound as they stand in the list, and the value is what it was, a promise perhaps."""
+        items = self.datum(value, tuple, "wrong list")
+        if len(items) != len(patterns):
             raise Thrown("wrong list")
-        for pattern, item in zip(patterns, value):
+        for pattern, item in zip(patterns, items):
             self.bind(scope, pattern, item)
         return value
 
     def define_object(self, scope, node):
-        captured = [(name, self.meaning(scope, name)) for name in captures(node)]
-        made = self.new("o")
-        self.cells.write(("object", self.vat, made), (node, captured))
+        """Captures are taken before the object is made, so one that throws draws no index."""
+        captured = self.captured(scope, captures(node))
+        made = self.new_object(Made(node, captured))
         self.bind(scope, node.pattern, made)
         return made
 
+    def same(self, left, right):
+        """Both sides are evaluated, then both are settled, the left one first, and only then looked at: a side that has no
+        settled form is told before a promise is. Where the left side has none the right one's Views are not touched."""
+        left, right = settled(self.home, left), settled(self.home, right)
+        if any(promises_in((left, right))):
+            raise Thrown("not settled")
+        return same(left, right)
+
     def escape(self, scope, name, block, level):
-        ejector = self.new("j")
+        ejector = self.new_ejector()
         self.open.append(ejector)
         try:
             return self.block(scope.names, block, level, [(name, ejector)])
@@ -291,41 +199,47 @@ class Turn:
             self.open.pop()
 
     def call(self, receiver, verb, arguments, level):
-        no_method = Thrown(f"no method {verb}/{len(arguments)}")
-        if not isinstance(receiver, Reference):
-            return data_call(receiver, verb, arguments)
-        if receiver.kind == "j":
-            if verb != "run" or len(arguments) > 1:
-                raise no_method
-            if receiver not in self.open:
-                raise Thrown("ejector is spent")
-            raise Ejected(receiver, *(arguments or (None,)))
-        node, captured = self.cells.read(("object", self.vat, receiver))
-        for method in node.methods:
+        """An immediate call goes to the receiver's end, which is taken when the arguments were evaluated. The parts of a
+        method stand at this level."""
+        match end_of(self.home, receiver):
+            case Broken(problem):
+                raise Thrown(problem)
+            case PromiseName():
+                raise Thrown("not near")
+            case Reference(vat=vat) if vat != self.home.vat:
+                raise Thrown("not near")
+            case ObjectName() as made:
+                return self.call_object(made, verb, arguments, level)
+            case EjectorName() as ejector:
+                return self.call_ejector(ejector, verb, arguments)
+            case data:
+                return data_call(data, verb, arguments, self.datum)
+
+    def call_ejector(self, ejector, verb, arguments):
+        """An ejector is no cell."""
+        if verb != "run" or len(arguments) > 1:
+            raise no_method(verb, arguments)
+        if ejector not in self.open:
+            raise Thrown("ejector is spent")
+        raise Ejected(ejector, *(arguments or (None,)))
+
+    def call_object(self, made, verb, arguments, level):
+        """The Object is touched, also where the verb is not found; no argument is then looked at."""
+        content = self.home.read("object", made)
+        if isinstance(content, Resolver):
+            return self.call_resolver(content.promise, verb, arguments)
+        for method in content.node.methods:
             if method.verb == verb and len(method.parameters) == len(arguments):
-                bound = [*captured, (node.pattern, receiver), *zip(method.parameters, arguments)]
+                bound = [*content.captured, (content.node.pattern, made), *zip(method.parameters, arguments)]
                 return self.block(None, method.block, level, bound)
-        raise no_method
+        raise no_method(verb, arguments)
 
-
-@dataclass(frozen=True)
-class Outcome:
-    kind: str
-    told: object
-
-    @property
-    def published(self):
-        return self.told if self.kind == "value" else Broken(self.told)
-
-
-def run(cells, message, event, budget):
-    """The outcome of a message's turn. What the turn touches and writes of its vat is kept by the cells."""
-    turn = Turn(cells, message.vat, event, budget)
-    try:
-        value = turn.items(Scope(is_script=message.is_script), message.items, 1)
-        return Outcome("value", value) if is_within_limits(value) else Outcome("problem", "value too large")
-    except Thrown as problem:
-        return Outcome("problem", str(problem))
-    except Abandoned as reason:
-        cells.written.clear()
-        return Outcome("abandoned", str(reason))
+    def call_resolver(self, promise, verb, arguments):
+        """What is given is settled, or looked at as a text, before it is tried whether the resolver was used."""
+        match verb, arguments:
+            case "resolve", (value,):
+                self.resolve(promise, settled(self.home, value))
+            case "smash", (problem,):
+                self.resolve(promise, Broken(self.datum(problem, str, "not a text")))
+            case _:
+                raise no_method(verb, arguments)

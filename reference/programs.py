@@ -32,7 +32,20 @@ IDIOMS = [
     "[1, [true, E]] == [1, [true, E]]",
     "def [_, _] := [E, E]",
 ]
-
+IDIOMS_OF_REFERENCES = [
+    "def [q, r] := Ref.promise(); r.resolve(E); q <- run(E)",
+    "def [q, r] := Ref.promise(); q <- run(E); r.resolve(def _ { method run(x) { x } })",
+    "def [q, r] := Ref.promise(); r.resolve([q, E]); [Ref.state(q), E]",
+    "def [q, r] := Ref.promise(); r.resolve([q]); q == E",
+    'def [q, r] := Ref.promise(); r.smash("lost"); try { q + E } catch p { p }',
+    'Ref.broken("lost") + E',
+    "when (E) -> { E } catch p { [p, E] }",
+    "when (E <- size()) -> { E }",
+    "Ref.state(E <- run(E))",
+    "([E, E] <- get(E)) <- add(E)",
+    "def [q, r] := Ref.promise(); r.resolve(E); r.resolve(E)",
+    "var u := 0; while (u < 5) { u := u + 1; E <- run(u) }",
+]
 
 # A script of variables, data and objects, and what asked programs do with them.
 SHARED = [
@@ -101,10 +114,11 @@ def shared_script(random):
 
 
 class Program:
-    """Writes a program in which these names stand in the scope around it: names with whether they are variables."""
+    """Writes a program in which these names stand in the scope around it: names with whether they are variables. With
+    references it has sends, whens and the `Ref` forms."""
 
-    def __init__(self, random, names=()):
-        self.random, self.scopes = random, [dict(names), {}]
+    def __init__(self, random, names=(), has_references=False):
+        self.random, self.scopes, self.has_references = random, [dict(names), {}], has_references
         self.size = random.choice([6, 12, 25, 50, 90])
 
     def chance(self, part):
@@ -152,7 +166,8 @@ class Program:
         if self.size <= 0:
             return self.leaf()
         if self.chance(0.15):
-            return filled(self.random.choice(IDIOMS), self.expression)
+            idioms = IDIOMS_OF_REFERENCES if self.has_references and self.chance(0.5) else IDIOMS
+            return filled(self.random.choice(idioms), self.expression)
         kind = self.random.choices(["def", "var", "assign", "list", "return", ""], [16, 10, 16, 4, 4, 50])[0]
         match kind:
             case "def":
@@ -189,7 +204,22 @@ class Program:
         if self.size <= 0:
             return self.leaf()
         ways = {self.leaf: 22, self.operation: 29, self.call: 14, self.control: 15, self.object: 5}
+        if self.has_references:
+            ways[self.reference] = 15
         return self.random.choices([*ways], [*ways.values()])[0]()
+
+    def reference(self):
+        match self.random.choice(["send", "send", "send", "when", "promise", "broken", "state"]):
+            case "send":
+                return f"{self.operand()} <- {self.random.choice(VERBS)}({self.parts(0, 1, 1, 1, 2)})"
+            case "when":
+                head = f"when ({self.expression()}) -> {self.block()}"
+                return head if self.chance(0.4) else f"{head} " + self.bound(lambda it: f"catch {it}")
+            case "promise":
+                return f"Ref.promise(){self.random.choice(['', '[0]', '[1]'])}"
+            case "broken":
+                return f"Ref.broken({self.leaf()})"
+        return f"Ref.state({self.expression()})"
 
     def operation(self):
         kind = self.random.choices(["join", "prefix", "list", "item"], [28, 3, 6, 2])[0]

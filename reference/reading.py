@@ -8,12 +8,14 @@ SIGNS = "<- -> := == != <= >= && || // ( ) [ ] { } , ; . < > ! + - *".split()
 ENDS_AN_ITEM = frozenset("NAME INT TEXT true false null return ) ] }".split())
 BEGINS_AN_ITEM = frozenset("""NAME INT TEXT true false null Ref throw def var if while for escape try when return ( [ !
 -""".split())
-BEGINS_AN_OPERATION = frozenset("INT TEXT true false null NAME [ ( { if while for escape try throw def ! -".split())
+BEGINS_AN_OPERATION = frozenset("""INT TEXT true false null NAME [ ( { if while for escape try throw def when Ref ! -
+""".split())
 ESCAPED = {'"': '"', "\\": "\\", "'": "'", "n": "\n", "t": "\t", "r": "\r"}
 COMPARISONS = {"<": "lessThan", "<=": "atMost", ">": "moreThan", ">=": "atLeast"}
 SUMS = {"+": "add", "-": "subtract"}
 PRODUCTS = {"*": "multiply", "//": "floorDivide"}
 PREFIXES = {"!": "not", "-": "negate"}
+BEHIND_REF = ("promise", "broken", "state")
 MOST_BYTES, MOST_TOKENS, MOST_BRACKETS = 65_536, 16_384, 100
 
 
@@ -130,6 +132,37 @@ class Escape:
 
 
 @dataclass(frozen=True)
+class Send:
+    receiver: object
+    verb: str
+    arguments: tuple = ()
+
+
+@dataclass(frozen=True)
+class When:
+    """Without a `catch` it has no handler."""
+    value: object
+    block: tuple
+    pattern: object = None
+    handler: object = None
+
+
+@dataclass(frozen=True)
+class NewPromise:
+    pass
+
+
+@dataclass(frozen=True)
+class BreakRef:
+    problem: object
+
+
+@dataclass(frozen=True)
+class StateRef:
+    value: object
+
+
+@dataclass(frozen=True)
 class Method:
     verb: str
     parameters: tuple
@@ -180,9 +213,10 @@ def token_at(text, start):
     first = chr(text[start]) if text[start] < 128 else ""
     if first.isdigit():
         end = end_of(text, start, str.isdigit)
-        if int(text[start:end]) >= 2 ** 63:
+        digits = text[start:end].lstrip(b"0") or b"0"
+        if len(digits) > 19 or int(digits) >= 2 ** 63:
             raise Refusal(f"L4 IntegerTooLarge {start}")
-        return Token("INT", start, int(text[start:end])), end
+        return Token("INT", start, int(digits)), end
     if first == '"':
         return text_token(text, start)
     if first.isalpha() or first == "_":
@@ -235,11 +269,13 @@ def tokens(text):
 
 
 class Reader:
-    """Reads by recursive descent, with one token of look-ahead. A pattern is a name, or None for `_`."""
+    """Reads by recursive descent, with one token of look-ahead. A pattern is a name, or None for `_`. Without references no
+    sends, whens and `Ref` forms are read."""
 
-    def __init__(self, text):
+    def __init__(self, text, has_references):
         self.tokens = [*tokens(text), Token("END", len(text))]
         self.at = 0
+        self.has_references = has_references
 
     @property
     def kind(self):
@@ -378,6 +414,10 @@ class Reader:
                 made = Call(made, "run", self.parts(")", self.operation))
             elif self.skip("["):
                 made = Call(made, "get", self.parts("]", self.operation))
+            elif self.has_references and self.skip("<-"):
+                verb = "run" if self.kind == "(" else self.name()
+                self.take("(")
+                made = Send(made, verb, self.parts(")", self.operation))
             else:
                 return made
 
@@ -405,7 +445,8 @@ class Reader:
             return self.choice()
         if self.kind == "{":
             return Hide(self.block())
-        begin = self.take("null", "[", "(", "while", "for", "escape", "try", "throw", "def").kind
+        with_references = ("when", "Ref") if self.has_references else ()
+        begin = self.take("null", "[", "(", "while", "for", "escape", "try", "throw", "def", *with_references).kind
         if begin == "null":
             return Null()
         if begin == "[":
@@ -426,9 +467,27 @@ class Reader:
             block = self.block()
             self.take("catch")
             return Try(block, self.pattern(), self.block())
+        if begin == "when":
+            value = self.condition()
+            self.take("->")
+            block = self.block()
+            return When(value, block, self.pattern(), self.block()) if self.skip("catch") else When(value, block)
+        if begin == "Ref":
+            return self.reference()
         if begin == "throw":
             return Throw(self.condition())
         return self.object()
+
+    def reference(self):
+        self.take(".")
+        if self.tokens[self.at].value not in BEHIND_REF:
+            self.unexpected()
+        word = self.name()
+        if word == "promise":
+            self.take("(")
+            self.take(")")
+            return NewPromise()
+        return BreakRef(self.condition()) if word == "broken" else StateRef(self.condition())
 
     def object(self):
         pattern = self.pattern()
@@ -443,6 +502,6 @@ class Reader:
         return Object(pattern, tuple(methods))
 
 
-def read(text):
+def read(text, has_references=True):
     """The items of the program that a text, as bytes, spells."""
-    return Reader(text).items("END")
+    return Reader(text, has_references).items("END")
