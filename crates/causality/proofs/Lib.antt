@@ -15,3 +15,4 @@ pub mod Pairs
 pub mod Redoing
 pub mod Telling
 pub mod Writers
+pub mod Touched

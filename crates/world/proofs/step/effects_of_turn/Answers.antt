@@ -1,3 +1,4 @@
+use Rattle.std.proofs.lemmas.Result.{err_from_is_err_and}
 use Rattle.post.specs.View.{world_of}
 use Rattle.post.specs.World.{vat_state}
 use Rattle.event.specs.Events.{turn_foot}
@@ -16,3 +17,6 @@ returns-clause-ok c =
       turn_foot e m (turned w e m c.args.budget g v r c.in_ok-message.ensures.ok c.in_ok-ran.ensures.ok) brings.cells brings.left,
       turn_happens w e m c.args.budget g v r c.in_ok-message.ensures.ok c.in_ok-ran.ensures.ok c.in_ok-turn_effects.field-0 brings,
     )
+
+pub returns-in_err-turn_effects-clause-err : goal.returns-in_err-turn_effects-clause-err
+returns-in_err-turn_effects-clause-err c = let p = err_from_is_err_and c.from_residual-in_err-turn_effects.result c.from_residual-in_err-turn_effects.ensures.1 in rw (p.1, p.2) tt
