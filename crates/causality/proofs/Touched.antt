@@ -1,6 +1,7 @@
 -- The touched cell that is the one that is sought.
-use Rattle.std.proofs.Common.{◌≡◌, ℕ, suc, drop, List, Bool, true, cond, Option, Some, None, unwrap_or, slice_get, refl, sym, ap, ap₂, ◌∙◌}
+use Rattle.std.proofs.Common.{◌≡◌, ℕ, suc, ◌<◌, length, get_or, drop, List, Bool, true, cond, Option, Some, None, unwrap_or, slice_get, refl, sym, ap, ap₂, ◌∙◌}
 use Rattle.std.proofs.lemmas.Bool.{and_parts}
+use Rattle.std.proofs.lemmas.Option.{slice_get-get_or}
 use Rattle.cells.proofs.Places.{drop_at}
 use Rattle.history.specs.Subject.{found}
 use Rattle.ids.specs.CellKeys.{same_key}
@@ -27,9 +28,10 @@ key_exact (key.Board p) (key.Board q) h = ap key.Board (exact_promise p q h)
 key_exact _ _ h = cc
 
 -- where no touched cell before it was the one, the writer of this is the writer of the cell
-pub writer_there : (ts : List Touched) (i : ℕ) (t : Touched) (q : CellKey) → slice_get ts i ≡ Some t → (test.ghosts).eq t.key q ≡ true
+pub writer_there : (ts cs : List Touched) (i : ℕ) (t : Touched) (q : CellKey) → cs ≡ ts → i < length cs → t ≡ get_or cs i t → (test.ghosts).eq t.key q ≡ true
     → found plain (lasts_of (drop i ts)) q ≡ found plain (lasts_of ts) q → number_of t.writer ≡ unwrap_or (found plain (lasts_of ts) q) None
-writer_there ts i t q at equal h =
+writer_there ts cs i t q is within at equal h =
+    let there : slice_get ts i ≡ Some t = ap (λ xs. slice_get xs i) (sym is) ∙ slice_get-get_or cs i t within ∙ ap Some (sym at) in
     let same : same_key t.key q ≡ true = ap (same_key t.key) (sym (key_exact t.key q equal)) ∙ same_self t.key in
     ap (λ (o : Option (Option ℕ)). unwrap_or o None)
-    (sym (sym h ∙ ap (λ us. found plain (lasts_of us) q) (drop_at ts (suc i) i t refl at) ∙ ap (λ b. cond b (Some (number_of t.writer)) (found plain (lasts_of (drop (suc i) ts)) q)) same))
+    (sym (sym h ∙ ap (λ us. found plain (lasts_of us) q) (drop_at ts (suc i) i t refl there) ∙ ap (λ b. cond b (Some (number_of t.writer)) (found plain (lasts_of (drop (suc i) ts)) q)) same))
