@@ -1,19 +1,19 @@
-"""What a program may name, how large it may be, and what an object captures."""
-from reading import (Assign, Call, Define, DefineList, Escape, For, Hide, If, List, Literal, Noun, Null, Object, Refusal,
-                     Same, Throw, Try, Variable, While)
+"""What a program may name, how large it may be, and what an object or a `when` captures."""
+from reading import (Assign, BreakRef, Call, Define, DefineList, Escape, For, Hide, If, List, Literal, NewPromise, Noun, Null,
+                     Object, Refusal, Same, Send, StateRef, Throw, Try, Variable, When, While)
 
 MOST_NODES, MOST_DEPTH = 16_384, 200
 
 
 def children(node):
     match node:
-        case Null() | Literal() | Noun():
+        case Null() | Literal() | Noun() | NewPromise():
             return ()
         case Define(_, right) | DefineList(_, right) | Variable(_, right) | Assign(_, right):
             return (right,)
-        case Throw(problem):
-            return (problem,)
-        case Call(receiver, _, arguments):
+        case Throw(part) | BreakRef(part) | StateRef(part):
+            return (part,)
+        case Call(receiver, _, arguments) | Send(receiver, _, arguments):
             return (receiver, *arguments)
         case List(items):
             return items
@@ -29,6 +29,8 @@ def children(node):
             return (items, *block)
         case Try(block, _, handler):
             return (*block, *handler)
+        case When(value, block, _, handler):
+            return (value, *block, *(handler or ()))
         case Object(_, methods):
             return tuple(item for method in methods for item in method.block)
 
@@ -117,6 +119,10 @@ class Walk:
             case Try(block, pattern, handler):
                 self.block(block)
                 self.block(handler, (pattern,))
+            case When(value, block, pattern, handler):
+                self.node(value)
+                self.block(block)
+                self.block(handler or (), (pattern,))
             case Escape(name, block):
                 self.block(block, (name,))
             case _:
@@ -179,4 +185,12 @@ def captures(made):
     walk = Captures([{} if made.pattern is None else {made.pattern: False}])
     for method in made.methods:
         walk.block(method.block, method.parameters)
+    return walk.names
+
+
+def captures_of_when(made):
+    """The names that a `when` captures, behind its value."""
+    walk = Captures([{}])
+    walk.block(made.block)
+    walk.block(made.handler or (), (made.pattern,))
     return walk.names

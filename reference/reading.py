@@ -8,12 +8,14 @@ SIGNS = "<- -> := == != <= >= && || // ( ) [ ] { } , ; . < > ! + - *".split()
 ENDS_AN_ITEM = frozenset("NAME INT TEXT true false null return ) ] }".split())
 BEGINS_AN_ITEM = frozenset("""NAME INT TEXT true false null Ref throw def var if while for escape try when return ( [ !
 -""".split())
-BEGINS_AN_OPERATION = frozenset("INT TEXT true false null NAME [ ( { if while for escape try throw def ! -".split())
+BEGINS_AN_OPERATION = frozenset("""INT TEXT true false null NAME [ ( { if while for escape try throw def when Ref ! -
+""".split())
 ESCAPED = {'"': '"', "\\": "\\", "'": "'", "n": "\n", "t": "\t", "r": "\r"}
 COMPARISONS = {"<": "lessThan", "<=": "atMost", ">": "moreThan", ">=": "atLeast"}
 SUMS = {"+": "add", "-": "subtract"}
 PRODUCTS = {"*": "multiply", "//": "floorDivide"}
 PREFIXES = {"!": "not", "-": "negate"}
+BEHIND_REF = ("promise", "broken", "state")
 MOST_BYTES, MOST_TOKENS, MOST_BRACKETS = 65_536, 16_384, 100
 
 
@@ -127,6 +129,37 @@ class Throw:
 class Escape:
     name: str
     block: tuple
+
+
+@dataclass(frozen=True)
+class Send:
+    receiver: object
+    verb: str
+    arguments: tuple = ()
+
+
+@dataclass(frozen=True)
+class When:
+    """Without a `catch` it has no handler."""
+    value: object
+    block: tuple
+    pattern: object = None
+    handler: object = None
+
+
+@dataclass(frozen=True)
+class NewPromise:
+    pass
+
+
+@dataclass(frozen=True)
+class BreakRef:
+    problem: object
+
+
+@dataclass(frozen=True)
+class StateRef:
+    value: object
 
 
 @dataclass(frozen=True)
@@ -378,6 +411,10 @@ class Reader:
                 made = Call(made, "run", self.parts(")", self.operation))
             elif self.skip("["):
                 made = Call(made, "get", self.parts("]", self.operation))
+            elif self.skip("<-"):
+                verb = "run" if self.kind == "(" else self.name()
+                self.take("(")
+                made = Send(made, verb, self.parts(")", self.operation))
             else:
                 return made
 
@@ -405,7 +442,8 @@ class Reader:
             return self.choice()
         if self.kind == "{":
             return Hide(self.block())
-        begin = self.take("null", "[", "(", "while", "for", "escape", "try", "throw", "def").kind
+        begin = self.take("null", "[", "(", "while", "for", "escape", "try", "throw", "def", "when",
+                          "Ref").kind
         if begin == "null":
             return Null()
         if begin == "[":
@@ -426,9 +464,27 @@ class Reader:
             block = self.block()
             self.take("catch")
             return Try(block, self.pattern(), self.block())
+        if begin == "when":
+            value = self.condition()
+            self.take("->")
+            block = self.block()
+            return When(value, block, self.pattern(), self.block()) if self.skip("catch") else When(value, block)
+        if begin == "Ref":
+            return self.reference()
         if begin == "throw":
             return Throw(self.condition())
         return self.object()
+
+    def reference(self):
+        self.take(".")
+        if self.tokens[self.at].value not in BEHIND_REF:
+            self.unexpected()
+        word = self.name()
+        if word == "promise":
+            self.take("(")
+            self.take(")")
+            return NewPromise()
+        return BreakRef(self.condition()) if word == "broken" else StateRef(self.condition())
 
     def object(self):
         pattern = self.pattern()
