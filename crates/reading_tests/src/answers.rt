@@ -128,7 +128,7 @@ fn known(alloc: Global) -> Result<Vec<TopName>, CheckFault> {
 }
 
 fn check_asked(alloc: Global, program: &Program) -> Result<(), CheckFault> {
-    let outer = Outer::for_asked(alloc, &known(alloc)?)?;
+    let outer = Outer::for_asked(alloc, &[], &known(alloc)?)?;
     check(alloc, program, &outer)
 }
 

@@ -127,9 +127,10 @@ pub record Scopes : Type 0 where
 abbrev pub script_scopes : List Name → Scopes
 script_scopes earlier = record { own = names_in (definitions earlier); around = no_names }
 
--- an asked program stands in a scope of its own, inside one that has the names of its vat
-abbrev pub asked_scopes : List TopName → Scopes
-asked_scopes known = record { own = no_names; around = names_in known }
+-- an asked program stands in a scope of its own, inside one that has the names of the vats before its own and those that the script of
+-- its vat defined
+abbrev pub asked_scopes : List Name → List TopName → Scopes
+asked_scopes earlier tops = record { own = no_names; around = with_names tops (names_in (definitions earlier)) }
 
 -- why a program is refused
 pub data Refusal : Type 0 where
