@@ -4,7 +4,9 @@ use Rattle.std.proofs.lemmas.Result.{IfOk-weaker}
 use Rattle.kernele.specs.View.{tree_of, trees_of, methods_of}
 use Rattle.scopes.specs.Scope.{nodes, nodes_in, names_of_all}
 use Rattle.kernele.proofs.Views.{tree_of-Call, tree_of-List, tree_of-Hide, tree_of-If, tree_of-While, tree_of-For, tree_of-Try, tree_of-Object, tree_of-Escape, tree_of-Send, tree_of-When, tree_of-WhenCatch}
-use Rattle.scopes.specs.Free.{captures}
+use Rattle.scopes.specs.Free.{captures, when_captures}
+use Rattle.kernele.specs.Tree.{none}
+use Rattle.kernele.specs.declared.tree.Pattern.TheVariants as pattern
 use Rattle.code.specs.View.{methods_of_codes}
 use Rattle.code.specs.Index.{index_in, index_fits}
 use Rattle.code.specs.Frames.{all_placed, captured_names_of, only_names}
@@ -138,10 +140,20 @@ pub resolve_send-returns : goal.resolve_send-returns
 resolve_send-returns t c = resolved_send _ _ (c.new.ensures ∙ c.in_ok-share.ensures) c.in_ok-receiver.ensures c.in_ok-args.ensures
 
 pub resolve_when-returns : goal.resolve_when-returns
-resolve_when-returns t c = ?
+resolve_when-returns t c =
+    let all = c.deref-2.ensures.value ∙ ap (λ v. v.items) c.deref.ensures in
+    resolved_when _ _ _ c.in_ok-value.ensures (c.in_ok-inside.ensures ∙ ap (λ xs. when_captures (trees_of xs) pattern.Ignore none) all)
+    (ap (λ v. captured_names_of v.items) c.in_ok-new.ensures.ok ∙ c.in_ok-captures.ensures.names ∙ c.deref-3.ensures.value)
+    (transport (λ i. all_placed (c.deref-4.ensures.value i) (sym c.in_ok-new.ensures.ok i).items) c.in_ok-captures.ensures.places) c.in_ok-body.ensures.code
 
 pub resolve_when_catch-returns : goal.resolve_when_catch-returns
-resolve_when_catch-returns t c = ?
+resolve_when_catch-returns t c =
+    let all = c.deref-2.ensures.value ∙ ap (λ v. v.items) c.deref.ensures in
+    let rest = c.deref-4.ensures.value ∙ ap (λ v. v.items) c.deref-3.ensures in
+    resolved_when_catch _ _ _ _ c.in_ok-share.ensures c.in_ok-value.ensures (c.in_ok-inside.ensures ∙ λ i. when_captures (trees_of (all i)) c.args.pattern.now (trees_of (rest i)))
+    (ap (λ v. captured_names_of v.items) c.in_ok-new.ensures.ok ∙ c.in_ok-captures.ensures.names ∙ c.deref-5.ensures.value)
+    (transport (λ i. all_placed (c.deref-6.ensures.value i) (sym c.in_ok-new.ensures.ok i).items) c.in_ok-captures.ensures.places)
+    c.in_ok-body.ensures.code c.in_ok-body.ensures.frame c.in_ok-handler.ensures.code
 
 pub resolve_if-returns : goal.resolve_if-returns
 resolve_if-returns t c = resolved_if _ _ _ c.in_ok-condition.ensures c.in_ok-first.ensures.code c.in_ok-first.ensures.frame c.in_ok-second.ensures.code c.in_ok-second.ensures.frame
