@@ -132,12 +132,16 @@ fn is_among(words: &[&str], word: &str) -> bool
 fn are_vats(words: &[&str]) -> bool
     ensures { result ≡ are_vats (map (λ w. w.now) words.now) }
 {
-    let mut rest = words;
-    while let Some((word, behind)) = rest.split_first() {
-        if !is_vat_name(word) || is_among(behind, word) {
+    let mut index = 0;
+    while index < words.len() {
+        let word = words[index];
+        if !is_vat_name(word) {
             return false;
         }
-        rest = behind;
+        if is_among(&words[index + 1..], word) {
+            return false;
+        }
+        index += 1;
     }
     true
 }

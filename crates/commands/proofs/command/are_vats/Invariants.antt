@@ -1,10 +1,10 @@
-use Rattle.std.proofs.Common.{◌≡◌, map, length}
+use Rattle.std.proofs.Common.{◌≡◌, ◌-◌, map, drop, length}
 use Rattle.commands.specs.Commands.{are_vats}
 use Rattle.commands.proofs.command.are_vats.Given as goal
 
 -- the words that are left decide
-abbrev pub invariant-loop-word : goal.invariant-loop-word
-invariant-loop-word l = are_vats (map (λ w. w.now) l.rest) ≡ are_vats (map (λ w. w.now) l.fn.words)
+abbrev pub invariant-loop-index : goal.invariant-loop-index
+invariant-loop-index l = are_vats (map (λ w. w.now) (drop l.index l.words)) ≡ are_vats (map (λ w. w.now) l.words)
 
-abbrev pub decreases-loop-word : goal.decreases-loop-word
-decreases-loop-word l = length l.rest
+abbrev pub decreases-loop-index : goal.decreases-loop-index
+decreases-loop-index l = length l.words - l.index

@@ -1,4 +1,4 @@
-use Rattle.std.proofs.Common.{◌≡◌, ◌==◌, ap, ◌∙◌, false, arith, rules, length, drop}
+use Rattle.std.proofs.Common.{◌≡◌, ◌==◌, ap, ◌∙◌, true, false, arith, rules, length, drop}
 use Rattle.std.specs.List.{position_or_len}
 use Rattle.commands.specs.Words.{is_blank}
 use Rattle.commands.proofs.Wording.{begins, blanks_gone, shorter_behind, all_first, all_more, all_done}
