@@ -36,11 +36,17 @@ pub enum Command<'a> {
         lines: u32,
     },
     /// A program that is asked of a vat.
-    Ask { name: &'a str, text: &'a str },
+    Ask {
+        name: &'a str,
+        text: &'a str,
+    },
     Arrive(MsgId),
     Forward(MsgId),
     /// A vat is to learn what is known of a promise.
-    Learn { name: &'a str, promise: PromiseName },
+    Learn {
+        name: &'a str,
+        promise: PromiseName,
+    },
     Turn(MsgId),
     /// The first of what may happen is to happen.
     Step,

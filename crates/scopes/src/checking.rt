@@ -116,11 +116,7 @@ impl Outer {
     }
 
     /// For an asked program, which may hide the names of the vats before its own, and those that the script of its vat defined.
-    pub fn for_asked(
-        alloc: Global,
-        earlier: &[Text],
-        tops: &[TopName],
-    ) -> Result<Outer, AllocError>
+    pub fn for_asked(alloc: Global, earlier: &[Text], tops: &[TopName]) -> Result<Outer, AllocError>
         ensures { IfOk result (λ outer. scopes_of outer ≡ asked_scopes earlier.now tops.now) }
     {
         let mut around = names_of_vats(alloc, earlier)?;
