@@ -1,0 +1,2 @@
+pub mod Vats
+pub mod Making

@@ -1,0 +1,2 @@
+//! What a turn makes of sends, whens, promises and the uses of resolvers.
+#![tactic(auto)]
