@@ -7,3 +7,4 @@ pub mod View
 pub mod Answered
 pub mod Laws
 pub mod Locals
+pub mod Doings

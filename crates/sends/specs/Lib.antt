@@ -1,2 +1,3 @@
 pub mod Vats
 pub mod Making
+pub mod Outbox
