@@ -1,2 +1,4 @@
 pub mod Vats
 pub mod Making
+pub mod Playing
+pub mod Laws

@@ -129,10 +129,14 @@ abbrev mutual
   references_in no_vals = []
   references_in (and_val v vs) = references v ++ references_in vs
 
--- each once, where it stands first, unless it was seen before
+-- a reference behind others, unless it is among them
+abbrev pub and_reference : List Reference → Reference → List Reference
+and_reference rs r = cond (list_any (same_reference r) rs) rs (rs ++ r ∷ [])
+
+-- references behind others: each once, where it stands first
 abbrev pub each_once : List Reference → List Reference → List Reference
-each_once seen [] = []
-each_once seen (r ∷ rs) = cond (list_any (same_reference r) seen) (each_once seen rs) (r ∷ each_once (r ∷ seen) rs)
+each_once found [] = found
+each_once found (r ∷ rs) = each_once (and_reference found r) rs
 
 -- ---- fences
 

@@ -1,2 +1,4 @@
 //! What a turn makes of sends, whens, promises and the uses of resolvers.
 #![tactic(auto)]
+
+pub mod theorems;

@@ -1,0 +1,4 @@
+pub mod Playing
+pub mod Ends
+pub mod Settled
+pub mod Did
