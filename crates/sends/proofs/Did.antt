@@ -15,7 +15,7 @@ use Rattle.refs.specs.Settling.{settling}
 use Rattle.sends.specs.Vats.{Vat, Nothing, nothing, names_of, fence_of, reference_in, fence_joined, end_joined, entrance, comes_in, entered, sent_after, ended, settled}
 use Rattle.sends.specs.Playing.{under, Did, views_in, looked_at}
 use Rattle.sends.proofs.Playing.{did_then}
-use Rattle.sends.proofs.Ends.{ends_are_followed}
+use Rattle.sends.proofs.Followed.{ends_are_followed}
 use Rattle.sends.proofs.Settled.{settled_alike}
 
 -- a cell that was touched, and one that was written

@@ -1,4 +1,4 @@
 pub mod Playing
-pub mod Ends
+pub mod Followed
 pub mod Settled
 pub mod Did

@@ -12,7 +12,7 @@ use Rattle.sends.specs.Vats.{Vat, ended, settled_behind, settled_items, settled_
 use Rattle.sends.specs.Playing.{views_in, looked_at}
 use Rattle.sends.specs.Laws.{SettledFormsAreThoseOfTheViews}
 use Rattle.sends.proofs.Playing.{played, looked_state, looked_on}
-use Rattle.sends.proofs.Ends.{ends_are_followed}
+use Rattle.sends.proofs.Followed.{ends_are_followed}
 
 -- what was played is this settled form, and these items
 abbrev Plays : Vat (Option Val) → Settling → Under Cell Content → Type 0

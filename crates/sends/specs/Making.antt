@@ -86,13 +86,19 @@ pub record Published : Type 0 where
   pub joined : Option Reference
 
 -- the promise is entered only where it has come into the vat
-abbrev pub published_at : PromId → Val → Carried → Option Content → Vat Published
-published_at p v c None = over (record { value = v; fences = c; joined = None })
-published_at p v c (Some x) = and_then (entered p v) (λ t. over (record { value = v; fences = c; joined = t }))
+abbrev pub entered_at : PromId → Val → Option Content → Vat (Option Reference)
+entered_at p v None = over None
+entered_at p v (Some x) = entered p v
+
+abbrev pub entered_if_come : PromId → Val → Vat (Option Reference)
+entered_if_come p v = reads (view_cell p) (entered_at p v)
 
 -- references leave with the fences from before the promise is entered
 abbrev pub publishing : PromId → Val → Vat Published
-publishing p v = and_then (leaving (references v)) (λ c. reads (view_cell p) (published_at p v c))
+publishing p v =
+    and_then (leaving (references v)) (λ c.
+    and_then (entered_if_come p v) (λ t.
+    over (record { value = v; fences = c; joined = t })))
 
 -- a resolver works once: while its promise is open
 abbrev pub first_use : PromId → Val → Option Content → Vat (Making Published)

@@ -1,6 +1,7 @@
 -- What is done to the cells of a vat's state under a turn.
 use Rattle.std.specs.Prelude.{◌≡◌, List, [], ◌∷◌}
 use Rattle.ids.specs.declared.names.PromId.{PromId}
+use Rattle.ids.specs.declared.names.ObjId.{ObjId}
 use Rattle.cells.specs.Doing.{Under, touching, play}
 use Rattle.heap.specs.State.{Cell, view_cell, Content, State, same_cell}
 use Rattle.heap.specs.Drafted.{Drafted}
@@ -29,3 +30,7 @@ views_in s p = resolution_in (s (view_cell p))
 abbrev pub looked_at : List PromId → Under Cell Content → Under Cell Content
 looked_at [] u = u
 looked_at (p ∷ ps) u = looked_at ps (touching same_cell (view_cell p) u)
+
+-- the name of the object that a turn makes next
+abbrev pub next_object : Drafted → ObjId
+next_object d = record { event = (counts_of d).event; index = (counts_of d).objects; vat = (counts_of d).vat }

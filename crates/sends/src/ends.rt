@@ -15,6 +15,7 @@ use std::alloc::{AllocError, Global};
 use values::value::Value;
 
 /// What a vat under a turn knows promises resolved to.
+#[derive(Drop)]
 struct Known<'a> {
     draft: &'a Draft,
 }

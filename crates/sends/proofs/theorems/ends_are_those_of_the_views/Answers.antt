@@ -1,4 +1,4 @@
-use Rattle.sends.proofs.Ends.{ends_are_followed}
+use Rattle.sends.proofs.Followed.{ends_are_followed}
 use Rattle.sends.proofs.Settled.{settled_alike}
 use Rattle.sends.proofs.theorems.ends_are_those_of_the_views.Goals as goal
 
