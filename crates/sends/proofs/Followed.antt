@@ -37,7 +37,7 @@ starts seen v None rest walks u h = refl
 starts seen v (Some p) rest walks u h = steps (came p seen) p (rest p) (walks p) u (h p)
 
 pub walks_alike : (n : ℕ) (seen : List PromId) (v : Val) (u : Under Cell Content) → Plays (walk n seen v) (walk_of n (views_in u.state) seen v) u
-unfolding walk, walk_of
+unfolding walk walk_of
 walks_alike zero seen v u = stops v (promise_of v) u
 walks_alike (suc n) seen v u = starts seen v (promise_of v) (λ p w. walk n (seen ++ p ∷ []) w) (λ p w. walk_of n (views_in u.state) (seen ++ p ∷ []) w) u (λ p w. walks_alike n (seen ++ p ∷ []) w (touching same_cell (view_cell p) u))
 

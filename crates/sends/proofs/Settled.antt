@@ -61,12 +61,12 @@ module _ (m : Resolutions) (lists : ℕ → Vals → Vat (Option Val)) (forms : 
       ∙ ap (λ x. (its.settled, x)) (sym (looked_on (walked m v) its.through u))
 
 forms_alike : (m : Resolutions) (depth left : ℕ) (v : Val) (u : Under Cell Content) → Has m u → Plays (settled_at depth left v) (settle_at m depth left v) u
-unfolding settled_at, settle_at
+unfolding settled_at settle_at
 forms_alike m zero left v u e = walk_alike m no_list_settled no_lists (λ left vs u e. refl) left v u e
 forms_alike m (suc depth) left v u e =
     walk_alike m (settled_list (settled_at depth)) (settle_list (settle_at m depth))
     (λ left vs u e. list_alike m (settled_at depth) (settle_at m depth) (λ left v u e. forms_alike m depth left v u e) left vs u e) left v u e
 
 pub settled_alike : SettledFormsAreThoseOfTheViews
-unfolding settled, settling
+unfolding settled settling
 settled_alike u v = forms_alike (views_in u.state) 64 65536 v u refl
