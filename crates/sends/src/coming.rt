@@ -18,10 +18,10 @@ pub fn come_in(draft: &mut Draft, promise: PromId) -> Result<(), AllocError>
     ensures turn { IsSameTurn draft.old draft.new }
 {
     draft.reach_view(promise)?;
-    if draft.known(promise).is_none() {
-        draft.write_view(promise, View::Open)?;
+    match draft.known(promise) {
+        Some(_) => Ok(()),
+        None => draft.write_view(promise, View::Open),
     }
-    Ok(())
 }
 
 /// Enters a promise in the view as this value, adds its fence to that of what the value then settles to, and answers
