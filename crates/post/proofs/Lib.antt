@@ -1,4 +1,3 @@
 pub mod Cells
 pub mod Changing
 pub mod Worlds
-pub mod Told

@@ -11,13 +11,12 @@ use Rattle.ids.specs.declared.names.PromId.{PromId}
 use Rattle.ids.specs.declared.cells.CellKey.{CellKey}
 use Rattle.ids.specs.declared.cells.CellKey.TheVariants as key
 use Rattle.kernele.specs.Tree.{Name}
-use Rattle.values.specs.View.{val_of}
 use Rattle.heap.specs.State as heap
 use Rattle.heap.specs.State.{Cell, top, slot_cell, object_cell, view_cell, fence_cell}
 use Rattle.heap.specs.View.{same_name, told, state_of}
 use Rattle.heap.specs.declared.state.VatState.{VatState}
 use Rattle.post.specs.World.{Content, vat, message, published, same_vat, content_of, cell_content, vat_state}
-use Rattle.post.specs.Messages.{vat_of, message_of}
+use Rattle.post.specs.Messages.{vat_of, message_of, published_of}
 use Rattle.post.specs.Homes.{state_in, seen_at}
 use Rattle.post.specs.declared.home.Home.{Home}
 use Rattle.post.specs.HomesView.{homes_of, seen_of_homes, ready_of_homes}
@@ -36,7 +35,7 @@ module _ (s t : World) where
   seen_each names homes messages board (key.View v p) = homes (key.View v p)
   seen_each names homes messages board (key.Fence v r) = homes (key.Fence v r)
   seen_each names homes messages board (key.Msg m) = ap (told (λ g. message (message_of g))) (messages m)
-  seen_each names homes messages board (key.Board p) = ap (told (λ v. published (val_of v))) (board p)
+  seen_each names homes messages board (key.Board p) = ap (told (λ p. published (published_of p))) (board p)
 
   pub seen_alike : ((x : Name) → cells.seen same_name t.names x ≡ cells.seen same_name s.names x) → ((k : CellKey) → seen_of_homes t.homes k ≡ seen_of_homes s.homes k)
       → ((m : MsgId) → cells.seen same_message t.messages m ≡ cells.seen same_message s.messages m) → ((p : PromId) → cells.seen same_promise t.board p ≡ cells.seen same_promise s.board p)
@@ -81,7 +80,7 @@ nothing_seen s names homes messages board (key.Top v x) = homes (key.Top v x)
 nothing_seen s names homes messages board (key.View v p) = homes (key.View v p)
 nothing_seen s names homes messages board (key.Fence v r) = homes (key.Fence v r)
 nothing_seen s names homes messages board (key.Msg m) = ap (told (λ g. message (message_of g))) (messages m)
-nothing_seen s names homes messages board (key.Board p) = ap (told (λ v. published (val_of v))) (board p)
+nothing_seen s names homes messages board (key.Board p) = ap (told (λ p. published (published_of p))) (board p)
 
 -- a content of a vat's cell comes back
 back : (o : Option heap.Content) → cell_content (option_map content_of o) ≡ o

@@ -1,5 +1,7 @@
+pub mod Carried
 pub mod Delivery
 pub mod DeliveryView
+pub mod Blocks
 pub mod World
 pub mod Messages
 pub mod Homes

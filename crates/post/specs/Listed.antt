@@ -8,11 +8,10 @@ use Rattle.ids.specs.Cells.{message_cmp, promise_cmp}
 use Rattle.ids.specs.declared.names.MsgId.{MsgId}
 use Rattle.ids.specs.declared.names.PromId.{PromId}
 use Rattle.kernele.specs.Tree.{Name}
-use Rattle.values.specs.View.{val_of}
-use Rattle.values.specs.declared.value.Value.{Value}
 use Rattle.post.specs.World.{Content, vat, message, published}
-use Rattle.post.specs.Messages.{vat_of, message_of}
+use Rattle.post.specs.Messages.{vat_of, message_of, published_of}
 use Rattle.post.specs.declared.message.Message.{Message}
+use Rattle.post.specs.declared.published.Published.{Published}
 use Rattle.post.specs.declared.vat.Vat.{Vat}
 
 abbrev pub names_in : BTreeMap Name Vat → Name → Option Content
@@ -21,5 +20,5 @@ names_in names x = option_map (λ v. vat (vat_of v)) (get (slice_cmp nat_cmp) na
 abbrev pub messages_in : BTreeMap MsgId Message → MsgId → Option Content
 messages_in messages m = option_map (λ g. message (message_of g)) (get message_cmp messages m)
 
-abbrev pub board_in : BTreeMap PromId Value → PromId → Option Content
-board_in board p = option_map (λ v. published (val_of v)) (get promise_cmp board p)
+abbrev pub board_in : BTreeMap PromId Published → PromId → Option Content
+board_in board p = option_map (λ p. published (published_of p)) (get promise_cmp board p)

@@ -7,7 +7,7 @@ use Rattle.values.specs.View.{val_of}
 use Rattle.heap.specs.State as heap
 use Rattle.heap.specs.View.{bind_of, object_of, view_of, told}
 use Rattle.post.specs.World.{Content, vat, message, published, content_of}
-use Rattle.post.specs.Messages.{vat_of, message_of}
+use Rattle.post.specs.Messages.{vat_of, message_of, published_of}
 use Rattle.post.specs.declared.record.CellRecord.{CellRecord}
 use Rattle.post.specs.declared.record.CellRecord.TheVariants as cell_record
 
@@ -20,7 +20,7 @@ record_of (cell_record.Top v r) = (key.Top v r.key, told content_of (told (λ b.
 record_of (cell_record.View v r) = (key.View v r.key, told content_of (told (λ k. heap.viewed (view_of k)) (r.content, r.writer)))
 record_of (cell_record.Fence v r) = (key.Fence v r.key, told content_of (told heap.fenced (r.content, r.writer)))
 record_of (cell_record.Msg r) = (key.Msg r.key, told (λ g. message (message_of g)) (r.content, r.writer))
-record_of (cell_record.Board r) = (key.Board r.key, told (λ v. published (val_of v)) (r.content, r.writer))
+record_of (cell_record.Board r) = (key.Board r.key, told (λ p. published (published_of p)) (r.content, r.writer))
 
 abbrev pub records_of : List CellRecord → List (CellKey × Seen Content)
 records_of records = map record_of records

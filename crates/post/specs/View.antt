@@ -7,11 +7,10 @@ use Rattle.ids.specs.declared.names.MsgId.{MsgId}
 use Rattle.ids.specs.declared.names.PromId.{PromId}
 use Rattle.ids.specs.declared.cells.CellKey.{CellKey}
 use Rattle.ids.specs.declared.cells.CellKey.TheVariants as key
-use Rattle.values.specs.View.{val_of}
 use Rattle.heap.specs.View.{same_name, told}
 use Rattle.post.specs.World as model
 use Rattle.post.specs.World.{Content, vat, message, published}
-use Rattle.post.specs.Messages.{vat_of, message_of}
+use Rattle.post.specs.Messages.{vat_of, message_of, published_of}
 use Rattle.post.specs.HomesView.{seen_of_homes, ready_of_homes}
 use Rattle.post.specs.declared.world.World.{World}
 
@@ -34,7 +33,7 @@ seen_of_world w (key.Top v x) = seen_of_homes w.homes (key.Top v x)
 seen_of_world w (key.View v p) = seen_of_homes w.homes (key.View v p)
 seen_of_world w (key.Fence v r) = seen_of_homes w.homes (key.Fence v r)
 seen_of_world w (key.Msg m) = told (λ g. message (message_of g)) (cells.seen same_message w.messages m)
-seen_of_world w (key.Board p) = told (λ v. published (val_of v)) (cells.seen same_promise w.board p)
+seen_of_world w (key.Board p) = told (λ p. published (published_of p)) (cells.seen same_promise w.board p)
 
 -- the contents alone
 abbrev pub world_of : World → model.World

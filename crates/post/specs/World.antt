@@ -1,10 +1,12 @@
 -- The world: a finite map from keys to contents. That a key has none is a fact about the world.
 use Rattle.std.specs.Prelude.{List, Bool, true, false, cond, nat_eq, Option, Some, None}
+use Rattle.std.specs.Option.{option_map}
 use Rattle.kernele.specs.Tree.{Name}
 use Rattle.scopes.specs.declared.naming.TopName.{TopName}
 use Rattle.values.specs.Data.{Val}
 use Rattle.heap.specs.State as heap
 use Rattle.heap.specs.State.{Bind, Object, View, Cell, top, slot_cell, object_cell, view_cell, fence_cell, State}
+use Rattle.post.specs.Carried.{Carried}
 use Rattle.post.specs.Delivery.{Delivery}
 use Rattle.ids.specs.CellKeys.{same_key}
 use Rattle.ids.specs.declared.names.EventName.{EventName}
@@ -14,25 +16,34 @@ use Rattle.ids.specs.declared.names.PromId.{PromId}
 use Rattle.ids.specs.declared.cells.CellKey.{CellKey}
 use Rattle.ids.specs.declared.cells.CellKey.TheVariants as key
 
--- what is known of a vat by its name: its number, and the names that its script defines at the top
+-- what is known of a vat by its name: its number, the names of the earlier vats that its script knows, and the names that its
+-- script defines at the top
 pub record Vat : Type 0 where
   pub number : VatNo
+  pub earlier : List Name
   pub tops : List TopName
   deriving IsSet as Vat-set
 
--- where a message is: at a vat, or done in an event
+-- where a message is: on the way to a vat, at a vat, or done in an event
 pub data Place : Type 0 where
+  flying : (v : VatNo) → Place
   at_vat : (v : VatNo) → Place
   done : (e : EventName) → Place
   deriving IsSet as Place-set
 
--- what is delivered, the promise for its result, the message that must be done before, if any, and where it is
+-- what is delivered, the promise for its result, the messages that must be done before, whose names rise, and where it is
 pub record Message : Type 0 where
   pub delivery : Delivery
   pub result : PromId
-  pub after : Option MsgId
+  pub after : List MsgId
   pub place : Place
   deriving IsSet as Message-set
+
+-- what a promise was published as: a value, and the fences that travel with the references in it
+pub record Published : Type 0 where
+  pub value : Val
+  pub fences : Carried
+  deriving IsSet as Published-set
 
 -- what a cell holds: a vat by its name, a top name's meaning, a slot's value, what an object is, what a vat knows of a promise, the
 -- messages that it keeps behind a reference, a message, or what a promise was published as
@@ -44,7 +55,7 @@ pub data Content : Type 0 where
   viewed : (k : View) → Content
   fenced : (names : List MsgId) → Content
   message : (g : Message) → Content
-  published : (v : Val) → Content
+  published : (p : Published) → Content
   deriving IsSet as Content-set
 
 abbrev pub World : Type 0
@@ -66,9 +77,9 @@ abbrev pub message_in : Option Content → Option Message
 message_in (Some (message g)) = Some g
 message_in _ = None
 
-abbrev pub value_in : Option Content → Option Val
-value_in (Some (published v)) = Some v
-value_in _ = None
+abbrev pub published_in : Option Content → Option Published
+published_in (Some (published p)) = Some p
+published_in _ = None
 
 -- the vat of this name
 abbrev pub vat_named : World → Name → Option Vat
@@ -78,12 +89,31 @@ abbrev pub message_of : World → MsgId → Option Message
 message_of w m = message_in (w (key.Msg m))
 
 -- what a promise was published as
-abbrev pub published_as : World → PromId → Option Val
-published_as w p = value_in (w (key.Board p))
+abbrev pub published_as : World → PromId → Option Published
+published_as w p = published_in (w (key.Board p))
 
 abbrev pub is_done : Place → Bool
+is_done (flying v) = false
 is_done (at_vat v) = false
 is_done (done e) = true
+
+-- the vat to which a message flies, if it does
+abbrev pub flies_to : Place → Option VatNo
+flies_to (flying v) = Some v
+flies_to _ = None
+
+-- the vat at which a message is, if it is at one
+abbrev pub waits_at : Place → Option VatNo
+waits_at (at_vat v) = Some v
+waits_at _ = None
+
+-- a message that flies arrives: it keeps all but its place
+abbrev pub arrived : Message → Option Message
+arrived g = option_map (λ v. record g { place = at_vat v }) (flies_to g.place)
+
+-- a message at a vat goes on to another one: it keeps all but its place
+abbrev pub forwarded : VatNo → Message → Option Message
+forwarded w g = option_map (λ v. record g { place = flying w }) (waits_at g.place)
 
 -- a message is there, and done
 abbrev pub done_in : Option Message → Bool

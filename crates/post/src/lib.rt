@@ -2,12 +2,17 @@
 //! the records that exchange with cells.
 #![tactic(auto)]
 
+pub mod call;
+pub mod carried;
 pub mod delivery;
+pub mod earlier;
 pub mod event;
 pub mod home;
 pub mod homes;
 pub mod message;
 pub mod program;
+pub mod published;
 pub mod record;
 pub mod vat;
+pub mod when;
 pub mod world;

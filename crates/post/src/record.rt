@@ -4,6 +4,7 @@ ghost use Rattle.ids.specs.CellKeys.{same_key};
 ghost use Rattle.post.specs.Records.{record_of};
 
 use crate::message::Message;
+use crate::published::Published;
 use crate::vat::Vat;
 use cells::store::Record;
 use eorder::fence::Fence;
@@ -28,7 +29,7 @@ pub enum CellRecord {
     /// Of a reference that the vat has sent on or that came in.
     Fence(VatNo, Record<Reference, Fence>),
     Msg(Record<MsgId, Message>),
-    Board(Record<PromId, Value>),
+    Board(Record<PromId, Published>),
 }
 
 // By hand, so that what drops one elsewhere calls this and is not proved anew for all that it holds.

@@ -7,16 +7,16 @@ ghost use Rattle.ids.specs.declared.names.PromId.{PromId};
 ghost use Rattle.ids.specs.declared.cells.CellKey.{CellKey};
 ghost use Rattle.ids.specs.declared.cells.CellKey.TheVariants as key;
 ghost use Rattle.kernele.specs.Tree.{Name};
-ghost use Rattle.values.specs.View.{val_of};
 ghost use Rattle.heap.specs.State.{nothing};
 ghost use Rattle.heap.specs.View.{state_of};
-ghost use Rattle.post.specs.Messages.{vat_of, message_of};
+ghost use Rattle.post.specs.Messages.{vat_of, message_of, published_of};
 ghost use Rattle.post.specs.World.{vat, message, published, vat_state};
 ghost use Rattle.post.specs.Listed.{names_in, messages_in, board_in};
 ghost use Rattle.post.specs.Records.{record_of};
 
 use crate::homes::Homes;
 use crate::message::Message;
+use crate::published::Published;
 use crate::record::CellRecord;
 use crate::vat::Vat;
 use cells::store::CellStore;
@@ -28,14 +28,13 @@ use ids::text::Text;
 use std::alloc::{AllocError, Global};
 use std::collections::BTreeMap;
 use std::sync::Arc;
-use values::value::Value;
 
 /// All cells, by what they hold.
 pub struct World {
     names: CellStore<Text, Vat>,
     homes: Homes,
     messages: CellStore<MsgId, Message>,
-    board: CellStore<PromId, Value>,
+    board: CellStore<PromId, Published>,
 }
 
 // By hand, so that what drops one elsewhere calls this and is not proved anew for all that it holds.
@@ -80,8 +79,8 @@ impl World {
     }
 
     /// What a promise was published as.
-    pub fn published(&self, promise: PromId) -> Option<&Value>
-        ensures { option_map (λ v. published (val_of v.now)) result ≡ world_of self.now (key.Board promise) }
+    pub fn published(&self, promise: PromId) -> Option<&Published>
+        ensures { option_map (λ p. published (published_of p.now)) result ≡ world_of self.now (key.Board promise) }
     {
         self.board.get(&promise)
     }
@@ -173,7 +172,7 @@ impl World {
     }
 
     /// What was published, shared, in order of the promises. Fails only for want of memory.
-    pub fn board(&self, alloc: Global) -> Result<BTreeMap<PromId, Value>, AllocError>
+    pub fn board(&self, alloc: Global) -> Result<BTreeMap<PromId, Published>, AllocError>
         ensures { IfOk result (λ all. (p : PromId) → board_in all p ≡ world_of self.now (key.Board p)) }
     {
         self.board.in_order(alloc)
