@@ -1,3 +1,5 @@
 pub mod Cells
 pub mod Changing
 pub mod Worlds
+pub mod Paired
+pub mod Arguments

@@ -1,6 +1,5 @@
 -- Fences that travel with references.
-use Rattle.std.specs.Prelude.{◌≡◌, Bool, true, false, cond, Option, Some, None, List, [], ◌∷◌, ◌++◌}
-use Rattle.std.specs.List.{list_any}
+use Rattle.std.specs.Prelude.{◌≡◌, Bool, true, false, cond, Option, Some, None, is_some, List, [], ◌∷◌, ◌++◌}
 use Rattle.ids.specs.References.{same_reference}
 use Rattle.ids.specs.declared.names.MsgId.{MsgId}
 use Rattle.ids.specs.declared.reference.Reference.{Reference}
@@ -9,14 +8,13 @@ use Rattle.ids.specs.declared.reference.Reference.{Reference}
 abbrev pub Carried : Type 0
 Carried = List (Reference × List MsgId)
 
--- whether a fence travels with a reference
-abbrev pub carries : Carried → Reference → Bool
-carries c r = list_any (λ e. same_reference e.0 r) c
-
 -- the fence that travels with a reference, if one does
 abbrev pub fence_with : Carried → Reference → Option (List MsgId)
 fence_with [] r = None
 fence_with (e ∷ c) r = cond (same_reference e.0 r) (Some e.1) (fence_with c r)
+
+abbrev pub carries : Carried → Reference → Bool
+carries c r = is_some (fence_with c r)
 
 -- one more reference with its fence, behind the others: one that is there stays as it is, and an empty fence does not travel
 abbrev pub with_fence : Carried → Reference → List MsgId → Carried

@@ -52,16 +52,16 @@ impl Call {
             fences: Arc::try_clone(&self.fences)?,
         })
     }
-}
 
-/// Whether two calls are the same: target, verb, arguments, and the fences that travel with them.
-pub fn same_call(a: &Call, b: &Call) -> bool
-    ensures { IsTrue result ↔ (call_of a.now ≡ call_of b.now) }
-{
-    same_value(&a.target, &b.target)
-        && a.verb.text() == b.verb.text()
-        && same_arguments(&a.arguments, &b.arguments)
-        && a.fences.is_same(&b.fences)
+    /// Whether two calls are the same: target, verb, arguments, and the fences that travel with them.
+    pub fn is_same(&self, other: &Call) -> bool
+        ensures { IsTrue result ↔ (call_of self.now ≡ call_of other.now) }
+    {
+        same_value(&self.target, &other.target)
+            && self.verb.text() == other.verb.text()
+            && same_arguments(&self.arguments, &other.arguments)
+            && self.fences.is_same(&other.fences)
+    }
 }
 
 pub(crate) fn same_value(a: &Value, b: &Value) -> bool

@@ -39,21 +39,16 @@ impl Carried {
     pub fn carries(&self, reference: Reference) -> bool
         ensures { result ≡ carries self.now reference }
     {
-        for (other, _) in self.fences.iter() {
-            if *other == reference {
-                return true;
-            }
-        }
-        false
+        self.fence(reference).is_some()
     }
 
     /// The fence that travels with a reference, if one does.
     pub fn fence(&self, reference: Reference) -> Option<&Fence>
         ensures { option_copied result ≡ fence_with self.now reference }
     {
-        for (other, fence) in self.fences.iter() {
-            if *other == reference {
-                return Some(fence);
+        for entry in &self.fences {
+            if entry.0 == reference {
+                return Some(&entry.1);
             }
         }
         None
@@ -67,7 +62,8 @@ impl Carried {
         if fence.is_empty() || self.carries(reference) {
             return Ok(());
         }
-        self.fences.push((reference, fence))
+        self.fences.push((reference, fence))?;
+        Ok(())
     }
 
     /// Whether both have the same fences for the same references, in the same order.
@@ -77,8 +73,8 @@ impl Carried {
         if self.fences.len() != other.fences.len() {
             return false;
         }
-        for ((x, f), (y, g)) in self.fences.iter().zip(other.fences.iter()) {
-            if !same_entry(*x, f, *y, g) {
+        for (x, y) in self.fences.iter().zip(other.fences.iter()) {
+            if !same_entry(x, y) {
                 return false;
             }
         }
@@ -86,8 +82,8 @@ impl Carried {
     }
 }
 
-fn same_entry(x: Reference, f: &Fence, y: Reference, g: &Fence) -> bool
-    ensures { IsTrue result ↔ ((x ≡ y) × (f.now ≡ g.now)) }
+fn same_entry(x: &(Reference, Fence), y: &(Reference, Fence)) -> bool
+    ensures { IsTrue result ↔ (x.now ≡ y.now) }
 {
-    x == y && f.is_same(g)
+    x.0 == y.0 && x.1.is_same(&y.1)
 }

@@ -2,10 +2,10 @@
 ghost use Rattle.std.specs.Prelude.{◌≡◌, ◌↔◌, IfOk, IsTrue};
 ghost use Rattle.post.specs.DeliveryView.{delivery_of};
 
-use crate::call::{Call, same_call};
+use crate::call::Call;
 use crate::earlier::{Earlier, same_earlier};
 use crate::program::{Question, Script};
-use crate::when::{When, same_block, same_when};
+use crate::when::{When, same_block};
 use std::alloc::AllocError;
 use std::sync::Arc;
 
@@ -47,8 +47,8 @@ pub fn same_delivery(a: &Delivery, b: &Delivery) -> bool
             same_earlier(earlier, others) && same_block(&x.items, &y.items)
         }
         (Delivery::Asked(x), Delivery::Asked(y)) => same_block(&x.items, &y.items),
-        (Delivery::Sent(x), Delivery::Sent(y)) => same_call(x, y),
-        (Delivery::Waiting(x), Delivery::Waiting(y)) => same_when(x, y),
+        (Delivery::Sent(x), Delivery::Sent(y)) => x.is_same(y),
+        (Delivery::Waiting(x), Delivery::Waiting(y)) => x.is_same(y),
         _ => false,
     }
 }

@@ -37,6 +37,13 @@ impl Published {
         })
     }
 
+    /// Whether the same was published, with the same fences.
+    pub fn is_same(&self, other: &Published) -> bool
+        ensures { IsTrue result ↔ (published_of self.now ≡ published_of other.now) }
+    {
+        same_value(&self.value, &other.value) && self.fences.is_same(&other.fences)
+    }
+
     /// The same, shared. Fails only for want of memory.
     pub fn share(&self) -> Result<Published, AllocError>
         ensures { IfOk result (λ p. published_of p ≡ published_of self.now) }
@@ -54,11 +61,4 @@ impl Clone for Published {
     fn clone(&self) -> Result<Published, AllocError> {
         self.share()
     }
-}
-
-/// Whether the same was published, with the same fences.
-pub fn same_published(a: &Published, b: &Published) -> bool
-    ensures { IsTrue result ↔ (published_of a.now ≡ published_of b.now) }
-{
-    same_value(&a.value, &b.value) && a.fences.is_same(&b.fences)
 }

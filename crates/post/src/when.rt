@@ -1,12 +1,10 @@
 // What a `when` waits for, and what it runs.
 ghost use Rattle.std.specs.Prelude.{◌≡◌, ◌↔◌, ◌++◌, false, IfOk, IsTrue};
-ghost use Rattle.std.specs.Option.{option_map};
 ghost use Rattle.code.specs.Frames.{fits_all};
 ghost use Rattle.code.specs.Props.{fits_all-prop};
 ghost use Rattle.code.specs.View.{trees_of_codes};
 ghost use Rattle.heap.specs.Names.{names_of};
 ghost use Rattle.post.specs.Blocks.{handler_fits, handler_fits-prop};
-ghost use Rattle.post.specs.DeliveryView.{handler_of, when_of};
 
 use crate::call::same_value;
 use code::code::Code;
@@ -39,16 +37,37 @@ pub struct When {
     pub ghost handled: { handler_fits (names_of captured.value.items) handler } by { handler_fits-prop (names_of captured.value.items) handler },
 }
 
+impl Handler {
+    ghost use Rattle.post.specs.DeliveryView.{handler_of};
+
+    /// The same handler, shared. Fails only for want of memory.
+    fn share(&self) -> Result<Handler, AllocError>
+        ensures { IfOk result (λ h. (h.pattern ≡ self.now.pattern) × (h.block ≡ self.now.block)) }
+    {
+        Ok(Handler {
+            pattern: self.pattern.share()?,
+            block: Arc::try_clone(&self.block)?,
+        })
+    }
+
+    /// Whether two handlers are the same.
+    fn is_same(&self, other: &Handler) -> bool
+        ensures { IsTrue result ↔ (handler_of self.now ≡ handler_of other.now) }
+    {
+        same_bound(&self.pattern, &other.pattern) && same_block(&self.block, &other.block)
+    }
+}
+
 impl When {
+    ghost use Rattle.std.specs.Option.{option_map};
+    ghost use Rattle.post.specs.DeliveryView.{handler_of, when_of};
+
     /// The same `when`, shared. Fails only for want of memory.
     pub fn share(&self) -> Result<When, AllocError>
         ensures { IfOk result (λ w. when_of w ≡ when_of self.now) }
     {
         let handler = match &self.handler {
-            Some(handler) => Some(Handler {
-                pattern: handler.pattern.share()?,
-                block: Arc::try_clone(&handler.block)?,
-            }),
+            Some(handler) => Some(handler.share()?),
             None => None,
         };
         Ok(When {
@@ -58,32 +77,26 @@ impl When {
             handler,
         })
     }
-}
 
-/// Whether two of them are the same: value, captured names, block and handler.
-pub fn same_when(a: &When, b: &When) -> bool
-    ensures { IsTrue result ↔ (when_of a.now ≡ when_of b.now) }
-{
-    same_value(&a.value, &b.value)
-        && same_nouns(&a.captured, &b.captured)
-        && same_block(&a.block, &b.block)
-        && same_handlers(&a.handler, &b.handler)
-}
-
-fn same_handlers(a: &Option<Handler>, b: &Option<Handler>) -> bool
-    ensures { IsTrue result ↔ (option_map handler_of a.now ≡ option_map handler_of b.now) }
-{
-    match (a, b) {
-        (Some(x), Some(y)) => same_handler(x, y),
-        (None, None) => true,
-        _ => false,
+    /// Whether two of them are the same: value, captured names, block and handler.
+    pub fn is_same(&self, other: &When) -> bool
+        ensures { IsTrue result ↔ (when_of self.now ≡ when_of other.now) }
+    {
+        same_value(&self.value, &other.value)
+            && same_nouns(&self.captured, &other.captured)
+            && same_block(&self.block, &other.block)
+            && self.has_same_handler(other)
     }
-}
 
-fn same_handler(a: &Handler, b: &Handler) -> bool
-    ensures { IsTrue result ↔ (handler_of a.now ≡ handler_of b.now) }
-{
-    same_bound(&a.pattern, &b.pattern) && same_block(&a.block, &b.block)
+    fn has_same_handler(&self, other: &When) -> bool
+        ensures { IsTrue result ↔ (option_map handler_of self.now.handler ≡ option_map handler_of other.now.handler) }
+    {
+        match (&self.handler, &other.handler) {
+            (Some(x), Some(y)) => x.is_same(y),
+            (None, None) => true,
+            _ => false,
+        }
+    }
 }
 
 fn same_bound(a: &Pattern, b: &Pattern) -> bool
