@@ -4,3 +4,6 @@ pub mod Settled
 pub mod Did
 pub mod Steps
 pub mod Looking
+pub mod EachOnce
+pub mod Carrying
+pub mod AllSettled

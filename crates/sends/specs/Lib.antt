@@ -2,3 +2,4 @@ pub mod Vats
 pub mod Making
 pub mod Playing
 pub mod Laws
+pub mod View
