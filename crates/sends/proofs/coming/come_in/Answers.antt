@@ -15,4 +15,4 @@ pub returns-in-None-clause-did : goal.returns-in-None-clause-did
 returns-in-None-clause-did c =
     came_now c.write_view.result c.args.promise c.args.draft.now c.reach_view.new.self c.write_view.new.self
     (touched_one (view_cell c.args.promise) c.args.draft.now c.reach_view.new.self c.in_ok-reach_view.ensures.state c.in_ok-reach_view.ensures.touched c.in_ok-reach_view.ensures.written)
-    c.in-None.ensures (c.write_view.ensures.ok, c.write_view.ensures.touched, c.write_view.ensures.written)
+    c.in-None.ensures (c.write_view.ensures.ok, (c.write_view.ensures.touched, c.write_view.ensures.written))
