@@ -1,72 +1,76 @@
-//! Runs a text of commands on vats, and writes one reply for each.
+//! Runs commands on vats, and writes one reply for each as soon as it is read.
 #![tactic(auto)]
 
 mod options;
 
 use options::{Options, Parsed, parse};
-use std::alloc::Global;
-use std::io::{Read, Write};
+use std::io::Read;
 use std::process::ExitCode;
 use std::rt::Runtime;
 use std::thread::{Builder, Threads};
 use std::{fs, io};
-use stepper::{Ended, Fault, Limits, STACK, Summary, replies, status};
+use stepper::{Ended, Fault, Limits, STACK, run, status};
+use streams::lines::Lines;
+use streams::outlet::Outlet;
 
-/// What is read: a file, or standard input.
-fn input<R: Runtime + AllocGlobal>(rt: &R, file: Option<&str>) -> Result<Vec<u8>, Ended> {
-    match file {
-        Some(path) => fs::read(rt, path).map_err(|_| Ended::NoFile),
-        None => {
-            let mut bytes = Vec::new(rt.alloc());
-            match rt.reader().read_to_end(&mut bytes) {
-                Ok(_) => Ok(bytes),
-                Err(_) => Err(Ended::Ran(Err(Fault::Reader))),
-            }
+/// Answers the commands of a reader on standard output.
+fn answer_from<R: Runtime + AllocGlobal, I: Read + Drop>(
+    rt: &R,
+    input: I,
+    limits: Limits,
+) -> Ended {
+    let alloc = rt.alloc();
+    match Lines::new(alloc, input) {
+        Ok(mut source) => {
+            let mut sink = Outlet::new(alloc, io::writer(rt));
+            Ended::Ran(run(alloc, &mut source, &mut sink, limits))
         }
+        Err(_) => Ended::Ran(Err(Fault::Memory)),
     }
 }
 
-/// The replies to all commands. It promises nothing, so neither does the closure that a thread is made with, which is
-/// proved the sooner.
-fn answers(alloc: Global, bytes: &[u8], limits: Limits) -> Result<(Vec<u8>, Summary), Fault> {
-    replies(alloc, bytes, limits)
+/// Answers the commands of a file, or of standard input.
+fn answer<R: Runtime + AllocGlobal>(rt: &R, file: Option<String>, limits: Limits) -> Ended {
+    match file {
+        Some(path) => match fs::open(rt, path.as_str()) {
+            Ok(input) => answer_from(rt, input, limits),
+            Err(_) => Ended::NoFile,
+        },
+        None => answer_from(rt, rt.reader(), limits),
+    }
 }
 
-/// The replies to all commands, made on a stack of their own.
-fn replies_of<R: Runtime + AllocGlobal + Threads>(
+/// Answers all commands on a stack of their own.
+fn answer_apart<R: Runtime + AllocGlobal + Threads + Copy + Send + 'static>(
     rt: &R,
-    bytes: Vec<u8>,
+    file: Option<String>,
     limits: Limits,
-) -> Result<(Vec<u8>, Summary), Fault> {
-    let alloc = rt.alloc();
-    let answering = move || answers(alloc, &bytes, limits);
+) -> Ended {
+    let own = *rt;
+    let answering = move || answer(&own, file, limits);
     match Builder::new().stack_size(STACK).spawn(rt, answering) {
         Ok(thread) => thread.join(rt),
         // The stack is memory too.
-        Err(_) => Err(Fault::Memory),
+        Err(_) => Ended::Ran(Err(Fault::Memory)),
     }
 }
 
-/// Answers all commands, and writes the replies at once.
-fn answer<R: Runtime + AllocGlobal + Threads>(rt: &R, options: &Options) -> Ended {
-    let bytes = match input(rt, options.file) {
-        Ok(bytes) => bytes,
-        Err(ended) => return ended,
-    };
-    match replies_of(rt, bytes, options.limits) {
-        Ok((written, summary)) => match io::writer(rt).write_all(&written) {
-            Ok(()) => Ended::Ran(Ok(summary)),
-            Err(_) => Ended::Ran(Err(Fault::Writer)),
-        },
-        Err(fault) => Ended::Ran(Err(fault)),
+/// The file that is named, as a text of its own: `-` is standard input.
+fn file_of<R: Runtime + AllocGlobal>(rt: &R, options: &Options) -> io::Result<Option<String>> {
+    match options.file {
+        Some("-") | None => Ok(None),
+        Some(path) => Ok(Some(String::from_str(rt.alloc(), path)?)),
     }
 }
 
-fn run<R: Runtime + AllocGlobal + Threads>(rt: &R) -> io::Result<Ended> {
+fn answer_words<R: Runtime + AllocGlobal + Threads + Copy + Send + 'static>(
+    rt: &R,
+) -> io::Result<Ended> {
     let words: Vec<String> = std::env::args(rt)?.collect(rt.alloc())?;
     let ended = match parse(rt, words.as_slice())? {
         Parsed::Options(options) => {
-            let ended = answer(rt, &options);
+            let file = file_of(rt, &options)?;
+            let ended = answer_apart(rt, file, options.limits);
             complain(rt, &ended, options.file)?;
             ended
         }
@@ -85,7 +89,7 @@ fn complain(rt: &impl Eprint, ended: &Ended, file: Option<&str>) -> io::Result<(
 }
 
 fn main(rt: HostRuntime) -> ExitCode {
-    match run(&rt) {
+    match answer_words(&rt) {
         Ok(ended) => ExitCode::from(status(&ended)),
         // Standard error is closed, or memory ran out before the first command was read.
         Err(_) => ExitCode::from(2),

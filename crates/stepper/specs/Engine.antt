@@ -12,7 +12,3 @@ pub record Happens (old new : Engine) (Allowed : books.Book → List ℕ → Boo
   pub allowed : Allowed (book_of old.book) reply refusal (book_of new.book)
   pub adds : Adds old.written new.written reply refusal
   pub budget : new.budget ≡ old.budget
-
--- the same, and this is left of the input
-abbrev pub HappensAt : Engine → Engine → List ℕ → (books.Book → List ℕ → Bool → books.Book → List ℕ → Type 0) → Type 0
-HappensAt old new rest Allowed = Happens old new (λ b r s d. Allowed b r s d rest)

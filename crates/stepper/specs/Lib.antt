@@ -4,6 +4,7 @@ pub mod Fault
 pub mod Listing
 pub mod ListingView
 pub mod Replies
+pub mod Runs
 pub mod Show
 pub mod ShowView
 pub mod Written
