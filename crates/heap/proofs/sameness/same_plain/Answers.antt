@@ -1,7 +1,7 @@
 use Rattle.std.proofs.Common.{sym, ◌∙◌}
 use Rattle.heap.proofs.Alike.{objects_told, named_otherwise, captures_otherwise}
-use Rattle.heap.proofs.sameness.same_made.Goals as goal
-use Rattle.heap.proofs.sameness.same_made.Goals.{then-same_pattern, else-same_pattern}
+use Rattle.heap.proofs.sameness.same_plain.Goals as goal
+use Rattle.heap.proofs.sameness.same_plain.Goals.{then-same_pattern, else-same_pattern}
 
 pub returns-then-same_nouns : goal.returns-then-same_nouns
 returns-then-same_nouns c = elim c.if-same_pattern.branch [

@@ -1,0 +1,9 @@
+pub mod Playing
+pub mod Followed
+pub mod Settled
+pub mod Did
+pub mod Steps
+pub mod Looking
+pub mod EachOnce
+pub mod Carrying
+pub mod AllSettled

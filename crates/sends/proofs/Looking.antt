@@ -1,0 +1,19 @@
+-- Views of promises are looked at in a loop.
+use Rattle.std.proofs.Common.{◌≡◌, ◌<◌, ◌≤◌, ◌+◌, ℕ, suc, List, [], ◌∷◌, drop, length, get_or, refl, sym, ap, ◌∙◌, add-one, drop-cons}
+use Rattle.std.proofs.lemmas.List.{drop_all}
+use Rattle.ids.specs.declared.names.PromId.{PromId}
+use Rattle.cells.specs.Doing.{touching}
+use Rattle.heap.specs.State.{view_cell, same_cell}
+use Rattle.heap.specs.Drafted.{Drafted}
+use Rattle.sends.specs.Playing.{under, looked_at}
+
+from_here : (ps : List PromId) (i : ℕ) (p : PromId) → i < length ps → p ≡ get_or ps i p → drop i ps ≡ p ∷ drop (i + 1) ps
+from_here ps i p h e = rw add-one (drop-cons ps i p h ∙ ap (λ y. y ∷ drop (suc i) ps) (sym e))
+
+-- one more was looked at
+pub look_next : (ps : List PromId) (i : ℕ) (p : PromId) (d e k : Drafted) → i < length ps → p ≡ get_or ps i p → looked_at (drop i ps) (under e) ≡ looked_at ps (under d) → under k ≡ touching same_cell (view_cell p) (under e) → looked_at (drop (i + 1) ps) (under k) ≡ looked_at ps (under d)
+look_next ps i p d e k h q inv w = ap (λ u. looked_at (drop (i + 1) ps) u) w ∙ ap (λ qs. looked_at qs (under e)) (sym (from_here ps i p h q)) ∙ inv
+
+-- none is left
+pub look_last : (ps : List PromId) (i : ℕ) (d e : Drafted) → length ps ≤ i → looked_at (drop i ps) (under e) ≡ looked_at ps (under d) → under e ≡ looked_at ps (under d)
+look_last ps i d e h inv = ap (λ qs. looked_at qs (under e)) (sym (drop_all i ps h)) ∙ inv
