@@ -3,3 +3,4 @@ pub mod Numerals
 pub mod Places
 pub mod ScriptLemmas
 pub mod Wording
+pub mod Vats

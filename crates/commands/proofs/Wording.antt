@@ -1,7 +1,9 @@
 -- Cutting off one word after another gives all words of a text.
-use Rattle.std.proofs.Common.{◌≡◌, ℕ, suc, ◌+◌, ◌<◌, ◌≤◌, List, [], ◌∷◌, ◌++◌, append_assoc, append-nil, length, take, drop, filter, Bool, true, false, not, cond, Option, Some, None, refl, sym, ap, subst, ◌∙◌, arith, length-drop, ◌==◌}
+use Rattle.std.proofs.Common.{◌≡◌, ℕ, suc, ◌+◌, ◌<◌, ◌≤◌, List, [], ◌∷◌, ◌++◌, append_assoc, append-nil, length, map, take, drop, filter, Bool, true, false, not, cond, Option, Some, None, refl, sym, ap, subst, ◌∙◌, arith, length-drop, ◌==◌}
 use Rattle.std.specs.Option.{option_map, option_and_then}
 use Rattle.std.specs.List.{position_or_len, slice_split, onto_first}
+use Rattle.std.specs.Borrow.{Bor}
+use Rattle.std.proofs.lemmas.List.{map-append}
 use Rattle.ids.specs.declared.names.EventName.{EventName}
 use Rattle.commands.specs.Words.{is_blank, without_blanks, first_word, behind_word, is_word, words_in}
 use Rattle.commands.specs.Numbers.{event_named, events_named, one_or_more}
@@ -177,3 +179,23 @@ pub named_all : (words rest : List ℕ) (events : List EventName) → (length re
     → events_named (words_in words) ≡ option_map (λ es. events ++ es) (events_named (words_in rest)) → cond (not (length events == 0)) (Some events) None ≡ one_or_more (words_in words)
 named_all words rest events l h =
     all_named (words_in words) events (h ∙ ap (λ ws. option_map (λ es. events ++ es) (events_named ws)) (no_words rest l) ∙ ap Some (append-nil events))
+
+-- words that a program holds
+abbrev pub held : List (Bor (List ℕ)) → List (List ℕ)
+held ws = map (λ w. w.now) ws
+
+-- before the first word there is none
+pub all_first : (text rest : List ℕ) (words : List (Bor (List ℕ))) → words ≡ [] → rest ≡ without_blanks text → held words ++ words_in rest ≡ words_in text
+all_first text rest words e f = ap (λ ws. held ws ++ words_in rest) e ∙ ap words_in f ∙ words_behind_blanks text
+
+-- one more word
+pub all_more : (text rest : List ℕ) (word : Bor (List ℕ)) (behind : List ℕ) (words later : List (Bor (List ℕ))) → begins rest ≡ true → (length rest == 0) ≡ false
+    → word.now ≡ first_word rest → behind ≡ behind_word rest → later ≡ words ++ word ∷ [] → held words ++ words_in rest ≡ words_in text → held later ++ words_in behind ≡ words_in text
+all_more text rest word behind words later b l w r g h =
+    let cut = words_cut rest b l ∙ ap (λ x. x ∷ words_in (behind_word rest)) (sym w) ∙ ap (λ x. word.now ∷ words_in x) (sym r) in
+    ap (λ ws. held ws ++ words_in behind) g ∙ ap (λ ws. ws ++ words_in behind) (map-append (λ (x : Bor (List ℕ)). x.now) words (word ∷ []))
+    ∙ append_assoc (held words) (word.now ∷ []) (words_in behind) ∙ ap (λ ws. held words ++ ws) (sym cut) ∙ h
+
+-- behind the last word there are all
+pub all_done : (text rest : List ℕ) (words : List (Bor (List ℕ))) → (length rest == 0) ≡ true → held words ++ words_in rest ≡ words_in text → held words ≡ words_in text
+all_done text rest words l h = sym (append-nil (held words)) ∙ ap (λ ws. held words ++ ws) (sym (no_words rest l)) ∙ h

@@ -1,5 +1,5 @@
 -- How a line is cut into words: they stand between spaces and tabs.
-use Rattle.std.specs.Prelude.{ℕ, List, drop, length, filter, Bool, not, ◌==◌, ◌||◌}
+use Rattle.std.specs.Prelude.{ℕ, List, drop, length, filter, slice_index, Bool, not, ◌==◌, ◌||◌, ◌-◌}
 use Rattle.std.specs.List.{position_or_len, before_first, slice_split}
 
 abbrev pub is_blank : ℕ → Bool
@@ -23,3 +23,7 @@ is_word w = not (length w == 0)
 -- all words of a text
 abbrev pub words_in : List ℕ → List (List ℕ)
 words_in text = filter is_word (slice_split is_blank text)
+
+-- the last byte is a blank
+abbrev pub ends_blank : List ℕ → Bool
+ends_blank text = is_blank (slice_index text (length text - 1))

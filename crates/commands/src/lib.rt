@@ -6,3 +6,5 @@ pub mod lines;
 mod numbers;
 pub mod script;
 mod words;
+
+pub use numbers::PromiseName;
