@@ -1,5 +1,5 @@
 -- The laws of evaluation.
-use Rattle.std.specs.Prelude.{◌≡◌, ℕ, ◌+◌, ◌≤◌, ◌++◌, true, false, cond}
+use Rattle.std.specs.Prelude.{◌≡◌, ℕ, ◌+◌, ◌≤◌, ◌++◌, true, false, cond, length}
 use Rattle.ids.specs.declared.names.EjId.{EjId}
 use Rattle.kernele.specs.Tree.{Tree}
 use Rattle.values.specs.Data.{Val}
@@ -71,10 +71,11 @@ StepsAreNodes = (k : ℕ) (t : Tree) (a b : At) (o : End) (r : Ends k t a o b) �
 abbrev pub NoneRunsTooDeep : Type 0
 NoneRunsTooDeep = (k : ℕ) (t : Tree) (a b : At) (o : End) (r : Ends k t a o b) → deepest r ≤ 1000
 
--- a turn has made at most 4,096 slots and as many objects
+-- a turn has made at most 4,096 slots, as many objects, and as many messages
 pub record IsWithinRoom (a : At) : Type 0 where
   pub slots : a.slots ≤ 4096
   pub objects : a.objects ≤ 4096
+  pub messages : length a.out.letters ≤ 4096
 
 -- and so it is behind a tree where it was before
 abbrev pub RoomIsKept : Type 0

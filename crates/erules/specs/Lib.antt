@@ -1,9 +1,13 @@
+pub mod Outbox
+pub mod OutboxView
 pub mod At
 pub mod Fits
 pub mod Outcomes
 pub mod Rules
 pub mod Derivations
+pub mod Acting
 pub mod View
 pub mod Answered
 pub mod Laws
 pub mod Locals
+pub mod Doings

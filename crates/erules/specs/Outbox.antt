@@ -1,0 +1,23 @@
+-- What a turn makes beside what it does to its vat's cells: messages, what it publishes, and notes for the log, each list in the order of
+-- making.
+use Rattle.std.specs.Prelude.{ℕ, List}
+use Rattle.ids.specs.declared.names.MsgId.{MsgId}
+use Rattle.ids.specs.declared.names.PromId.{PromId}
+use Rattle.post.specs.Messages.{Message, Published}
+
+-- a note for the log: a message was sent, a when waits for a promise, or a promise was resolved
+pub data Note : Type 0 where
+  sent_note : (m : MsgId) → Note
+  waits_note : (condition : PromId) → (m : MsgId) → Note
+  resolved_note : (p : PromId) → Note
+
+-- messages with their names, how many promises were made, what promises were published as, and notes
+pub record Outbox : Type 0 where
+  pub letters : List (MsgId × Message)
+  pub promises : ℕ
+  pub publications : List (PromId × Published)
+  pub notes : List Note
+
+-- nothing was made
+abbrev pub empty_outbox : Outbox
+empty_outbox = record { letters = []; promises = 0; publications = []; notes = [] }

@@ -1,0 +1,54 @@
+// What a turn makes beside what it does to its vat's state.
+ghost use Rattle.std.specs.Prelude.{◌≡◌};
+ghost use Rattle.erules.specs.Outbox.{empty_outbox};
+ghost use Rattle.erules.specs.OutboxView.{outbox_of};
+
+use ids::names::{MsgId, PromId};
+use post::message::Message;
+use post::published::Published;
+use std::alloc::Global;
+
+/// A message that was made, by its name.
+#[derive(Drop)]
+pub struct Letter {
+    pub name: MsgId,
+    pub message: Message,
+}
+
+/// What a promise was published as.
+#[derive(Drop)]
+pub struct Publication {
+    pub promise: PromId,
+    pub published: Published,
+}
+
+/// A note for the log: a message was sent, a `when` waits for a promise, or a promise was resolved.
+#[derive(Clone, Copy)]
+pub enum Note {
+    Sent(MsgId),
+    Waits(PromId, MsgId),
+    Resolved(PromId),
+}
+
+/// Messages, publications and notes in the order of making, and how many promises were made.
+#[derive(Drop)]
+pub struct Outbox {
+    pub letters: Vec<Letter>,
+    pub promises: u32,
+    pub publications: Vec<Publication>,
+    pub notes: Vec<Note>,
+}
+
+impl Outbox {
+    /// Nothing was made.
+    pub fn new(alloc: Global) -> Outbox
+        ensures { outbox_of result ≡ empty_outbox }
+    {
+        Outbox {
+            letters: Vec::new(alloc),
+            promises: 0,
+            publications: Vec::new(alloc),
+            notes: Vec::new(alloc),
+        }
+    }
+}
