@@ -12,8 +12,8 @@ use Rattle.history.specs.Chains.{last_writer}
 use Rattle.history.specs.Records.{State, Row, contents, entries_of}
 use Rattle.history.proofs.Standing.{standing_run, last_shown}
 use Rattle.ids.specs.declared.cells.CellKey.{CellKey}
-use Rattle.post.specs.Events.{Event}
-use Rattle.post.specs.Theory.{cells}
+use Rattle.worldcells.specs.Events.{Event}
+use Rattle.worldcells.specs.Theory.{cells}
 use Rattle.event.specs.Events.{Does, events}
 use Rattle.event.proofs.Law.{events_laws}
 use Rattle.journal.specs.Items.{Item}

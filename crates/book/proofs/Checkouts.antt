@@ -4,7 +4,8 @@ use Rattle.std.specs.Option.{option_map}
 use Rattle.ids.specs.declared.names.MsgId.{MsgId}
 use Rattle.ids.specs.declared.names.VatNo.{VatNo}
 use Rattle.ids.specs.declared.cells.CellKey.TheVariants as key
-use Rattle.post.specs.World.{World, Message, Place, message, message_in, message_of, at_vat}
+use Rattle.post.specs.Messages.{Message, Place, at_vat}
+use Rattle.worldcells.specs.World.{World, message, message_in, message_of}
 use Rattle.event.specs.Ready.{lost, early, early_message, awaits}
 use Rattle.event.specs.declared.ready.Unready.{Unready}
 use Rattle.desk.specs.Desks.{has_vat}

@@ -15,11 +15,12 @@ use Rattle.ids.specs.declared.cells.CellKey.TheVariants as key
 use Rattle.heap.specs.Found.{Found}
 use Rattle.heap.specs.State.{State}
 use Rattle.heap.specs.View.{state_of as heap_state_of}
-use Rattle.post.specs.Events.{Event, turn}
-use Rattle.post.specs.Messages.{message_of}
-use Rattle.post.specs.Theory.{cells, kepts_of}
-use Rattle.post.specs.World.{World, Content, Message, message, Place, at_vat, vat_state}
-use Rattle.post.specs.World.{message_of as world_message}
+use Rattle.worldcells.specs.Events.{Event, turn}
+use Rattle.post.specs.MessageView.{message_of}
+use Rattle.worldcells.specs.Theory.{cells, kepts_of}
+use Rattle.post.specs.Messages.{Message, Place, at_vat}
+use Rattle.worldcells.specs.World.{World, Content, message, vat_state}
+use Rattle.worldcells.specs.World.{message_of as world_message}
 use Rattle.event.specs.Events.{Does, Foot, InOrder, Turn, Turns, turns, turn_foot, events}
 use Rattle.event.specs.Effects.{BringsTurn}
 use Rattle.event.specs.Ready.{awaits, early, lost}

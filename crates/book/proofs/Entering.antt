@@ -11,8 +11,8 @@ use Rattle.history.proofs.Lists.{all_map, all_both}
 use Rattle.history.proofs.Naming.{causes_named, causes_below, free_causes, free_from}
 use Rattle.ids.specs.CellKeys.{same_key}
 use Rattle.ids.specs.declared.cells.CellKey.{CellKey}
-use Rattle.post.specs.Events.{Event}
-use Rattle.post.specs.Theory.{cells}
+use Rattle.worldcells.specs.Events.{Event}
+use Rattle.worldcells.specs.Theory.{cells}
 use Rattle.event.specs.Events.{Foot, Does, events}
 use Rattle.event.specs.Effects.{Brings}
 use Rattle.event.proofs.Law.{events_laws}

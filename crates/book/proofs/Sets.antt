@@ -8,8 +8,9 @@ use Rattle.kernele.specs.declared.tree.Pattern.{Pattern}
 use Rattle.kernele.specs.Tree.{Name, Trees, Trees-set}
 use Rattle.heap.specs.Sets.{vals, binds, objects, views}
 use Rattle.post.specs.Delivery.{Delivery, Delivery-set}
-use Rattle.post.specs.Events.{Act, Event}
-use Rattle.post.specs.World.{Vat, Vat-set, Place, Place-set, Message, Message-set, Content, Content-set, World}
+use Rattle.worldcells.specs.Events.{Act, Event}
+use Rattle.post.specs.Messages.{Vat, Vat-set, Place, Place-set, Message, Message-set}
+use Rattle.worldcells.specs.World.{Content, Content-set, World}
 use Rattle.journal.specs.Lines.{plain, Line}
 
 names : IsSet Name

@@ -5,9 +5,10 @@ use Rattle.std.proofs.lemmas.Bool.{ltb-false}
 use Rattle.std.proofs.lemmas.List.{length-append, length-map}
 use Rattle.history.specs.Records.{State, Record}
 use Rattle.ids.specs.declared.cells.CellKey.{CellKey}
-use Rattle.post.specs.Events.{Event}
-use Rattle.post.specs.Theory.{cells}
-use Rattle.post.specs.World.{Vat, vat_named}
+use Rattle.worldcells.specs.Events.{Event}
+use Rattle.worldcells.specs.Theory.{cells}
+use Rattle.post.specs.Messages.{Vat}
+use Rattle.worldcells.specs.World.{vat_named}
 use Rattle.kernele.specs.Tree.{Name, Trees}
 use Rattle.scopes.specs.Scope.{checked_program, script_scopes, asked_scopes}
 use Rattle.journal.specs.Items.{Item, entered, exchanged}

@@ -14,11 +14,12 @@ use Rattle.heap.specs.State as heap
 use Rattle.heap.specs.State.{Cell}
 use Rattle.heap.specs.View.{state_of}
 use Rattle.heap.specs.Found.{Found}
-use Rattle.post.specs.Events.{Event, turn}
-use Rattle.post.specs.Messages.{message_of}
+use Rattle.worldcells.specs.Events.{Event, turn}
+use Rattle.post.specs.MessageView.{message_of}
 use Rattle.post.specs.declared.message.Message as code-message
-use Rattle.post.specs.World as world
-use Rattle.post.specs.World.{Message, message, at_vat, vat_state}
+use Rattle.worldcells.specs.World as world
+use Rattle.post.specs.Messages.{Message, at_vat}
+use Rattle.worldcells.specs.World.{message, vat_state}
 use Rattle.event.specs.Events.{Foot, Does, events, InOrder, Turn, Turns, Leaves, turn_foot}
 use Rattle.event.specs.Runs.{PlainRun}
 use Rattle.event.specs.Effects.{turn_of}

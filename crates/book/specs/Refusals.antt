@@ -8,7 +8,8 @@ use Rattle.scopes.specs.Scope as scope
 use Rattle.ids.specs.declared.names.EventName.{EventName}
 use Rattle.ids.specs.declared.names.VatNo.{VatNo}
 use Rattle.ids.specs.declared.names.MsgId.{MsgId}
-use Rattle.post.specs.World.{Vat, Place, at_vat, done, Message, World, vat_named, message_of}
+use Rattle.post.specs.Messages.{Vat, Place, at_vat, done, Message}
+use Rattle.worldcells.specs.World.{World, vat_named, message_of}
 use Rattle.event.specs.Ready.{lost, early}
 use Rattle.event.specs.declared.ready.Unready.{Unready}
 use Rattle.event.specs.declared.ready.Unready.TheVariants as why

@@ -2,8 +2,8 @@
 
 use crate::calls::{BUDGET, message, name, program};
 use ids::names::{EventName, PromId, VatNo};
-use post::event::{Action, Event};
-use post::world::World;
+use worldcells::event::{Action, Event};
+use worldcells::world::World;
 use std::process::Abort;
 use values::value::Value;
 use world::run::plain_run;

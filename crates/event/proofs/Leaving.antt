@@ -24,8 +24,9 @@ use Rattle.heap.specs.State.{Cell, top, slot_cell, object_cell, view_cell, fence
 use Rattle.heap.specs.Found.{touch_in, touched_in, writes_in, written_part, left_by}
 use Rattle.heap.specs.declared.reach.Footprint.{Footprint}
 use Rattle.erules.specs.Outcomes.{End, value, halt, thrown, ejected, abandoned}
-use Rattle.post.specs.World.{Content, Message, cell_key}
-use Rattle.post.specs.Theory.{cells, kepts_of}
+use Rattle.post.specs.Messages.{Message}
+use Rattle.worldcells.specs.World.{Content, cell_key}
+use Rattle.worldcells.specs.Theory.{cells, kepts_of}
 use Rattle.event.specs.Turn.{kept}
 use Rattle.event.specs.Events.{events, Leaves, turn_foot, awaited, is_abandoned, done_and_published}
 use Rattle.event.specs.Outcomes.{ended_of, outcome_on}

@@ -17,8 +17,8 @@ use Rattle.ids.proofs.References.{reference_equal, reference_self}
 use Rattle.heap.specs.State as heap
 use Rattle.heap.specs.State.{Cell, top, slot_cell, object_cell, view_cell, fence_cell, same_cell}
 use Rattle.heap.proofs.Cells.{cell_exact, cell_self}
-use Rattle.post.specs.World.{cell_key, content_of}
-use Rattle.post.specs.Theory.{cells}
+use Rattle.worldcells.specs.World.{cell_key, content_of}
+use Rattle.worldcells.specs.Theory.{cells}
 use Rattle.event.specs.Entries.{Entry, cells_in, keys_in, left_at, left_in, writes_at, kept_left}
 
 -- ---- cells that are the same

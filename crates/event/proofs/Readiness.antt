@@ -15,8 +15,9 @@ use Rattle.erules.specs.Outcomes.{End, value, halt, thrown, ejected, abandoned}
 use Rattle.erules.proofs.Kept.{IsKept, items_kept}
 use Rattle.erules.proofs.Total.{items_somehow}
 use Rattle.post.specs.Delivery.{Delivery, opening, asked}
-use Rattle.post.specs.Events.{Act, birth, ask, turn, Event}
-use Rattle.post.specs.World.{Place, at_vat, done, Message, Content, message, World, message_in, message_of, done_in, vat_state}
+use Rattle.worldcells.specs.Events.{Act, birth, ask, turn, Event}
+use Rattle.post.specs.Messages.{Place, at_vat, done, Message, done_in}
+use Rattle.worldcells.specs.World.{Content, message, World, message_in, message_of, vat_state}
 use Rattle.event.specs.Turn.{Outcome, outcome, settled, kept, start, opens, asks}
 use Rattle.event.specs.Events.{Foot, Turn, Turns, Leaves, Lists, DeliversOn, InOrder, is_abandoned, turn_foot, Does, births, asks as asks_does, turns}
 use Rattle.event.specs.Ready.{misplaced, lost_message, awaits, early_message, IsReady}

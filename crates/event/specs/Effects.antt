@@ -11,9 +11,10 @@ use Rattle.ids.specs.declared.cells.CellKey.{CellKey}
 use Rattle.heap.specs.State as heap
 use Rattle.heap.specs.State.{Cell}
 use Rattle.heap.specs.Found.{touched_in}
-use Rattle.post.specs.Events.{Event}
-use Rattle.post.specs.World.{Message, World}
-use Rattle.post.specs.Theory.{cells, kepts_of}
+use Rattle.worldcells.specs.Events.{Event}
+use Rattle.post.specs.Messages.{Message}
+use Rattle.worldcells.specs.World.{World}
+use Rattle.worldcells.specs.Theory.{cells, kepts_of}
 use Rattle.event.specs.Events.{Foot, Does, events, Turn, Leaves, turn_foot}
 use Rattle.event.specs.Outcomes.{outcome_on, written_by}
 use Rattle.event.specs.declared.outcome.Outcome as code

@@ -14,8 +14,8 @@ use Rattle.heap.specs.State as heap
 use Rattle.heap.specs.State.{Cell, top, slot_cell, object_cell, view_cell, fence_cell, bound, held, made, viewed, fenced}
 use Rattle.heap.specs.View.{bind_of, object_of, view_of, same_name, same_slot, same_object, same_promise, same_target}
 use Rattle.heap.specs.declared.reach.Footprint.{Footprint}
-use Rattle.post.specs.World.{Content, content_of, cell_key}
-use Rattle.post.specs.Theory.{cells}
+use Rattle.worldcells.specs.World.{Content, content_of, cell_key}
+use Rattle.worldcells.specs.Theory.{cells}
 use Rattle.event.specs.Events.{is_abandoned}
 use Rattle.event.specs.Outcomes.{ended_of}
 use Rattle.event.specs.declared.outcome.Outcome.{Outcome}

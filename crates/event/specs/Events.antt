@@ -14,9 +14,10 @@ use Rattle.heap.specs.State as heap
 use Rattle.heap.specs.State.{Cell, Cells, same_cell}
 use Rattle.erules.specs.Outcomes.{End, value, halt, thrown, ejected, abandoned}
 use Rattle.post.specs.Delivery.{Delivery, opening, asked}
-use Rattle.post.specs.Events.{birth, ask, turn, Event}
-use Rattle.post.specs.Theory.{subject}
-use Rattle.post.specs.World.{Vat, at_vat, done, Message, Content, vat, message, published, content_of, World, vat_named, message_of, done_in, cell_key, vat_state}
+use Rattle.worldcells.specs.Events.{birth, ask, turn, Event}
+use Rattle.worldcells.specs.Theory.{subject}
+use Rattle.post.specs.Messages.{Vat, at_vat, done, Message, done_in}
+use Rattle.worldcells.specs.World.{Content, vat, message, published, content_of, World, vat_named, message_of, cell_key, vat_state}
 use Rattle.event.specs.Turn.{Outcome, Delivers}
 use Rattle.event.specs.Touched.{delivery_touched, delivery_written}
 

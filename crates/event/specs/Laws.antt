@@ -11,8 +11,8 @@ use Rattle.erules.specs.At.{At}
 use Rattle.erules.specs.Outcomes.{ejected, halt}
 use Rattle.erules.specs.Rules.{Items}
 use Rattle.post.specs.Delivery.{Delivery}
-use Rattle.post.specs.Events.{turn, Event}
-use Rattle.post.specs.World.{World}
+use Rattle.worldcells.specs.Events.{turn, Event}
+use Rattle.worldcells.specs.World.{World}
 use Rattle.event.specs.Turn.{Outcome, Delivers, start}
 use Rattle.erules.specs.Laws.{IsWithin, AgreeOn, with_cells, IsWithinRoom}
 use Rattle.event.specs.Touched.{delivery_touched, delivery_written}

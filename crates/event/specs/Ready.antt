@@ -1,7 +1,8 @@
 -- Whether a message may be delivered in a world, and why not.
 use Rattle.std.specs.Prelude.{◌≡◌, cond, Option, Some, None}
 use Rattle.ids.specs.declared.names.MsgId.{MsgId}
-use Rattle.post.specs.World.{Place, at_vat, done, Message, World, message_of, done_in}
+use Rattle.post.specs.Messages.{Place, at_vat, done, Message, done_in}
+use Rattle.worldcells.specs.World.{World, message_of}
 use Rattle.event.specs.declared.ready.Unready.{Unready}
 use Rattle.event.specs.declared.ready.Unready.TheVariants as why
 

@@ -1,15 +1,16 @@
 // Whether a message may be delivered.
 ghost use Rattle.std.specs.Prelude.{◌≡◌, None, Some, IfOk, IfErr, OnOk};
 ghost use Rattle.ids.specs.declared.cells.CellKey.TheVariants as key;
-ghost use Rattle.post.specs.Messages.{message_of, place_of};
-ghost use Rattle.post.specs.View.{world_of};
-ghost use Rattle.post.specs.World.{at_vat, done_in, message_of as message_in_world, message as message_content};
+ghost use Rattle.post.specs.MessageView.{message_of, place_of};
+ghost use Rattle.worldcells.specs.View.{world_of};
+ghost use Rattle.post.specs.Messages.{at_vat, done_in};
+ghost use Rattle.worldcells.specs.World.{message_of as message_in_world, message as message_content};
 ghost use Rattle.event.specs.Events.{InOrder};
 ghost use Rattle.event.specs.Ready.{lost, awaits};
 
 use ids::names::{MsgId, VatNo};
 use post::message::{Message, Place};
-use post::world::World;
+use worldcells::world::World;
 
 /// Why a message may not be delivered now.
 #[derive(Drop)]

@@ -10,7 +10,7 @@ use Rattle.ereader.specs.Texts as texts
 use Rattle.ereader.specs.Shown as reading
 use Rattle.ereader.specs.declared.fault.ReadFault.{ReadFault}
 use Rattle.ereader.specs.declared.fault.ReadFault.TheVariants as read_fault
-use Rattle.post.specs.Events.{birth, ask}
+use Rattle.worldcells.specs.Events.{birth, ask}
 use Rattle.event.specs.Events.{Turn, birth_foot, ask_foot}
 use Rattle.journal.specs.Lines.{Line}
 use Rattle.causality.specs.Exact.{Cone}

@@ -3,7 +3,7 @@ use Rattle.std.specs.Prelude.{ℕ, ◌+◌, List, [], ◌∷◌, ◌++◌, map, 
 use Rattle.std.specs.Fmt.{decimal}
 use Rattle.ids.specs.Names.{event_text, message_text}
 use Rattle.ids.specs.declared.names.EventName.{EventName}
-use Rattle.post.specs.Events.{Act, birth, ask, turn}
+use Rattle.worldcells.specs.Events.{Act, birth, ask, turn}
 use Rattle.journal.specs.Lines.{Line}
 use Rattle.causality.specs.Selections.{name_of}
 

@@ -13,7 +13,7 @@ use Rattle.erules.specs.Outcomes.{End, value, halt, thrown, ejected, abandoned, 
 use Rattle.ereader.specs.Texts.{ReadAs}
 use Rattle.ereader.specs.Shown as reading
 use Rattle.ereader.specs.declared.fault.ReadFault.{ReadFault}
-use Rattle.post.specs.Events.{birth, ask}
+use Rattle.worldcells.specs.Events.{birth, ask}
 use Rattle.event.specs.Events.{Turn, birth_foot, ask_foot, first_message}
 use Rattle.journal.specs.Lines.{Line}
 use Rattle.causality.specs.Exact.{Cone}

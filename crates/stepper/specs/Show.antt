@@ -21,7 +21,8 @@ use Rattle.kernele.specs.declared.tree.Pattern.TheVariants as pattern
 use Rattle.values.specs.Shown.{shown}
 use Rattle.heap.specs.State as state
 use Rattle.heap.specs.State.{State, top, slot_cell, object_cell, view_cell, fence_cell, bound, fixed, slot, held, made, viewed, pending, resolved, fenced}
-use Rattle.post.specs.World.{Place, at_vat, done, Content, vat, message, published, World, vat_state}
+use Rattle.post.specs.Messages.{Place, at_vat, done}
+use Rattle.worldcells.specs.World.{Content, vat, message, published, World, vat_state}
 
 -- xs has the contents of a finite map with their keys, in the order of the keys
 pub record Lists {K V : Type 0} (cmp : K → K → Ordering) (at : K → Option V) (xs : List (K × V)) : Type 0 where

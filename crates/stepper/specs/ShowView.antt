@@ -15,8 +15,8 @@ use Rattle.ids.specs.declared.names.PromId.{PromId}
 use Rattle.ids.specs.declared.names.SlotId.{SlotId}
 use Rattle.ids.specs.declared.names.ObjId.{ObjId}
 use Rattle.ids.specs.declared.reference.Reference.{Reference}
-use Rattle.post.specs.World.{Content, message, published}
-use Rattle.post.specs.Messages.{message_of}
+use Rattle.worldcells.specs.World.{Content, message, published}
+use Rattle.post.specs.MessageView.{message_of}
 use Rattle.post.specs.declared.message.Message.{Message}
 
 -- entries, each content as what it stands for

@@ -1,6 +1,6 @@
 // The journal and a cone as texts.
 ghost use Rattle.std.specs.Prelude.{◌≡◌, ◌++◌, map, OnOk, string_bytes, codes};
-ghost use Rattle.post.specs.EventView.{act_of};
+ghost use Rattle.worldcells.specs.EventView.{act_of};
 ghost use Rattle.journal.specs.Items.{is_live, item_of};
 ghost use Rattle.journal.specs.Lines.{lines_of};
 ghost use Rattle.causality.specs.Journals.{IsJournal};
@@ -11,7 +11,7 @@ ghost use Rattle.stepper.specs.ListingView.{line_with};
 use causality::causes::{NameIndex, causes};
 use ids::names::EventName;
 use journal::entry::{Entry, Mark};
-use post::event::Action;
+use worldcells::event::Action;
 use std::alloc::{AllocError, Global};
 
 /// Writes the names of events, a space before each.

@@ -2,7 +2,7 @@
 ghost use Rattle.std.specs.Prelude.{◌≡◌, ◌++◌, [], map, true, false, OnOk, string_bytes};
 ghost use Rattle.ereader.specs.Shown.{shown};
 ghost use Rattle.book.specs.Fault as book_fault;
-ghost use Rattle.post.specs.View.{world_of};
+ghost use Rattle.worldcells.specs.View.{world_of};
 ghost use Rattle.event.specs.Outcomes.{ended_of};
 ghost use Rattle.commands.specs.Commands.{fault_text};
 ghost use Rattle.stepper.specs.Replies.{refused, queued_text, turned_text, end_text, undone_text, redone_text, exchanged_text};
@@ -21,7 +21,7 @@ use event::outcome::Ended;
 use ids::names::{EventName, MsgId};
 use ids::quote::write_quoted;
 use journal::entry::Entry;
-use post::world::World;
+use worldcells::world::World;
 use std::alloc::{AllocError, Global};
 use values::showing::write_value;
 

@@ -10,9 +10,10 @@ use Rattle.ids.specs.declared.cells.CellKey.TheVariants as key
 use Rattle.heap.specs.Found.{Found}
 use Rattle.heap.specs.State.{State}
 use Rattle.heap.specs.View.{state_of}
-use Rattle.post.specs.Events.{birth, ask, turn}
-use Rattle.post.specs.Messages.{message_of}
-use Rattle.post.specs.World.{World, Vat, Message, Content, Place, message_in, vat_named, vat_state}
+use Rattle.worldcells.specs.Events.{birth, ask, turn}
+use Rattle.post.specs.MessageView.{message_of}
+use Rattle.post.specs.Messages.{Vat, Message, Place}
+use Rattle.worldcells.specs.World.{World, Content, message_in, vat_named, vat_state}
 use Rattle.post.specs.declared.message.Message as code-message
 use Rattle.event.specs.Events.{Foot, Does, births, asks, turns, DeliversOn, Turn, Turns, turn_foot}
 use Rattle.event.specs.Effects.{Happens, BringsTurn, turn_of}

@@ -6,8 +6,9 @@ use Rattle.ids.specs.declared.names.VatNo.{VatNo}
 use Rattle.ids.specs.declared.names.MsgId.{MsgId}
 use Rattle.ids.specs.declared.cells.CellKey.TheVariants as key
 use Rattle.heap.specs.Found.{Found}
-use Rattle.post.specs.Events.{Event}
-use Rattle.post.specs.World.{World, Message, message, at_vat, vat_state}
+use Rattle.worldcells.specs.Events.{Event}
+use Rattle.post.specs.Messages.{Message, at_vat}
+use Rattle.worldcells.specs.World.{World, message, vat_state}
 use Rattle.post.specs.declared.message.Message as code-message
 use Rattle.event.specs.Events.{Foot, Does, events, InOrder}
 use Rattle.turn.specs.declared.ticket.Ran.{Ran}

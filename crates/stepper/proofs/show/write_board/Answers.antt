@@ -1,6 +1,6 @@
 use Rattle.ids.specs.Cells.{promise_cmp}
 use Rattle.values.specs.View.{val_of}
-use Rattle.post.specs.World.{published}
+use Rattle.worldcells.specs.World.{published}
 use Rattle.stepper.proofs.Listings.{entries_list}
 use Rattle.stepper.proofs.show.write_board.Goals as goal
 

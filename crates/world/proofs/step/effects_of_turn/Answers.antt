@@ -1,6 +1,6 @@
 use Rattle.std.proofs.lemmas.Result.{err_from_is_err_and}
-use Rattle.post.specs.View.{world_of}
-use Rattle.post.specs.World.{vat_state}
+use Rattle.worldcells.specs.View.{world_of}
+use Rattle.worldcells.specs.World.{vat_state}
 use Rattle.event.specs.Events.{turn_foot}
 use Rattle.world.proofs.Stepping.{turned, turn_happens}
 use Rattle.world.proofs.step.effects_of_turn.Goals as goal

@@ -1,7 +1,7 @@
 use Rattle.std.proofs.Common.{◌∙◌, Option, Some, ap, sym}
 use Rattle.kernele.specs.Tree.{Name}
 use Rattle.kernele.specs.View.{program_of}
-use Rattle.post.specs.World.{Content, vat_in}
+use Rattle.worldcells.specs.World.{Content, vat_in}
 use Rattle.book.specs.BookView.{book_of}
 use Rattle.book.specs.Refusals.{no_vat, ask_refusal_by}
 use Rattle.book.proofs.book.Book.admit_ask.Goals as goal

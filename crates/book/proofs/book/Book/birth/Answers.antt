@@ -1,7 +1,7 @@
 use Rattle.std.proofs.Common.{sym, subst}
 use Rattle.kernele.specs.View.{program_of}
 use Rattle.kernele.specs.Tree.{Name}
-use Rattle.post.specs.Events.{Event, birth}
+use Rattle.worldcells.specs.Events.{Event, birth}
 use Rattle.event.specs.Events.{birth_foot, births}
 use Rattle.book.specs.BookView.{book_of}
 use Rattle.event.specs.Effects.{Happens}

@@ -4,10 +4,11 @@ use Rattle.std.proofs.lemmas.Bool.{false≢true}
 use Rattle.history.specs.Records.{contents}
 use Rattle.ids.specs.declared.cells.CellKey.TheVariants as key
 use Rattle.heap.specs.Found.{Found}
-use Rattle.post.specs.Messages.{message_of}
-use Rattle.post.specs.Theory.{cells}
-use Rattle.post.specs.View.{world_of}
-use Rattle.post.specs.World.{Message, World, message, vat_state}
+use Rattle.post.specs.MessageView.{message_of}
+use Rattle.worldcells.specs.Theory.{cells}
+use Rattle.worldcells.specs.View.{world_of}
+use Rattle.post.specs.Messages.{Message}
+use Rattle.worldcells.specs.World.{World, message, vat_state}
 use Rattle.post.specs.declared.message.Sent.{Sent}
 use Rattle.event.specs.Events.{InOrder}
 use Rattle.book.specs.BookView.{book_of}

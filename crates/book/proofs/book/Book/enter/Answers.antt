@@ -1,6 +1,6 @@
 use Rattle.std.proofs.Common.{◌≡◌, ap, ◌∙◌}
-use Rattle.post.specs.EventView.{event_of}
-use Rattle.post.specs.Theory.{kepts_of}
+use Rattle.worldcells.specs.EventView.{event_of}
+use Rattle.worldcells.specs.Theory.{kepts_of}
 use Rattle.journal.specs.Items.{entered}
 use Rattle.desk.specs.DeskView.{out_of}
 use Rattle.undo.specs.CoreView.{shown}

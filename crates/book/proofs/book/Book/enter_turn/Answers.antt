@@ -3,9 +3,9 @@ use Rattle.std.proofs.lemmas.Result.{err_from_is_err_and}
 use Rattle.history.specs.Records.{contents}
 use Rattle.desk.specs.DeskView.{out_of}
 use Rattle.journal.specs.Items.{entered}
-use Rattle.post.specs.Events.{Event, turn}
-use Rattle.post.specs.Theory.{cells, kepts_of}
-use Rattle.post.specs.World.{vat_state}
+use Rattle.worldcells.specs.Events.{Event, turn}
+use Rattle.worldcells.specs.Theory.{cells, kepts_of}
+use Rattle.worldcells.specs.World.{vat_state}
 use Rattle.undo.specs.CoreView.{shown, state_of}
 use Rattle.book.specs.BookView.{book_of}
 use Rattle.book.specs.Calls.{strange, changed, no_room}
