@@ -6,6 +6,7 @@
 
 pub mod calls;
 pub mod ends;
+pub mod places;
 mod posting;
 pub mod promises;
 pub mod references;

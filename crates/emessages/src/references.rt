@@ -9,6 +9,7 @@ ghost use Rattle.values.specs.Data.{broken};
 ghost use Rattle.values.specs.Replies.{text_in};
 ghost use Rattle.values.specs.View.{val_of};
 
+use crate::places::here;
 use erules::end::Stop;
 use erules::halting::throw_made;
 use erules::results::give;
@@ -40,7 +41,7 @@ pub fn give_same(w: &mut Working, left: &Value, into: &mut Value) -> Result<(), 
 pub fn give_state(w: &mut Working, into: &mut Value) -> Result<(), Stop>
     ensures { OnEnd result into.new w.new (λ o b. (o ≡ state_end (at w.old).vat (value_end (val_of into.old))) × (b ≡ at w.old)) }
 {
-    let here = w.draft.ejector(0).vat;
+    let here = here(w);
     *into = Value::Text(Text::new(w.alloc, word_of(kind_of(into, here)))?);
     Ok(())
 }
