@@ -70,14 +70,14 @@ abbrev pub awaited_for : Option Published → List MsgId
 awaited_for None = []
 awaited_for (Some b) = names_behind b.fences (reference_in b.value)
 
--- for all of them
-abbrev pub awaited_along : World → List PromId → List MsgId
-awaited_along w [] = []
-awaited_along w (p ∷ ps) = joined (awaited_for (published_as w p)) (awaited_along w ps)
+-- for all of them, beside some names
+abbrev pub awaited_along : World → List MsgId → List PromId → List MsgId
+awaited_along w names [] = names
+awaited_along w names (p ∷ ps) = awaited_along w (joined names (awaited_for (published_as w p))) ps
 
 -- the messages that must be done before a message is delivered: those that it comes after, and those that are awaited on its walk
 abbrev pub awaited : World → Message → List MsgId
-awaited w g = joined g.after (awaited_along w (looked_up w g.delivery))
+awaited w g = awaited_along w g.after (looked_up w g.delivery)
 
 abbrev pub fences_of : Option Published → Carried
 fences_of None = []

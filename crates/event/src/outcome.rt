@@ -1,8 +1,9 @@
 // What a turn leaves.
 ghost use Rattle.std.specs.Prelude.{◌≡◌, IfOk};
-ghost use Rattle.event.specs.Outcomes.{ended_of};
+ghost use Rattle.event.specs.Outcomes.{told_of};
 
 use erules::end::Abandon;
+use erules::outbox::Outbox;
 use heap::reach::Footprint;
 use ids::text::Text;
 use std::alloc::AllocError;
@@ -11,6 +12,7 @@ use values::value::Value;
 /// How a turn ended.
 #[derive(Drop)]
 pub enum Ended {
+    /// Its value, settled.
     Value(Value),
     /// A problem that nothing caught.
     Problem(Text),
@@ -22,17 +24,18 @@ pub enum Ended {
 pub struct Outcome {
     /// What it found in each cell of the vat that it touched, and what it wrote there.
     pub footprint: Footprint,
-    /// What the result promise is published as.
-    pub result: Value,
     pub ended: Ended,
     /// The steps left.
     pub steps: u32,
+    /// The messages that it made, what promises it published, its own result among them, and notes for the log. An abandoned turn
+    /// publishes its result alone.
+    pub out: Outbox,
 }
 
 impl Ended {
     /// The same end, whose value or problem is shared. Fails only for want of memory.
     pub fn share(&self) -> Result<Ended, AllocError>
-        ensures { IfOk result (λ e. ended_of e ≡ ended_of self.now) }
+        ensures { IfOk result (λ e. told_of e ≡ told_of self.now) }
     {
         match self {
             Ended::Value(value) => Ok(Ended::Value(value.share()?)),
