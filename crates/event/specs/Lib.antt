@@ -6,6 +6,8 @@ pub mod Spent
 pub mod Outcomes
 pub mod Laws
 pub mod Events
+pub mod Acts
+pub mod Deeds
 pub mod Runs
 pub mod Effects
 pub mod Entries
