@@ -23,7 +23,7 @@ use Rattle.worldcells.specs.World.{message, vat_state}
 use Rattle.event.specs.Events.{Foot, Does, events, InOrder, Turn, Turns, Leaves, turn_foot}
 use Rattle.event.specs.Runs.{PlainRun}
 use Rattle.event.specs.Effects.{turn_of}
-use Rattle.event.specs.declared.outcome.Outcome.{Outcome}
+use Rattle.deliveries.specs.declared.outcome.Outcome.{Outcome}
 use Rattle.turn.specs.Tasks.{task_of}
 use Rattle.turn.specs.declared.ticket.Out.{Out}
 use Rattle.turn.specs.declared.ticket.Task.{Task}

@@ -2,7 +2,7 @@
 
 use book::book::Book;
 use ereader::read;
-use event::outcome::Ended;
+use deliveries::outcome::Ended;
 use ids::names::{EventName, MsgId};
 use ids::text::Text;
 use journal::entry::Mark;

@@ -27,12 +27,12 @@ use Rattle.erules.specs.Outcomes.{End, value, halt, thrown, ejected, abandoned}
 use Rattle.post.specs.Messages.{Message}
 use Rattle.worldcells.specs.World.{Content, cell_key}
 use Rattle.worldcells.specs.Theory.{cells, kepts_of}
-use Rattle.event.specs.Turn.{kept}
+use Rattle.deliveries.specs.Turn.{kept}
 use Rattle.event.specs.Events.{events, Leaves, turn_foot, awaited, is_abandoned, done_and_published}
-use Rattle.event.specs.Outcomes.{ended_of, outcome_on}
+use Rattle.deliveries.specs.Outcomes.{ended_of, outcome_on}
 use Rattle.event.specs.Effects.{BringsTurn, turn_of}
 use Rattle.event.specs.Entries.{Entry, EachOnce, entries_of, cells_in, keys_in, left_in, left_unless, left_of, writes_at, kept_left}
-use Rattle.event.specs.declared.outcome.Outcome as code
+use Rattle.deliveries.specs.declared.outcome.Outcome as code
 use Rattle.event.specs.declared.effects.Effects.{Effects}
 use Rattle.event.proofs.Listed.{known, any_listed, any_left, left_known, left_within, kept_apart}
 use Rattle.event.proofs.Standing.{looked_up, each_once}

@@ -18,7 +18,7 @@ use Rattle.post.specs.Delivery.{Delivery, opening, asked}
 use Rattle.worldcells.specs.Events.{Act, birth, ask, turn, Event}
 use Rattle.post.specs.Messages.{Place, at_vat, done, Message, done_in}
 use Rattle.worldcells.specs.World.{Content, message, World, message_in, message_of, vat_state}
-use Rattle.event.specs.Turn.{Outcome, outcome, settled, kept, start, opens, asks}
+use Rattle.deliveries.specs.Turn.{Outcome, outcome, settled, kept, start, opens, asks}
 use Rattle.event.specs.Events.{Foot, Turn, Turns, Leaves, Lists, DeliversOn, InOrder, is_abandoned, turn_foot, Does, births, asks as asks_does, turns}
 use Rattle.event.specs.Ready.{misplaced, lost_message, awaits, early_message, IsReady}
 use Rattle.event.specs.Laws.{CanHappen}

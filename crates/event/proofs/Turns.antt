@@ -10,10 +10,10 @@ use Rattle.erules.specs.At.{At}
 use Rattle.erules.specs.Outcomes.{End, value, halt, thrown, ejected, abandoned}
 use Rattle.erules.specs.Rules.{Items}
 use Rattle.post.specs.Delivery.{Delivery, opening, asked}
-use Rattle.event.specs.Turn.{Outcome, outcome, settled, kept, start, Delivers, opens, asks}
+use Rattle.deliveries.specs.Turn.{Outcome, outcome, settled, kept, start, Delivers, opens, asks}
 use Rattle.erules.specs.Laws.{IsWithin, AgreeOn, with_cells, IsWithinRoom}
-use Rattle.event.specs.Touched.{delivery_touched, delivery_written}
-use Rattle.event.specs.Spent.{delivery_nodes, delivery_deepest, delivery_place}
+use Rattle.deliveries.specs.Touched.{delivery_touched, delivery_written}
+use Rattle.deliveries.specs.Spent.{delivery_nodes, delivery_deepest, delivery_place}
 use Rattle.erules.proofs.Counted.{items_counted, items_deep}
 use Rattle.erules.proofs.Determined.{Same, items_same}
 use Rattle.erules.proofs.Ejections.{items_inside}

@@ -18,9 +18,9 @@ use Rattle.post.specs.Messages.{Message, Published, done_in}
 use Rattle.sends.specs.Vats.{reference_in}
 use Rattle.worldcells.specs.Events.{birth, ask, arrive, forward, learn, turn, Event}
 use Rattle.worldcells.specs.World.{Content, fenced, World, message_of, published_as, vat_state}
-use Rattle.event.specs.Acts.{delivery_acts, learning_acts}
+use Rattle.deliveries.specs.Acts.{delivery_acts, learning_acts}
 use Rattle.event.specs.Events.{events}
-use Rattle.event.specs.Turn.{Outcome, Delivers}
+use Rattle.deliveries.specs.Turn.{Outcome, Delivers}
 use Rattle.event.specs.Walks.{looked_up, found_by}
 
 -- ---- where worlds have their fences

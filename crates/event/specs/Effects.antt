@@ -7,17 +7,18 @@ use Rattle.ids.specs.CellKeys.{same_key}
 use Rattle.ids.specs.declared.names.EventName.{EventName}
 use Rattle.ids.specs.declared.names.VatNo.{VatNo}
 use Rattle.ids.specs.declared.names.MsgId.{MsgId}
+use Rattle.ids.specs.declared.names.PromId.{PromId}
 use Rattle.ids.specs.declared.cells.CellKey.{CellKey}
 use Rattle.heap.specs.State as heap
 use Rattle.heap.specs.State.{Cell}
 use Rattle.heap.specs.Found.{touched_in}
 use Rattle.worldcells.specs.Events.{Event}
-use Rattle.post.specs.Messages.{Message}
+use Rattle.post.specs.Messages.{Message, Published}
 use Rattle.worldcells.specs.World.{World}
 use Rattle.worldcells.specs.Theory.{cells, kepts_of}
-use Rattle.event.specs.Events.{Foot, Does, events, Turn, Leaves, turn_foot}
-use Rattle.event.specs.Outcomes.{outcome_on, written_by}
-use Rattle.event.specs.declared.outcome.Outcome as code
+use Rattle.event.specs.Events.{Foot, Does, events, Turn, TurnLeaves, Leaves, turn_foot, learnt, learn_foot}
+use Rattle.deliveries.specs.Outcomes.{outcome_on, written_by}
+use Rattle.deliveries.specs.declared.outcome.Outcome as code
 use Rattle.event.specs.declared.effects.Effects.{Effects}
 
 -- these are the cells that an event of this name and footprint touches, and a record of what it writes
@@ -35,8 +36,15 @@ abbrev pub turn_of : Message → VatNo → code.Outcome → heap.State → Turn
 turn_of g v o u = record { message = g; vat = v; outcome = outcome_on o u; touched = touched_in o.footprint; written = written_by o }
 
 -- these are the cells that a turn touches, and what it writes
-pub record BringsTurn (e : EventName) (m : MsgId) (t : Turn) (it : Effects) : Type 0 where
+pub record BringsTurn (e : EventName) (w : World) (m : MsgId) (t : Turn) (it : Effects) : Type 0 where
   pub cells : List Cell
   pub left : List (Cell × heap.Content)
-  pub leaves : Leaves t cells left
-  pub brings : Brings e (turn_foot e m t cells left) it.touched.items (kepts_of it.records.items)
+  pub leaves : TurnLeaves t cells left
+  pub brings : Brings e (turn_foot e w m t cells left) it.touched.items (kepts_of it.records.items)
+
+-- these are the cells that a vat touches which learns what a promise was published as, and what it writes
+pub record BringsLearnt (e : EventName) (w : World) (v : VatNo) (p : PromId) (b : Published) (it : Effects) : Type 0 where
+  pub cells : List Cell
+  pub left : List (Cell × heap.Content)
+  pub leaves : Leaves (learnt w v p b).touched (learnt w v p b).written (learnt w v p b).state cells left
+  pub brings : Brings e (learn_foot v p cells left) it.touched.items (kepts_of it.records.items)

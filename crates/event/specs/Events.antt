@@ -22,8 +22,8 @@ use Rattle.worldcells.specs.Events.{birth, ask, arrive, forward, learn, turn, Ev
 use Rattle.worldcells.specs.Theory.{subject}
 use Rattle.worldcells.specs.World.{Content, vat, message, published, content_of, World, vat_named, message_of, published_as, same_vat, cell_key, vat_state}
 use Rattle.event.specs.Ready.{leads_there, first_undone}
-use Rattle.event.specs.Touched.{delivery_touched, delivery_written}
-use Rattle.event.specs.Turn.{Found, Told, told, lost, Outcome, Delivers}
+use Rattle.deliveries.specs.Touched.{delivery_touched, delivery_written}
+use Rattle.deliveries.specs.Turn.{Found, Told, told, lost, Outcome, Delivers}
 use Rattle.event.specs.Walks.{board_walk, looked_up, awaited, found_by}
 
 -- what an event makes first

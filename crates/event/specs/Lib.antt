@@ -1,13 +1,8 @@
-pub mod Turn
 pub mod Walks
 pub mod Ready
-pub mod Touched
-pub mod Spent
-pub mod Outcomes
-pub mod Laws
 pub mod Events
-pub mod Acts
 pub mod Deeds
+pub mod Laws
 pub mod Runs
 pub mod Effects
 pub mod Entries

@@ -7,12 +7,13 @@ ghost use Rattle.post.specs.Messages.{at_vat, done_in};
 ghost use Rattle.values.specs.View.{val_of};
 ghost use Rattle.worldcells.specs.View.{world_of};
 ghost use Rattle.worldcells.specs.World.{message_of as message_in_world, message as message_content};
-ghost use Rattle.event.specs.Outcomes.{found_of};
+ghost use Rattle.deliveries.specs.Outcomes.{found_of};
 ghost use Rattle.event.specs.Ready.{first_undone as first_undone_of, leads_there, lost, early_by};
 ghost use Rattle.event.specs.Walks.{awaited, delivery_walk, found_by, is_known, is_there, looked_up, may_end};
 ghost use Rattle.event.specs.ReadyView.{IsUnready, IsWay};
 
-use crate::walks::{Lead, Walked, awaited_along, last_fences, walk};
+use crate::walks::{Walked, awaited_along, last_fences, walk};
+use deliveries::lead::Lead;
 use eorder::carried::Carried;
 use eorder::fence::Fence;
 use heap::state::VatState;

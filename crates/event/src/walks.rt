@@ -38,13 +38,6 @@ impl<'a> Resolve for Board<'a> {
     }
 }
 
-/// Where a delivery leads: the end of its target, and the fences that were published with that.
-#[derive(Drop)]
-pub struct Lead {
-    pub end: Value,
-    pub fences: Arc<Carried>,
-}
-
 /// The walk of a target.
 #[derive(Drop)]
 pub struct Walked {

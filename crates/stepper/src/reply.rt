@@ -3,7 +3,7 @@ ghost use Rattle.std.specs.Prelude.{◌≡◌, ◌++◌, [], map, true, false, O
 ghost use Rattle.ereader.specs.Shown.{shown};
 ghost use Rattle.book.specs.Fault as book_fault;
 ghost use Rattle.worldcells.specs.View.{world_of};
-ghost use Rattle.event.specs.Outcomes.{ended_of};
+ghost use Rattle.deliveries.specs.Outcomes.{ended_of};
 ghost use Rattle.commands.specs.Commands.{fault_text};
 ghost use Rattle.stepper.specs.Replies.{refused, queued_text, turned_text, end_text, undone_text, redone_text, exchanged_text};
 ghost use Rattle.stepper.specs.Listing.{journal_text, cone_text};
@@ -17,7 +17,7 @@ use crate::show::write_world;
 use book::fault::BookFault;
 use commands::command::LineFault;
 use ereader::fault::ReadFault;
-use event::outcome::Ended;
+use deliveries::outcome::Ended;
 use ids::names::{EventName, MsgId};
 use ids::quote::write_quoted;
 use journal::entry::Entry;

@@ -10,7 +10,7 @@ use Rattle.heap.specs.Drafts.{Counts}
 use Rattle.erules.specs.At.{At}
 use Rattle.erules.specs.Outcomes.{End}
 use Rattle.erules.specs.Rules.{Items}
-use Rattle.event.specs.Turn.{start}
+use Rattle.deliveries.specs.Turn.{start}
 use Rattle.erules.specs.Locals.{locals_after}
 use Rattle.erules.specs.View.{opened_of}
 use Rattle.erules.specs.declared.local.Local.{Local}

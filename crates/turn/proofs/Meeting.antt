@@ -21,11 +21,11 @@ use Rattle.post.specs.declared.program.Script.{Script}
 use Rattle.post.specs.declared.program.Question.{Question}
 use Rattle.post.specs.DeliveryView.{delivery_of}
 use Rattle.post.specs.Delivery.{Delivery, opening, asked}
-use Rattle.event.specs.Turn.{Outcome, Delivers, opens, asks, outcome, kept, settled, start}
-use Rattle.event.specs.Touched.{delivery_touched, delivery_written}
-use Rattle.event.specs.Outcomes.{ended_of, outcome_on, written_by, Meets}
+use Rattle.deliveries.specs.Turn.{Outcome, Delivers, opens, asks, outcome, kept, settled, start}
+use Rattle.deliveries.specs.Touched.{delivery_touched, delivery_written}
+use Rattle.deliveries.specs.Outcomes.{ended_of, outcome_on, written_by, Meets}
 use Rattle.turn.specs.Runs.{RunsTo}
-use Rattle.event.specs.declared.outcome.Outcome as code-outcome
+use Rattle.deliveries.specs.declared.outcome.Outcome as code-outcome
 use Rattle.event.proofs.Turns.{delivery_framed, delivery_within}
 
 some_of : {X : Type 0} (o : Option X) → is_some o ≡ true → (x : X) × (o ≡ Some x)

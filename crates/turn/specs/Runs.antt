@@ -5,9 +5,9 @@ use Rattle.heap.specs.Found.{Found, touched_in, writes_in}
 use Rattle.values.specs.View.{val_of}
 use Rattle.erules.specs.At.{At}
 use Rattle.erules.specs.Outcomes.{End}
-use Rattle.event.specs.Turn.{published}
-use Rattle.event.specs.Outcomes.{ended_of, written_by}
-use Rattle.event.specs.declared.outcome.Outcome.{Outcome}
+use Rattle.deliveries.specs.Turn.{published}
+use Rattle.deliveries.specs.Outcomes.{ended_of, written_by}
+use Rattle.deliveries.specs.declared.outcome.Outcome.{Outcome}
 
 -- a turn that ended so at this place leaves this
 pub record RunsTo (r : Outcome) (o : End) (b : At) : Type 0 where

@@ -4,7 +4,7 @@ use eobjects::calls::{call_target, enter_method};
 use erules::end::Stop;
 use erules::working::Working;
 use eval::eval::eval_items;
-use event::walks::Lead;
+use deliveries::lead::Lead;
 use post::call::Call;
 use sends::coming::{receive, receive_all};
 use std::alloc::AllocError;

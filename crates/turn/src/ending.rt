@@ -2,7 +2,7 @@
 use erules::end::{Abandon, Halt};
 use erules::outbox::{Note, Outbox, Publication};
 use erules::working::Working;
-use event::outcome::{Ended, Outcome};
+use deliveries::outcome::{Ended, Outcome};
 use ids::names::PromId;
 use ids::text::Text;
 use post::published::Published;

@@ -5,10 +5,10 @@ ghost use Rattle.heap.specs.Found.{Found};
 ghost use Rattle.turn.specs.Tasks.{task_of};
 ghost use Rattle.heap.specs.View.{state_of};
 ghost use Rattle.post.specs.DeliveryView.{delivery_of};
-ghost use Rattle.event.specs.Outcomes.{Meets};
+ghost use Rattle.deliveries.specs.Outcomes.{Meets};
 
 use crate::delivery::deliver;
-use event::outcome::Outcome;
+use deliveries::outcome::Outcome;
 use heap::state::VatState;
 use ids::names::{EventName, MsgId, VatNo};
 use post::message::Message;

@@ -5,7 +5,7 @@ use cells::store::CellStore;
 use cells::swaps::Swaps;
 use cells::touches::Touches;
 use ereader::read;
-use event::outcome::{Ended, Outcome};
+use deliveries::outcome::{Ended, Outcome};
 use heap::draft::Draft;
 use heap::reach::Footprint;
 use heap::state::{Binding, VatState};

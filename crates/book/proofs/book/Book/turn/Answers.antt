@@ -1,7 +1,7 @@
 use Rattle.std.proofs.Common.{◌∙◌, inr, refl, sym, ap, subst}
 use Rattle.desk.specs.DeskView.{out_of}
-use Rattle.event.specs.Outcomes.{ended_of}
-use Rattle.event.specs.declared.outcome.Outcome.{Outcome}
+use Rattle.deliveries.specs.Outcomes.{ended_of}
+use Rattle.deliveries.specs.declared.outcome.Outcome.{Outcome}
 use Rattle.turn.specs.Tasks.{task_of}
 use Rattle.turn.specs.declared.ticket.Out.{Out}
 use Rattle.turn.specs.declared.ticket.Task.{Task}

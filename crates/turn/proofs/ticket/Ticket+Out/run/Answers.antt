@@ -1,6 +1,6 @@
 use Rattle.std.proofs.Common.{ap, subst, sym, ◌∙◌}
-use Rattle.event.specs.Outcomes.{Meets}
-use Rattle.event.specs.declared.outcome.Outcome.{Outcome}
+use Rattle.deliveries.specs.Outcomes.{Meets}
+use Rattle.deliveries.specs.declared.outcome.Outcome.{Outcome}
 use Rattle.heap.specs.Found.{Found}
 use Rattle.heap.specs.View.{state_of}
 use Rattle.std.specs.Arc.{arc_value}

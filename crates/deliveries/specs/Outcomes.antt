@@ -9,12 +9,12 @@ use Rattle.heap.specs.Found.{Found as FoundCells, left_by, touched_in, writes_in
 use Rattle.post.specs.Messages.{Message}
 use Rattle.erules.specs.OutboxView.{outbox_of}
 use Rattle.erules.specs.View.{cause_of}
-use Rattle.event.specs.Turn.{Found, Told, told, lost, Outcome, Delivers}
-use Rattle.event.specs.Touched.{delivery_touched, delivery_written}
-use Rattle.event.specs.declared.outcome.Ended.{Ended}
-use Rattle.event.specs.declared.outcome.Ended.TheVariants as code-ended
-use Rattle.event.specs.declared.outcome.Outcome as code-outcome
-use Rattle.event.specs.declared.walks.Lead.{Lead}
+use Rattle.deliveries.specs.Turn.{Found, Told, told, lost, Outcome, Delivers}
+use Rattle.deliveries.specs.Touched.{delivery_touched, delivery_written}
+use Rattle.deliveries.specs.declared.outcome.Ended.{Ended}
+use Rattle.deliveries.specs.declared.outcome.Ended.TheVariants as code-ended
+use Rattle.deliveries.specs.declared.outcome.Outcome as code-outcome
+use Rattle.deliveries.specs.declared.lead.Lead.{Lead}
 
 abbrev pub told_of : Ended → Told
 told_of (code-ended.Value v) = told (gives (val_of v))

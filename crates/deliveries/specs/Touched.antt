@@ -4,7 +4,7 @@ use Rattle.ids.specs.declared.names.EventName.{EventName}
 use Rattle.ids.specs.declared.names.VatNo.{VatNo}
 use Rattle.heap.specs.State.{State, Cells}
 use Rattle.post.specs.Messages.{Message}
-use Rattle.event.specs.Turn.{Found, Outcome, Delivers, delivers, finish}
+use Rattle.deliveries.specs.Turn.{Found, Outcome, Delivers, delivers, finish}
 
 -- of a turn: all that was touched where it ended
 abbrev pub delivery_touched : {g : Message} {f : Found} {e : EventName} {v : VatNo} {s : State} {n : ℕ} {o : Outcome} → Delivers g f e v s n o → Cells

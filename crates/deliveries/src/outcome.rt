@@ -1,6 +1,6 @@
 // What a turn leaves.
 ghost use Rattle.std.specs.Prelude.{◌≡◌, IfOk};
-ghost use Rattle.event.specs.Outcomes.{told_of};
+ghost use Rattle.deliveries.specs.Outcomes.{told_of};
 
 use erules::end::Abandon;
 use erules::outbox::Outbox;

@@ -9,7 +9,7 @@ use Rattle.erules.specs.At.{At}
 use Rattle.erules.specs.Derivations.{nodes_of_items, deepest_of_items}
 use Rattle.erules.specs.Outcomes.{End}
 use Rattle.erules.specs.Rules.{Target}
-use Rattle.event.specs.Turn.{Found, Led, led_gives, led_uses, led_enters, Begins, opens, asks, calls, waits, Outcome, Delivers, delivers}
+use Rattle.deliveries.specs.Turn.{Found, Led, led_gives, led_uses, led_enters, Begins, opens, asks, calls, waits, Outcome, Delivers, delivers}
 
 abbrev pub led_nodes : {t : Target} {a b : At} {o : End} → Led t a o b → ℕ
 led_nodes led_gives = 0

@@ -18,7 +18,7 @@ use Rattle.erules.specs.At.{At}
 use Rattle.erules.specs.Doings.{given_by, behind}
 use Rattle.erules.specs.Outcomes.{End}
 use Rattle.erules.specs.Rules.{Target}
-use Rattle.event.specs.Turn.{start, Found, call_coming, Led, led_gives, led_uses, led_enters, Begins, opens, asks, calls, waits, Told, told, lost, telling, telling_at, Outcome, Delivers, delivers}
+use Rattle.deliveries.specs.Turn.{start, Found, call_coming, Led, led_gives, led_uses, led_enters, Begins, opens, asks, calls, waits, Told, told, lost, telling, telling_at, Outcome, Delivers, delivers}
 
 -- a reference came in, and settles here to this, if that is a reference
 abbrev pub came_act : Carrier → Reference → Option Reference → List Act
