@@ -3,13 +3,15 @@
 use Rattle.std.specs.Prelude.{ℕ, List}
 use Rattle.ids.specs.declared.names.MsgId.{MsgId}
 use Rattle.ids.specs.declared.names.PromId.{PromId}
+use Rattle.kernele.specs.Tree.{Name}
 use Rattle.post.specs.Messages.{Message, Published}
 
--- a note for the log: a message was sent, a when waits for a promise, or a promise was resolved
+-- a note for the log: a message was sent, a when waits for a promise, a promise was resolved, or what a turn ended with
 pub data Note : Type 0 where
   sent_note : (m : MsgId) → Note
   waits_note : (condition : PromId) → (m : MsgId) → Note
   resolved_note : (p : PromId) → Note
+  comment_note : (words : Name) → Note
 
 -- messages with their names, how many promises were made, what promises were published as, and notes
 pub record Outbox : Type 0 where

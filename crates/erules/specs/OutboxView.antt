@@ -4,7 +4,7 @@ use Rattle.ids.specs.declared.names.MsgId.{MsgId}
 use Rattle.ids.specs.declared.names.PromId.{PromId}
 use Rattle.post.specs.Messages.{Message, Published}
 use Rattle.post.specs.MessageView.{message_of, published_of}
-use Rattle.erules.specs.Outbox.{Note, sent_note, waits_note, resolved_note, Outbox}
+use Rattle.erules.specs.Outbox.{Note, sent_note, waits_note, resolved_note, comment_note, Outbox}
 use Rattle.erules.specs.declared.outbox.Letter.{Letter}
 use Rattle.erules.specs.declared.outbox.Publication.{Publication}
 use Rattle.erules.specs.declared.outbox.Note as code-note
@@ -21,6 +21,7 @@ abbrev pub note_of : code-note.Note → Note
 note_of (note.Sent m) = sent_note m
 note_of (note.Waits p m) = waits_note p m
 note_of (note.Resolved p) = resolved_note p
+note_of (note.Comment words) = comment_note words
 
 abbrev pub outbox_of : code.Outbox → Outbox
 outbox_of o = record { letters = map letter_of o.letters.items; promises = o.promises; publications = map publication_of o.publications.items; notes = map note_of o.notes.items }

@@ -4,6 +4,7 @@ ghost use Rattle.erules.specs.Outbox.{empty_outbox};
 ghost use Rattle.erules.specs.OutboxView.{outbox_of};
 
 use ids::names::{MsgId, PromId};
+use ids::text::Text;
 use post::message::Message;
 use post::published::Published;
 use std::alloc::Global;
@@ -22,12 +23,17 @@ pub struct Publication {
     pub published: Published,
 }
 
-/// A note for the log: a message was sent, a `when` waits for a promise, or a promise was resolved.
-#[derive(Clone, Copy)]
+/// A note for the log.
+#[derive(Drop)]
 pub enum Note {
+    /// A message was sent.
     Sent(MsgId),
+    /// A `when` waits for a promise.
     Waits(PromId, MsgId),
+    /// A promise was resolved.
     Resolved(PromId),
+    /// The turn ended with this problem, or was abandoned for this reason.
+    Comment(Text),
 }
 
 /// Messages, publications and notes in the order of making, and how many promises were made.

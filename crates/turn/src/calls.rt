@@ -1,13 +1,13 @@
 // Calls that were sent.
-use emessages::promises::promised;
 use eobjects::calls::{call_target, enter_method};
 use erules::end::Stop;
+use erules::entry::Entry;
 use erules::working::Working;
 use eval::eval::eval_items;
 use deliveries::lead::Lead;
 use post::call::Call;
 use sends::coming::{receive, receive_all};
-use std::alloc::AllocError;
+use std::alloc::{AllocError, Global};
 use values::value::Value;
 
 /// Makes a call that was sent on the end of its target. Its arguments come in first, and then a list that it is made on.
@@ -29,4 +29,26 @@ fn bring_in(w: &mut Working, call: &Call, lead: &Lead) -> Result<(), AllocError>
         Value::List(_) => receive(w.alloc, &mut w.draft, &lead.fences, &lead.end),
         _ => Ok(()),
     }
+}
+
+/// The arguments of a call, shared.
+fn share_all(alloc: Global, values: &[Value]) -> Result<Vec<Value>, AllocError>
+    ensures { IfOk result (λ row. vals_of row.items ≡ vals_of values.now) }
+{
+    let mut row = Vec::with_capacity(alloc, values.len())?;
+    for value in values {
+        row.push(value.share()?)?;
+    }
+    Ok(row)
+}
+
+/// Runs a method's block. The turn ends with it, so there is no caller to come back to.
+fn run_entry(w: &mut Working, entry: Entry, into: &mut Value) -> Result<(), Stop> {
+    let Entry {
+        captured,
+        nouns,
+        body,
+    } = entry;
+    let _ = enter_method(w, captured, nouns);
+    eval_items(w, &body, 1, into)
 }

@@ -3,6 +3,7 @@ use erules::end::{Abandon, Halt};
 use erules::outbox::{Note, Outbox, Publication};
 use erules::working::Working;
 use deliveries::outcome::{Ended, Outcome};
+use eorder::carried::Carried;
 use ids::names::PromId;
 use ids::text::Text;
 use post::published::Published;
@@ -55,5 +56,43 @@ fn tell(w: Working, promise: PromId, told: Answer) -> Result<Outcome, AllocError
         ended,
         steps: w.steps,
         out: w.out,
+    })
+}
+
+/// What is told in a reply.
+fn ended_by(told: &Answer) -> Result<Ended, AllocError> {
+    match told {
+        Answer::Gives(value) => Ok(Ended::Value(value.share()?)),
+        Answer::Throws(problem) => Ok(Ended::Problem(problem.share()?)),
+    }
+}
+
+/// A problem stands in the log.
+fn comment(out: &mut Outbox, told: &Answer) -> Result<(), AllocError> {
+    match told {
+        Answer::Gives(_) => Ok(()),
+        Answer::Throws(problem) => {
+            out.notes.push(Note::Comment(problem.share()?))?;
+            Ok(())
+        }
+    }
+}
+
+/// The outcome of an abandoned turn: its result is broken by the reason.
+fn abandon(w: Working, promise: PromId, why: Abandon) -> Result<Outcome, AllocError> {
+    let reason = Text::new(w.alloc, why.reason())?;
+    let mut out = Outbox::new(w.alloc);
+    out.notes.push(Note::Comment(reason.share()?))?;
+    out.notes.push(Note::Resolved(promise))?;
+    out.publications.push(Publication {
+        promise,
+        published: Published::new(w.alloc, Value::Broken(reason), Carried::empty(w.alloc))?,
+    })?;
+    let footprint = w.draft.finish()?;
+    Ok(Outcome {
+        footprint,
+        ended: Ended::Abandoned(why),
+        steps: w.steps,
+        out,
     })
 }
