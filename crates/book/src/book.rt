@@ -39,24 +39,30 @@ ghost use Rattle.book.specs.declared.book.TheConstants.{MOST_ENTRIES};
 ghost use Rattle.book.specs.declared.fault.BookFault.TheVariants.{NoTicket, Stale, Full, Memory};
 
 use crate::fault::BookFault;
+use agenda::agenda::{Agenda, Step};
 use crate::selecting::{check_cone, check_exchange, check_redo, check_undo};
 use causality::cone::cone;
 use causality::names::NameSet;
 use causality::selection::positions;
 use cells::swaps::Swaps;
+use deliveries::lead::Lead;
 use desk::desk::{Desk, Lent};
-use event::effects::{Effects, ask_effects, birth_effects, turn_effects};
+use event::effects::{Effects, ask_effects, birth_effects, learn_effects, move_effects, turn_effects};
+use event::forwarding::onward;
 use event::found::is_found;
 use deliveries::outcome::Ended;
-use event::ready::{Unready, check_order, message_at_vat};
+use event::learning::learn;
+use event::ready::{Delay, Unready, Way, check_ready, message_at_vat};
 use heap::reach::Footprint;
-use heap::state::VatState;
-use ids::names::{EventName, MsgId, VatNo};
+use heap::state::{VatState, View};
+use ids::cells::CellKey;
+use ids::names::{EventName, MsgId, PromId, VatNo};
 use ids::text::Text;
 use journal::entry::Entry;
 use kernele::tree::Program;
 use worldcells::event::{Action, Event};
 use post::message::{Message, Place, same_sent};
+use post::published::Published;
 use post::vat::Vat;
 use worldcells::world::World;
 use scopes::{CheckFault, Outer, check};
@@ -90,6 +96,8 @@ pub struct Book {
     core: Core,
     next: u64,
     desk: Desk,
+    /// What may be done next; none where it is to be found anew.
+    agenda: Option<Agenda>,
     pub ghost in_range: { next ≤ 4294967296 },
     pub ghost stands: { Stands core next (out_of desk) },
     pub ghost within: { length (items_of core) ≤ MOST_ENTRIES },
@@ -112,7 +120,15 @@ fn unready_fault(message: MsgId, unready: Unready) -> BookFault
     match unready {
         Unready::NoMessage => BookFault::NoMessage(message),
         Unready::NotThere => BookFault::NotThere,
+        Unready::NotReady => BookFault::NotReady,
         Unready::Before(first) => BookFault::Before(first),
+    }
+}
+
+fn delay_fault(message: MsgId, delay: Delay) -> BookFault {
+    match delay {
+        Delay::Memory => BookFault::Memory,
+        Delay::Unready(unready) => unready_fault(message, unready),
     }
 }
 
@@ -136,12 +152,20 @@ fn is_found_at(alloc: Global, footprint: &Footprint, world: &World, vat: VatNo) 
     }
 }
 
+/// Whether a promise is open in the view of a vat, if it has a state.
+fn is_open(state: Option<&VatState>, promise: PromId) -> bool {
+    match state {
+        Some(state) => matches!(state.views.get(&promise), Some(View::Open)),
+        None => false,
+    }
+}
+
 fn is_at(place: Place, vat: VatNo) -> bool
     ensures { IsTrue result ↔ (place_of place ≡ at_vat vat) }
 {
     match place {
         Place::At(home) => home == vat,
-        Place::Done(_) => false,
+        Place::Flying(_) | Place::Done(_) => false,
     }
 }
 
@@ -183,6 +207,7 @@ impl Book {
             core: Core::new(alloc),
             next: 1,
             desk: Desk::new(alloc),
+            agenda: None,
         }
     }
 
@@ -232,7 +257,17 @@ impl Book {
         self.core
             .enter(self.alloc, deed, &touched, records, &mut Swaps::none())?;
         self.next += 1;
+        self.note(&touched);
         Ok(())
+    }
+
+    /// Notes on the agenda what the cells hold now that an event touched. Without memory it is to be found anew.
+    fn note(&mut self, touched: &[CellKey]) {
+        if let Some(agenda) = &mut self.agenda {
+            if agenda.note(self.alloc, self.core.world(), touched).is_err() {
+                self.agenda = None;
+            }
+        }
     }
 
     /// What is known of the vat of this name.
@@ -253,28 +288,52 @@ impl Book {
     }
 
     /// The name of a birth that may be entered.
-    fn admit_birth(&self, name: &Text, script: &Program) -> Result<EventName, BookFault>
+    fn admit_birth(
+        &self,
+        name: &Text,
+        earlier: &[Text],
+        script: &Program,
+    ) -> Result<(EventName, Vec<VatNo>), BookFault>
         ensures ok { IfOk result (λ e. (e.0 ≡ self.now.next) × (self.now.next ≤ 4294967295) × ((book_of self.now).world (key.Name name.now) ≡ None) × (birth_refusal (book_of self.now) name.now (program_of script.now) ≡ None)) }
         ensures err { IfErr result (λ fault. Tells fault (birth_refusal (book_of self.now) name.now (program_of script.now))) }
     {
         self.check_free(name)?;
-        let outer = Outer::for_script(self.alloc, &[])?;
+        let vats = self.vats_named(earlier)?;
+        let outer = Outer::for_script(self.alloc, earlier)?;
         check_program(self.alloc, script, &outer)?;
-        self.next_event()
+        let event = self.next_event()?;
+        Ok((event, vats))
+    }
+
+    /// The vats of these names.
+    fn vats_named(&self, names: &[Text]) -> Result<Vec<VatNo>, BookFault> {
+        let mut vats = Vec::new(self.alloc);
+        for name in names {
+            match self.vat(name) {
+                Some(vat) => vats.push(vat.number)?,
+                None => return Err(BookFault::NoVat(name.share()?)),
+            }
+        }
+        Ok(vats)
     }
 
     /// A new vat, with its script as its opening message.
     ///
     /// # Errors
     /// `NameTaken`, a fault of the check, `Full`, `Memory`, tried in this order.
-    pub fn birth(&mut self, name: &Text, script: Program) -> Result<EventName, BookFault>
+    pub fn birth(
+        &mut self,
+        name: &Text,
+        earlier: Vec<Text>,
+        script: Program,
+    ) -> Result<EventName, BookFault>
         ensures ok { IfOk result (λ e. (birth_refusal (book_of self.old) name.now (program_of script) ≡ None) × EntersNext (record { name = e; act = birth name.now (program_of script) }) (birth_foot e name.now (program_of script)) 0 (book_of self.old) (book_of self.new)) }
         ensures err { IfErr result (λ fault. Tells fault (birth_refusal (book_of self.old) name.now (program_of script))) }
         ensures unchanged { OnErr result (book_of self.new ≡ book_of self.old) }
     {
-        let event = self.admit_birth(name, &script)?;
-        let effects = birth_effects(self.alloc, event, name, &script)?;
-        let action = Action::Birth(name.share()?, script);
+        let (event, vats) = self.admit_birth(name, &earlier, &script)?;
+        let effects = birth_effects(self.alloc, event, name, &earlier, &vats, &script)?;
+        let action = Action::Birth(name.share()?, earlier, script);
         self.enter(
             Event {
                 name: event,
@@ -293,7 +352,7 @@ impl Book {
         let Some(vat) = self.vat(name) else {
             return Err(BookFault::NoVat(name.share()?));
         };
-        let outer = Outer::for_asked(self.alloc, &vat.tops)?;
+        let outer = Outer::for_asked(self.alloc, &vat.earlier, &vat.tops)?;
         check_program(self.alloc, program, &outer)?;
         let event = self.next_event()?;
         Ok((event, vat.number))
@@ -321,12 +380,152 @@ impl Book {
         Ok(event)
     }
 
-    /// A message that may be delivered with this budget, shared, its vat, and the name of its turn.
+    /// A message arrives at the vat to which it is on its way.
+    ///
+    /// # Errors
+    /// `NoMessage`, `NotThere`, `Full`, `Memory`, tried in this order.
+    pub fn arrive(&mut self, name: MsgId) -> Result<EventName, BookFault> {
+        let Some(message) = self.core.world().message(name) else {
+            return Err(BookFault::NoMessage(name));
+        };
+        let Some(arrived) = message.arrived()? else {
+            return Err(BookFault::NotThere);
+        };
+        let event = self.next_event()?;
+        let effects = move_effects(self.alloc, event, name, arrived, &[])?;
+        self.enter(
+            Event {
+                name: event,
+                action: Action::Arrive(name),
+            },
+            effects,
+        )?;
+        Ok(event)
+    }
+
+    /// A message goes on to the vat to which its target leads.
+    ///
+    /// # Errors
+    /// `NoMessage`, `NotThere`, `NotReady`, `Full`, `Memory`, tried in this order.
+    pub fn forward(&mut self, name: MsgId) -> Result<EventName, BookFault> {
+        let world = self.core.world();
+        let (message, vat) = match message_at_vat(world, name) {
+            Ok(found) => found,
+            Err(unready) => return Err(unready_fault(name, unready)),
+        };
+        let Some(onward) = onward(self.alloc, world, message, vat)? else {
+            return Err(BookFault::NotReady);
+        };
+        let Some(forwarded) = message.forwarded(onward.to)? else {
+            return Err(BookFault::NotThere);
+        };
+        let event = self.next_event()?;
+        let effects = move_effects(self.alloc, event, name, forwarded, &onward.through)?;
+        self.enter(
+            Event {
+                name: event,
+                action: Action::Forward(name),
+            },
+            effects,
+        )?;
+        Ok(event)
+    }
+
+    /// The vat of this name learns what a promise was published as that is open in its view.
+    ///
+    /// # Errors
+    /// `NoVat`, `NothingToLearn`, `Full`, `Memory`, tried in this order.
+    pub fn learn(&mut self, name: &Text, promise: PromId) -> Result<EventName, BookFault> {
+        let vat = match self.vat(name) {
+            Some(vat) => vat.number,
+            None => return Err(BookFault::NoVat(name.share()?)),
+        };
+        self.learn_at(vat, promise)
+    }
+
+    /// The same by the event and the number of the promise, which do without its home.
+    ///
+    /// # Errors
+    /// As `learn`.
+    pub fn learn_named(
+        &mut self,
+        name: &Text,
+        event: EventName,
+        index: u32,
+    ) -> Result<EventName, BookFault> {
+        let vat = match self.vat(name) {
+            Some(vat) => vat.number,
+            None => return Err(BookFault::NoVat(name.share()?)),
+        };
+        let agenda = self.agenda()?;
+        let found = agenda.known_as(vat, event, index);
+        self.agenda = Some(agenda);
+        match found {
+            Some(promise) => self.learn_at(vat, promise),
+            None => Err(BookFault::NothingToLearn),
+        }
+    }
+
+    /// The same by the vat's number.
+    pub fn learn_at(&mut self, vat: VatNo, promise: PromId) -> Result<EventName, BookFault> {
+        let published = self.learnable(vat, promise)?;
+        let event = self.next_event()?;
+        let state = self.core.share_vat(self.alloc, vat)?;
+        let footprint = learn(self.alloc, event, vat, state, promise, &published)?;
+        let effects = learn_effects(self.alloc, event, vat, promise, &footprint)?;
+        self.enter(
+            Event {
+                name: event,
+                action: Action::Learn(vat, promise),
+            },
+            effects,
+        )?;
+        Ok(event)
+    }
+
+    /// What a promise was published as that is open in a vat's view, shared.
+    fn learnable(&self, vat: VatNo, promise: PromId) -> Result<Published, BookFault> {
+        let world = self.core.world();
+        if !is_open(world.home(vat), promise) {
+            return Err(BookFault::NothingToLearn);
+        }
+        match world.published(promise) {
+            Some(published) => Ok(published.share()?),
+            None => Err(BookFault::NothingToLearn),
+        }
+    }
+
+    /// What may be done next, found once.
+    fn agenda(&mut self) -> Result<Agenda, AllocError> {
+        match self.agenda.take() {
+            Some(agenda) => Ok(agenda),
+            None => Agenda::new(self.alloc, self.core.world()),
+        }
+    }
+
+    /// The first that may be done: what a message can do, in order of their names, then what vats can learn, in order of birth and of
+    /// promise. Turns and learning of vats of which a ticket is out are left out. Fails only for want of memory.
+    pub fn next(&mut self) -> Result<Option<Step>, AllocError> {
+        let agenda = self.agenda()?;
+        let step = agenda.first(self.alloc, self.core.world(), |vat| self.desk.has_vat(vat));
+        self.agenda = Some(agenda);
+        step
+    }
+
+    /// All that may be done, in that order. Fails only for want of memory.
+    pub fn enabled(&mut self) -> Result<Vec<Step>, AllocError> {
+        let agenda = self.agenda()?;
+        let steps = agenda.all(self.alloc, self.core.world(), |vat| self.desk.has_vat(vat));
+        self.agenda = Some(agenda);
+        steps
+    }
+
+    /// A message that may be delivered with this budget, shared, where it leads, its vat, and the name of its turn.
     fn admit_turn(
         &self,
         message: MsgId,
         budget: u32,
-    ) -> Result<(Message, VatNo, EventName), BookFault>
+    ) -> Result<(Message, Lead, VatNo, EventName), BookFault>
         ensures ok { IfOk result (λ r. Admitted (book_of self.now) message budget r.0 r.1 r.2) }
         ensures in_range { OnOk result (self.now.next ≤ 4294967295) }
         ensures err { IfErr result (λ fault. Tells fault (checkout_refusal (book_of self.now) message budget)) }
@@ -340,11 +539,12 @@ impl Book {
         if self.desk.has_vat(vat) {
             return Err(BookFault::VatOut);
         }
-        if let Err(unready) = check_order(world, waiting.sent.after) {
-            return Err(unready_fault(message, unready));
-        }
+        let lead = match check_ready(self.alloc, world, waiting, vat) {
+            Ok(way) => way.lead,
+            Err(delay) => return Err(delay_fault(message, delay)),
+        };
         let event = self.next_event()?;
-        Ok((waiting.share()?, vat, event))
+        Ok((waiting.share()?, lead, vat, event))
     }
 
     /// Lends a ticket for the turn of a message, with at most this many steps, to a seat. The ticket shares the vat's state.
@@ -361,7 +561,7 @@ impl Book {
         ensures err { IfErr result (λ fault. Tells fault (checkout_refusal (book_of self.old) message budget)) }
         ensures unchanged { OnErr result (book_of self.new ≡ book_of self.old) }
     {
-        let (carried, vat, event) = self.admit_turn(message, budget)?;
+        let (carried, lead, vat, event) = self.admit_turn(message, budget)?;
         let state = self.core.share_vat(self.alloc, vat)?;
         self.desk.lend(Lent {
             number: event,
@@ -376,6 +576,7 @@ impl Book {
             event,
             name: message,
             message: carried,
+            lead,
             vat,
             state,
             budget,
@@ -397,7 +598,7 @@ impl Book {
     }
 
     /// The message of a known ticket is ready at its vat, and the vat holds what the turn found.
-    fn check_fresh(&self, ran: &Ran) -> Result<(), BookFault>
+    fn check_fresh(&self, ran: &Ran) -> Result<Way, BookFault>
         requires { IsKnown (book_of self.now) ran.now.carried }
         ensures ok { OnOk result (IsFresh (book_of self.now) ran.now) }
         ensures err { IfErr result (λ fault. (fault ≡ Stale) × (IsFresh (book_of self.now) ran.now → ⊥)) }
@@ -409,8 +610,12 @@ impl Book {
             Some(message)
                 if is_at(message.place, out.vat)
                     && is_at(out.message.place, out.vat)
-                    && check_order(world, out.message.sent.after).is_ok()
-                    && is_found_at(self.alloc, &ran.outcome.footprint, world, out.vat) => Ok(()),
+                    && is_found_at(self.alloc, &ran.outcome.footprint, world, out.vat) => {}
+            _ => return Err(BookFault::Stale),
+        }
+        match check_ready(self.alloc, world, &out.message, out.vat) {
+            Ok(way) if way.lead.is_same(&out.lead) => Ok(way),
+            Err(Delay::Memory) => Err(BookFault::Memory),
             _ => Err(BookFault::Stale),
         }
     }
@@ -432,7 +637,7 @@ impl Book {
         ensures unchanged { OnErr result (book_of self.new ≡ book_of self.old) }
     {
         self.check_known(&ran.carried)?;
-        self.check_fresh(ran)?;
+        let way = self.check_fresh(ran)?;
         self.check_room()?;
         let out = &ran.carried;
         let Effects { touched, records } = turn_effects(
@@ -440,6 +645,7 @@ impl Book {
             out.event,
             out.name,
             &out.message,
+            &way,
             out.vat,
             &ran.outcome,
         )?;
@@ -458,6 +664,7 @@ impl Book {
         self.core
             .enter(self.alloc, deed, &touched, records, &mut Swaps::none())?;
         self.desk.remove(out.event);
+        self.note(&touched);
         Ok(())
     }
 
@@ -554,6 +761,7 @@ impl Book {
         let positions = positions(self.alloc, self.core.entries(), &names)?;
         self.core.prepare(self.alloc, &positions)?;
         self.core.undo(&positions, &mut Swaps::none());
+        self.agenda = None;
         Ok(positions.len())
     }
 
@@ -571,6 +779,7 @@ impl Book {
         let positions = positions(self.alloc, self.core.entries(), &names)?;
         self.core.prepare(self.alloc, &positions)?;
         self.core.redo(&positions, &mut Swaps::none());
+        self.agenda = None;
         Ok(positions.len())
     }
 

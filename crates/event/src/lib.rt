@@ -3,8 +3,9 @@
 #![tactic(auto)]
 
 pub mod effects;
+pub mod forwarding;
 pub mod found;
-mod learning;
+pub mod learning;
 mod left;
 pub mod ready;
 pub mod theorems;

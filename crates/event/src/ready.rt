@@ -16,12 +16,14 @@ use crate::walks::{Walked, awaited_along, last_fences, walk};
 use deliveries::lead::Lead;
 use eorder::carried::Carried;
 use eorder::fence::Fence;
-use heap::state::VatState;
+use heap::state::{VatState, View};
 use ids::names::{MsgId, PromId, VatNo};
 use post::call::Call;
 use post::delivery::Delivery;
 use post::message::{Message, Place};
 use post::when::When;
+use refs::ends::end_of;
+use refs::resolve::Resolve;
 use std::alloc::{AllocError, Global};
 use std::sync::Arc;
 use values::value::Value;
@@ -44,6 +46,12 @@ pub enum Unready {
 pub enum Delay {
     Memory,
     Unready(Unready),
+}
+
+impl From<Unready> for Delay {
+    fn from(unready: Unready) -> Self {
+        Delay::Unready(unready)
+    }
 }
 
 impl From<AllocError> for Delay {
@@ -202,4 +210,31 @@ fn check_done(world: &World, awaited: &Fence) -> Result<(), Unready>
         }
     }
     Ok(())
+}
+
+/// Whether the value of a `when` is known in its vat's state: it leads to no unresolved promise.
+fn is_known(alloc: Global, state: &VatState, value: &Value) -> Result<bool, AllocError> {
+    let mut through = Vec::new(alloc);
+    let end = end_of(&Views { state }, value, &mut through)?;
+    Ok(end.as_promise().is_none())
+}
+
+/// What a vat's state knows promises resolved to.
+#[derive(Drop)]
+struct Views<'a> {
+    state: &'a VatState,
+}
+
+impl<'a> Resolve for Views<'a> {
+    ghost use Rattle.heap.specs.View.{state_of};
+    ghost use Rattle.sends.specs.Playing.{views_in};
+
+    ghost resolutions = { λ v. views_in (state_of v.state.now) };
+
+    fn resolution(&self, promise: PromId) -> Option<&Value> {
+        match self.state.views.get(&promise) {
+            Some(View::Resolved(value)) => Some(value),
+            _ => None,
+        }
+    }
 }

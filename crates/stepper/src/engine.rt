@@ -12,13 +12,15 @@ ghost use Rattle.commands.specs.ScriptView.{script_text};
 ghost use Rattle.stepper.specs.Replies.{Answers, AnswersBirth, FirstReply, Replies, said};
 
 use crate::reply::Written;
+use agenda::agenda::Step;
 use book::book::{Book, Turned};
 use book::fault::BookFault;
 use commands::command::{Command, LineFault, command_of};
 use commands::lines::cut_line;
+use commands::numbers::PromiseName;
 use commands::script::{take_script, text_of};
 use ereader::read;
-use ids::names::{EventName, MsgId};
+use ids::names::{EventName, MsgId, PromId, VatNo};
 use ids::text::Text;
 use kernele::tree::Program;
 use std::alloc::{AllocError, Global};
@@ -126,6 +128,81 @@ impl Engine {
         }
     }
 
+    fn arrive(&mut self, message: MsgId) -> Result<(), AllocError> {
+        match self.book.arrive(message) {
+            Ok(event) => self.written.done(event),
+            Err(fault) => self.written.refuse_call(&fault),
+        }
+    }
+
+    fn forward(&mut self, message: MsgId) -> Result<(), AllocError> {
+        match self.book.forward(message) {
+            Ok(event) => self.written.done(event),
+            Err(fault) => self.written.refuse_call(&fault),
+        }
+    }
+
+    fn learn(&mut self, name: &str, promise: PromiseName) -> Result<(), AllocError> {
+        let Ok(name) = Text::new(self.alloc, name) else {
+            return self.written.refuse_call(&BookFault::Memory);
+        };
+        match self.book.learn_named(&name, promise.event, promise.index) {
+            Ok(event) => self.written.done(event),
+            Err(fault) => self.written.refuse_call(&fault),
+        }
+    }
+
+    /// A vat learns what is known of a promise, by its number.
+    fn learn_at(&mut self, vat: VatNo, promise: PromId) -> Result<(), AllocError> {
+        match self.book.learn_at(vat, promise) {
+            Ok(event) => self.written.done(event),
+            Err(fault) => self.written.refuse_call(&fault),
+        }
+    }
+
+    /// Does the first that may be done. Answers whether there was something.
+    fn try_step(&mut self) -> Result<bool, AllocError> {
+        let next = match self.book.next() {
+            Ok(next) => next,
+            Err(AllocError) => {
+                self.written.refuse_call(&BookFault::Memory)?;
+                return Ok(true);
+            }
+        };
+        match next {
+            Some(Step::Arrive(message)) => self.arrive(message)?,
+            Some(Step::Forward(message)) => self.forward(message)?,
+            Some(Step::Turn(message)) => self.turn(message)?,
+            Some(Step::Learn(vat, promise)) => self.learn_at(vat, promise)?,
+            None => return Ok(false),
+        }
+        Ok(true)
+    }
+
+    fn step(&mut self) -> Result<(), AllocError> {
+        if !self.try_step()? {
+            self.written.idle()?;
+        }
+        Ok(())
+    }
+
+    /// Steps, at most so many, up to one that finds nothing to do.
+    fn run(&mut self, most: u32) -> Result<(), AllocError> {
+        for _ in 0..most {
+            if !self.try_step()? {
+                return self.written.idle();
+            }
+        }
+        Ok(())
+    }
+
+    fn enabled(&mut self) -> Result<(), AllocError> {
+        match self.book.enabled() {
+            Ok(steps) => self.written.enabled(self.alloc, self.book.world(), &steps),
+            Err(AllocError) => self.written.refuse_call(&BookFault::Memory),
+        }
+    }
+
     fn show(&mut self) -> Result<(), AllocError>
         ensures { OnOk result (Happens self.old self.new (λ b r s d. Answers self.old.budget b commands.show r s d)) }
     {
@@ -185,33 +262,46 @@ impl Engine {
         }
     }
 
-    fn birth_program(&mut self, name: &str, script: Program) -> Result<(), AllocError>
+    fn birth_program(
+        &mut self,
+        name: &str,
+        earlier: &[&str],
+        script: Program,
+    ) -> Result<(), AllocError>
         ensures { (text : List ℕ) → ReadAs text (Ok (program_of script)) → OnOk result (Happens self.old self.new (λ b r s d. AnswersBirth b name.now (Ok text) r s d)) }
     {
         let Ok(name) = Text::new(self.alloc, name) else {
             return self.written.refuse_call(&BookFault::Memory);
         };
-        match self.book.birth(&name, script) {
+        let Ok(earlier) = texts(self.alloc, earlier) else {
+            return self.written.refuse_call(&BookFault::Memory);
+        };
+        match self.book.birth(&name, earlier, script) {
             Ok(event) => self.written.queued(event),
             Err(fault) => self.written.refuse_call(&fault),
         }
     }
 
-    fn birth_text(&mut self, name: &str, text: &str) -> Result<(), AllocError>
+    fn birth_text(&mut self, name: &str, earlier: &[&str], text: &str) -> Result<(), AllocError>
         ensures { OnOk result (Happens self.old self.new (λ b r s d. AnswersBirth b name.now (Ok text.now) r s d)) }
     {
         match read(self.alloc, text) {
-            Ok(program) => self.birth_program(name, program),
+            Ok(program) => self.birth_program(name, earlier, program),
             Err(fault) => self.written.refuse_text(&fault),
         }
     }
 
     /// A new vat, whose script was taken from the lines behind the command.
-    fn birth(&mut self, name: &str, script: &Result<String, LineFault>) -> Result<(), AllocError>
+    fn birth(
+        &mut self,
+        name: &str,
+        earlier: &[&str],
+        script: &Result<String, LineFault>,
+    ) -> Result<(), AllocError>
         ensures { OnOk result (Happens self.old self.new (λ b r s d. AnswersBirth b name.now (script_text script.now) r s d)) }
     {
         match script {
-            Ok(text) => self.birth_text(name, text.as_str()),
+            Ok(text) => self.birth_text(name, earlier, text.as_str()),
             Err(fault) => self.written.refuse_line(*fault),
         }
     }
@@ -222,13 +312,23 @@ impl Engine {
         ensures reply { IfOk result (λ rest. HappensAt self.old self.new rest.now (λ b r s d i. FirstReply self.old.budget b (Ok (Some (command_of command.entry))) input.now r s d i)) }
     {
         match command {
-            Command::Birth { name, lines } => {
+            Command::Birth {
+                name,
+                earlier,
+                lines,
+            } => {
                 let script = take_script(self.alloc, input, lines)?;
-                self.birth(name, &script.text)?;
+                self.birth(name, &earlier, &script.text)?;
                 return Ok(script.rest);
             }
             Command::Ask { name, text } => self.ask(name, text),
+            Command::Arrive(message) => self.arrive(message),
+            Command::Forward(message) => self.forward(message),
+            Command::Learn { name, promise } => self.learn(name, promise),
             Command::Turn(message) => self.turn(message),
+            Command::Step => self.step(),
+            Command::Run(most) => self.run(most),
+            Command::Enabled => self.enabled(),
             Command::Show => self.show(),
             Command::Journal => self.journal(),
             Command::Cone(event) => self.cone(event),
@@ -276,6 +376,15 @@ impl Engine {
             Err(fault) => self.answer_said(Err(fault), cut.rest),
         }
     }
+}
+
+/// Names as texts of their own.
+fn texts(alloc: Global, names: &[&str]) -> Result<Vec<Text>, AllocError> {
+    let mut texts = Vec::with_capacity(alloc, names.len())?;
+    for name in names {
+        texts.push(Text::new(alloc, name)?)?;
+    }
+    Ok(texts)
 }
 
 /// The replies to a text of commands.

@@ -9,10 +9,12 @@ ghost use Rattle.stepper.specs.Listing.{act_text, mark_text, names_text, entry_l
 ghost use Rattle.stepper.specs.ListingView.{line_with};
 
 use causality::causes::{NameIndex, causes};
-use ids::names::EventName;
+use ids::names::{EventName, PromId, VatNo};
+use ids::text::Text;
 use journal::entry::{Entry, Mark};
 use worldcells::event::Action;
 use std::alloc::{AllocError, Global};
+use std::collections::BTreeMap;
 
 /// Writes the names of events, a space before each.
 fn write_names(names: &[EventName], out: &mut String) -> Result<(), AllocError>
@@ -24,12 +26,19 @@ fn write_names(names: &[EventName], out: &mut String) -> Result<(), AllocError>
     Ok(())
 }
 
-fn write_action(action: &Action, out: &mut String) -> Result<(), AllocError>
+fn write_action(
+    action: &Action,
+    vats: &BTreeMap<VatNo, &Text>,
+    out: &mut String,
+) -> Result<(), AllocError>
     ensures { OnOk result (string_bytes out.new ≡ string_bytes out.old ++ act_text (act_of action.now)) }
 {
     match action {
-        Action::Birth(name, _) => write!(out, "birth {name}"),
+        Action::Birth(name, _, _) => write!(out, "birth {name}"),
         Action::Ask(name, _) => write!(out, "ask {name}"),
+        Action::Arrive(message) => write!(out, "arrive {message}"),
+        Action::Forward(message) => write!(out, "forward {message}"),
+        Action::Learn(vat, promise) => write_learn(vats.get(vat), *promise, out),
         Action::Turn { message, .. } => write!(out, "turn {message}"),
     }
 }
@@ -47,6 +56,7 @@ fn write_entry(
     position: usize,
     entry: &Entry,
     causes: &[EventName],
+    vats: &BTreeMap<VatNo, &Text>,
     out: &mut String,
 ) -> Result<(), AllocError>
     ensures { OnOk result (string_bytes out.new ≡ string_bytes out.old ++ entry_line position (line_with (numbers causes.now) (item_of entry.now))) }
@@ -54,10 +64,31 @@ fn write_entry(
     let event = entry.event.name;
     let mark = mark_word(entry.mark);
     write!(out, "{position} {event} {mark} ")?;
-    write_action(&entry.event.action, out)?;
+    write_action(&entry.event.action, vats, out)?;
     out.push_str(" causes")?;
     write_names(causes, out)?;
     out.push_str("\n")
+}
+
+/// The names of the vats that were born, also of births that are undone.
+fn vats_born<'a>(
+    alloc: Global,
+    entries: &'a [Entry],
+) -> Result<BTreeMap<VatNo, &'a Text>, AllocError> {
+    let mut vats = BTreeMap::new(alloc);
+    for entry in entries {
+        if let Action::Birth(name, _, _) = &entry.event.action {
+            vats.insert(VatNo(entry.event.name), name)?;
+        }
+    }
+    Ok(vats)
+}
+
+fn write_learn(name: Option<&&Text>, promise: PromId, out: &mut String) -> Result<(), AllocError> {
+    match name {
+        Some(name) => write!(out, "learn {name} {promise}"),
+        None => Ok(()),
+    }
 }
 
 /// Writes a journal, a line for each entry, with its position from 1.
@@ -70,9 +101,10 @@ pub(crate) fn write_journal(
     ensures { OnOk result (string_bytes out.new ≡ string_bytes out.old ++ journal_text (lines_of (map item_of entries.now))) }
 {
     let index = NameIndex::new(alloc, entries)?;
+    let vats = vats_born(alloc, entries)?;
     for (position, entry) in entries.iter().enumerate() {
         let causes = causes(alloc, entries, &index, position)?;
-        write_entry(position + 1, entry, &causes, out)?;
+        write_entry(position + 1, entry, &causes, &vats, out)?;
     }
     Ok(())
 }

@@ -12,7 +12,9 @@ ghost use Rattle.journal.specs.Lines.{lines_of};
 ghost use Rattle.causality.specs.Journals.{IsJournal};
 ghost use Rattle.stepper.specs.Show.{Shows};
 
+use crate::enabled::write_enabled;
 use crate::listing::{write_cone, write_journal};
+use agenda::agenda::Step;
 use crate::show::write_world;
 use book::fault::BookFault;
 use commands::command::LineFault;
@@ -71,6 +73,27 @@ impl Written {
         let message = MsgId { event, index: 0 };
         let out = &mut self.text;
         write!(out, "ok {event} {message}\n")
+    }
+
+    /// An event happened that has nothing to tell.
+    pub(crate) fn done(&mut self, event: EventName) -> Result<(), AllocError> {
+        let out = &mut self.text;
+        write!(out, "ok {event}\n")
+    }
+
+    /// There is nothing to do.
+    pub(crate) fn idle(&mut self) -> Result<(), AllocError> {
+        self.text.push_str("idle\n")
+    }
+
+    /// All that may be done.
+    pub(crate) fn enabled(
+        &mut self,
+        alloc: Global,
+        world: &World,
+        steps: &[Step],
+    ) -> Result<(), AllocError> {
+        write_enabled(alloc, world, steps, &mut self.text)
     }
 
     /// A turn was run.

@@ -25,6 +25,7 @@ use ids::reference::Reference;
 use ids::text::Text;
 use kernele::tree::Pattern;
 use post::message::{Message, Place};
+use post::published::Published;
 use post::vat::Vat;
 use worldcells::world::World;
 use std::alloc::{AllocError, Global};
@@ -92,7 +93,10 @@ fn write_object(name: ObjId, object: &Made, out: &mut String) -> Result<(), Allo
     ensures { OnOk result (string_bytes out.new ≡ string_bytes out.old ++ object_line (name, made (object_of object.now))) }
 {
     write!(out, " object {name} ")?;
-    write_pattern(&object.own, out)?;
+    match object {
+        Made::Plain(plain) => write_pattern(&plain.own, out)?,
+        Made::Resolver(promise) => write!(out, "resolver {promise}")?,
+    }
     out.push_str("\n")
 }
 
@@ -197,7 +201,7 @@ fn write_home(
 }
 
 /// The vats in order of birth, each with its name.
-fn vats_by_birth(
+pub(crate) fn vats_by_birth(
     alloc: Global,
     names: &BTreeMap<Text, Vat>,
 ) -> Result<BTreeMap<VatNo, Text>, AllocError>
@@ -234,11 +238,16 @@ fn write_place(
     ensures { OnOk result (string_bytes out.new ≡ string_bytes out.old ++ place_text vats.now.entries (place_of place)) }
 {
     match place {
-        Place::At(number) => match vats.get(&number) {
-            Some(name) => write!(out, " at {name}"),
-            None => Ok(()),
-        },
+        Place::Flying(number) => write_vat_name(" flying ", vats.get(&number), out),
+        Place::At(number) => write_vat_name(" at ", vats.get(&number), out),
         Place::Done(event) => write!(out, " done {event}"),
+    }
+}
+
+fn write_vat_name(words: &str, name: Option<&Text>, out: &mut String) -> Result<(), AllocError> {
+    match name {
+        Some(name) => write!(out, "{words}{name}"),
+        None => Ok(()),
     }
 }
 
@@ -279,12 +288,12 @@ fn write_published(promise: PromId, value: &Value, out: &mut String) -> Result<(
 }
 
 /// Writes what was published, in order of the promises.
-fn write_board(board: &BTreeMap<PromId, Value>, out: &mut String) -> Result<(), AllocError>
+fn write_board(board: &BTreeMap<PromId, Published>, out: &mut String) -> Result<(), AllocError>
     ensures written { OnOk result (string_bytes out.new ≡ string_bytes out.old ++ board_lines (board_in board.now)) }
     ensures listed { OnOk result (Lists promise_cmp (λ p. option_map (λ v. published (val_of v)) (get promise_cmp board.now p)) (board_in board.now)) }
 {
-    for (promise, value) in board.iter() {
-        write_published(*promise, value, out)?;
+    for (promise, published) in board.iter() {
+        write_published(*promise, &published.value, out)?;
     }
     Ok(())
 }

@@ -18,13 +18,18 @@ ghost use Rattle.world.specs.Steps.{StepsTo, TellsStep, Ready, RunsAt, Unready a
 ghost use Rattle.world.specs.declared.step.StepFault.TheVariants.{Memory};
 
 use cells::swaps::Swaps;
-use event::effects::{Effects, ask_effects, birth_effects, turn_effects};
-use event::ready::{check_order, message_at_vat};
-use ids::names::{EventName, MsgId, VatNo};
+use deliveries::lead::Lead;
+use event::effects::{Effects, ask_effects, birth_effects, learn_effects, move_effects, turn_effects};
+use event::forwarding::onward;
+use event::learning::learn;
+use event::ready::{Delay, Way, check_ready, message_at_vat};
+use heap::state::View;
+use ids::names::{EventName, MsgId, PromId, VatNo};
 use ids::text::Text;
 use kernele::tree::Program;
 use worldcells::event::{Action, Event};
 use post::message::Message;
+use post::published::Published;
 use worldcells::world::World;
 use std::alloc::{AllocError, AllocFailed, Global};
 use turn::ticket::{Out, Ran, Ticket};
@@ -63,6 +68,7 @@ fn effects_of_birth(
     world: &World,
     event: EventName,
     name: &Text,
+    earlier: &[Text],
     script: &Program,
 ) -> Result<Effects, StepFault>
     ensures ok { IfOk result (λ it. (f : Foot) × Happens (record { name = event; act = birth name.now (program_of script.now) }) f (world_of world.now) it) }
@@ -71,7 +77,14 @@ fn effects_of_birth(
     let None = world.vat(name) else {
         return Err(StepFault::Impossible);
     };
-    Ok(birth_effects(alloc, event, name, script)?)
+    let mut vats = Vec::new(alloc);
+    for other in earlier {
+        let Some(vat) = world.vat(other) else {
+            return Err(StepFault::Impossible);
+        };
+        vats.push(vat.number)?;
+    }
+    Ok(birth_effects(alloc, event, name, earlier, &vats, script)?)
 }
 
 /// The effects of an asked program, if the vat is there.
@@ -91,8 +104,76 @@ fn effects_of_ask(
     Ok(ask_effects(alloc, event, name, vat.number, program)?)
 }
 
-/// A message that may be delivered now to this vat, shared.
-fn ready(world: &World, vat: VatNo, name: MsgId) -> Result<Message, StepFault>
+/// The effects of an arrival, if the message is on its way.
+fn effects_of_arrival(
+    alloc: Global,
+    world: &World,
+    event: EventName,
+    name: MsgId,
+) -> Result<Effects, StepFault> {
+    let Some(message) = world.message(name) else {
+        return Err(StepFault::Impossible);
+    };
+    let Some(arrived) = message.arrived()? else {
+        return Err(StepFault::Impossible);
+    };
+    Ok(move_effects(alloc, event, name, arrived, &[])?)
+}
+
+/// The effects of a forwarding, if the message's target leads to another vat.
+fn effects_of_forwarding(
+    alloc: Global,
+    world: &World,
+    event: EventName,
+    name: MsgId,
+) -> Result<Effects, StepFault> {
+    let Ok((message, vat)) = message_at_vat(world, name) else {
+        return Err(StepFault::Impossible);
+    };
+    let Some(onward) = onward(alloc, world, message, vat)? else {
+        return Err(StepFault::Impossible);
+    };
+    let Some(forwarded) = message.forwarded(onward.to)? else {
+        return Err(StepFault::Impossible);
+    };
+    Ok(move_effects(alloc, event, name, forwarded, &onward.through)?)
+}
+
+/// The effects of what a vat learns of a promise, if that is open in its view and was published.
+fn effects_of_learning(
+    alloc: Global,
+    world: &mut World,
+    event: EventName,
+    vat: VatNo,
+    promise: PromId,
+) -> Result<Effects, StepFault> {
+    let published = learnable(world, vat, promise)?;
+    let state = world.share_vat(alloc, vat)?;
+    let footprint = learn(alloc, event, vat, state, promise, &published)?;
+    Ok(learn_effects(alloc, event, vat, promise, &footprint)?)
+}
+
+/// What a promise was published as that is open in a vat's view, shared.
+fn learnable(world: &World, vat: VatNo, promise: PromId) -> Result<Published, StepFault> {
+    let Some(state) = world.home(vat) else {
+        return Err(StepFault::Impossible);
+    };
+    let Some(View::Open) = state.views.get(&promise) else {
+        return Err(StepFault::Impossible);
+    };
+    let Some(published) = world.published(promise) else {
+        return Err(StepFault::Impossible);
+    };
+    Ok(published.share()?)
+}
+
+/// A message that may be delivered now to this vat, shared, and the way to its target.
+fn ready(
+    alloc: Global,
+    world: &World,
+    vat: VatNo,
+    name: MsgId,
+) -> Result<(Message, Way), StepFault>
     ensures ok { IfOk result (λ g. Ready (world_of world.now) name (message_of g) vat) }
     ensures err { IfErr result (λ fault. IsUnready (world_of world.now) name vat fault) }
 {
@@ -102,10 +183,11 @@ fn ready(world: &World, vat: VatNo, name: MsgId) -> Result<Message, StepFault>
     if home != vat {
         return Err(StepFault::Impossible);
     }
-    let Ok(()) = check_order(world, message.sent.after) else {
-        return Err(StepFault::Impossible);
-    };
-    Ok(message.share()?)
+    match check_ready(alloc, world, message, vat) {
+        Ok(way) => Ok((message.share()?, way)),
+        Err(Delay::Memory) => Err(StepFault::Memory),
+        Err(Delay::Unready(_)) => Err(StepFault::Impossible),
+    }
 }
 
 /// Runs the turn of a ticket.
@@ -129,6 +211,7 @@ fn run_at(
     name: MsgId,
     budget: u32,
     message: Message,
+    lead: Lead,
     vat: VatNo,
 ) -> Result<Ran, AllocError>
     ensures ok { IfOk result (λ ran. RunsAt (world_of world.old) event name budget message vat ran) }
@@ -140,6 +223,7 @@ fn run_at(
         event,
         name,
         message,
+        lead,
         vat,
         state,
         budget,
@@ -160,9 +244,18 @@ fn effects_of_turn(
     ensures err { IfErr result (λ fault. TellsStep (record { name = event; act = turn vat name budget }) (world_of world.old) fault) }
     ensures seen { seen_of_world world.new ≡ seen_of_world world.old }
 {
-    let message = ready(world, vat, name)?;
-    let ran = run_at(alloc, world, event, name, budget, message, vat)?;
-    Ok(turn_effects(alloc, event, name, &ran.carried.message, vat, &ran.outcome)?)
+    let (message, way) = ready(alloc, world, vat, name)?;
+    let lead = way.lead.share()?;
+    let ran = run_at(alloc, world, event, name, budget, message, lead, vat)?;
+    Ok(turn_effects(
+        alloc,
+        event,
+        name,
+        &ran.carried.message,
+        &way,
+        vat,
+        &ran.outcome,
+    )?)
 }
 
 /// The effects of an event, if it is possible. What is seen in the world stays.
@@ -172,8 +265,15 @@ fn effects_of(alloc: Global, world: &mut World, event: &Event) -> Result<Effects
     ensures seen { seen_of_world world.new ≡ seen_of_world world.old }
 {
     match &event.action {
-        Action::Birth(name, script) => effects_of_birth(alloc, world, event.name, name, script),
+        Action::Birth(name, earlier, script) => {
+            effects_of_birth(alloc, world, event.name, name, earlier, script)
+        }
         Action::Ask(name, program) => effects_of_ask(alloc, world, event.name, name, program),
+        Action::Arrive(message) => effects_of_arrival(alloc, world, event.name, *message),
+        Action::Forward(message) => effects_of_forwarding(alloc, world, event.name, *message),
+        Action::Learn(vat, promise) => {
+            effects_of_learning(alloc, world, event.name, *vat, *promise)
+        }
         Action::Turn {
             vat,
             message,
