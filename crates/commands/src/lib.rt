@@ -3,7 +3,7 @@
 
 pub mod command;
 pub mod lines;
-mod numbers;
+pub mod numbers;
 pub mod script;
 mod words;
 

@@ -15,8 +15,12 @@ ghost use Rattle.values.specs.View.{val_of};
 ghost use Rattle.event.specs.Effects.{Brings, BringsLearnt, BringsTurn, turn_of};
 
 use crate::left::{record_cells, touch_cells};
-use crate::outcome::{Ended, Outcome};
+use crate::ready::Way;
 use cells::store::Record;
+use deliveries::outcome::{Ended, Outcome};
+use eorder::fence::Fence;
+use erules::outbox::Publication;
+use heap::reach::Footprint;
 use ids::cells::CellKey;
 use ids::names::{EventName, MsgId, PromId, VatNo};
 use ids::text::Text;
@@ -25,11 +29,11 @@ use post::delivery::Delivery;
 use post::earlier::Earlier;
 use post::message::{Message, Place, Sent};
 use post::program::{Question, Script};
-use worldcells::record::CellRecord;
 use post::vat::Vat;
 use scopes::top_names;
 use std::alloc::{AllocError, Global};
 use std::sync::Arc;
+use worldcells::record::CellRecord;
 
 /// The cells that an event touches, and a record of each cell that it writes, with what it writes there.
 #[derive(Drop)]
@@ -88,6 +92,36 @@ fn name_record(
         content: Some(vat),
         writer: Some(event),
     }))
+}
+
+/// Names, shared.
+fn share_names(alloc: Global, names: &[Text]) -> Result<Vec<Text>, AllocError> {
+    let mut row = Vec::with_capacity(alloc, names.len())?;
+    for name in names {
+        row.push(name.share()?)?;
+    }
+    Ok(row)
+}
+
+/// The cells of names.
+fn name_keys(alloc: Global, names: &[Text]) -> Result<Vec<CellKey>, AllocError> {
+    let mut keys = Vec::with_capacity(alloc, names.len())?;
+    for name in names {
+        keys.push(CellKey::Name(name.share()?))?;
+    }
+    Ok(keys)
+}
+
+/// Earlier vats by their names, each with the promise for the result of its opening.
+fn known_as(alloc: Global, names: &[Text], vats: &[VatNo]) -> Result<Vec<Earlier>, AllocError> {
+    let mut row = Vec::with_capacity(alloc, names.len())?;
+    for (name, vat) in names.iter().zip(vats.iter()) {
+        row.push(Earlier {
+            name: name.share()?,
+            opening: first_promise(vat.0, *vat),
+        })?;
+    }
+    Ok(row)
 }
 
 /// The opening message of a vat that is born with this script, which knows these earlier vats by these names.

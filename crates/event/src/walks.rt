@@ -114,7 +114,7 @@ pub fn last_fences(
 {
     match through.last() {
         Some(promise) => fences_of(alloc, world, *promise),
-        None => Arc::new(alloc, Carried::empty(alloc)),
+        None => Ok(Arc::new(alloc, Carried::empty(alloc))?),
     }
 }
 

@@ -2,6 +2,7 @@
 #![tactic(auto)]
 
 mod ended;
+mod enabled;
 mod engine;
 mod listing;
 mod reply;
