@@ -74,12 +74,12 @@ pub fn make_when(
 }
 
 /// The message of a `when`, which comes after nothing.
-fn when_message(alloc: Global, here: VatNo, result: PromId, when: When) -> Result<Message, AllocError>
-    ensures { IfOk result (λ g. message_of g ≡ when_message_of here result (when_of when)) }
+fn when_message(alloc: Global, here: VatNo, promise: PromId, when: When) -> Result<Message, AllocError>
+    ensures { IfOk result (λ g. message_of g ≡ when_message_of here promise (when_of when)) }
 {
     let sent = Sent {
         delivery: Delivery::Waiting(when),
-        result,
+        result: promise,
         after: Fence::empty(alloc),
     };
     Message::new(alloc, sent, Place::At(here))

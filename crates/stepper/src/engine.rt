@@ -17,7 +17,7 @@ use book::book::{Book, Turned};
 use book::fault::BookFault;
 use commands::command::{Command, LineFault, command_of};
 use commands::lines::cut_line;
-use commands::numbers::PromiseName;
+use commands::PromiseName;
 use commands::script::{take_script, text_of};
 use ereader::read;
 use ids::names::{EventName, MsgId, PromId, VatNo};
