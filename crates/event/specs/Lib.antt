@@ -1,11 +1,11 @@
+pub mod Walks
+pub mod Ready
 pub mod Turn
-pub mod Touched
 pub mod Spent
 pub mod Outcomes
 pub mod Laws
 pub mod Events
 pub mod Runs
-pub mod Ready
 pub mod Effects
 pub mod Entries
 pub mod Finds

@@ -18,6 +18,8 @@ pub enum Unready {
     NoMessage,
     /// It is not at a vat.
     NotThere,
+    /// Its target leads to another vat or nowhere yet, or nothing more is known of what it waits for.
+    NotReady,
     /// This message must be done first.
     Before(MsgId),
 }
