@@ -1,4 +1,4 @@
-use Rattle.std.proofs.Common.{true, false, refl}
+use Rattle.std.proofs.Common.{true, false}
 use Rattle.std.proofs.lemmas.Slice.Zip.{either_empty_from_Zip}
 use Rattle.values.specs.View.{vals_of}
 use Rattle.code.proofs.Zipped.{counted, counts_differ, left_after, differ_here, none_left}
