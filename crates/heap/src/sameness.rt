@@ -50,7 +50,8 @@ pub fn same_view(a: &View, b: &View) -> bool
     }
 }
 
-fn same_nouns(xs: &Arc<Vec<Noun>>, ys: &Arc<Vec<Noun>>) -> bool
+/// Whether names stand for the same, in the same order.
+pub fn same_nouns(xs: &Arc<Vec<Noun>>, ys: &Arc<Vec<Noun>>) -> bool
     ensures { IsTrue result ↔ (nouns_of xs.now.value.items ≡ nouns_of ys.now.value.items) }
 {
     if xs.len() != ys.len() {

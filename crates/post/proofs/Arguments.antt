@@ -1,5 +1,5 @@
 -- Arguments that are the same, one by one.
-use Rattle.std.proofs.Common.{◌≡◌, ◌↔◌, Bool, true, IsTrue, refl, sym, ap, ◌∙◌}
+use Rattle.std.proofs.Common.{◌≡◌, ◌↔◌, Bool, IsTrue, refl, sym, ap, ◌∙◌}
 use Rattle.values.specs.Data.{Val, list, Vals, no_vals}
 use Rattle.values.specs.Same.{same_as, same_items}
 use Rattle.values.specs.View.{val_of, vals_of}

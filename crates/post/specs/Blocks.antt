@@ -1,5 +1,5 @@
 -- When the handler of a `when` fits the names that it begins with.
-use Rattle.std.specs.Prelude.{Bool, false, ◌++◌, Option, Some, None}
+use Rattle.std.specs.Prelude.{false, ◌++◌, Option, Some, None}
 use Rattle.std.proofs.Common.{refl}
 use Rattle.scopes.specs.Scope.{name_of}
 use Rattle.code.specs.Frames.{Frame, only_names, fits_all}

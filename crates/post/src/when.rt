@@ -42,7 +42,7 @@ impl Handler {
 
     /// The same handler, shared. Fails only for want of memory.
     fn share(&self) -> Result<Handler, AllocError>
-        ensures { IfOk result (λ h. (h.pattern ≡ self.now.pattern) × (h.block ≡ self.now.block)) }
+        ensures { IfOk result (λ h. (h.pattern ≡ self.now.pattern) × (h.block.value ≡ self.now.block.value)) }
     {
         Ok(Handler {
             pattern: self.pattern.share()?,

@@ -5,14 +5,12 @@ use Rattle.cells.specs.Seen.{Seen}
 use Rattle.ids.specs.CellKeys.{same_key}
 use Rattle.ids.specs.Cells.{vat_cmp}
 use Rattle.ids.specs.KeyLaws.{exact_vat}
-use Rattle.ids.proofs.Keys.{equal, equal_self, exact_vats, exact_slots, exact_objects, exact_promises}
-use Rattle.ids.proofs.References.{reference_equal}
+use Rattle.ids.proofs.Keys.{equal, equal_self, exact_vats, exact_slots, exact_objects}
 use Rattle.ids.specs.References.{same_reference}
 use Rattle.ids.specs.Cells.{slot_cmp, object_cmp, promise_cmp}
 use Rattle.std.specs.Option.{IsSome, option_map}
 use Rattle.std.specs.Ordering.{is_eq}
 use Rattle.std.specs.Str.{bytes_eq}
-use Rattle.std.proofs.lemmas.Slice.Eq.{bytes_eq-Decides}
 use Rattle.ids.specs.declared.names.VatNo.{VatNo}
 use Rattle.ids.specs.declared.cells.CellKey.{CellKey}
 use Rattle.ids.specs.declared.cells.CellKey.TheVariants as key

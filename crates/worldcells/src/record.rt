@@ -3,9 +3,6 @@ ghost use Rattle.std.specs.Prelude.{◌≡◌, IfOk};
 ghost use Rattle.ids.specs.CellKeys.{same_key};
 ghost use Rattle.worldcells.specs.Records.{record_of};
 
-use post::message::Message;
-use post::published::Published;
-use post::vat::Vat;
 use cells::store::Record;
 use eorder::fence::Fence;
 use heap::made::Made;
@@ -14,6 +11,9 @@ use ids::cells::CellKey;
 use ids::names::{MsgId, ObjId, PromId, SlotId, VatNo};
 use ids::reference::Reference;
 use ids::text::Text;
+use post::message::Message;
+use post::published::Published;
+use post::vat::Vat;
 use std::alloc::AllocError;
 use values::value::Value;
 
