@@ -1,50 +1,39 @@
 -- Fences are carried away in a loop.
-use Rattle.std.proofs.Common.{◌≡◌, ◌<◌, ◌≤◌, ◌+◌, ℕ, suc, List, [], ◌∷◌, ◌++◌, drop, length, get_or, refl, sym, ap, ◌∙◌, add-one, drop-cons, append-nil, append_assoc}
+use Rattle.std.proofs.Common.{◌≡◌, ◌<◌, ◌≤◌, ◌+◌, ℕ, suc, List, [], ◌∷◌, drop, length, get_or, sym, ap, ◌∙◌, add-one, drop-cons}
 use Rattle.std.proofs.lemmas.List.{drop_all}
 use Rattle.ids.specs.declared.names.MsgId.{MsgId}
 use Rattle.ids.specs.declared.reference.Reference.{Reference}
-use Rattle.cells.specs.Doing.{over, Under, play, and_then}
-use Rattle.cells.proofs.Doings.{one_after_another}
-use Rattle.heap.specs.State.{Cell, Content, same_cell}
+use Rattle.ids.specs.declared.reference.Reference.TheVariants as reference
+use Rattle.eorder.specs.Carried.{Carried, with_fence}
+use Rattle.cells.specs.Doing.{play}
+use Rattle.heap.specs.State.{same_cell}
 use Rattle.heap.specs.Drafted.{Drafted}
-use Rattle.sends.specs.Vats.{Vat, Carried, fence_of, and_carried, carried}
+use Rattle.sends.specs.Vats.{fence_of, carried}
 use Rattle.sends.specs.Playing.{under, Did}
 use Rattle.sends.proofs.Playing.{played}
-
--- behind those that are carried already
-abbrev pub behind_row : Carried → Carried × Under Cell Content → Carried × Under Cell Content
-behind_row row p = (row ++ p.0, p.1)
+use Rattle.sends.proofs.Looking.{no_promise}
 
 -- what is carried in all, by what is left
 abbrev pub Carries : List Reference → Carried → List Reference → Drafted → Drafted → Type 0
-Carries all row rest d e = behind_row row (play same_cell (carried rest) (under e)) ≡ play same_cell (carried all) (under d)
+Carries all row rest d e = play same_cell (carried row rest) (under e) ≡ play same_cell (carried [] all) (under d)
 
-from_here : (rs : List Reference) (i : ℕ) (r : Reference) → i < length rs → r ≡ get_or rs i r → drop i rs ≡ r ∷ drop (i + 1) rs
-from_here rs i r h e = rw add-one (drop-cons rs i r h ∙ ap (λ y. y ∷ drop (suc i) rs) (sym e))
+-- what a loop over references reads beyond them
+abbrev pub no_reference : Reference
+no_reference = reference.Promise no_promise
 
--- one reference and those behind it
-one : (r : Reference) (f : List MsgId) (rest : List Reference) (e k : Drafted) → Did (fence_of r) e f k → play same_cell (carried (r ∷ rest)) (under e) ≡ (and_carried r f (play same_cell (carried rest) (under k)).0, (play same_cell (carried rest) (under k)).1)
-one r f rest e k h =
-    played (fence_of r) (λ f. and_then (carried rest) (λ c. over (and_carried r f c))) (under e) (under k) f h
-    ∙ one_after_another Cell Content Carried Carried same_cell (carried rest) (λ c. over (and_carried r f c)) (under k)
+pub from_here : (rs : List Reference) (i : ℕ) → i < length rs → drop i rs ≡ get_or rs i no_reference ∷ drop (i + 1) rs
+from_here rs i h = rw add-one (drop-cons rs i no_reference h)
 
-row_on : (row new : Carried) (r : Reference) (f : List MsgId) (c : Carried) → (f ≡ [] → new ≡ row) → ((f ≡ [] → ⊥) → new ≡ row ++ (r, f) ∷ []) → new ++ c ≡ row ++ and_carried r f c
-row_on row new r [] c h i = ap (λ x. x ++ c) (h refl)
-row_on row new r (m ∷ f) c h i = ap (λ x. x ++ c) (i (λ e. cc)) ∙ append_assoc row ((r, m ∷ f) ∷ []) c
-
--- one more is carried, or left out where its fence is empty
-pub carry_next : (all rs : List Reference) (i : ℕ) (r : Reference) (row new : Carried) (f : List MsgId) (d e k : Drafted) → i < length rs → r ≡ get_or rs i r → Carries all row (drop i rs) d e → Did (fence_of r) e f k
-    → (f ≡ [] → new ≡ row) → ((f ≡ [] → ⊥) → new ≡ row ++ (r, f) ∷ []) → Carries all new (drop (i + 1) rs) d k
-carry_next all rs i r row new f d e k h q inv did n s =
-    let p : Carried × Under Cell Content = play same_cell (carried (drop (i + 1) rs)) (under k) in
-    ap (λ c. (c, p.1)) (row_on row new r f p.0 n s)
-    ∙ ap (behind_row row) (sym (one r f (drop (i + 1) rs) e k did))
-    ∙ ap (λ xs. behind_row row (play same_cell (carried xs) (under e))) (sym (from_here rs i r h q))
+-- one more is carried
+pub carry_next : (all rs : List Reference) (i : ℕ) (row new : Carried) (f : List MsgId) (d e k : Drafted) → i < length rs → Carries all row (drop i rs) d e → Did (fence_of (get_or rs i no_reference)) e f k
+    → new ≡ with_fence row (get_or rs i no_reference) f → Carries all new (drop (i + 1) rs) d k
+carry_next all rs i row new f d e k h inv did s =
+    let r : Reference = get_or rs i no_reference in
+    ap (λ c. play same_cell (carried c (drop (i + 1) rs)) (under k)) s
+    ∙ sym (played (fence_of r) (λ f. carried (with_fence row r f) (drop (i + 1) rs)) (under e) (under k) f did)
+    ∙ ap (λ xs. play same_cell (carried row xs) (under e)) (sym (from_here rs i h))
     ∙ inv
 
 -- none is left
-pub carry_last : (all rs : List Reference) (i : ℕ) (row : Carried) (d e : Drafted) → length rs ≤ i → Carries all row (drop i rs) d e → Did (carried all) d row e
-carry_last all rs i row d e h inv =
-    sym inv
-    ∙ ap (λ xs. behind_row row (play same_cell (carried xs) (under e))) (drop_all i rs h)
-    ∙ ap (λ c. (c, under e)) (append-nil row)
+pub carry_last : (all rs : List Reference) (i : ℕ) (row : Carried) (d e : Drafted) → length rs ≤ i → Carries all row (drop i rs) d e → Did (carried [] all) d row e
+carry_last all rs i row d e h inv = sym inv ∙ ap (λ xs. play same_cell (carried row xs) (under e)) (drop_all i rs h)

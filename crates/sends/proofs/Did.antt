@@ -4,7 +4,7 @@ use Rattle.ids.specs.declared.names.MsgId.{MsgId}
 use Rattle.ids.specs.declared.names.PromId.{PromId}
 use Rattle.ids.specs.declared.reference.Reference.{Reference}
 use Rattle.ids.specs.declared.reference.Reference.TheVariants as reference
-use Rattle.cells.specs.Doing.{over, writes, Under, touching, holding, play, and_then}
+use Rattle.cells.specs.Doing.{over, reads, writes, Under, touching, holding, play, and_then}
 use Rattle.eorder.specs.Fences.{joined}
 use Rattle.values.specs.Data.{Val}
 use Rattle.heap.specs.State.{Cell, view_cell, fence_cell, Content, fenced, viewed, pending, resolved, same_cell, write, also}
@@ -73,6 +73,10 @@ did_come_now p d e k h q w =
     ap (λ u. play same_cell (entrance p (u.state (view_cell p))) u) (sym h)
     ∙ ap (λ x. play same_cell (entrance p x) (under e)) q
     ∙ ap (λ u. (nothing, u)) (sym w)
+
+-- a cell was read first
+pub did_read : {R : Type 0} (c : Cell) (f : Option Content → Vat R) (d e k : Drafted) (x : Option Content) (r : R) → under e ≡ touching same_cell c (under d) → draft_of e c ≡ x → Did (f x) e r k → Did (reads c f) d r k
+did_read c f d e k x r h q i = ap (λ u. play same_cell (f (u.state c)) u) (sym h) ∙ ap (λ x. play same_cell (f x) (under e)) q ∙ i
 
 -- a cell was written first
 pub did_write_then : {R : Type 0} (c : Cell) (x : Content) (f : Vat R) (d e k : Drafted) (r : R) → under e ≡ holding same_cell c x (under d) → Did f e r k → Did (writes c x f) d r k

@@ -33,5 +33,5 @@ gather_last ks found xs i h inv = ap (λ vs. each_once found (references_in vs))
 -- a set of references adds as the definition does
 pub added : (rs new : List Reference) (r : Reference) → new ≡ cond (list_any (same_target r) rs) rs (rs ++ r ∷ []) → new ≡ and_reference rs r
 added rs new r e =
-    let same : same_target r ≡ same_reference r = λ i t. sym (references_agree r t) i in
+    let same : same_target r ≡ same_reference r = λ i t. references_agree r t i in
     e ∙ ap (λ q. cond (list_any q rs) rs (rs ++ r ∷ [])) same

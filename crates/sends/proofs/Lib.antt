@@ -7,3 +7,6 @@ pub mod Looking
 pub mod EachOnce
 pub mod Carrying
 pub mod AllSettled
+pub mod BroughtIn
+pub mod Publications
+pub mod Messages

@@ -7,12 +7,16 @@ use Rattle.heap.specs.State.{view_cell, same_cell}
 use Rattle.heap.specs.Drafted.{Drafted}
 use Rattle.sends.specs.Playing.{under, looked_at}
 
-from_here : (ps : List PromId) (i : ℕ) (p : PromId) → i < length ps → p ≡ get_or ps i p → drop i ps ≡ p ∷ drop (i + 1) ps
-from_here ps i p h e = rw add-one (drop-cons ps i p h ∙ ap (λ y. y ∷ drop (suc i) ps) (sym e))
+-- what a loop over promises reads beyond them
+abbrev pub no_promise : PromId
+no_promise = record { event = record { 0 = 0 }; index = 0; home = record { 0 = record { 0 = 0 } } }
+
+from_here : (ps : List PromId) (i : ℕ) → i < length ps → drop i ps ≡ get_or ps i no_promise ∷ drop (i + 1) ps
+from_here ps i h = rw add-one (drop-cons ps i no_promise h)
 
 -- one more was looked at
-pub look_next : (ps : List PromId) (i : ℕ) (p : PromId) (d e k : Drafted) → i < length ps → p ≡ get_or ps i p → looked_at (drop i ps) (under e) ≡ looked_at ps (under d) → under k ≡ touching same_cell (view_cell p) (under e) → looked_at (drop (i + 1) ps) (under k) ≡ looked_at ps (under d)
-look_next ps i p d e k h q inv w = ap (λ u. looked_at (drop (i + 1) ps) u) w ∙ ap (λ qs. looked_at qs (under e)) (sym (from_here ps i p h q)) ∙ inv
+pub look_next : (ps : List PromId) (i : ℕ) (d e k : Drafted) → i < length ps → looked_at (drop i ps) (under e) ≡ looked_at ps (under d) → under k ≡ touching same_cell (view_cell (get_or ps i no_promise)) (under e) → looked_at (drop (i + 1) ps) (under k) ≡ looked_at ps (under d)
+look_next ps i d e k h inv w = ap (λ u. looked_at (drop (i + 1) ps) u) w ∙ ap (λ qs. looked_at qs (under e)) (sym (from_here ps i h)) ∙ inv
 
 -- none is left
 pub look_last : (ps : List PromId) (i : ℕ) (d e : Drafted) → length ps ≤ i → looked_at (drop i ps) (under e) ≡ looked_at ps (under d) → under e ≡ looked_at ps (under d)

@@ -6,11 +6,12 @@ use Rattle.ids.specs.declared.names.PromId.{PromId}
 use Rattle.ids.specs.declared.names.ObjId.{ObjId}
 use Rattle.ids.specs.declared.reference.Reference.{Reference}
 use Rattle.cells.specs.Doing.{over, reads, writes, and_then}
+use Rattle.eorder.specs.Carried.{Carried}
 use Rattle.kernele.specs.Tree.{Name}
 use Rattle.values.specs.Data.{Val, promise, broken, Vals, Reply, gives, throws}
 use Rattle.values.specs.Replies.{text_in}
 use Rattle.heap.specs.State.{view_cell, object_cell, pending, Content, made, resolver, viewed}
-use Rattle.sends.specs.Vats.{Vat, Nothing, nothing, ended, settled, all_settled, reference_in, references, references_in, Carried, leaving, comes_in, entered, sent_after, goes_to}
+use Rattle.sends.specs.Vats.{Vat, ended, settled, all_settled, reference_in, references, references_in, leaving, comes_in, entered, sent_after, goes_to}
 
 -- ---- what is made, or why not
 
@@ -74,8 +75,8 @@ waiting room result v = and_then (ended v) (λ w. with_room room (and_then (come
 -- ---- a promise and its resolver
 
 -- the resolver is counted first; then the promise comes in, and the resolver is made
-abbrev pub promising : Bool → PromId → ObjId → Vat (Making Nothing)
-promising room p o = with_room room (and_then (comes_in p) (λ n. writes (object_cell o) (made (resolver p)) (over (makes nothing))))
+abbrev pub promising : Bool → PromId → ObjId → Vat (Making ObjId)
+promising room p o = with_room room (and_then (comes_in p) (λ n. writes (object_cell o) (made (resolver p)) (over (makes o))))
 
 -- ---- what is published
 

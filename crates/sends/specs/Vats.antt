@@ -9,7 +9,8 @@ use Rattle.ids.specs.declared.names.PromId.{PromId}
 use Rattle.ids.specs.declared.reference.Reference.{Reference}
 use Rattle.ids.specs.declared.reference.Reference.TheVariants as reference
 use Rattle.cells.specs.Doing.{Doing, over, reads, writes, and_then}
-use Rattle.eorder.specs.Fences.{joined}
+use Rattle.eorder.specs.Fences.{joined, names_in}
+use Rattle.eorder.specs.Carried.{Carried, fence_with, with_fence}
 use Rattle.values.specs.Data.{Val, list, object, ejector, promise, Vals, no_vals, and_val}
 use Rattle.values.specs.Limits.{weight}
 use Rattle.values.specs.Replies.{items_in}
@@ -140,10 +141,6 @@ each_once found (r ∷ rs) = each_once (and_reference found r) rs
 
 -- ---- fences
 
--- references, each once, with the names of their fences; a reference whose fence is empty is left out
-abbrev pub Carried : Type 0
-Carried = List (Reference × List MsgId)
-
 -- the names in the cell of a fence: none where the cell is absent
 abbrev pub names_of : Option Content → List MsgId
 names_of (Some (fenced names)) = names
@@ -153,24 +150,18 @@ names_of _ = []
 abbrev pub fence_of : Reference → Vat (List MsgId)
 fence_of r = reads (fence_cell r) (λ x. over (names_of x))
 
--- a reference with its fence, and those behind it
-abbrev pub and_carried : Reference → List MsgId → Carried → Carried
-and_carried r [] c = c
-and_carried r (m ∷ f) c = (r, m ∷ f) ∷ c
+-- references with the fences that they have at this moment, behind those that were carried already
+abbrev pub carried : Carried → List Reference → Vat Carried
+carried c [] = over c
+carried c (r ∷ rs) = and_then (fence_of r) (λ f. carried (with_fence c r f) rs)
 
--- references with the fences that they have at this moment
-abbrev pub carried : List Reference → Vat Carried
-carried [] = over []
-carried (r ∷ rs) = and_then (fence_of r) (λ f. and_then (carried rs) (λ c. over (and_carried r f c)))
-
--- references in settled values leave with their fences
+-- references in settled values leave with their fences, each once
 abbrev pub leaving : List Reference → Vat Carried
-leaving rs = carried (each_once [] rs)
+leaving rs = carried [] (each_once [] rs)
 
 -- the names with which a reference was carried: none where it was left out
 abbrev pub names_for : Carried → Reference → List MsgId
-names_for [] r = []
-names_for (c ∷ cs) r = cond (same_reference c.0 r) c.1 (names_for cs r)
+names_for c r = names_in (fence_with c r)
 
 -- names are added to a fence; where there is no name, or no reference, nothing is touched
 abbrev pub fence_joined : Option Reference → List MsgId → Vat Nothing
@@ -206,9 +197,13 @@ abbrev pub received : Carried → List Reference → Vat Nothing
 received c [] = over nothing
 received c (r ∷ rs) = and_then (end_joined (value_of r) (names_for c r)) (λ t. received c rs)
 
--- the references in a value come in with fences: first all promises, then the fences
+-- references come in with fences: first all promises, then the fences
+abbrev pub arrived : Carried → List Reference → Vat Nothing
+arrived c rs = and_then (all_brought rs) (λ n. received c rs)
+
+-- the references in a value come in with fences, each once
 abbrev pub coming_in : Carried → List Reference → Vat Nothing
-coming_in c rs = and_then (all_brought rs) (λ n. received c rs)
+coming_in c rs = arrived c (each_once [] rs)
 
 -- ---- what is entered
 

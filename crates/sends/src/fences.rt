@@ -1,7 +1,7 @@
 // Fences under a turn.
 ghost use Rattle.std.specs.Prelude.{◌≡◌, IfOk, OnOk, Some};
 ghost use Rattle.values.specs.View.{val_of};
-ghost use Rattle.sends.specs.Vats.{nothing, reference_in, fence_of as the_fence_of, fence_joined, end_joined, sent_after};
+ghost use Rattle.sends.specs.Vats.{nothing, reference_in, value_of as the_value_of, fence_of as the_fence_of, fence_joined, end_joined, sent_after};
 ghost use Rattle.sends.specs.Playing.{Did, IsSameTurn};
 
 use crate::ends::end_of;
@@ -22,6 +22,17 @@ pub fn reference_of(value: &Value) -> Option<Reference>
         Value::Object(object) => Some(Reference::Object(*object)),
         Value::Ejector(ejector) => Some(Reference::Ejector(*ejector)),
         Value::Promise(promise) => Some(Reference::Promise(*promise)),
+    }
+}
+
+/// A reference as a value.
+pub fn value_of(reference: Reference) -> Value
+    ensures { val_of result ≡ the_value_of reference }
+{
+    match reference {
+        Reference::Object(object) => Value::Object(object),
+        Reference::Ejector(ejector) => Value::Ejector(ejector),
+        Reference::Promise(promise) => Value::Promise(promise),
     }
 }
 

@@ -8,8 +8,9 @@ ghost use Rattle.sends.specs.View.{published_of, making_of};
 
 use crate::entering::enter_if_come;
 use crate::ends::{end_of, settle};
-use crate::leaving::{Carried, leave};
+use crate::leaving::leave;
 use crate::refusing::{Making, Refusal, refuse};
+use eorder::carried::Carried;
 use heap::draft::Draft;
 use heap::state::View;
 use ids::names::PromId;
@@ -22,7 +23,7 @@ use values::value::{Answer, Value};
 #[derive(Drop)]
 pub struct Published {
     pub value: Value,
-    pub fences: Vec<Carried>,
+    pub fences: Carried,
     pub joined: Option<Reference>,
 }
 

@@ -2,16 +2,17 @@
 ghost use Rattle.std.specs.Prelude.{◌≡◌, ◌+◌, ◌<◌, true, IfOk, option_map};
 ghost use Rattle.heap.specs.Drafts.{began_with, counts_of};
 ghost use Rattle.values.specs.View.{val_of, vals_of};
-ghost use Rattle.sends.specs.Vats.{nothing, all_settled, goes_to};
+ghost use Rattle.sends.specs.Vats.{all_settled, goes_to};
 ghost use Rattle.sends.specs.Making.{makes, condition, waiting, promising, send_placed, sending};
 ghost use Rattle.sends.specs.Playing.{Did, IsSameTurn, next_object};
-ghost use Rattle.sends.specs.View.{sent_of, making_of};
+ghost use Rattle.sends.specs.View.{sent_of, making_of, and_resolver};
 
 use crate::coming::come_in;
 use crate::ends::{end_of, settle};
 use crate::fences::{reference_of, send_on};
-use crate::leaving::{Carried, leave_all};
+use crate::leaving::leave_all;
 use crate::refusing::{Making, Refusal, refuse};
+use eorder::carried::Carried;
 use eorder::fence::Fence;
 use heap::draft::Draft;
 use heap::made::Made;
@@ -36,7 +37,7 @@ pub struct Draw {
 pub struct Sent {
     pub target: Value,
     pub arguments: Vec<Value>,
-    pub fences: Vec<Carried>,
+    pub fences: Carried,
     pub after: Fence,
     pub result: PromId,
 }
@@ -160,7 +161,8 @@ pub fn promise(
     promise: PromId,
 ) -> Result<Making<ObjId>, AllocError>
     requires { room ≡ true → (counts_of draft.old).objects < 4294967295 }
-    ensures did { IfOk result (λ m. Did (promising room promise (next_object draft.old)) draft.old (making_of (λ o. nothing) m) draft.new) }
+    ensures did { IfOk result (λ m. Did (promising room promise (next_object draft.old)) draft.old (making_of (λ o. o) m) draft.new) }
+    ensures counts { IfOk result (λ m. counts_of draft.new ≡ and_resolver m (counts_of draft.old)) }
     ensures began { began_with draft.new ≡ began_with draft.old }
 {
     if !room {
