@@ -1,10 +1,5 @@
-<<<<<<< HEAD
 -- The events: when each is possible, which cells it touches, and what it does to the world.
 use Rattle.std.specs.Prelude.{◌≡◌, ℕ, Bool, true, false, ◌&&◌, not, cond, List, [], ◌∷◌, ◌++◌, map, Option, Some, None}
-=======
--- The events: what each touches, and what it does to the world.
-use Rattle.std.specs.Prelude.{◌≡◌, ℕ, Bool, true, false, ◌&&◌, not, List, [], ◌∷◌, ◌++◌, map, Option, Some, None, option_map}
->>>>>>> 7510e192fa90e27d14d23a9baebfdf4f90c07c1a
 use Rattle.std.specs.List.{list_any, AllByRecursion}
 use Rattle.history.specs.Subject.{Footprint, Subject}
 use Rattle.ids.specs.declared.names.EventName.{EventName}
@@ -18,7 +13,6 @@ use Rattle.kernele.specs.Tree.{Name, Trees}
 use Rattle.scopes.specs.Scope.{own_names_in}
 use Rattle.values.specs.Data.{Val, object, ejector, promise}
 use Rattle.heap.specs.State as heap
-<<<<<<< HEAD
 use Rattle.heap.specs.State.{Cell, Cells, same_cell, no_cells, view_cell, pending, State}
 use Rattle.post.specs.Delivery.{Call, opening, asked, sent}
 use Rattle.post.specs.Messages.{Vat, at_vat, flying, done, waits_at, arrived, Message, Published}
@@ -31,21 +25,6 @@ use Rattle.event.specs.Ready.{leads_there, first_undone}
 use Rattle.deliveries.specs.Touched.{delivery_touched, delivery_written}
 use Rattle.deliveries.specs.Turn.{Found, Told, told, lost, Outcome, Delivers}
 use Rattle.event.specs.Walks.{board_walk, looked_up, awaited, found_by}
-=======
-use Rattle.heap.specs.State.{pending, viewed, Cell, view_cell, Cells, no_cells, same_cell}
-use Rattle.sends.specs.Vats.{Vat as Done_to_vat, references, entered, coming_in}
-use Rattle.sends.specs.Making.{Nothing}
-use Rattle.erules.specs.Outcomes.{End, value, halt, thrown, ejected, abandoned}
-use Rattle.post.specs.declared.earlier.Earlier.{Earlier}
-use Rattle.post.specs.Delivery.{Delivery, opening, asked}
-use Rattle.post.specs.Messages.{Vat, flying, at_vat, done, Message, Published, arrived, forwarded, done_in}
-use Rattle.worldcells.specs.Events.{birth, ask, arrive, forward, learn, turn, Event}
-use Rattle.worldcells.specs.Theory.{subject}
-use Rattle.worldcells.specs.World.{Content, vat, message, published, content_of, World, vat_named, message_of, published_as, cell_key, vat_state}
-use Rattle.event.specs.Walks.{through, boards}
-use Rattle.event.specs.Ready.{may_begin, awaited, onward}
-use Rattle.event.specs.Turn.{Task, task_of, Outcome, Delivers}
->>>>>>> 7510e192fa90e27d14d23a9baebfdf4f90c07c1a
 
 -- what an event makes first
 abbrev pub first_message : EventName → MsgId
@@ -57,7 +36,6 @@ first_promise e v = record { event = e; index = 0; home = v }
 abbrev pub Foot : Type 0
 Foot = Footprint CellKey Content
 
-<<<<<<< HEAD
 -- ---- births and questions
 
 -- these are the vats of these names
@@ -83,99 +61,18 @@ birth_foot e x earlier vats script = record {
 }
 
 -- the message of an asked program: it comes after the vat's opening
-=======
--- ---- a birth
-
--- an earlier vat by its name, and the result of its opening
-abbrev pub earlier_as : Name → Vat → Earlier
-earlier_as x v = record { name = x; opening = first_promise v.number.0 v.number }
-
-abbrev pub and_earlier : Option Earlier → Option (List Earlier) → Option (List Earlier)
-and_earlier (Some y) (Some ys) = Some (y ∷ ys)
-and_earlier _ _ = None
-
--- the earlier vats of these names, if all are there
-abbrev pub known : World → List Name → Option (List Earlier)
-known w [] = Some []
-known w (x ∷ xs) = and_earlier (option_map (earlier_as x) (vat_named w x)) (known w xs)
-
--- the opening message of a vat: it comes after nothing
-abbrev pub opening_message : EventName → List Earlier → Trees → Message
-opening_message e ys script = record { delivery = opening ys script; result = first_promise e (record { 0 = e }); after = []; place = at_vat (record { 0 = e }) }
-
--- a birth: the names of the earlier vats; the vat's name, and its opening message
-abbrev pub birth_foot : EventName → Name → List Name → List Earlier → Trees → Foot
-birth_foot e x xs ys script = record {
-  reads = map key.Name xs;
-  writes = (key.Name x, vat (record { number = record { 0 = e }; earlier = xs; tops = own_names_in script })) ∷ (key.Msg (first_message e), message (opening_message e ys script)) ∷ [];
-}
-
--- ---- an asked program
-
--- its message: it waits for the vat's opening
->>>>>>> 7510e192fa90e27d14d23a9baebfdf4f90c07c1a
 abbrev pub asked_message : EventName → VatNo → Trees → Message
 asked_message e v program = record { delivery = asked program; result = first_promise e v; after = first_message v.0 ∷ []; place = at_vat v }
 
+-- an asked program: its message
 abbrev pub ask_foot : EventName → Name → VatNo → Trees → Foot
 ask_foot e x v program = record { reads = key.Name x ∷ []; writes = (key.Msg (first_message e), message (asked_message e v program)) ∷ [] }
 
-<<<<<<< HEAD
 -- ---- messages on their way
 
 -- a message is elsewhere
 abbrev pub moved_foot : List CellKey → MsgId → Message → Foot
 moved_foot reads m g = record { reads = reads; writes = (key.Msg m, message g) ∷ [] }
-=======
--- ---- a message moves
-
-abbrev pub arrive_foot : MsgId → Message → Foot
-arrive_foot m g = record { reads = []; writes = (key.Msg m, message g) ∷ [] }
-
--- what is forwarded goes by what stands on the board along its walk
-abbrev pub forward_foot : World → MsgId → Message → Message → Foot
-forward_foot w m g next = record { reads = boards (through w g.delivery); writes = (key.Msg m, message next) ∷ [] }
-
--- ---- what is done to the cells of a vat
-
--- these are just the cells of a set
-abbrev pub Lists : List Cell → Cells → Type 0
-Lists cs q = (c : Cell) → list_any (same_cell c) cs ≡ q c
-
--- cells of a vat that were touched, and what is left in those that were written
-pub record Leaves (state : heap.State) (touched written : Cells) (cells : List Cell) (left : List (Cell × heap.Content)) : Type 0 where
-  pub reached : Lists cells touched
-  pub put : Lists (map (λ p. p.0) left) written
-  pub contents : AllByRecursion (λ p. state p.0 ≡ Some p.1) left
-
--- the same as cells of the world
-abbrev pub vat_reads : VatNo → List Cell → List CellKey
-vat_reads v cells = map (cell_key v) cells
-
-abbrev pub vat_writes : VatNo → List (Cell × heap.Content) → List (CellKey × Content)
-vat_writes v left = map (λ p. (cell_key v p.0, content_of p.1)) left
-
--- ---- what a vat learns
-
--- a promise is entered as what it was published as, then the references in that come in with the fences that were published with it
-abbrev pub learning : PromId → Published → Done_to_vat Nothing
-learning p b = and_then (entered p b.value) (λ t. coming_in b.fences (references b.value))
-
--- the cells of the vat behind that
-abbrev pub learnt : World → VatNo → PromId → Published → Under Cell heap.Content
-learnt w v p b = (play same_cell (learning p b) (record { state = vat_state w v; touched = no_cells; written = no_cells })).1
-
--- what a vat learns stands on the board
-abbrev pub learn_foot : VatNo → PromId → List Cell → List (Cell × heap.Content) → Foot
-learn_foot v p cells left = record { reads = key.Board p ∷ vat_reads v cells; writes = vat_writes v left }
-
--- ---- a turn
-
--- these messages are done
-abbrev pub InOrder : World → List MsgId → Type 0
-InOrder w [] = Unit {0}
-InOrder w (m ∷ ms) = (done_in (message_of w m) ≡ true) × InOrder w ms
->>>>>>> 7510e192fa90e27d14d23a9baebfdf4f90c07c1a
 
 -- another vat than this one
 abbrev pub elsewhere : VatNo → VatNo → Option VatNo
@@ -190,7 +87,6 @@ goes_on here _ = None
 
 -- ---- cells of a vat
 
-<<<<<<< HEAD
 -- these are just the cells of a set
 abbrev pub Lists : List Cell → Cells → Type 0
 Lists cs q = (c : Cell) → list_any (same_cell c) cs ≡ q c
@@ -233,8 +129,6 @@ is_lost (lost why) = true
 abbrev pub DeliversOn : Message → Found → EventName → VatNo → State → ℕ → Outcome → Cells → Cells → Type 0
 DeliversOn g f e v s n o touched written = (r : Delivers g f e v s n o) × (delivery_touched r ≡ touched) × (delivery_written r ≡ written)
 
-=======
->>>>>>> 7510e192fa90e27d14d23a9baebfdf4f90c07c1a
 -- a turn: the message that is delivered, the vat that runs it, the outcome, the vat's cells that it touched, and those that it wrote
 pub record Turn : Type 0 where
   pub message : Message
@@ -247,7 +141,6 @@ pub record Turn : Type 0 where
 pub record Turns (e : EventName) (w : World) (m : MsgId) (budget : ℕ) (t : Turn) : Type 0 where
   pub waiting : w (key.Msg m) ≡ Some (message t.message)
   pub there : t.message.place ≡ at_vat t.vat
-<<<<<<< HEAD
   pub leads : leads_there w t.vat t.message ≡ true
   pub in_order : first_undone w (awaited w t.message) ≡ None
   pub delivers : DeliversOn t.message (found_by w t.message.delivery) e t.vat (vat_state w t.vat) budget t.outcome t.touched t.written
@@ -284,44 +177,6 @@ pub data Does : Event → World → Foot → Type 0 where
       → Does (record { name = e; act = forward m }) w (moved_foot (map key.Board (board_walk w c.target).through) m (record g { place = flying u }))
   learns : {e : EventName} {w : World} {v : VatNo} {p : PromId} {b : Published} {cells : List Cell} {left : List (Cell × heap.Content)} → vat_state w v (view_cell p) ≡ Some (heap.viewed pending) → published_as w p ≡ Some b
       → Leaves (learnt w v p b).touched (learnt w v p b).written (learnt w v p b).state cells left
-=======
-  pub can_begin : may_begin w t.vat t.message.delivery ≡ true
-  pub in_order : InOrder w (awaited w t.message)
-  pub delivers : Delivers (task_of w t.message.delivery) t.message.result e t.vat (vat_state w t.vat) budget t.outcome t.touched t.written
-
--- cells of the vat that a turn touched, and what it left in those that it wrote, unless it was abandoned
-abbrev pub TurnLeaves : Turn → List Cell → List (Cell × heap.Content) → Type 0
-TurnLeaves t = Leaves t.outcome.state t.touched (λ c. not (is_abandoned t.outcome.end) && t.written c)
-
--- its message is done; messages are sent, and promises published
-abbrev pub turn_writes : EventName → MsgId → Message → Outcome → List (CellKey × Content)
-turn_writes e m g o = (key.Msg m, message (record g { place = done e })) ∷ map (λ p. (key.Msg p.0, message p.1)) o.letters ++ map (λ p. (key.Board p.0, published p.1)) o.publications
-
--- a turn: what stands on the board along the walk, the awaited messages, and the cells of the vat
-abbrev pub turn_reads : World → Turn → List Cell → List CellKey
-turn_reads w t cells = boards (through w t.message.delivery) ++ map key.Msg (awaited w t.message) ++ vat_reads t.vat cells
-
-abbrev pub turn_foot : EventName → World → MsgId → Turn → List Cell → List (Cell × heap.Content) → Foot
-turn_foot e w m t cells left = record {
-  reads = turn_reads w t cells;
-  writes = vat_writes t.vat left ++ turn_writes e m t.message t.outcome;
-}
-
--- ---- what is possible
-
--- an event is possible in a world, and has this footprint there; a turn of a message is possible only at the vat where the message is
-pub data Does : Event → World → Foot → Type 0 where
-  births : {e : EventName} {w : World} {x : Name} {xs : List Name} {ys : List Earlier} {script : Trees} → w (key.Name x) ≡ None → known w xs ≡ Some ys
-      → Does (record { name = e; act = birth x xs script }) w (birth_foot e x xs ys script)
-  asks : {e : EventName} {w : World} {x : Name} {program : Trees} {v : Vat} → vat_named w x ≡ Some v
-      → Does (record { name = e; act = ask x program }) w (ask_foot e x v.number program)
-  arrives : {e : EventName} {w : World} {m : MsgId} {g next : Message} → w (key.Msg m) ≡ Some (message g) → arrived g ≡ Some next
-      → Does (record { name = e; act = arrive m }) w (arrive_foot m next)
-  forwards : {e : EventName} {w : World} {m : MsgId} {v u : VatNo} {g next : Message} → w (key.Msg m) ≡ Some (message g) → g.place ≡ at_vat v → onward w v g.delivery ≡ Some u → forwarded u g ≡ Some next
-      → Does (record { name = e; act = forward m }) w (forward_foot w m g next)
-  learns : {e : EventName} {w : World} {v : VatNo} {p : PromId} {b : Published} {cells : List Cell} {left : List (Cell × heap.Content)} → vat_state w v (view_cell p) ≡ Some (viewed pending) → w (key.Board p) ≡ Some (published b)
-      → Leaves (learnt w v p b).state (learnt w v p b).touched (learnt w v p b).written cells left
->>>>>>> 7510e192fa90e27d14d23a9baebfdf4f90c07c1a
       → Does (record { name = e; act = learn v p }) w (learn_foot v p cells left)
   turns : {e : EventName} {w : World} {m : MsgId} {budget : ℕ} {t : Turn} {cells : List Cell} {left : List (Cell × heap.Content)} → Turns e w m budget t → TurnLeaves t cells left
       → Does (record { name = e; act = turn t.vat m budget }) w (turn_foot e w m t cells left)

@@ -35,15 +35,9 @@ pub enum Unready {
     NoMessage,
     /// It is not at a vat.
     NotThere,
-<<<<<<< HEAD
     /// Its target does not lead to the vat where it is, or the value of its `when` is not known.
     NotReady,
     /// This message must be done first: the least of those that are awaited.
-=======
-    /// Its target leads to another vat or nowhere yet, or nothing more is known of what it waits for.
-    NotReady,
-    /// This message must be done first.
->>>>>>> 7510e192fa90e27d14d23a9baebfdf4f90c07c1a
     Before(MsgId),
 }
 
