@@ -3,6 +3,7 @@ pub mod Answering
 pub mod Captures
 pub mod Counted
 pub mod Determined
+pub mod Doings
 pub mod Ejections
 pub mod Ejectors
 pub mod Fitting

@@ -16,9 +16,9 @@ use Rattle.refs.specs.declared.kinds.Kind.{Kind}
 use Rattle.refs.specs.declared.kinds.Kind.TheVariants as kind
 use Rattle.post.specs.Delivery.{Delivery, sent, waiting, When}
 use Rattle.post.specs.Messages.{Place, flying, at_vat, Message, Published}
-use Rattle.sends.specs.Vats.{Vat, ended, settled, goes_to}
-use Rattle.sends.specs.Making.{Refusal, problem, turn_too_large, Making, refused, makes, of_settled, Nothing, Sent, sending, waiting as waits, promising, Published as Resolved}
-use Rattle.erules.specs.Outbox.{sent_note, waits_note, resolved_note, Outbox}
+use Rattle.sends.specs.Vats.{Vat, Nothing, ended, settled, goes_to}
+use Rattle.sends.specs.Making.{Refusal, problem, turn_too_large, Making, refused, makes, of_settled, Sent, sending, waiting as waits, promising, Published as Resolved}
+use Rattle.erules.specs.Outbox.{Note, sent_note, waits_note, resolved_note, Outbox}
 use Rattle.erules.specs.At.{At}
 use Rattle.erules.specs.Outcomes.{too_large, thrown, abandoned, End, value, halt, Gather, values, halted, reply_end}
 

@@ -1,6 +1,6 @@
 -- What a turn makes beside what it does to its vat's cells: messages, what it publishes, and notes for the log, each list in the order of
 -- making.
-use Rattle.std.specs.Prelude.{ℕ, List}
+use Rattle.std.specs.Prelude.{ℕ, List, []}
 use Rattle.ids.specs.declared.names.MsgId.{MsgId}
 use Rattle.ids.specs.declared.names.PromId.{PromId}
 use Rattle.kernele.specs.Tree.{Name}
