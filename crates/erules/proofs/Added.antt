@@ -19,7 +19,7 @@ use Rattle.erules.proofs.Seeking.{Reads, seeking_reads, noun_reads, captures_rea
 use Rattle.erules.specs.Rules.{begun, Listing, listed, unlisted, listing_by, listing_of, taken, parts_of, parts_bound, parts_end, mismatch, as_many, again, bound_in, matched, matched_all, next_slot, has_room, slot_made, variable_made, variable_end, assigned, assigned_end, Capture, captured, missing, capture_of, object_made, placed, placed_end, with_object, object_end, leaving, escaped, sought_slot}
 use Rattle.erules.specs.Rules.{Target, gives, enters, callee_of, callee_target, target_of, list_end, Choice, goes, ends, bool_in, choice_by, choice_of, thrown_by, thrown_end, next_ejector, escape_end}
 use Rattle.erules.specs.Rules.{Ends, at_budget, at_depth, at_node, Runs, run_null, run_bool, run_int, run_text, run_noun, run_define, run_variable, run_assign, run_call_receiver, run_call_gives, run_call_enters, run_call_uses, run_send_receiver, run_send, run_list, run_same_left, run_same, run_define_list, run_hide, run_throw, run_if_goes, run_if_ends, run_while_again, run_while_halts, run_while_done, run_while_ends, run_for, run_for_ends, run_try, run_try_caught, run_object, run_escape, run_when, run_when_catch, run_new_promise, run_break_ref, run_state_ref, Needs, needs, Args, args_none, args_next, args_halt, Block, in_block, Taking, in_taking, Each, each_none, each_next, each_halt}
-use Rattle.erules.specs.Doings.{next_object, has_object_room, same_end, same_read, sent_end, sent_at, datum_of, datum_read, state_end, given_by, behind, resolver_end, resolver_out, promise_pair, pair_end, pair_out}
+use Rattle.erules.specs.Doings.{next_object, has_object_room, same_end, same_read, sent_end, sent_at, datum_of, datum_read, state_end, given_by, resolver_end, resolver_out, promise_pair, pair_end, pair_out, behind as left_by}
 use Rattle.erules.proofs.Doings.{Works, datum_works, called_works, sent_works, when_works, pair_works, used_works, same_works}
 use Rattle.post.specs.Delivery.{Handler}
 use Rattle.sends.specs.Vats.{ended}
@@ -263,7 +263,7 @@ mutual
   runs_add (run_call_enters {r = r} {verb = verb} {args = ts} {a = a} {b = b} {c = c} {d = d} {v = v} {g = g} {o = o} p u e q) =
       end_adds o (own_names r ++ own_names_in ts) a (leaving c d) (subst (λ t. TargetAdds t (own_names r ++ own_names_in ts) a c) e (call_adds v verb g (own_names r) (own_names_in ts) a b c (ends_add p) (args_add u)))
   runs_add (run_call_uses {r = r} {verb = verb} {args = ts} {a = a} {b = b} {c = c} {v = v} {g = g} {p = to} {d = d} p u e) =
-      let z = resolver_out to (given_by d (called v verb g c)) (behind d (called v verb g c)) in
+      let z = resolver_out to (given_by d (called v verb g c)) (left_by d (called v verb g c)) in
       let h : Adds (own_names r ++ own_names_in ts) a c = subst (λ t. TargetAdds t (own_names r ++ own_names_in ts) a c) e (call_adds v verb g (own_names r) (own_names_in ts) a b c (ends_add p) (args_add u)) in
       end_adds (resolver_end (given_by d (called v verb g c))) (own_names r ++ own_names_in ts) a z (worked_adds (own_names r ++ own_names_in ts) a c z h (used_works v verb g to d c))
   runs_add (run_send_receiver r) = tt
@@ -298,7 +298,7 @@ mutual
   runs_add (run_when {e = e} {body = body} {a = a} {b = b} {o = o} r) = when_adds body None o (own_names e) a b (ends_add r)
   runs_add (run_when_catch {e = e} {body = body} {p = p} {handler = handler} {a = a} {b = b} {o = o} r) = when_adds body (Some (record { pattern = p; block = handler })) o (own_names e) a b (ends_add r)
   runs_add (run_new_promise {a = a}) =
-      let z = pair_out (given_by (promise_pair a) a) (behind (promise_pair a) a) in
+      let z = pair_out (given_by (promise_pair a) a) (left_by (promise_pair a) a) in
       stays (pair_end (given_by (promise_pair a) a) a) a z (ap (λ b. b.nouns) (pair_works a)) (ap (λ b. b.own_scope) (pair_works a))
   runs_add (run_break_ref {e = e} {a = a} {b = b} {o = o} r) = broken_adds o (own_names e) a b (needs_add r)
   runs_add (run_state_ref {e = e} {a = a} {b = b} {o = o} r) = state_adds a.vat o (own_names e) a b (needs_add r)

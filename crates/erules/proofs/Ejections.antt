@@ -12,7 +12,7 @@ use Rattle.values.specs.Replies.{list_reply, text_reply, text_in, items_in, no_m
 use Rattle.heap.specs.State.{Bind, fixed, slot, Plain, slot_cell, object_cell, Content, bound, held, made, viewed, fenced, State, read, plain, resolver}
 use Rattle.erules.specs.At.{At}
 use Rattle.erules.specs.Outcomes.{thrown, ejected, abandoned, End, value, halt, Gather, values, halted, reply_end}
-use Rattle.erules.specs.Rules.{sought, sought_slot, held_end, noun_end, mismatch, Listing, listed, unlisted, listing_by, listing_of, taken, parts_of, parts_end, has_room, variable_end, declared_end, assigned_end, gather_first, uses, receiver, receiver_read, resolver_target, on_far, when_end, when_capture, when_capturing, waited_end, broken_by, broken_end}
+use Rattle.erules.specs.Rules.{sought, sought_slot, held_end, noun_end, mismatch, Listing, listed, unlisted, listing_by, listing_of, taken, parts_of, parts_end, has_room, variable_end, declared_end, assigned_end, gather_first, uses, receiver, receiver_read, resolver_target, on_far, when_end, when_capture, when_capturing, waited_end, broken_by, broken_end, called}
 use Rattle.erules.specs.Rules.{Capture, captured, missing, capture_of, placed_end, object_end, Target, gives, enters, method_in, no_such_method, method_target, object_target, same_ejector, is_open, ejects, given, ejection, Callee, on_object, on_ejector, on_datum, callee_of, callee_target, target_of, next_ejector, escape_end}
 use Rattle.erules.specs.Rules.{list_end, Choice, goes, ends, bool_in, choice_by, choice_of, thrown_by, thrown_end, entering, Ends, at_budget, at_depth, at_node, Runs, run_null, run_bool, run_int, run_text, run_noun, run_define, run_variable, run_assign, run_call_receiver, run_call_gives, run_call_enters, run_call_uses, run_send_receiver, run_send, run_list, run_same_left, run_same, run_define_list, run_hide, run_throw, run_if_goes, run_if_ends, run_while_again, run_while_halts, run_while_done, run_while_ends, run_for, run_for_ends, run_try, run_try_caught, run_object, run_escape, run_when, run_when_catch, run_new_promise, run_break_ref, run_state_ref, Needs, needs, Args, args_none, args_next, args_halt, Items, items_none, items_next, items_halt, Block, in_block, Taking, in_taking, Each, each_none, each_next, each_halt}
 use Rattle.erules.proofs.Opened.{ends_opened, args_opened, block_opened, taking_opened, matched_opened, needs_opened}
