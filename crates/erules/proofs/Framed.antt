@@ -2,7 +2,7 @@
 use Rattle.std.proofs.Common.{◌≡◌, ℕ, ◌+◌, List, [], ◌∷◌, Option, Some, None, Bool, true, false, cond, refl, sym, ap, ◌∙◌, subst}
 use Rattle.std.proofs.lemmas.Bool.{or_left}
 use Rattle.ids.specs.declared.names.SlotId.{SlotId}
-use Rattle.kernele.specs.Tree.{Name, Tree, Trees, noun, assign, object_tree, Methods, new_promise}
+use Rattle.kernele.specs.Tree.{Name, Tree, Trees, noun, assign, object_tree, Methods, new_promise, same_tree, define_list, send}
 use Rattle.scopes.specs.Free.{captures}
 use Rattle.kernele.specs.declared.tree.Pattern.{Pattern}
 use Rattle.kernele.specs.declared.tree.Pattern.TheVariants as pattern
@@ -169,9 +169,13 @@ module _ (w : State) where
 
   -- ---- the rules
 
-  -- what is made of a right side's end
+  -- what is made of where parts led: the rule runs there too
+  going_on : {k : ℕ} {t : Tree} (a : At) {b : At} {p : End} {u v : State} (f : At → At) → ((c : Cell) → u c ≡ a.state c → v c ≡ b.state c) → Follows f b v → Runs k t (there u a) p (f (there v b)) → RunsFrame k t a p (f b) u
+  going_on a f kept g run = record { after = g.after; run = runs_to run refl (sym g.place); kept = λ c h. g.kept c (kept c h) }
+
+  -- of a right side's end
   tail : {k : ℕ} {t e : Tree} (a : At) {b : At} {o p : End} {u : State} (f : At → At) (r : EndsFrame (k + 1) e a o b u) → Follows f b r.after → Runs k t (there u a) p (f (there r.after b)) → RunsFrame k t a p (f b) u
-  tail a f r g run = record { after = g.after; run = runs_to run refl (sym g.place); kept = λ c h. g.kept c (r.kept c h) }
+  tail a f r g run = going_on a f r.kept g run
 
   slot_read_follows : (i : Option SlotId) (a : At) (u : State) → Follows (slot_read i) a u
   slot_read_follows (Some i) a u = record { after = u; place = refl; kept = λ c h. h }
@@ -427,9 +431,45 @@ module _ (w : State) where
   same_alike v (value x) a u h = ap same_forms (does_alike (both_settled v x) a u h).result
   same_alike v (halt j) a u h = refl
 
-  -- the same where a datum is wanted, as it is known otherwise
-  needs_to : {k : ℕ} {t : Tree} {a b c : At} {o p : End} → Needs k t a p b → o ≡ p → c ≡ b → Needs k t a o c
-  needs_to {k = k} {t = t} {a = a} {c = c} {p = p} r e f = subst (λ o. Needs k t a o c) (sym e) (subst (λ d. Needs k t a p d) (sym f) r)
+  same_case : (k : ℕ) (l r : Tree) (v : Val) (o : End) (a c : At) (u g : State) → ((x : Cell) → u x ≡ a.state x → g x ≡ c.state x) → AgreeOn (same_read v o c).touched g c.state
+      → Runs k (same_tree l r) (there u a) (same_end v o (there g c)) (same_read v o (there g c)) → RunsFrame k (same_tree l r) a (same_end v o c) (same_read v o c) u
+  same_case k l r v o a c u g kept n run = going_on a (same_read v o) kept (same_follows v o c g n) (runs_as run (sym (same_alike v o c g n)))
+
+  -- what is made of other parts
+  sent_case : (k : ℕ) (r : Tree) (verb : Name) (args : Trees) (v : Val) (g : Gather) (a c : At) (u z : State) → ((x : Cell) → u x ≡ a.state x → z x ≡ c.state x) → AgreeOn (sent_at verb v g c).touched z c.state
+      → Runs k (send r verb args) (there u a) (sent_end v g (there z c)) (sent_at verb v g (there z c)) → RunsFrame k (send r verb args) a (sent_end v g c) (sent_at verb v g c) u
+  sent_case k r verb args v g a c u z kept n run = going_on a (sent_at verb v g) kept (sent_follows verb v g c z n) (runs_as run (sym (sent_alike verb v g c z n)))
+
+  when_case : {k : ℕ} {t : Tree} (body : Trees) (handler : Option Handler) (o : End) (a b : At) (u z : State) → ((x : Cell) → u x ≡ a.state x → z x ≡ b.state x) → AgreeOn (when_made body handler o b).touched z b.state
+      → Runs k t (there u a) (when_end body handler o (there z b)) (when_made body handler o (there z b)) → RunsFrame k t a (when_end body handler o b) (when_made body handler o b) u
+  when_case body handler o a b u z kept n run = going_on a (when_made body handler o) kept (when_follows body handler o b z n) (runs_as run (sym (when_alike body handler o b z n)))
+
+  -- a resolver is used where the call led to
+  used_case : {k : ℕ} {t : Tree} (p : PromId) (d : Vat (Making Published)) (a b c : At) (u z : State) → ((x : Cell) → u x ≡ a.state x → z x ≡ b.state x) → AgreeOn (behind d b).touched z b.state
+      → c ≡ there z b → Runs k t (there u a) (resolver_end (given_by d c)) (resolver_out p (given_by d c) (behind d c)) → RunsFrame k t a (resolver_end (given_by d b)) (resolver_out p (given_by d b) (behind d b)) u
+  used_case {k = k} {t = t} p d a b c u z kept n place run =
+      let here : Runs k t (there u a) (resolver_end (given_by d (there z b))) (resolver_out p (given_by d (there z b)) (behind d (there z b))) =
+      subst (λ x. Runs k t (there u a) (resolver_end (given_by d x)) (resolver_out p (given_by d x) (behind d x))) place run in
+      going_on a (λ x. resolver_out p (given_by d x) (behind d x)) kept (resolver_follows p d b z n) (runs_as here (sym (ap resolver_end (does_alike d b z n).result)))
+
+  -- a list is bound as it leads here
+  list_case : (k : ℕ) (ps : List Pattern) (e : Tree) (o : End) (a b : At) (u z : State) → ((x : Cell) → u x ≡ a.state x → z x ≡ b.state x) → AgreeOn (datum_read o b).touched z b.state
+      → Runs k (define_list ps e) (there u a) (parts_end o (parts_of ps (datum_of o (there z b)))) (parts_bound ps (parts_of ps (datum_of o (there z b))) (datum_read o (there z b)))
+      → RunsFrame k (define_list ps e) a (parts_end o (parts_of ps (datum_of o b))) (parts_bound ps (parts_of ps (datum_of o b)) (datum_read o b)) u
+  list_case k ps e o a b u z kept n run =
+      let x : End = datum_of o b in
+      let y : Follows (datum_read o) b z = datum_follows o b z n in
+      let f : Follows (λ c. parts_bound ps (parts_of ps x) (datum_read o c)) b z = both_follow {f = datum_read o} {g = parts_bound ps (parts_of ps x)} y (parts_follow ps (parts_of ps x) (datum_read o b) y.after) in
+      let same : Runs k (define_list ps e) (there u a) (parts_end o (parts_of ps x)) (parts_bound ps (parts_of ps x) (datum_read o (there z b))) =
+      subst (λ q. Runs k (define_list ps e) (there u a) (parts_end o (parts_of ps q)) (parts_bound ps (parts_of ps q) (datum_read o (there z b)))) (datum_alike o b z n) run in
+      going_on a (λ c. parts_bound ps (parts_of ps x) (datum_read o c)) kept f same
+
+  -- where a datum is wanted
+  datum_case : {k : ℕ} {t : Tree} (o : End) (a b : At) (u : State) (f : EndsFrame k t a o b u) → AgreeOn (datum_read o b).touched f.after b.state → NeedsFrame k t a (datum_of o b) (datum_read o b) u
+  datum_case {k = k} {t = t} o a b u f n =
+      let y : Follows (datum_read o) b f.after = datum_follows o b f.after n in
+      let here : Needs k t (there u a) (datum_of o b) (datum_read o (there f.after b)) = subst (λ p. Needs k t (there u a) p (datum_read o (there f.after b))) (datum_alike o b f.after n) (needs f.run) in
+      record { after = y.after; run = subst (λ c. Needs k t (there u a) (datum_of o b) c) y.place here; kept = λ c h. y.kept c (f.kept c h) }
 
   -- a method's block, from the same place
   inside_at : {k : ℕ} {ns : Nouns} {ts : Trees} {a b d : At} {o : End} → a ≡ b → Items k null ts (inside ns b) o d → Items k null ts (inside ns a) o d
@@ -478,53 +518,35 @@ module _ (w : State) where
         record { after = i.after; run = run_call_enters {c = there h.after c} {d = there i.after d} f.run h.run (target_alike v verb g c h.after (agree_on u a.state h.after c.state both n) ∙ e) inner; kept = λ x z. i.kept x (all x z) }
     runs_framed (run_call_uses {verb = verb} {a = a} {b = b} {c = c} {v = v} {g = g} {p = p} {d = d} r q e) u m =
         let k : At = called v verb g c in
-        let t = before u a.state (resolvers_later p (given_by d k) (behind d k)) m in
-        let n = before u a.state (does_later d k) t in
-        let l = before u a.state (called_later v verb g c) n in
+        let t : AgreeOn (behind d k).touched u a.state = before u a.state (resolvers_later p (given_by d k) (behind d k)) m in
+        let n : AgreeOn k.touched u a.state = before u a.state (does_later d k) t in
+        let l : AgreeOn c.touched u a.state = before u a.state (called_later v verb g c) n in
         let f = ends_framed r u (before u a.state (args_later q) l) in
         let h = args_framed q f.after (agree_on u a.state f.after b.state f.kept l) in
         let both : (x : Cell) → u x ≡ a.state x → h.after x ≡ c.state x = λ x z. h.kept x (f.kept x z) in
-        let y = called_follows v verb g c h.after (agree_on u a.state h.after c.state both n) in
+        let s : AgreeOn k.touched h.after c.state = agree_on u a.state h.after c.state both n in
+        let y : Follows (called v verb g) c h.after = called_follows v verb g c h.after s in
         let all : (x : Cell) → u x ≡ a.state x → y.after x ≡ k.state x = λ x z. y.kept x (both x z) in
-        let s : AgreeOn (behind d k).touched y.after k.state = agree_on u a.state y.after k.state all t in
-        let i = resolver_follows p d k y.after s in
-        let run = run_call_uses {c = there h.after c} f.run h.run (target_alike v verb g c h.after (agree_on u a.state h.after c.state both n) ∙ e) in
-        let o : resolver_end (given_by d (called v verb g (there h.after c))) ≡ resolver_end (given_by d k) = ap (λ z. resolver_end (given_by d z)) y.place ∙ ap resolver_end (does_alike d k y.after s).result in
-        record { after = i.after; run = runs_to run (sym o) (sym (ap (λ z. resolver_out p (given_by d z) (behind d z)) y.place ∙ i.place)); kept = λ x z. i.kept x (all x z) }
+        used_case p d a k (called v verb g (there h.after c)) u y.after all (agree_on u a.state y.after k.state all t) y.place (run_call_uses {c = there h.after c} f.run h.run (target_alike v verb g c h.after s ∙ e))
     runs_framed (run_send_receiver r) u m = let f = ends_framed r u m in record { after = f.after; run = run_send_receiver f.run; kept = f.kept }
-    runs_framed (run_send {verb = verb} {a = a} {b = b} {c = c} {v = v} {g = g} r q) u m =
-        let l = before u a.state (sent_later verb v g c) m in
+    runs_framed (run_send {k = k} {r = t} {verb = verb} {args = ts} {a = a} {b = b} {c = c} {v = v} {g = g} r q) u m =
+        let l : AgreeOn c.touched u a.state = before u a.state (sent_later verb v g c) m in
         let f = ends_framed r u (before u a.state (args_later q) l) in
         let h = args_framed q f.after (agree_on u a.state f.after b.state f.kept l) in
         let both : (x : Cell) → u x ≡ a.state x → h.after x ≡ c.state x = λ x z. h.kept x (f.kept x z) in
-        let n : AgreeOn (sent_at verb v g c).touched h.after c.state = agree_on u a.state h.after c.state both m in
-        let y = sent_follows verb v g c h.after n in
-        record { after = y.after; run = runs_to (run_send {c = there h.after c} f.run h.run) (sym (sent_alike verb v g c h.after n)) (sym y.place); kept = λ x z. y.kept x (both x z) }
+        sent_case k t verb ts v g a c u h.after both (agree_on u a.state h.after c.state both m) (run_send {c = there h.after c} f.run h.run)
     runs_framed (run_list r) u m = let f = args_framed r u m in record { after = f.after; run = run_list f.run; kept = f.kept }
     runs_framed (run_same_left r) u m = let f = ends_framed r u m in record { after = f.after; run = run_same_left f.run; kept = f.kept }
-    runs_framed (run_same {a = a} {b = b} {c = c} {v = v} {o = o} r q) u m =
-        let l = before u a.state (same_later v o c) m in
+    runs_framed (run_same {k = k} {l = x} {r = y} {a = a} {b = b} {c = c} {v = v} {o = o} r q) u m =
+        let l : AgreeOn c.touched u a.state = before u a.state (same_later v o c) m in
         let f = ends_framed r u (before u a.state (ends_later q) l) in
         let g = ends_framed q f.after (agree_on u a.state f.after b.state f.kept l) in
         let both : (x : Cell) → u x ≡ a.state x → g.after x ≡ c.state x = λ x z. g.kept x (f.kept x z) in
-        let n : AgreeOn (same_read v o c).touched g.after c.state = agree_on u a.state g.after c.state both m in
-        let y = same_follows v o c g.after n in
-        record { after = y.after; run = runs_to (run_same {c = there g.after c} f.run g.run) (sym (same_alike v o c g.after n)) (sym y.place); kept = λ x z. y.kept x (both x z) }
-    runs_framed (run_define_list {ps = ps} {a = a} {b = b} {o = o} r) u m =
-        let d : At = datum_read o b in
-        let x : End = datum_of o b in
-        let l = before u a.state (parts_later ps (parts_of ps x) d) m in
+        same_case k x y v o a c u g.after both (agree_on u a.state g.after c.state both m) (run_same {c = there g.after c} f.run g.run)
+    runs_framed (run_define_list {k = k} {ps = ps} {e = e} {a = a} {b = b} {o = o} r) u m =
+        let l : AgreeOn (datum_read o b).touched u a.state = before u a.state (parts_later ps (parts_of ps (datum_of o b)) (datum_read o b)) m in
         let f = ends_framed r u (before u a.state (datum_later o b) l) in
-        let n : AgreeOn d.touched f.after b.state = agree_on u a.state f.after b.state f.kept l in
-        let y = datum_follows o b f.after n in
-        let e : datum_of o (there f.after b) ≡ x = datum_alike o b f.after n in
-        let z = parts_follow ps (parts_of ps x) d y.after in
-        record {
-          after = z.after;
-          run = runs_to (run_define_list {b = there f.after b} f.run) (sym (ap (λ p. parts_end o (parts_of ps p)) e))
-          (sym (ap (λ p. parts_bound ps (parts_of ps p) (datum_read o (there f.after b))) e ∙ ap (parts_bound ps (parts_of ps x)) y.place ∙ z.place));
-          kept = λ c h. z.kept c (y.kept c (f.kept c h));
-        }
+        list_case k ps e o a b u f.after f.kept (agree_on u a.state f.after b.state f.kept l) (run_define_list {b = there f.after b} f.run)
     runs_framed (run_hide q) u m = let f = block_framed q u m in record { after = f.after; run = run_hide f.run; kept = f.kept }
     runs_framed (run_throw r) u m = let f = needs_framed r u m in record { after = f.after; run = run_throw f.run; kept = f.kept }
     runs_framed (run_if_goes {a = a} {b = b} r e q) u m =
@@ -559,15 +581,11 @@ module _ (w : State) where
     runs_framed (run_escape q) u m = let f = taking_framed q u m in record { after = f.after; run = run_escape f.run; kept = f.kept }
     runs_framed (run_when {body = body} {a = a} {b = b} {o = o} r) u m =
         let f = ends_framed r u (before u a.state (when_later body None o b) m) in
-        let n : AgreeOn (when_made body None o b).touched f.after b.state = agree_on u a.state f.after b.state f.kept m in
-        let y = when_follows body None o b f.after n in
-        record { after = y.after; run = runs_to (run_when {b = there f.after b} f.run) (sym (when_alike body None o b f.after n)) (sym y.place); kept = λ c h. y.kept c (f.kept c h) }
+        when_case body None o a b u f.after f.kept (agree_on u a.state f.after b.state f.kept m) (run_when {b = there f.after b} f.run)
     runs_framed (run_when_catch {body = body} {p = p} {handler = handler} {a = a} {b = b} {o = o} r) u m =
         let x : Option Handler = Some (record { pattern = p; block = handler }) in
         let f = ends_framed r u (before u a.state (when_later body x o b) m) in
-        let n : AgreeOn (when_made body x o b).touched f.after b.state = agree_on u a.state f.after b.state f.kept m in
-        let y = when_follows body x o b f.after n in
-        record { after = y.after; run = runs_to (run_when_catch {b = there f.after b} f.run) (sym (when_alike body x o b f.after n)) (sym y.place); kept = λ c h. y.kept c (f.kept c h) }
+        when_case body x o a b u f.after f.kept (agree_on u a.state f.after b.state f.kept m) (run_when_catch {b = there f.after b} f.run)
     runs_framed (run_new_promise {k = k} {a = a}) u m = pair_case k a u m
     runs_framed (run_break_ref r) u m = let f = needs_framed r u m in record { after = f.after; run = run_break_ref f.run; kept = f.kept }
     runs_framed (run_state_ref r) u m = let f = needs_framed r u m in record { after = f.after; run = run_state_ref f.run; kept = f.kept }
@@ -575,9 +593,7 @@ module _ (w : State) where
     pub needs_framed : {k : ℕ} {t : Tree} {a b : At} {o : End} → Needs k t a o b → (u : State) → AgreeOn b.touched u a.state → NeedsFrame k t a o b u
     needs_framed (needs {a = a} {b = b} {o = o} r) u m =
         let f = ends_framed r u (before u a.state (datum_later o b) m) in
-        let n : AgreeOn (datum_read o b).touched f.after b.state = agree_on u a.state f.after b.state f.kept m in
-        let y = datum_follows o b f.after n in
-        record { after = y.after; run = needs_to (needs {b = there f.after b} f.run) (sym (datum_alike o b f.after n)) (sym y.place); kept = λ c h. y.kept c (f.kept c h) }
+        datum_case o a b u f (agree_on u a.state f.after b.state f.kept m)
 
     pub args_framed : {k : ℕ} {ts : Trees} {a b : At} {g : Gather} → Args k ts a g b → (u : State) → AgreeOn b.touched u a.state → ArgsFrame k ts a g b u
     args_framed args_none u m = record { after = u; run = args_none; kept = λ c e. e }
