@@ -498,24 +498,25 @@ module _ (w : State) where
         assign_case k x e a o b u f (agree_on u a.state f.after b.state f.kept m)
     runs_framed (run_call_receiver r) u m = let f = ends_framed r u m in record { after = f.after; run = run_call_receiver f.run; kept = f.kept }
     runs_framed (run_call_gives {verb = verb} {a = a} {b = b} {c = c} {v = v} {g = g} r q e) u m =
-        let l = before u a.state (called_later v verb g c) m in
+        let l : AgreeOn c.touched u a.state = before u a.state (called_later v verb g c) m in
         let f = ends_framed r u (before u a.state (args_later q) l) in
         let h = args_framed q f.after (agree_on u a.state f.after b.state f.kept l) in
         let both : (x : Cell) → u x ≡ a.state x → h.after x ≡ c.state x = λ x z. h.kept x (f.kept x z) in
-        let y = called_follows v verb g c h.after (agree_on u a.state h.after c.state both m) in
-        let run = run_call_gives {c = there h.after c} f.run h.run (target_alike v verb g c h.after (agree_on u a.state h.after c.state both m) ∙ e) in
-        record { after = y.after; run = runs_to run refl (sym y.place); kept = λ x z. y.kept x (both x z) }
+        let s : AgreeOn (called v verb g c).touched h.after c.state = agree_on u a.state h.after c.state both m in
+        going_on a (called v verb g) both (called_follows v verb g c h.after s) (run_call_gives {c = there h.after c} f.run h.run (target_alike v verb g c h.after s ∙ e))
     runs_framed (run_call_enters {verb = verb} {a = a} {b = b} {c = c} {d = d} {v = v} {g = g} r q e w) u m =
-        let n = before u a.state (items_later w) m in
-        let l = before u a.state (called_later v verb g c) n in
+        let k : At = called v verb g c in
+        let n : AgreeOn k.touched u a.state = before u a.state (items_later w) m in
+        let l : AgreeOn c.touched u a.state = before u a.state (called_later v verb g c) n in
         let f = ends_framed r u (before u a.state (args_later q) l) in
         let h = args_framed q f.after (agree_on u a.state f.after b.state f.kept l) in
         let both : (x : Cell) → u x ≡ a.state x → h.after x ≡ c.state x = λ x z. h.kept x (f.kept x z) in
-        let y = called_follows v verb g c h.after (agree_on u a.state h.after c.state both n) in
-        let all : (x : Cell) → u x ≡ a.state x → y.after x ≡ (called v verb g c).state x = λ x z. y.kept x (both x z) in
-        let i = items_framed w y.after (agree_on u a.state y.after (called v verb g c).state all m) in
-        let inner = inside_at {a = called v verb g (there h.after c)} {b = there y.after (called v verb g c)} {d = there i.after d} y.place i.run in
-        record { after = i.after; run = run_call_enters {c = there h.after c} {d = there i.after d} f.run h.run (target_alike v verb g c h.after (agree_on u a.state h.after c.state both n) ∙ e) inner; kept = λ x z. i.kept x (all x z) }
+        let s : AgreeOn k.touched h.after c.state = agree_on u a.state h.after c.state both n in
+        let y : Follows (called v verb g) c h.after = called_follows v verb g c h.after s in
+        let all : (x : Cell) → u x ≡ a.state x → y.after x ≡ k.state x = λ x z. y.kept x (both x z) in
+        let i = items_framed w y.after (agree_on u a.state y.after k.state all m) in
+        let inner = inside_at {a = called v verb g (there h.after c)} {b = there y.after k} {d = there i.after d} y.place i.run in
+        record { after = i.after; run = run_call_enters {c = there h.after c} {d = there i.after d} f.run h.run (target_alike v verb g c h.after s ∙ e) inner; kept = λ x z. i.kept x (all x z) }
     runs_framed (run_call_uses {verb = verb} {a = a} {b = b} {c = c} {v = v} {g = g} {p = p} {d = d} r q e) u m =
         let k : At = called v verb g c in
         let t : AgreeOn (behind d k).touched u a.state = before u a.state (resolvers_later p (given_by d k) (behind d k)) m in
