@@ -1,6 +1,6 @@
 -- What is done to the vat's cells between two trees: it leaves the rest of a place as it was, its cells only grow, and in another state
 -- that agrees on the cells touched it goes alike.
-use Rattle.std.proofs.Common.{◌≡◌, ℕ, List, [], Option, Some, None, Bool, true, false, refl, sym, ap, ◌∙◌}
+use Rattle.std.proofs.Common.{◌≡◌, [], Option, true, false, refl, sym, ap, ◌∙◌}
 use Rattle.ids.specs.declared.names.PromId.{PromId}
 use Rattle.cells.specs.Doing.{Alike}
 use Rattle.cells.proofs.Doings.{cells_only_grow, goes_alike}
@@ -9,10 +9,10 @@ use Rattle.values.specs.Data.{Val, Vals}
 use Rattle.heap.specs.State.{Cell, Content, same_cell, State, Cells}
 use Rattle.heap.proofs.Cells.{cell_self}
 use Rattle.post.specs.Delivery.{Handler, When}
-use Rattle.sends.specs.Vats.{Vat, ended, Nothing}
+use Rattle.sends.specs.Vats.{Vat, Nothing}
 use Rattle.sends.specs.Making.{Making, refused, makes, Sent, Published}
 use Rattle.erules.specs.At.{At}
-use Rattle.erules.specs.Doings.{under, behind, given_by, datum_read, send_of, send_out, sent_at, wait_of, wait_out, promise_pair, pair_out, resolver_out, both_settled, same_read}
+use Rattle.erules.specs.Doings.{under, behind, given_by, datum_read, send_of, send_out, sent_at, wait_of, wait_out, promise_pair, pair_out, resolver_out, same_read}
 use Rattle.erules.specs.Outcomes.{End, value, halt, Gather, values, halted}
 use Rattle.erules.specs.Rules.{Capture, captured, missing, Callee, on_object, on_ejector, on_datum, on_far, callee_of, callee_read, receiver, receiver_read, called, handled_names, when_capture, when_capturing, waited, when_made}
 use Rattle.erules.specs.Laws.{AgreeOn}

@@ -1,5 +1,5 @@
 -- What is done to the vat's cells between two trees, from the place where an evaluation stands.
-use Rattle.std.specs.Prelude.{ℕ, ◌+◌, ltb, Bool, true, false, cond, nat_eq, Option, Some, None, List, [], ◌∷◌, ◌++◌, length, codes}
+use Rattle.std.specs.Prelude.{◌+◌, ltb, Bool, true, false, nat_eq, List, [], ◌∷◌, ◌++◌, length, codes}
 use Rattle.ids.specs.declared.names.VatNo.{VatNo}
 use Rattle.ids.specs.declared.names.MsgId.{MsgId}
 use Rattle.ids.specs.declared.names.PromId.{PromId}
@@ -14,8 +14,8 @@ use Rattle.heap.specs.State.{Cell, Content, same_cell}
 use Rattle.refs.specs.Kinds.{kind_in}
 use Rattle.refs.specs.declared.kinds.Kind.{Kind}
 use Rattle.refs.specs.declared.kinds.Kind.TheVariants as kind
-use Rattle.post.specs.Delivery.{Delivery, sent, waiting, When}
-use Rattle.post.specs.Messages.{Place, flying, at_vat, Message, Published}
+use Rattle.post.specs.Delivery.{sent, waiting, When}
+use Rattle.post.specs.Messages.{Place, flying, at_vat, Message}
 use Rattle.sends.specs.Vats.{Vat, Nothing, ended, settled, goes_to}
 use Rattle.sends.specs.Making.{Refusal, problem, turn_too_large, Making, refused, makes, of_settled, Sent, sending, waiting as waits, promising, Published as Resolved}
 use Rattle.erules.specs.Outbox.{Note, sent_note, waits_note, resolved_note, Outbox}

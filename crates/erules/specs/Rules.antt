@@ -14,8 +14,8 @@ use Rattle.kernele.specs.declared.tree.Pattern.{Pattern}
 use Rattle.kernele.specs.declared.tree.Pattern.TheVariants as pattern
 use Rattle.values.specs.Data.{Val, null, bool, int, text, broken, object, ejector, promise, Vals, no_vals, and_val}
 use Rattle.values.specs.Replies.{no_method, list_reply, text_reply, text_in, items_in}
-use Rattle.heap.specs.State.{Bind, fixed, slot, Nouns, lookup, Plain, plain, resolver, Object, top, slot_cell, object_cell, Cell, Content, bound, held, made, State, read, write, also}
-use Rattle.post.specs.Delivery.{Handler, When}
+use Rattle.heap.specs.State.{Bind, fixed, slot, Nouns, lookup, Plain, plain, resolver, top, slot_cell, object_cell, Cell, Content, bound, held, made, State, read, write, also}
+use Rattle.post.specs.Delivery.{Handler}
 use Rattle.sends.specs.Vats.{Vat, ended}
 use Rattle.sends.specs.Making.{Making, Published, resolving, smashing}
 use Rattle.erules.specs.At.{At}
@@ -542,7 +542,6 @@ mutual
     run_try_caught : {k : ℕ} {body : Trees} {p : Pattern} {handler : Trees} {a b d : At} {o q : End} {problem : Name} → Block (k + 1) body a o b → caught o ≡ Some problem → Taking (k + 1) p (text problem) handler b q d → Runs k (try_tree body p handler) a q d
     run_object : {k : ℕ} {p : Pattern} {ms : Methods} {a : At} → Runs k (object_tree p ms) a (object_end (capture_of p ms a) a) (with_object p ms (capture_of p ms a) (capturing p ms a))
     run_escape : {k : ℕ} {x : Name} {body : Trees} {a b : At} {o : End} → Taking (k + 1) (pattern.Name x) (ejector (next_ejector a)) body (escaping a) o b → Runs k (escape_tree x body) a (escape_end (next_ejector a) o) (escaped a b)
-
     run_when : {k : ℕ} {e : Tree} {body : Trees} {a b : At} {o : End} → Ends (k + 1) e a o b → Runs k (when_tree e body) a (when_end body None o b) (when_made body None o b)
     run_when_catch : {k : ℕ} {e : Tree} {body : Trees} {p : Pattern} {handler : Trees} {a b : At} {o : End} → Ends (k + 1) e a o b
         → Runs k (when_catch_tree e body p handler) a (when_end body (Some (record { pattern = p; block = handler })) o b) (when_made body (Some (record { pattern = p; block = handler })) o b)
