@@ -4,12 +4,13 @@ use Rattle.std.proofs.Common.{◌≡◌, [], Option, true, false, refl, sym, ap,
 use Rattle.ids.specs.declared.names.PromId.{PromId}
 use Rattle.cells.specs.Doing.{Alike}
 use Rattle.cells.proofs.Doings.{cells_only_grow, goes_alike}
+use Rattle.ids.specs.declared.names.ObjId.{ObjId}
 use Rattle.kernele.specs.Tree.{Name, Trees}
 use Rattle.values.specs.Data.{Val, Vals}
 use Rattle.heap.specs.State.{Cell, Content, same_cell, State, Cells}
 use Rattle.heap.proofs.Cells.{cell_self}
 use Rattle.post.specs.Delivery.{Handler, When}
-use Rattle.sends.specs.Vats.{Vat, Nothing}
+use Rattle.sends.specs.Vats.{Vat}
 use Rattle.sends.specs.Making.{Making, refused, makes, Sent, Published}
 use Rattle.erules.specs.At.{At}
 use Rattle.erules.specs.Doings.{under, behind, given_by, datum_read, send_of, send_out, sent_at, wait_of, wait_out, promise_pair, pair_out, resolver_out, same_read}
@@ -66,7 +67,7 @@ when_works body handler (value v) a =
     (waited_works (when_capture body handler a) body handler v (when_capturing body handler a))
 when_works body handler (halt h) a = refl
 
-pairs_work : {R : Type 0} (m : Making Nothing) (d : Vat R) (a : At) → Works a (pair_out m (behind d a))
+pairs_work : {R : Type 0} (m : Making ObjId) (d : Vat R) (a : At) → Works a (pair_out m (behind d a))
 pairs_work (refused why) d a = refl
 pairs_work (makes n) d a = refl
 

@@ -19,7 +19,6 @@ use Rattle.erules.proofs.Opened.{ends_opened, args_opened, block_opened, taking_
 use Rattle.erules.specs.Doings.{has_object_room, same_end, same_forms, sent_end, send_end, send_of, refusal_end, wait_end, wait_of, datum_of, data_of, state_end, given_by, resolver_end, promise_pair, pair_end, both_settled}
 use Rattle.erules.proofs.Doings.{called_works}
 use Rattle.post.specs.Delivery.{Handler}
-use Rattle.sends.specs.Vats.{Nothing}
 use Rattle.sends.specs.Making.{Refusal, problem as a_problem, turn_too_large, Making, refused, makes, Sent, Published, resolving, smashing}
 use Rattle.ids.specs.declared.names.VatNo.{VatNo}
 use Rattle.ids.specs.declared.names.PromId.{PromId}
@@ -132,7 +131,7 @@ when_inside : (body : Trees) (handler : Option Handler) (o : End) (a : At) (js :
 when_inside body handler (value v) a js h = waited_inside (when_capture body handler a) v (when_capturing body handler a) js
 when_inside body handler (halt i) a js h = h
 
-pair_inside : (m : Making Nothing) (a : At) (js : List EjId) → Inside (pair_end m a) js
+pair_inside : (m : Making ObjId) (a : At) (js : List EjId) → Inside (pair_end m a) js
 pair_inside (refused why) a js = refusal_inside why js
 pair_inside (makes n) a js = tt
 

@@ -2,6 +2,7 @@
 use Rattle.std.proofs.Common.{◌≡◌, ℕ, ◌+◌, List, [], ◌∷◌, Option, Some, None, Bool, true, false, cond, refl, sym, ap, ◌∙◌, subst}
 use Rattle.std.proofs.lemmas.Bool.{or_left}
 use Rattle.ids.specs.declared.names.SlotId.{SlotId}
+use Rattle.ids.specs.declared.names.ObjId.{ObjId}
 use Rattle.kernele.specs.Tree.{Name, Tree, Trees, noun, assign, object_tree, Methods, new_promise, same_tree, define_list, send}
 use Rattle.scopes.specs.Free.{captures}
 use Rattle.kernele.specs.declared.tree.Pattern.{Pattern}
@@ -21,7 +22,7 @@ use Rattle.erules.specs.Doings.{next_object, has_object_room, under, behind, giv
 use Rattle.erules.proofs.Doings.{Onward, does_later, does_alike}
 use Rattle.cells.specs.Doing.{Under, play, with_state}
 use Rattle.post.specs.Delivery.{Handler, When}
-use Rattle.sends.specs.Vats.{Vat, Nothing, ended}
+use Rattle.sends.specs.Vats.{Vat, ended}
 use Rattle.sends.specs.Making.{Making, refused, makes, Sent, Published}
 use Rattle.ids.specs.declared.names.PromId.{PromId}
 
@@ -402,19 +403,19 @@ module _ (w : State) where
   when_alike body handler (halt j) a u h = refl
 
   -- a promise with its resolver
-  pairs_follow : (m : Making Nothing) (a : At) (u : State) → Follows (pair_out m) a u
+  pairs_follow : (m : Making ObjId) (a : At) (u : State) → Follows (pair_out m) a u
   pairs_follow (refused why) a u = unmoved
   pairs_follow (makes n) a u = record { after = u; place = refl; kept = λ c h. h }
 
-  pairs_alike : (m : Making Nothing) (a : At) (u : State) → pair_end m (there u a) ≡ pair_end m a
+  pairs_alike : (m : Making ObjId) (a : At) (u : State) → pair_end m (there u a) ≡ pair_end m a
   pairs_alike (refused why) a u = refl
   pairs_alike (makes n) a u = refl
 
   pair_case : (k : ℕ) (a : At) (u : State) → AgreeOn (pair_out (given_by (promise_pair a) a) (behind (promise_pair a) a)).touched u a.state
       → RunsFrame k new_promise a (pair_end (given_by (promise_pair a) a) a) (pair_out (given_by (promise_pair a) a) (behind (promise_pair a) a)) u
   pair_case k a u h =
-      let d : Vat (Making Nothing) = promise_pair a in
-      let m : Making Nothing = given_by d a in
+      let d : Vat (Making ObjId) = promise_pair a in
+      let m : Making ObjId = given_by d a in
       let l : AgreeOn (behind d a).touched u a.state = before u a.state (pairs_later m (behind d a)) h in
       let e : given_by d (there u a) ≡ m = (does_alike d a u l).result in
       let y : Follows (behind d) a u = does_follow d a u l in

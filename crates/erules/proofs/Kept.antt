@@ -18,7 +18,7 @@ use Rattle.std.proofs.lemmas.List.{length_push}
 use Rattle.cells.specs.Doing.{over, reads, writes, Under, touching, holding, play, and_then}
 use Rattle.post.specs.Delivery.{Handler, When}
 use Rattle.post.specs.Messages.{Message}
-use Rattle.sends.specs.Vats.{Vat, Nothing, ended, settled, all_settled, comes_in}
+use Rattle.sends.specs.Vats.{Vat, ended, settled, all_settled, comes_in}
 use Rattle.sends.specs.Making.{Making, refused, makes, of_settled, with_room, Sent, send_placed, sending, condition, waiting, promising, Published}
 use Rattle.ids.specs.declared.names.VatNo.{VatNo}
 use Rattle.ids.specs.declared.names.MsgId.{MsgId}
@@ -213,13 +213,13 @@ module _ (P : Cells → Cells → State → ℕ → ℕ → ℕ → Type 0) (kep
   when_kept body handler (value v) a h = waited_kept (when_capture body handler a) body handler v (when_capturing body handler a) (captures_kept (captured []) (handled_names body handler) a h)
   when_kept body handler (halt k) a h = h
 
-  pairs_kept : (m : Making Nothing) (a : At) → ((n : Nothing) → m ≡ makes n → a.objects < 4096) → HoldsAt a → HoldsAt (pair_out m a)
+  pairs_kept : (m : Making ObjId) (a : At) → ((n : ObjId) → m ≡ makes n → a.objects < 4096) → HoldsAt a → HoldsAt (pair_out m a)
   pairs_kept (refused why) a more h = h
   pairs_kept (makes n) a more h = kept.making_an_object a.touched a.written a.state a.slots a.objects (length a.out.letters) (more n refl) h
 
   pair_kept : (a : At) → HoldsAt a → HoldsAt (pair_out (given_by (promise_pair a) a) (behind (promise_pair a) a))
   pair_kept a h =
-      let d : Bool → Vat (Making Nothing) = λ room. promising room (next_promise a a.vat) (next_object a) in
+      let d : Bool → Vat (Making ObjId) = λ room. promising room (next_promise a a.vat) (next_object a) in
       pairs_kept (given_by (promise_pair a) a) (behind (promise_pair a) a)
       (λ n e. ltb-true a.objects 4096 (room_made (has_object_room a) d (under a) n (promising_refuses (next_promise a a.vat) (next_object a)) e)) (behind_kept (promise_pair a) a h)
 

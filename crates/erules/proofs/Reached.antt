@@ -2,6 +2,7 @@
 use Rattle.std.proofs.Common.{◌≡◌, ℕ, List, [], ◌∷◌, Option, Some, None, Bool, true, false, ◌||◌, cond, refl, ap, ◌∙◌}
 use Rattle.std.proofs.lemmas.Bool.{or_right, or_parts}
 use Rattle.ids.specs.declared.names.SlotId.{SlotId}
+use Rattle.ids.specs.declared.names.ObjId.{ObjId}
 use Rattle.kernele.specs.Tree.{Name, Tree, Trees, Methods}
 use Rattle.scopes.specs.Free.{captures}
 use Rattle.kernele.specs.declared.tree.Pattern.{Pattern}
@@ -14,7 +15,7 @@ use Rattle.erules.specs.Rules.{sought_in, seeking, slot_read, slot_put, noun_rea
 use Rattle.erules.specs.Rules.{Ends, at_budget, at_depth, at_node, Runs, run_null, run_bool, run_int, run_text, run_noun, run_define, run_variable, run_assign, run_call_receiver, run_call_gives, run_call_enters, run_call_uses, run_send_receiver, run_send, run_list, run_same_left, run_same, run_define_list, run_hide, run_throw, run_if_goes, run_if_ends, run_while_again, run_while_halts, run_while_done, run_while_ends, run_for, run_for_ends, run_try, run_try_caught, run_object, run_escape, run_when, run_when_catch, run_new_promise, run_break_ref, run_state_ref, Needs, needs, Args, args_none, args_next, args_halt, Items, items_none, items_next, items_halt, Block, in_block, Taking, in_taking, Each, each_none, each_next, each_halt}
 use Rattle.erules.specs.Doings.{next_object, has_object_room, behind, given_by, datum_of, datum_read, same_read, both_settled, send_of, send_out, sent_at, wait_of, wait_out, promise_pair, pair_out, resolver_out, data_of}
 use Rattle.erules.proofs.Doings.{Onward, Later, does_later}
-use Rattle.sends.specs.Vats.{Vat, ended, Nothing}
+use Rattle.sends.specs.Vats.{Vat, ended}
 use Rattle.sends.specs.Making.{Making, refused, makes, Sent, Published}
 use Rattle.post.specs.Delivery.{Handler, When}
 use Rattle.ids.specs.declared.names.PromId.{PromId}
@@ -161,7 +162,7 @@ pub when_later : (body : Trees) (handler : Option Handler) (o : End) (a : At) �
 when_later body handler (value v) a = then (captures_later (captured []) (handled_names body handler) a) (waited_later (when_capture body handler a) body handler v (when_capturing body handler a))
 when_later body handler (halt h) a = stay
 
-pub pairs_later : (m : Making Nothing) (a : At) → Later a (pair_out m a)
+pub pairs_later : (m : Making ObjId) (a : At) → Later a (pair_out m a)
 pairs_later (refused why) a = stay
 pairs_later (makes n) a = stay
 

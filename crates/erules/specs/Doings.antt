@@ -16,7 +16,7 @@ use Rattle.refs.specs.declared.kinds.Kind.{Kind}
 use Rattle.refs.specs.declared.kinds.Kind.TheVariants as kind
 use Rattle.post.specs.Delivery.{sent, waiting, When}
 use Rattle.post.specs.Messages.{Place, flying, at_vat, Message}
-use Rattle.sends.specs.Vats.{Vat, Nothing, ended, settled, goes_to}
+use Rattle.sends.specs.Vats.{Vat, ended, settled, goes_to}
 use Rattle.sends.specs.Making.{Refusal, problem, turn_too_large, Making, refused, makes, of_settled, Sent, sending, waiting as waits, promising, Published as Resolved}
 use Rattle.erules.specs.Outbox.{Note, sent_note, waits_note, resolved_note, Outbox}
 use Rattle.erules.specs.At.{At}
@@ -146,16 +146,16 @@ next_object a = record { event = a.event; index = a.objects; vat = a.vat }
 abbrev pub has_object_room : At → Bool
 has_object_room a = ltb a.objects 4096
 
-abbrev pub promise_pair : At → Vat (Making Nothing)
+abbrev pub promise_pair : At → Vat (Making ObjId)
 promise_pair a = promising (has_object_room a) (next_promise a a.vat) (next_object a)
 
-abbrev pub pair_end : Making Nothing → At → End
+abbrev pub pair_end : Making ObjId → At → End
 pair_end (refused why) a = refusal_end why
-pair_end (makes n) a = value (list (and_val (promise (next_promise a a.vat)) (and_val (object (next_object a)) no_vals)))
+pair_end (makes o) a = value (list (and_val (promise (next_promise a a.vat)) (and_val (object o) no_vals)))
 
-abbrev pub pair_out : Making Nothing → At → At
+abbrev pub pair_out : Making ObjId → At → At
 pair_out (refused why) a = a
-pair_out (makes n) a = record a { objects = a.objects + 1; out = record a.out { promises = a.out.promises + 1 } }
+pair_out (makes o) a = record a { objects = a.objects + 1; out = record a.out { promises = a.out.promises + 1 } }
 
 -- ---- the use of a resolver
 
