@@ -1,6 +1,9 @@
 pub mod Walks
 pub mod Ready
 pub mod Events
+pub mod ReadyView
+pub mod Learning
+pub mod Forwarding
 pub mod Deeds
 pub mod Laws
 pub mod Runs

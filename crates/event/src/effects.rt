@@ -168,6 +168,8 @@ pub fn birth_effects(
     vats: &[VatNo],
     script: &Program,
 ) -> Result<Effects, AllocError>
+    requires { length earlier.now ≡ length vats.now }
+    ensures { IfOk result (λ it. (found : List model_post.Vat) → map (λ v. v.number) found ≡ vats.now → Brings event (birth_foot event name.now (texts_of earlier.now) found (program_of script.now)) it.touched.items (kepts_of it.records.items)) }
 {
     let first = first_message(event);
     let message = opening(alloc, event, known_as(alloc, earlier, vats)?, script)?;
@@ -228,7 +230,9 @@ pub fn learn_effects(
     vat: VatNo,
     promise: PromId,
     footprint: &Footprint,
-) -> Result<Effects, AllocError> {
+) -> Result<Effects, AllocError>
+    ensures { IfOk result (λ it. (w : World) (b : PublishedModel) → Learns (vat_state w vat) promise b footprint.now → BringsLearnt event w vat promise b it) }
+{
     let mut touched = Vec::new(alloc);
     touched.push(CellKey::Board(promise))?;
     touch_cells(&mut touched, vat, footprint)?;
@@ -357,7 +361,9 @@ pub fn turn_effects(
     way: &Way,
     vat: VatNo,
     outcome: &Outcome,
-) -> Result<Effects, AllocError> {
+) -> Result<Effects, AllocError>
+    ensures { IfOk result (λ it. (w : World) → IsWay w vat (message_of message.now) way.now → (u : State) → BringsTurn event w name (turn_of (message_of message.now) vat outcome.now u) it) }
+{
     Ok(Effects {
         touched: turn_touched(alloc, name, way, vat, outcome)?,
         records: turn_records(alloc, event, name, message, vat, outcome)?,

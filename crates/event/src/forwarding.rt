@@ -1,5 +1,10 @@
 // Where messages go on to.
-ghost use Rattle.std.specs.Prelude.{◌≡◌};
+ghost use Rattle.std.specs.Prelude.{◌≡◌, IfOk, option_map};
+ghost use Rattle.event.specs.Events.{elsewhere as elsewhere_of, goes_on as goes_on_of};
+ghost use Rattle.event.specs.Forwarding.{onward_of, to_of};
+ghost use Rattle.post.specs.MessageView.{message_of};
+ghost use Rattle.values.specs.View.{val_of};
+ghost use Rattle.worldcells.specs.View.{world_of};
 
 use crate::walks::{Walked, walk};
 use ids::names::{PromId, VatNo};
@@ -23,7 +28,9 @@ pub fn onward(
     world: &World,
     message: &Message,
     vat: VatNo,
-) -> Result<Option<Onward>, AllocError> {
+) -> Result<Option<Onward>, AllocError>
+    ensures { IfOk result (λ r. option_map to_of r ≡ onward_of (world_of world.now) vat (message_of message.now)) }
+{
     match &message.sent.delivery {
         Delivery::Sent(call) => {
             let Walked { end, through } = walk(alloc, world, &call.target)?;
@@ -37,7 +44,9 @@ pub fn onward(
 }
 
 /// The other vat to which a message goes on whose target ends so.
-fn goes_on(here: VatNo, end: &Option<Value>) -> Option<VatNo> {
+fn goes_on(here: VatNo, end: &Option<Value>) -> Option<VatNo>
+    ensures { result ≡ goes_on_of here (option_map val_of end.now) }
+{
     match end {
         Some(value) => elsewhere(here, value),
         None => None,

@@ -1,10 +1,9 @@
 // What a vat learns of a promise.
-ghost use Rattle.std.specs.Prelude.{◌≡◌, IfOk};
-ghost use Rattle.heap.specs.Found.{Found, touched_in, left_by, writes_in};
-ghost use Rattle.heap.specs.View.{state_of};
+ghost use Rattle.std.specs.Prelude.{IfOk};
 ghost use Rattle.std.specs.Arc.{arc_value};
+ghost use Rattle.heap.specs.View.{state_of};
 ghost use Rattle.post.specs.MessageView.{published_of};
-ghost use Rattle.event.specs.Events.{learning, untouched};
+ghost use Rattle.event.specs.Learning.{Learns};
 
 use heap::draft::Draft;
 use heap::reach::Footprint;
@@ -25,7 +24,9 @@ pub fn learn(
     state: Arc<VatState>,
     promise: PromId,
     published: &Published,
-) -> Result<Footprint, AllocError> {
+) -> Result<Footprint, AllocError>
+    ensures { IfOk result (Learns (state_of (arc_value state)) promise (published_of published.now)) }
+{
     let mut draft = Draft::new(alloc, state, event, vat);
     enter(alloc, &mut draft, promise, &published.value)?;
     receive(alloc, &mut draft, &published.fences, &published.value)?;
