@@ -1,4 +1,5 @@
 // What may be done next.
+use desk::desk::Desk;
 use event::forwarding::onward;
 use event::ready::{Delay, check_ready};
 use heap::state::{VatState, View};
@@ -78,13 +79,9 @@ impl Agenda {
         Ok(())
     }
 
+    /// Notes whether a message is there and not done.
     fn note_message(&mut self, world: &World, name: MsgId) -> Result<(), AllocError> {
-        if is_waiting(world.message(name)) {
-            self.waiting.insert(name)?;
-        } else {
-            self.waiting.remove(&name);
-        }
-        Ok(())
+        keep(&mut self.waiting, name, is_waiting(world.message(name)))
     }
 
     fn note_vat(&mut self, alloc: Global, world: &World, vat: VatNo) -> Result<(), AllocError> {
@@ -96,17 +93,12 @@ impl Agenda {
         Ok(())
     }
 
+    /// Notes whether a promise is open in a vat's view, and whether the vat can learn of it.
     fn note_view(&mut self, world: &World, vat: VatNo, promise: PromId) -> Result<(), AllocError> {
-        if is_open(world.home(vat), promise) {
-            self.open.insert(Open { promise, vat })?;
-            if world.published(promise).is_some() {
-                self.known.insert(Known { vat, promise })?;
-            }
-        } else {
-            self.open.remove(&Open { promise, vat });
-            self.known.remove(&Known { vat, promise });
-        }
-        Ok(())
+        let open = is_open(world.home(vat), promise);
+        let known = open && world.published(promise).is_some();
+        keep(&mut self.open, Open { promise, vat }, open)?;
+        keep(&mut self.known, Known { vat, promise }, known)
     }
 
     fn note_publication(
@@ -154,19 +146,19 @@ impl Agenda {
 
     /// The first that may be done: what a message can do, in order of their names, then what vats can learn, in order of birth and of
     /// promise. Turns and learning of vats that are out are left out. Fails only for want of memory.
-    pub fn first<F: Fn(VatNo) -> bool>(
+    pub fn first(
         &self,
         alloc: Global,
         world: &World,
-        is_out: F,
+        desk: &Desk,
     ) -> Result<Option<Step>, AllocError> {
         for name in self.waiting.iter() {
-            if let Some(step) = message_step(alloc, world, *name, &is_out)? {
+            if let Some(step) = message_step(alloc, world, *name, desk)? {
                 return Ok(Some(step));
             }
         }
         for known in self.known.iter() {
-            if !is_out(known.vat) {
+            if !desk.has_vat(known.vat) {
                 return Ok(Some(Step::Learn(known.vat, known.promise)));
             }
         }
@@ -174,25 +166,35 @@ impl Agenda {
     }
 
     /// All that may be done, in that order. Fails only for want of memory.
-    pub fn all<F: Fn(VatNo) -> bool>(
+    pub fn all(
         &self,
         alloc: Global,
         world: &World,
-        is_out: F,
+        desk: &Desk,
     ) -> Result<Vec<Step>, AllocError> {
         let mut steps = Vec::new(alloc);
         for name in self.waiting.iter() {
-            if let Some(step) = message_step(alloc, world, *name, &is_out)? {
+            if let Some(step) = message_step(alloc, world, *name, desk)? {
                 steps.push(step)?;
             }
         }
         for known in self.known.iter() {
-            if !is_out(known.vat) {
+            if !desk.has_vat(known.vat) {
                 steps.push(Step::Learn(known.vat, known.promise))?;
             }
         }
         Ok(steps)
     }
+}
+
+/// Puts an item into a set or takes it out.
+fn keep<T: Ord + Drop>(set: &mut BTreeSet<T>, item: T, stays: bool) -> Result<(), AllocError> {
+    if stays {
+        set.insert(item)?;
+    } else {
+        set.remove(&item);
+    }
+    Ok(())
 }
 
 fn is_waiting(message: Option<&Message>) -> bool {
@@ -210,11 +212,11 @@ fn is_open(state: Option<&VatState>, promise: PromId) -> bool {
 }
 
 /// What a message can do: arrive, go on, or have its turn.
-fn message_step<F: Fn(VatNo) -> bool>(
+fn message_step(
     alloc: Global,
     world: &World,
     name: MsgId,
-    is_out: &F,
+    desk: &Desk,
 ) -> Result<Option<Step>, AllocError> {
     let Some(message) = world.message(name) else {
         return Ok(None);
@@ -225,7 +227,7 @@ fn message_step<F: Fn(VatNo) -> bool>(
             if onward(alloc, world, message, vat)?.is_some() {
                 return Ok(Some(Step::Forward(name)));
             }
-            if !is_out(vat) && is_ready(alloc, world, message, vat)? {
+            if !desk.has_vat(vat) && is_ready(alloc, world, message, vat)? {
                 return Ok(Some(Step::Turn(name)));
             }
             Ok(None)

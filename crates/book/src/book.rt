@@ -507,7 +507,7 @@ impl Book {
     /// promise. Turns and learning of vats of which a ticket is out are left out. Fails only for want of memory.
     pub fn next(&mut self) -> Result<Option<Step>, AllocError> {
         let agenda = self.agenda()?;
-        let step = agenda.first(self.alloc, self.core.world(), |vat| self.desk.has_vat(vat));
+        let step = agenda.first(self.alloc, self.core.world(), &self.desk);
         self.agenda = Some(agenda);
         step
     }
@@ -515,7 +515,7 @@ impl Book {
     /// All that may be done, in that order. Fails only for want of memory.
     pub fn enabled(&mut self) -> Result<Vec<Step>, AllocError> {
         let agenda = self.agenda()?;
-        let steps = agenda.all(self.alloc, self.core.world(), |vat| self.desk.has_vat(vat));
+        let steps = agenda.all(self.alloc, self.core.world(), &self.desk);
         self.agenda = Some(agenda);
         steps
     }
