@@ -1,0 +1,2 @@
+pub mod Enabled
+pub mod Agendas
