@@ -20,7 +20,11 @@ use Rattle.post.specs.declared.message.Message as code-message
 use Rattle.worldcells.specs.World as world
 use Rattle.post.specs.Messages.{Message, at_vat}
 use Rattle.worldcells.specs.World.{message, vat_state}
-use Rattle.event.specs.Events.{Foot, Does, events, InOrder, Turn, Turns, Leaves, turn_foot}
+use Rattle.event.specs.Events.{Foot, Does, events, Turn, Turns, TurnLeaves, turn_foot}
+use Rattle.event.specs.Ready.{leads_there, first_undone}
+use Rattle.event.specs.Walks.{awaited, found_by}
+use Rattle.deliveries.specs.Outcomes.{found_of}
+use Rattle.deliveries.specs.declared.lead.Lead.{Lead}
 use Rattle.event.specs.Runs.{PlainRun}
 use Rattle.event.specs.Effects.{turn_of}
 use Rattle.deliveries.specs.declared.outcome.Outcome.{Outcome}
@@ -64,19 +68,26 @@ pub record EntersNext (e : Event) (f : Foot) (seat : ℕ) (old now : Book) : Typ
 abbrev pub lent_of : Task → Lent
 lent_of t = record { number = t.event; message = t.name; vat = t.vat; budget = t.budget; seat = t.seat }
 
--- a ticket carries a message of the world that is at its vat, and the vat's state
+-- a ticket carries a message of the world that is at its vat, where it leads, and the vat's state
 pub record Carries (w : world.World) (t : Out) : Type 0 where
   pub waiting : w (key.Msg t.name) ≡ Some (message (message_of t.message))
   pub there : (message_of t.message).place ≡ at_vat t.vat
+  pub lead : found_of t.lead ≡ found_by w (message_of t.message).delivery
   pub state : state_of (arc_value t.state) ≡ vat_state w t.vat
 
--- a message may be delivered with this budget, as the turn of the name that comes next
-pub record Admitted (b : Book) (m : MsgId) (budget : ℕ) (g : code-message.Message) (v : VatNo) (e : EventName) : Type 0 where
+-- a message at a vat may be delivered there
+pub record IsReadyAt (w : world.World) (g : Message) (v : VatNo) : Type 0 where
+  pub leads : leads_there w v g ≡ true
+  pub in_order : first_undone w (awaited w g) ≡ None
+
+-- a message may be delivered with this budget, as the turn of the name that comes next, and this is where it leads
+pub record Admitted (b : Book) (m : MsgId) (budget : ℕ) (g : code-message.Message) (l : Lead) (v : VatNo) (e : EventName) : Type 0 where
   pub named : e.0 ≡ b.next
   pub refusal : checkout_refusal b m budget ≡ None
   pub waiting : b.world (key.Msg m) ≡ Some (message (message_of g))
   pub there : (message_of g).place ≡ at_vat v
-  pub in_order : InOrder b.world (message_of g).after
+  pub ready : IsReadyAt b.world (message_of g) v
+  pub lead : found_of l ≡ found_by b.world (message_of g).delivery
 
 -- a ticket for a message is lent to a seat: it has the name that comes next
 pub record Lends (m : MsgId) (budget seat : ℕ) (t : Out) (old now : Book) : Type 0 where
@@ -85,7 +96,7 @@ pub record Lends (m : MsgId) (budget seat : ℕ) (t : Out) (old now : Book) : Ty
   pub same_budget : t.budget ≡ budget
   pub same_seat : t.seat ≡ seat
   pub carries : Carries old.world t
-  pub in_order : InOrder old.world (message_of t.message).after
+  pub ready : IsReadyAt old.world (message_of t.message) t.vat
   pub lent : now ≡ record old { next = old.next + 1; out = old.out ++ lent_of (task_of t) ∷ [] }
 
 -- a ticket is out, and of a message that the world has it carries a copy, their places aside
@@ -93,11 +104,12 @@ pub record IsKnown (b : Book) (t : Task) : Type 0 where
   pub out : Contains b.out (lent_of t)
   pub copy : (g : Message) → b.world (key.Msg t.name) ≡ Some (message g) → record g { place = (message_of t.message).place } ≡ message_of t.message
 
--- the message is still ready at its vat, and each cell that the turn touched holds what was found there
+-- the message is still ready at its vat and leads where it led, and each cell that the turn touched holds what was found there
 pub record IsFresh (b : Book) (r : Ran) : Type 0 where
   pub waiting : b.world (key.Msg r.carried.name) ≡ Some (message (message_of r.carried.message))
   pub there : (message_of r.carried.message).place ≡ at_vat r.carried.vat
-  pub in_order : InOrder b.world (message_of r.carried.message).after
+  pub ready : IsReadyAt b.world (message_of r.carried.message) r.carried.vat
+  pub lead : found_of r.carried.lead ≡ found_by b.world (message_of r.carried.message).delivery
   pub found : Found r.outcome.footprint (vat_state b.world r.carried.vat)
 
 -- why a turn that was run is refused
@@ -111,8 +123,8 @@ pub record EntersTurn (e : EventName) (m : MsgId) (budget seat : ℕ) (t : Turn)
   pub turns : ∥ Turns e old.world m budget t ∥₁
   pub cells : List Cell
   pub left : List (Cell × heap.Content)
-  pub leaves : Leaves t cells left
-  pub enters : Enters (record { name = e; act = turn t.vat m budget }) (turn_foot e m t cells left) seat old now
+  pub leaves : TurnLeaves t cells left
+  pub enters : Enters (record { name = e; act = turn t.vat m budget }) (turn_foot e old.world m t cells left) seat old now
 
 -- the turn that a ticket was run for
 abbrev pub turn_in : world.World → Ran → Turn

@@ -7,7 +7,7 @@ use Rattle.scopes.specs.Check as check
 use Rattle.scopes.specs.Scope as scope
 use Rattle.scopes.specs.declared.checking.CheckFault.{CheckFault}
 use Rattle.scopes.specs.declared.checking.CheckFault.TheVariants as check-fault
-use Rattle.book.specs.Refusals.{Refusal, no_vat, name_taken, no_message, not_there, before, full, stale, vat_out, no_ticket, no_event, no_position, not_live, still_live, not_closed, crossed, cause_missing, dependent, bad_budget, unchecked}
+use Rattle.book.specs.Refusals.{Refusal, no_vat, name_taken, no_message, not_there, not_ready, before, nothing_to_learn, full, stale, vat_out, no_ticket, no_event, no_position, not_live, still_live, not_closed, crossed, cause_missing, dependent, bad_budget, unchecked}
 use Rattle.turn.specs.declared.ticket.Ran.{Ran}
 use Rattle.book.specs.Books.{Book}
 use Rattle.book.specs.Calls.{RefusesCommit}
@@ -23,7 +23,9 @@ fault_text (fault.NoVat x) = codes "B1 NoVat " ++ x
 fault_text (fault.NameTaken x) = codes "B2 NameTaken " ++ x
 fault_text (fault.NoMessage m) = codes "B3 NoMessage " ++ message_text m
 fault_text fault.NotThere = codes "B4 NotThere"
+fault_text fault.NotReady = codes "B5 NotReady"
 fault_text (fault.Before m) = codes "B6 Before " ++ message_text m
+fault_text fault.NothingToLearn = codes "B7 NothingToLearn"
 fault_text fault.Full = codes "B8 Full"
 fault_text fault.Stale = codes "B9 Stale"
 fault_text fault.VatOut = codes "B10 VatOut"
@@ -55,7 +57,9 @@ Tells (fault.NoVat x) refusal = refusal ≡ Some (no_vat x)
 Tells (fault.NameTaken x) refusal = refusal ≡ Some (name_taken x)
 Tells (fault.NoMessage m) refusal = refusal ≡ Some (no_message m)
 Tells fault.NotThere refusal = refusal ≡ Some not_there
+Tells fault.NotReady refusal = refusal ≡ Some not_ready
 Tells (fault.Before m) refusal = refusal ≡ Some (before m)
+Tells fault.NothingToLearn refusal = refusal ≡ Some nothing_to_learn
 Tells fault.Full refusal = refusal ≡ Some full
 Tells fault.Stale refusal = refusal ≡ Some stale
 Tells fault.VatOut refusal = refusal ≡ Some vat_out

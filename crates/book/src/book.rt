@@ -10,16 +10,17 @@ ghost use Rattle.scopes.specs.Check.{scopes_of};
 ghost use Rattle.scopes.specs.Scope.{checked_program};
 ghost use Rattle.scopes.specs.declared.naming.TopName.{TopName};
 ghost use Rattle.heap.specs.Found.{Found};
-ghost use Rattle.worldcells.specs.Events.{birth, ask};
+ghost use Rattle.worldcells.specs.Events.{birth, ask, arrive, forward, learn};
 ghost use Rattle.worldcells.specs.EventView.{event_of};
 ghost use Rattle.post.specs.MessageView.{place_of, message_of, vat_of};
 ghost use Rattle.worldcells.specs.Theory.{state_of_world};
 ghost use Rattle.worldcells.specs.View.{world_of};
-ghost use Rattle.post.specs.Messages.{at_vat};
+ghost use Rattle.post.specs.Messages.{Vat as VatModel, at_vat};
 ghost use Rattle.worldcells.specs.World.{vat, vat_named, vat_state};
-ghost use Rattle.event.specs.Events.{Foot, Turn, birth_foot, ask_foot};
+ghost use Rattle.event.specs.Events.{AreNamed, Foot, Turn, birth_foot, ask_foot};
+ghost use Rattle.agenda.specs.Enabled.{Enabled, First};
 ghost use Rattle.event.specs.Effects.{Happens};
-ghost use Rattle.deliveries.specs.Outcomes.{ended_of};
+ghost use Rattle.deliveries.specs.Outcomes.{told_of};
 ghost use Rattle.event.specs.Runs.{PlainRun};
 ghost use Rattle.journal.specs.Items.{item_of};
 ghost use Rattle.journal.specs.Lines.{plain, lines_of, entries_in};
@@ -27,10 +28,10 @@ ghost use Rattle.causality.specs.Exact.{Cone};
 ghost use Rattle.causality.specs.Journals.{IsJournal};
 ghost use Rattle.causality.specs.Selections.{chosen};
 ghost use Rattle.undo.specs.CoreView.{items_of};
-ghost use Rattle.desk.specs.Desks.{is_out, without};
+ghost use Rattle.desk.specs.Desks.{has_vat, is_out, without};
 ghost use Rattle.std.specs.Option.{option_map};
 ghost use Rattle.desk.specs.DeskView.{lent_of as desk_lent, out_of};
-ghost use Rattle.book.specs.Refusals.{birth_refusal, ask_refusal, checkout_refusal, full_refusal, check_refusal, taken_refusal, undo_refusal, redo_refusal, cone_refusal, exchange_refusal, budget_refusal, refusal_of, full, journal_full};
+ghost use Rattle.book.specs.Refusals.{birth_refusal, ask_refusal, arrival_refusal, forward_refusal, learn_refusal, checkout_refusal, full_refusal, check_refusal, taken_refusal, undo_refusal, redo_refusal, cone_refusal, exchange_refusal, budget_refusal, refusal_of, full, journal_full};
 ghost use Rattle.book.specs.Books.{blank};
 ghost use Rattle.book.specs.Calls.{EntersNext, Admitted, TurnsNext, lent_of, Lends, Commits, IsKnown, IsFresh, Undoes, Redoes, Exchanges, StoodAt, live_events};
 ghost use Rattle.book.specs.Fault.{Tells, TellsCommit, Unturned};
@@ -294,8 +295,10 @@ impl Book {
         earlier: &[Text],
         script: &Program,
     ) -> Result<(EventName, Vec<VatNo>), BookFault>
-        ensures ok { IfOk result (λ e. (e.0 ≡ self.now.next) × (self.now.next ≤ 4294967295) × ((book_of self.now).world (key.Name name.now) ≡ None) × (birth_refusal (book_of self.now) name.now (program_of script.now) ≡ None)) }
-        ensures err { IfErr result (λ fault. Tells fault (birth_refusal (book_of self.now) name.now (program_of script.now))) }
+        ensures ok { IfOk result (λ r. (r.0.0 ≡ self.now.next) × (self.now.next ≤ 4294967295) × ((book_of self.now).world (key.Name name.now) ≡ None)
+            × ((vats : List VatModel) × AreNamed (book_of self.now).world (names_of earlier.now) vats × (r.1.items ≡ map (λ v. v.number) vats))
+            × (birth_refusal (book_of self.now) name.now (names_of earlier.now) (program_of script.now) ≡ None)) }
+        ensures err { IfErr result (λ fault. Tells fault (birth_refusal (book_of self.now) name.now (names_of earlier.now) (program_of script.now))) }
     {
         self.check_free(name)?;
         let vats = self.vats_named(earlier)?;
@@ -327,8 +330,9 @@ impl Book {
         earlier: Vec<Text>,
         script: Program,
     ) -> Result<EventName, BookFault>
-        ensures ok { IfOk result (λ e. (birth_refusal (book_of self.old) name.now (program_of script) ≡ None) × EntersNext (record { name = e; act = birth name.now (program_of script) }) (birth_foot e name.now (program_of script)) 0 (book_of self.old) (book_of self.new)) }
-        ensures err { IfErr result (λ fault. Tells fault (birth_refusal (book_of self.old) name.now (program_of script))) }
+        ensures ok { IfOk result (λ e. (birth_refusal (book_of self.old) name.now (names_of earlier.items) (program_of script) ≡ None)
+            × ((vats : List VatModel) × EntersNext (record { name = e; act = birth name.now (names_of earlier.items) (program_of script) }) (birth_foot e name.now (names_of earlier.items) vats (program_of script)) 0 (book_of self.old) (book_of self.new))) }
+        ensures err { IfErr result (λ fault. Tells fault (birth_refusal (book_of self.old) name.now (names_of earlier.items) (program_of script))) }
         ensures unchanged { OnErr result (book_of self.new ≡ book_of self.old) }
     {
         let (event, vats) = self.admit_birth(name, &earlier, &script)?;
@@ -346,7 +350,7 @@ impl Book {
 
     /// The name of an asked program that may be entered, and its vat.
     fn admit_ask(&self, name: &Text, program: &Program) -> Result<(EventName, VatNo), BookFault>
-        ensures ok { IfOk result (λ r. (r.0.0 ≡ self.now.next) × (self.now.next ≤ 4294967295) × ((tops : List TopName) × (vat_named (book_of self.now).world name.now ≡ Some (record { number = r.1; tops = tops }))) × (ask_refusal (book_of self.now) name.now (program_of program.now) ≡ None)) }
+        ensures ok { IfOk result (λ r. (r.0.0 ≡ self.now.next) × (self.now.next ≤ 4294967295) × ((v : VatModel) × (vat_named (book_of self.now).world name.now ≡ Some v) × (v.number ≡ r.1)) × (ask_refusal (book_of self.now) name.now (program_of program.now) ≡ None)) }
         ensures err { IfErr result (λ fault. Tells fault (ask_refusal (book_of self.now) name.now (program_of program.now))) }
     {
         let Some(vat) = self.vat(name) else {
@@ -384,7 +388,11 @@ impl Book {
     ///
     /// # Errors
     /// `NoMessage`, `NotThere`, `Full`, `Memory`, tried in this order.
-    pub fn arrive(&mut self, name: MsgId) -> Result<EventName, BookFault> {
+    pub fn arrive(&mut self, name: MsgId) -> Result<EventName, BookFault>
+        ensures ok { IfOk result (λ e. (arrival_refusal (book_of self.old) name ≡ None) × ((f : Foot) × EntersNext (record { name = e; act = arrive name }) f 0 (book_of self.old) (book_of self.new))) }
+        ensures err { IfErr result (λ fault. Tells fault (arrival_refusal (book_of self.old) name)) }
+        ensures unchanged { OnErr result (book_of self.new ≡ book_of self.old) }
+    {
         let Some(message) = self.core.world().message(name) else {
             return Err(BookFault::NoMessage(name));
         };
@@ -407,7 +415,11 @@ impl Book {
     ///
     /// # Errors
     /// `NoMessage`, `NotThere`, `NotReady`, `Full`, `Memory`, tried in this order.
-    pub fn forward(&mut self, name: MsgId) -> Result<EventName, BookFault> {
+    pub fn forward(&mut self, name: MsgId) -> Result<EventName, BookFault>
+        ensures ok { IfOk result (λ e. (forward_refusal (book_of self.old) name ≡ None) × ((f : Foot) × EntersNext (record { name = e; act = forward name }) f 0 (book_of self.old) (book_of self.new))) }
+        ensures err { IfErr result (λ fault. Tells fault (forward_refusal (book_of self.old) name)) }
+        ensures unchanged { OnErr result (book_of self.new ≡ book_of self.old) }
+    {
         let world = self.core.world();
         let (message, vat) = match message_at_vat(world, name) {
             Ok(found) => found,
@@ -435,7 +447,11 @@ impl Book {
     ///
     /// # Errors
     /// `NoVat`, `NothingToLearn`, `Full`, `Memory`, tried in this order.
-    pub fn learn(&mut self, name: &Text, promise: PromId) -> Result<EventName, BookFault> {
+    pub fn learn(&mut self, name: &Text, promise: PromId) -> Result<EventName, BookFault>
+        ensures ok { IfOk result (λ e. (learn_refusal (book_of self.old) name.now promise ≡ None) × ((v : VatNo) × (f : Foot) × EntersNext (record { name = e; act = learn v promise }) f 0 (book_of self.old) (book_of self.new))) }
+        ensures err { IfErr result (λ fault. Tells fault (learn_refusal (book_of self.old) name.now promise)) }
+        ensures unchanged { OnErr result (book_of self.new ≡ book_of self.old) }
+    {
         let vat = match self.vat(name) {
             Some(vat) => vat.number,
             None => return Err(BookFault::NoVat(name.share()?)),
@@ -505,7 +521,10 @@ impl Book {
 
     /// The first that may be done: what a message can do, in order of their names, then what vats can learn, in order of birth and of
     /// promise. Turns and learning of vats of which a ticket is out are left out. Fails only for want of memory.
-    pub fn next(&mut self) -> Result<Option<Step>, AllocError> {
+    pub fn next(&mut self) -> Result<Option<Step>, AllocError>
+        ensures first { IfOk result (First (book_of self.old).world (λ v. has_vat v (book_of self.old).out)) }
+        ensures same { book_of self.new ≡ book_of self.old }
+    {
         let agenda = self.agenda()?;
         let step = agenda.first(self.alloc, self.core.world(), &self.desk);
         self.agenda = Some(agenda);
@@ -513,7 +532,10 @@ impl Book {
     }
 
     /// All that may be done, in that order. Fails only for want of memory.
-    pub fn enabled(&mut self) -> Result<Vec<Step>, AllocError> {
+    pub fn enabled(&mut self) -> Result<Vec<Step>, AllocError>
+        ensures all { IfOk result (λ steps. Enabled (book_of self.old).world (λ v. has_vat v (book_of self.old).out) steps.items) }
+        ensures same { book_of self.new ≡ book_of self.old }
+    {
         let agenda = self.agenda()?;
         let steps = agenda.all(self.alloc, self.core.world(), &self.desk);
         self.agenda = Some(agenda);
@@ -526,7 +548,7 @@ impl Book {
         message: MsgId,
         budget: u32,
     ) -> Result<(Message, Lead, VatNo, EventName), BookFault>
-        ensures ok { IfOk result (λ r. Admitted (book_of self.now) message budget r.0 r.1 r.2) }
+        ensures ok { IfOk result (λ r. Admitted (book_of self.now) message budget r.0 r.1 r.2 r.3) }
         ensures in_range { OnOk result (self.now.next ≤ 4294967295) }
         ensures err { IfErr result (λ fault. Tells fault (checkout_refusal (book_of self.now) message budget)) }
     {
@@ -725,7 +747,7 @@ impl Book {
     /// # Errors
     /// `BadBudget`, `NoMessage`, `NotThere`, `VatOut`, `Before`, `Full`, `Memory`, tried in this order.
     pub fn turn(&mut self, message: MsgId, budget: u32) -> Result<Turned, BookFault>
-        ensures ok { IfOk result (λ t. (checkout_refusal (book_of self.old) message budget ≡ None) × ((u : Turn) × TurnsNext t.event message budget u (book_of self.old) (book_of self.new) × (ended_of t.ended ≡ u.outcome.end))) }
+        ensures ok { IfOk result (λ t. (checkout_refusal (book_of self.old) message budget ≡ None) × ((u : Turn) × TurnsNext t.event message budget u (book_of self.old) (book_of self.new) × (told_of t.ended ≡ u.outcome.told))) }
         ensures err { IfErr result (λ fault. Tells fault (checkout_refusal (book_of self.old) message budget)) }
         ensures unchanged { IfErr result (λ fault. Unturned fault (book_of self.old) (book_of self.new)) }
     {
