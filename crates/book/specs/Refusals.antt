@@ -134,9 +134,12 @@ forward_refusal b m =
 abbrev pub can_learn : World → VatNo → PromId → Bool
 can_learn w v p = is_open (vat_state w v (view_cell p)) && is_some (published_as w p)
 
+abbrev pub learning_refusal : Book → VatNo → PromId → Option Refusal
+learning_refusal b v p = first (refuse_where (not (can_learn b.world v p)) nothing_to_learn) (full_refusal b)
+
 abbrev pub learn_refusal_by : Option Vat → Book → Name → PromId → Option Refusal
 learn_refusal_by None b x p = Some (no_vat x)
-learn_refusal_by (Some v) b x p = first (refuse_where (not (can_learn b.world v.number p)) nothing_to_learn) (full_refusal b)
+learn_refusal_by (Some v) b x p = learning_refusal b v.number p
 
 abbrev pub learn_refusal : Book → Name → PromId → Option Refusal
 learn_refusal b x p = learn_refusal_by (vat_named b.world x) b x p

@@ -296,9 +296,9 @@ impl Book {
         script: &Program,
     ) -> Result<(EventName, Vec<VatNo>), BookFault>
         ensures ok { IfOk result (λ r. (r.0.0 ≡ self.now.next) × (self.now.next ≤ 4294967295) × ((book_of self.now).world (key.Name name.now) ≡ None)
-            × ((vats : List VatModel) × AreNamed (book_of self.now).world (names_of earlier.now) vats × (r.1.items ≡ map (λ v. v.number) vats))
-            × (birth_refusal (book_of self.now) name.now (names_of earlier.now) (program_of script.now) ≡ None)) }
-        ensures err { IfErr result (λ fault. Tells fault (birth_refusal (book_of self.now) name.now (names_of earlier.now) (program_of script.now))) }
+            × ((vats : List VatModel) × AreNamed (book_of self.now).world earlier.now vats × (r.1.items ≡ map (λ v. v.number) vats))
+            × (birth_refusal (book_of self.now) name.now earlier.now (program_of script.now) ≡ None)) }
+        ensures err { IfErr result (λ fault. Tells fault (birth_refusal (book_of self.now) name.now earlier.now (program_of script.now))) }
     {
         self.check_free(name)?;
         let vats = self.vats_named(earlier)?;
@@ -330,9 +330,9 @@ impl Book {
         earlier: Vec<Text>,
         script: Program,
     ) -> Result<EventName, BookFault>
-        ensures ok { IfOk result (λ e. (birth_refusal (book_of self.old) name.now (names_of earlier.items) (program_of script) ≡ None)
-            × ((vats : List VatModel) × EntersNext (record { name = e; act = birth name.now (names_of earlier.items) (program_of script) }) (birth_foot e name.now (names_of earlier.items) vats (program_of script)) 0 (book_of self.old) (book_of self.new))) }
-        ensures err { IfErr result (λ fault. Tells fault (birth_refusal (book_of self.old) name.now (names_of earlier.items) (program_of script))) }
+        ensures ok { IfOk result (λ e. (birth_refusal (book_of self.old) name.now earlier.items (program_of script) ≡ None)
+            × ((vats : List VatModel) × EntersNext (record { name = e; act = birth name.now earlier.items (program_of script) }) (birth_foot e name.now earlier.items vats (program_of script)) 0 (book_of self.old) (book_of self.new))) }
+        ensures err { IfErr result (λ fault. Tells fault (birth_refusal (book_of self.old) name.now earlier.items (program_of script))) }
         ensures unchanged { OnErr result (book_of self.new ≡ book_of self.old) }
     {
         let (event, vats) = self.admit_birth(name, &earlier, &script)?;

@@ -79,7 +79,7 @@ fn name_record(
     earlier: &[Text],
     script: &Program,
 ) -> Result<CellRecord, AllocError>
-    ensures { IfOk result (λ r. kept_of r ≡ (key.Name name.now, (Some (model.vat (record { number = record { 0 = event }; earlier = texts_of earlier.now; tops = own_names_in (program_of script.now) })), Some event.0))) }
+    ensures { IfOk result (λ r. kept_of r ≡ (key.Name name.now, (Some (model.vat (record { number = record { 0 = event }; earlier = earlier.now; tops = own_names_in (program_of script.now) })), Some event.0))) }
 {
     let vat = Vat::new(
         alloc,
@@ -169,7 +169,7 @@ pub fn birth_effects(
     script: &Program,
 ) -> Result<Effects, AllocError>
     requires { length earlier.now ≡ length vats.now }
-    ensures { IfOk result (λ it. (found : List model_post.Vat) → map (λ v. v.number) found ≡ vats.now → Brings event (birth_foot event name.now (texts_of earlier.now) found (program_of script.now)) it.touched.items (kepts_of it.records.items)) }
+    ensures { IfOk result (λ it. (found : List model_post.Vat) → map (λ v. v.number) found ≡ vats.now → Brings event (birth_foot event name.now earlier.now found (program_of script.now)) it.touched.items (kepts_of it.records.items)) }
 {
     let first = first_message(event);
     let message = opening(alloc, event, known_as(alloc, earlier, vats)?, script)?;
