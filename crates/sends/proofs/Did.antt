@@ -1,5 +1,5 @@
 -- What the steps of the program do under a turn.
-use Rattle.std.proofs.Common.{◌≡◌, Bool, true, false, Option, Some, None, List, [], ◌∷◌, ◌++◌, refl, sym, ap, ◌∙◌, subst}
+use Rattle.std.proofs.Common.{◌≡◌, Bool, true, false, Option, Some, None, List, [], ◌∷◌, ◌++◌, Result, Ok, Err, IfOk, refl, sym, ap, ◌∙◌, subst}
 use Rattle.ids.specs.declared.names.MsgId.{MsgId}
 use Rattle.ids.specs.declared.names.PromId.{PromId}
 use Rattle.ids.specs.declared.reference.Reference.{Reference}
@@ -90,7 +90,9 @@ did_join_end v w f t d e k h q i =
     (did_then (fence_joined (reference_in w) f) (λ n. over (reference_in w)) e k k nothing t its (ap (λ t. (t, under k)) (sym q)))
 
 -- a promise was entered
-pub did_enter : (p : PromId) (v : Val) (f : List MsgId) (t : Option Reference) (d e k l : Drafted) → under e ≡ holding same_cell (view_cell p) (viewed (resolved v)) (under d) → Did (fence_of (reference.Promise p)) e f k → Did (end_joined v f) k t l → Did (entered p v) d t l
-did_enter p v f t d e k l w h i =
+pub did_enter : {E : Type 0} (s : Result (Option Reference) E) (p : PromId) (v : Val) (f : List MsgId) (d e k l : Drafted) → under e ≡ holding same_cell (view_cell p) (viewed (resolved v)) (under d) → Did (fence_of (reference.Promise p)) e f k
+    → IfOk s (λ t. Did (end_joined v f) k t l) → IfOk s (λ t. Did (entered p v) d t l)
+did_enter (Ok t) p v f d e k l w h i =
     did_write_then (view_cell p) (viewed (resolved v)) (and_then (fence_of (reference.Promise p)) (end_joined v)) d e l t w
     (did_then (fence_of (reference.Promise p)) (end_joined v) e k l f t h i)
+did_enter (Err x) p v f d e k l w h i = i
