@@ -6,8 +6,8 @@ ghost use Rattle.sends.specs.Making.{publishing, already_used, used, resolving, 
 ghost use Rattle.sends.specs.Playing.{Did, IsSameTurn};
 ghost use Rattle.sends.specs.View.{published_of, making_of};
 
-use crate::entering::enter_if_come;
 use crate::ends::{end_of, settle};
+use crate::entering::enter_if_come;
 use crate::leaving::leave;
 use crate::refusing::{Making, Refusal, refuse};
 use eorder::carried::Carried;

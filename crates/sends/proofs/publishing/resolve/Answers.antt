@@ -1,6 +1,5 @@
-use Rattle.std.proofs.Common.{option_map, subst, ap, ◌∙◌}
+use Rattle.std.proofs.Common.{option_map, ap, ◌∙◌}
 use Rattle.values.specs.View.{val_of}
-use Rattle.sends.specs.Vats.{settled}
 use Rattle.sends.specs.Playing.{under}
 use Rattle.sends.specs.View.{published_of, making_of, refusal_of}
 use Rattle.sends.proofs.Publications.{resolved_to, not_resolved}

@@ -7,7 +7,7 @@ use Rattle.heap.specs.State.{Cell, Content}
 use Rattle.values.specs.declared.value.Value.{Value}
 use Rattle.values.specs.View.{val_of, vals_of}
 use Rattle.sends.specs.Vats.{sent_after, leaving, references_in, comes_in, nothing}
-use Rattle.sends.specs.Making.{Making, Sent, makes, send_placed}
+use Rattle.sends.specs.Making.{Making, Sent, makes}
 use Rattle.sends.specs.Playing.{under, Did}
 use Rattle.sends.proofs.Messages.{did_place}
 use Rattle.sends.proofs.sending.place.Goals as goal

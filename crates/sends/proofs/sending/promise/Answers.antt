@@ -1,10 +1,9 @@
-use Rattle.std.proofs.Common.{◌≡◌, true, sym, ap, ◌∙◌, subst}
+use Rattle.std.proofs.Common.{◌≡◌, ap, ◌∙◌, subst}
 use Rattle.ids.specs.declared.names.ObjId.{ObjId}
-use Rattle.cells.specs.Doing.{holding}
-use Rattle.heap.specs.State.{object_cell, made, resolver, same_cell}
+use Rattle.heap.specs.State.{object_cell, made, resolver}
 use Rattle.heap.specs.Drafts.{Counts}
 use Rattle.sends.specs.Making.{makes, promising}
-use Rattle.sends.specs.Playing.{under, Did, next_object}
+use Rattle.sends.specs.Playing.{Did, next_object}
 use Rattle.sends.proofs.Did.{written_one}
 use Rattle.sends.proofs.Messages.{did_promise}
 use Rattle.sends.proofs.sending.promise.Goals as goal

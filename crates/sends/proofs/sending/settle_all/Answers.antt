@@ -12,7 +12,7 @@ returns-in-None-clause-did c =
 pub loop-value-preserved : goal.loop-value-preserved
 loop-value-preserved c = (
   settle_next (vals_of c.args.values.now) c.args.values.now c.loop-value.row.items c.push.new.self.items c.loop-value.value-index c.value-item.result c.in-Some.settled (option_map val_of c.in_ok-settled.field-0) c.args.draft.now c.loop-value.draft c.settle.new.draft
-  c.loop-value-test.true c.value-item.is c.loop-value.invariant.0 c.in_ok-settled.ensures.did (ap (option_map val_of) c.in-Some.is) c.in_ok-push-in-Some.ensures.items,
+      c.loop-value-test.true c.value-item.is c.loop-value.invariant.0 c.in_ok-settled.ensures.did (ap (option_map val_of) c.in-Some.is) c.in_ok-push-in-Some.ensures.items,
   same_turn c.args.draft.now c.loop-value.draft c.settle.new.draft c.loop-value.invariant.1 c.settle.ensures.turn,
 )
 

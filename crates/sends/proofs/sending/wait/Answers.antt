@@ -1,6 +1,6 @@
 use Rattle.std.proofs.Common.{sym, ap, ◌∙◌}
 use Rattle.values.specs.View.{val_of}
-use Rattle.sends.specs.Making.{Making, makes}
+use Rattle.sends.specs.Making.{makes}
 use Rattle.sends.specs.Playing.{under}
 use Rattle.sends.proofs.Messages.{did_wait, no_wait}
 use Rattle.sends.proofs.sending.wait.Goals as goal
