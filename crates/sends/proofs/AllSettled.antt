@@ -1,6 +1,6 @@
 -- Values are settled in a loop.
 use Rattle.std.proofs.Common.{◌≡◌, ◌<◌, ◌≤◌, ◌+◌, ℕ, List, ◌∷◌, [], ◌++◌, drop, length, get_or, Option, Some, None, option_map, refl, sym, ap, ◌∙◌}
-use Rattle.cells.specs.Doing.{over, Under, play, and_then}
+use Rattle.cells.specs.Doing.{over, Under, play}
 use Rattle.heap.specs.State.{Cell, Content, same_cell}
 use Rattle.heap.specs.Drafted.{Drafted}
 use Rattle.values.specs.Data.{Val, Vals, no_vals, and_val}
@@ -9,7 +9,7 @@ use Rattle.values.specs.View.{val_of, vals_of}
 use Rattle.values.specs.declared.value.Value.{Value}
 use Rattle.values.proofs.Tables.{vals_from, joined-joined, joined-no_vals}
 use Rattle.refs.proofs.Making.{none_left, row_more}
-use Rattle.sends.specs.Vats.{Vat, settled, settled_behind, all_settled}
+use Rattle.sends.specs.Vats.{settled, settled_behind, all_settled}
 use Rattle.sends.specs.Playing.{under, Did}
 use Rattle.sends.proofs.Playing.{played}
 

@@ -1,5 +1,5 @@
 -- References come in in a loop.
-use Rattle.std.proofs.Common.{◌≡◌, ◌<◌, ◌≤◌, ◌+◌, ℕ, Option, List, [], ◌∷◌, drop, length, get_or, Result, Ok, Err, IfOk, sym, ap, ◌∙◌, subst}
+use Rattle.std.proofs.Common.{◌≡◌, ◌<◌, ◌≤◌, ◌+◌, ℕ, Option, List, [], drop, length, get_or, Result, Ok, Err, IfOk, sym, ap, ◌∙◌, subst}
 use Rattle.std.specs.Result.{OnOk}
 use Rattle.std.proofs.lemmas.List.{drop_all}
 use Rattle.ids.specs.declared.names.MsgId.{MsgId}
@@ -9,7 +9,7 @@ use Rattle.cells.specs.Doing.{play}
 use Rattle.values.specs.Data.{Val}
 use Rattle.heap.specs.State.{same_cell}
 use Rattle.heap.specs.Drafted.{Drafted}
-use Rattle.sends.specs.Vats.{nothing, value_of, names_for, end_joined, brought, all_brought, received, arrived}
+use Rattle.sends.specs.Vats.{nothing, value_of, names_for, end_joined, brought, all_brought, received, arrived, each_once, coming_in}
 use Rattle.sends.specs.Playing.{under, Did}
 use Rattle.sends.proofs.Playing.{played, did_then}
 use Rattle.sends.proofs.Carrying.{no_reference, from_here}
@@ -54,3 +54,10 @@ pub came_with : {E : Type 0} (s : Result (Option Reference) E) (c : Carried) (r 
     → IfOk s (λ t. Did (end_joined v f) d t e) → IfOk s (λ t. Did (end_joined (value_of r) (names_for c r)) d t e)
 came_with (Ok t) c r v f d e h q i = subst (λ (p : Val × List MsgId). Did (end_joined p.0 p.1) d t e) (λ j. (h j, q j)) i
 came_with (Err x) c r v f d e h q i = i
+
+-- the references in a value come in
+pub did_receive : {X E : Type 0} (s : Result X E) (c : Carried) (rs none found slice : List Reference) (d e : Drafted) → none ≡ [] → found ≡ each_once none rs → slice ≡ found → OnOk s (Did (arrived c slice) d nothing e) → OnOk s (Did (coming_in c rs) d nothing e)
+did_receive (Ok x) c rs none found slice d e n h q i =
+    let its : slice ≡ each_once [] rs = q ∙ h ∙ ap (λ n. each_once n rs) n in
+    subst (λ (xs : List Reference). Did (arrived c xs) d nothing e) its i
+did_receive (Err x) c rs none found slice d e n h q i = i

@@ -1,10 +1,10 @@
 -- What the steps of the program do under a turn.
-use Rattle.std.proofs.Common.{◌≡◌, Bool, true, false, Option, Some, None, List, [], ◌∷◌, ◌++◌, refl, sym, ap, ◌∙◌, subst}
+use Rattle.std.proofs.Common.{◌≡◌, Option, Some, None, List, [], ◌∷◌, ◌++◌, Result, Ok, Err, IfOk, refl, sym, ap, ◌∙◌, subst}
 use Rattle.ids.specs.declared.names.MsgId.{MsgId}
 use Rattle.ids.specs.declared.names.PromId.{PromId}
 use Rattle.ids.specs.declared.reference.Reference.{Reference}
 use Rattle.ids.specs.declared.reference.Reference.TheVariants as reference
-use Rattle.cells.specs.Doing.{over, reads, writes, Under, touching, holding, play, and_then}
+use Rattle.cells.specs.Doing.{over, reads, writes, touching, holding, play, and_then}
 use Rattle.eorder.specs.Fences.{joined}
 use Rattle.values.specs.Data.{Val}
 use Rattle.heap.specs.State.{Cell, view_cell, fence_cell, Content, fenced, viewed, pending, resolved, same_cell, write, also}
@@ -12,7 +12,7 @@ use Rattle.heap.specs.Drafted.{Drafted}
 use Rattle.heap.specs.Drafts.{draft_of, touched_of, written_of}
 use Rattle.refs.specs.Walks.{walked, followed}
 use Rattle.refs.specs.Settling.{settling}
-use Rattle.sends.specs.Vats.{Vat, Nothing, nothing, names_of, fence_of, reference_in, fence_joined, end_joined, entrance, comes_in, entered, sent_after, ended, settled}
+use Rattle.sends.specs.Vats.{Vat, nothing, names_of, fence_of, reference_in, fence_joined, end_joined, entrance, comes_in, entered, sent_after, ended, settled}
 use Rattle.sends.specs.Playing.{under, Did, views_in, looked_at}
 use Rattle.sends.proofs.Playing.{did_then}
 use Rattle.sends.proofs.Followed.{ends_are_followed}
@@ -90,7 +90,9 @@ did_join_end v w f t d e k h q i =
     (did_then (fence_joined (reference_in w) f) (λ n. over (reference_in w)) e k k nothing t its (ap (λ t. (t, under k)) (sym q)))
 
 -- a promise was entered
-pub did_enter : (p : PromId) (v : Val) (f : List MsgId) (t : Option Reference) (d e k l : Drafted) → under e ≡ holding same_cell (view_cell p) (viewed (resolved v)) (under d) → Did (fence_of (reference.Promise p)) e f k → Did (end_joined v f) k t l → Did (entered p v) d t l
-did_enter p v f t d e k l w h i =
+pub did_enter : {E : Type 0} (s : Result (Option Reference) E) (p : PromId) (v : Val) (f : List MsgId) (d e k l : Drafted) → under e ≡ holding same_cell (view_cell p) (viewed (resolved v)) (under d) → Did (fence_of (reference.Promise p)) e f k
+    → IfOk s (λ t. Did (end_joined v f) k t l) → IfOk s (λ t. Did (entered p v) d t l)
+did_enter (Ok t) p v f d e k l w h i =
     did_write_then (view_cell p) (viewed (resolved v)) (and_then (fence_of (reference.Promise p)) (end_joined v)) d e l t w
     (did_then (fence_of (reference.Promise p)) (end_joined v) e k l f t h i)
+did_enter (Err x) p v f d e k l w h i = i

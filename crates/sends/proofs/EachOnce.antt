@@ -1,10 +1,9 @@
 -- References are gathered, each once.
-use Rattle.std.proofs.Common.{◌≡◌, ◌<◌, ◌≤◌, ◌+◌, ℕ, Bool, cond, List, [], ◌∷◌, ◌++◌, drop, length, get_or, refl, sym, ap, ◌∙◌}
+use Rattle.std.proofs.Common.{◌≡◌, ◌<◌, ◌≤◌, ◌+◌, ℕ, cond, List, [], ◌∷◌, ◌++◌, drop, length, get_or, refl, sym, ap, ◌∙◌}
 use Rattle.std.specs.List.{list_any}
 use Rattle.ids.specs.declared.reference.Reference.{Reference}
 use Rattle.ids.proofs.CellKeys.{references_agree}
 use Rattle.heap.specs.View.{same_target}
-use Rattle.values.specs.Data.{Vals}
 use Rattle.values.specs.View.{val_of, vals_of}
 use Rattle.values.specs.declared.value.Value.{Value}
 use Rattle.values.proofs.Tables.{vals_from}

@@ -1,14 +1,14 @@
 -- Ends under a turn are those of the map that the views are.
-use Rattle.std.proofs.Common.{◌≡◌, ℕ, zero, suc, Bool, true, false, cond, Option, Some, None, List, [], ◌∷◌, ◌++◌, refl, sym, ap, ◌∙◌}
+use Rattle.std.proofs.Common.{◌≡◌, ℕ, zero, suc, Bool, true, false, cond, Option, Some, None, List, [], ◌∷◌, ◌++◌, refl}
 use Rattle.std.specs.Option.{unwrap_or}
 use Rattle.ids.specs.declared.names.PromId.{PromId}
 use Rattle.cells.specs.Doing.{over, reads, Under, touching, play}
-use Rattle.values.specs.Data.{Val, promise}
+use Rattle.values.specs.Data.{Val}
 use Rattle.values.specs.Promises.{promise_of}
 use Rattle.heap.specs.State.{Cell, view_cell, Content, same_cell}
-use Rattle.refs.specs.Walks.{Resolutions, Walk, came, circled, stepped, stopped, onward, most_walked}
+use Rattle.refs.specs.Walks.{Walk, came, circled, stepped, stopped, onward, most_walked}
 use Rattle.refs.specs.Walks.{walk as walk_of}
-use Rattle.sends.specs.Vats.{Vat, resolution_in, walked_on, walked_from, walked_no_more, walk, ended}
+use Rattle.sends.specs.Vats.{Vat, resolution_in, walked_on, walked_from, walked_no_more, walk}
 use Rattle.sends.specs.Playing.{views_in, looked_at}
 use Rattle.sends.specs.Laws.{EndsAreFollowed}
 use Rattle.sends.proofs.Playing.{played}

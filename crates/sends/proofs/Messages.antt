@@ -1,5 +1,5 @@
 -- What is sent, and what waits.
-use Rattle.std.proofs.Common.{◌≡◌, Bool, true, false, Option, Some, None, List, refl, sym, ap, ◌∙◌, subst}
+use Rattle.std.proofs.Common.{◌≡◌, Bool, true, false, Some, None, List, refl}
 use Rattle.ids.specs.declared.names.VatNo.{VatNo}
 use Rattle.ids.specs.declared.names.MsgId.{MsgId}
 use Rattle.ids.specs.declared.names.PromId.{PromId}
@@ -37,9 +37,6 @@ module _ (here : VatNo) (m : MsgId) (result : VatNo → PromId) where
       (did_then (comes_in (result (goes_to here t))) (last after c) k l l nothing (sent after c) i refl))
 
   module _ (room : Bool) (v : Val) (vs : Vals) where
-    behind : Val → Vals → Vat (Making Sent)
-    behind t us = with_room room (send_placed here m result t us)
-
     -- the receiver has no settled form
     pub no_receiver : (w : Refusal) (d e : Drafted) → Did (settled v) d None e → w ≡ value_too_large → Did (sending here m room result v vs) d (refused w) e
     no_receiver w d e h r = did_then (settled v) (of_settled (λ t. and_then (all_settled vs) (of_settled (λ us. with_room room (send_placed here m result t us))))) d e e None (refused w) h (did_refuse w value_too_large e r)

@@ -1,7 +1,7 @@
 -- What is done one after another under a turn.
-use Rattle.std.proofs.Common.{◌≡◌, List, [], ◌∷◌, ◌++◌, refl, sym, ap, ◌∙◌, subst}
+use Rattle.std.proofs.Common.{◌≡◌, List, [], ◌∷◌, ◌++◌, refl, ap, ◌∙◌}
 use Rattle.ids.specs.declared.names.PromId.{PromId}
-use Rattle.cells.specs.Doing.{Doing, Under, touching, play, and_then}
+use Rattle.cells.specs.Doing.{Under, touching, play, and_then}
 use Rattle.cells.proofs.Doings.{one_after_another}
 use Rattle.heap.specs.State.{Cell, view_cell, Content, same_cell}
 use Rattle.heap.specs.Drafted.{Drafted}

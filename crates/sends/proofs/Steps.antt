@@ -1,5 +1,5 @@
 -- Single steps under a turn, where they succeed.
-use Rattle.std.proofs.Common.{◌≡◌, List, [], Option, Some, None, Result, Ok, Err, IfOk, refl, sym, ap, ◌∙◌}
+use Rattle.std.proofs.Common.{◌≡◌, List, [], Some, None, Result, Ok, Err, IfOk, sym, ap, ◌∙◌}
 use Rattle.std.specs.Result.{OnOk}
 use Rattle.ids.specs.declared.names.MsgId.{MsgId}
 use Rattle.ids.specs.declared.names.PromId.{PromId}

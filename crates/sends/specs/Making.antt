@@ -101,10 +101,13 @@ publishing p v =
     and_then (entered_if_come p v) (λ t.
     over (record { value = v; fences = c; joined = t })))
 
+abbrev pub already_used : Making Published
+already_used = refused (problem (codes "already resolved"))
+
 -- a resolver works once: while its promise is open
 abbrev pub first_use : PromId → Val → Option Content → Vat (Making Published)
 first_use p v (Some (viewed pending)) = and_then (publishing p v) (λ b. over (makes b))
-first_use p v _ = over (refused (problem (codes "already resolved")))
+first_use p v _ = over already_used
 
 abbrev pub used : PromId → Val → Vat (Making Published)
 used p v = reads (view_cell p) (first_use p v)

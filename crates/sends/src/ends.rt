@@ -8,9 +8,8 @@ ghost use Rattle.sends.specs.Playing.{under, Did, IsSameTurn, views_in, looked_a
 use heap::draft::Draft;
 use heap::state::View;
 use ids::names::PromId;
-use refs::ends;
 use refs::resolve::Resolve;
-use refs::settling;
+use refs::{ends, settling};
 use std::alloc::{AllocError, Global};
 use values::value::Value;
 

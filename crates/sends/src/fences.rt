@@ -17,8 +17,12 @@ pub fn reference_of(value: &Value) -> Option<Reference>
     ensures { result ≡ reference_in (val_of value.now) }
 {
     match value {
-        Value::Null | Value::Bool(_) | Value::Int(_) | Value::Text(_) | Value::List(_) | Value::Broken(_) =>
-            None,
+        Value::Null
+        | Value::Bool(_)
+        | Value::Int(_)
+        | Value::Text(_)
+        | Value::List(_)
+        | Value::Broken(_) => None,
         Value::Object(object) => Some(Reference::Object(*object)),
         Value::Ejector(ejector) => Some(Reference::Ejector(*ejector)),
         Value::Promise(promise) => Some(Reference::Promise(*promise)),

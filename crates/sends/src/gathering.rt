@@ -3,8 +3,8 @@ ghost use Rattle.std.specs.Prelude.{◌≡◌, OnOk};
 ghost use Rattle.values.specs.View.{val_of, vals_of};
 ghost use Rattle.sends.specs.Vats.{and_reference, each_once, references, references_in};
 
-use indexmap::IndexSet;
 use ids::reference::Reference;
+use indexmap::IndexSet;
 use std::alloc::AllocError;
 use values::value::Value;
 

@@ -14,11 +14,7 @@ use std::alloc::{AllocError, Global};
 use values::value::Value;
 
 /// References with the fences that they have at this moment. Those whose fences are empty are left out.
-fn carry(
-    alloc: Global,
-    draft: &mut Draft,
-    references: &[Reference],
-) -> Result<Carried, AllocError>
+fn carry(alloc: Global, draft: &mut Draft, references: &[Reference]) -> Result<Carried, AllocError>
     ensures did { IfOk result (λ c. Did (carried [] references.now) draft.old c draft.new) }
     ensures turn { IsSameTurn draft.old draft.new }
 {
@@ -41,11 +37,7 @@ pub fn leave(alloc: Global, draft: &mut Draft, value: &Value) -> Result<Carried,
 }
 
 /// The references in settled values leave with their fences.
-pub fn leave_all(
-    alloc: Global,
-    draft: &mut Draft,
-    values: &[Value],
-) -> Result<Carried, AllocError>
+pub fn leave_all(alloc: Global, draft: &mut Draft, values: &[Value]) -> Result<Carried, AllocError>
     ensures did { IfOk result (λ c. Did (leaving (references_in (vals_of values.now))) draft.old c draft.new) }
     ensures turn { IsSameTurn draft.old draft.new }
 {

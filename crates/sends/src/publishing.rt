@@ -2,12 +2,12 @@
 ghost use Rattle.std.specs.Prelude.{◌≡◌, IfOk};
 ghost use Rattle.values.specs.Replies.{text_in};
 ghost use Rattle.values.specs.View.{val_of, reply_of};
-ghost use Rattle.sends.specs.Making.{publishing, used, resolving, smashing, smashed_by, ending};
+ghost use Rattle.sends.specs.Making.{publishing, already_used, used, resolving, smashing, smashed_by, ending};
 ghost use Rattle.sends.specs.Playing.{Did, IsSameTurn};
 ghost use Rattle.sends.specs.View.{published_of, making_of};
 
-use crate::entering::enter_if_come;
 use crate::ends::{end_of, settle};
+use crate::entering::enter_if_come;
 use crate::leaving::leave;
 use crate::refusing::{Making, Refusal, refuse};
 use eorder::carried::Carried;
@@ -59,8 +59,16 @@ fn use_resolver(
     draft.reach_view(promise)?;
     match draft.known(promise) {
         Some(View::Open) => Ok(Making::Makes(publish(alloc, draft, promise, value)?)),
-        Some(View::Resolved(_)) | None => Ok(Making::Refused(refuse(alloc, "already resolved")?)),
+        Some(View::Resolved(_)) => no_use(alloc),
+        None => no_use(alloc),
     }
+}
+
+/// A resolver was used before.
+fn no_use(alloc: Global) -> Result<Making<Published>, AllocError>
+    ensures { IfOk result (λ m. making_of published_of m ≡ already_used) }
+{
+    Ok(Making::Refused(refuse(alloc, "already resolved")?))
 }
 
 /// A resolver resolves its promise to a value, which is settled before it is tried whether the resolver was used.

@@ -47,8 +47,12 @@ pub fn home_of(here: VatNo, target: &Value) -> VatNo
     ensures { result ≡ goes_to here (val_of target.now) }
 {
     match target {
-        Value::Null | Value::Bool(_) | Value::Int(_) | Value::Text(_) | Value::List(_) | Value::Broken(_) =>
-            here,
+        Value::Null
+        | Value::Bool(_)
+        | Value::Int(_)
+        | Value::Text(_)
+        | Value::List(_)
+        | Value::Broken(_) => here,
         Value::Object(object) => object.vat,
         Value::Ejector(ejector) => ejector.vat,
         Value::Promise(promise) => promise.home,
@@ -155,11 +159,7 @@ pub fn wait(
 }
 
 /// Makes a promise, and its resolver, which is the turn's next object.
-pub fn promise(
-    draft: &mut Draft,
-    room: bool,
-    promise: PromId,
-) -> Result<Making<ObjId>, AllocError>
+pub fn promise(draft: &mut Draft, room: bool, promise: PromId) -> Result<Making<ObjId>, AllocError>
     requires { room ≡ true → (counts_of draft.old).objects < 4294967295 }
     ensures did { IfOk result (λ m. Did (promising room promise (next_object draft.old)) draft.old (making_of (λ o. o) m) draft.new) }
     ensures counts { IfOk result (λ m. counts_of draft.new ≡ and_resolver m (counts_of draft.old)) }

@@ -1,4 +1,4 @@
-use Rattle.std.proofs.Common.{sym, ap, ◌∙◌}
+use Rattle.std.proofs.Common.{ap, ◌∙◌}
 use Rattle.eorder.specs.Fences.{names_in}
 use Rattle.values.specs.View.{val_of}
 use Rattle.sends.proofs.BroughtIn.{came_with}

@@ -1,4 +1,4 @@
-use Rattle.std.proofs.Common.{sym, ap, ◌∙◌}
+use Rattle.std.proofs.Common.{ap, ◌∙◌}
 use Rattle.values.specs.View.{val_of}
 use Rattle.sends.specs.Playing.{under, looked_at}
 use Rattle.sends.proofs.Did.{did_end}

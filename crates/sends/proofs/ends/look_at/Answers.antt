@@ -8,7 +8,7 @@ use Rattle.sends.proofs.ends.look_at.Goals as goal
 pub loop-promise-preserved : goal.loop-promise-preserved
 loop-promise-preserved c = (
   look_next c.args.promises.now c.loop-promise.promise-index c.args.draft.now c.loop-promise.draft c.reach_view.new.self c.loop-promise-test.true c.loop-promise.invariant.0
-  (touched_one (view_cell (get_or c.args.promises.now c.loop-promise.promise-index no_promise)) c.loop-promise.draft c.reach_view.new.self c.in_ok-reach_view.ensures.state c.in_ok-reach_view.ensures.touched c.in_ok-reach_view.ensures.written),
+      (touched_one (view_cell (get_or c.args.promises.now c.loop-promise.promise-index no_promise)) c.loop-promise.draft c.reach_view.new.self c.in_ok-reach_view.ensures.state c.in_ok-reach_view.ensures.touched c.in_ok-reach_view.ensures.written),
   same_turn c.args.draft.now c.loop-promise.draft c.reach_view.new.self c.loop-promise.invariant.1 (record { counts = c.reach_view.ensures.counts; began = c.reach_view.ensures.began }),
 )
 

@@ -1,4 +1,4 @@
-use Rattle.std.proofs.Common.{option_map, sym, ap, ◌∙◌}
+use Rattle.std.proofs.Common.{option_map, ap, ◌∙◌}
 use Rattle.values.specs.View.{val_of}
 use Rattle.sends.specs.Playing.{under, looked_at}
 use Rattle.sends.proofs.Did.{did_settle}
