@@ -11,6 +11,7 @@ pub mod Framed
 pub mod Grown
 pub mod Kept
 pub mod Opened
+pub mod Paid
 pub mod Patterns
 pub mod Reached
 pub mod Seeking

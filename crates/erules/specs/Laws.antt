@@ -63,6 +63,10 @@ BeginningStays = (k : ℕ) (t : Tree) (a b : At) (o : End) → Ends k t a o b �
 abbrev pub StepsOnlyFall : Type 0
 StepsOnlyFall = (k : ℕ) (t : Tree) (a b : At) (o : End) → Ends k t a o b → b.left ≤ a.left
 
+-- each promise that it makes is paid for by a step
+abbrev pub PromisesArePaidFor : Type 0
+PromisesArePaidFor = (k : ℕ) (t : Tree) (a b : At) (o : End) → Ends k t a o b → b.out.promises + b.left ≤ a.out.promises + a.left
+
 -- it takes a step for each node that begins
 abbrev pub StepsAreNodes : Type 0
 StepsAreNodes = (k : ℕ) (t : Tree) (a b : At) (o : End) (r : Ends k t a o b) → nodes r + b.left ≡ a.left
