@@ -46,7 +46,7 @@ call_acts m p c f a = list_arriving p f.end (behind (call_coming c f) a) ++ arri
 -- what a target comes to
 abbrev pub led_acts : {t : Target} {a b : At} {o : End} → Led t a o b → List Act
 led_acts led_gives = []
-led_acts (led_uses {p = p} {d = d} {a = a}) = resolver_acts p (given_by d a)
+led_acts (led_uses {p = p} {d = d} {a = a}) = resolver_acts p (given_by d a) a.out
 led_acts (led_enters r) = acts_of_items r
 
 -- of a delivery: p is the promise whose publication its walk came to last
@@ -58,7 +58,7 @@ begun_acts m p (waits r) = led_acts r
 
 -- and of its end: the result is published; of an abandoned turn nothing is kept
 abbrev pub kept_acts : PromId → Told → At → List Act → List Act
-kept_acts p (told r) b acts = published_acts p (given_by (ending p r) b) ++ acts
+kept_acts p (told r) b acts = published_acts p (given_by (ending p r) b) b.out ++ acts
 kept_acts p (lost why) b acts = []
 
 abbrev pub delivery_acts : MsgId → Option PromId → {g : Message} {f : Found} {e : EventName} {v : VatNo} {s : State} {n : ℕ} {o : Outcome} → Delivers g f e v s n o → List Act

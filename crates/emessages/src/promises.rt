@@ -11,7 +11,7 @@ ghost use Rattle.values.specs.View.{val_of};
 use crate::sends::draw;
 use crate::stops::refused;
 use erules::end::Stop;
-use erules::outbox::{Note, Publication};
+use erules::outbox::Note;
 use erules::working::Working;
 use ids::names::{ObjId, PromId};
 use post::published::Published;
@@ -92,7 +92,7 @@ fn publish(w: &mut Working, promise: PromId, resolved: Resolved) -> Result<(), A
     ensures { OnOk result (at w.new ≡ record (at w.old) { out = published_out promise (published_of resolved) (at w.old).out }) }
 {
     let published = Published::new(w.alloc, resolved.value, resolved.fences)?;
-    w.out.publications.push(Publication { promise, published })?;
+    w.out.publications.add(promise, published)?;
     w.out.notes.push(Note::Resolved(promise))?;
     Ok(())
 }

@@ -1,6 +1,6 @@
 -- The acts of a turn, by which the order of messages is said: what is sent, what leaves in arguments and in what is published, and what
 -- is joined. The newest stands first.
-use Rattle.std.specs.Prelude.{ℕ, List, [], ◌∷◌, ◌++◌, map, reverse, Option, Some, None}
+use Rattle.std.specs.Prelude.{Bool, true, false, ℕ, List, [], ◌∷◌, ◌++◌, map, reverse, Option, Some, None}
 use Rattle.ids.specs.declared.names.MsgId.{MsgId}
 use Rattle.ids.specs.declared.names.PromId.{PromId}
 use Rattle.ids.specs.declared.reference.Reference.{Reference}
@@ -12,6 +12,7 @@ use Rattle.kernele.specs.declared.tree.Pattern.{Pattern}
 use Rattle.values.specs.Data.{Val, Vals}
 use Rattle.sends.specs.Vats.{reference_in, references, references_in, each_once}
 use Rattle.sends.specs.Making.{Making, refused, makes, Sent, Published}
+use Rattle.erules.specs.Outbox.{is_published, Outbox}
 use Rattle.erules.specs.At.{At}
 use Rattle.erules.specs.Doings.{given_by, next_message, send_of}
 use Rattle.erules.specs.Outcomes.{End, Gather, values, halted}
@@ -40,13 +41,18 @@ abbrev pub joined_to : PromId → Option Reference → List Act
 joined_to p None = []
 joined_to p (Some t) = joined (reference.Promise p) t ∷ []
 
--- what is published leaves, and then its promise is entered
-abbrev pub published_acts : PromId → Published → List Act
-published_acts p b = joined_to p b.joined ++ leaving_by (λ r. left r (published p)) (references b.value)
+-- references leave in what is published first
+abbrev pub left_unless : Bool → PromId → Val → List Act
+left_unless true p v = []
+left_unless false p v = leaving_by (λ r. left r (published p)) (references v)
 
-abbrev pub resolver_acts : PromId → Making Published → List Act
-resolver_acts p (refused why) = []
-resolver_acts p (makes b) = published_acts p b
+-- what is published leaves, unless the promise was published before, and then its promise is entered
+abbrev pub published_acts : PromId → Published → Outbox → List Act
+published_acts p b out = joined_to p b.joined ++ left_unless (is_published p out.publications) p b.value
+
+abbrev pub resolver_acts : PromId → Making Published → Outbox → List Act
+resolver_acts p (refused why) out = []
+resolver_acts p (makes b) out = published_acts p b out
 
 abbrev mutual
   -- of a tree
@@ -68,7 +74,7 @@ abbrev mutual
   acts_below (run_call_receiver r) = acts r
   acts_below (run_call_gives r u e) = acts_of_args u ++ acts r
   acts_below (run_call_enters r u e q) = acts_of_items q ++ (acts_of_args u ++ acts r)
-  acts_below (run_call_uses {verb = verb} {c = c} {v = v} {g = g} {p = p} {d = d} r u e) = resolver_acts p (given_by d (called v verb g c)) ++ (acts_of_args u ++ acts r)
+  acts_below (run_call_uses {verb = verb} {c = c} {v = v} {g = g} {p = p} {d = d} r u e) = resolver_acts p (given_by d (called v verb g c)) c.out ++ (acts_of_args u ++ acts r)
   acts_below (run_send_receiver r) = acts r
   acts_below (run_send {c = c} {v = v} {g = g} r u) = send_acts v g c ++ (acts_of_args u ++ acts r)
   acts_below (run_list u) = acts_of_args u

@@ -18,7 +18,7 @@ use Rattle.post.specs.Delivery.{sent, waiting, When}
 use Rattle.post.specs.Messages.{Place, flying, at_vat, Message}
 use Rattle.sends.specs.Vats.{Vat, ended, settled, goes_to}
 use Rattle.sends.specs.Making.{Refusal, problem, turn_too_large, Making, refused, makes, of_settled, Sent, sending, waiting as waits, promising, Published as Resolved}
-use Rattle.erules.specs.Outbox.{Note, sent_note, waits_note, resolved_note, Outbox}
+use Rattle.erules.specs.Outbox.{Note, sent_note, waits_note, resolved_note, and_publication, Outbox}
 use Rattle.erules.specs.At.{At}
 use Rattle.erules.specs.Outcomes.{too_large, thrown, abandoned, End, value, halt, Gather, values, halted, reply_end}
 
@@ -161,7 +161,7 @@ pair_out (makes o) a = record a { objects = a.objects + 1; out = record a.out { 
 
 -- what was published
 abbrev pub published_out : PromId → Resolved → Outbox → Outbox
-published_out p b out = noted (resolved_note p ∷ []) (record out { publications = out.publications ++ (p, record { value = b.value; fences = b.fences }) ∷ [] })
+published_out p b out = noted (resolved_note p ∷ []) (record out { publications = and_publication p (record { value = b.value; fences = b.fences }) out.publications })
 
 abbrev pub resolver_end : Making Resolved → End
 resolver_end (refused why) = refusal_end why

@@ -1,4 +1,5 @@
 pub mod Outbox
+pub mod PublicationsView
 pub mod OutboxView
 pub mod At
 pub mod Fits

@@ -1,21 +1,17 @@
 -- What the program's outbox stands for.
 use Rattle.std.specs.Prelude.{map}
 use Rattle.ids.specs.declared.names.MsgId.{MsgId}
-use Rattle.ids.specs.declared.names.PromId.{PromId}
-use Rattle.post.specs.Messages.{Message, Published}
-use Rattle.post.specs.MessageView.{message_of, published_of}
+use Rattle.post.specs.Messages.{Message}
+use Rattle.post.specs.MessageView.{message_of}
 use Rattle.erules.specs.Outbox.{Note, sent_note, waits_note, resolved_note, comment_note, Outbox}
+use Rattle.erules.specs.PublicationsView.{publications_of}
 use Rattle.erules.specs.declared.outbox.Letter.{Letter}
-use Rattle.erules.specs.declared.outbox.Publication.{Publication}
 use Rattle.erules.specs.declared.outbox.Note as code-note
 use Rattle.erules.specs.declared.outbox.Note.TheVariants as note
 use Rattle.erules.specs.declared.outbox.Outbox as code
 
 abbrev pub letter_of : Letter → MsgId × Message
 letter_of l = (l.name, message_of l.message)
-
-abbrev pub publication_of : Publication → PromId × Published
-publication_of p = (p.promise, published_of p.published)
 
 abbrev pub note_of : code-note.Note → Note
 note_of (note.Sent m) = sent_note m
@@ -24,4 +20,4 @@ note_of (note.Resolved p) = resolved_note p
 note_of (note.Comment words) = comment_note words
 
 abbrev pub outbox_of : code.Outbox → Outbox
-outbox_of o = record { letters = map letter_of o.letters.items; promises = o.promises; publications = map publication_of o.publications.items; notes = map note_of o.notes.items }
+outbox_of o = record { letters = map letter_of o.letters.items; promises = o.promises; publications = publications_of o.publications; notes = map note_of o.notes.items }

@@ -11,6 +11,7 @@ pub mod escapes;
 pub mod halting;
 pub mod local;
 pub mod outbox;
+pub mod publications;
 pub mod results;
 pub mod theorems;
 pub mod wanted;

@@ -3,10 +3,10 @@ ghost use Rattle.std.specs.Prelude.{◌≡◌};
 ghost use Rattle.erules.specs.Outbox.{empty_outbox};
 ghost use Rattle.erules.specs.OutboxView.{outbox_of};
 
+use crate::publications::Publications;
 use ids::names::{MsgId, PromId};
 use ids::text::Text;
 use post::message::Message;
-use post::published::Published;
 use std::alloc::Global;
 
 /// A message that was made, by its name.
@@ -14,13 +14,6 @@ use std::alloc::Global;
 pub struct Letter {
     pub name: MsgId,
     pub message: Message,
-}
-
-/// What a promise was published as.
-#[derive(Drop)]
-pub struct Publication {
-    pub promise: PromId,
-    pub published: Published,
 }
 
 /// A note for the log.
@@ -41,7 +34,7 @@ pub enum Note {
 pub struct Outbox {
     pub letters: Vec<Letter>,
     pub promises: u32,
-    pub publications: Vec<Publication>,
+    pub publications: Publications,
     pub notes: Vec<Note>,
 }
 
@@ -53,7 +46,7 @@ impl Outbox {
         Outbox {
             letters: Vec::new(alloc),
             promises: 0,
-            publications: Vec::new(alloc),
+            publications: Publications::new(alloc),
             notes: Vec::new(alloc),
         }
     }

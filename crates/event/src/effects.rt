@@ -19,7 +19,6 @@ use crate::ready::Way;
 use cells::store::Record;
 use deliveries::outcome::{Ended, Outcome};
 use eorder::fence::Fence;
-use erules::outbox::Publication;
 use heap::reach::Footprint;
 use ids::cells::CellKey;
 use ids::names::{EventName, MsgId, PromId, VatNo};
@@ -29,6 +28,7 @@ use post::delivery::Delivery;
 use post::earlier::Earlier;
 use post::message::{Message, Place, Sent};
 use post::program::{Question, Script};
+use post::published::Published;
 use post::vat::Vat;
 use scopes::top_names;
 use std::alloc::{AllocError, Global};
@@ -285,8 +285,9 @@ fn touch_made(touched: &mut Vec<CellKey>, outcome: &Outcome) -> Result<(), Alloc
     for letter in &outcome.out.letters {
         touched.push(CellKey::Msg(letter.name))?;
     }
-    for publication in &outcome.out.publications {
-        touched.push(CellKey::Board(publication.promise))?;
+    for place in 0..outcome.out.publications.len() {
+        let (promise, _) = outcome.out.publications.at(place);
+        touched.push(CellKey::Board(promise))?;
     }
     Ok(())
 }
@@ -317,19 +318,24 @@ fn record_made(
     for letter in &outcome.out.letters {
         records.push(message_record(event, letter.name, letter.message.share()?))?;
     }
-    for publication in &outcome.out.publications {
-        records.push(publication_record(event, publication)?)?;
+    for place in 0..outcome.out.publications.len() {
+        let (promise, published) = outcome.out.publications.at(place);
+        records.push(publication_record(event, promise, published)?)?;
     }
     Ok(())
 }
 
 /// A record of what a promise is published as.
-fn publication_record(event: EventName, publication: &Publication) -> Result<CellRecord, AllocError>
-    ensures { IfOk result (λ r. kept_of r ≡ (key.Board publication.now.promise, (Some (model.published (published_of publication.now.published)), Some event.0))) }
+fn publication_record(
+    event: EventName,
+    promise: PromId,
+    published: &Published,
+) -> Result<CellRecord, AllocError>
+    ensures { IfOk result (λ r. kept_of r ≡ (key.Board promise, (Some (model.published (published_of published.now)), Some event.0))) }
 {
     Ok(CellRecord::Board(Record {
-        key: publication.promise,
-        content: Some(publication.published.share()?),
+        key: promise,
+        content: Some(published.share()?),
         writer: Some(event),
     }))
 }

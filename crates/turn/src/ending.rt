@@ -1,6 +1,6 @@
 // How turns end.
 use erules::end::{Abandon, Halt};
-use erules::outbox::{Note, Outbox, Publication};
+use erules::outbox::{Note, Outbox};
 use erules::working::Working;
 use deliveries::outcome::{Ended, Outcome};
 use eorder::carried::Carried;
@@ -48,7 +48,7 @@ fn tell(w: Working, promise: PromId, told: Answer) -> Result<Outcome, AllocError
     comment(&mut w.out, &told)?;
     let resolved = end_with(w.alloc, &mut w.draft, promise, told)?;
     let published = Published::new(w.alloc, resolved.value, resolved.fences)?;
-    w.out.publications.push(Publication { promise, published })?;
+    w.out.publications.add(promise, published)?;
     w.out.notes.push(Note::Resolved(promise))?;
     let footprint = w.draft.finish()?;
     Ok(Outcome {
@@ -84,10 +84,8 @@ fn abandon(w: Working, promise: PromId, why: Abandon) -> Result<Outcome, AllocEr
     let mut out = Outbox::new(w.alloc);
     out.notes.push(Note::Comment(reason.share()?))?;
     out.notes.push(Note::Resolved(promise))?;
-    out.publications.push(Publication {
-        promise,
-        published: Published::new(w.alloc, Value::Broken(reason), Carried::empty(w.alloc))?,
-    })?;
+    let published = Published::new(w.alloc, Value::Broken(reason), Carried::empty(w.alloc))?;
+    out.publications.add(promise, published)?;
     let footprint = w.draft.finish()?;
     Ok(Outcome {
         footprint,
