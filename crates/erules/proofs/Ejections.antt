@@ -31,7 +31,7 @@ Inside (halt (thrown problem)) js = Unit {0}
 Inside (halt (ejected j v)) js = is_open j js ≡ true
 Inside (halt (abandoned why)) js = Unit {0}
 
-abbrev GatherInside : Gather → List EjId → Type 0
+abbrev pub GatherInside : Gather → List EjId → Type 0
 GatherInside (values vs) js = Unit {0}
 GatherInside (halted h) js = Inside (halt h) js
 
@@ -43,7 +43,7 @@ abbrev ChoiceInside : Choice → List EjId → Type 0
 ChoiceInside (goes q) js = Unit {0}
 ChoiceInside (ends o) js = Inside o js
 
-abbrev TargetInside : Target → List EjId → Type 0
+abbrev pub TargetInside : Target → List EjId → Type 0
 TargetInside (gives o) js = Inside o js
 TargetInside (enters ns body) js = Unit {0}
 TargetInside (uses p d) js = Unit {0}
@@ -135,7 +135,7 @@ pair_inside : (m : Making ObjId) (a : At) (js : List EjId) → Inside (pair_end 
 pair_inside (refused why) a js = refusal_inside why js
 pair_inside (makes n) a js = tt
 
-used_inside : (m : Making Published) (js : List EjId) → Inside (resolver_end m) js
+pub used_inside : (m : Making Published) (js : List EjId) → Inside (resolver_end m) js
 used_inside (refused why) js = refusal_inside why js
 used_inside (makes b) js = tt
 
@@ -242,7 +242,7 @@ callee_inside (on_ejector j) v verb vs a =
 callee_inside on_datum v verb vs a = reply_inside (given_by (data_of v verb vs) a) a.opened
 callee_inside on_far v verb vs a = tt
 
-target_inside : (v : Val) (verb : Name) (g : Gather) (a : At) → GatherInside g a.opened → TargetInside (target_of v verb g a) a.opened
+pub target_inside : (v : Val) (verb : Name) (g : Gather) (a : At) → GatherInside g a.opened → TargetInside (target_of v verb g a) a.opened
 target_inside v verb (values vs) a h = callee_inside (callee_of a.vat (receiver v a)) (receiver v a) verb vs (receiver_read v a)
 target_inside v verb (halted i) a h = h
 
@@ -260,7 +260,7 @@ escape_inside j (halt (abandoned why)) js h = tt
 -- ---- the rules
 
 -- what holds of the Escapes after another part
-carried : (o : End) {is js : List EjId} → is ≡ js → Inside o is → Inside o js
+pub carried : (o : End) {is js : List EjId} → is ≡ js → Inside o is → Inside o js
 carried o e h = subst (λ ks. Inside o ks) e h
 
 gather_carried : (g : Gather) {is js : List EjId} → is ≡ js → GatherInside g is → GatherInside g js

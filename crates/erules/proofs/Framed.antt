@@ -39,10 +39,10 @@ module _ (w : State) where
     pub kept : (c : Cell) → u c ≡ s c → after c ≡ s' c
 
   -- what is done to a place is done to it in the state u alike
-  record Follows (f : At → At) (a : At) (u : State) : Type 0 where
-    after : State
-    place : f (there u a) ≡ there after (f a)
-    kept : (c : Cell) → u c ≡ a.state c → after c ≡ (f a).state c
+  pub record Follows (f : At → At) (a : At) (u : State) : Type 0 where
+    pub after : State
+    pub place : f (there u a) ≡ there after (f a)
+    pub kept : (c : Cell) → u c ≡ a.state c → after c ≡ (f a).state c
 
   -- the frames of each form
   abbrev EndsFrame : (k : ℕ) (t : Tree) (a : At) (o : End) (b : At) (u : State) → Type 0
@@ -72,11 +72,11 @@ module _ (w : State) where
   -- ---- agreement
 
   -- states that agree on the cells touched in the end agree on those touched before
-  before : {p q p' q' : Cells} {s s' v v' : State} (u t : State) → Onward p q s v p' q' s' v' → AgreeOn p' u t → AgreeOn p u t
+  pub before : {p q p' q' : Cells} {s s' v v' : State} (u t : State) → Onward p q s v p' q' s' v' → AgreeOn p' u t → AgreeOn p u t
   before u t g h = λ c e. h c (g.touched c e)
 
   -- and so do the states behind them
-  agree_on : {q : Cells} (u s v t : State) → ((c : Cell) → u c ≡ s c → v c ≡ t c) → AgreeOn q u s → AgreeOn q v t
+  pub agree_on : {q : Cells} (u s v t : State) → ((c : Cell) → u c ≡ s c → v c ≡ t c) → AgreeOn q u s → AgreeOn q v t
   agree_on u s v t kept h = λ c e. kept c (h c e)
 
   -- states agree on a cell that was reached
@@ -85,10 +85,10 @@ module _ (w : State) where
 
   -- ---- what follows alike
 
-  unmoved : {a : At} {u : State} → Follows (λ a. a) a u
+  pub unmoved : {a : At} {u : State} → Follows (λ a. a) a u
   unmoved {u = u} = record { after = u; place = refl; kept = λ c h. h }
 
-  both_follow : {f g : At → At} {a : At} {u : State} (p : Follows f a u) → Follows g (f a) p.after → Follows (λ a. g (f a)) a u
+  pub both_follow : {f g : At → At} {a : At} {u : State} (p : Follows f a u) → Follows g (f a) p.after → Follows (λ a. g (f a)) a u
   both_follow {g = g} p q = record { after = q.after; place = ap g p.place ∙ q.place; kept = λ c h. q.kept c (p.kept c h) }
 
   written_alike : (u s : State) (d : Cell) (x : Content) (c : Cell) → u c ≡ s c → write u d x c ≡ write s d x c
@@ -113,7 +113,7 @@ module _ (w : State) where
   matched_follows (pattern.Name x) v a u = named_follows a.own_scope x v a u (bound_follows a.own_scope x (fixed v) a u) refl
   matched_follows pattern.Ignore v a u = unmoved
 
-  defined_follows : (p : Pattern) (o : End) (a : At) (u : State) → Follows (defined p o) a u
+  pub defined_follows : (p : Pattern) (o : End) (a : At) (u : State) → Follows (defined p o) a u
   defined_follows p (value v) a u = matched_follows p v a u
   defined_follows p (halt h) a u = unmoved
 
@@ -138,7 +138,7 @@ module _ (w : State) where
   slot_follows false x v a u = record { after = write u (slot_cell (next_slot a)) (held v); place = refl; kept = λ c h. written_alike u a.state (slot_cell (next_slot a)) (held v) c h }
 
   -- what is done by a case is done alike where each case is
-  by_case : {A : Type 0} (f : A → At → At) (g : At → A) (a : At) (u : State) → g (there u a) ≡ g a → Follows (f (g a)) a u → Follows (λ a. f (g a) a) a u
+  pub by_case : {A : Type 0} (f : A → At → At) (g : At → A) (a : At) (u : State) → g (there u a) ≡ g a → Follows (f (g a)) a u → Follows (λ a. f (g a) a) a u
   by_case f g a u e p = record { after = p.after; place = ap (λ q. f q (there u a)) e ∙ p.place; kept = p.kept }
 
   variable_follows : (room : Bool) (x : Name) (v : Val) (a : At) (u : State) → Follows (variable_made room x v) a u
@@ -265,7 +265,7 @@ module _ (w : State) where
 
   -- ---- what is done between two trees
 
-  does_follow : {R : Type 0} (d : Vat R) (a : At) (u : State) → AgreeOn (behind d a).touched u a.state → Follows (behind d) a u
+  pub does_follow : {R : Type 0} (d : Vat R) (a : At) (u : State) → AgreeOn (behind d a).touched u a.state → Follows (behind d) a u
   does_follow d a u h =
       let y = does_alike d a u h in
       let z : Under Cell Content = (play same_cell d (with_state u (under a))).1 in
@@ -297,7 +297,7 @@ module _ (w : State) where
   callee_follows on_datum v verb vs a u h = does_follow (data_of v verb vs) a u h
   callee_follows on_far v verb vs a u h = unmoved
 
-  target_alike : (v : Val) (verb : Name) (g : Gather) (a : At) (u : State) → AgreeOn (called v verb g a).touched u a.state → target_of v verb g (there u a) ≡ target_of v verb g a
+  pub target_alike : (v : Val) (verb : Name) (g : Gather) (a : At) (u : State) → AgreeOn (called v verb g a).touched u a.state → target_of v verb g (there u a) ≡ target_of v verb g a
   target_alike v verb (values vs) a u h =
       let x : Val = receiver v a in
       let b : At = receiver_read v a in
@@ -308,7 +308,7 @@ module _ (w : State) where
       ∙ callee_alike m x verb vs b y.after (agree_on u a.state y.after b.state y.kept h)
   target_alike v verb (halted j) a u h = refl
 
-  called_follows : (v : Val) (verb : Name) (g : Gather) (a : At) (u : State) → AgreeOn (called v verb g a).touched u a.state → Follows (called v verb g) a u
+  pub called_follows : (v : Val) (verb : Name) (g : Gather) (a : At) (u : State) → AgreeOn (called v verb g a).touched u a.state → Follows (called v verb g) a u
   called_follows v verb (values vs) a u h =
       let x : Val = receiver v a in
       let b : At = receiver_read v a in
@@ -325,7 +325,7 @@ module _ (w : State) where
   resolved_follows p (refused why) a u = unmoved
   resolved_follows p (makes b) a u = record { after = u; place = refl; kept = λ c h. h }
 
-  resolver_follows : (p : PromId) (d : Vat (Making Published)) (a : At) (u : State) → AgreeOn (behind d a).touched u a.state → Follows (λ a. resolver_out p (given_by d a) (behind d a)) a u
+  pub resolver_follows : (p : PromId) (d : Vat (Making Published)) (a : At) (u : State) → AgreeOn (behind d a).touched u a.state → Follows (λ a. resolver_out p (given_by d a) (behind d a)) a u
   resolver_follows p d a u h =
       let y : Follows (behind d) a u = does_follow d a u h in
       let m : Making Published = given_by d a in

@@ -24,7 +24,7 @@ not_written : (q q' : Bool) → (q ≡ true → q' ≡ true) → q' ≡ false �
 not_written true q' h e = absurd (cc (h refl, e))
 not_written false q' h e = refl
 
-stay : {p q : Cells} {s w : State} → Onward p q s w p q s w
+pub stay : {p q : Cells} {s w : State} → Onward p q s w p q s w
 stay = record { touched = λ c h. h; written = λ c h. h; within = λ h. h; stays = λ c h. refl; began = refl }
 
 pub then : {p q p' q' p'' q'' : Cells} {s s' s'' w w' w'' : State} → Onward p q s w p' q' s' w' → Onward p' q' s' w' p'' q'' s'' w'' → Onward p q s w p'' q'' s'' w''
