@@ -36,7 +36,7 @@ written_by o c = is_some (writes_in o.footprint c)
 
 -- where a delivery leads, as the program has it
 abbrev pub found_of : Lead → Found
-found_of l = record { end = val_of l.end; fences = l.fences }
+found_of l = record { end = val_of l.end; fences = l.fences.value }
 
 -- on each state that agrees with what was found, a message has this outcome, and touches and writes just these cells
 abbrev pub Meets : Message → Found → EventName → VatNo → ℕ → code-outcome.Outcome → Type 0

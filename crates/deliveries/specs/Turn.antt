@@ -1,5 +1,5 @@
 -- A turn: one delivery to a vat.
-use Rattle.std.specs.Prelude.{◌≡◌, ℕ, Bool, true, false, Option, Some, None, List, [], ◌∷◌, codes}
+use Rattle.std.specs.Prelude.{ℕ, Bool, true, false, Option, Some, None, List, [], ◌∷◌, codes}
 use Rattle.ids.specs.declared.names.EventName.{EventName}
 use Rattle.ids.specs.declared.names.VatNo.{VatNo}
 use Rattle.ids.specs.declared.names.PromId.{PromId}
@@ -7,11 +7,11 @@ use Rattle.eorder.specs.Carried.{Carried}
 use Rattle.cells.specs.Doing.{over, and_then}
 use Rattle.kernele.specs.Tree.{Name, Trees}
 use Rattle.values.specs.Data.{Val, null, text, list, broken, promise, Reply, gives as gives_value, throws}
-use Rattle.heap.specs.State.{fixed, Nouns, State, Cells, no_cells}
+use Rattle.heap.specs.State.{fixed, Nouns, State, no_cells}
 use Rattle.post.specs.Delivery.{Call, Handler, When, Delivery, opening, asked, sent, waiting}
 use Rattle.post.specs.Messages.{Message}
 use Rattle.post.specs.declared.earlier.Earlier.{Earlier}
-use Rattle.sends.specs.Vats.{Vat, Nothing, nothing, ended, settled, references, references_in, comes_in, coming_in}
+use Rattle.sends.specs.Vats.{Vat, Nothing, nothing, ended, settled, references_in, comes_in, coming_in}
 use Rattle.sends.specs.Making.{Making, Published, ending}
 use Rattle.erules.specs.Outbox.{comment_note, resolved_note, Outbox, empty_outbox}
 use Rattle.erules.specs.At.{At}

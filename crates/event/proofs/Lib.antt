@@ -1,4 +1,3 @@
-pub mod Turns
 pub mod Listing
 pub mod Law
 pub mod Readiness
