@@ -19,7 +19,7 @@ use Rattle.post.specs.Messages.{Vat, Place, at_vat, done, Message, done_in}
 use Rattle.worldcells.specs.World.{Content, World, vat_in, message_in, cell_content, lives_in, cell_key, vat_state}
 use Rattle.deliveries.specs.Touched.{delivery_touched, delivery_written}
 use Rattle.event.specs.Events.{Foot, Turn, Turns, Leaves, DeliversOn, InOrder, awaited, is_abandoned, done_and_published, ask_foot, turn_foot, Does, births, asks, turns, events}
-use Rattle.event.proofs.Turns.{delivery_same, delivery_framed, SameCells, delivery_cells}
+use Rattle.deliveries.proofs.Turns.{delivery_same, delivery_framed, SameCells, delivery_cells}
 use Rattle.heap.proofs.Cells.{cell_self}
 use Rattle.event.proofs.Listing.{all_front, all_rest, keys_alike, at_cell, any_write, behind_writes, found_alike, found_before}
 

@@ -26,7 +26,7 @@ use Rattle.deliveries.specs.Touched.{delivery_touched, delivery_written}
 use Rattle.deliveries.specs.Outcomes.{ended_of, outcome_on, written_by, Meets}
 use Rattle.turn.specs.Runs.{RunsTo}
 use Rattle.deliveries.specs.declared.outcome.Outcome as code-outcome
-use Rattle.event.proofs.Turns.{delivery_framed, delivery_within}
+use Rattle.deliveries.proofs.Turns.{delivery_framed, delivery_within}
 
 some_of : {X : Type 0} (o : Option X) → is_some o ≡ true → (x : X) × (o ≡ Some x)
 some_of None h = cc
