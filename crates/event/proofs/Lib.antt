@@ -1,9 +1,9 @@
 pub mod Listing
+pub mod Walking
+pub mod Reaching
 pub mod Law
-pub mod Readiness
 pub mod Gathering
 pub mod Listed
 pub mod Standing
-pub mod Leaving
 pub mod Finding
 pub mod KindsFound

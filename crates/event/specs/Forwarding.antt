@@ -9,10 +9,10 @@ use Rattle.post.specs.Messages.{Message}
 use Rattle.worldcells.specs.World.{World}
 use Rattle.event.specs.Events.{goes_on}
 use Rattle.event.specs.Walks.{board_walk}
-use Rattle.event.specs.declared.forwarding.Onward.{Onward}
+use Rattle.event.specs.declared.forwarding.Destination.{Destination}
 
 -- the vat, and the promises on the way
-abbrev pub to_of : Onward → VatNo × List PromId
+abbrev pub to_of : Destination → VatNo × List PromId
 to_of o = (o.to, o.through.items)
 
 abbrev pub going_on : VatNo → Walk → Option (VatNo × List PromId)

@@ -1,5 +1,5 @@
 -- Where the target of a message leads by what was published, and what is awaited on the way.
-use Rattle.std.specs.Prelude.{Bool, true, false, Option, Some, None, List, [], ◌∷◌}
+use Rattle.std.specs.Prelude.{Bool, true, false, Option, Some, None, is_some, List, [], ◌∷◌}
 use Rattle.std.specs.Option.{option_map, unwrap_or}
 use Rattle.ids.specs.declared.names.VatNo.{VatNo}
 use Rattle.ids.specs.declared.names.MsgId.{MsgId}
@@ -24,6 +24,11 @@ by_the_board w p = option_map (λ b. b.value) (published_as w p)
 -- the walk of a value by the board
 abbrev pub board_walk : World → Val → Walk
 board_walk w v = walk most_walked (by_the_board w) [] v
+
+-- a promise that was resolved leads on, and is no end
+abbrev pub leads_on : Resolutions → Option PromId → Bool
+leads_on m None = false
+leads_on m (Some p) = is_some (m p)
 
 -- the walk by which it is known whether a message may be delivered: of a call's target by the board, of a when's value by the view
 -- of its vat; other deliveries wait for no value

@@ -1,24 +1,30 @@
 // What an event touches and writes, worked out before it is entered.
-ghost use Rattle.std.specs.Prelude.{◌≡◌, ◌++◌, ◌∷◌, [], Some, IfOk, OnOk};
+ghost use Rattle.std.specs.Prelude.{◌≡◌, ◌++◌, ◌∷◌, [], Some, List, map, IfOk, OnOk};
 ghost use Rattle.history.specs.Records.{record_of};
 ghost use Rattle.ids.specs.declared.cells.CellKey.TheVariants as key;
 ghost use Rattle.kernele.specs.View.{program_of};
+ghost use Rattle.scopes.specs.Scope.{own_names_in};
 ghost use Rattle.heap.specs.State.{State};
+ghost use Rattle.post.specs.Messages.{Vat, Published};
 ghost use Rattle.post.specs.MessageView.{message_of};
+ghost use Rattle.erules.specs.OutboxView.{outbox_of};
 ghost use Rattle.worldcells.specs.Theory.{kepts_of, kept_of, cells};
 ghost use Rattle.worldcells.specs.World as model;
-ghost use Rattle.event.specs.Entries.{EachOnce, entries_of, keys_in, left_of, kept_left};
-ghost use Rattle.event.specs.Events.{birth_foot, ask_foot, first_message, first_promise, known_as, opening_message, asked_message, made_by, moved_foot, learnt};
+ghost use Rattle.worldcells.specs.World.{World, vat_state};
 ghost use Rattle.deliveries.specs.Outcomes.{outcome_on};
-ghost use Rattle.scopes.specs.Scope.{own_names_in};
-ghost use Rattle.values.specs.View.{val_of};
-ghost use Rattle.event.specs.Effects.{Brings, BringsLearnt, BringsTurn, turn_of};
+ghost use Rattle.event.specs.Entries.{EachOnce, each_kept, entries_of, keys_in, left_of, kept_left};
+ghost use Rattle.event.specs.Events.{birth_foot, ask_foot, first_message, first_promise, opening_message, asked_message, made_by, moved_foot};
+ghost use Rattle.event.specs.Effects.{Brings, BringsLearnt, BringsTurn, keys_made, known_by, turn_of};
+ghost use Rattle.event.specs.Learning.{Learns};
+ghost use Rattle.event.specs.ReadyView.{IsWay};
 
 use crate::left::{record_cells, touch_cells};
+use crate::making::{message_record, record_letters, record_publications};
 use crate::ready::Way;
 use cells::store::Record;
 use deliveries::outcome::{Ended, Outcome};
 use eorder::fence::Fence;
+use erules::outbox::{Letter, Publication};
 use heap::reach::Footprint;
 use ids::cells::CellKey;
 use ids::names::{EventName, MsgId, PromId, VatNo};
@@ -28,10 +34,10 @@ use post::delivery::Delivery;
 use post::earlier::Earlier;
 use post::message::{Message, Place, Sent};
 use post::program::{Question, Script};
-use post::published::Published;
 use post::vat::Vat;
 use scopes::top_names;
 use std::alloc::{AllocError, Global};
+use std::collections::HashSet;
 use std::sync::Arc;
 use worldcells::record::CellRecord;
 
@@ -49,20 +55,9 @@ fn first_message(event: EventName) -> MsgId
     MsgId { event, index: 0 }
 }
 
-/// A record of a message's cell, in which an event wrote this.
-fn message_record(event: EventName, name: MsgId, message: Message) -> CellRecord
-    ensures { kept_of result ≡ (key.Msg name, (Some (model.message (message_of message)), Some event.0)) }
-{
-    CellRecord::Msg(Record {
-        key: name,
-        content: Some(message),
-        writer: Some(event),
-    })
-}
-
 /// The promise that an event makes first, of this home.
 fn first_promise(event: EventName, home: VatNo) -> PromId
-    ensures { result ≡ first_promise_of event home }
+    ensures { result ≡ first_promise event home }
 {
     PromId {
         event,
@@ -95,7 +90,9 @@ fn name_record(
 }
 
 /// Names, shared.
-fn share_names(alloc: Global, names: &[Text]) -> Result<Vec<Text>, AllocError> {
+fn share_names(alloc: Global, names: &[Text]) -> Result<Vec<Text>, AllocError>
+    ensures { IfOk result (λ row. row.items ≡ names.now) }
+{
     let mut row = Vec::with_capacity(alloc, names.len())?;
     for name in names {
         row.push(name.share()?)?;
@@ -104,7 +101,9 @@ fn share_names(alloc: Global, names: &[Text]) -> Result<Vec<Text>, AllocError> {
 }
 
 /// The cells of names.
-fn name_keys(alloc: Global, names: &[Text]) -> Result<Vec<CellKey>, AllocError> {
+fn name_keys(alloc: Global, names: &[Text]) -> Result<Vec<CellKey>, AllocError>
+    ensures { IfOk result (λ keys. keys.items ≡ map key.Name names.now) }
+{
     let mut keys = Vec::with_capacity(alloc, names.len())?;
     for name in names {
         keys.push(CellKey::Name(name.share()?))?;
@@ -113,7 +112,9 @@ fn name_keys(alloc: Global, names: &[Text]) -> Result<Vec<CellKey>, AllocError> 
 }
 
 /// Earlier vats by their names, each with the promise for the result of its opening.
-fn known_as(alloc: Global, names: &[Text], vats: &[VatNo]) -> Result<Vec<Earlier>, AllocError> {
+fn known_as(alloc: Global, names: &[Text], vats: &[VatNo]) -> Result<Vec<Earlier>, AllocError>
+    ensures { IfOk result (λ row. row.items ≡ known_by names.now vats.now) }
+{
     let mut row = Vec::with_capacity(alloc, names.len())?;
     for (name, vat) in names.iter().zip(vats.iter()) {
         row.push(Earlier {
@@ -168,8 +169,7 @@ pub fn birth_effects(
     vats: &[VatNo],
     script: &Program,
 ) -> Result<Effects, AllocError>
-    requires { length earlier.now ≡ length vats.now }
-    ensures { IfOk result (λ it. (found : List model_post.Vat) → map (λ v. v.number) found ≡ vats.now → Brings event (birth_foot event name.now earlier.now found (program_of script.now)) it.touched.items (kepts_of it.records.items)) }
+    ensures { IfOk result (λ it. (found : List Vat) → map (λ v. v.number) found ≡ vats.now → Brings event (birth_foot event name.now (earlier.now) found (program_of script.now)) it.touched.items (kepts_of it.records.items)) }
 {
     let first = first_message(event);
     let message = opening(alloc, event, known_as(alloc, earlier, vats)?, script)?;
@@ -231,7 +231,7 @@ pub fn learn_effects(
     promise: PromId,
     footprint: &Footprint,
 ) -> Result<Effects, AllocError>
-    ensures { IfOk result (λ it. (w : World) (b : PublishedModel) → Learns (vat_state w vat) promise b footprint.now → BringsLearnt event w vat promise b it) }
+    ensures { IfOk result (λ it. (w : World) (b : Published) → Learns (vat_state w vat) promise b footprint.now → BringsLearnt event w vat promise b it) }
 {
     let mut touched = Vec::new(alloc);
     touched.push(CellKey::Board(promise))?;
@@ -270,6 +270,7 @@ fn turn_touched(
     outcome: &Outcome,
 ) -> Result<Vec<CellKey>, AllocError>
     ensures once { OnOk result (EachOnce outcome.now.footprint) }
+    ensures touched { IfOk result (λ keys. keys.items ≡ map key.Board way.now.through.items ++ (map key.Msg way.now.awaited ++ (keys_in vat (entries_of outcome.now.footprint) ++ (keys_made (outbox_of outcome.now.out) ++ key.Msg name ∷ [])))) }
 {
     let mut touched = Vec::new(alloc);
     touch_board(&mut touched, way.through.as_slice())?;
@@ -281,13 +282,32 @@ fn turn_touched(
 }
 
 /// Touches the messages and publications that a turn made.
-fn touch_made(touched: &mut Vec<CellKey>, outcome: &Outcome) -> Result<(), AllocError> {
-    for letter in &outcome.out.letters {
+fn touch_made(touched: &mut Vec<CellKey>, outcome: &Outcome) -> Result<(), AllocError>
+    ensures { OnOk result (touched.new.items ≡ touched.old.items ++ keys_made (outbox_of outcome.now.out)) }
+{
+    touch_letters(touched, outcome.out.letters.as_slice())?;
+    touch_publications(touched, outcome.out.publications.as_slice())
+}
+
+/// Touches messages that were made.
+fn touch_letters(touched: &mut Vec<CellKey>, letters: &[Letter]) -> Result<(), AllocError>
+    ensures { OnOk result (touched.new.items ≡ touched.old.items ++ map (λ l. key.Msg l.name) letters.now) }
+{
+    for letter in letters {
         touched.push(CellKey::Msg(letter.name))?;
     }
-    for place in 0..outcome.out.publications.len() {
-        let (promise, _) = outcome.out.publications.at(place);
-        touched.push(CellKey::Board(promise))?;
+    Ok(())
+}
+
+/// Touches publications that were made.
+fn touch_publications(
+    touched: &mut Vec<CellKey>,
+    publications: &[Publication],
+) -> Result<(), AllocError>
+    ensures { OnOk result (touched.new.items ≡ touched.old.items ++ map (λ b. key.Board b.promise) publications.now) }
+{
+    for publication in publications {
+        touched.push(CellKey::Board(publication.promise))?;
     }
     Ok(())
 }
@@ -309,37 +329,6 @@ fn record_left(
     }
 }
 
-/// Adds records of the messages and publications that a turn made.
-fn record_made(
-    records: &mut Vec<CellRecord>,
-    event: EventName,
-    outcome: &Outcome,
-) -> Result<(), AllocError> {
-    for letter in &outcome.out.letters {
-        records.push(message_record(event, letter.name, letter.message.share()?))?;
-    }
-    for place in 0..outcome.out.publications.len() {
-        let (promise, published) = outcome.out.publications.at(place);
-        records.push(publication_record(event, promise, published)?)?;
-    }
-    Ok(())
-}
-
-/// A record of what a promise is published as.
-fn publication_record(
-    event: EventName,
-    promise: PromId,
-    published: &Published,
-) -> Result<CellRecord, AllocError>
-    ensures { IfOk result (λ r. kept_of r ≡ (key.Board promise, (Some (model.published (published_of published.now)), Some event.0))) }
-{
-    Ok(CellRecord::Board(Record {
-        key: promise,
-        content: Some(published.share()?),
-        writer: Some(event),
-    }))
-}
-
 /// Records of what a turn of this message wrote: what it left in its vat, what it made, and the message as done.
 fn turn_records(
     alloc: Global,
@@ -349,12 +338,22 @@ fn turn_records(
     vat: VatNo,
     outcome: &Outcome,
 ) -> Result<Vec<CellRecord>, AllocError>
-    ensures { IfOk result (λ records. (u : State) → kepts_of records.items ≡ kept_left event vat (left_of outcome.now) ++ record_of cells event.0 (made_by event name (message_of message.now) (outcome_on outcome.now u))) }
+    ensures { IfOk result (λ records. (u : State) → kepts_of records.items ≡ each_kept (kept_left event vat (left_of outcome.now)) (record_of cells event.0 (made_by event name (message_of message.now) (outcome_on outcome.now u)))) }
 {
     let mut records = Vec::new(alloc);
     record_left(&mut records, event, vat, outcome)?;
-    record_made(&mut records, event, outcome)?;
-    records.push(message_record(event, name, message.done_in(event)?))?;
+    let mut names = HashSet::new(alloc);
+    record_letters(&mut records, &mut names, event, outcome.out.letters.as_slice())?;
+    let mut promises = HashSet::new(alloc);
+    record_publications(
+        &mut records,
+        &mut promises,
+        event,
+        outcome.out.publications.as_slice(),
+    )?;
+    if !names.contains(&name) {
+        records.push(message_record(event, name, message.done_in(event)?))?;
+    }
     Ok(records)
 }
 

@@ -1,6 +1,6 @@
 // Where messages go on to.
-ghost use Rattle.std.specs.Prelude.{◌≡◌, IfOk, option_map};
-ghost use Rattle.event.specs.Events.{elsewhere as elsewhere_of, goes_on as goes_on_of};
+ghost use Rattle.std.specs.Prelude.{◌≡◌, Some, IfOk, option_map};
+ghost use Rattle.event.specs.Events.{goes_on as goes_on_of};
 ghost use Rattle.event.specs.Forwarding.{onward_of, to_of};
 ghost use Rattle.post.specs.MessageView.{message_of};
 ghost use Rattle.values.specs.View.{val_of};
@@ -16,7 +16,7 @@ use worldcells::world::World;
 
 /// The vat to which a message goes on, and the promises on the way of its target.
 #[derive(Drop)]
-pub struct Onward {
+pub struct Destination {
     pub to: VatNo,
     pub through: Vec<PromId>,
 }
@@ -28,14 +28,14 @@ pub fn onward(
     world: &World,
     message: &Message,
     vat: VatNo,
-) -> Result<Option<Onward>, AllocError>
+) -> Result<Option<Destination>, AllocError>
     ensures { IfOk result (λ r. option_map to_of r ≡ onward_of (world_of world.now) vat (message_of message.now)) }
 {
     match &message.sent.delivery {
         Delivery::Sent(call) => {
             let Walked { end, through } = walk(alloc, world, &call.target)?;
             match goes_on(vat, &end) {
-                Some(to) => Ok(Some(Onward { to, through })),
+                Some(to) => Ok(Some(Destination { to, through })),
                 None => Ok(None),
             }
         }
@@ -53,7 +53,10 @@ fn goes_on(here: VatNo, end: &Option<Value>) -> Option<VatNo>
     }
 }
 
-fn elsewhere(here: VatNo, end: &Value) -> Option<VatNo> {
+/// The same of an end.
+fn elsewhere(here: VatNo, end: &Value) -> Option<VatNo>
+    ensures { result ≡ goes_on_of here (Some (val_of end.now)) }
+{
     let home = match end {
         Value::Object(object) => object.vat,
         Value::Ejector(ejector) => ejector.vat,

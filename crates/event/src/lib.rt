@@ -7,6 +7,7 @@ pub mod forwarding;
 pub mod found;
 pub mod learning;
 mod left;
+mod making;
 pub mod ready;
 pub mod theorems;
 pub mod walks;

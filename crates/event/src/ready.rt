@@ -1,16 +1,21 @@
 // Whether a message may be delivered, and where it leads.
-ghost use Rattle.std.specs.Prelude.{◌≡◌, None, Some, true, IfOk, IfErr, OnOk, option_map};
+ghost use Rattle.std.specs.Prelude.{◌≡◌, [], None, Some, true, IfOk, IfErr, OnOk};
 ghost use Rattle.ids.specs.declared.cells.CellKey.TheVariants as key;
-ghost use Rattle.post.specs.DeliveryView.{delivery_of};
+ghost use Rattle.heap.specs.View.{state_of};
+ghost use Rattle.post.specs.Delivery.{sent, waiting};
+ghost use Rattle.post.specs.DeliveryView.{call_of, delivery_of, when_of};
+ghost use Rattle.refs.specs.Walks.{walk as walk_of, most_walked};
+ghost use Rattle.sends.specs.Playing.{views_in};
 ghost use Rattle.post.specs.MessageView.{message_of, place_of};
 ghost use Rattle.post.specs.Messages.{at_vat, done_in};
+ghost use Rattle.values.specs.Data.{null};
 ghost use Rattle.values.specs.View.{val_of};
 ghost use Rattle.worldcells.specs.View.{world_of};
 ghost use Rattle.worldcells.specs.World.{message_of as message_in_world, message as message_content};
 ghost use Rattle.deliveries.specs.Outcomes.{found_of};
-ghost use Rattle.event.specs.Ready.{first_undone as first_undone_of, leads_there, lost, early_by};
-ghost use Rattle.event.specs.Walks.{awaited, delivery_walk, found_by, is_known, is_there, looked_up, may_end};
-ghost use Rattle.event.specs.ReadyView.{IsUnready, IsWay};
+ghost use Rattle.event.specs.Ready.{first_undone as first_undone_of, lost, early_by};
+ghost use Rattle.event.specs.Walks.{delivery_walk, found_by, is_known as is_known_of, is_there as is_there_of, looked_up, may_end};
+ghost use Rattle.event.specs.ReadyView.{CannotLead, IsUnready, IsWay};
 
 use crate::walks::{Walked, awaited_along, last_fences, walk};
 use deliveries::lead::Lead;
@@ -148,7 +153,12 @@ fn call_lead(
     world: &World,
     call: &Call,
     vat: VatNo,
-) -> Result<(Lead, Vec<PromId>), Delay> {
+) -> Result<(Lead, Vec<PromId>), Delay>
+    ensures may { OnOk result (may_end vat (sent (call_of call.now)) (delivery_walk (world_of world.now) vat (sent (call_of call.now))).end ≡ true) }
+    ensures lead { IfOk result (λ r. found_of r.0 ≡ found_by (world_of world.now) (sent (call_of call.now))) }
+    ensures through { IfOk result (λ r. r.1.items ≡ looked_up (world_of world.now) (sent (call_of call.now))) }
+    ensures err { IfErr result (CannotLead (world_of world.now) vat (sent (call_of call.now))) }
+{
     let Walked { end, through } = walk(alloc, world, &call.target)?;
     let Some(end) = end else {
         return Err(Delay::Unready(Unready::NotReady));
@@ -178,7 +188,9 @@ fn is_there(vat: VatNo, end: &Value) -> bool
 }
 
 /// What is no call leads nowhere.
-fn no_lead(alloc: Global) -> Result<Lead, AllocError> {
+fn no_lead(alloc: Global) -> Result<Lead, AllocError>
+    ensures { IfOk result (λ l. found_of l ≡ record { end = null; fences = [] }) }
+{
     let fences = Arc::new(alloc, Carried::empty(alloc))?;
     Ok(Lead {
         end: Value::Null,
@@ -187,7 +199,10 @@ fn no_lead(alloc: Global) -> Result<Lead, AllocError> {
 }
 
 /// Checks that the value of a `when` is known in its vat.
-fn check_known(alloc: Global, world: &World, when: &When, vat: VatNo) -> Result<(), Delay> {
+fn check_known(alloc: Global, world: &World, when: &When, vat: VatNo) -> Result<(), Delay>
+    ensures ok { OnOk result (may_end vat (waiting (when_of when.now)) (delivery_walk (world_of world.now) vat (waiting (when_of when.now))).end ≡ true) }
+    ensures err { IfErr result (CannotLead (world_of world.now) vat (waiting (when_of when.now))) }
+{
     let known = match world.home(vat) {
         Some(state) => is_known(alloc, state, &when.value)?,
         None => when.value.as_promise().is_none(),
@@ -213,7 +228,9 @@ fn check_done(world: &World, awaited: &Fence) -> Result<(), Unready>
 }
 
 /// Whether the value of a `when` is known in its vat's state: it leads to no unresolved promise.
-fn is_known(alloc: Global, state: &VatState, value: &Value) -> Result<bool, AllocError> {
+fn is_known(alloc: Global, state: &VatState, value: &Value) -> Result<bool, AllocError>
+    ensures { IfOk result (λ b. b ≡ is_known_of (walk_of most_walked (views_in (state_of state.now)) [] (val_of value.now)).end) }
+{
     let mut through = Vec::new(alloc);
     let end = end_of(&Views { state }, value, &mut through)?;
     Ok(end.as_promise().is_none())

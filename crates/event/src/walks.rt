@@ -1,7 +1,8 @@
 // Where the targets of messages lead by what was published.
 ghost use Rattle.std.specs.Prelude.{◌≡◌, IfOk, option_map};
+ghost use Rattle.values.specs.Promises.{promise_of};
 ghost use Rattle.eorder.specs.Fences.{joined};
-ghost use Rattle.event.specs.Walks.{awaited_along as awaited_along_of, awaited_for, board_walk, fences_of as fences_of_publication, last_fences as last_fences_of, names_behind};
+ghost use Rattle.event.specs.Walks.{awaited_along as awaited_along_of, awaited_for, board_walk, by_the_board, fences_of as fences_of_publication, last_fences as last_fences_of, leads_on, names_behind};
 ghost use Rattle.values.specs.View.{val_of};
 ghost use Rattle.worldcells.specs.View.{world_of};
 ghost use Rattle.worldcells.specs.World.{published_as};
@@ -59,7 +60,9 @@ pub fn walk(alloc: Global, world: &World, target: &Value) -> Result<Walked, Allo
 }
 
 /// Whether a value is a promise that was published: then it is no end, and stands for a ring.
-fn is_resolved(world: &World, value: &Value) -> bool {
+fn is_resolved(world: &World, value: &Value) -> bool
+    ensures { result ≡ leads_on (by_the_board (world_of world.now)) (promise_of (val_of value.now)) }
+{
     match value.as_promise() {
         Some(promise) => world.published(promise).is_some(),
         None => false,
