@@ -1,5 +1,5 @@
 -- Each kind of event obeys the law of undo: it depends on no cell but those that it touches, and does one thing in one world.
-use Rattle.std.proofs.Common.{◌≡◌, ℕ, Bool, true, false, cond, not, ◌||◌, ◌&&◌, List, [], ◌∷◌, ◌++◌, map, Option, Some, None, unwrap_or, refl, sym, ap, ap₂, ◌∙◌, subst, append_assoc, append-nil}
+use Rattle.std.proofs.Common.{◌≡◌, ℕ, Bool, true, false, cond, not, ◌||◌, ◌&&◌, List, [], ◌∷◌, ◌++◌, map, Option, Some, None, unwrap_or, refl, sym, ap, ap₂, ◌∙◌, subst, append-nil}
 use Rattle.std.specs.List.{list_any, AllByRecursion}
 use Rattle.std.proofs.lemmas.Bool.{and_parts, or_left, or_right, false≢true}
 use Rattle.std.proofs.lemmas.List.Folds.{list_any-append}
@@ -26,16 +26,16 @@ use Rattle.erules.specs.Laws.{AgreeOn, with_cells}
 use Rattle.post.specs.Delivery.{Call, Delivery, opening, asked, sent, waiting}
 use Rattle.post.specs.Messages.{Vat, Place, flying, at_vat, done, waits_at, arrived, Message, Published}
 use Rattle.worldcells.specs.Events.{Act, birth, ask, arrive, forward, learn, turn, Event}
-use Rattle.worldcells.specs.World.{Content, World, vat_in, message_in, published_in, cell_content, lives_in, cell_key, vat_named, message_of, published_as, vat_state}
+use Rattle.worldcells.specs.World.{Content, message, World, vat_in, message_in, published_in, cell_content, lives_in, cell_key, vat_named, message_of, published_as, vat_state}
 use Rattle.deliveries.specs.Touched.{delivery_touched, delivery_written}
 use Rattle.deliveries.specs.Turn.{Found}
 use Rattle.deliveries.proofs.Turns.{delivery_same, delivery_framed, DeliveryFrames, SameCells, delivery_cells}
-use Rattle.event.specs.Events.{Foot, AreNamed, birth_foot, ask_foot, moved_foot, goes_on, Leaves, in_world, learning, untouched, learnt, learn_foot, is_lost, DeliversOn, Turn, Turns, TurnLeaves, made_by, turn_foot, Does, births, asks, arrives, forwards, learns, turns, events}
+use Rattle.event.specs.Events.{Foot, AreNamed, birth_foot, ask_foot, moved_foot, goes_on, Leaves, in_world, learning, untouched, learnt, learn_foot, is_lost, DeliversOn, Turn, Turns, TurnLeaves, letters_from, on_the_board, counted, made_by, turn_reads, turn_foot, Does, births, asks, arrives, forwards, learns, turns, events}
 use Rattle.event.specs.Ready.{first_undone}
 use Rattle.event.specs.Walks.{board_walk, looked_up, awaited, found_by, delivery_walk, may_end, ends_there, is_known}
 use Rattle.event.proofs.Listing.{all_front, all_rest, keys_alike, at_cell, any_write, behind_writes, found_alike, found_before}
 use Rattle.event.proofs.Reaching.{viewed_by, delivery_viewed, learning_viewed}
-use Rattle.event.proofs.Walking.{AgreeAlong, SameBoard, same_board, walks_alike, board_alike, looked_alike, awaited_alike, found_by_alike, undone_alike}
+use Rattle.event.proofs.Walking.{AgreeAlong, SameBoard, same_board, walks_alike, board_alike, looked_alike, awaited_alike, found_by_alike, undone_alike, counted_alike, new_alike}
 
 -- ---- cells of a vat
 
@@ -145,7 +145,11 @@ leads_alike w v vat (waiting b) a h = ap (λ (x : Walk). is_known x.end) (walks_
 leads_alike w v vat (opening earlier ts) a h = refl
 leads_alike w v vat (asked ts) a h = refl
 
--- what holds of what is mapped holds of what its rest is mapped to
+-- what holds of what is mapped holds of what its front and its rest are mapped to
+mapped_front : {A B : Type 0} (f : A → B) (P : B → Type 0) (xs ys : List A) → AllByRecursion P (map f (xs ++ ys)) → AllByRecursion P (map f xs)
+mapped_front f P [] ys h = tt
+mapped_front f P (x ∷ xs) ys h = (h.0, mapped_front f P xs ys h.1)
+
 mapped_rest : {A B : Type 0} (f : A → B) (P : B → Type 0) (xs ys : List A) → AllByRecursion P (map f (xs ++ ys)) → AllByRecursion P (map f ys)
 mapped_rest f P [] ys h = h
 mapped_rest f P (x ∷ xs) ys h = mapped_rest f P xs ys h.1
@@ -162,25 +166,31 @@ law_of_turns e m n t cells left w v h g a =
     let d = t.message.delivery in
     let boards = map key.Board (looked_up w d) in
     let messages = map key.Msg (awaited w t.message) in
-    let keys = map (cell_key t.vat) cells in
-    let reads = all_front Q (boards ++ (messages ++ keys)) _ a in
-    let writes = behind_writes t.vat Q left (made_by e m t.message t.outcome) (all_rest Q (boards ++ (messages ++ keys)) _ a) in
-    let last = mapped_rest (λ p. p.0) Q _ _ (mapped_rest (λ p. p.0) Q _ _ writes) in
-    let board = same_board w v (looked_up w d) (all_front Q boards _ reads) in
-    let others = all_rest Q boards _ reads in
+    let reads = all_front Q (turn_reads w t ++ map (cell_key t.vat) cells) _ a in
+    let before = all_front Q (turn_reads w t) _ reads in
+    let here = all_rest Q (turn_reads w t) _ reads in
+    let made = behind_writes t.vat Q left (made_by e w m t.message t.outcome) (all_rest Q (turn_reads w t ++ map (cell_key t.vat) cells) _ a) in
+    let letters = letters_from e 0 t.outcome.out.letters in
+    let last = mapped_rest (λ p. p.0) Q (on_the_board (counted w t.outcome.out.publications)) _ (mapped_rest (λ p. p.0) Q letters _ made) in
+    let board = same_board w v (looked_up w d) (all_front Q boards _ before) in
+    let others = all_rest Q boards _ before in
     let s = vat_state w t.vat in
     let u = vat_state v t.vat in
     let r = h.delivers.0 in
-    let agree : AgreeOn (delivery_touched r) u s = λ c is. vat_alike t.vat cells w v (all_rest Q messages _ others) c (g.touched c ∙ sym (ap (λ (q : Cells). q c) h.delivers.1) ∙ is) in
+    let agree : AgreeOn (delivery_touched r) u s = λ c is. vat_alike t.vat cells w v here c (g.touched c ∙ sym (ap (λ (q : Cells). q c) h.delivers.1) ∙ is) in
     let framed = delivery_framed r u agree in
     let after : State = with_cells (delivery_written r) t.outcome.state u in
     let there : (c : Cell) → (not (is_lost t.outcome.told) && t.written c) ≡ true → after c ≡ t.outcome.state c =
     λ c is. written_there (delivery_written r) t.outcome.state u c (ap (λ (q : Cells). q c) h.delivers.2 ∙ (and_parts (not (is_lost t.outcome.told)) (t.written c) is).1) in
     let looked = looked_alike w v d board in
     let order = awaited_alike w v t.message board in
+    let counts = counted_alike w v t.outcome.out.publications (all_rest Q messages _ others) in
     let ahead : Turn = record t { outcome = record t.outcome { state = after } } in
     let foot : turn_foot e v m ahead cells left ≡ turn_foot e w m t cells left =
-    λ i. record { reads = map key.Board (looked i) ++ (map key.Msg (order i) ++ keys); writes = in_world t.vat left ++ made_by e m t.message t.outcome } in
+    λ i. record {
+      reads = (map key.Board (looked i) ++ (map key.Msg (order i) ++ map (λ b. key.Board b.0) t.outcome.out.publications)) ++ map (cell_key t.vat) cells;
+      writes = in_world t.vat left ++ (letters ++ (on_the_board (counts i) ++ (key.Msg m, message (record t.message { place = done e })) ∷ []));
+    } in
     subst (Does (record { name = e; act = turn t.vat m n }) v) foot
     (turns {t = ahead}
     (record {
@@ -189,6 +199,7 @@ law_of_turns e m n t cells left w v h g a =
       leads = leads_alike w v t.vat d board (all_map _ _ (viewed_by s d) (λ p is. ap resolution_in (agree (view_cell p) is)) (delivery_viewed r)) ∙ h.leads;
       in_order = ap (first_undone v) order ∙ undone_alike w v (awaited w t.message) (all_front Q messages _ others) ∙ h.in_order;
       delivers = subst (λ (f : Found). DeliversOn t.message f e t.vat u n ahead.outcome t.touched t.written) (sym (found_by_alike w v d board)) (framed.0, framed.1 ∙ h.delivers.1, framed.2 ∙ h.delivers.2);
+      fresh = new_alike w v letters (mapped_front (λ p. p.0) Q letters _ made) h.fresh;
     })
     (left_alike t.touched (λ c. not (is_lost t.outcome.told) && t.written c) t.outcome.state after cells left g there))
 
@@ -239,12 +250,7 @@ one_turn e w m n t u h k =
 feet_alike : (e : EventName) (w : World) (m : MsgId) (t : Turn) (cells others : List Cell) (left more : List (Cell × heap.Content)) → TurnLeaves t cells left → TurnLeaves t others more
     → Alike events (turn_foot e w m t cells left) (turn_foot e w m t others more)
 feet_alike e w m t cells others left more h g =
-    let boards = map key.Board (looked_up w t.message.delivery) in
-    let messages = map key.Msg (awaited w t.message) in
-    let foot : List CellKey → List (Cell × heap.Content) → Foot = λ reads ws. record { reads = reads; writes = in_world t.vat ws ++ made_by e m t.message t.outcome } in
-    subst (λ (xs : List CellKey). Alike events (foot xs left) (foot (boards ++ (messages ++ map (cell_key t.vat) others)) more)) (append_assoc boards messages (map (cell_key t.vat) cells))
-    (subst (λ (ys : List CellKey). Alike events (foot ((boards ++ messages) ++ map (cell_key t.vat) cells) left) (foot ys more)) (append_assoc boards messages (map (cell_key t.vat) others))
-    (vat_feet t.vat (boards ++ messages) (made_by e m t.message t.outcome) t.touched (λ c. not (is_lost t.outcome.told) && t.written c) t.outcome.state cells others left more h g))
+    vat_feet t.vat (turn_reads w t) (made_by e w m t.message t.outcome) t.touched (λ c. not (is_lost t.outcome.told) && t.written c) t.outcome.state cells others left more h g
 
 -- so are those of what a vat learns
 learnt_feet : (w : World) (v : VatNo) (p : PromId) (b : Published) (cells others : List Cell) (left more : List (Cell × heap.Content))

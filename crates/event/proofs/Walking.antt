@@ -1,5 +1,5 @@
 -- A walk depends on what it goes through alone, and so does what is read along it.
-use Rattle.std.proofs.Common.{◌≡◌, ℕ, zero, suc, Bool, true, false, cond, List, [], ◌∷◌, ◌++◌, map, Option, Some, None, refl, ap, ap₂, ◌∙◌}
+use Rattle.std.proofs.Common.{◌≡◌, ℕ, zero, suc, Bool, true, false, cond, List, [], ◌∷◌, ◌++◌, map, Option, Some, None, is_some, refl, ap, ap₂, ◌∙◌}
 use Rattle.std.specs.List.{AllByRecursion}
 use Rattle.std.specs.Option.{option_map, unwrap_or}
 use Rattle.history.proofs.Lists.{all_map}
@@ -16,6 +16,7 @@ use Rattle.post.specs.Delivery.{Call, Delivery, opening, asked, sent, waiting}
 use Rattle.post.specs.Messages.{Message, Published, done_in}
 use Rattle.worldcells.specs.World.{Content, World, message_in, published_in, message_of, published_as}
 use Rattle.deliveries.specs.Turn.{Found}
+use Rattle.event.specs.Events.{AreNew, counted}
 use Rattle.event.specs.Ready.{first_undone, least_with}
 use Rattle.event.specs.Walks.{by_the_board, board_walk, looked_up, awaited_for, awaited_along, awaited, fences_of, last_fences, found_by}
 
@@ -99,3 +100,16 @@ pub undone_alike : (w v : World) (ms : List MsgId) → AllByRecursion (λ k. v k
 undone_alike w v [] a = refl
 undone_alike w v (m ∷ ms) a =
     ap₂ (λ b (o : Option MsgId). cond b o (least_with m o)) (ap (λ (o : Option Content). done_in (message_in o)) a.0) (undone_alike w v ms a.1)
+
+-- ---- what a turn makes
+
+-- in worlds that agree on these publications the same ones count
+pub counted_alike : (w v : World) (bs : List (PromId × Published)) → AllByRecursion (λ k. v k ≡ w k) (map (λ b. key.Board b.0) bs) → counted v bs ≡ counted w bs
+counted_alike w v [] a = refl
+counted_alike w v (b ∷ bs) a =
+    ap₂ (λ (o : Option Content) (rest : List (PromId × Published)). cond (is_some (published_in o)) rest (b ∷ rest)) a.0 (counted_alike w v bs a.1)
+
+-- what is new in one is new in the other
+pub new_alike : (w v : World) (ps : List (CellKey × Content)) → AllByRecursion (λ k. v k ≡ w k) (map (λ p. p.0) ps) → AreNew w ps → AreNew v ps
+new_alike w v [] a h = tt
+new_alike w v (p ∷ ps) a h = (a.0 ∙ h.0, new_alike w v ps a.1 h.1)

@@ -1,5 +1,5 @@
 -- What the program works out of an event before it is entered.
-use Rattle.std.specs.Prelude.{◌≡◌, List, [], ◌∷◌, ◌++◌, map}
+use Rattle.std.specs.Prelude.{◌≡◌, List, [], ◌∷◌}
 use Rattle.std.specs.List.{list_any}
 use Rattle.history.specs.Subject.{touches}
 use Rattle.history.specs.Records.{Record, Writes}
@@ -9,7 +9,6 @@ use Rattle.ids.specs.declared.names.VatNo.{VatNo}
 use Rattle.ids.specs.declared.names.MsgId.{MsgId}
 use Rattle.ids.specs.declared.names.PromId.{PromId}
 use Rattle.ids.specs.declared.cells.CellKey.{CellKey}
-use Rattle.ids.specs.declared.cells.CellKey.TheVariants as key
 use Rattle.kernele.specs.Tree.{Name}
 use Rattle.heap.specs.State as heap
 use Rattle.heap.specs.State.{Cell}
@@ -17,7 +16,6 @@ use Rattle.heap.specs.Found.{touched_in}
 use Rattle.worldcells.specs.Events.{Event}
 use Rattle.post.specs.Messages.{Message, Published}
 use Rattle.post.specs.declared.earlier.Earlier.{Earlier}
-use Rattle.erules.specs.Outbox.{Outbox}
 use Rattle.worldcells.specs.World.{World}
 use Rattle.worldcells.specs.Theory.{cells, kepts_of}
 use Rattle.event.specs.Events.{Foot, Does, events, Turn, TurnLeaves, Leaves, first_promise, turn_foot, learnt, learn_foot}
@@ -43,10 +41,6 @@ turn_of g v o u = record { message = g; vat = v; outcome = outcome_on o u; touch
 abbrev pub known_by : List Name → List VatNo → List Earlier
 known_by (x ∷ xs) (v ∷ vs) = record { name = x; opening = first_promise v.0 v } ∷ known_by xs vs
 known_by _ _ = []
-
--- the keys of the messages and publications that a turn made
-abbrev pub keys_made : Outbox → List CellKey
-keys_made out = map (λ l. key.Msg l.0) out.letters ++ map (λ b. key.Board b.0) out.publications
 
 -- these are the cells that a turn touches, and what it writes
 pub record BringsTurn (e : EventName) (w : World) (m : MsgId) (t : Turn) (it : Effects) : Type 0 where

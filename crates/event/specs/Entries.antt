@@ -1,16 +1,12 @@
 -- The cells of a footprint in a list, and what an event leaves there.
-use Rattle.std.specs.Prelude.{◌≡◌, ℕ, Bool, cond, List, [], ◌∷◌, ◌++◌, map, Option, Some, None, is_some}
+use Rattle.std.specs.Prelude.{ℕ, Bool, cond, List, [], ◌∷◌, ◌++◌, map, Option, Some, None}
 use Rattle.std.specs.List.{IsDistinct}
 use Rattle.std.specs.Map.{keys_of}
 use Rattle.std.specs.Option.{option_map}
 use Rattle.history.specs.Records.{Record, record_of}
-use Rattle.history.specs.Subject.{found}
 use Rattle.ids.specs.declared.names.EventName.{EventName}
 use Rattle.ids.specs.declared.names.VatNo.{VatNo}
-use Rattle.ids.specs.declared.names.MsgId.{MsgId}
-use Rattle.ids.specs.declared.names.PromId.{PromId}
 use Rattle.ids.specs.declared.cells.CellKey.{CellKey}
-use Rattle.ids.specs.declared.cells.CellKey.TheVariants as key
 use Rattle.cells.specs.Touches.{touched_list}
 use Rattle.cells.specs.declared.touches.Touch.{Touch}
 use Rattle.values.specs.View.{val_of}
@@ -78,21 +74,6 @@ kept_left e v left = record_of cells e.0 (writes_at v left)
 -- a record of one cell in which an event wrote this
 abbrev pub kept_at : EventName → VatNo → Cell → heap.Content → CellKey × (Option Content × Option ℕ)
 kept_at e v c x = (cell_key v c, (Some (content_of x), Some e.0))
-
--- one more record behind others, unless its cell has one: of several writes of a cell the first counts
-abbrev pub and_kept : Record cells → CellKey × (Option Content × Option ℕ) → Record cells
-and_kept ps p = cond (is_some (found cells ps p.0)) ps (ps ++ p ∷ [])
-
-abbrev pub each_kept : Record cells → Record cells → Record cells
-each_kept ps [] = ps
-each_kept ps (q ∷ qs) = each_kept (and_kept ps q) qs
-
--- these are the messages of which there are records, and these the promises
-abbrev pub KnowsMessages : (MsgId → Bool) → Record cells → Type 0
-KnowsMessages known ps = (m : MsgId) → known m ≡ is_some (found cells ps (key.Msg m))
-
-abbrev pub KnowsPromises : (PromId → Bool) → Record cells → Type 0
-KnowsPromises known ps = (p : PromId) → known p ≡ is_some (found cells ps (key.Board p))
 
 -- what a turn leaves: an abandoned one leaves nothing
 abbrev pub left_unless : Bool → Footprint → List (Cell × heap.Content)

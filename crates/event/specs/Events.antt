@@ -1,5 +1,5 @@
 -- The events: when each is possible, which cells it touches, and what it does to the world.
-use Rattle.std.specs.Prelude.{◌≡◌, ℕ, Bool, true, false, ◌&&◌, not, cond, List, [], ◌∷◌, ◌++◌, map, Option, Some, None}
+use Rattle.std.specs.Prelude.{◌≡◌, ℕ, ◌+◌, Bool, true, false, ◌&&◌, not, cond, List, [], ◌∷◌, ◌++◌, map, Option, Some, None, is_some}
 use Rattle.std.specs.List.{list_any, AllByRecursion}
 use Rattle.history.specs.Subject.{Footprint, Subject}
 use Rattle.ids.specs.declared.names.EventName.{EventName}
@@ -137,30 +137,49 @@ pub record Turn : Type 0 where
   pub touched : Cells
   pub written : Cells
 
--- in a world, the event e may deliver m with this budget, and this is the turn
+-- the messages that an event makes: they have its name, and are numbered in order of making
+abbrev pub letters_from : EventName → ℕ → List (MsgId × Message) → List (CellKey × Content)
+letters_from e i [] = []
+letters_from e i (l ∷ ls) = (key.Msg (record { event = e; index = i }), message l.1) ∷ letters_from e (i + 1) ls
+
+-- there is nothing in these cells
+abbrev pub AreNew : World → List (CellKey × Content) → Type 0
+AreNew w ps = AllByRecursion (λ p. w p.0 ≡ None) ps
+
+-- in a world, the event e may deliver m with this budget, and this is the turn: what it sends is new there
 pub record Turns (e : EventName) (w : World) (m : MsgId) (budget : ℕ) (t : Turn) : Type 0 where
   pub waiting : w (key.Msg m) ≡ Some (message t.message)
   pub there : t.message.place ≡ at_vat t.vat
   pub leads : leads_there w t.vat t.message ≡ true
   pub in_order : first_undone w (awaited w t.message) ≡ None
   pub delivers : DeliversOn t.message (found_by w t.message.delivery) e t.vat (vat_state w t.vat) budget t.outcome t.touched t.written
+  pub fresh : AreNew w (letters_from e 0 t.outcome.out.letters)
 
 -- what a turn leaves in the cells of its vat: nothing, if it was abandoned
 abbrev pub TurnLeaves : Turn → List Cell → List (Cell × heap.Content) → Type 0
 TurnLeaves t cells left = Leaves t.touched (λ c. not (is_lost t.outcome.told) && t.written c) t.outcome.state cells left
 
--- what it makes: messages and publications; and its message is done
-abbrev pub made_by : EventName → MsgId → Message → Outcome → List (CellKey × Content)
-made_by e m g o =
-    map (λ l. (key.Msg l.0, message l.1)) o.out.letters
-    ++ (map (λ b. (key.Board b.0, published b.1)) o.out.publications
-    ++ (key.Msg m, message (record g { place = done e })) ∷ [])
+-- what counts of publications: a promise that was published before is not published again
+abbrev pub counted : World → List (PromId × Published) → List (PromId × Published)
+counted w [] = []
+counted w (b ∷ bs) = cond (is_some (published_as w b.0)) (counted w bs) (b ∷ counted w bs)
 
--- a turn reads what was published on its target's way, the messages that must be done before, and cells of its vat
+abbrev pub on_the_board : List (PromId × Published) → List (CellKey × Content)
+on_the_board bs = map (λ b. (key.Board b.0, published b.1)) bs
+
+-- what it makes: messages and publications; and its message is done
+abbrev pub made_by : EventName → World → MsgId → Message → Outcome → List (CellKey × Content)
+made_by e w m g o = letters_from e 0 o.out.letters ++ (on_the_board (counted w o.out.publications) ++ (key.Msg m, message (record g { place = done e })) ∷ [])
+
+-- what a turn reads beside its vat: what was published on its target's way, the messages that must be done before, and whether what it
+-- publishes was published
+abbrev pub turn_reads : World → Turn → List CellKey
+turn_reads w t = map key.Board (looked_up w t.message.delivery) ++ (map key.Msg (awaited w t.message) ++ map (λ b. key.Board b.0) t.outcome.out.publications)
+
 abbrev pub turn_foot : EventName → World → MsgId → Turn → List Cell → List (Cell × heap.Content) → Foot
 turn_foot e w m t cells left = record {
-  reads = map key.Board (looked_up w t.message.delivery) ++ (map key.Msg (awaited w t.message) ++ map (cell_key t.vat) cells);
-  writes = in_world t.vat left ++ made_by e m t.message t.outcome;
+  reads = turn_reads w t ++ map (cell_key t.vat) cells;
+  writes = in_world t.vat left ++ made_by e w m t.message t.outcome;
 }
 
 -- ---- all of them

@@ -5,26 +5,27 @@ ghost use Rattle.ids.specs.declared.cells.CellKey.TheVariants as key;
 ghost use Rattle.kernele.specs.View.{program_of};
 ghost use Rattle.scopes.specs.Scope.{own_names_in};
 ghost use Rattle.heap.specs.State.{State};
-ghost use Rattle.post.specs.Messages.{Vat, Published};
+ghost use Rattle.post.specs.Messages as posts;
 ghost use Rattle.post.specs.MessageView.{message_of};
-ghost use Rattle.erules.specs.OutboxView.{outbox_of};
+ghost use Rattle.erules.specs.OutboxView.{letter_of};
+ghost use Rattle.erules.specs.PublicationsView.{publications_of};
 ghost use Rattle.worldcells.specs.Theory.{kepts_of, kept_of, cells};
 ghost use Rattle.worldcells.specs.World as model;
-ghost use Rattle.worldcells.specs.World.{World, vat_state};
+ghost use Rattle.worldcells.specs.View.{world_of};
+ghost use Rattle.worldcells.specs.World.{vat_state};
 ghost use Rattle.deliveries.specs.Outcomes.{outcome_on};
-ghost use Rattle.event.specs.Entries.{EachOnce, each_kept, entries_of, keys_in, left_of, kept_left};
-ghost use Rattle.event.specs.Events.{birth_foot, ask_foot, first_message, first_promise, opening_message, asked_message, made_by, moved_foot};
-ghost use Rattle.event.specs.Effects.{Brings, BringsLearnt, BringsTurn, keys_made, known_by, turn_of};
+ghost use Rattle.event.specs.Entries.{EachOnce, entries_of, keys_in, left_of, kept_left};
+ghost use Rattle.event.specs.Events.{AreNew, birth_foot, ask_foot, first_message, first_promise, letters_from, opening_message, asked_message, made_by, moved_foot};
+ghost use Rattle.event.specs.Effects.{Brings, BringsLearnt, BringsTurn, known_by, turn_of};
 ghost use Rattle.event.specs.Learning.{Learns};
 ghost use Rattle.event.specs.ReadyView.{IsWay};
 
 use crate::left::{record_cells, touch_cells};
-use crate::making::{message_record, record_letters, record_publications};
+use crate::making::{message_record, record_letters, record_publications, touch_letters, touch_publications};
 use crate::ready::Way;
 use cells::store::Record;
 use deliveries::outcome::{Ended, Outcome};
 use eorder::fence::Fence;
-use erules::outbox::{Letter, Publication};
 use heap::reach::Footprint;
 use ids::cells::CellKey;
 use ids::names::{EventName, MsgId, PromId, VatNo};
@@ -37,9 +38,9 @@ use post::program::{Question, Script};
 use post::vat::Vat;
 use scopes::top_names;
 use std::alloc::{AllocError, Global};
-use std::collections::HashSet;
 use std::sync::Arc;
 use worldcells::record::CellRecord;
+use worldcells::world::World;
 
 /// The cells that an event touches, and a record of each cell that it writes, with what it writes there.
 #[derive(Drop)]
@@ -169,7 +170,7 @@ pub fn birth_effects(
     vats: &[VatNo],
     script: &Program,
 ) -> Result<Effects, AllocError>
-    ensures { IfOk result (λ it. (found : List Vat) → map (λ v. v.number) found ≡ vats.now → Brings event (birth_foot event name.now (earlier.now) found (program_of script.now)) it.touched.items (kepts_of it.records.items)) }
+    ensures { IfOk result (λ it. (found : List posts.Vat) → map (λ v. v.number) found ≡ vats.now → Brings event (birth_foot event name.now (earlier.now) found (program_of script.now)) it.touched.items (kepts_of it.records.items)) }
 {
     let first = first_message(event);
     let message = opening(alloc, event, known_as(alloc, earlier, vats)?, script)?;
@@ -231,7 +232,7 @@ pub fn learn_effects(
     promise: PromId,
     footprint: &Footprint,
 ) -> Result<Effects, AllocError>
-    ensures { IfOk result (λ it. (w : World) (b : Published) → Learns (vat_state w vat) promise b footprint.now → BringsLearnt event w vat promise b it) }
+    ensures { IfOk result (λ it. (w : model.World) (b : posts.Published) → Learns (vat_state w vat) promise b footprint.now → BringsLearnt event w vat promise b it) }
 {
     let mut touched = Vec::new(alloc);
     touched.push(CellKey::Board(promise))?;
@@ -264,52 +265,23 @@ fn touch_messages(touched: &mut Vec<CellKey>, names: &[MsgId]) -> Result<(), All
 /// The cells that a turn of a message touched: what was looked at to know that it is ready, the cells of the vat, and what it made.
 fn turn_touched(
     alloc: Global,
+    event: EventName,
     name: MsgId,
     way: &Way,
     vat: VatNo,
     outcome: &Outcome,
 ) -> Result<Vec<CellKey>, AllocError>
     ensures once { OnOk result (EachOnce outcome.now.footprint) }
-    ensures touched { IfOk result (λ keys. keys.items ≡ map key.Board way.now.through.items ++ (map key.Msg way.now.awaited ++ (keys_in vat (entries_of outcome.now.footprint) ++ (keys_made (outbox_of outcome.now.out) ++ key.Msg name ∷ [])))) }
+    ensures touched { IfOk result (λ keys. keys.items ≡ (map key.Board way.now.through.items ++ (map key.Msg way.now.awaited ++ map (λ b. key.Board b.0) (publications_of outcome.now.out.publications))) ++ (keys_in vat (entries_of outcome.now.footprint) ++ (map (λ p. p.0) (letters_from event 0 (map letter_of outcome.now.out.letters.items)) ++ key.Msg name ∷ []))) }
 {
     let mut touched = Vec::new(alloc);
     touch_board(&mut touched, way.through.as_slice())?;
     touch_messages(&mut touched, way.awaited.names())?;
+    touch_publications(&mut touched, &outcome.out.publications)?;
     touch_cells(&mut touched, vat, &outcome.footprint)?;
-    touch_made(&mut touched, outcome)?;
+    touch_letters(&mut touched, event, outcome.out.letters.as_slice())?;
     touched.push(CellKey::Msg(name))?;
     Ok(touched)
-}
-
-/// Touches the messages and publications that a turn made.
-fn touch_made(touched: &mut Vec<CellKey>, outcome: &Outcome) -> Result<(), AllocError>
-    ensures { OnOk result (touched.new.items ≡ touched.old.items ++ keys_made (outbox_of outcome.now.out)) }
-{
-    touch_letters(touched, outcome.out.letters.as_slice())?;
-    touch_publications(touched, outcome.out.publications.as_slice())
-}
-
-/// Touches messages that were made.
-fn touch_letters(touched: &mut Vec<CellKey>, letters: &[Letter]) -> Result<(), AllocError>
-    ensures { OnOk result (touched.new.items ≡ touched.old.items ++ map (λ l. key.Msg l.name) letters.now) }
-{
-    for letter in letters {
-        touched.push(CellKey::Msg(letter.name))?;
-    }
-    Ok(())
-}
-
-/// Touches publications that were made.
-fn touch_publications(
-    touched: &mut Vec<CellKey>,
-    publications: &[Publication],
-) -> Result<(), AllocError>
-    ensures { OnOk result (touched.new.items ≡ touched.old.items ++ map (λ b. key.Board b.promise) publications.now) }
-{
-    for publication in publications {
-        touched.push(CellKey::Board(publication.promise))?;
-    }
-    Ok(())
 }
 
 /// Adds records of what a turn left in its vat, unless it was abandoned.
@@ -332,34 +304,28 @@ fn record_left(
 /// Records of what a turn of this message wrote: what it left in its vat, what it made, and the message as done.
 fn turn_records(
     alloc: Global,
+    world: &World,
     event: EventName,
     name: MsgId,
     message: &Message,
     vat: VatNo,
     outcome: &Outcome,
 ) -> Result<Vec<CellRecord>, AllocError>
-    ensures { IfOk result (λ records. (u : State) → kepts_of records.items ≡ each_kept (kept_left event vat (left_of outcome.now)) (record_of cells event.0 (made_by event name (message_of message.now) (outcome_on outcome.now u)))) }
+    ensures { IfOk result (λ records. (u : State) → kepts_of records.items ≡ kept_left event vat (left_of outcome.now) ++ record_of cells event.0 (made_by event (world_of world.now) name (message_of message.now) (outcome_on outcome.now u))) }
 {
     let mut records = Vec::new(alloc);
     record_left(&mut records, event, vat, outcome)?;
-    let mut names = HashSet::new(alloc);
-    record_letters(&mut records, &mut names, event, outcome.out.letters.as_slice())?;
-    let mut promises = HashSet::new(alloc);
-    record_publications(
-        &mut records,
-        &mut promises,
-        event,
-        outcome.out.publications.as_slice(),
-    )?;
-    if !names.contains(&name) {
-        records.push(message_record(event, name, message.done_in(event)?))?;
-    }
+    record_letters(&mut records, event, outcome.out.letters.as_slice())?;
+    record_publications(&mut records, world, event, &outcome.out.publications)?;
+    records.push(message_record(event, name, message.done_in(event)?))?;
     Ok(records)
 }
 
-/// The effects of a turn of this message at this vat, which had this outcome. Fails only for want of memory.
+/// The effects of a turn of this message at this vat, which had this outcome, in a world where it sends what is new. Fails only for want
+/// of memory.
 pub fn turn_effects(
     alloc: Global,
+    world: &World,
     event: EventName,
     name: MsgId,
     message: &Message,
@@ -367,10 +333,10 @@ pub fn turn_effects(
     vat: VatNo,
     outcome: &Outcome,
 ) -> Result<Effects, AllocError>
-    ensures { IfOk result (λ it. (w : World) → IsWay w vat (message_of message.now) way.now → (u : State) → BringsTurn event w name (turn_of (message_of message.now) vat outcome.now u) it) }
+    ensures { IfOk result (λ it. world_of world.now (key.Msg name) ≡ Some (model.message (message_of message.now)) → AreNew (world_of world.now) (letters_from event 0 (map letter_of outcome.now.out.letters.items)) → IsWay (world_of world.now) vat (message_of message.now) way.now → (u : State) → BringsTurn event (world_of world.now) name (turn_of (message_of message.now) vat outcome.now u) it) }
 {
     Ok(Effects {
-        touched: turn_touched(alloc, name, way, vat, outcome)?,
-        records: turn_records(alloc, event, name, message, vat, outcome)?,
+        touched: turn_touched(alloc, event, name, way, vat, outcome)?,
+        records: turn_records(alloc, world, event, name, message, vat, outcome)?,
     })
 }

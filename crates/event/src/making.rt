@@ -1,22 +1,25 @@
-// Records of the messages and publications that a turn made, each cell once.
-ghost use Rattle.std.specs.Prelude.{◌≡◌, Some, IfOk, OnOk, map};
-ghost use Rattle.std.specs.HashSet.{contains};
+// What a turn made: its cells in the world, and records of them.
+ghost use Rattle.std.specs.Prelude.{◌≡◌, ◌++◌, ◌∷◌, [], Some, IfOk, OnOk, map};
 ghost use Rattle.history.specs.Records.{record_of};
 ghost use Rattle.ids.specs.declared.cells.CellKey.TheVariants as key;
 ghost use Rattle.post.specs.MessageView.{message_of, published_of};
-ghost use Rattle.erules.specs.OutboxView.{letter_of, publication_of};
+ghost use Rattle.erules.specs.OutboxView.{letter_of};
+ghost use Rattle.erules.specs.PublicationsView.{publications_of};
 ghost use Rattle.worldcells.specs.Theory.{kepts_of, kept_of, cells};
-ghost use Rattle.worldcells.specs.View.{same_message, same_promise};
+ghost use Rattle.worldcells.specs.View.{world_of};
 ghost use Rattle.worldcells.specs.World as model;
-ghost use Rattle.event.specs.Entries.{and_kept, each_kept, KnowsMessages, KnowsPromises};
+ghost use Rattle.event.specs.Events.{counted, letters_from, on_the_board};
 
 use cells::store::Record;
-use erules::outbox::{Letter, Publication};
+use erules::outbox::Letter;
+use erules::publications::Publications;
+use ids::cells::CellKey;
 use ids::names::{EventName, MsgId, PromId};
 use post::message::Message;
+use post::published::Published;
 use std::alloc::AllocError;
-use std::collections::HashSet;
 use worldcells::record::CellRecord;
+use worldcells::world::World;
 
 /// A record of a message's cell, in which an event wrote this.
 pub(crate) fn message_record(event: EventName, name: MsgId, message: Message) -> CellRecord
@@ -30,79 +33,101 @@ pub(crate) fn message_record(event: EventName, name: MsgId, message: Message) ->
 }
 
 /// A record of what a promise is published as.
-fn publication_record(event: EventName, publication: &Publication) -> Result<CellRecord, AllocError>
-    ensures { IfOk result (λ r. kept_of r ≡ (key.Board publication.now.promise, (Some (model.published (published_of publication.now.published)), Some event.0))) }
+fn publication_record(
+    event: EventName,
+    promise: PromId,
+    published: &Published,
+) -> Result<CellRecord, AllocError>
+    ensures { IfOk result (λ r. kept_of r ≡ (key.Board promise, (Some (model.published (published_of published.now)), Some event.0))) }
 {
     Ok(CellRecord::Board(Record {
-        key: publication.promise,
-        content: Some(publication.published.share()?),
+        key: promise,
+        content: Some(published.share()?),
         writer: Some(event),
     }))
 }
 
-/// Adds a record of a message that was made, unless there is one of its name.
-fn record_letter(
-    records: &mut Vec<CellRecord>,
-    names: &mut HashSet<MsgId>,
-    event: EventName,
-    letter: &Letter,
-) -> Result<(), AllocError>
-    requires { KnowsMessages (contains same_message names.old) (kepts_of records.old.items) }
-    ensures kept { OnOk result (kepts_of records.new.items ≡ and_kept (kepts_of records.old.items) (key.Msg letter.now.name, (Some (model.message (message_of letter.now.message)), Some event.0))) }
-    ensures known { OnOk result (KnowsMessages (contains same_message names.new) (kepts_of records.new.items)) }
+/// The name of the message that an event makes at this place. No list of messages is so long that it has none.
+fn name_at(event: EventName, place: usize) -> Result<MsgId, AllocError>
+    ensures { IfOk result (λ m. m ≡ record { event = event; index = place }) }
 {
-    if names.insert(letter.name)? {
-        records.push(message_record(event, letter.name, letter.message.share()?))?;
+    match u32::try_from(place) {
+        Ok(index) => Ok(MsgId { event, index }),
+        Err(_) => Err(AllocError),
     }
-    Ok(())
 }
 
-/// Adds records of messages that were made, one of each name.
-pub(crate) fn record_letters(
-    records: &mut Vec<CellRecord>,
-    names: &mut HashSet<MsgId>,
+/// Touches messages that an event made.
+pub(crate) fn touch_letters(
+    touched: &mut Vec<CellKey>,
     event: EventName,
     letters: &[Letter],
 ) -> Result<(), AllocError>
-    requires { KnowsMessages (contains same_message names.old) (kepts_of records.old.items) }
-    ensures kept { OnOk result (kepts_of records.new.items ≡ each_kept (kepts_of records.old.items) (record_of cells event.0 (map (λ l. (key.Msg l.0, model.message l.1)) (map letter_of letters.now)))) }
-    ensures known { OnOk result (KnowsMessages (contains same_message names.new) (kepts_of records.new.items)) }
+    ensures { OnOk result (touched.new.items ≡ touched.old.items ++ map (λ p. p.0) (letters_from event 0 (map letter_of letters.now))) }
 {
-    for letter in letters {
-        record_letter(records, names, event, letter)?;
+    for place in 0..letters.len() {
+        touched.push(CellKey::Msg(name_at(event, place)?))?;
     }
     Ok(())
 }
 
-/// Adds a record of a publication, unless there is one of its promise.
+/// Touches what promises were published as.
+pub(crate) fn touch_publications(
+    touched: &mut Vec<CellKey>,
+    publications: &Publications,
+) -> Result<(), AllocError>
+    ensures { OnOk result (touched.new.items ≡ touched.old.items ++ map (λ b. key.Board b.0) (publications_of publications.now)) }
+{
+    for place in 0..publications.len() {
+        let (promise, _) = publications.at(place);
+        touched.push(CellKey::Board(promise))?;
+    }
+    Ok(())
+}
+
+/// Adds records of messages that an event made.
+pub(crate) fn record_letters(
+    records: &mut Vec<CellRecord>,
+    event: EventName,
+    letters: &[Letter],
+) -> Result<(), AllocError>
+    ensures { OnOk result (kepts_of records.new.items ≡ kepts_of records.old.items ++ record_of cells event.0 (letters_from event 0 (map letter_of letters.now))) }
+{
+    for (place, letter) in letters.iter().enumerate() {
+        let name = name_at(event, place)?;
+        records.push(message_record(event, name, letter.message.share()?))?;
+    }
+    Ok(())
+}
+
+/// Adds a record of a publication, unless the promise was published before.
 fn record_publication(
     records: &mut Vec<CellRecord>,
-    promises: &mut HashSet<PromId>,
+    world: &World,
     event: EventName,
-    publication: &Publication,
+    promise: PromId,
+    published: &Published,
 ) -> Result<(), AllocError>
-    requires { KnowsPromises (contains same_promise promises.old) (kepts_of records.old.items) }
-    ensures kept { OnOk result (kepts_of records.new.items ≡ and_kept (kepts_of records.old.items) (key.Board publication.now.promise, (Some (model.published (published_of publication.now.published)), Some event.0))) }
-    ensures known { OnOk result (KnowsPromises (contains same_promise promises.new) (kepts_of records.new.items)) }
+    ensures { OnOk result (kepts_of records.new.items ≡ kepts_of records.old.items ++ record_of cells event.0 (on_the_board (counted (world_of world.now) ((promise, published_of published.now) ∷ [])))) }
 {
-    if promises.insert(publication.promise)? {
-        records.push(publication_record(event, publication)?)?;
+    if world.published(promise).is_none() {
+        records.push(publication_record(event, promise, published)?)?;
     }
     Ok(())
 }
 
-/// Adds records of publications, one of each promise.
+/// Adds records of publications, but of none whose promise was published before.
 pub(crate) fn record_publications(
     records: &mut Vec<CellRecord>,
-    promises: &mut HashSet<PromId>,
+    world: &World,
     event: EventName,
-    publications: &[Publication],
+    publications: &Publications,
 ) -> Result<(), AllocError>
-    requires { KnowsPromises (contains same_promise promises.old) (kepts_of records.old.items) }
-    ensures { OnOk result (kepts_of records.new.items ≡ each_kept (kepts_of records.old.items) (record_of cells event.0 (map (λ b. (key.Board b.0, model.published b.1)) (map publication_of publications.now)))) }
+    ensures { OnOk result (kepts_of records.new.items ≡ kepts_of records.old.items ++ record_of cells event.0 (on_the_board (counted (world_of world.now) (publications_of publications.now)))) }
 {
-    for publication in publications {
-        record_publication(records, promises, event, publication)?;
+    for place in 0..publications.len() {
+        let (promise, published) = publications.at(place);
+        record_publication(records, world, event, promise, published)?;
     }
     Ok(())
 }
