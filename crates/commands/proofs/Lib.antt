@@ -4,3 +4,4 @@ pub mod Places
 pub mod ScriptLemmas
 pub mod Wording
 pub mod Vats
+pub mod LineTexts

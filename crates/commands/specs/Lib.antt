@@ -1,5 +1,6 @@
 pub mod Commands
 pub mod Lines
+pub mod Inputs
 pub mod Numbers
 pub mod ScriptView
 pub mod Scripts
