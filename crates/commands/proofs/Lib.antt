@@ -5,3 +5,7 @@ pub mod ScriptLemmas
 pub mod Wording
 pub mod Vats
 pub mod LineTexts
+pub mod WordTexts
+pub mod WordCuts
+pub mod Spellings
+pub mod Births

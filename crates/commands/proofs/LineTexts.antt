@@ -118,7 +118,7 @@ with_return line h = All-append IsOther line (13 ∷ []) h (All-cons IsOther 13 
 no_feed : (input : List ℕ) → HasNoLineFeed input → line_end input ≡ None
 no_feed input h =
     let none : position_or_len is_line_feed input ≡ length input =
-        position_or_len_is is_line_feed input (length input) 0 (omega arith) (λ k below. not_fed (get_or input k 0) (All-get_or IsOther input k 0 below h) _ refl) (λ within. absurd (omega arith)) in
+    position_or_len_is is_line_feed input (length input) 0 (omega arith) (λ k below. not_fed (get_or input k 0) (All-get_or IsOther input k 0 below h) _ refl) (λ within. absurd (omega arith)) in
     let past : nat_lt (position_or_len is_line_feed input) (length input) ≡ false = grind (arith, none) in
     ap (λ t. cond t (Some (position_or_len is_line_feed input)) None) past
 

@@ -1,7 +1,9 @@
--- Lines as texts: an input is its lines one after another, each with what ends it.
-use Rattle.std.specs.Prelude.{◌≡◌, ◌≢◌, ℕ, ◌<◌, List, [], ◌∷◌, ◌++◌, map, length, All}
+-- Lines and words as texts: an input is its lines one after another, each with what ends it; a line is its words, with blanks before,
+-- between and behind them.
+use Rattle.std.specs.Prelude.{◌≡◌, ◌≢◌, ◌↔◌, ℕ, ◌<◌, List, [], ◌∷◌, ◌++◌, map, length, true, false, All}
 use Rattle.commands.specs.Lines.{line_of}
 use Rattle.commands.specs.Scripts.{starts, behind_lines}
+use Rattle.commands.specs.Words.{is_blank, words_in}
 
 -- no line feed is among these bytes
 abbrev pub HasNoLineFeed : List ℕ → Type 0
@@ -33,3 +35,19 @@ InputsAreLines = (input : List ℕ) → (n : ℕ) × HasLines input (map line_of
 -- no input is lines in two ways
 abbrev pub LinesAreTold : Type 0
 LinesAreTold = (input : List ℕ) (lines others : List (List ℕ)) → HasLines input lines → HasLines input others → lines ≡ others
+
+-- a word has a byte at least, and no blank
+abbrev pub IsWord : List ℕ → Type 0
+IsWord word = (0 < length word) × All (λ b. is_blank b ≡ false) word
+
+-- a text has these words, from the left
+pub data HasWords : List ℕ → List (List ℕ) → Type 0 where
+  no_word : HasWords [] []
+  behind_blank : {b : ℕ} {text : List ℕ} {words : List (List ℕ)} → is_blank b ≡ true → HasWords text words → HasWords (b ∷ text) words
+  before_blank : {word : List ℕ} {words : List (List ℕ)} (b : ℕ) (text : List ℕ)
+      → IsWord word → is_blank b ≡ true → HasWords text words → HasWords (word ++ b ∷ text) (word ∷ words)
+  last_word : {word : List ℕ} → IsWord word → HasWords word (word ∷ [])
+
+-- the words that are cut off a text one after another are its words, and no others
+abbrev pub WordsAreTold : Type 0
+WordsAreTold = (text : List ℕ) (words : List (List ℕ)) → HasWords text words ↔ (words ≡ words_in text)

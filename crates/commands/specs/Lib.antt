@@ -5,3 +5,4 @@ pub mod Numbers
 pub mod ScriptView
 pub mod Scripts
 pub mod Words
+pub mod Spells

@@ -2,7 +2,7 @@
 ghost use Rattle.std.specs.Prelude.{◌≡◌, ◌<◌, length};
 ghost use Rattle.std.specs.List.{position};
 ghost use Rattle.commands.specs.Lines.{line_of, behind_line, is_long, is_line_feed, without_return};
-ghost use Rattle.commands.specs.Inputs.{BeginsWithLine, InputsAreLines, LinesAreTold};
+ghost use Rattle.commands.specs.Inputs.{BeginsWithLine};
 
 /// The most bytes that may stand before a line feed.
 const LONGEST_LINE: usize = 65_536;
@@ -52,9 +52,3 @@ pub fn cut_line(input: &[u8]) -> Cut<'_>
         },
     }
 }
-
-/// Each input is its lines one after another, those that are cut off it, and is lines in no other way.
-pub fn inputs_are_lines()
-    ensures cut { InputsAreLines }
-    ensures alone { LinesAreTold }
-{}
