@@ -1,11 +1,10 @@
 -- What is cut off an input is its first line as a text, and no other.
-use Rattle.std.proofs.Common.{◌≡◌, ◌≢◌, ℕ, suc, ◌+◌, ◌-◌, ◌<◌, ◌≤◌, List, [], ◌∷◌, ◌++◌, append_assoc, length, map, take, drop, get_or, Bool, true, false, not, cond, Option, Some, None, refl, sym, ap, subst, ◌∙◌, arith, zero, ◌==◌, nat_lt, length-append, length-take}
-use Rattle.std.specs.Prelude.{All}
-use Rattle.std.specs.List.{position, position_or_len}
-use Rattle.std.proofs.Math.Seq.{take-suc, take-append_seam, drop-append-add, get_or-append_seam, append_snoc}
+use Rattle.std.proofs.Common.{◌≡◌, ◌≢◌, ℕ, suc, ◌+◌, ◌-◌, ◌<◌, ◌≤◌, List, [], ◌∷◌, ◌++◌, append_assoc, length, map, take, drop, get_or, Bool, true, false, cond, Some, None, refl, sym, ap, subst, ◌∙◌, arith, zero, ◌==◌, nat_lt, length-append, length-take}
+use Rattle.std.specs.List.{position_or_len}
+use Rattle.std.proofs.Math.Seq.{take-suc, take-append_seam, drop-append-add, get_or-append_seam}
 use Rattle.std.proofs.lemmas.List.{take_all, get_or-take, get_or_append_left}
 use Rattle.std.proofs.lemmas.List.Elements.{All-take, All-from_get_or, All-get_or, All-append, All-cons, All-nil}
-use Rattle.std.proofs.lemmas.List.Sums.{split_at_first, passes_at_first, fails_before_first, position_or_len_is, prefix_len-le-length}
+use Rattle.std.proofs.lemmas.List.Sums.{split_at_first, passes_at_first, fails_before_first, position_or_len_is}
 use Rattle.commands.specs.Lines.{is_line_feed, line_end, line_to, line_of, rest_from, behind_line, without_return}
 use Rattle.commands.specs.Scripts.{starts, behind_lines}
 use Rattle.commands.specs.Inputs.{HasNoLineFeed, EndsReturned, BeginsWithLine, fed, returned, unended, HasLines, no_line, one_more, InputsAreLines, LinesAreTold}

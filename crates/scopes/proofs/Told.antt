@@ -1,5 +1,5 @@
 -- What the check tells of the free names of a program.
-use Rattle.std.proofs.Common.{◌≡◌, List, [], ◌∷◌, ◌++◌, Bool, true, false, Option, Some, None, is_some, Ok, Err, append_assoc, append-nil, ap, sym, subst, refl, ◌∙◌, if◌then◌else◌, cond, length}
+use Rattle.std.proofs.Common.{◌≡◌, List, [], ◌∷◌, ◌++◌, Bool, true, false, Option, Some, None, is_some, Ok, Err, append_assoc, append-nil, ap, sym, subst, refl, ◌∙◌, if◌then◌else◌, length}
 use Rattle.std.specs.Prelude.{All, Contains, IsSome, IsNone}
 use Rattle.std.specs.Option.{option_or}
 use Rattle.std.specs.Str.{bytes_eq}
@@ -13,6 +13,7 @@ use Rattle.scopes.specs.declared.naming.Kind.{Kind}
 use Rattle.scopes.specs.declared.naming.Kind.TheVariants as kind
 use Rattle.scopes.specs.declared.naming.TopName.{TopName}
 
+-- a name is in one of the scopes
 abbrev InScope : Scopes → Name → Type 0
 InScope s x = IsSome (kind_in s x)
 
@@ -121,7 +122,7 @@ assigned_case s bs x q k (Some kind.Variable) h = h
 assigned_tells : (s : Scopes) (bs : List TopName) (x : Name) (q : Scopes) → Knows s bs q → Tells s bs (occurring x bs) (assigned x q)
 assigned_tells s bs x q k = assigned_case s bs x q k (kind_in q x) (found_tells s bs x q k)
 
--- a name that is added is known
+-- a name is defined by a longer list where it is by the shorter one, or is the last
 defines_last : (bs : List TopName) (t : TopName) (x : Name) → defines (bs ++ t ∷ []) x ≡ (if defines bs x then true else bytes_eq t.name x)
 defines_last [] t x = either (bytes_eq t.name x)
   where
