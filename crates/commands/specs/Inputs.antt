@@ -43,7 +43,9 @@ IsWord word = (0 < length word) × All (λ b. is_blank b ≡ false) word
 -- a text has these words, from the left
 pub data HasWords : List ℕ → List (List ℕ) → Type 0 where
   no_word : HasWords [] []
+  -- a blank in front is no part of a word
   behind_blank : {b : ℕ} {text : List ℕ} {words : List (List ℕ)} → is_blank b ≡ true → HasWords text words → HasWords (b ∷ text) words
+  -- a word ends before a blank, or where the text ends
   before_blank : {word : List ℕ} {words : List (List ℕ)} (b : ℕ) (text : List ℕ)
       → IsWord word → is_blank b ≡ true → HasWords text words → HasWords (word ++ b ∷ text) (word ∷ words)
   last_word : {word : List ℕ} → IsWord word → HasWords word (word ∷ [])

@@ -22,6 +22,7 @@ pub data BeginsWithWord : List ℕ → List ℕ → List ℕ → Type 0 where
 pub data BeginsCommand : List ℕ → List ℕ → List ℕ → Type 0 where
   behind_blanks : {word rest : List ℕ} (blanks text : List ℕ) → AreBlanks blanks → BeginsWithWord text word rest → BeginsCommand (blanks ++ text) word rest
 
+-- a line spells a command
 pub data Spells : List ℕ → Spelled → Type 0 where
   -- vat NAME (EARLIER..) N: the first closing bracket ends the names, which stand against both brackets
   spells_birth : {line x more behind count : List ℕ} {earlier : List (List ℕ)} {n : ℕ} (inside : List ℕ) (b : ℕ)
