@@ -5,6 +5,7 @@ pub mod command;
 pub mod lines;
 pub mod numbers;
 pub mod script;
+pub mod theorems;
 mod words;
 
 pub use numbers::PromiseName;

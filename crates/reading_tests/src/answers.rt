@@ -22,7 +22,7 @@ pub enum Asked {
     Spelling,
     /// The same, where its tokens are read by themselves.
     SpellingOfTokens,
-    /// Whether it may be asked of a vat whose script is `var v := 1; def d := 2`.
+    /// Whether it may be asked of a vat behind a vat `w`, whose script is `var v := 1; def d := 2`.
     CheckAsked,
     /// Whether it may be a script behind a vat `v`.
     CheckScript,
@@ -128,7 +128,7 @@ fn known(alloc: Global) -> Result<Vec<TopName>, CheckFault> {
 }
 
 fn check_asked(alloc: Global, program: &Program) -> Result<(), CheckFault> {
-    let outer = Outer::for_asked(alloc, &[], &known(alloc)?)?;
+    let outer = Outer::for_asked(alloc, &[Text::new(alloc, "w")?], &known(alloc)?)?;
     check(alloc, program, &outer)
 }
 

@@ -8,6 +8,8 @@ x => K1 Unbound x
 v := 2 => fits
 d := 2 => K2 AssignToDef d
 var v := 1 => fits
+w <- m(v); def w := 1 => fits
+w := 1 => K2 AssignToDef w
 var x := 1; def x := 2 => K3 DuplicateName x
 def f { method m(x) { null } method n(x) { f } } => fits
 def f { method m(x) { null } method m(x) { f } } => K3 DuplicateName m
@@ -31,6 +33,8 @@ const SCRIPT_TEXTS: &str = r#"
 v => fits
 v := 2 => K2 AssignToDef v
 var v := 1 => K3 DuplicateName v
+{ def v := 1 } => fits
+when (v) -> { def v := 1 } catch v { v } => fits
 "#;
 
 #[test]

@@ -1,9 +1,9 @@
 -- The names that an object captures, those that are free in its methods, and the names that a `when` captures, those that are free in
 -- its blocks.
-use Rattle.std.specs.Prelude.{List, [], ◌∷◌, ◌++◌, Bool, true, false, if◌then◌else◌}
+use Rattle.std.specs.Prelude.{◌≡◌, List, [], ◌∷◌, ◌++◌, Bool, true, false, if◌then◌else◌, Ok, Err, All, Contains, IsSome, IsNone}
 use Rattle.std.specs.Str.{bytes_eq}
 use Rattle.kernele.specs.Tree.{Name, Tree, null_tree, bool_tree, int_tree, text_tree, noun, define, variable, assign, call, list_tree, same_tree, define_list, hide, if_tree, while_tree, for_tree, try_tree, throw_tree, object_tree, escape_tree, send, when_tree, when_catch_tree, new_promise, break_ref, state_ref, Trees, none, and_then, Methods, no_methods, and_method}
-use Rattle.scopes.specs.Scope.{defined_name, name_of, names_of_all, own_names}
+use Rattle.scopes.specs.Scope.{Scopes, unbound, kind_in, checked_all, defined_name, name_of, names_of_all, own_names}
 use Rattle.kernele.specs.declared.tree.Pattern.{Pattern}
 use Rattle.scopes.specs.declared.naming.TopName.{TopName}
 
@@ -80,3 +80,11 @@ captures p ms = distinct (free_of ms (name_of p))
 -- first occur; where it has no `catch`, nothing is in the handler
 abbrev pub when_captures : Trees → Pattern → Trees → List Name
 when_captures body p handler = distinct (free_in body [] ++ free_in handler (name_of p))
+
+-- where a program is not refused, each name that is free in it is in scope
+abbrev pub FreeNamesAreInScope : Type 0
+FreeNamesAreInScope = (ts : Trees) (s r : Scopes) → checked_all ts s ≡ Ok r → All (λ x. IsSome (kind_in s x)) (free_in ts [])
+
+-- a name for which a program is refused as unbound is free in it, and not in scope
+abbrev pub UnboundNamesAreFree : Type 0
+UnboundNamesAreFree = (ts : Trees) (s : Scopes) (x : Name) → checked_all ts s ≡ Err (unbound x) → Contains (free_in ts []) x × IsNone (kind_in s x)

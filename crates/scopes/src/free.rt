@@ -2,7 +2,7 @@
 ghost use Rattle.std.specs.Prelude.{◌≡◌, ◌++◌, IfOk, OnOk};
 ghost use Rattle.kernele.specs.View.{tree_of, trees_of, methods_of};
 ghost use Rattle.scopes.specs.Scope.{own_names, own_names_in};
-ghost use Rattle.scopes.specs.Free.{captures, when_captures, free, free_in, free_of, occurring, defines as defined_by, is_among as among_those};
+ghost use Rattle.scopes.specs.Free.{captures, when_captures, free, free_in, free_of, occurring, defines as defined_by, is_among as among_those, FreeNamesAreInScope, UnboundNamesAreFree};
 ghost use Rattle.scopes.specs.Found.{with_all_new};
 ghost use Rattle.scopes.specs.Parts.{part_in, part_names, part_free, binding_in, binding_names};
 
@@ -177,3 +177,10 @@ fn is_among(names: &[Text], name: &Text) -> bool
     }
     false
 }
+
+/// The names that are free in a program are those that its check looks for in the scopes around it: where it passes, each of
+/// them is there, and one that is refused as unbound is one of them and is not there.
+pub fn checks_free_names()
+    ensures passed { FreeNamesAreInScope }
+    ensures unbound { UnboundNamesAreFree }
+{}

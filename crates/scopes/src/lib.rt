@@ -8,5 +8,5 @@ mod naming;
 mod parts;
 
 pub use checking::{CheckFault, Outer, check};
-pub use free::{captured_by_when, captured_names};
+pub use free::{captured_by_when, captured_names, checks_free_names};
 pub use naming::{Kind, TopName, adds_own_names, top_names};
