@@ -664,6 +664,7 @@ impl Book {
         let out = &ran.carried;
         let Effects { touched, records } = turn_effects(
             self.alloc,
+            self.core.world(),
             out.event,
             out.name,
             &out.message,

@@ -1,5 +1,5 @@
 // One step of the world: what each kind of event does.
-ghost use Rattle.std.specs.Prelude.{◌≡◌, IfOk, IfErr, OnOk, OnErr};
+ghost use Rattle.std.specs.Prelude.{◌≡◌, ◌⊎◌, ⊥, IfOk, IfErr, OnOk, OnErr, map};
 ghost use Rattle.std.specs.Arc.{arc_value};
 ghost use Rattle.kernele.specs.View.{program_of};
 ghost use Rattle.heap.specs.Found.{Found};
@@ -12,13 +12,15 @@ ghost use Rattle.post.specs.MessageView.{message_of, place_of};
 ghost use Rattle.worldcells.specs.View.{seen_of_world, world_of};
 ghost use Rattle.post.specs.Messages.{at_vat};
 ghost use Rattle.worldcells.specs.World.{message as message_content};
-ghost use Rattle.event.specs.Events.{Foot, InOrder};
+ghost use Rattle.erules.specs.OutboxView.{letter_of};
+ghost use Rattle.event.specs.Events.{AreNew, Foot, InOrder, letters_from};
 ghost use Rattle.event.specs.Effects.{Happens};
 ghost use Rattle.world.specs.Steps.{StepsTo, TellsStep, Ready, RunsAt, Unready as IsUnready};
 ghost use Rattle.world.specs.declared.step.StepFault.TheVariants.{Memory};
 
 use cells::swaps::Swaps;
 use deliveries::lead::Lead;
+use erules::outbox::Letter;
 use event::effects::{Effects, ask_effects, birth_effects, learn_effects, move_effects, turn_effects};
 use event::forwarding::onward;
 use event::learning::learn;
@@ -231,6 +233,22 @@ fn run_at(
     }))
 }
 
+/// Of the messages that an event makes none is there yet.
+fn check_new(world: &World, event: EventName, letters: &[Letter]) -> Result<(), StepFault>
+    ensures ok { OnOk result (AreNew (world_of world.now) (letters_from event 0 (map letter_of letters.now))) }
+    ensures err { IfErr result (λ fault. (fault ≡ Memory) ⊎ (AreNew (world_of world.now) (letters_from event 0 (map letter_of letters.now)) → ⊥)) }
+{
+    for place in 0..letters.len() {
+        let Ok(index) = u32::try_from(place) else {
+            return Err(StepFault::Memory);
+        };
+        if world.message(MsgId { event, index }).is_some() {
+            return Err(StepFault::Impossible);
+        }
+    }
+    Ok(())
+}
+
 /// The effects of a turn, if its message may be delivered to its vat. What is seen in the world stays.
 fn effects_of_turn(
     alloc: Global,
@@ -247,8 +265,10 @@ fn effects_of_turn(
     let (message, way) = ready(alloc, world, vat, name)?;
     let lead = way.lead.share()?;
     let ran = run_at(alloc, world, event, name, budget, message, lead, vat)?;
+    check_new(world, event, ran.outcome.out.letters.as_slice())?;
     Ok(turn_effects(
         alloc,
+        world,
         event,
         name,
         &ran.carried.message,
