@@ -1,3 +1,4 @@
+pub mod Publishing
 pub mod Added
 pub mod Answering
 pub mod Captures
