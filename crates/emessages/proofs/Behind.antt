@@ -1,16 +1,15 @@
 -- Where an evaluation stands, once something was done to the cells under its turn.
-use Rattle.std.proofs.Common.{◌≡◌, ◌+◌, ℕ, zero, suc, [], ◌∷◌, ◌++◌, None, refl, sym, ap, ◌∙◌}
-use Rattle.cells.specs.Doing.{over, play, and_then}
+use Rattle.std.proofs.Common.{◌≡◌, ◌+◌, ℕ, zero, suc, [], ◌∷◌, ◌++◌, None, sym, ap}
+use Rattle.cells.specs.Doing.{over, and_then}
 use Rattle.values.specs.Data.{Val}
 use Rattle.values.specs.Promises.{promise_of}
-use Rattle.heap.specs.State.{same_cell}
 use Rattle.heap.specs.Drafted.{Drafted}
 use Rattle.heap.specs.Drafts.{draft_of, touched_of, written_of, counts_of, began_with}
 use Rattle.refs.specs.Walks.{most_walked}
 use Rattle.sends.specs.Vats.{Vat, walk, walked_from, walked_no_more, ended}
 use Rattle.sends.specs.Playing.{Did, IsSameTurn}
 use Rattle.std.specs.Option.{unwrap_or}
-use Rattle.std.specs.Prelude.{Option, Some}
+use Rattle.std.specs.Prelude.{Some}
 use Rattle.erules.specs.At.{At}
 use Rattle.erules.specs.Doings.{given_by, behind}
 

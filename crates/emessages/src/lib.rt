@@ -6,10 +6,10 @@
 
 pub mod calls;
 pub mod ends;
+pub mod outgoing;
 pub mod places;
 mod posting;
 pub mod promises;
 pub mod references;
-pub mod sends;
 mod stops;
 pub mod whens;

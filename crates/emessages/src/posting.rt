@@ -23,7 +23,12 @@ pub(crate) fn first_place(here: VatNo, to: VatNo) -> Place
 }
 
 /// Puts a message with its promise and a note into the outbox.
-pub(crate) fn post(w: &mut Working, name: MsgId, message: Message, note: Note) -> Result<(), AllocError>
+pub(crate) fn post(
+    w: &mut Working,
+    name: MsgId,
+    message: Message,
+    note: Note,
+) -> Result<(), AllocError>
     requires promised { w.old.out.promises + w.old.steps < 4294967295 }
     ensures { OnOk result (at w.new ≡ record (at w.old) { out = noted (note_of note ∷ []) (posted name (message_of message) (at w.old).out) }) }
 {

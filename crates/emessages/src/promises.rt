@@ -8,7 +8,7 @@ ghost use Rattle.sends.specs.View.{making_of, published_of};
 ghost use Rattle.values.specs.Data.{and_val, list, no_vals, object, promise as promise_value};
 ghost use Rattle.values.specs.View.{val_of};
 
-use crate::sends::draw;
+use crate::outgoing::draw;
 use crate::stops::refused;
 use erules::end::Stop;
 use erules::outbox::Note;
@@ -50,7 +50,12 @@ pub fn make_promise(w: &mut Working, into: &mut Value) -> Result<(), Stop>
 }
 
 /// The resolver of a promise resolves it.
-pub fn use_resolve(w: &mut Working, promise: PromId, value: &Value, into: &mut Value) -> Result<(), Stop>
+pub fn use_resolve(
+    w: &mut Working,
+    promise: PromId,
+    value: &Value,
+    into: &mut Value,
+) -> Result<(), Stop>
     ensures { OnEnd result into.new w.new (λ o b. (o ≡ resolver_end (given_by (resolving promise (val_of value.now)) (at w.old)))
         × (b ≡ resolver_out promise (given_by (resolving promise (val_of value.now)) (at w.old)) (behind (resolving promise (val_of value.now)) (at w.old)))) }
 {
@@ -59,7 +64,12 @@ pub fn use_resolve(w: &mut Working, promise: PromId, value: &Value, into: &mut V
 }
 
 /// The resolver of a promise breaks it.
-pub fn use_smash(w: &mut Working, promise: PromId, problem: &Value, into: &mut Value) -> Result<(), Stop>
+pub fn use_smash(
+    w: &mut Working,
+    promise: PromId,
+    problem: &Value,
+    into: &mut Value,
+) -> Result<(), Stop>
     ensures { OnEnd result into.new w.new (λ o b. (o ≡ resolver_end (given_by (smashing promise (val_of problem.now)) (at w.old)))
         × (b ≡ resolver_out promise (given_by (smashing promise (val_of problem.now)) (at w.old)) (behind (smashing promise (val_of problem.now)) (at w.old)))) }
 {

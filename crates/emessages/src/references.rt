@@ -1,10 +1,11 @@
 // What references are, and which values are the same.
-ghost use Rattle.std.specs.Prelude.{◌≡◌, IfOk, codes, option_map};
+ghost use Rattle.std.specs.Prelude.{◌≡◌, IfOk, option_map};
 ghost use Rattle.erules.specs.Answered.{OnEnd, OnStop};
-ghost use Rattle.erules.specs.Doings.{same_end, same_read, state_end, state_word};
-ghost use Rattle.erules.specs.Outcomes.{thrown, value as value_end};
+ghost use Rattle.erules.specs.Doings.{refusal_end, same_end, same_read, state_end, state_word};
+ghost use Rattle.erules.specs.Outcomes.{halt, value as value_end};
 ghost use Rattle.erules.specs.Rules.{broken_end};
 ghost use Rattle.erules.specs.View.{at};
+ghost use Rattle.sends.specs.Making.{value_too_large};
 ghost use Rattle.values.specs.Data.{broken};
 ghost use Rattle.values.specs.Replies.{text_in};
 ghost use Rattle.values.specs.View.{val_of};
@@ -90,7 +91,7 @@ fn broken_by(value: &Value) -> Result<Option<Value>, AllocError>
 
 /// Throws that a value is too large.
 fn too_large(w: &mut Working) -> Stop
-    ensures { OnStop result w.new (λ h b. (h ≡ thrown (codes "value too large")) × (b ≡ at w.old)) }
+    ensures { OnStop result w.new (λ h b. (halt h ≡ refusal_end value_too_large) × (b ≡ at w.old)) }
 {
     let problem = Text::new(w.alloc, "value too large");
     throw_made(w, problem)

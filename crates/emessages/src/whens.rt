@@ -12,8 +12,8 @@ ghost use Rattle.post.specs.DeliveryView.{handler_of, when_of};
 ghost use Rattle.post.specs.MessageView.{message_of};
 ghost use Rattle.values.specs.View.{val_of};
 
+use crate::outgoing::draw;
 use crate::posting::post;
-use crate::sends::draw;
 use crate::stops::refused;
 use code::code::Code;
 use eorder::fence::Fence;
@@ -65,7 +65,12 @@ pub fn make_when(
                 handler,
             };
             let message = when_message(w.alloc, draw.here, promise, when)?;
-            post(w, draw.message, message, Note::Waits(condition, draw.message))?;
+            post(
+                w,
+                draw.message,
+                message,
+                Note::Waits(condition, draw.message),
+            )?;
             *into = Value::Promise(promise);
             Ok(())
         }
@@ -74,7 +79,12 @@ pub fn make_when(
 }
 
 /// The message of a `when`, which comes after nothing.
-fn when_message(alloc: Global, here: VatNo, promise: PromId, when: When) -> Result<Message, AllocError>
+fn when_message(
+    alloc: Global,
+    here: VatNo,
+    promise: PromId,
+    when: When,
+) -> Result<Message, AllocError>
     ensures { IfOk result (λ g. message_of g ≡ when_message_of here promise (when_of when)) }
 {
     let sent = Sent {

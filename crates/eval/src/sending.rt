@@ -13,7 +13,7 @@ ghost use Rattle.erules.specs.View.{at};
 
 use crate::eval::{eval, eval_args, eval_part};
 use code::code::{Capture, Code};
-use emessages::sends::send_call;
+use emessages::outgoing::send_call;
 use eobjects::whens::define_when;
 use erules::end::Stop;
 use erules::working::Working;

@@ -1,5 +1,5 @@
 // Sends.
-ghost use Rattle.std.specs.Prelude.{◌≡◌, ◌+◌, ◌<◌, ◌×◌, IfOk, OnOk, ltb, length};
+ghost use Rattle.std.specs.Prelude.{◌≡◌, ◌+◌, ◌<◌, true, IfOk, OnOk};
 ghost use Rattle.erules.specs.Answered.{OnEnd};
 ghost use Rattle.erules.specs.Doings.{call_message, has_message_room, next_message, next_promise, send_end, send_out, sent_end, sent_at};
 ghost use Rattle.erules.specs.Outcomes.{value as value_end, values};
@@ -27,10 +27,12 @@ use values::verb::Verb;
 /// How many messages a turn may make.
 const MAX_MESSAGES: usize = 4096;
 
-/// What the turn's next message is drawn from.
+/// What the turn's next message is drawn from. Where there is no room for one more, its name is of no matter.
 pub(crate) fn draw(w: &Working) -> Draw
-    ensures { (result.here ≡ (at w.now).vat) × (result.message ≡ next_message (at w.now)) × (result.room ≡ has_message_room (at w.now))
-        × ((home : VatNo) → record { event = result.event; index = result.index; home = home } ≡ next_promise (at w.now) home) }
+    ensures here { result.here ≡ (at w.now).vat }
+    ensures message { result.room ≡ true → result.message ≡ next_message (at w.now) }
+    ensures room { result.room ≡ has_message_room (at w.now) }
+    ensures promise { (home : VatNo) → record { event = result.event; index = result.index; home = home } ≡ next_promise (at w.now) home }
 {
     let count = w.out.letters.len();
     let own = w.draft.ejector(0);
@@ -38,11 +40,23 @@ pub(crate) fn draw(w: &Working) -> Draw
         here: own.vat,
         message: MsgId {
             event: own.event,
-            index: count as u32,
+            index: number_of(count),
         },
         room: count < MAX_MESSAGES,
         event: own.event,
         index: w.out.promises,
+    }
+}
+
+/// The number of a message with so many before it, where a turn may make one more.
+#[inline(always)]
+fn number_of(count: usize) -> u32
+    ensures { count < 4096 → result ≡ count }
+{
+    if count < MAX_MESSAGES {
+        count as u32
+    } else {
+        0
     }
 }
 
