@@ -206,21 +206,21 @@ law_of_turns e m n t cells left w v h g a =
 -- ---- all events
 
 -- an event depends on no cell but those that it touches
-law : (e : Event) (f : Foot) (w v : World) → Does e w f → Agree events f w v → Does e v f
-law e f w v (births {x = x} {earlier = xs} {vats = vats} h n) a =
+law : (e : Event) (w : World) (f : Foot) (v : World) → Does e w f → Agree events f w v → Does e v f
+law e w f v (births {x = x} {earlier = xs} vats h n) a =
     let Q = λ (k : CellKey). v k ≡ w k in
-    births ((all_rest Q (map key.Name xs) _ a).0 ∙ h) (named_alike w v xs vats (all_front Q (map key.Name xs) _ a) n)
-law e f w v (asks h) a = asks (ap vat_in a.0 ∙ h)
-law e f w v (arrives h g) a = arrives (ap message_in a.0 ∙ h) g
-law e f w v (forwards {e = n} {m = m} {g = g} {c = c} {v = here} {u = u} h at is to) a =
+    births vats ((all_rest Q (map key.Name xs) _ a).0 ∙ h) (named_alike w v xs vats (all_front Q (map key.Name xs) _ a) n)
+law e w f v (asks h) a = asks (ap vat_in a.0 ∙ h)
+law e w f v (arrives h g) a = arrives (ap message_in a.0 ∙ h) g
+law e w f v (forwards {e = n} {m = m} {g = g} {c = c} {v = here} {u = u} h at is to) a =
     let Q = λ (k : CellKey). v k ≡ w k in
     let through = (board_walk w c.target).through in
     let board = same_board w v through (all_front Q (map key.Board through) _ a) in
     let walk = board_alike w v c.target board in
     subst (Does (record { name = n; act = forward m }) v) (ap (λ (x : Walk). moved_foot (map key.Board x.through) m (record g { place = flying u })) walk)
     (forwards (ap message_in (all_rest Q (map key.Board through) _ a).0 ∙ h) at is (ap (λ (x : Walk). goes_on here x.end) walk ∙ to))
-law e f w v (learns {e = n} {v = here} {p = p} {b = b} {cells = cells} {left = left} h is l) a = law_of_learning n here p b cells left w v h is l a
-law e f w v (turns {e = n} {m = m} {budget = b} {t = t} {cells = cells} {left = left} h g) a = law_of_turns n m b t cells left w v h g a
+law e w f v (learns {e = n} {v = here} {p = p} {b = b} {cells = cells} {left = left} h is l) a = law_of_learning n here p b cells left w v h is l a
+law e w f v (turns {e = n} {m = m} {budget = b} {t = t} {cells = cells} {left = left} h g) a = law_of_turns n m b t cells left w v h g a
 
 -- ---- one event does one thing
 
@@ -278,7 +278,7 @@ budget_or b _ = b
 -- a turn of a message at a vat does one thing in one world
 turn_once : (e : EventName) (w : World) (m : MsgId) (n : ℕ) (t : Turn) (cells : List Cell) (left : List (Cell × heap.Content)) → Turns e w m n t → TurnLeaves t cells left
     → (d : Event) (g : Foot) → Does d w g → d ≡ record { name = e; act = turn t.vat m n } → Alike events (turn_foot e w m t cells left) g
-turn_once e w m n t cells left h i d g (births k r) is = absurd (false≢true (ap (λ (x : Event). is_turn x.act) is))
+turn_once e w m n t cells left h i d g (births us k r) is = absurd (false≢true (ap (λ (x : Event). is_turn x.act) is))
 turn_once e w m n t cells left h i d g (asks k) is = absurd (false≢true (ap (λ (x : Event). is_turn x.act) is))
 turn_once e w m n t cells left h i d g (arrives k r) is = absurd (false≢true (ap (λ (x : Event). is_turn x.act) is))
 turn_once e w m n t cells left h i d g (forwards k r l o) is = absurd (false≢true (ap (λ (x : Event). is_turn x.act) is))
@@ -313,7 +313,7 @@ forward_once w m g h c d v u x y same at there is also goes to =
 
 -- an event does one thing in one world
 once : (e : Event) (w : World) (f g : Foot) → Does e w f → Does e w g → Alike events f g
-once e w f g (births {e = n} {x = x} {earlier = xs} {vats = vats} {script = ts} h a) (births {vats = us} k b) =
+once e w f g (births {e = n} {x = x} {earlier = xs} vats {script = ts} h a) (births us k b) =
     subst (Alike events f) (ap (λ (q : List Vat). birth_foot n x xs q ts) (named_once w xs vats us a b)) (same_foot f)
 once e w f g (asks {e = n} {x = x} {program = p} {v = v} h) (asks {v = u} k) =
     subst (Alike events f) (ap (λ (y : Vat). ask_foot n x y.number p) (ap (λ (o : Option Vat). unwrap_or o v) (sym h ∙ k))) (same_foot f)
@@ -331,4 +331,4 @@ once e w f g (turns {e = n} {m = m} {budget = b} {t = t} {cells = cells} {left =
 
 -- the events of a book can be undone
 pub events_laws : Laws events
-events_laws = record { same_exact = same_exact; same_self = same_self; law = law; once = once }
+events_laws = record { same_exact = same_exact; same_self = same_self; law = λ e f w v. law e w f v; once = once }

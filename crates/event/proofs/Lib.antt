@@ -5,5 +5,12 @@ pub mod Law
 pub mod Gathering
 pub mod Listed
 pub mod Standing
+pub mod Leaving
+pub mod Learnt
 pub mod Finding
 pub mod KindsFound
+pub mod Ends
+pub mod Waiting
+pub mod Finite
+pub mod Readiness
+pub mod Adding

@@ -92,9 +92,9 @@ abbrev pub Lists : List Cell → Cells → Type 0
 Lists cs q = (c : Cell) → list_any (same_cell c) cs ≡ q c
 
 -- these are the cells of a vat that were touched, and what was written into cells of it
-pub record Leaves (touched written : Cells) (s : State) (cells : List Cell) (left : List (Cell × heap.Content)) : Type 0 where
-  pub touched : Lists cells touched
-  pub written : Lists (map (λ p. p.0) left) written
+pub record Leaves (reached put : Cells) (s : State) (cells : List Cell) (left : List (Cell × heap.Content)) : Type 0 where
+  pub touched : Lists cells reached
+  pub written : Lists (map (λ p. p.0) left) put
   pub contents : AllByRecursion (λ p. s p.0 ≡ Some p.1) left
 
 -- cells of a vat and what was written there, as those of the world
@@ -186,7 +186,7 @@ turn_foot e w m t cells left = record {
 
 -- an event is possible in a world, and has this footprint there; a turn of a message is possible only at the vat where the message is
 pub data Does : Event → World → Foot → Type 0 where
-  births : {e : EventName} {w : World} {x : Name} {earlier : List Name} {vats : List Vat} {script : Trees} → w (key.Name x) ≡ None → AreNamed w earlier vats
+  births : {e : EventName} {w : World} {x : Name} {earlier : List Name} (vats : List Vat) {script : Trees} → w (key.Name x) ≡ None → AreNamed w earlier vats
       → Does (record { name = e; act = birth x earlier script }) w (birth_foot e x earlier vats script)
   asks : {e : EventName} {w : World} {x : Name} {program : Trees} {v : Vat} → vat_named w x ≡ Some v
       → Does (record { name = e; act = ask x program }) w (ask_foot e x v.number program)
