@@ -18,14 +18,14 @@ Entries = List (PromId × code.Published)
 abbrev pub entry_of : PromId × code.Published → PromId × Published
 entry_of e = (e.0, published_of e.1)
 
+found : (b : Bool) (x : code.Published) (o : Option code.Published) (r : Bool) → is_some o ≡ r → is_some (cond b (Some x) o) ≡ cond b true r
+found true x o r h = refl
+found false x o r h = h
+
 -- a look-up finds just what is published
 pub looked_up : (p : PromId) (es : Entries) → is_some (lookup (same_promise p) es) ≡ is_published p (map entry_of es)
 looked_up p [] = refl
-looked_up p (e ∷ es) = choice (same_promise p e.0) e.1 (looked_up p es)
-  where
-    choice : (b : Bool) (x : code.Published) {o : Option code.Published} {r : Bool} → is_some o ≡ r → is_some (cond b (Some x) o) ≡ cond b true r
-    choice true x h = refl
-    choice false x h = h
+looked_up p (e ∷ es) = found (same_promise p e.0) e.1 (lookup (same_promise p) es) (is_published p (map entry_of es)) (looked_up p es)
 
 absent : (b r : Bool) → cond b true r ≡ false → (b ≡ false) × (r ≡ false)
 absent true r h = absurd (true≢false h)
