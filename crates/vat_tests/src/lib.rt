@@ -12,6 +12,8 @@ mod objects;
 #[cfg(test)]
 mod sessions;
 #[cfg(test)]
+mod several;
+#[cfg(test)]
 mod steps;
 #[cfg(test)]
 mod tables;
