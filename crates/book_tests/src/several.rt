@@ -4,7 +4,7 @@ use crate::calls::{BUDGET, ask, birth_behind, expect_integer, message, name, tur
 use agenda::agenda::Step;
 use book::book::Book;
 use book::fault::BookFault;
-use ids::names::{EventName, MsgId, PromId};
+use ids::names::{EventName, MsgId, PromId, VatNo};
 use std::process::Abort;
 
 /// A book where `a`, the vat of e3, sent `b`, the vat of e1, a message: e6.m0 is on its way.
@@ -47,9 +47,12 @@ fn a_message_to_another_vat(rt: HostRuntime) {
     expect_entered(&rt, book.arrive(message(6)), 7);
     assert!(rt; matches!(next(&rt, &mut book), Some(Step::Turn(name)) if name == message(6)));
     expect_integer(&rt, &turn(&rt, &mut book, 6, 8), 6);
-    let promise = learnable(&rt, &mut book);
-    assert!(rt; promise.event == EventName(6));
-    expect_entered(&rt, book.learn(&name(&rt, "a"), promise), 9);
+    // What the script of `b` came to, which `a` has in its scope, and what the message came to.
+    for (of, wanted) in &[(1, 9), (6, 10)] {
+        let promise = learnable(&rt, &mut book);
+        assert!(rt; promise.event == EventName(*of));
+        expect_entered(&rt, book.learn(&name(&rt, "a"), promise), *wanted);
+    }
     assert!(rt; next(&rt, &mut book).is_none());
 }
 
@@ -79,12 +82,13 @@ fn what_may_be_done(rt: HostRuntime) {
     turn(&rt, &mut book, 6, 8);
     ask(&rt, &mut book, "a", "b <- six()", 9);
     let steps = book.enabled().expect(&rt, "no memory");
-    assert!(rt; steps.len() == 2);
+    assert!(rt; steps.len() == 3);
     assert!(rt; matches!(steps[0], Step::Turn(name) if name == message(9)));
-    assert!(rt; matches!(steps[1], Step::Learn(_, promise) if promise.event == EventName(6)));
+    assert!(rt; matches!(steps[1], Step::Learn(_, promise) if promise.event == EventName(1)));
+    assert!(rt; matches!(steps[2], Step::Learn(_, promise) if promise.event == EventName(6)));
 }
 
-/// Turns and learning of a vat of which a ticket is out are left out.
+/// Turns and learning of a vat of which a ticket is out are left out, and those of other vats are not.
 #[test]
 fn a_vat_that_is_out(rt: HostRuntime) {
     let mut book = sent(&rt);
@@ -93,7 +97,9 @@ fn a_vat_that_is_out(rt: HostRuntime) {
         Ok(ticket) => ticket.discard(),
         Err(fault) => panic!(rt; "checkout: {fault}"),
     }
-    assert!(rt; next(&rt, &mut book).is_none());
+    let steps = book.enabled().expect(&rt, "no memory");
+    assert!(rt; steps.len() == 1);
+    assert!(rt; matches!(steps[0], Step::Learn(vat, _) if vat == VatNo(EventName(3))));
 }
 
 #[test]
