@@ -21,7 +21,10 @@ use Rattle.event.proofs.Waiting.{drop_here}
 some_here : {X : Type 0} (i : ℕ) (xs : List X) → i < length xs → (x : X) × (drop i xs ≡ x ∷ drop (i + 1) xs)
 some_here i [] h = absurd (omega (arith, h))
 some_here zero (x ∷ xs) h = (x, refl)
-some_here (suc i) (x ∷ xs) h = let r = some_here i xs (omega (arith, h)) in (r.0, r.1 ∙ ap (λ n. r.0 ∷ drop n (x ∷ xs)) (omega arith))
+some_here (suc i) (x ∷ xs) h =
+    let r = some_here i xs (omega (arith, h)) in
+    let e : suc (i + 1) ≡ suc i + 1 = omega arith in
+    (r.0, r.1 ∙ ap (λ n. r.0 ∷ drop n (x ∷ xs)) e)
 
 drop_at : {X : Type 0} (xs : List X) (i : ℕ) (x : X) → slice_get xs i ≡ Some x → drop i xs ≡ x ∷ drop (i + 1) xs
 drop_at xs i x h = drop_here xs i x (slice_get_within xs i x h) (sym (get_or_from_slice_get xs i x x h))

@@ -1,5 +1,5 @@
 -- The end of a walk is told from a ring: a promise that was resolved is no end.
-use Rattle.std.proofs.Common.{◌≡◌, ℕ, Bool, true, false, not, List, [], ◌∷◌, Option, Some, None, is_some, refl, sym, ap, ◌∙◌, arith}
+use Rattle.std.proofs.Common.{◌≡◌, ℕ, zero, suc, Bool, true, false, not, List, [], ◌∷◌, length, slice_get, Option, Some, None, is_some, refl, sym, ap, ◌∙◌, arith}
 use Rattle.std.specs.Option.{option_map, unwrap_or}
 use Rattle.std.proofs.lemmas.Bool.{false≢true}
 use Rattle.ids.specs.declared.names.PromId.{PromId}
@@ -8,17 +8,18 @@ use Rattle.values.specs.Promises.{promise_of}
 use Rattle.values.specs.View.{val_of}
 use Rattle.values.specs.declared.value.Value.{Value}
 use Rattle.refs.specs.Walks.{Resolutions, walk, most_walked, followed, ended}
-use Rattle.refs.specs.Leads.{Leads, at_value, at_open, leads_on as on}
+use Rattle.refs.specs.Leads.{Leads, at_value, at_open, leads_on as leads_further}
 use Rattle.refs.proofs.Rules.{most-is, what_ends_is_led, found_all}
 use Rattle.refs.proofs.Steps.{walk-value}
 use Rattle.refs.proofs.Way.{is_promise}
-use Rattle.event.specs.Walks.{leads_on, is_known}
+use Rattle.worldcells.specs.World.{World, published_as}
+use Rattle.event.specs.Walks.{leads_on, is_known, fences_of, last_fences}
 
 -- an end that is a promise is unresolved
 ends_open : {m : Resolutions} {v w : Val} {ps : List PromId} → Leads m v ps w → (p : PromId) → w ≡ promise p → m p ≡ None
 ends_open (at_value v h) p e = let f : promise_of v ≡ Some p = ap promise_of e in absurd (cc)
 ends_open {m = m} (at_open q h) p e = let f : q ≡ p = cc in sym (ap m f) ∙ h
-ends_open (on q u w ps h l) p e = ends_open l p e
+ends_open (leads_further q u w ps h l) p e = ends_open l p e
 
 -- so it leads no further
 no_further : (m : Resolutions) (v u : Val) → (walk most_walked m [] v).end ≡ Some u → leads_on m (promise_of u) ≡ false
@@ -45,22 +46,22 @@ goes_round m v e = go (promise_of v) refl
 
 -- what is followed is an end just where it leads no further
 pub end_is : (m : Resolutions) (v e : Val) (b : Bool) → e ≡ followed m v → b ≡ leads_on m (promise_of e) → b ≡ false → (walk most_walked m [] v).end ≡ Some e
-end_is m v e b h g no = go (walk most_walked m [] v).end refl
+end_is m v e b h g off = go (walk most_walked m [] v).end refl
   where
     go : (o : Option Val) → (walk most_walked m [] v).end ≡ o → (walk most_walked m [] v).end ≡ Some e
     go (Some u) k = k ∙ ap Some (sym (h ∙ ap (λ o. unwrap_or o v) k))
     go None k =
         let same : e ≡ v = h ∙ ap (λ o. unwrap_or o v) k in
-        absurd (false≢true (sym (g ∙ ap (λ u. leads_on m (promise_of u)) same ∙ goes_round m v k) ∙ no))
+        absurd (false≢true (sym off ∙ g ∙ ap (λ u. leads_on m (promise_of u)) same ∙ goes_round m v k))
 
 pub ring_is : (m : Resolutions) (v e : Val) (b : Bool) → e ≡ followed m v → b ≡ leads_on m (promise_of e) → b ≡ true → (walk most_walked m [] v).end ≡ None
-ring_is m v e b h g yes = go (walk most_walked m [] v).end refl
+ring_is m v e b h g on = go (walk most_walked m [] v).end refl
   where
     go : (o : Option Val) → (walk most_walked m [] v).end ≡ o → (walk most_walked m [] v).end ≡ None
     go None k = k
     go (Some u) k =
         let same : e ≡ u = h ∙ ap (λ o. unwrap_or o v) k in
-        absurd (false≢true (sym (g ∙ ap (λ x. leads_on m (promise_of x)) same ∙ no_further m v u k) ∙ yes))
+        absurd (false≢true (sym (g ∙ ap (λ x. leads_on m (promise_of x)) same ∙ no_further m v u k) ∙ on))
 
 -- ---- what is known
 
@@ -89,3 +90,19 @@ nothing_followed m v none = go (promise_of v) refl
         let e = is_promise v p (sym h) in
         let open_end = ap (λ x. unwrap_or x.end (promise p)) (found_all most_walked m (promise p) (promise p) (p ∷ []) (at_open p (none p)) (omega (arith, most-is))) in
         e ∙ sym open_end ∙ ap (followed m) (sym e)
+
+-- nothing is there just where not something is
+pub none_told : (o : Option PromId) (b : Bool) → is_some o ≡ not b → b ≡ not (is_some o)
+none_told o b h = by b h
+  where
+    by : (b : Bool) → is_some o ≡ not b → b ≡ not (is_some o)
+    by true h = sym (ap not h)
+    by false h = sym (ap not h)
+
+-- the fences of the last promise of a walk
+pub last_is : (w : World) (ps : List PromId) (k : ℕ) (p : PromId) → suc k ≡ length ps → slice_get ps k ≡ Some p → last_fences w ps ≡ fences_of (published_as w p)
+last_is w [] k p e h = absurd (omega (arith, e))
+last_is w (q ∷ []) zero p e h = let same : q ≡ p = cc in ap (λ r. fences_of (published_as w r)) same
+last_is w (q ∷ []) (suc k) p e h = absurd (omega (arith, e))
+last_is w (q ∷ r ∷ ps) zero p e h = absurd (omega (arith, e))
+last_is w (q ∷ r ∷ ps) (suc k) p e h = last_is w (r ∷ ps) k p (omega (arith, e)) h

@@ -135,11 +135,16 @@ differ k d h = by (same_key k d) refl
     by true e = absurd (h (same_exact k d e))
     by false e = refl
 
+-- the number of the message whose cell it is
+abbrev number_of : CellKey → ℕ
+number_of (key.Msg m) = m.index
+number_of _ = 0
+
 -- letters are of other cells than what has another number, a promise, or a cell of a vat
 later_letters : (e : EventName) (i j : ℕ) (ls : List (MsgId × Message)) → i < j → Free (letters_from e j ls) (key.Msg (record { event = e; index = i }))
 later_letters e i j [] h = tt
 later_letters e i j (l ∷ ls) h =
-    (differ (key.Msg (record { event = e; index = j })) (key.Msg (record { event = e; index = i })) (λ same. let equal : j ≡ i = cc in omega (arith, h, equal)), later_letters e i (j + 1) ls (omega (arith, h)))
+    (differ (key.Msg (record { event = e; index = j })) (key.Msg (record { event = e; index = i })) (λ same. let equal : j ≡ i = ap number_of same in absurd (omega (arith, h, equal))), later_letters e i (j + 1) ls (omega (arith, h)))
 
 letters_once : (e : EventName) (i : ℕ) (ls : List (MsgId × Message)) → Once (letters_from e i ls)
 letters_once e i [] = tt
@@ -161,19 +166,19 @@ or_none false b h = (refl, h)
 
 counted_free : (w : World) (p : PromId) (bs : List (PromId × Published)) → is_published p bs ≡ false → Free (on_the_board (counted w bs)) (key.Board p)
 counted_free w p [] h = tt
-counted_free w p (b ∷ bs) h = by (is_some (published_as w b.0)) (or_none (same_promise p b.0) (is_published p bs) h)
+counted_free w p (b ∷ bs) h = let a = or_none (same_promise p b.0) (is_published p bs) h in by (is_some (published_as w b.0)) (other_promise p b.0 a.0) (counted_free w p bs a.1)
   where
-    by : (q : Bool) → (same_promise p b.0 ≡ false) × (is_published p bs ≡ false) → Free (on_the_board (cond q (counted w bs) (b ∷ counted w bs))) (key.Board p)
-    by true a = counted_free w p bs a.1
-    by false a = (other_promise p b.0 a.0, counted_free w p bs a.1)
+    by : (q : Bool) → same_key (key.Board b.0) (key.Board p) ≡ false → Free (on_the_board (counted w bs)) (key.Board p) → Free (on_the_board (cond q (counted w bs) (b ∷ counted w bs))) (key.Board p)
+    by true a rest = rest
+    by false a rest = (a, rest)
 
 counted_once : (w : World) (bs : List (PromId × Published)) → EachPublishedOnce bs → Once (on_the_board (counted w bs))
 counted_once w [] h = tt
-counted_once w (b ∷ bs) h = by (is_some (published_as w b.0))
+counted_once w (b ∷ bs) h = by (is_some (published_as w b.0)) (counted_free w b.0 bs h.0) (counted_once w bs h.1)
   where
-    by : (q : Bool) → Once (on_the_board (cond q (counted w bs) (b ∷ counted w bs)))
-    by true = counted_once w bs h.1
-    by false = (counted_free w b.0 bs h.0, counted_once w bs h.1)
+    by : (q : Bool) → Free (on_the_board (counted w bs)) (key.Board b.0) → Once (on_the_board (counted w bs)) → Once (on_the_board (cond q (counted w bs) (b ∷ counted w bs)))
+    by true a rest = rest
+    by false a rest = (a, rest)
 
 -- what is new is not the message that is there
 new_apart : (w : World) (m : MsgId) (g : Message) (ps : List (CellKey × Content)) → w (key.Msg m) ≡ Some (message g) → AreNew w ps → AllByRecursion (λ p. same_key (key.Msg m) p.0 ≡ false) ps
@@ -269,15 +274,15 @@ touch_same test before keys last reads left more is within ends =
 -- what counts of publications was looked up
 counted_within : (w : World) (test : CellKey → Bool) (bs : List (PromId × Published)) → list_any test (map (λ b. key.Board b.0) bs) ≡ false → list_any test (map (λ p. p.0) (on_the_board (counted w bs))) ≡ false
 counted_within w test [] h = refl
-counted_within w test (b ∷ bs) h = by (is_some (published_as w b.0)) (neither (test (key.Board b.0)) (list_any test (map (λ b. key.Board b.0) bs)) h)
+counted_within w test (b ∷ bs) h = let a = neither (test (key.Board b.0)) (list_any test (map (λ b. key.Board b.0) bs)) h in by (is_some (published_as w b.0)) a.0 (counted_within w test bs a.1)
   where
     neither : (a c : Bool) → (a || c) ≡ false → (a ≡ false) × (c ≡ false)
     neither true c h = absurd (false≢true (sym h))
     neither false c h = (refl, h)
 
-    by : (q : Bool) → (test (key.Board b.0) ≡ false) × (list_any test (map (λ b. key.Board b.0) bs) ≡ false) → list_any test (map (λ p. p.0) (on_the_board (cond q (counted w bs) (b ∷ counted w bs)))) ≡ false
-    by true a = counted_within w test bs a.1
-    by false a = ap₂ (λ x y. x || y) a.0 (counted_within w test bs a.1)
+    by : (q : Bool) → test (key.Board b.0) ≡ false → list_any test (map (λ p. p.0) (on_the_board (counted w bs))) ≡ false → list_any test (map (λ p. p.0) (on_the_board (cond q (counted w bs) (b ∷ counted w bs)))) ≡ false
+    by true a rest = rest
+    by false a rest = ap₂ (λ x y. x || y) a rest
 
 last_part : (xs ys zs : List CellKey) (test : CellKey → Bool) → list_any test (xs ++ (ys ++ zs)) ≡ false → list_any test zs ≡ false
 last_part [] [] zs test h = h

@@ -14,3 +14,4 @@ pub mod Waiting
 pub mod Finite
 pub mod Readiness
 pub mod Adding
+pub mod Bringing

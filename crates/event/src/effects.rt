@@ -8,7 +8,7 @@ ghost use Rattle.heap.specs.State.{State};
 ghost use Rattle.post.specs.Messages as posts;
 ghost use Rattle.post.specs.MessageView.{message_of};
 ghost use Rattle.erules.specs.OutboxView.{letter_of};
-ghost use Rattle.erules.specs.PublicationsView.{publications_of};
+ghost use Rattle.erules.specs.PublicationsView.{publications_of, EachOnce as PublishedOnce};
 ghost use Rattle.worldcells.specs.Theory.{kepts_of, kept_of, cells};
 ghost use Rattle.worldcells.specs.World as model;
 ghost use Rattle.worldcells.specs.View.{world_of};
@@ -272,6 +272,7 @@ fn turn_touched(
     outcome: &Outcome,
 ) -> Result<Vec<CellKey>, AllocError>
     ensures once { OnOk result (EachOnce outcome.now.footprint) }
+    ensures published { OnOk result (PublishedOnce (publications_of outcome.now.out.publications)) }
     ensures touched { IfOk result (λ keys. keys.items ≡ (map key.Board way.now.through.items ++ (map key.Msg way.now.awaited ++ map (λ b. key.Board b.0) (publications_of outcome.now.out.publications))) ++ (keys_in vat (entries_of outcome.now.footprint) ++ (map (λ p. p.0) (letters_from event 0 (map letter_of outcome.now.out.letters.items)) ++ key.Msg name ∷ []))) }
 {
     let mut touched = Vec::new(alloc);

@@ -4,7 +4,7 @@ ghost use Rattle.history.specs.Records.{record_of};
 ghost use Rattle.ids.specs.declared.cells.CellKey.TheVariants as key;
 ghost use Rattle.post.specs.MessageView.{message_of, published_of};
 ghost use Rattle.erules.specs.OutboxView.{letter_of};
-ghost use Rattle.erules.specs.PublicationsView.{publications_of};
+ghost use Rattle.erules.specs.PublicationsView.{publications_of, EachOnce};
 ghost use Rattle.worldcells.specs.Theory.{kepts_of, kept_of, cells};
 ghost use Rattle.worldcells.specs.View.{world_of};
 ghost use Rattle.worldcells.specs.World as model;
@@ -76,7 +76,8 @@ pub(crate) fn touch_publications(
     touched: &mut Vec<CellKey>,
     publications: &Publications,
 ) -> Result<(), AllocError>
-    ensures { OnOk result (touched.new.items ≡ touched.old.items ++ map (λ b. key.Board b.0) (publications_of publications.now)) }
+    ensures keys { OnOk result (touched.new.items ≡ touched.old.items ++ map (λ b. key.Board b.0) (publications_of publications.now)) }
+    ensures once { OnOk result (EachOnce (publications_of publications.now)) }
 {
     for place in 0..publications.len() {
         let (promise, _) = publications.at(place);

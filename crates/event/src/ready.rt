@@ -11,7 +11,7 @@ ghost use Rattle.post.specs.Messages.{at_vat, done_in};
 ghost use Rattle.values.specs.Data.{null};
 ghost use Rattle.values.specs.View.{val_of};
 ghost use Rattle.worldcells.specs.View.{world_of};
-ghost use Rattle.worldcells.specs.World.{message_of as message_in_world, message as message_content};
+ghost use Rattle.worldcells.specs.World.{message_of as message_in_world, message as message_content, vat_state};
 ghost use Rattle.deliveries.specs.Outcomes.{found_of};
 ghost use Rattle.event.specs.Ready.{first_undone as first_undone_of, lost, early_by};
 ghost use Rattle.event.specs.Walks.{delivery_walk, found_by, is_known as is_known_of, is_there as is_there_of, looked_up, may_end};
@@ -54,6 +54,10 @@ pub enum Delay {
 }
 
 impl From<Unready> for Delay {
+    ghost use Rattle.event.specs.declared.ready.Delay.TheVariants as delay;
+
+    ghost from_gives = { λ u d. d ≡ delay.Unready u };
+
     fn from(unready: Unready) -> Self {
         Delay::Unready(unready)
     }
@@ -203,14 +207,25 @@ fn check_known(alloc: Global, world: &World, when: &When, vat: VatNo) -> Result<
     ensures ok { OnOk result (may_end vat (waiting (when_of when.now)) (delivery_walk (world_of world.now) vat (waiting (when_of when.now))).end ≡ true) }
     ensures err { IfErr result (CannotLead (world_of world.now) vat (waiting (when_of when.now))) }
 {
-    let known = match world.home(vat) {
-        Some(state) => is_known(alloc, state, &when.value)?,
-        None => when.value.as_promise().is_none(),
-    };
-    if known {
+    if is_known_at(alloc, world, &when.value, vat)? {
         Ok(())
     } else {
         Err(Delay::Unready(Unready::NotReady))
+    }
+}
+
+/// Whether a value is known in a vat: it leads to no unresolved promise.
+fn is_known_at(
+    alloc: Global,
+    world: &World,
+    value: &Value,
+    vat: VatNo,
+) -> Result<bool, AllocError>
+    ensures { IfOk result (λ b. b ≡ is_known_of (walk_of most_walked (views_in (vat_state (world_of world.now) vat)) [] (val_of value.now)).end) }
+{
+    match world.home(vat) {
+        Some(state) => is_known(alloc, state, value),
+        None => Ok(value.as_promise().is_none()),
     }
 }
 
@@ -227,7 +242,7 @@ fn check_done(world: &World, awaited: &Fence) -> Result<(), Unready>
     Ok(())
 }
 
-/// Whether the value of a `when` is known in its vat's state: it leads to no unresolved promise.
+/// Whether a value is known in a vat's state.
 fn is_known(alloc: Global, state: &VatState, value: &Value) -> Result<bool, AllocError>
     ensures { IfOk result (λ b. b ≡ is_known_of (walk_of most_walked (views_in (state_of state.now)) [] (val_of value.now)).end) }
 {
