@@ -1,5 +1,7 @@
 -- Worlds of which some cells are alike.
-use Rattle.std.proofs.Common.{◌≡◌, Bool, true, false, cond, Option, Some, None, Result, Ok, Err, IfOk, IfSome, IfNone, Bor, refl, sym, ap, ◌∙◌}
+use Rattle.std.proofs.Common.{◌≡◌, Bool, true, false, cond, List, Contains, Option, Some, None, is_some, Result, Ok, Err, IfOk, IfSome, IfNone, Bor, refl, sym, ap, subst, ◌∙◌}
+use Rattle.std.proofs.lemmas.Map.Views.{Contains-keys_from_lookup}
+use Rattle.indexmap.specs.IndexMap.{keys}
 use Rattle.std.specs.Option.{option_map, option_copied}
 use Rattle.cells.specs.Clones.{ContentClones}
 use Rattle.cells.specs.Seen as cells
@@ -139,3 +141,16 @@ module _ (s : World) (v : VatNo) where
       absent None e c = refl
       absent (Some g) e c = cc
   state_absent (Some t) h = tt
+
+-- ---- the vats that have a state
+
+state_has_home : (s : World) (v : VatNo) (c : Cell) → is_some (vat_state (world_of s) v c) ≡ true → is_some (homes_of s.homes v) ≡ true
+state_has_home s v c h = at (homes_of s.homes v) (ap is_some (sym (state_is_seen s v c)) ∙ h)
+  where
+    at : (o : Option Home) → is_some (seen_at o c).0 ≡ true → is_some o ≡ true
+    at None e = e
+    at (Some g) e = refl
+
+-- are those whose homes are kept
+pub vats_listed : (s : World) (vats : List VatNo) → vats ≡ keys s.homes.homes → (v : VatNo) (c : Cell) → is_some (vat_state (world_of s) v c) ≡ true → Contains vats v
+vats_listed s vats e v c h = subst (λ l. Contains l v) (sym e) (Contains-keys_from_lookup {eq = same_vat} exact_vat v s.homes.homes.entries (state_has_home s v c h))

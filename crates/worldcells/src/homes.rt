@@ -2,6 +2,7 @@
 ghost use Rattle.std.specs.Prelude.{◌≡◌, ◌+◌, ◌%◌, ◌^◌, true, cond, None, is_some, IfOk, OnOk, OnErr};
 ghost use Rattle.std.specs.Arc.{arc_value};
 ghost use Rattle.std.specs.Option.{option_map, option_copied};
+ghost use Rattle.indexmap.specs.IndexMap.{keys};
 ghost use Rattle.ids.specs.CellKeys.{same_key};
 ghost use Rattle.ids.specs.declared.names.VatNo.{VatNo};
 ghost use Rattle.ids.specs.declared.cells.CellKey.{CellKey};
@@ -53,6 +54,13 @@ impl Homes {
             Some(home) => Some(home.state()),
             None => None,
         }
+    }
+
+    /// The vats that have a state. Fails only for want of memory.
+    pub(crate) fn vats(&self, alloc: Global) -> Result<Vec<VatNo>, AllocError>
+        ensures { IfOk result (λ vats. vats.items ≡ keys self.now.homes) }
+    {
+        self.homes.keys().copied().collect(alloc)
     }
 
     /// The event that wrote a top noun last.

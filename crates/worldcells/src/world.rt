@@ -1,13 +1,14 @@
 // The cells of the world.
-ghost use Rattle.std.specs.Prelude.{◌≡◌, ◌+◌, ◌%◌, ◌^◌, true, None, IfOk, IfSome, IfNone, OnOk};
+ghost use Rattle.std.specs.Prelude.{◌≡◌, ◌+◌, ◌%◌, ◌^◌, true, None, is_some, IfOk, IfSome, IfNone, OnOk, Contains};
 ghost use Rattle.std.specs.Arc.{arc_value};
 ghost use Rattle.std.specs.Option.{option_map};
+ghost use Rattle.ids.specs.declared.names.VatNo.{VatNo};
 ghost use Rattle.ids.specs.declared.names.MsgId.{MsgId};
 ghost use Rattle.ids.specs.declared.names.PromId.{PromId};
 ghost use Rattle.ids.specs.declared.cells.CellKey.{CellKey};
 ghost use Rattle.ids.specs.declared.cells.CellKey.TheVariants as key;
 ghost use Rattle.kernele.specs.Tree.{Name};
-ghost use Rattle.heap.specs.State.{nothing};
+ghost use Rattle.heap.specs.State.{Cell, nothing};
 ghost use Rattle.heap.specs.View.{state_of};
 ghost use Rattle.post.specs.MessageView.{vat_of, message_of, published_of};
 ghost use Rattle.worldcells.specs.World.{vat, message, published, vat_state};
@@ -91,6 +92,13 @@ impl World {
         ensures absent { IfNone result (vat_state (world_of self.now) vat ≡ nothing) }
     {
         self.homes.state(vat)
+    }
+
+    /// The vats that have a state: no other vat's cells hold anything. Fails only for want of memory.
+    pub fn vats(&self, alloc: Global) -> Result<Vec<VatNo>, AllocError>
+        ensures { IfOk result (λ vats. (v : VatNo) (c : Cell) → is_some (vat_state (world_of self.now) v c) ≡ true → Contains vats.items v) }
+    {
+        self.homes.vats(alloc)
     }
 
     /// The event that wrote a cell last.
