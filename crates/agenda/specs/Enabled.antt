@@ -57,7 +57,7 @@ Rises (s ∷ ss) = AllByRecursion (λ t. step_cmp s t ≡ Less) ss × Rises ss
 -- all that may be done, in order
 pub record Enabled (w : World) (out : Out) (steps : List Step) : Type 0 where
   pub rise : Rises steps
-  pub each : (s : Step) → Contains steps s ↔ ∥ MayDo w out s ∥₁
+  pub each : (s : Step) → Contains steps s ↔ MayDo w out s
 
 -- the first that may be done, if there is one
 abbrev pub First : World → Out → Option Step → Type 0

@@ -1,8 +1,25 @@
 // What may be done next.
+ghost use Rattle.std.specs.Prelude.{◌≡◌, ◌++◌, ◌&&◌, cond, is_none, is_some, IfOk, OnOk};
+ghost use Rattle.std.specs.Option.{option_to_list};
+ghost use Rattle.std.specs.Ordering.{is_eq};
+ghost use Rattle.std.specs.BTreeSet.{contains, IsOrdered};
+ghost use Rattle.ids.specs.Cells.{message_cmp, promise_cmp, vat_cmp};
+ghost use Rattle.ids.specs.declared.names.VatNo.{VatNo};
+ghost use Rattle.ids.specs.declared.names.MsgId.{MsgId};
+ghost use Rattle.heap.specs.State.{view_cell};
+ghost use Rattle.post.specs.MessageView.{message_of};
+ghost use Rattle.worldcells.specs.View.{world_of};
+ghost use Rattle.worldcells.specs.World.{World, message_of as message_in_world, vat_state};
+ghost use Rattle.event.specs.Ready.{unready_at};
+ghost use Rattle.agenda.specs.Agendas.{AlikeBut, KnownAs, is_waiting as is_waiting_of, open_view, can_learn as can_learn_of};
+ghost use Rattle.agenda.specs.Enabled.{Enabled, First};
+ghost use Rattle.agenda.specs.AgendaView.{out_at};
+ghost use Rattle.agenda.specs.Found.{step_at as step_at_vat, message_step as message_step_of, learn_step};
+
 use desk::desk::Desk;
 use event::forwarding::onward;
 use event::ready::{Delay, check_ready};
-use heap::state::{VatState, View};
+use heap::state::View;
 use ids::cells::CellKey;
 use ids::names::{EventName, MsgId, PromId, VatNo};
 use post::message::{Message, Place};
@@ -46,67 +63,120 @@ pub struct Agenda {
 }
 
 impl Agenda {
+    ghost use Rattle.agenda.specs.AgendaView.{open_cmp, known_cmp, has_message, has_open, has_known, is_among, same_view, NotedIn, NotesMessages, NotesViews, NotesCell};
+    ghost use Rattle.agenda.specs.Found.{message_steps, learn_steps, first_in};
+
     /// What is not done in this world. Fails only for want of memory.
-    pub fn new(alloc: Global, world: &World) -> Result<Agenda, AllocError> {
+    pub fn new(alloc: Global, world: &World) -> Result<Agenda, AllocError>
+        ensures { IfOk result (NotedIn (world_of world.now)) }
+    {
         let mut agenda = Agenda {
             waiting: BTreeSet::new(alloc),
             open: BTreeSet::new(alloc),
             known: BTreeSet::new(alloc),
         };
-        for (name, _) in world.messages(alloc)?.iter() {
-            agenda.note_message(world, *name)?;
-        }
-        for (_, vat) in world.names(alloc)?.iter() {
-            agenda.note_vat(alloc, world, vat.number)?;
-        }
+        agenda.note_messages(alloc, world)?;
+        agenda.note_vats(alloc, world)?;
         Ok(agenda)
     }
 
     /// Notes what the cells hold now that were written. Fails only for want of memory, and is then of no use.
-    pub fn note(&mut self, alloc: Global, world: &World, written: &[CellKey]) -> Result<(), AllocError> {
+    pub fn note(
+        &mut self,
+        alloc: Global,
+        world: &World,
+        written: &[CellKey],
+    ) -> Result<(), AllocError>
+        ensures { (before : World) → NotedIn before self.old → AlikeBut written.now before (world_of world.now) → OnOk result (NotedIn (world_of world.now) self.new) }
+    {
         for key in written {
-            match key {
-                CellKey::Msg(name) => self.note_message(world, *name)?,
-                CellKey::View(vat, promise) => self.note_view(world, *vat, *promise)?,
-                CellKey::Board(promise) => self.note_publication(alloc, world, *promise)?,
-                CellKey::Name(_)
-                | CellKey::Slot(_)
-                | CellKey::Object(_)
-                | CellKey::Top(_, _)
-                | CellKey::Fence(_, _) => {}
-            }
+            self.note_cell(alloc, world, key)?;
+        }
+        Ok(())
+    }
+
+    /// Notes what a cell holds.
+    fn note_cell(
+        &mut self,
+        alloc: Global,
+        world: &World,
+        key: &CellKey,
+    ) -> Result<(), AllocError>
+        ensures { OnOk result (NotesCell (world_of world.now) key.now self.old self.new) }
+    {
+        match key {
+            CellKey::Msg(name) => self.note_message(world, *name),
+            CellKey::View(vat, promise) => self.note_view(world, *vat, *promise),
+            CellKey::Board(promise) => self.note_publication(alloc, world, *promise),
+            CellKey::Name(_)
+            | CellKey::Slot(_)
+            | CellKey::Object(_)
+            | CellKey::Top(_, _)
+            | CellKey::Fence(_, _) => Ok(()),
+        }
+    }
+
+    /// Notes of all messages whether they are not done.
+    fn note_messages(&mut self, alloc: Global, world: &World) -> Result<(), AllocError>
+        ensures { OnOk result (NotesMessages (world_of world.now) (λ m. is_some (message_in_world (world_of world.now) m)) self.old self.new) }
+    {
+        let messages = world.messages(alloc)?;
+        for (name, _) in messages.iter() {
+            self.note_message(world, *name)?;
         }
         Ok(())
     }
 
     /// Notes whether a message is there and not done.
-    fn note_message(&mut self, world: &World, name: MsgId) -> Result<(), AllocError> {
-        keep(&mut self.waiting, name, is_waiting(world.message(name)))
+    fn note_message(&mut self, world: &World, name: MsgId) -> Result<(), AllocError>
+        ensures { OnOk result (NotesMessages (world_of world.now) (λ m. is_eq (message_cmp name m)) self.old self.new) }
+    {
+        keep(&mut self.waiting, name, is_waiting(world, name))
     }
 
-    fn note_vat(&mut self, alloc: Global, world: &World, vat: VatNo) -> Result<(), AllocError> {
-        if let Some(state) = world.home(vat) {
-            for (promise, _) in state.contents(alloc)?.views.iter() {
-                self.note_view(world, vat, *promise)?;
-            }
+    /// Notes all views of all vats.
+    fn note_vats(&mut self, alloc: Global, world: &World) -> Result<(), AllocError>
+        ensures { OnOk result (NotesViews (world_of world.now) (λ p v. is_some (vat_state (world_of world.now) v (view_cell p))) self.old self.new) }
+    {
+        for vat in world.vats(alloc)? {
+            self.note_vat(alloc, world, vat)?;
+        }
+        Ok(())
+    }
+
+    /// Notes all views of a vat.
+    fn note_vat(&mut self, alloc: Global, world: &World, vat: VatNo) -> Result<(), AllocError>
+        ensures { OnOk result (NotesViews (world_of world.now) (λ p v. is_eq (vat_cmp vat v) && is_some (vat_state (world_of world.now) v (view_cell p))) self.old self.new) }
+    {
+        let Some(state) = world.home(vat) else {
+            return Ok(());
+        };
+        let contents = state.contents(alloc)?;
+        for (promise, _) in contents.views.iter() {
+            self.note_view(world, vat, *promise)?;
         }
         Ok(())
     }
 
     /// Notes whether a promise is open in a vat's view, and whether the vat can learn of it.
-    fn note_view(&mut self, world: &World, vat: VatNo, promise: PromId) -> Result<(), AllocError> {
-        let open = is_open(world.home(vat), promise);
-        let known = open && world.published(promise).is_some();
+    fn note_view(&mut self, world: &World, vat: VatNo, promise: PromId) -> Result<(), AllocError>
+        ensures { OnOk result (NotesViews (world_of world.now) (same_view promise vat) self.old self.new) }
+    {
+        let open = is_open(world, vat, promise);
+        let known = can_learn(world, vat, promise);
         keep(&mut self.open, Open { promise, vat }, open)?;
         keep(&mut self.known, Known { vat, promise }, known)
     }
 
+    /// Notes the views in which a promise was open.
     fn note_publication(
         &mut self,
         alloc: Global,
         world: &World,
         promise: PromId,
-    ) -> Result<(), AllocError> {
+    ) -> Result<(), AllocError>
+        ensures { OnOk result (NotesViews (world_of world.now) (λ p v. is_eq (promise_cmp promise p) && has_open self.old p v) self.old self.new) }
+    {
         for vat in self.vats_that_wait(alloc, promise)? {
             self.note_view(world, vat, promise)?;
         }
@@ -114,7 +184,9 @@ impl Agenda {
     }
 
     /// The vats in whose views a promise is open.
-    fn vats_that_wait(&self, alloc: Global, promise: PromId) -> Result<Vec<VatNo>, AllocError> {
+    fn vats_that_wait(&self, alloc: Global, promise: PromId) -> Result<Vec<VatNo>, AllocError>
+        ensures { IfOk result (λ vats. (v : VatNo) → is_among vats.items v ≡ has_open self.now promise v) }
+    {
         let mut vats = Vec::new(alloc);
         let first = Open {
             promise,
@@ -122,15 +194,17 @@ impl Agenda {
         };
         for open in self.open.range(first..) {
             if open.promise != promise {
-                break;
+                return Ok(vats);
             }
             vats.push(open.vat)?;
         }
         Ok(vats)
     }
 
-    /// The promise of this event and number that a vat can learn of.
-    pub fn known_as(&self, vat: VatNo, event: EventName, index: u32) -> Option<PromId> {
+    /// The promise of this event and number that a vat can learn of: the first, should there be several.
+    pub fn known_as(&self, vat: VatNo, event: EventName, index: u32) -> Option<PromId>
+        ensures { KnownAs (has_known self.now) vat event index result }
+    {
         let first = Known {
             vat,
             promise: PromId {
@@ -151,63 +225,141 @@ impl Agenda {
         alloc: Global,
         world: &World,
         desk: &Desk,
-    ) -> Result<Option<Step>, AllocError> {
+    ) -> Result<Option<Step>, AllocError>
+        ensures { NotedIn (world_of world.now) self.now → IfOk result (First (world_of world.now) (out_at desk.now)) }
+    {
+        match self.first_of_messages(alloc, world, desk)? {
+            Some(step) => Ok(Some(step)),
+            None => Ok(self.first_learning(desk)),
+        }
+    }
+
+    /// The first that a message can do.
+    fn first_of_messages(
+        &self,
+        alloc: Global,
+        world: &World,
+        desk: &Desk,
+    ) -> Result<Option<Step>, AllocError>
+        ensures first { IfOk result (λ step. step ≡ first_in (message_steps (world_of world.now) (out_at desk.now) self.now)) }
+        ensures ordered { IsOrdered message_cmp self.now.waiting }
+    {
         for name in self.waiting.iter() {
             if let Some(step) = message_step(alloc, world, *name, desk)? {
                 return Ok(Some(step));
             }
         }
-        for known in self.known.iter() {
-            if !desk.has_vat(known.vat) {
-                return Ok(Some(Step::Learn(known.vat, known.promise)));
-            }
-        }
         Ok(None)
     }
 
+    /// The first that a vat can learn.
+    fn first_learning(&self, desk: &Desk) -> Option<Step>
+        ensures first { result ≡ first_in (learn_steps (out_at desk.now) self.now) }
+        ensures ordered { IsOrdered known_cmp self.now.known }
+    {
+        for known in self.known.iter() {
+            if let Some(step) = learning(known, desk) {
+                return Some(step);
+            }
+        }
+        None
+    }
+
     /// All that may be done, in that order. Fails only for want of memory.
-    pub fn all(
+    pub fn all(&self, alloc: Global, world: &World, desk: &Desk) -> Result<Vec<Step>, AllocError>
+        ensures { NotedIn (world_of world.now) self.now → IfOk result (λ steps. Enabled (world_of world.now) (out_at desk.now) steps.items) }
+    {
+        let mut steps = Vec::new(alloc);
+        self.add_messages(alloc, world, desk, &mut steps)?;
+        self.add_learning(desk, &mut steps)?;
+        Ok(steps)
+    }
+
+    /// Adds what messages can do.
+    fn add_messages(
         &self,
         alloc: Global,
         world: &World,
         desk: &Desk,
-    ) -> Result<Vec<Step>, AllocError> {
-        let mut steps = Vec::new(alloc);
+        steps: &mut Vec<Step>,
+    ) -> Result<(), AllocError>
+        ensures added { OnOk result (steps.new.items ≡ steps.old.items ++ message_steps (world_of world.now) (out_at desk.now) self.now) }
+        ensures ordered { IsOrdered message_cmp self.now.waiting }
+    {
         for name in self.waiting.iter() {
-            if let Some(step) = message_step(alloc, world, *name, desk)? {
-                steps.push(step)?;
-            }
+            add_step(message_step(alloc, world, *name, desk)?, steps)?;
         }
+        Ok(())
+    }
+
+    /// Adds what vats can learn.
+    fn add_learning(&self, desk: &Desk, steps: &mut Vec<Step>) -> Result<(), AllocError>
+        ensures added { OnOk result (steps.new.items ≡ steps.old.items ++ learn_steps (out_at desk.now) self.now) }
+        ensures ordered { IsOrdered known_cmp self.now.known }
+    {
         for known in self.known.iter() {
-            if !desk.has_vat(known.vat) {
-                steps.push(Step::Learn(known.vat, known.promise))?;
-            }
+            add_step(learning(known, desk), steps)?;
         }
-        Ok(steps)
+        Ok(())
     }
 }
 
 /// Puts an item into a set or takes it out.
-fn keep<T: Ord + Drop>(set: &mut BTreeSet<T>, item: T, stays: bool) -> Result<(), AllocError> {
+fn keep<T: Ord + Drop>(set: &mut BTreeSet<T>, item: T, stays: bool) -> Result<(), AllocError>
+    ensures { OnOk result ((q : T) → contains T.cmp set.new q ≡ cond (is_eq (T.cmp item q)) stays (contains T.cmp set.old q)) }
+{
     if stays {
         set.insert(item)?;
+        Ok(())
     } else {
         set.remove(&item);
+        Ok(())
     }
-    Ok(())
 }
 
-fn is_waiting(message: Option<&Message>) -> bool {
-    match message {
-        Some(message) => !matches!(message.place, Place::Done(_)),
+/// Whether a message is there and not done.
+fn is_waiting(world: &World, name: MsgId) -> bool
+    ensures { result ≡ is_waiting_of (message_in_world (world_of world.now) name) }
+{
+    match world.message(name) {
+        Some(message) => match message.place {
+            Place::Flying(_) | Place::At(_) => true,
+            Place::Done(_) => false,
+        },
         None => false,
     }
 }
 
-fn is_open(state: Option<&VatState>, promise: PromId) -> bool {
-    match state {
-        Some(state) => matches!(state.views.get(&promise), Some(View::Open)),
+/// Whether a promise is open in a vat's view.
+fn is_open(world: &World, vat: VatNo, promise: PromId) -> bool
+    ensures { result ≡ open_view (world_of world.now) promise vat }
+{
+    match world.home(vat) {
+        Some(state) => match state.views.get(&promise) {
+            Some(View::Open) => true,
+            Some(View::Resolved(_)) | None => false,
+        },
         None => false,
+    }
+}
+
+/// Whether a vat can learn of a promise: it is open in the vat's view, and was published.
+fn can_learn(world: &World, vat: VatNo, promise: PromId) -> bool
+    ensures { result ≡ can_learn_of (world_of world.now) vat promise }
+{
+    is_open(world, vat, promise) && world.published(promise).is_some()
+}
+
+/// Adds a step, if there is one.
+fn add_step(step: Option<Step>, steps: &mut Vec<Step>) -> Result<(), AllocError>
+    ensures { OnOk result (steps.new.items ≡ steps.old.items ++ option_to_list step) }
+{
+    match step {
+        Some(step) => {
+            steps.push(step)?;
+            Ok(())
+        }
+        None => Ok(()),
     }
 }
 
@@ -217,29 +369,59 @@ fn message_step(
     world: &World,
     name: MsgId,
     desk: &Desk,
-) -> Result<Option<Step>, AllocError> {
-    let Some(message) = world.message(name) else {
-        return Ok(None);
-    };
-    match message.place {
-        Place::Flying(_) => Ok(Some(Step::Arrive(name))),
-        Place::At(vat) => {
-            if onward(alloc, world, message, vat)?.is_some() {
-                return Ok(Some(Step::Forward(name)));
-            }
-            if !desk.has_vat(vat) && is_ready(alloc, world, message, vat)? {
-                return Ok(Some(Step::Turn(name)));
-            }
-            Ok(None)
-        }
-        Place::Done(_) => Ok(None),
+) -> Result<Option<Step>, AllocError>
+    ensures { IfOk result (λ step. step ≡ message_step_of (world_of world.now) (out_at desk.now) name) }
+{
+    match world.message(name) {
+        Some(message) => match message.place {
+            Place::Flying(_) => Ok(Some(Step::Arrive(name))),
+            Place::At(vat) => step_at(alloc, world, name, message, vat, desk),
+            Place::Done(_) => Ok(None),
+        },
+        None => Ok(None),
     }
 }
 
-fn is_ready(alloc: Global, world: &World, message: &Message, vat: VatNo) -> Result<bool, AllocError> {
+/// What a message at a vat can do: go on, or have its turn.
+fn step_at(
+    alloc: Global,
+    world: &World,
+    name: MsgId,
+    message: &Message,
+    vat: VatNo,
+    desk: &Desk,
+) -> Result<Option<Step>, AllocError>
+    ensures { IfOk result (λ step. step ≡ step_at_vat (world_of world.now) (out_at desk.now) name (message_of message.now) vat) }
+{
+    if onward(alloc, world, message, vat)?.is_some() {
+        return Ok(Some(Step::Forward(name)));
+    }
+    if desk.has_vat(vat) {
+        return Ok(None);
+    }
+    let ready = is_ready(alloc, world, message, vat)?;
+    Ok(ready.then_some(Step::Turn(name)))
+}
+
+/// Whether a message at a vat may be delivered.
+fn is_ready(
+    alloc: Global,
+    world: &World,
+    message: &Message,
+    vat: VatNo,
+) -> Result<bool, AllocError>
+    ensures { IfOk result (λ ready. ready ≡ is_none (unready_at (world_of world.now) vat (message_of message.now))) }
+{
     match check_ready(alloc, world, message, vat) {
         Ok(_) => Ok(true),
         Err(Delay::Memory) => Err(AllocError),
         Err(Delay::Unready(_)) => Ok(false),
     }
+}
+
+/// What a vat learns of a promise that it can learn of, if no ticket of it is out.
+fn learning(known: &Known, desk: &Desk) -> Option<Step>
+    ensures { result ≡ learn_step (out_at desk.now) known.now }
+{
+    (!desk.has_vat(known.vat)).then_some(Step::Learn(known.vat, known.promise))
 }
