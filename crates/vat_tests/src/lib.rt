@@ -8,6 +8,8 @@ mod depth;
 #[cfg(test)]
 mod endings;
 #[cfg(test)]
+mod examples;
+#[cfg(test)]
 mod objects;
 #[cfg(test)]
 mod sessions;
