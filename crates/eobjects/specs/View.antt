@@ -1,5 +1,5 @@
 -- What the program's calls stand for.
-use Rattle.std.specs.Prelude.{Option, Some, None, Result, ⊥}
+use Rattle.std.specs.Prelude.{Option, Some, None, Result}
 use Rattle.code.specs.View.{trees_of_codes}
 use Rattle.ids.specs.declared.names.PromId.{PromId}
 use Rattle.kernele.specs.Tree.{Name}

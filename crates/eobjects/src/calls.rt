@@ -3,7 +3,7 @@ ghost use Rattle.std.specs.Prelude.{◌≡◌, ◌≤◌, [], codes, length};
 ghost use Rattle.values.specs.View.{val_of, vals_of};
 ghost use Rattle.erules.specs.Answered.{OnStop};
 ghost use Rattle.erules.specs.Doings.{same_vat};
-ghost use Rattle.erules.specs.Outcomes.{thrown, values};
+ghost use Rattle.erules.specs.Outcomes.{halt, thrown, values};
 ghost use Rattle.erules.specs.Rules.{called, callee_of, callee_target, callee_read, if_own, inside, target_of};
 ghost use Rattle.heap.specs.View.{nouns_of};
 ghost use Rattle.erules.specs.Locals.{captured_in, locals_after, names_in};
@@ -123,7 +123,7 @@ fn own(here: VatNo, vat: VatNo, callee: Callee) -> Callee
 
 /// Throws that a call was made on what is not near.
 fn not_near(w: &mut Working) -> Stop
-    ensures { OnStop result w.new (λ h b. (h ≡ thrown (codes "not near")) × (b ≡ at w.old)) }
+    ensures { OnStop result w.new (λ h b. (halt h ≡ halt (thrown (codes "not near"))) × (b ≡ at w.old)) }
 {
     let problem = Text::new(w.alloc, "not near");
     throw_made(w, problem)
