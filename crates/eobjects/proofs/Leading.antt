@@ -40,13 +40,13 @@ resolves p verb v vs one is =
     sym (ap (resolver_target p verb) one ∙ ap (λ q. cond q (uses p (resolving p v)) rest) is)
 
 pub smashes : (p : PromId) (verb : Name) (v : Val) (vs : Vals) → vs ≡ and_val v no_vals → bytes_eq verb (codes "resolve") ≡ false → bytes_eq verb (codes "smash") ≡ true → uses p (smashing p v) ≡ resolver_target p verb vs
-smashes p verb v vs one no is =
-    sym (ap (resolver_target p verb) one ∙ (λ i. cond (no i) (uses p (resolving p v)) (cond (is i) (uses p (smashing p v)) (gives (no_such_method verb (and_val v no_vals))))))
+smashes p verb v vs one other is =
+    sym (ap (resolver_target p verb) one ∙ (λ i. cond (other i) (uses p (resolving p v)) (cond (is i) (uses p (smashing p v)) (gives (no_such_method verb (and_val v no_vals))))))
 
 pub lacks : (p : PromId) (verb : Name) (v : Val) (vs : Vals) → vs ≡ and_val v no_vals → bytes_eq verb (codes "resolve") ≡ false → bytes_eq verb (codes "smash") ≡ false → gives (no_such_method verb vs) ≡ resolver_target p verb vs
-lacks p verb v vs one no none =
+lacks p verb v vs one other neither =
     ap (λ us. gives (no_such_method verb us)) one
-    ∙ sym (ap (resolver_target p verb) one ∙ (λ i. cond (no i) (uses p (resolving p v)) (cond (none i) (uses p (smashing p v)) (gives (no_such_method verb (and_val v no_vals))))))
+    ∙ sym (ap (resolver_target p verb) one ∙ (λ i. cond (other i) (uses p (resolving p v)) (cond (neither i) (uses p (smashing p v)) (gives (no_such_method verb (and_val v no_vals))))))
 
 -- its verbs have one argument
 pub lacks_alone : (p : PromId) (verb : Name) (xs : List Value) → length xs < 1 → gives (no_such_method verb (vals_of xs)) ≡ resolver_target p verb (vals_of xs)

@@ -9,7 +9,9 @@ use Rattle.post.specs.Blocks.{handler_fits}
 use Rattle.post.specs.DeliveryView.{handler_of}
 use Rattle.values.specs.View.{val_of}
 use Rattle.erules.specs.At.{At}
-use Rattle.erules.specs.Rules.{captured, all_captured, all_sought}
+use Rattle.values.specs.declared.value.Value.{Value}
+use Rattle.erules.specs.Outcomes.{value}
+use Rattle.erules.specs.Rules.{captured, all_captured, when_end, when_made}
 use Rattle.erules.specs.View.{at}
 use Rattle.erules.proofs.Answering.{end_to, handed_on}
 use Rattle.erules.proofs.Captures.{captured_frame}
@@ -38,9 +40,13 @@ returns c =
     let body = trees_of_codes c.args.block.now.value.items in
     let handler = option_map handler_of c.args.handler in
     let ns = nouns_of c.in_ok-nouns.nouns.items in
+    let v = val_of c.replace-value.result in
+    let given = ap (λ (x : Value). val_of x) c.replace-value.ensures.value in
     end_to c.make_when.result c.make_when.new.into c.make_when.new.w _ _ _ _
-    (waits_end body handler ns (captured_names_of c.as_slice.result.now) (val_of c.args.into.now) a (at c.capture_all.new.w) (names ∙ c.requires.captures) c.in_ok-nouns.ensures.0 c.in_ok-nouns.ensures.1)
-    (waits_place body handler ns (captured_names_of c.as_slice.result.now) (val_of c.args.into.now) a (at c.capture_all.new.w) (names ∙ c.requires.captures) c.in_ok-nouns.ensures.0 c.in_ok-nouns.ensures.1)
+    (waits_end body handler ns (captured_names_of c.as_slice.result.now) v a (at c.capture_all.new.w) (names ∙ c.requires.captures) c.in_ok-nouns.ensures.0 c.in_ok-nouns.ensures.1
+    ∙ ap (λ u. when_end body handler (value u) a) given)
+    (waits_place body handler ns (captured_names_of c.as_slice.result.now) v a (at c.capture_all.new.w) (names ∙ c.requires.captures) c.in_ok-nouns.ensures.0 c.in_ok-nouns.ensures.1
+    ∙ ap (λ u. when_made body handler (value u) a) given)
     c.make_when.ensures
 
 pub returns-in_err-nouns : goal.returns-in_err-nouns
