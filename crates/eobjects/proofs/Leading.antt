@@ -1,11 +1,11 @@
 -- What calls come to that enter no method.
-use Rattle.std.proofs.Common.{◌≡◌, ◌<◌, ◌≤◌, List, [], ◌∷◌, length, Bool, true, false, cond, refl, sym, ap, ◌∙◌, subst, arith}
+use Rattle.std.proofs.Common.{◌≡◌, List, [], ◌∷◌, length, get_or, Bool, true, false, cond, refl, sym, ap, ◌∙◌, subst, arith}
 use Rattle.std.specs.Prelude.{codes}
 use Rattle.std.specs.Str.{bytes_eq}
 use Rattle.ids.specs.declared.names.PromId.{PromId}
 use Rattle.kernele.specs.Tree.{Name}
 use Rattle.values.specs.Data.{Val, Vals, no_vals, and_val}
-use Rattle.values.specs.View.{vals_of}
+use Rattle.values.specs.View.{val_of, vals_of}
 use Rattle.values.specs.declared.value.Value.{Value}
 use Rattle.sends.specs.Vats.{Vat}
 use Rattle.sends.specs.Making.{Making, Published, resolving, smashing}
@@ -49,11 +49,12 @@ lacks p verb v vs one other neither =
     ∙ sym (ap (resolver_target p verb) one ∙ (λ i. cond (other i) (uses p (resolving p v)) (cond (neither i) (uses p (smashing p v)) (gives (no_such_method verb (and_val v no_vals))))))
 
 -- its verbs have one argument
-pub lacks_alone : (p : PromId) (verb : Name) (xs : List Value) → length xs < 1 → gives (no_such_method verb (vals_of xs)) ≡ resolver_target p verb (vals_of xs)
-lacks_alone p verb [] less = refl
-lacks_alone p verb (x ∷ xs) less = absurd (omega arith)
+pub lacks_unless_one : (p : PromId) (verb : Name) (xs : List Value) → (length xs ≡ 1 → ⊥) → gives (no_such_method verb (vals_of xs)) ≡ resolver_target p verb (vals_of xs)
+lacks_unless_one p verb [] h = refl
+lacks_unless_one p verb (x ∷ []) h = absurd (h (omega arith))
+lacks_unless_one p verb (x ∷ y ∷ ys) h = refl
 
-pub lacks_more : (p : PromId) (verb : Name) (xs : List Value) → 2 ≤ length xs → gives (no_such_method verb (vals_of xs)) ≡ resolver_target p verb (vals_of xs)
-lacks_more p verb [] more = absurd (omega arith)
-lacks_more p verb (x ∷ []) more = absurd (omega arith)
-lacks_more p verb (x ∷ y ∷ ys) more = refl
+pub one_value : (xs : List Value) (x : Value) → length xs ≡ 1 → x ≡ get_or xs 0 x → vals_of xs ≡ and_val (val_of x) no_vals
+one_value [] x one is = absurd (omega arith)
+one_value (y ∷ []) x one is = ap (λ (z : Value). and_val (val_of z) no_vals) (sym is)
+one_value (y ∷ z ∷ zs) x one is = absurd (omega arith)

@@ -25,9 +25,10 @@ pub(crate) fn call_resolver(
 ) -> Result<(), Stop>
     ensures { OnEnd result into.new w.new (Led (λ t b. (t ≡ resolver_target promise verb.now (vals_of args.now)) × (b ≡ at w.old))) }
 {
-    match args {
-        [given] => use_resolver(w, promise, verb, given, args, into),
-        _ => no_such_method(w, verb, args, into),
+    if args.len() == 1 {
+        use_resolver(w, promise, verb, &args[0], args, into)
+    } else {
+        no_such_method(w, verb, args, into)
     }
 }
 
