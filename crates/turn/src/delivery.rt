@@ -1,36 +1,34 @@
 // One delivery to a vat.
-ghost use Rattle.std.specs.Prelude.{◌≡◌, [], ◌∷◌, ◌++◌, false, true, IfOk, OnOk, map};
+ghost use Rattle.std.specs.Prelude.{◌≡◌, [], IfOk};
 ghost use Rattle.std.specs.Arc.{arc_value};
-ghost use Rattle.code.specs.Frames.{fits_all};
-ghost use Rattle.code.specs.View.{trees_of_codes};
 ghost use Rattle.heap.specs.Found.{Found};
 ghost use Rattle.heap.specs.View.{state_of};
 ghost use Rattle.erules.specs.Answered.{OnEnd};
 ghost use Rattle.erules.specs.View.{at};
 ghost use Rattle.deliveries.specs.Outcomes.{Meets, found_of};
-ghost use Rattle.deliveries.specs.Turn.{Begins, start};
+ghost use Rattle.deliveries.specs.Turn.{start};
 ghost use Rattle.post.specs.DeliveryView.{delivery_of};
 ghost use Rattle.post.specs.MessageView.{message_of};
-ghost use Rattle.turn.specs.Runs.{Ends, RunsTo};
+ghost use Rattle.turn.specs.Runs.{Does, is_opening};
 
 use crate::calls::run_call;
 use crate::ending::{end, lose};
 use crate::opening::run_opening;
 use crate::whens::run_when;
+use deliveries::lead::Lead;
+use deliveries::outcome::Outcome;
 use erules::end::{Abandon, Halt, Stop};
 use erules::outbox::Outbox;
 use erules::working::Working;
 use eval::eval::eval_items;
-use deliveries::outcome::Outcome;
-use deliveries::lead::Lead;
 use heap::draft::Draft;
 use heap::state::VatState;
 use ids::names::{EventName, VatNo};
 use post::delivery::Delivery;
-use post::message::Message;
+use post::message::{Message, Sent};
 use std::alloc::{AllocError, Global};
 use std::sync::Arc;
-use values::value::{Answer, Value};
+use values::value::Value;
 
 /// Runs the turn of a message at a vat in this state, which itself stays as it is. The message's target leads there. Fails only for
 /// want of memory.
@@ -46,11 +44,12 @@ pub fn deliver(
     ensures found { IfOk result (λ o. Found o.footprint (state_of (arc_value state.now))) }
     ensures meets { IfOk result (λ o. Meets (message_of message.now) (found_of lead.now) event vat budget o) }
 {
-    let mut w = begin(alloc, &message.sent.delivery, event, vat, state, budget)?;
+    let sent: &Sent = &message.sent;
+    let mut w = begin(alloc, &sent.delivery, event, vat, state, budget)?;
     let mut value = Value::Null;
-    match run(&mut w, &message.sent.delivery, lead, &mut value) {
-        Ok(()) => end(w, message.sent.result, value),
-        Err(Stop::Halted) => lose(w, message.sent.result),
+    match run(&mut w, &sent.delivery, lead, &mut value) {
+        Ok(()) => end(w, sent.result, value),
+        Err(Stop::Halted) => lose(w, sent.result),
         Err(Stop::Memory) => Err(AllocError),
     }
 }
@@ -69,7 +68,7 @@ fn begin(
     Ok(Working {
         alloc,
         draft: Draft::new(alloc, Arc::try_clone(state)?, event, vat),
-        own_scope: matches!(delivery, Delivery::Opening(_, _)),
+        own_scope: defines_tops(delivery),
         captured: None,
         older: 0,
         nouns: Vec::new(alloc),
@@ -82,9 +81,21 @@ fn begin(
     })
 }
 
+/// Whether a delivery is evaluated in the vat's own scope.
+fn defines_tops(delivery: &Delivery) -> bool
+    ensures { result ≡ is_opening (delivery_of delivery.now) }
+{
+    match delivery {
+        Delivery::Opening(_, _) => true,
+        Delivery::Asked(_) | Delivery::Sent(_) | Delivery::Waiting(_) => false,
+    }
+}
+
 /// Runs a delivery.
 fn run(w: &mut Working, delivery: &Delivery, lead: &Lead, into: &mut Value) -> Result<(), Stop>
-    requires { w.old.own_scope ≡ is_opening (delivery_of delivery.now) }
+    requires own { (at w.old).own_scope ≡ is_opening (delivery_of delivery.now) }
+    requires bare { (at w.old).nouns ≡ [] }
+    ensures { OnEnd result into.new w.new (Does (delivery_of delivery.now) (found_of lead.now) (at w.old)) }
 {
     match delivery {
         Delivery::Opening(earlier, script) => run_opening(w, earlier, &script.items, into),

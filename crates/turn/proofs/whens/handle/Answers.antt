@@ -1,0 +1,32 @@
+use Rattle.std.proofs.Common.{ap, refl, rules, subst, ◌∙◌}
+use Rattle.std.specs.Option.{option_map}
+use Rattle.code.specs.View.{trees_of_codes}
+use Rattle.heap.specs.Names.{names_of}
+use Rattle.heap.specs.View.{nouns_of}
+use Rattle.post.specs.Blocks.{handler_fits}
+use Rattle.post.specs.DeliveryView.{handler_of}
+use Rattle.values.specs.Data.{null, text}
+use Rattle.erules.specs.Rules.{Items, matched}
+use Rattle.erules.specs.View.{at}
+use Rattle.erules.proofs.Answering.{ends_weaker}
+use Rattle.erules.proofs.Steps.{slice_of}
+use Rattle.deliveries.specs.Turn.{Led, handled}
+use Rattle.turn.proofs.Waiting.{entered_there, handled_fits, handler_there}
+use Rattle.turn.proofs.whens.handle.Goals as goal
+
+pub eval_items-requires : goal.eval_items-requires
+eval_items-requires c =
+    let when = c.args.when.now in
+    let cs = when.captured.value.items in
+    let h = c.in-Some.handler in
+    let taken = c.in_ok-match_pattern-in-Some.ensures ∙ ap (λ t. matched h.pattern (text t) (at c.enter_when.new.w)) c.in_ok-share-in-Some.ensures in
+    record {
+      level = search rules;
+      fits = handled_fits h.pattern c.args.problem.now cs (at c.args.w.now) (at c.match_pattern.new.w) (handler_there h.pattern c.args.problem.now cs (at c.args.w.now) c.in_ok-enter_when-in-Some.ensures taken) (slice_of c.deref-in-Some-2.ensures.value c.deref-in-Some.ensures) (subst (handler_fits (names_of cs)) c.in-Some.is when.handled);
+    }
+
+pub returns-in-Some : goal.returns-in-Some
+returns-in-Some c = ?
+
+pub returns-in-None : goal.returns-in-None
+returns-in-None c = ?
