@@ -62,7 +62,7 @@ vals_more : (xs ys : List Value) {x y : Value} → vals_of xs ≡ vals_of ys →
 vals_more xs ys {x = x} {y = y} e f = vals_push xs x ∙ (λ i. vals_then (e i) (and_val (f i) no_vals)) ∙ sym (vals_push ys y)
 
 pub shared_more : (xs ys new : List Value) {i : ℕ} {x y : Value} → i < length ys → y ≡ get_or ys i y → vals_of xs ≡ vals_of (take i ys) → val_of x ≡ val_of y → new ≡ xs ++ x ∷ [] → vals_of new ≡ vals_of (take (i + 1) ys)
-shared_more xs ys new {i = i} {x = x} {y = y} h at same is push = ap vals_of push ∙ vals_more xs (take i ys) same is ∙ ap (λ z. vals_of (take i ys ++ z ∷ [])) at ∙ ap vals_of (sym (take_more ys i y h))
+shared_more xs ys new {i = i} {x = x} {y = y} h here same is push = ap vals_of push ∙ vals_more xs (take i ys) same is ∙ ap (λ z. vals_of (take i ys ++ z ∷ [])) here ∙ ap vals_of (sym (take_more ys i y h))
 
 pub shared_all : (xs ys : List Value) {i : ℕ} → length ys ≤ i → vals_of xs ≡ vals_of (take i ys) → vals_of xs ≡ vals_of ys
 shared_all xs ys {i = i} h e = e ∙ ap vals_of (take_all i ys h)

@@ -14,9 +14,9 @@ use Rattle.heap.specs.declared.state.Noun.{Noun}
 use Rattle.heap.proofs.Names.{frame_of_nouns}
 use Rattle.erules.specs.At.{At}
 use Rattle.erules.specs.Fits.{all_fit_at}
-use Rattle.erules.specs.Outcomes.{End}
-use Rattle.erules.specs.Rules.{Items, enters, inside, matched, named, Target}
-use Rattle.deliveries.specs.Turn.{Led, led_enters}
+use Rattle.erules.specs.Outcomes.{End, Halt, halt, thrown}
+use Rattle.erules.specs.Rules.{Items, enters, gives, inside, matched, named, Target}
+use Rattle.deliveries.specs.Turn.{Led, led_enters, led_gives}
 use Rattle.deliveries.proofs.Coming.{led_from}
 
 -- a block fits the names that were captured
@@ -46,3 +46,8 @@ handled_fits p problem cs a b {ds = ds} {es = es} place same h =
 pub entered_there : {t : Target} {ns : Nouns} {us ts : Trees} {a b c : At} {o : End} → t ≡ enters ns ts → us ≡ ts → b ≡ inside ns a → Items 1 null us b o c → Led t a o c
 entered_there {ns = ns} {us = us} {ts = ts} {a = a} {b = b} {c = c} {o = o} is same place r =
     led_from is refl (led_enters (subst (λ x. Items 1 null x (inside ns a) o c) same (subst (λ b. Items 1 null us b o c) place r)))
+
+-- a problem that nothing handles is thrown
+pub thrown_there : {t : Target} {a b : At} {h : Halt} {words problem : Name} → t ≡ gives (halt (thrown problem)) → words ≡ problem → h ≡ thrown words → b ≡ a → Led t a (halt h) b
+thrown_there {a = a} {h = h} {problem = problem} is same e f =
+    led_from is refl (subst (λ b. Led (gives (halt (thrown problem))) a (halt h) b) (sym f) (subst (λ g. Led (gives (halt (thrown problem))) a (halt g) a) (sym (e ∙ ap thrown same)) led_gives))

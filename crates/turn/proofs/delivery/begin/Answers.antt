@@ -8,18 +8,18 @@ pub returns : goal.returns
 returns c =
     let same = ap state_of c.in_ok-try_clone.ensures in
     λ i. record {
-      nouns = locals_after [] (c.new-nouns.ensures.items i);
-      own_scope = c.defines_tops-own_scope.ensures i;
-      state = (c.new-draft.ensures.state ∙ same) i;
+      nouns = locals_after [] (c.new-2.ensures.items i);
+      own_scope = c.defines_tops.ensures i;
+      state = (c.new.ensures.state ∙ same) i;
       left = c.args.budget;
-      event = (c.new-draft.ensures.counts i).event;
-      vat = (c.new-draft.ensures.counts i).vat;
-      began = (c.new-draft.ensures.began ∙ same) i;
-      slots = (c.new-draft.ensures.counts i).slots;
-      objects = (c.new-draft.ensures.counts i).objects;
+      event = (c.new.ensures.counts i).event;
+      vat = (c.new.ensures.counts i).vat;
+      began = (c.new.ensures.began ∙ same) i;
+      slots = (c.new.ensures.counts i).slots;
+      objects = (c.new.ensures.counts i).objects;
       ejectors = 0;
-      opened = opened_of (c.new-opened.ensures.items i);
-      touched = c.new-draft.ensures.touched i;
-      written = c.new-draft.ensures.written i;
-      out = c.new-out.ensures i;
+      opened = opened_of (c.new-4.ensures.items i);
+      touched = c.new.ensures.touched i;
+      written = c.new.ensures.written i;
+      out = c.new-5.ensures i;
     }
