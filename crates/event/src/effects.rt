@@ -21,7 +21,9 @@ ghost use Rattle.event.specs.Learning.{Learns};
 ghost use Rattle.event.specs.ReadyView.{IsWay};
 
 use crate::left::{record_cells, touch_cells};
-use crate::making::{message_record, record_letters, record_publications, touch_letters, touch_publications};
+use crate::making::{
+    message_record, record_letters, record_publications, touch_letters, touch_publications,
+};
 use crate::ready::Way;
 use cells::store::Record;
 use deliveries::outcome::{Ended, Outcome};

@@ -21,9 +21,9 @@ use ids::cells::{CellKey, Key};
 use ids::names::{EventName, ObjId, PromId, SlotId, VatNo};
 use ids::reference::Reference;
 use ids::text::Text;
-use worldcells::record::CellRecord;
 use std::alloc::AllocError;
 use values::value::Value;
+use worldcells::record::CellRecord;
 
 /// What names cells of a vat that hold such contents.
 trait VatKey<V>: Key {

@@ -215,12 +215,7 @@ fn check_known(alloc: Global, world: &World, when: &When, vat: VatNo) -> Result<
 }
 
 /// Whether a value is known in a vat: it leads to no unresolved promise.
-fn is_known_at(
-    alloc: Global,
-    world: &World,
-    value: &Value,
-    vat: VatNo,
-) -> Result<bool, AllocError>
+fn is_known_at(alloc: Global, world: &World, value: &Value, vat: VatNo) -> Result<bool, AllocError>
     ensures { IfOk result (λ b. b ≡ is_known_of (walk_of most_walked (views_in (vat_state (world_of world.now) vat)) [] (val_of value.now)).end) }
 {
     match world.home(vat) {

@@ -55,7 +55,11 @@ pub fn walk(alloc: Global, world: &World, target: &Value) -> Result<Walked, Allo
 {
     let mut through = Vec::new(alloc);
     let end = end_of(&Board { world }, target, &mut through)?;
-    let end = if is_resolved(world, &end) { None } else { Some(end) };
+    let end = if is_resolved(world, &end) {
+        None
+    } else {
+        Some(end)
+    };
     Ok(Walked { end, through })
 }
 

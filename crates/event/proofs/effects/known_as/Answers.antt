@@ -1,4 +1,4 @@
-use Rattle.std.proofs.Common.{◌≡◌, ℕ, zero, suc, List, [], ◌∷◌, ◌++◌, length, drop, min, refl, sym, ap, ◌∙◌, append-nil, arith}
+use Rattle.std.proofs.Common.{◌≡◌, ℕ, zero, suc, List, [], ◌∷◌, ◌++◌, length, drop, min, refl, sym, ap, ◌∙◌, append-nil, arith, rules}
 use Rattle.std.proofs.lemmas.List.{drop_all}
 use Rattle.std.proofs.lemmas.Slice.Zip.{zip_end}
 use Rattle.ids.specs.declared.names.VatNo.{VatNo}
@@ -20,5 +20,5 @@ none_left (suc n) (x ∷ xs) (v ∷ vs) h = none_left n xs vs (omega (arith, h))
 pub returns : goal.returns
 returns c =
     let l = c.loop-name in
-    let n = zip_end c.args.names.now c.args.vats.now l.yielded _ _ _ _ (cc) (cc) l.yielded_by c.in-None.is c.next.ensures.steps in
+    let n = zip_end c.args.names.now c.args.vats.now l.yielded c.into_iter-name-iterator.result l.name-iterator c.next.new.self c.next.result (search rules) (search rules) l.yielded_by c.in-None.is c.next.ensures.steps in
     sym (l.invariant ∙ ap (λ ys. l.row.items ++ ys) (none_left (length l.yielded) c.args.names.now c.args.vats.now n) ∙ append-nil l.row.items)
