@@ -28,7 +28,7 @@ module _ (w : World) (out : Out) (a : Agenda) where
 
   learn_of : (k : Known) (s : Step) → learn_step out k ≡ Some s → NotedIn w a → Contains a.known.keys k → MayDo w out s
   learn_of k s e notes among =
-      let is = learning_is w out k s e in
+      let is = learning_is out k s e in
       subst (MayDo w out) is.1 (learn_may w out k.vat k.promise (sym (notes.learns k.vat k.promise) ∙ (btree_set_contains_iff known_total exact_known a.known k).1 among) is.0)
 
   pub found_is : NotedIn w a → (s : Step) → Contains (steps_of w out a) s → MayDo w out s
@@ -58,13 +58,13 @@ module _ (w : World) (out : Out) (a : Agenda) where
   messages_before m n s t e f h = ap₂ (λ o p. step_cmp_by o p (ordering_then (vat_cmp (learn_in s).0 (learn_in t).0) (promise_cmp (learn_in s).1 (learn_in t).1))) (found_may w out m s e).0 (found_may w out n t f).0 ∙ h
 
   learning_before : (j k : Known) (s t : Step) → learn_step out j ≡ Some s → learn_step out k ≡ Some t → known_cmp j k ≡ Less → step_cmp s t ≡ Less
-  learning_before j k s t e f h = ap₂ step_cmp (sym (learning_is w out j s e).1) (sym (learning_is w out k t f).1) ∙ h
+  learning_before j k s t e f h = ap₂ step_cmp (sym (learning_is out j s e).1) (sym (learning_is out k t f).1) ∙ h
 
   of_messages : AllByRecursion IsOfMessage (message_steps w out a)
   of_messages = each_given (message_step w out) IsOfMessage (λ m s e. (m, (found_may w out m s e).0)) a.waiting.keys
 
   of_none : AllByRecursion IsOfNone (learn_steps out a)
-  of_none = each_given (learn_step out) IsOfNone (λ k s e. ap message_in (sym (learning_is w out k s e).1)) a.known.keys
+  of_none = each_given (learn_step out) IsOfNone (λ k s e. ap message_in (sym (learning_is out k s e).1)) a.known.keys
 
   messages_rise : IsOrdered message_cmp a.waiting → Rises (message_steps w out a)
   messages_rise ordered = given_rises message_cmp (message_step w out) messages_before a.waiting.keys ordered

@@ -147,14 +147,14 @@ module _ (w : World) (out : Out) where
       by None e = absurd (none-some s e)
       by (Some g) e = at g g.place e
 
-  -- ---- learning
+-- ---- learning
 
-  pub learning_is : (k : Known) (s : Step) → learn_step out k ≡ Some s → (out k.vat ≡ false) × (step.Learn k.vat k.promise ≡ s)
-  learning_is k s h = by (out k.vat) h
-    where
-      by : (b : Bool) → cond b None (Some (step.Learn k.vat k.promise)) ≡ Some s → (b ≡ false) × (step.Learn k.vat k.promise ≡ s)
-      by true e = absurd (none-some s e)
-      by false e = (refl, same_Some (step.Learn k.vat k.promise) s e)
+pub learning_is : (out : Out) (k : Known) (s : Step) → learn_step out k ≡ Some s → (out k.vat ≡ false) × (step.Learn k.vat k.promise ≡ s)
+learning_is out k s h = by (out k.vat) h
+  where
+    by : (b : Bool) → cond b None (Some (step.Learn k.vat k.promise)) ≡ Some s → (b ≡ false) × (step.Learn k.vat k.promise ≡ s)
+    by true e = absurd (none-some s e)
+    by false e = (refl, same_Some (step.Learn k.vat k.promise) s e)
 
 open_is : (o : Option heap.Content) → is_open o ≡ true → o ≡ Some (heap.viewed pending)
 open_is (Some (heap.viewed pending)) h = refl

@@ -31,19 +31,21 @@ module _ (w : World) (out : Out) where
   abbrev pub message_step : MsgId → Option Step
   message_step m = step_of m (message_of w m)
 
-  -- a vat learns what it can learn if no ticket of it is out
-  abbrev pub learn_step : Known → Option Step
-  learn_step k = cond (out k.vat) None (Some (step.Learn k.vat k.promise))
-
-  -- what messages can do, and then what vats can learn
+  -- what messages can do
   abbrev pub message_steps : Agenda → List Step
   message_steps a = filter_map message_step a.waiting.keys
 
-  abbrev pub learn_steps : Agenda → List Step
-  learn_steps a = filter_map learn_step a.known.keys
+-- a vat learns what it can learn if no ticket of it is out
+abbrev pub learn_step : Out → Known → Option Step
+learn_step out k = cond (out k.vat) None (Some (step.Learn k.vat k.promise))
 
-  abbrev pub steps_of : Agenda → List Step
-  steps_of a = message_steps a ++ learn_steps a
+-- what vats can learn
+abbrev pub learn_steps : Out → Agenda → List Step
+learn_steps out a = filter_map (learn_step out) a.known.keys
+
+-- what messages can do, and then what vats can learn
+abbrev pub steps_of : World → Out → Agenda → List Step
+steps_of w out a = message_steps w out a ++ learn_steps out a
 
 -- the first of a list
 abbrev pub first_in : {A : Type 0} → List A → Option A

@@ -9,7 +9,7 @@ ghost use Rattle.ids.specs.declared.names.MsgId.{MsgId};
 ghost use Rattle.heap.specs.State.{view_cell};
 ghost use Rattle.post.specs.MessageView.{message_of};
 ghost use Rattle.worldcells.specs.View.{world_of};
-ghost use Rattle.worldcells.specs.World.{World, message_of as message_in_world, vat_state};
+ghost use Rattle.worldcells.specs.World.{World as Cells, message_of as message_in_world, vat_state};
 ghost use Rattle.event.specs.Ready.{unready_at};
 ghost use Rattle.agenda.specs.Agendas.{AlikeBut, KnownAs, is_waiting as is_waiting_of, open_view, can_learn as can_learn_of};
 ghost use Rattle.agenda.specs.Enabled.{Enabled, First};
@@ -87,7 +87,7 @@ impl Agenda {
         world: &World,
         written: &[CellKey],
     ) -> Result<(), AllocError>
-        ensures { (before : World) → NotedIn before self.old → AlikeBut written.now before (world_of world.now) → OnOk result (NotedIn (world_of world.now) self.new) }
+        ensures { (before : Cells) → NotedIn before self.old → AlikeBut written.now before (world_of world.now) → OnOk result (NotedIn (world_of world.now) self.new) }
     {
         for key in written {
             self.note_cell(alloc, world, key)?;
