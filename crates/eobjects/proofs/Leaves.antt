@@ -13,9 +13,8 @@ use Rattle.heap.specs.State.{Bind, fixed, slot, lookup, frame_of, slot_cell, hel
 use Rattle.erules.specs.At.{At}
 use Rattle.erules.specs.Fits.{all_fit_at, fits_at, frame_at, frame_behind}
 use Rattle.eobjects.specs.Leaves.{StandsAtHand, GivesAtHand, Leaf, Operands, AtHand, GoesOn}
-use Rattle.erules.specs.Outcomes.{value, reply_end}
-use Rattle.erules.specs.Rules as rules
-use Rattle.erules.specs.Rules.{reached, put, slot_in, sought_in, seeking, slot_read, noun_read, slot_put, held_end, assigned_end, noun_end, sought_slot, begun, Ends, at_node, Runs, run_int, run_noun, run_assign, run_call_gives, args_none, args_next}
+use Rattle.erules.specs.Outcomes.{value}
+use Rattle.erules.specs.Rules.{reached, put, slot_in, sought_in, seeking, slot_read, noun_read, slot_put, held_end, assigned_end, noun_end, sought_slot, Ends, at_node, Runs, run_int, run_noun, run_assign, run_call_gives, args_none, args_next}
 use Rattle.eobjects.proofs.OnData.{datum_target, datum_called}
 use Rattle.eobjects.proofs.Reached.{reached_already}
 use Rattle.erules.proofs.Steps.{runs_as, runs_to, items_more}

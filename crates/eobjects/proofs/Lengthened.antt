@@ -7,7 +7,7 @@ use Rattle.std.proofs.Common.{append-nil}
 use Rattle.code.specs.Frames.{Frame, behind, after, fits_all}
 use Rattle.code.specs.declared.code.Code.{Code}
 use Rattle.erules.specs.Fits.{all_fit_at, frame_at, frame_behind}
-use Rattle.values.specs.Data.{Val, Vals, null, bool, int, text, list, object, ejector, promise, broken, no_vals, and_val, gives}
+use Rattle.values.specs.Data.{Val, null, bool, no_vals, and_val, gives}
 use Rattle.values.specs.Replies.{data_reply, text_reply}
 use Rattle.values.specs.View.{val_of}
 use Rattle.values.specs.declared.value.Value.{Value}
@@ -20,8 +20,7 @@ use Rattle.erules.specs.View.{at}
 use Rattle.erules.specs.declared.working.Working.{Working}
 use Rattle.eobjects.proofs.Drafted.{drafted, drafted_put}
 use Rattle.erules.specs.Outcomes.{value, reply_end}
-use Rattle.erules.specs.Rules as rules
-use Rattle.erules.specs.Rules.{put, slot_in, sought_slot, seeking, slot_put, slot_read, noun_end, assigned_end, on_datum, callee_of, callee_target, callee_read, called, target_of, Ends, Runs, at_node, run_null, run_bool, run_text, run_assign, run_call_gives, args_none, args_next}
+use Rattle.erules.specs.Rules.{put, slot_in, sought_slot, seeking, slot_put, assigned_end, Ends, Runs, at_node, run_null, run_bool, run_text, run_assign}
 use Rattle.erules.proofs.Steps.{runs_as, runs_to}
 use Rattle.eobjects.specs.Leaves.{StandsAtHand, GivesAtHand, Leaf, AtHand, Lengthens, RanOrNot}
 use Rattle.eobjects.proofs.Leaves.{slot_at_hand, leaf_of_noun, leaf_call, seeking_left, thrice, fourth}

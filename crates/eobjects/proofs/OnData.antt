@@ -1,5 +1,5 @@
 -- Calls on what is no promise, and on data: nothing is touched for an end that is at hand.
-use Rattle.std.proofs.Common.{◌≡◌, ◌⊎◌, inl, inr, ⊎_elim, Bool, true, false, cond, List, [], refl, sym, ap, ◌∙◌, subst}
+use Rattle.std.proofs.Common.{◌≡◌, Bool, true, false, cond, refl, ap, ◌∙◌}
 use Rattle.std.specs.Prelude.{codes, None}
 use Rattle.std.specs.Str.{bytes_eq}
 use Rattle.std.proofs.lemmas.Slice.Eq.{bytes_eq-Decides}
@@ -11,7 +11,6 @@ use Rattle.values.specs.Data.{Val, null, bool, int, text, list, object, ejector,
 use Rattle.values.specs.Promises.{promise_of}
 use Rattle.values.specs.Replies.{data_reply}
 use Rattle.values.specs.Wanted.{wants_datum}
-use Rattle.sends.specs.Vats.{ended}
 use Rattle.erules.specs.At.{At}
 use Rattle.erules.specs.Doings.{given_by, behind, data_with, data_of}
 use Rattle.erules.specs.Outcomes.{value, values, reply_end}

@@ -1,5 +1,5 @@
 -- A when, once its names are captured.
-use Rattle.std.proofs.Common.{◌≡◌, List, [], Option, sym, ap, ◌∙◌}
+use Rattle.std.proofs.Common.{◌≡◌, List, [], Option, ap, ◌∙◌}
 use Rattle.kernele.specs.Tree.{Name, Trees}
 use Rattle.values.specs.Data.{Val}
 use Rattle.heap.specs.State.{Nouns}
@@ -7,7 +7,7 @@ use Rattle.post.specs.Delivery.{Handler}
 use Rattle.erules.specs.At.{At}
 use Rattle.erules.specs.Doings.{given_by, behind, wait_of, wait_end, wait_out}
 use Rattle.erules.specs.Outcomes.{value, halt}
-use Rattle.erules.specs.Rules.{Capture, captured, missing, all_captured, all_sought, handled_names, when_capture, when_capturing, waited_end, waited, when_end, when_made, undefined_noun}
+use Rattle.erules.specs.Rules.{captured, missing, all_captured, all_sought, handled_names, when_capturing, waited_end, waited, when_end, when_made, undefined_noun}
 use Rattle.erules.specs.Answered.{OnStop}
 use Rattle.erules.specs.declared.end.Stop.{Stop}
 use Rattle.erules.specs.declared.end.Stop.TheVariants as stop

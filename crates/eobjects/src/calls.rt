@@ -114,11 +114,7 @@ fn called_on(here: VatNo, value: &Value) -> Callee
 fn own(here: VatNo, vat: VatNo, callee: Callee) -> Callee
     ensures { callee_view result ≡ if_own (same_vat vat here) (callee_view callee) }
 {
-    if vat == here {
-        callee
-    } else {
-        Callee::Far
-    }
+    if vat == here { callee } else { Callee::Far }
 }
 
 /// Throws that a call was made on what is not near.

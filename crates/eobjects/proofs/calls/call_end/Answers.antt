@@ -1,9 +1,9 @@
-use Rattle.std.proofs.Common.{◌≡◌, subst, sym, ap, ◌∙◌}
+use Rattle.std.proofs.Common.{◌≡◌, subst, ap, ◌∙◌}
 use Rattle.std.specs.Prelude.{codes}
 use Rattle.values.specs.View.{val_of, vals_of}
 use Rattle.erules.specs.At.{At}
 use Rattle.erules.specs.Doings.{given_by, behind, data_of}
-use Rattle.erules.specs.Outcomes.{End, value, halt, thrown, reply_end}
+use Rattle.erules.specs.Outcomes.{halt, thrown, reply_end}
 use Rattle.erules.specs.Rules.{Target, callee_of, callee_read, callee_target, ejector_end}
 use Rattle.erules.specs.View.{at}
 use Rattle.erules.proofs.Answering.{handed_on, stop_weaker}

@@ -1,8 +1,7 @@
-use Rattle.std.proofs.Common.{◌≡◌, ◌+◌, ◌<◌, false, [], sym, ap, subst, ◌∙◌, arith}
+use Rattle.std.proofs.Common.{◌≡◌, false, [], sym, ap, subst, ◌∙◌, arith}
 use Rattle.std.specs.Prelude.{option_map}
 use Rattle.code.specs.Frames.{captured_names_of, fits_all}
 use Rattle.code.specs.View.{trees_of_codes}
-use Rattle.heap.specs.Names.{names_of}
 use Rattle.heap.specs.View.{nouns_of}
 use Rattle.heap.proofs.Names.{frame_of_nouns}
 use Rattle.post.specs.Blocks.{handler_fits}
