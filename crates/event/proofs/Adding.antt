@@ -1,14 +1,13 @@
 -- What a turn made is added to a list item by item.
-use Rattle.std.proofs.Common.{◌≡◌, ℕ, zero, suc, ◌+◌, ◌<◌, ◌≤◌, Bool, true, false, cond, List, [], ◌∷◌, ◌++◌, length, drop, map, Option, Some, None, is_some, slice_get, get_or, refl, sym, ap, ap₂, ◌∙◌, append_assoc, append-nil, arith}
-use Rattle.std.proofs.lemmas.List.{drop_all, map-append}
+use Rattle.std.proofs.Common.{◌≡◌, ℕ, zero, suc, ◌+◌, ◌<◌, ◌≤◌, Bool, true, false, cond, List, [], ◌∷◌, ◌++◌, length, drop, map, Option, Some, is_some, slice_get, get_or, refl, sym, ap, ◌∙◌, append_assoc, append-nil, arith}
+use Rattle.std.proofs.lemmas.List.{drop_all}
 use Rattle.std.proofs.lemmas.Option.{slice_get_within, get_or_from_slice_get}
 use Rattle.history.specs.Records.{Record, record_of}
 use Rattle.ids.specs.declared.names.EventName.{EventName}
-use Rattle.ids.specs.declared.names.MsgId.{MsgId}
 use Rattle.ids.specs.declared.names.PromId.{PromId}
 use Rattle.ids.specs.declared.cells.CellKey.{CellKey}
 use Rattle.ids.specs.declared.cells.CellKey.TheVariants as key
-use Rattle.post.specs.Messages.{Message, Published}
+use Rattle.post.specs.Messages.{Published}
 use Rattle.post.specs.MessageView.{message_of}
 use Rattle.erules.specs.OutboxView.{letter_of}
 use Rattle.erules.specs.declared.outbox.Letter.{Letter}

@@ -1,7 +1,6 @@
 -- What births, questions and messages on their way touch and write.
 use Rattle.std.proofs.Common.{◌≡◌, ℕ, List, [], ◌∷◌, ◌++◌, map, Option, Some, refl, sym, ap, ap₂, ◌∙◌, append_assoc}
-use Rattle.std.specs.List.{list_any}
-use Rattle.history.specs.Records.{Record, record_of}
+use Rattle.history.specs.Records.{Record}
 use Rattle.ids.specs.declared.names.EventName.{EventName}
 use Rattle.ids.specs.declared.names.VatNo.{VatNo}
 use Rattle.ids.specs.declared.names.MsgId.{MsgId}
@@ -11,12 +10,11 @@ use Rattle.ids.specs.declared.cells.CellKey.TheVariants as key
 use Rattle.kernele.specs.Tree.{Name, Trees}
 use Rattle.scopes.specs.Scope.{own_names_in}
 use Rattle.post.specs.Messages.{Vat, Message}
-use Rattle.post.specs.declared.earlier.Earlier.{Earlier}
 use Rattle.worldcells.specs.World.{Content, vat, message}
 use Rattle.worldcells.specs.Theory.{cells}
-use Rattle.event.specs.Events.{Foot, birth_foot, ask_foot, moved_foot, first_message, known_as, opening_message, asked_message}
+use Rattle.event.specs.Events.{birth_foot, ask_foot, moved_foot, first_message, known_as, opening_message, asked_message}
 use Rattle.event.specs.Effects.{Brings, known_by}
-use Rattle.event.proofs.Leaving.{Once, Free, brings_once}
+use Rattle.event.proofs.Leaving.{brings_once}
 
 -- earlier vats by their numbers are those vats
 known_same : (xs : List Name) (vs : List Vat) → known_by xs (map (λ v. v.number) vs) ≡ known_as xs vs

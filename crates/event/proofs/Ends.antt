@@ -1,13 +1,11 @@
 -- The end of a walk is told from a ring: a promise that was resolved is no end.
 use Rattle.std.proofs.Common.{◌≡◌, ℕ, zero, suc, Bool, true, false, not, List, [], ◌∷◌, length, slice_get, Option, Some, None, is_some, refl, sym, ap, ◌∙◌, arith}
-use Rattle.std.specs.Option.{option_map, unwrap_or}
+use Rattle.std.specs.Option.{unwrap_or}
 use Rattle.std.proofs.lemmas.Bool.{false≢true}
 use Rattle.ids.specs.declared.names.PromId.{PromId}
-use Rattle.values.specs.Data.{Val, null, bool, int, text, list, object, ejector, promise, broken}
+use Rattle.values.specs.Data.{Val, promise}
 use Rattle.values.specs.Promises.{promise_of}
-use Rattle.values.specs.View.{val_of}
-use Rattle.values.specs.declared.value.Value.{Value}
-use Rattle.refs.specs.Walks.{Resolutions, walk, most_walked, followed, ended}
+use Rattle.refs.specs.Walks.{Resolutions, walk, most_walked, followed}
 use Rattle.refs.specs.Leads.{Leads, at_value, at_open, leads_on as leads_further}
 use Rattle.refs.proofs.Rules.{most-is, what_ends_is_led, found_all}
 use Rattle.refs.proofs.Steps.{walk-value}

@@ -1,5 +1,5 @@
 -- A turn touches finitely many cells: they can be listed, with what it leaves in those that it wrote.
-use Rattle.std.proofs.Common.{◌≡◌, ℕ, Bool, true, false, cond, not, ◌&&◌, ◌||◌, List, [], ◌∷◌, map, Option, Some, None, refl, sym, ap, ap₂, ◌∙◌, subst}
+use Rattle.std.proofs.Common.{◌≡◌, ℕ, Bool, true, false, cond, not, ◌&&◌, ◌||◌, List, [], ◌∷◌, map, Option, Some, refl, sym, ap, ap₂, ◌∙◌, subst}
 use Rattle.std.specs.List.{list_any, AllByRecursion}
 use Rattle.std.proofs.lemmas.Bool.{or_left, or_right}
 use Rattle.history.proofs.Lists.{all_map}
@@ -19,8 +19,8 @@ use Rattle.post.specs.Messages.{Message}
 use Rattle.post.specs.declared.earlier.Earlier.{Earlier}
 use Rattle.erules.specs.At.{At}
 use Rattle.erules.specs.Doings.{under, behind, given_by, data_of, resolver_out}
-use Rattle.erules.specs.Outcomes.{End, value, halt, values}
-use Rattle.erules.specs.Rules.{Callee, on_object, on_ejector, on_datum, on_far, callee_of, callee_read, called, receiver, receiver_read, bound_in, Target}
+use Rattle.erules.specs.Outcomes.{End, value, halt}
+use Rattle.erules.specs.Rules.{Callee, on_object, on_ejector, on_datum, on_far, callee_of, callee_read, receiver, receiver_read, bound_in, Target}
 use Rattle.erules.proofs.Kept.{IsKept, items_kept}
 use Rattle.deliveries.specs.Turn.{knowing, Found, start, call_coming, Led, led_gives, led_uses, led_enters, Begins, opens, asks, calls, waits, Told, told, lost, telling, telling_at, ending_at, outcome_by, Outcome, Delivers, delivers, finish}
 use Rattle.deliveries.specs.Touched.{delivery_touched, delivery_written}

@@ -13,7 +13,6 @@ use Rattle.ids.specs.declared.names.PromId.{PromId}
 use Rattle.ids.specs.declared.cells.CellKey.{CellKey}
 use Rattle.ids.specs.declared.cells.CellKey.TheVariants as key
 use Rattle.ids.proofs.CellKeys.{same_exact, same_self}
-use Rattle.cells.specs.Doing.{Under, play}
 use Rattle.cells.proofs.Doings.{cells_only_grow, goes_alike}
 use Rattle.kernele.specs.Tree.{Name}
 use Rattle.heap.specs.State as heap
@@ -24,12 +23,12 @@ use Rattle.sends.specs.Vats.{Nothing, resolution_in}
 use Rattle.sends.specs.Playing.{views_in}
 use Rattle.erules.specs.Laws.{AgreeOn, with_cells}
 use Rattle.post.specs.Delivery.{Call, Delivery, opening, asked, sent, waiting}
-use Rattle.post.specs.Messages.{Vat, Place, flying, at_vat, done, waits_at, arrived, Message, Published}
-use Rattle.worldcells.specs.Events.{Act, birth, ask, arrive, forward, learn, turn, Event}
-use Rattle.worldcells.specs.World.{Content, message, World, vat_in, message_in, published_in, cell_content, lives_in, cell_key, vat_named, message_of, published_as, vat_state}
+use Rattle.post.specs.Messages.{Vat, Place, flying, done, waits_at, arrived, Message, Published}
+use Rattle.worldcells.specs.Events.{Act, forward, learn, turn, Event}
+use Rattle.worldcells.specs.World.{Content, message, World, vat_in, message_in, published_in, cell_content, lives_in, cell_key, published_as, vat_state}
 use Rattle.deliveries.specs.Touched.{delivery_touched, delivery_written}
 use Rattle.deliveries.specs.Turn.{Found}
-use Rattle.deliveries.proofs.Turns.{delivery_same, delivery_framed, DeliveryFrames, SameCells, delivery_cells}
+use Rattle.deliveries.proofs.Turns.{delivery_same, delivery_framed, SameCells, delivery_cells}
 use Rattle.event.specs.Events.{Foot, AreNamed, birth_foot, ask_foot, moved_foot, goes_on, Leaves, in_world, learning, untouched, learnt, learn_foot, is_lost, DeliversOn, Turn, Turns, TurnLeaves, letters_from, on_the_board, counted, made_by, turn_reads, turn_foot, Does, births, asks, arrives, forwards, learns, turns, events}
 use Rattle.event.specs.Ready.{first_undone}
 use Rattle.event.specs.Walks.{board_walk, looked_up, awaited, found_by, delivery_walk, may_end, ends_there, is_known}

@@ -1,5 +1,5 @@
 -- What the program has of what a vat learns is what it learns.
-use Rattle.std.proofs.Common.{◌≡◌, Some, Option, is_some, Result, Ok, Err, IfOk, sym, ap, ◌∙◌, subst}
+use Rattle.std.proofs.Common.{◌≡◌, Option, is_some, Result, Ok, Err, IfOk, sym, ap, ◌∙◌, subst}
 use Rattle.std.specs.declared.alloc.AllocError.{AllocError}
 use Rattle.ids.specs.declared.names.PromId.{PromId}
 use Rattle.ids.specs.declared.reference.Reference.{Reference}

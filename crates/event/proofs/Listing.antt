@@ -5,7 +5,6 @@ use Rattle.std.proofs.lemmas.Bool.{or_left, or_right, or_cases, false≢true}
 use Rattle.ids.specs.CellKeys.{same_key}
 use Rattle.ids.specs.declared.names.VatNo.{VatNo}
 use Rattle.ids.specs.declared.cells.CellKey.{CellKey}
-use Rattle.ids.specs.declared.cells.CellKey.TheVariants as key
 use Rattle.ids.proofs.CellKeys.{same_exact as key_exact, same_self as key_self}
 use Rattle.history.specs.Subject.{found}
 use Rattle.heap.specs.State as heap

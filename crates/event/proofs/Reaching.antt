@@ -1,5 +1,5 @@
 -- The turn of a when touches what its value leads through, and what a vat learns touches the promise's view.
-use Rattle.std.proofs.Common.{◌≡◌, ℕ, Bool, true, false, ◌||◌, List, [], ◌∷◌, refl, sym, ap, ◌∙◌}
+use Rattle.std.proofs.Common.{◌≡◌, ℕ, Bool, true, false, List, [], ◌∷◌, ap, ◌∙◌}
 use Rattle.std.specs.List.{AllByRecursion}
 use Rattle.std.proofs.lemmas.Bool.{or_left, or_right}
 use Rattle.history.proofs.Lists.{all_map}
@@ -16,16 +16,16 @@ use Rattle.refs.specs.Walks.{walked}
 use Rattle.sends.specs.Vats.{Nothing, fence_of, end_joined, coming_in, references, ended}
 use Rattle.sends.specs.Playing.{views_in, looked_at}
 use Rattle.sends.proofs.Followed.{ends_are_followed}
-use Rattle.post.specs.Delivery.{Delivery, When, opening, asked, sent, waiting}
+use Rattle.post.specs.Delivery.{Delivery, waiting}
 use Rattle.post.specs.Messages.{Message, Published}
 use Rattle.erules.specs.At.{At}
-use Rattle.erules.specs.Doings.{under, behind}
+use Rattle.erules.specs.Doings.{under}
 use Rattle.erules.specs.Outcomes.{End}
-use Rattle.deliveries.specs.Turn.{Found, start, Begins, opens, asks, calls, waits, Outcome, Delivers, delivers, finish}
+use Rattle.deliveries.specs.Turn.{Found, start, Begins, opens, asks, calls, waits, Outcome, Delivers, delivers}
 use Rattle.deliveries.specs.Touched.{delivery_touched}
 use Rattle.deliveries.proofs.Coming.{led_later}
 use Rattle.deliveries.proofs.Ending.{finish_later}
-use Rattle.event.specs.Events.{learning, untouched}
+use Rattle.event.specs.Events.{untouched}
 use Rattle.event.specs.Learning.{behind_learning}
 
 -- ---- the promises that a when's value leads through

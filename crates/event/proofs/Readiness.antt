@@ -1,20 +1,18 @@
 -- A turn can happen exactly where its message is ready.
-use Rattle.std.proofs.Common.{◌≡◌, ◌↔◌, ℕ, ◌+◌, Bool, true, false, cond, List, [], ◌∷◌, Option, Some, None, refl, sym, ap, ◌∙◌}
-use Rattle.std.specs.List.{AllByRecursion}
+use Rattle.std.proofs.Common.{◌≡◌, ◌↔◌, ℕ, ◌+◌, Bool, true, false, cond, List, [], ◌∷◌, Option, Some, None, refl, ap, ◌∙◌}
 use Rattle.ids.specs.declared.names.EventName.{EventName}
 use Rattle.ids.specs.declared.names.VatNo.{VatNo}
 use Rattle.ids.specs.declared.names.MsgId.{MsgId}
 use Rattle.ids.specs.declared.cells.CellKey.TheVariants as key
 use Rattle.post.specs.Messages.{Place, flying, at_vat, done, waits_at, Message}
-use Rattle.worldcells.specs.Events.{Act, birth, ask, arrive, forward, learn, turn, Event}
+use Rattle.worldcells.specs.Events.{Act, turn, Event}
 use Rattle.worldcells.specs.World.{Content, message, World, message_in, message_of, vat_state}
 use Rattle.deliveries.specs.Touched.{delivery_touched, delivery_written}
 use Rattle.deliveries.proofs.Turns.{delivery_somehow}
 use Rattle.event.specs.Events.{Foot, Turn, Turns, AreNew, letters_from, turn_foot, Does, births, asks, arrives, forwards, learns, turns}
 use Rattle.event.specs.Laws.{CanHappen, HasNoMessage}
-use Rattle.event.specs.Ready.{misplaced, lost_message, first_undone, leads_there, early_by, unready_at, unready_message, place_of, IsReady}
+use Rattle.event.specs.Ready.{misplaced, lost_message, first_undone, leads_there, early_by, unready_message, place_of, IsReady}
 use Rattle.event.specs.Walks.{awaited, found_by}
-use Rattle.event.specs.declared.ready.Unready.{Unready}
 use Rattle.event.specs.declared.ready.Unready.TheVariants as why
 use Rattle.event.proofs.Finite.{delivery_left}
 

@@ -3,19 +3,17 @@ use Rattle.std.proofs.Common.{◌≡◌, ℕ, zero, suc, Bool, true, false, cond
 use Rattle.std.specs.List.{AllByRecursion}
 use Rattle.std.specs.Option.{option_map, unwrap_or}
 use Rattle.history.proofs.Lists.{all_map}
-use Rattle.ids.specs.declared.names.VatNo.{VatNo}
 use Rattle.ids.specs.declared.names.MsgId.{MsgId}
 use Rattle.ids.specs.declared.names.PromId.{PromId}
 use Rattle.ids.specs.declared.cells.CellKey.{CellKey}
 use Rattle.ids.specs.declared.cells.CellKey.TheVariants as key
 use Rattle.eorder.specs.Fences.{joined}
-use Rattle.values.specs.Data.{Val, null}
+use Rattle.values.specs.Data.{Val}
 use Rattle.values.specs.Promises.{promise_of}
 use Rattle.refs.specs.Walks.{Resolutions, Walk, came, circled, onward, stepped, walk, most_walked}
-use Rattle.post.specs.Delivery.{Call, Delivery, opening, asked, sent, waiting}
+use Rattle.post.specs.Delivery.{Delivery, opening, asked, sent, waiting}
 use Rattle.post.specs.Messages.{Message, Published, done_in}
-use Rattle.worldcells.specs.World.{Content, World, message_in, published_in, message_of, published_as}
-use Rattle.deliveries.specs.Turn.{Found}
+use Rattle.worldcells.specs.World.{Content, World, message_in, published_in, published_as}
 use Rattle.event.specs.Events.{AreNew, counted}
 use Rattle.event.specs.Ready.{first_undone, least_with}
 use Rattle.event.specs.Walks.{by_the_board, board_walk, looked_up, awaited_for, awaited_along, awaited, fences_of, last_fences, found_by}

@@ -1,5 +1,5 @@
 -- Where the program has messages go on to.
-use Rattle.std.specs.Prelude.{List, Option, Some, None}
+use Rattle.std.specs.Prelude.{List, Option, None}
 use Rattle.std.specs.Option.{option_map}
 use Rattle.ids.specs.declared.names.VatNo.{VatNo}
 use Rattle.ids.specs.declared.names.PromId.{PromId}

@@ -1,10 +1,10 @@
 -- Whether a message may be delivered in a world, and why not.
-use Rattle.std.specs.Prelude.{◌≡◌, Bool, true, false, cond, not, Option, Some, None, List, [], ◌∷◌}
+use Rattle.std.specs.Prelude.{◌≡◌, Bool, cond, Option, Some, None, List, [], ◌∷◌}
 use Rattle.std.specs.Ordering.{match_ordering}
 use Rattle.ids.specs.Cells.{message_cmp}
 use Rattle.ids.specs.declared.names.VatNo.{VatNo}
 use Rattle.ids.specs.declared.names.MsgId.{MsgId}
-use Rattle.post.specs.Messages.{Place, at_vat, flying, done, Message, done_in, waits_at}
+use Rattle.post.specs.Messages.{Message, done_in, waits_at}
 use Rattle.worldcells.specs.World.{World, message_of}
 use Rattle.event.specs.Walks.{delivery_walk, may_end, awaited}
 use Rattle.event.specs.declared.ready.Unready.{Unready}

@@ -8,9 +8,8 @@ use Rattle.ids.specs.declared.reference.Reference.{Reference}
 use Rattle.eorder.specs.Carried.{Carried, fence_with}
 use Rattle.eorder.specs.Fences.{joined, names_in}
 use Rattle.values.specs.Data.{Val, null, object, ejector, promise}
-use Rattle.heap.specs.State.{State}
 use Rattle.refs.specs.Walks.{Resolutions, Walk, ended, walk, most_walked}
-use Rattle.post.specs.Delivery.{Delivery, opening, asked, sent, waiting}
+use Rattle.post.specs.Delivery.{Delivery, sent, waiting}
 use Rattle.post.specs.Messages.{Message, Published}
 use Rattle.sends.specs.Vats.{reference_in}
 use Rattle.sends.specs.Playing.{views_in}

@@ -2,7 +2,6 @@ use Rattle.std.proofs.Common.{rules, ◌≡◌, subst}
 use Rattle.std.specs.Arc.{arc_value}
 use Rattle.eorder.specs.Carried.{Carried}
 use Rattle.heap.specs.View.{state_of}
-use Rattle.values.specs.View.{val_of}
 use Rattle.post.specs.MessageView.{published_of}
 use Rattle.sends.specs.Playing.{Did}
 use Rattle.sends.specs.Vats.{nothing, coming_in, references}

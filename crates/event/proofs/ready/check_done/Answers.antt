@@ -1,4 +1,4 @@
-use Rattle.std.proofs.Common.{false, get_or, sym, ap, ◌∙◌, subst}
+use Rattle.std.proofs.Common.{get_or, sym, ap, ◌∙◌, subst}
 use Rattle.eorder.specs.Fences.{Rises}
 use Rattle.worldcells.specs.View.{world_of}
 use Rattle.event.specs.Ready.{first_undone, early_by}

@@ -3,7 +3,7 @@ use Rattle.std.proofs.lemmas.Result.{err_from_is_err_and}
 use Rattle.post.specs.MessageView.{message_of}
 use Rattle.worldcells.specs.View.{world_of}
 use Rattle.event.specs.Ready.{first_undone, leads_there, early_by}
-use Rattle.event.specs.Walks.{awaited, awaited_along}
+use Rattle.event.specs.Walks.{awaited}
 use Rattle.event.specs.declared.ready.Unready.TheVariants as why
 use Rattle.event.proofs.ready.check_ready.Goals as goal
 
