@@ -138,3 +138,8 @@ noted_all w a b d waiting opens known f g = record {
   views = λ p v. let o : Open = record { promise = p; vat = v } in g.views p v ∙ ap (cond (is_some (vat_state w v (view_cell p))) (open_view w p v)) (f.views p v ∙ ap (list_any (λ k. is_eq (open_cmp o k))) opens) ∙ open_there (vat_state w v (view_cell p));
   learns = λ v p. let k : Known = record { vat = v; promise = p } in g.learns v p ∙ ap (cond (is_some (vat_state w v (view_cell p))) (can_learn w v p)) (f.learns v p ∙ ap (list_any (λ j. is_eq (known_cmp k j))) known) ∙ learnt_there (vat_state w v (view_cell p)) (is_some (published_as w p));
 }
+
+-- ---- what is read of a vat's view
+
+pub open_seen : (w : World) (v : VatNo) (p : PromId) (s : State) → s ≡ vat_state w v → (x : Option heap.Content) → s (view_cell p) ≡ x → is_open x ≡ open_view w p v
+open_seen w v p s there x seen = ap is_open (sym seen ∙ ap (λ (t : State). t (view_cell p)) there)

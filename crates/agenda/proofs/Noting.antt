@@ -41,9 +41,9 @@ same_learning w p v q u h =
     let parts = and_parts (is_eq (promise_cmp p q)) (is_eq (vat_cmp v u)) h in
     ap₂ (can_learn w) (exact_vats v u (equal (vat_cmp v u) parts.1)) (exact_promises p q (equal (promise_cmp p q) parts.0))
 
-pub noted_view : (w : World) (p : PromId) (v : VatNo) (a b : Agenda) (open known : Bool) → open ≡ open_view w p v → known ≡ can_learn w v p → b.waiting ≡ a.waiting
-    → ((q : Open) → contains open_cmp b.open q ≡ cond (is_eq (open_cmp (record { promise = p; vat = v }) q)) open (contains open_cmp a.open q))
-    → ((q : Known) → contains known_cmp b.known q ≡ cond (is_eq (known_cmp (record { vat = v; promise = p }) q)) known (contains known_cmp a.known q))
+pub noted_view : (w : World) (p : PromId) (v : VatNo) (a b : Agenda) (opened learnable : Bool) → opened ≡ open_view w p v → learnable ≡ can_learn w v p → b.waiting ≡ a.waiting
+    → ((q : Open) → contains open_cmp b.open q ≡ cond (is_eq (open_cmp (record { promise = p; vat = v }) q)) opened (contains open_cmp a.open q))
+    → ((q : Known) → contains known_cmp b.known q ≡ cond (is_eq (known_cmp (record { vat = v; promise = p }) q)) learnable (contains known_cmp a.known q))
     → NotesViews w (same_view p v) a b
 noted_view w p v a b opened learnable o k same opens knowns = record {
   messages = λ m. ap (λ s. contains message_cmp s m) same;

@@ -1,8 +1,8 @@
 -- Parts of the sets of an agenda: the vats that wait for a promise, and the promises of an event and a number.
-use Rattle.std.proofs.Common.{◌≡◌, ℕ, zero, suc, Bool, true, false, ◌&&◌, ◌||◌, cond, List, [], ◌∷◌, ◌++◌, Option, Some, None, IfSome, refl, sym, ap, ap₂, subst, ◌∙◌}
+use Rattle.std.proofs.Common.{◌≡◌, ℕ, ◌<◌, arith, Bool, true, false, ◌&&◌, ◌||◌, cond, List, [], ◌∷◌, ◌++◌, Option, Some, None, IfSome, refl, sym, ap, ap₂, subst, ◌∙◌}
 use Rattle.std.specs.List.{list_any, AllByRecursion, filter}
 use Rattle.std.specs.List.Sorted.{IsStrictlySortedBy}
-use Rattle.std.specs.Ordering.{is_eq, is_gt, is_le, nat_cmp, ordering_then, ordering_reverse}
+use Rattle.std.specs.Ordering.{is_eq, is_gt, is_le, nat_cmp, ordering_then, ordering_reverse, MatchOrdering}
 use Rattle.std.specs.Cmp.{IsTotalOrder}
 use Rattle.std.specs.declared.cmp.Ordering.{Ordering}
 use Rattle.std.specs.declared.cmp.Ordering.TheVariants.{Less, Equal, Greater}
@@ -11,8 +11,10 @@ use Rattle.std.specs.BTreeSet.{BTreeSet, contains, keys_between, IsOrdered, IsKe
 use Rattle.std.proofs.lemmas.Bool.{and_parts, true_from_ne_false, false_from_ne_true, false≢true}
 use Rattle.std.proofs.lemmas.Map.Lookups.{exact_unsigned}
 use Rattle.std.proofs.lemmas.Map.Views.{any-filter_same}
-use Rattle.std.proofs.lemmas.Cmp.{nat_cmp_total}
+use Rattle.std.proofs.lemmas.Cmp.{nat_cmp_total, ranked}
+use Rattle.std.proofs.lemmas.Map.Keys.{sorted_head, sorted_tail}
 use Rattle.std.specs.BTreeMap.Range.{range_contains}
+use Rattle.std.proofs.lemmas.List.{append-nil}
 use Rattle.std.proofs.lemmas.List.Kept.{IsStrictlySortedBy-filter}
 use Rattle.std.proofs.lemmas.List.Elements.{recursion_from_All, All-weaker, filter_passes}
 use Rattle.ids.proofs.Keys.{equal, equal_self}
@@ -32,8 +34,12 @@ use Rattle.agenda.proofs.Orders.{vat_total, promise_total, open_total, known_tot
 -- ---- numbers at most and at least another one
 
 not_above_zero : (n : ℕ) → is_gt (nat_cmp 0 n) ≡ false
-not_above_zero zero = refl
-not_above_zero (suc n) = refl
+not_above_zero n = by (nat_cmp 0 n) (ranked 0 n (nat_cmp 0 n) refl)
+  where
+    by : (o : Ordering) → MatchOrdering o (0 < n) (0 ≡ n) (n < 0) → is_gt o ≡ false
+    by Less h = refl
+    by Equal h = refl
+    by Greater h = absurd (omega arith)
 
 -- between a number and itself there is no other one
 squeezed : (m n : ℕ) (x y : Ordering) → is_gt (ordering_then (nat_cmp m n) x) ≡ false → is_gt (ordering_then (nat_cmp n m) y) ≡ false → (m ≡ n) × (is_gt x ≡ false) × (is_gt y ≡ false)
@@ -89,19 +95,18 @@ abbrev pub FromFirst : PromId → List Open → Type 0
 FromFirst p os = AllByRecursion (λ o. is_gt (open_cmp (first_open p) o) ≡ false) os
 
 vats_found : (p : PromId) (v : VatNo) (os : List Open) → IsStrictlySortedBy open_cmp os → FromFirst p os → is_among (vats_at p os) v ≡ list_any (λ o. is_eq (open_cmp (record { promise = p; vat = v }) o)) os
-unfolding IsStrictlySortedBy
 vats_found p v [] sorted from = refl
-vats_found p v (o ∷ os) sorted from = by (same_promise o.promise p) refl
+vats_found p v (o ∷ os) sorted from = by (vats_found p v os (sorted_tail open_cmp o os sorted) from.1) (same_promise o.promise p) refl
   where
     same : same_promise o.promise p ≡ is_eq (promise_cmp p o.promise)
     same = promises_agree o.promise p ∙ turned promise_total o.promise p
-    by : (b : Bool) → same_promise o.promise p ≡ b → is_among (cond b (o.vat ∷ vats_at p os) []) v ≡ (is_eq (open_cmp (record { promise = p; vat = v }) o) || list_any (λ x. is_eq (open_cmp (record { promise = p; vat = v }) x)) os)
-    by true e = ap₂ (λ a b. a || b)
+    by : is_among (vats_at p os) v ≡ list_any (λ x. is_eq (open_cmp (record { promise = p; vat = v }) x)) os → (b : Bool) → same_promise o.promise p ≡ b → is_among (cond b (o.vat ∷ vats_at p os) []) v ≡ (is_eq (open_cmp (record { promise = p; vat = v }) o) || list_any (λ x. is_eq (open_cmp (record { promise = p; vat = v }) x)) os)
+    by rest true e = ap₂ (λ a b. a || b)
         (turned vat_total o.vat v ∙ ap (λ b. b && is_eq (vat_cmp v o.vat)) (sym e ∙ same) ∙ sym (then_both (promise_cmp p o.promise) (vat_cmp v o.vat)))
-        (vats_found p v os sorted.1 from.1)
-    by false e =
+        rest
+    by rest false e =
         let after = later_promise p v o from.0 (sym same ∙ e) in
-        sym (none_there (record { promise = p; vat = v }) (o ∷ os) (after, each_after (record { promise = p; vat = v }) o after os sorted.0))
+        sym (none_there (record { promise = p; vat = v }) (o ∷ os) (after, each_after (record { promise = p; vat = v }) o after os (sorted_head open_cmp o os sorted)))
 
 at_most : (o : Ordering) → (is_le o && true) ≡ true → is_gt o ≡ false
 at_most Less h = refl
@@ -109,8 +114,12 @@ at_most Equal h = refl
 at_most Greater h = absurd (false≢true h)
 
 zero_first : (n : ℕ) → (is_le (nat_cmp 0 n) && true) ≡ true
-zero_first zero = refl
-zero_first (suc n) = refl
+zero_first n = by (nat_cmp 0 n) (not_above_zero n)
+  where
+    by : (o : Ordering) → is_gt o ≡ false → (is_le o && true) ≡ true
+    by Less h = refl
+    by Equal h = refl
+    by Greater h = absurd (false≢true (sym h))
 
 from_first : (p : PromId) (ks : List Open) → FromFirst p (filter (range_contains open_cmp (Included (first_open p)) Unbounded) ks)
 from_first p ks =
@@ -170,3 +179,7 @@ module _ (s : BTreeSet Known) (v : VatNo) (e : EventName) (i : ℕ) where
         let by_event = squeezed e.0 k.promise.event.0 _ _ by_vat.1 (sym (ap (λ x. is_gt (ordering_then (nat_cmp k.promise.event.0 x.0) (ordering_then (nat_cmp k.promise.index q.index) (vat_cmp k.promise.home q.home)))) ev) ∙ by_vat.2) in
         let by_index = squeezed i k.promise.index _ _ by_event.1 (sym (ap (λ x. is_gt (ordering_then (nat_cmp k.promise.index x) (vat_cmp k.promise.home q.home))) ix) ∙ by_event.2) in
         apart (sym by_vat.0) (sym by_event.0) (sym by_index.0))
+
+-- where nothing comes any more, what was found is all
+pub nothing_more : (found left all : List VatNo) → left ≡ [] → found ++ left ≡ all → found ≡ all
+nothing_more found left all none whole = sym (append-nil found) ∙ ap (λ xs. found ++ xs) (sym none) ∙ whole

@@ -2,6 +2,7 @@
 use Rattle.std.proofs.Common.{◌≡◌, ℕ, ◌<◌, List, [], ◌∷◌, ◌++◌, length, Contains, Option, Some, None, Ordering, Less, ◌⊎◌, inl, inr, ⊎_elim, refl, sym, ap, ap₂, subst, ◌∙◌, arith}
 use Rattle.std.specs.List.{AllByRecursion, filter_map, cons_option}
 use Rattle.std.specs.List.Sorted.{IsStrictlySortedBy}
+use Rattle.std.proofs.lemmas.Map.Keys.{sorted_head, sorted_tail}
 use Rattle.std.proofs.lemmas.List.Elements.{Contains-append_left, Contains-append_right, Contains-append_cases, Contains-push, Contains-push_cases, All-from_recursion, All-contains}
 use Rattle.std.specs.Ordering.{ordering_then}
 use Rattle.ids.specs.Cells.{promise_cmp, vat_cmp}
@@ -36,33 +37,33 @@ module _ {A B : Type 0} (f : A → Option B) where
   -- and nothing else is
   pub given_in : (b : B) (xs : List A) → Contains (filter_map f xs) b → (a : A) × Contains xs a × (f a ≡ Some b)
   given_in b [] h = absurd (in_none b h)
-  given_in b (x ∷ xs) h = by (f x) refl h
+  given_in b (x ∷ xs) h = by (λ g. given_in b xs g) (f x) refl h
     where
       behind : (a : A) × Contains xs a × (f a ≡ Some b) → (a : A) × Contains (x ∷ xs) a × (f a ≡ Some b)
       behind g = (g.0, in_tail x g.0 xs g.1, g.2)
-      by : (o : Option B) → f x ≡ o → Contains (cons_option o (filter_map f xs)) b → (a : A) × Contains (x ∷ xs) a × (f a ≡ Some b)
-      by None e g = behind (given_in b xs g)
-      by (Some y) e g = ⊎_elim (λ same. (x, in_head x xs, e ∙ ap (λ z. Some z) same)) (λ t. behind (given_in b xs t)) (in_cases y b (filter_map f xs) g)
+      by : (Contains (filter_map f xs) b → (a : A) × Contains xs a × (f a ≡ Some b)) → (o : Option B) → f x ≡ o → Contains (cons_option o (filter_map f xs)) b → (a : A) × Contains (x ∷ xs) a × (f a ≡ Some b)
+      by rest None e g = behind (rest g)
+      by rest (Some y) e g = ⊎_elim (λ same. (x, in_head x xs, e ∙ ap (λ z. Some z) same)) (λ t. behind (rest t)) (in_cases y b (filter_map f xs) g)
 
   -- what holds of each that f gives holds of all of them
   pub each_given : (P : B → Type 0) → ((a : A) (b : B) → f a ≡ Some b → P b) → (xs : List A) → AllByRecursion P (filter_map f xs)
   each_given P h [] = tt
-  each_given P h (x ∷ xs) = by (f x) refl
+  each_given P h (x ∷ xs) = by (each_given P h xs) (f x) refl
     where
-      by : (o : Option B) → f x ≡ o → AllByRecursion P (cons_option o (filter_map f xs))
-      by None e = each_given P h xs
-      by (Some y) e = (h x y e, each_given P h xs)
+      by : AllByRecursion P (filter_map f xs) → (o : Option B) → f x ≡ o → AllByRecursion P (cons_option o (filter_map f xs))
+      by rest None e = rest
+      by rest (Some y) e = (h x y e, rest)
 
 -- ---- what rises
 
 module _ {A : Type 0} (cmp : A → A → Ordering) (f : A → Option Step) (before : (a b : A) (s t : Step) → f a ≡ Some s → f b ≡ Some t → cmp a b ≡ Less → step_cmp s t ≡ Less) where
   later_given : (a : A) (s : Step) → f a ≡ Some s → (xs : List A) → AllByRecursion (λ b. cmp a b ≡ Less) xs → AllByRecursion (λ t. step_cmp s t ≡ Less) (filter_map f xs)
   later_given a s e [] h = tt
-  later_given a s e (x ∷ xs) h = by (f x) refl
+  later_given a s e (x ∷ xs) h = by (later_given a s e xs h.1) (f x) refl
     where
-      by : (o : Option Step) → f x ≡ o → AllByRecursion (λ t. step_cmp s t ≡ Less) (cons_option o (filter_map f xs))
-      by None g = later_given a s e xs h.1
-      by (Some t) g = (before a x s t e g h.0, later_given a s e xs h.1)
+      by : AllByRecursion (λ t. step_cmp s t ≡ Less) (filter_map f xs) → (o : Option Step) → f x ≡ o → AllByRecursion (λ t. step_cmp s t ≡ Less) (cons_option o (filter_map f xs))
+      by rest None g = rest
+      by rest (Some t) g = (before a x s t e g h.0, rest)
 
   -- what is given of a list in order rises
   pub given_rises : (xs : List A) → IsStrictlySortedBy cmp xs → Rises (filter_map f xs)
