@@ -1,5 +1,5 @@
 -- Parts of the sets of an agenda: the vats that wait for a promise, and the promises of an event and a number.
-use Rattle.std.proofs.Common.{◌≡◌, ℕ, ◌<◌, arith, Bool, true, false, ◌&&◌, ◌||◌, cond, List, [], ◌∷◌, ◌++◌, Option, Some, None, IfSome, refl, sym, ap, ap₂, subst, ◌∙◌}
+use Rattle.std.proofs.Common.{◌≡◌, ℕ, ◌<◌, nat_eq, arith, Bool, true, false, ◌&&◌, ◌||◌, cond, List, [], ◌∷◌, ◌++◌, Option, Some, None, IfSome, refl, sym, ap, ap₂, subst, ◌∙◌}
 use Rattle.std.specs.List.{list_any, AllByRecursion, filter}
 use Rattle.std.specs.List.Sorted.{IsStrictlySortedBy}
 use Rattle.std.specs.Ordering.{is_eq, is_gt, is_le, nat_cmp, ordering_then, ordering_reverse, MatchOrdering}
@@ -8,7 +8,7 @@ use Rattle.std.specs.declared.cmp.Ordering.{Ordering}
 use Rattle.std.specs.declared.cmp.Ordering.TheVariants.{Less, Equal, Greater}
 use Rattle.std.specs.declared.ops.Bound.TheVariants.{Included, Unbounded}
 use Rattle.std.specs.BTreeSet.{BTreeSet, contains, keys_between, IsOrdered, IsKeyRangeOf}
-use Rattle.std.proofs.lemmas.Bool.{and_parts, true_from_ne_false, false_from_ne_true, false≢true}
+use Rattle.std.proofs.lemmas.Bool.{and_parts, false_from_ne_true, false≢true, eqb-true, eq-eqb}
 use Rattle.std.proofs.lemmas.Map.Lookups.{exact_unsigned}
 use Rattle.std.proofs.lemmas.Map.Views.{any-filter_same}
 use Rattle.std.proofs.lemmas.Cmp.{nat_cmp_total, ranked}
@@ -19,7 +19,7 @@ use Rattle.std.proofs.lemmas.List.Kept.{IsStrictlySortedBy-filter}
 use Rattle.std.proofs.lemmas.List.Elements.{recursion_from_All, All-weaker, filter_passes}
 use Rattle.ids.proofs.Keys.{equal, equal_self}
 use Rattle.ids.proofs.CellKeys.{promises_agree}
-use Rattle.ids.specs.KeyLaws.{same_three}
+use Rattle.ids.specs.KeyLaws.{exact_vat}
 use Rattle.ids.specs.Cells.{promise_cmp, vat_cmp}
 use Rattle.ids.specs.declared.names.EventName.{EventName}
 use Rattle.ids.specs.declared.names.VatNo.{VatNo}
@@ -183,3 +183,13 @@ module _ (s : BTreeSet Known) (v : VatNo) (e : EventName) (i : ℕ) where
 -- where nothing comes any more, what was found is all
 pub nothing_more : (found left all : List VatNo) → left ≡ [] → found ++ left ≡ all → found ≡ all
 nothing_more found left all none whole = sym (append-nil found) ∙ ap (λ xs. found ++ xs) (sym none) ∙ whole
+
+-- what the test of the program finds
+pub is_that : (k : Known) (v : VatNo) (e : EventName) (i : ℕ) → (nat_eq k.vat.0.0 v.0.0 && (nat_eq k.promise.event.0 e.0 && nat_eq k.promise.index i)) ≡ true → (k.vat ≡ v) × (k.promise.event ≡ e) × (k.promise.index ≡ i)
+is_that k v e i h =
+    let parts = and_parts (nat_eq k.vat.0.0 v.0.0) (nat_eq k.promise.event.0 e.0 && nat_eq k.promise.index i) h in
+    let others = and_parts (nat_eq k.promise.event.0 e.0) (nat_eq k.promise.index i) parts.1 in
+    (exact_vat k.vat v parts.0, ap (λ (n : ℕ). let f : EventName = record { 0 = n } in f) (eqb-true k.promise.event.0 e.0 others.0), eqb-true k.promise.index i others.1)
+
+pub is_other : (k : Known) (v : VatNo) (e : EventName) (i : ℕ) → (nat_eq k.vat.0.0 v.0.0 && (nat_eq k.promise.event.0 e.0 && nat_eq k.promise.index i)) ≡ false → k.vat.0.0 ≡ v.0.0 → k.promise.event.0 ≡ e.0 → k.promise.index ≡ i → ⊥
+is_other k v e i h kv ev ix = false≢true (sym h ∙ ap₂ (λ a b. a && b) (eq-eqb k.vat.0.0 v.0.0 kv) (ap₂ (λ a b. a && b) (eq-eqb k.promise.event.0 e.0 ev) (eq-eqb k.promise.index i ix)))

@@ -1,17 +1,18 @@
 // What may be done next.
-ghost use Rattle.std.specs.Prelude.{◌≡◌, ◌++◌, ◌&&◌, cond, is_none, is_some, IfOk, OnOk};
+ghost use Rattle.std.specs.Prelude.{◌≡◌, ◌++◌, ◌&&◌, cond, nat_eq, Some, is_none, is_some, IfOk, OnOk};
 ghost use Rattle.std.specs.Option.{option_to_list};
 ghost use Rattle.std.specs.Ordering.{is_eq};
 ghost use Rattle.std.specs.BTreeSet.{contains, IsOrdered};
 ghost use Rattle.ids.specs.Cells.{message_cmp, promise_cmp, vat_cmp};
 ghost use Rattle.ids.specs.declared.names.VatNo.{VatNo};
 ghost use Rattle.ids.specs.declared.names.MsgId.{MsgId};
-ghost use Rattle.heap.specs.State.{view_cell};
+ghost use Rattle.heap.specs.State.{viewed, view_cell};
+ghost use Rattle.heap.specs.View.{state_of, view_of};
 ghost use Rattle.post.specs.MessageView.{message_of};
 ghost use Rattle.worldcells.specs.View.{world_of};
 ghost use Rattle.worldcells.specs.World.{World as Cells, message_of as message_in_world, vat_state};
 ghost use Rattle.event.specs.Ready.{unready_at};
-ghost use Rattle.agenda.specs.Agendas.{AlikeBut, KnownAs, is_waiting as is_waiting_of, open_view, can_learn as can_learn_of};
+ghost use Rattle.agenda.specs.Agendas.{AlikeBut, KnownAs, is_waiting as is_waiting_of, is_open as is_open_of, open_view, can_learn as can_learn_of};
 ghost use Rattle.agenda.specs.Enabled.{Enabled, First};
 ghost use Rattle.agenda.specs.AgendaView.{out_at};
 ghost use Rattle.agenda.specs.Found.{step_at as step_at_vat, message_step as message_step_of, learn_step};
@@ -19,7 +20,7 @@ ghost use Rattle.agenda.specs.Found.{step_at as step_at_vat, message_step as mes
 use desk::desk::Desk;
 use event::forwarding::onward;
 use event::ready::{Delay, check_ready};
-use heap::state::View;
+use heap::state::{VatState, View};
 use ids::cells::CellKey;
 use ids::names::{EventName, MsgId, PromId, VatNo};
 use post::message::{Message, Place};
@@ -214,8 +215,11 @@ impl Agenda {
             },
         };
         let known = self.known.range(first..).next()?;
-        (known.vat == vat && known.promise.event == event && known.promise.index == index)
-            .then_some(known.promise)
+        if is_of(known, vat, event, index) {
+            Some(known.promise)
+        } else {
+            None
+        }
     }
 
     /// The first that may be done: what a message can do, in order of their names, then what vats can learn, in order of birth and of
@@ -335,11 +339,28 @@ fn is_open(world: &World, vat: VatNo, promise: PromId) -> bool
     ensures { result ≡ open_view (world_of world.now) promise vat }
 {
     match world.home(vat) {
-        Some(state) => match state.views.get(&promise) {
-            Some(View::Open) => true,
-            Some(View::Resolved(_)) | None => false,
-        },
+        Some(state) => is_open_in(state, promise),
         None => false,
+    }
+}
+
+/// Whether a promise is open in the view of this state.
+fn is_open_in(state: &VatState, promise: PromId) -> bool
+    ensures { result ≡ is_open_of (state_of state.now (view_cell promise)) }
+{
+    match state.views.get(&promise) {
+        Some(view) => is_open_view(view),
+        None => false,
+    }
+}
+
+/// Whether nothing was learnt of a promise.
+fn is_open_view(view: &View) -> bool
+    ensures { result ≡ is_open_of (Some (viewed (view_of view.now))) }
+{
+    match view {
+        View::Open => true,
+        View::Resolved(_) => false,
     }
 }
 
@@ -348,6 +369,13 @@ fn can_learn(world: &World, vat: VatNo, promise: PromId) -> bool
     ensures { result ≡ can_learn_of (world_of world.now) vat promise }
 {
     is_open(world, vat, promise) && world.published(promise).is_some()
+}
+
+/// Whether a known promise is that of this vat, of this event and of this number.
+fn is_of(known: &Known, vat: VatNo, event: EventName, index: u32) -> bool
+    ensures { result ≡ (nat_eq known.now.vat.0.0 vat.0.0 && (nat_eq known.now.promise.event.0 event.0 && nat_eq known.now.promise.index index)) }
+{
+    known.vat == vat && known.promise.event == event && known.promise.index == index
 }
 
 /// Adds a step, if there is one.
