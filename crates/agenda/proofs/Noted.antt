@@ -10,7 +10,7 @@ use Rattle.std.specs.BTreeSet.{contains}
 use Rattle.std.proofs.lemmas.Bool.{and_parts, true_from_ne_false, false_from_ne_true}
 use Rattle.std.proofs.lemmas.Cmp.{back_total, eq_by_cmp_equiv}
 use Rattle.std.proofs.lemmas.Map.Views.{list_any-from_Contains}
-use Rattle.ids.proofs.Keys.{equal, exact_vats}
+use Rattle.ids.proofs.Keys.{equal, exact_vats, exact_promises}
 use Rattle.ids.specs.Cells.{message_cmp, promise_cmp, vat_cmp}
 use Rattle.ids.specs.declared.names.VatNo.{VatNo}
 use Rattle.ids.specs.declared.names.MsgId.{MsgId}
@@ -143,3 +143,16 @@ noted_all w a b d waiting opens known f g = record {
 
 pub open_seen : (w : World) (v : VatNo) (p : PromId) (s : State) → s ≡ vat_state w v → (x : Option heap.Content) → s (view_cell p) ≡ x → is_open x ≡ open_view w p v
 open_seen w v p s there x seen = ap is_open (sym seen ∙ ap (λ (t : State). t (view_cell p)) there)
+
+-- ---- what a loop has gone over
+
+pub seen_all : (seen vats : List VatNo) → map (λ v. v) seen ≡ vats → (v : VatNo) → is_among seen v ≡ is_among vats v
+seen_all seen vats whole v = sym (any_mapped (λ u. is_eq (vat_cmp u v)) (λ u. u) seen) ∙ ap (λ l. is_among l v) whole
+
+-- the vats in whose views a promise is open, for the promise itself
+pub open_at : (a : Agenda) (p : PromId) (seen : List VatNo) → ((v : VatNo) → is_among seen v ≡ has_open a p v) → (q : PromId) (v : VatNo) → (is_eq (promise_cmp p q) && is_among seen v) ≡ (is_eq (promise_cmp p q) && has_open a q v)
+open_at a p seen h q v = by (is_eq (promise_cmp p q)) refl
+  where
+    by : (b : Bool) → is_eq (promise_cmp p q) ≡ b → (b && is_among seen v) ≡ (b && has_open a q v)
+    by true e = h v ∙ ap (λ x. has_open a x v) (exact_promises p q (equal (promise_cmp p q) e))
+    by false e = refl

@@ -67,13 +67,12 @@ module _ {A : Type 0} (cmp : A → A → Ordering) (f : A → Option Step) (befo
 
   -- what is given of a list in order rises
   pub given_rises : (xs : List A) → IsStrictlySortedBy cmp xs → Rises (filter_map f xs)
-  unfolding IsStrictlySortedBy
   given_rises [] h = tt
-  given_rises (x ∷ xs) h = by (f x) refl
+  given_rises (x ∷ xs) h = by (given_rises xs (sorted_tail cmp x xs h)) (f x) refl
     where
-      by : (o : Option Step) → f x ≡ o → Rises (cons_option o (filter_map f xs))
-      by None e = given_rises xs h.1
-      by (Some s) e = (later_given x s e xs h.0, given_rises xs h.1)
+      by : Rises (filter_map f xs) → (o : Option Step) → f x ≡ o → Rises (cons_option o (filter_map f xs))
+      by rest None e = rest
+      by rest (Some s) e = (later_given x s e xs (sorted_head cmp x xs h), rest)
 
 each_of_both : {A : Type 0} (P : A → Type 0) (xs ys : List A) → AllByRecursion P xs → AllByRecursion P ys → AllByRecursion P (xs ++ ys)
 each_of_both P [] ys h g = g

@@ -1,4 +1,4 @@
-use Rattle.std.proofs.Common.{subst}
+use Rattle.std.proofs.Common.{sym, subst}
 use Rattle.std.specs.BTreeSet.{IsKeyRangeOf}
 use Rattle.std.specs.declared.ops.Bound.TheVariants.{Included, Unbounded}
 use Rattle.std.specs.Map.Iter.{deref}
@@ -16,11 +16,11 @@ pub returns-then-is_of : goal.returns-then-is_of
 returns-then-is_of c =
     let k = c.in_ok-known.known.now in
     let range = subst (IsKeyRangeOf known_cmp (Included (first_known c.args.vat c.args.event c.args.index)) Unbounded c.args.self.now.known) (rest_more deref _ _ _ _ c.in_ok-known.was c.next.ensures.steps) (c.range.ensures.in_range tt) in
-    let that = is_that k c.args.vat c.args.event c.args.index c.if-is_of.ensures in
+    let that = is_that k c.args.vat c.args.event c.args.index (sym c.if-is_of.ensures) in
     one_known c.args.self.now.known c.args.vat c.args.event c.args.index k c.next.new.self range that.0 that.1 that.2
 
 pub returns-else-is_of : goal.returns-else-is_of
 returns-else-is_of c =
     let k = c.in_ok-known.known.now in
     let range = subst (IsKeyRangeOf known_cmp (Included (first_known c.args.vat c.args.event c.args.index)) Unbounded c.args.self.now.known) (rest_more deref _ _ _ _ c.in_ok-known.was c.next.ensures.steps) (c.range.ensures.in_range tt) in
-    other_known c.args.self.now.known c.args.vat c.args.event c.args.index k c.next.new.self range (is_other k c.args.vat c.args.event c.args.index c.if-is_of.ensures)
+    other_known c.args.self.now.known c.args.vat c.args.event c.args.index k c.next.new.self range (is_other k c.args.vat c.args.event c.args.index (sym c.if-is_of.ensures))
