@@ -1,4 +1,4 @@
-use Rattle.std.proofs.Common.{◌&&◌, is_some, ap, ◌∙◌}
+use Rattle.std.proofs.Common.{◌&&◌, is_some, ap, arith, ◌∙◌}
 use Rattle.std.proofs.lemmas.Iterator.Adapters.{YieldsList-from_vec}
 use Rattle.std.proofs.lemmas.Iterator.Consumers.{YieldsList-end}
 use Rattle.heap.specs.State.{view_cell}
@@ -12,6 +12,6 @@ pub returns : goal.returns
 returns c =
     let gives = c.into_iter-vat-iterator.ensures.into_iter_gives in
     let vats = c.in_ok-vat-items.vat-items.items in
-    let whole = (YieldsList-end (YieldsList-from_vec vats gives.0 gives.1) c.loop-vat.yielded c.loop-vat.vat-iterator c.loop-vat.yielded_by c.next.result c.next.new.self c.in-None.is c.next.ensures.steps).0 in
+    let whole = (YieldsList-end (YieldsList-from_vec vats gives.0 (omega (arith, gives.1, c.in_ok-vat-items.vat-items.ok.0))) c.loop-vat.yielded c.loop-vat.vat-iterator c.loop-vat.yielded_by c.next.result c.next.new.self c.in-None.is c.next.ensures.steps).0 in
     told_views _ _ _ _ _ c.loop-vat.invariant
     (λ p v. ap (λ b. b && is_some (vat_state (world_of c.args.world.now) v (view_cell p))) (seen_all c.loop-vat.yielded vats whole v) ∙ all_vats (world_of c.args.world.now) vats c.in_ok-vat-items.ensures p v)
