@@ -6,7 +6,6 @@ pub mod Fits
 pub mod Outcomes
 pub mod Rules
 pub mod Derivations
-pub mod Acting
 pub mod View
 pub mod Answered
 pub mod Laws

@@ -4,7 +4,6 @@ pub mod Events
 pub mod ReadyView
 pub mod Learning
 pub mod Forwarding
-pub mod Deeds
 pub mod Laws
 pub mod Runs
 pub mod Effects
