@@ -11,7 +11,6 @@ use Rattle.erules.specs.At.{At}
 use Rattle.erules.specs.Answered.{OnEnd}
 use Rattle.erules.specs.Outcomes.{Halt, thrown, value, halt}
 use Rattle.erules.specs.Rules.{mismatch, listing_by, taken, parts_of, parts_bound, parts_end}
-use Rattle.erules.specs.View.{at, halt_of}
 use Rattle.erules.specs.declared.end.Stop.{Stop}
 use Rattle.erules.specs.declared.end.Stop.TheVariants as stop
 use Rattle.erules.specs.declared.working.Working.{Working}

@@ -29,24 +29,24 @@ comes_led gave = led_gives
 comes_led used = led_uses
 
 -- a call that is delivered is made behind what it brings in
-call_there : (c : Call) (f : Found) {v : Val} {verb : Name} {vs : Vals} {a x : At} {t : Target} → x ≡ behind (call_coming c f) a → v ≡ f.end → verb ≡ c.verb → vs ≡ c.arguments → t ≡ target_of v verb (values vs) x → t ≡ call_met c f a
-call_there c f e is m g h = h ∙ (λ i. target_of (is i) (m i) (values (g i)) (e i))
+call_there : (c : Call) (f : Found) (a : At) {v : Val} {verb : Name} {vs : Vals} {x : At} {t : Target} → x ≡ behind (call_coming c f) a → v ≡ f.end → verb ≡ c.verb → vs ≡ c.arguments → t ≡ target_of v verb (values vs) x → t ≡ call_met c f a
+call_there c f a e is m g h = h ∙ (λ i. target_of (is i) (m i) (values (g i)) (e i))
 
-place_there : (c : Call) (f : Found) {v : Val} {verb : Name} {vs : Vals} {a x y : At} → x ≡ behind (call_coming c f) a → v ≡ f.end → verb ≡ c.verb → vs ≡ c.arguments → y ≡ called v verb (values vs) x → y ≡ call_meeting c f a
-place_there c f e is m g h = h ∙ (λ i. called (is i) (m i) (values (g i)) (e i))
+place_there : (c : Call) (f : Found) (a : At) {v : Val} {verb : Name} {vs : Vals} {x y : At} → x ≡ behind (call_coming c f) a → v ≡ f.end → verb ≡ c.verb → vs ≡ c.arguments → y ≡ called v verb (values vs) x → y ≡ call_meeting c f a
+place_there c f a e is m g h = h ∙ (λ i. called (is i) (m i) (values (g i)) (e i))
 
 -- what is said of where such a call leads
 abbrev pub MadeOn : Val → Name → Vals → At → Target → At → Type 0
 MadeOn v verb vs x t y = (t ≡ target_of v verb (values vs) x) × (y ≡ called v verb (values vs) x)
 
 -- it enters no method
-pub call_came : (c : Call) (f : Found) {v : Val} {verb : Name} {vs : Vals} {a x b : At} {o : End} → x ≡ behind (call_coming c f) a → v ≡ f.end → verb ≡ c.verb → vs ≡ c.arguments → view.Led (MadeOn v verb vs x) o b → Led (call_met c f a) (call_meeting c f a) o b
-call_came c f e is m g h = led_from (sym (call_there c f e is m g h.2.0)) (sym (place_there c f e is m g h.2.1)) (comes_led h.3)
+pub call_came : (c : Call) (f : Found) (a : At) {v : Val} {verb : Name} {vs : Vals} {x b : At} {o : End} → x ≡ behind (call_coming c f) a → v ≡ f.end → verb ≡ c.verb → vs ≡ c.arguments → view.Led (MadeOn v verb vs x) o b → Led (call_met c f a) (call_meeting c f a) o b
+call_came c f a e is m g h = led_from (sym (call_there c f a e is m g h.2.0)) (sym (place_there c f a e is m g h.2.1)) (comes_led h.3)
 
 -- it enters a method
-pub call_entered : (c : Call) (f : Found) {v : Val} {verb : Name} {vs : Vals} {a x y b : At} {ns : Nouns} {body : Trees} {o : End} → x ≡ behind (call_coming c f) a → v ≡ f.end → verb ≡ c.verb → vs ≡ c.arguments → MadeOn v verb vs x (enters ns body) y
+pub call_entered : (c : Call) (f : Found) (a : At) {v : Val} {verb : Name} {vs : Vals} {x y b : At} {ns : Nouns} {body : Trees} {o : End} → x ≡ behind (call_coming c f) a → v ≡ f.end → verb ≡ c.verb → vs ≡ c.arguments → MadeOn v verb vs x (enters ns body) y
     → Items 1 null body (inside ns y) o b → Led (call_met c f a) (call_meeting c f a) o b
-call_entered c f e is m g h r = led_from (sym (call_there c f e is m g h.0)) (sym (place_there c f e is m g h.1)) (led_enters r)
+call_entered c f a e is m g h r = led_from (sym (call_there c f a e is m g h.0)) (sym (place_there c f a e is m g h.1)) (led_enters r)
 
 -- values, and then others
 abbrev vals_then : Vals → Vals → Vals
@@ -58,11 +58,11 @@ vals_push [] x = refl
 vals_push (y ∷ ys) x = ap (and_val (val_of y)) (vals_push ys x)
 
 -- one more value is shared
-vals_more : (xs ys : List Value) {x y : Value} → vals_of xs ≡ vals_of ys → val_of x ≡ val_of y → vals_of (xs ++ x ∷ []) ≡ vals_of (ys ++ y ∷ [])
-vals_more xs ys {x = x} {y = y} e f = vals_push xs x ∙ (λ i. vals_then (e i) (and_val (f i) no_vals)) ∙ sym (vals_push ys y)
+vals_more : (xs ys : List Value) (x y : Value) → vals_of xs ≡ vals_of ys → val_of x ≡ val_of y → vals_of (xs ++ x ∷ []) ≡ vals_of (ys ++ y ∷ [])
+vals_more xs ys x y e f = vals_push xs x ∙ (λ i. vals_then (e i) (and_val (f i) no_vals)) ∙ sym (vals_push ys y)
 
-pub shared_more : (xs ys new : List Value) {i : ℕ} {x y : Value} → i < length ys → y ≡ get_or ys i y → vals_of xs ≡ vals_of (take i ys) → val_of x ≡ val_of y → new ≡ xs ++ x ∷ [] → vals_of new ≡ vals_of (take (i + 1) ys)
-shared_more xs ys new {i = i} {x = x} {y = y} h here same is push = ap vals_of push ∙ vals_more xs (take i ys) same is ∙ ap (λ z. vals_of (take i ys ++ z ∷ [])) here ∙ ap vals_of (sym (take_more ys i y h))
+pub shared_more : (xs ys new : List Value) (x : Value) {i : ℕ} {y : Value} → i < length ys → y ≡ get_or ys i y → vals_of xs ≡ vals_of (take i ys) → val_of x ≡ val_of y → new ≡ xs ++ x ∷ [] → vals_of new ≡ vals_of (take (i + 1) ys)
+shared_more xs ys new x {i = i} {y = y} h here same is push = ap vals_of push ∙ vals_more xs (take i ys) x y same is ∙ ap (λ z. vals_of (take i ys ++ z ∷ [])) here ∙ ap vals_of (sym (take_more ys i y h))
 
 pub shared_all : (xs ys : List Value) {i : ℕ} → length ys ≤ i → vals_of xs ≡ vals_of (take i ys) → vals_of xs ≡ vals_of ys
 shared_all xs ys {i = i} h e = e ∙ ap vals_of (take_all i ys h)

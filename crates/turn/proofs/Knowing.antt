@@ -16,8 +16,8 @@ use Rattle.erules.specs.Rules.{bound_in}
 use Rattle.deliveries.specs.Turn.{knowing}
 
 -- one more vat is known
-pub known_more : (xs : List Earlier) {i : ℕ} {x : Earlier} {a b : At} → i < length xs → x ≡ get_or xs i x → b ≡ knowing (x ∷ []) a → knowing (drop (i + 1) xs) b ≡ knowing (drop i xs) a
-known_more xs {i = i} {x = x} {a = a} h e g =
+pub known_more : (xs : List Earlier) (a : At) {i : ℕ} {x : Earlier} {b : At} → i < length xs → x ≡ get_or xs i x → b ≡ knowing (x ∷ []) a → knowing (drop (i + 1) xs) b ≡ knowing (drop i xs) a
+known_more xs a {i = i} {x = x} h e g =
     ap (knowing (drop (i + 1) xs)) g ∙ rw add-one (sym (ap (λ ys. knowing ys a) (drop-cons xs i x h) ∙ ap (λ y. knowing (drop (suc i) xs) (knowing (y ∷ []) a)) (sym e)))
 
 -- no vat is left

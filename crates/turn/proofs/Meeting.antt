@@ -73,18 +73,18 @@ telling_began (value v) b = refl
 telling_began (halt h) b = refl
 
 -- what a turn found is what the state has in which it began
-pub found_there : {g : Message} {f : Found} {e : EventName} {v : VatNo} {s : State} {n : ℕ} {o : End} {b : At} (x : code-outcome.Outcome) → Begins g.delivery f e v s n o b → RunsTo x g.result o b → FoundCells x.footprint s
-found_there {o = o} {b = b} x r to = subst (FoundCells x.footprint) (telling_began o b ∙ (begun_later r).began) to.found
+found_there : (g : Message) {f : Found} {e : EventName} {v : VatNo} {s : State} {n : ℕ} {o : End} {b : At} (x : code-outcome.Outcome) → Begins g.delivery f e v s n o b → RunsTo x g.result o b → FoundCells x.footprint s
+found_there g {o = o} {b = b} x r to = subst (FoundCells x.footprint) (telling_began o b ∙ (begun_later r).began) to.found
 
 -- what is known of a delivery that ended at this place
-pub meets : {g : Message} {f : Found} {e : EventName} {v : VatNo} {s : State} {n : ℕ} {o : End} {b : At} (x : code-outcome.Outcome) → Begins g.delivery f e v s n o b → RunsTo x g.result o b → Meets g f e v n x
+meets : {g : Message} {f : Found} {e : EventName} {v : VatNo} {s : State} {n : ℕ} {o : End} {b : At} (x : code-outcome.Outcome) → Begins g.delivery f e v s n o b → RunsTo x g.result o b → Meets g f e v n x
 meets {g = g} {f = f} {e = e} {v = v} {s = s} {n = n} {o = o} {b = b} x r to u h =
     let p = g.result in
     let t = telling o b in
     let place = telling_at o b in
     let z = finish p o b in
     let d : Delivers g f e v s n (outcome s p o b) = delivers r in
-    let agree : AgreeOn (delivery_touched d) u s = subst (λ q. AgreeOn q u s) to.touched (found_agree x.footprint s u (found_there {g = g} x r to) h) in
+    let agree : AgreeOn (delivery_touched d) u s = subst (λ q. AgreeOn q u s) to.touched (found_agree x.footprint s u (found_there g x r to) h) in
     let within : (c : Cell) → written_by x c ≡ true → u c ≡ s c = λ c k. agree c (delivery_within d c (subst (λ (q : Cells). q c ≡ true) to.written k)) in
     let framed = delivery_framed d u agree in
     let state : with_cells (delivery_written d) (outcome s p o b).state u ≡ kept (told_of x.ended) u (left_by x.footprint u) =
@@ -97,9 +97,9 @@ meets {g = g} {f = f} {e = e} {v = v} {s = s} {n = n} {o = o} {b = b} x r to u h
     ∣ (framed.0, framed.1 ∙ sym to.touched, framed.2 ∙ sym to.written) ∣₁
 
 -- what the program's turn of a message comes to, from where it began
-pub came_to : (m : code-message.Message) {y : Sent} {f : Found} {e : EventName} {v : VatNo} {s : State} {n : ℕ} {a : At} {o : End} {b : At} (x : code-outcome.Outcome) → y ≡ arc_value m.sent → a ≡ start (is_opening (delivery_of y.delivery)) e v s n
+pub came_to : (m : code-message.Message) {y : Sent} {f : Found} {e : EventName} {v : VatNo} {s : State} {n : ℕ} {a : At} (o : End) (b : At) (x : code-outcome.Outcome) → y ≡ arc_value m.sent → a ≡ start (is_opening (delivery_of y.delivery)) e v s n
     → Does (delivery_of y.delivery) f a o b → RunsTo x y.result o b → FoundCells x.footprint s × Meets (message_of m) f e v n x
-came_to m {f = f} {e = e} {v = v} {s = s} {n = n} {a = a} {o = o} {b = b} x is began does to =
+came_to m {f = f} {e = e} {v = v} {s = s} {n = n} {a = a} o b x is began does to =
     let r = begins_at (delivery_of (arc_value m.sent).delivery) (began ∙ ap (λ (y : Sent). start (is_opening (delivery_of y.delivery)) e v s n) is) (subst (λ (y : Sent). Does (delivery_of y.delivery) f a o b) is does) in
     let told : RunsTo x (message_of m).result o b = subst (λ (y : Sent). RunsTo x y.result o b) is to in
-    (found_there {g = message_of m} x r told, meets {g = message_of m} x r told)
+    (found_there (message_of m) x r told, meets {g = message_of m} x r told)

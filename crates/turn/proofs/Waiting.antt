@@ -21,8 +21,8 @@ use Rattle.deliveries.proofs.Coming.{led_from}
 
 -- a block fits the names that were captured
 pub captured_fits : (cs : List Noun) (a b : At) {ds es : List Code} → b ≡ inside (nouns_of cs) a → ds ≡ es → fits_all false (names_of cs) es → all_fit_at b ds
-captured_fits cs a b {ds = ds} place same h =
-    subst (λ b. all_fit_at b ds) (sym place) (subst (fits_all false (frame_of (nouns_of cs))) (sym same) (subst (λ f. fits_all false f _) (sym (frame_of_nouns cs)) h))
+captured_fits cs a b {ds = ds} {es = es} place same h =
+    subst (λ b. all_fit_at b ds) (sym place) (subst (fits_all false (frame_of (nouns_of cs))) (sym same) (subst (λ f. fits_all false f es) (sym (frame_of_nouns cs)) h))
 
 -- a pattern takes a problem where the captured names are, as it takes it before they are there
 taken_inside : (p : Pattern) (problem : Name) (ns : Nouns) (a : At) → matched p (text problem) (inside ns a) ≡ inside (named p (text problem) ns) a

@@ -15,4 +15,4 @@ returns-in-List c =
     let end = c.args.lead.now.end in
     let fences = c.args.lead.now.fences.value in
     let is = ap (λ (v : Value). behind (coming_in fences (references (val_of v))) a) c.in-List.is ∙ ap (λ (v : Value). behind (list_coming fences (val_of v)) a) (sym c.in-List.is) in
-    on_ok_weaker c.receive.result (λ came. did_leave (coming_in c.deref-in-List.result.now (references (val_of end))) a c.args.w.now.draft c.receive.new.draft nothing came c.receive.ensures.turn ∙ ap (λ f. behind (coming_in f (references (val_of end))) a) c.deref-in-List.ensures ∙ is) c.receive.ensures.did
+    on_ok_weaker c.receive.result (λ came. did_leave (coming_in c.deref.result.now (references (val_of end))) a c.args.w.now.draft c.receive.new.draft nothing came c.receive.ensures.turn ∙ ap (λ f. behind (coming_in f (references (val_of end))) a) c.deref.ensures ∙ is) c.receive.ensures.did

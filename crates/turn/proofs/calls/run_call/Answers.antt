@@ -18,14 +18,14 @@ returns-in-Some c =
     let f = found_of c.args.lead.now in
     let arguments = ap vals_of c.deref_mut.ensures.value ∙ c.in_ok-arguments.ensures ∙ ap vals_of (slice_of c.deref-2.ensures.value c.deref.ensures) in
     let made = on_method _ c.call_target.new.into (MadeOn _ _ _ (at c.bring_in.new.w)) _ c.in-Some.is c.in_ok-entry.ensures in
-    ends_weaker c.run_entry.result c.run_entry.new.into c.run_entry.new.w _ (Led (call_met call f (at c.args.w.now)) (call_meeting call f (at c.args.w.now))) c.run_entry.ensures (λ o b r. call_entered call f c.in_ok-bring_in.ensures c.in_ok-target.ensures refl arguments made r)
+    ends_weaker c.run_entry.result c.run_entry.new.into c.run_entry.new.w _ (Led (call_met call f (at c.args.w.now)) (call_meeting call f (at c.args.w.now))) c.run_entry.ensures (λ o b r. call_entered call f (at c.args.w.now) c.in_ok-bring_in.ensures c.in_ok-target.ensures refl arguments made r)
 
-pub returns-in-None : goal.returns-in-None
-returns-in-None c =
+pub returns : goal.returns
+returns c =
     let call = call_of c.args.call.now in
     let f = found_of c.args.lead.now in
     let arguments = ap vals_of c.deref_mut.ensures.value ∙ c.in_ok-arguments.ensures ∙ ap vals_of (slice_of c.deref-2.ensures.value c.deref.ensures) in
-    call_came call f c.in_ok-bring_in.ensures c.in_ok-target.ensures refl arguments (on_none _ c.call_target.new.into (MadeOn _ _ _ (at c.bring_in.new.w)) _ c.in-None.is c.in_ok-entry.ensures)
+    call_came call f (at c.args.w.now) c.in_ok-bring_in.ensures c.in_ok-target.ensures refl arguments (on_none _ c.call_target.new.into (MadeOn _ _ _ (at c.bring_in.new.w)) _ c.in-None.is c.in_ok-entry.ensures)
 
 pub returns-in_err-entry : goal.returns-in_err-entry
 returns-in_err-entry c =
@@ -34,4 +34,4 @@ returns-in_err-entry c =
     let arguments = ap vals_of c.deref_mut.ensures.value ∙ c.in_ok-arguments.ensures ∙ ap vals_of (slice_of c.deref-2.ensures.value c.deref.ensures) in
     handed_on c.from_residual-in_err-entry.result c.in_err-entry.field-0.0 c.call_target.new.w (λ u b. Led (call_met call f (at c.args.w.now)) (call_meeting call f (at c.args.w.now)) (value (val_of c.call_target.new.into)) b)
     (λ h b. CallLed (MadeOn _ _ _ (at c.bring_in.new.w)) (halt h) b) (λ h b. Led (call_met call f (at c.args.w.now)) (call_meeting call f (at c.args.w.now)) (halt h) b)
-    c.from_residual-in_err-entry.ensures.1 c.in_err-entry.ensures (λ h b r. call_came call f c.in_ok-bring_in.ensures c.in_ok-target.ensures refl arguments r)
+    c.from_residual-in_err-entry.ensures.1 c.in_err-entry.ensures (λ h b r. call_came call f (at c.args.w.now) c.in_ok-bring_in.ensures c.in_ok-target.ensures refl arguments r)

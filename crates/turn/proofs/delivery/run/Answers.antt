@@ -18,14 +18,14 @@ pub run_opening-requires : goal.run_opening-requires
 run_opening-requires c = record {
   own = c.requires.own ∙ ap (λ (d : Delivery). is_opening (delivery_of d)) c.in-Opening.is;
   bare = c.requires.bare;
-  fits = subst (fits_all true []) (sym (slice_of c.deref-in-Opening-4.ensures.value c.deref-in-Opening-3.ensures)) c.in-Opening.script.fits;
+  fits = subst (fits_all true []) (sym (slice_of c.deref-in-Opening-3.ensures.value c.deref-in-Opening-2.ensures)) c.in-Opening.script.fits;
 }
 
 pub returns-in-Opening : goal.returns-in-Opening
 returns-in-Opening c =
     let a = at c.args.w.now in
-    let known = slice_of c.deref-in-Opening-2.ensures.value c.deref-in-Opening.ensures in
-    let items = slice_of c.deref-in-Opening-4.ensures.value c.deref-in-Opening-3.ensures in
+    let known = slice_of c.deref-in-Opening.ensures.value c.deref.ensures in
+    let items = slice_of c.deref-in-Opening-3.ensures.value c.deref-in-Opening-2.ensures in
     subst (λ (d : Delivery). OnEnd c.run_opening.result c.run_opening.new.into c.run_opening.new.w (Does (delivery_of d) (found_of c.args.lead.now) a)) (sym c.in-Opening.is)
     (subst (λ (f : Type 0). f) (λ i. OnEnd c.run_opening.result c.run_opening.new.into c.run_opening.new.w (Items 1 null (trees_of_codes (items i)) (knowing (known i) a))) c.run_opening.ensures)
 

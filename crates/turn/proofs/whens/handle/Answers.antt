@@ -23,7 +23,7 @@ eval_items-requires c =
     let taken = c.in_ok-match_pattern-in-Some.ensures ∙ ap (λ t. matched h.pattern (text t) (at c.enter_when.new.w)) c.in_ok-share-in-Some.ensures in
     record {
       level = search rules;
-      fits = handled_fits h.pattern c.args.problem.now cs (at c.args.w.now) (at c.match_pattern.new.w) (handler_there h.pattern c.args.problem.now cs (at c.args.w.now) c.in_ok-enter_when-in-Some.ensures taken) (slice_of c.deref-in-Some-2.ensures.value c.deref-in-Some.ensures) (subst (handler_fits (names_of cs)) c.in-Some.is when.handled);
+      fits = handled_fits h.pattern c.args.problem.now cs (at c.args.w.now) (at c.match_pattern.new.w) (handler_there h.pattern c.args.problem.now cs (at c.args.w.now) c.in_ok-enter_when-in-Some.ensures taken) (slice_of c.deref-in-Some.ensures.value c.deref.ensures) (subst (handler_fits (names_of cs)) c.in-Some.is when.handled);
     }
 
 pub returns-in_ok-match_pattern-in-Some : goal.returns-in_ok-match_pattern-in-Some
@@ -35,7 +35,7 @@ returns-in_ok-match_pattern-in-Some c =
     let problem = c.args.problem.now in
     let taken = c.in_ok-match_pattern-in-Some.ensures ∙ ap (λ t. matched h.pattern (text t) (at c.enter_when.new.w)) c.in_ok-share-in-Some.ensures in
     let place = handler_there h.pattern problem cs a c.in_ok-enter_when-in-Some.ensures taken in
-    let items = slice_of c.deref-in-Some-2.ensures.value c.deref-in-Some.ensures in
+    let items = slice_of c.deref-in-Some.ensures.value c.deref.ensures in
     ends_weaker c.eval_items.result c.eval_items.new.into c.eval_items.new.w (Items 1 null _ (at c.match_pattern.new.w)) (Led (handled problem (nouns_of cs) (option_map handler_of when.handler)) a) c.eval_items.ensures
     (λ o b r. entered_there (ap (λ m. handled problem (nouns_of cs) (option_map handler_of m)) c.in-Some.is) (ap trees_of_codes items) place r)
 

@@ -21,7 +21,7 @@ eval_items-requires c =
     let when = c.args.when.now in
     record {
       level = search rules;
-      fits = captured_fits when.captured.value.items (at c.args.w.now) (at c.enter_when.new.w) c.in_ok-enter_when-in-Null.ensures (slice_of c.deref-in-Null-2.ensures.value c.deref-in-Null.ensures) when.fits;
+      fits = captured_fits when.captured.value.items (at c.args.w.now) (at c.enter_when.new.w) c.in_ok-enter_when-in-Null.ensures (slice_of c.deref-in-Null.ensures.value c.deref.ensures) when.fits;
     }
 
 pub returns-in_ok-enter_when-in-Null : goal.returns-in_ok-enter_when-in-Null
@@ -30,5 +30,5 @@ returns-in_ok-enter_when-in-Null c =
     let a = at c.args.w.now in
     let v = val_of c.args.value.now in
     let is : when_met when v ≡ enters when.captured when.block = search rules in
-    let items = slice_of c.deref-in-Null-2.ensures.value c.deref-in-Null.ensures in
+    let items = slice_of c.deref-in-Null.ensures.value c.deref.ensures in
     ends_weaker c.eval_items.result c.eval_items.new.into c.eval_items.new.w (Items 1 null _ (at c.enter_when.new.w)) (Led (when_met when v) a) c.eval_items.ensures (λ o b r. entered_there is (ap trees_of_codes items) c.in_ok-enter_when-in-Null.ensures r)
