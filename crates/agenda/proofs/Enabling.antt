@@ -1,16 +1,14 @@
 -- What an agenda finds to do is all that may be done, in order.
-use Rattle.std.proofs.Common.{◌≡◌, Bool, true, false, List, [], ◌∷◌, ◌++◌, Contains, Option, Some, None, Ordering, Less, ◌⊎◌, ◌↔◌, inl, inr, ⊎_elim, Result, Ok, Err, IfOk, cond, is_some, refl, sym, ap, ap₂, subst, ◌∙◌}
-use Rattle.std.specs.List.{AllByRecursion, filter_map}
+use Rattle.std.proofs.Common.{◌≡◌, List, [], ◌∷◌, ◌++◌, Contains, Some, None, Less, inl, inr, ⊎_elim, cond, refl, sym, ap, ap₂, subst, ◌∙◌}
+use Rattle.std.specs.List.{AllByRecursion}
 use Rattle.std.specs.BTreeSet.{IsOrdered}
 use Rattle.std.specs.Ordering.{ordering_then}
 use Rattle.std.proofs.lemmas.List.Elements.{Contains-append_left, Contains-append_right, Contains-append_cases}
 use Rattle.std.proofs.lemmas.Map.Views.{btree_set_contains_iff}
-use Rattle.std.proofs.lemmas.Option.{none-some, same_Some}
+use Rattle.std.proofs.lemmas.Option.{none-some}
 use Rattle.ids.proofs.Keys.{exact_messages}
 use Rattle.ids.specs.Cells.{message_cmp, promise_cmp, vat_cmp}
-use Rattle.ids.specs.declared.names.VatNo.{VatNo}
 use Rattle.ids.specs.declared.names.MsgId.{MsgId}
-use Rattle.ids.specs.declared.names.PromId.{PromId}
 use Rattle.worldcells.specs.World.{World}
 use Rattle.agenda.specs.AgendaView.{known_cmp, NotedIn}
 use Rattle.agenda.specs.Enabled.{Out, MayDo, may_arrive, may_forward, may_turn, may_learn, message_in, learn_in, step_cmp_by, step_cmp, Rises, Enabled, First}

@@ -1,13 +1,11 @@
 -- What was gone over is all that there is: messages, vats, and the views of a vat.
-use Rattle.std.proofs.Common.{◌≡◌, Bool, true, false, ◌&&◌, ◌||◌, cond, List, [], ◌∷◌, map, Option, Some, None, is_some, Contains, Bor, refl, sym, ap, ap₂, subst, ◌∙◌}
+use Rattle.std.proofs.Common.{◌≡◌, Bool, true, false, ◌&&◌, ◌||◌, cond, List, [], ◌∷◌, map, Option, Some, None, is_some, Contains, Bor, refl, sym, ap, ap₂, ◌∙◌}
 use Rattle.std.specs.List.{list_any}
 use Rattle.std.specs.Map.{lookup}
 use Rattle.std.specs.Map.Iter.{deref_pair}
 use Rattle.std.specs.Option.{option_map}
 use Rattle.std.specs.Ordering.{is_eq}
 use Rattle.std.specs.BTreeMap.{BTreeMap, get}
-use Rattle.std.specs.BTreeSet.{contains}
-use Rattle.std.proofs.lemmas.Bool.{and_parts, true_from_ne_false, false_from_ne_true}
 use Rattle.std.proofs.lemmas.Cmp.{back_total, eq_by_cmp_equiv}
 use Rattle.std.proofs.lemmas.Map.Views.{list_any-from_Contains}
 use Rattle.ids.proofs.Keys.{equal, exact_vats, exact_promises}
@@ -23,10 +21,10 @@ use Rattle.heap.specs.declared.state.View.{View}
 use Rattle.post.specs.Messages as post
 use Rattle.post.specs.MessageView.{message_of as message_of_code}
 use Rattle.post.specs.declared.message.Message.{Message}
-use Rattle.worldcells.specs.World.{World, Content, message, message_in, message_of, published_as, vat_state}
+use Rattle.worldcells.specs.World.{World, message, message_in, message_of, published_as, vat_state}
 use Rattle.worldcells.specs.Listed.{messages_in}
 use Rattle.agenda.specs.Agendas.{is_waiting, is_open, open_view, can_learn}
-use Rattle.agenda.specs.AgendaView.{open_cmp, known_cmp, has_message, has_open, has_known, is_among, NotedIn, NotesMessages, NotesViews}
+use Rattle.agenda.specs.AgendaView.{open_cmp, known_cmp, has_open, is_among, NotedIn, NotesMessages, NotesViews}
 use Rattle.agenda.specs.declared.agenda.Open.{Open}
 use Rattle.agenda.specs.declared.agenda.Known.{Known}
 use Rattle.agenda.specs.declared.agenda.Agenda.{Agenda}

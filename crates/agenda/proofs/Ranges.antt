@@ -1,9 +1,8 @@
 -- Parts of the sets of an agenda: the vats that wait for a promise, and the promises of an event and a number.
-use Rattle.std.proofs.Common.{◌≡◌, ℕ, ◌<◌, nat_eq, arith, Bool, true, false, ◌&&◌, ◌||◌, cond, List, [], ◌∷◌, ◌++◌, Option, Some, None, IfSome, refl, sym, ap, ap₂, subst, ◌∙◌}
+use Rattle.std.proofs.Common.{◌≡◌, ℕ, ◌<◌, nat_eq, arith, Bool, true, false, ◌&&◌, ◌||◌, cond, List, [], ◌∷◌, ◌++◌, Some, None, refl, sym, ap, ap₂, ◌∙◌}
 use Rattle.std.specs.List.{list_any, AllByRecursion, filter}
 use Rattle.std.specs.List.Sorted.{IsStrictlySortedBy}
 use Rattle.std.specs.Ordering.{is_eq, is_gt, is_le, nat_cmp, ordering_then, ordering_reverse, MatchOrdering}
-use Rattle.std.specs.Cmp.{IsTotalOrder}
 use Rattle.std.specs.declared.cmp.Ordering.{Ordering}
 use Rattle.std.specs.declared.cmp.Ordering.TheVariants.{Less, Equal, Greater}
 use Rattle.std.specs.declared.ops.Bound.TheVariants.{Included, Unbounded}
@@ -29,7 +28,7 @@ use Rattle.agenda.specs.Agendas.{KnownAs}
 use Rattle.agenda.specs.AgendaView.{open_cmp, known_cmp, is_among}
 use Rattle.agenda.specs.declared.agenda.Open.{Open}
 use Rattle.agenda.specs.declared.agenda.Known.{Known}
-use Rattle.agenda.proofs.Orders.{vat_total, promise_total, open_total, known_total, then_both, turned}
+use Rattle.agenda.proofs.Orders.{vat_total, promise_total, open_total, then_both, turned}
 
 -- ---- numbers at most and at least another one
 
@@ -100,6 +99,7 @@ vats_found p v (o ∷ os) sorted from = by (vats_found p v os (sorted_tail open_
   where
     same : same_promise o.promise p ≡ is_eq (promise_cmp p o.promise)
     same = promises_agree o.promise p ∙ turned promise_total o.promise p
+
     by : is_among (vats_at p os) v ≡ list_any (λ x. is_eq (open_cmp (record { promise = p; vat = v }) x)) os → (b : Bool) → same_promise o.promise p ≡ b → is_among (cond b (o.vat ∷ vats_at p os) []) v ≡ (is_eq (open_cmp (record { promise = p; vat = v }) o) || list_any (λ x. is_eq (open_cmp (record { promise = p; vat = v }) x)) os)
     by rest true e = ap₂ (λ a b. a || b)
         (turned vat_total o.vat v ∙ ap (λ b. b && is_eq (vat_cmp v o.vat)) (sym e ∙ same) ∙ sym (then_both (promise_cmp p o.promise) (vat_cmp v o.vat)))

@@ -1,8 +1,8 @@
 -- An agenda of an earlier world, while the cells are gone over that were written since.
-use Rattle.std.proofs.Common.{◌≡◌, ℕ, suc, ◌+◌, ◌<◌, Bool, true, false, ◌&&◌, ◌||◌, cond, List, [], ◌∷◌, length, drop, get_or, is_some, Result, Ok, Err, OnOk, refl, sym, ap, ap₂, subst, ◌∙◌, add-one, drop-cons}
+use Rattle.std.proofs.Common.{◌≡◌, ℕ, suc, ◌+◌, ◌<◌, Bool, true, false, ◌&&◌, cond, List, [], ◌∷◌, length, drop, get_or, is_some, refl, sym, ap, ap₂, subst, ◌∙◌, add-one, drop-cons}
 use Rattle.std.specs.List.{list_any}
 use Rattle.std.specs.Ordering.{is_eq}
-use Rattle.std.proofs.lemmas.Bool.{and_parts, and_left, or_parts, or_from, false≢true, false_from_ne_true}
+use Rattle.std.proofs.lemmas.Bool.{and_parts, and_left, or_from, false≢true, false_from_ne_true}
 use Rattle.ids.specs.Cells.{message_cmp, promise_cmp, vat_cmp}
 use Rattle.ids.specs.CellKeys.{same_key}
 use Rattle.ids.specs.declared.names.VatNo.{VatNo}
@@ -12,7 +12,7 @@ use Rattle.ids.specs.declared.cells.CellKey.{CellKey}
 use Rattle.ids.specs.declared.cells.CellKey.TheVariants as key
 use Rattle.worldcells.specs.World.{World, message_in, message_of, published_in, published_as, cell_content}
 use Rattle.agenda.specs.Agendas.{AlikeBut, is_waiting, is_open, open_view, can_learn}
-use Rattle.agenda.specs.AgendaView.{has_message, has_open, has_known, same_view, NotedIn, NotesMessages, NotesViews, NotesCell}
+use Rattle.agenda.specs.AgendaView.{has_message, has_open, has_known, same_view, NotedIn, NotesViews, NotesCell}
 use Rattle.agenda.specs.declared.agenda.Agenda.{Agenda}
 use Rattle.agenda.proofs.Orders.{turned, and_turned, vat_total, message_total, promise_total}
 

@@ -1,5 +1,5 @@
 -- Lists of steps that rise, and what is in them.
-use Rattle.std.proofs.Common.{◌≡◌, ℕ, ◌<◌, List, [], ◌∷◌, ◌++◌, length, Contains, Option, Some, None, Ordering, Less, ◌⊎◌, inl, inr, ⊎_elim, refl, sym, ap, ap₂, subst, ◌∙◌, arith}
+use Rattle.std.proofs.Common.{◌≡◌, List, [], ◌∷◌, ◌++◌, Contains, Option, Some, None, Ordering, Less, ◌⊎◌, inl, inr, ⊎_elim, refl, sym, ap, ap₂, subst, ◌∙◌, arith}
 use Rattle.std.specs.List.{AllByRecursion, filter_map, cons_option}
 use Rattle.std.specs.List.Sorted.{IsStrictlySortedBy}
 use Rattle.std.proofs.lemmas.Map.Keys.{sorted_head, sorted_tail}
@@ -41,6 +41,7 @@ module _ {A B : Type 0} (f : A → Option B) where
     where
       behind : (a : A) × Contains xs a × (f a ≡ Some b) → (a : A) × Contains (x ∷ xs) a × (f a ≡ Some b)
       behind g = (g.0, in_tail x g.0 xs g.1, g.2)
+
       by : (Contains (filter_map f xs) b → (a : A) × Contains xs a × (f a ≡ Some b)) → (o : Option B) → f x ≡ o → Contains (cons_option o (filter_map f xs)) b → (a : A) × Contains (x ∷ xs) a × (f a ≡ Some b)
       by rest None e g = behind (rest g)
       by rest (Some y) e g = ⊎_elim (λ same. (x, in_head x xs, e ∙ ap (λ z. Some z) same)) (λ t. behind (rest t)) (in_cases y b (filter_map f xs) g)

@@ -1,5 +1,5 @@
 -- What the program finds a message, or a vat, to do is what may be done.
-use Rattle.std.proofs.Common.{◌≡◌, Bool, true, false, ◌&&◌, not, cond, List, Option, Some, None, is_some, is_none, refl, sym, ap, ap₂, subst, ◌∙◌}
+use Rattle.std.proofs.Common.{◌≡◌, Bool, true, false, not, cond, List, Option, Some, None, is_some, is_none, refl, sym, ap, subst, ◌∙◌}
 use Rattle.std.specs.Option.{option_map}
 use Rattle.std.proofs.lemmas.Bool.{and_parts, and_from, false≢true}
 use Rattle.std.proofs.lemmas.Option.{none-some, same_Some}
@@ -8,7 +8,7 @@ use Rattle.ids.specs.declared.names.MsgId.{MsgId}
 use Rattle.ids.specs.declared.names.PromId.{PromId}
 use Rattle.heap.specs.State as heap
 use Rattle.heap.specs.State.{pending, view_cell}
-use Rattle.values.specs.Data.{Val, null, object, ejector, promise}
+use Rattle.values.specs.Data.{Val, object, ejector, promise}
 use Rattle.post.specs.Delivery.{Delivery, opening, asked, sent, waiting}
 use Rattle.post.specs.Messages.{Place, flying, at_vat, done, Message, is_done, flies_to, waits_at}
 use Rattle.worldcells.specs.World.{World, message_of, published_as, vat_state}
@@ -20,7 +20,7 @@ use Rattle.event.specs.declared.ready.Unready.{Unready}
 use Rattle.event.specs.declared.ready.Unready.TheVariants as why
 use Rattle.agenda.specs.Agendas.{is_waiting, is_open, open_view, can_learn}
 use Rattle.agenda.specs.Enabled.{Out, MayDo, may_arrive, may_forward, may_turn, may_learn, message_in}
-use Rattle.agenda.specs.Found.{step_at, step_in, step_of, message_step, learn_step}
+use Rattle.agenda.specs.Found.{step_in, step_of, message_step, learn_step}
 use Rattle.agenda.specs.declared.agenda.Known.{Known}
 use Rattle.agenda.specs.declared.agenda.Step.{Step}
 use Rattle.agenda.specs.declared.agenda.Step.TheVariants as step
@@ -143,6 +143,7 @@ module _ (w : World) (out : Out) where
       at g (flying v) e = refl
       at g (at_vat v) e = refl
       at g (done f) e = absurd (none-some s e)
+
       by : (o : Option Message) → step_of w out m o ≡ Some s → is_waiting o ≡ true
       by None e = absurd (none-some s e)
       by (Some g) e = at g g.place e

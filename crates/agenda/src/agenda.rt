@@ -97,12 +97,7 @@ impl Agenda {
     }
 
     /// Notes what a cell holds.
-    fn note_cell(
-        &mut self,
-        alloc: Global,
-        world: &World,
-        key: &CellKey,
-    ) -> Result<(), AllocError>
+    fn note_cell(&mut self, alloc: Global, world: &World, key: &CellKey) -> Result<(), AllocError>
         ensures { OnOk result (NotesCell (world_of world.now) key.now self.old self.new) }
     {
         match key {
@@ -432,12 +427,7 @@ fn step_at(
 }
 
 /// Whether a message at a vat may be delivered.
-fn is_ready(
-    alloc: Global,
-    world: &World,
-    message: &Message,
-    vat: VatNo,
-) -> Result<bool, AllocError>
+fn is_ready(alloc: Global, world: &World, message: &Message, vat: VatNo) -> Result<bool, AllocError>
     ensures { IfOk result (λ ready. ready ≡ is_none (unready_at (world_of world.now) vat (message_of message.now))) }
 {
     match check_ready(alloc, world, message, vat) {
