@@ -1,5 +1,5 @@
 -- Runs of events from the empty world keep the order of messages.
-use Rattle.std.proofs.Common.{◌≡◌, ◌≢◌, ℕ, ◌+◌, Bool, true, false, cond, List, [], ◌∷◌, ◌++◌, map, filter, Option, Some, None, true≢false, refl, sym, ap, ◌∙◌, subst, append-nil}
+use Rattle.std.proofs.Common.{◌≡◌, ◌≢◌, ℕ, ◌+◌, Bool, true, false, cond, List, [], ◌∷◌, ◌++◌, map, filter, Option, Some, None, true≢false, inl, inr, ⊎_elim, refl, sym, ap, ◌∙◌, subst, append-nil}
 use Rattle.std.specs.List.{AllByRecursion}
 use Rattle.history.specs.Subject.{Run, run_none, run_more, written, after}
 use Rattle.history.specs.Journal.{Entry, live_set, name_of, Distinct}
@@ -9,11 +9,12 @@ use Rattle.ids.specs.declared.names.EventName.{EventName}
 use Rattle.ids.specs.declared.names.VatNo.{VatNo}
 use Rattle.ids.specs.declared.names.MsgId.{MsgId}
 use Rattle.ids.specs.declared.cells.CellKey.TheVariants as key
-use Rattle.eorder.specs.Deeds.{Deed}
+use Rattle.eorder.specs.Acts.{Start}
+use Rattle.eorder.specs.Deeds.{Deed, HadTurn, TurnBefore}
 use Rattle.eorder.specs.Journals.{AllDo, LiveRun}
 use Rattle.eorder.specs.Order.{Settled}
 use Rattle.eorder.specs.Places.{same_message}
-use Rattle.eorder.specs.Worlds.{seen, Ran}
+use Rattle.eorder.specs.Worlds.{seen, Ran, deeds_of}
 use Rattle.eorder.proofs.Journals.{live_entries_ran}
 use Rattle.eorder.proofs.Places.{message_equal}
 use Rattle.eorder.proofs.Worlds.{events_keep}
@@ -26,7 +27,7 @@ use Rattle.event.specs.Events.{events, Foot, in_world, letters_from, on_the_boar
 use Rattle.event.specs.Laws.{HasNoMessage}
 use Rattle.event.proofs.Law.{events_laws}
 use Rattle.ordering.specs.Deeds.{Do, do_birth, do_ask, do_arrive, do_forward, do_learn, do_turn, doing, happening}
-use Rattle.ordering.specs.Theorems.{HaveOwnNames, book, RanFromNothing, KeepOrder, RunsAreDeeds, RunsKeepOrder, JournalsKeepOrder}
+use Rattle.ordering.specs.Theorems.{HasTurn, HasTurnBefore, HaveOwnNames, book, RanFromNothing, KeepOrder, RunsAreDeeds, RunsKeepOrder, JournalsKeepOrder}
 use Rattle.ordering.proofs.Steps.{step_law}
 use Rattle.ordering.proofs.Written.{Writes, Passes, passed, all_pass, not_message, board_passes_messages}
 
@@ -109,8 +110,54 @@ own_names_happen (p ∷ ps) w (x, r, s) h = (x, own_names_happen ps x r h.1, (na
 empty_settled : Settled (seen book empty)
 empty_settled a b d h = absurd (true≢false (sym d))
 
-keeps : (ps : List (Event × Deed)) (w : World) → Ran book empty ps w → HaveOwnNames (map (λ p. p.0) ps) → KeepOrder ps
-keeps ps w r h a b = events_keep happening step_law empty ps w a b empty_settled (own_names_happen ps w r h)
+-- ---- turns are turns of events
+
+abbrev nothing : Start
+nothing = seen book empty
+
+-- a deed is a turn just where its event is one
+had_turn : {e : Event} {w : World} {d : Deed} → Do e w d → (es : List Event) (ds : List Deed) (m : MsgId) → (HasTurn es m → HadTurn nothing ds m) → HasTurn (e ∷ es) m → HadTurn nothing (d ∷ ds) m
+had_turn do_birth es ds m f h = ⊎_elim (λ x. absurd x) f h
+had_turn do_ask es ds m f h = ⊎_elim (λ x. absurd x) f h
+had_turn do_arrive es ds m f h = ⊎_elim (λ x. absurd x) f h
+had_turn do_forward es ds m f h = ⊎_elim (λ x. absurd x) f h
+had_turn (do_learn is) es ds m f h = ⊎_elim (λ x. absurd x) f h
+had_turn (do_turn is r) es ds m f h = ⊎_elim (λ x. inl x) (λ x. inr (f x)) h
+
+has_turn : {e : Event} {w : World} {d : Deed} → Do e w d → (es : List Event) (ds : List Deed) (m : MsgId) → (HadTurn nothing ds m → HasTurn es m) → HadTurn nothing (d ∷ ds) m → HasTurn (e ∷ es) m
+has_turn do_birth es ds m f h = inr (f h)
+has_turn do_ask es ds m f h = inr (f h)
+has_turn do_arrive es ds m f h = inr (f h)
+has_turn do_forward es ds m f h = inr (f h)
+has_turn (do_learn is) es ds m f h = inr (f h)
+has_turn (do_turn is r) es ds m f h = ⊎_elim (λ x. inl x) (λ x. inr (f x)) h
+
+turn_before : {e : Event} {w : World} {d : Deed} → Do e w d → (es : List Event) (ds : List Deed) (a b : MsgId) → (HadTurn nothing ds a → HasTurn es a) → (TurnBefore nothing ds a b → HasTurnBefore es a b) → TurnBefore nothing (d ∷ ds) a b → HasTurnBefore (e ∷ es) a b
+turn_before do_birth es ds a b f g h = inr (g h)
+turn_before do_ask es ds a b f g h = inr (g h)
+turn_before do_arrive es ds a b f g h = inr (g h)
+turn_before do_forward es ds a b f g h = inr (g h)
+turn_before (do_learn is) es ds a b f g h = inr (g h)
+turn_before (do_turn is r) es ds a b f g h = ⊎_elim (λ x. inl (x.0, f x.1)) (λ x. inr (g x)) h
+
+-- the events, and what they did
+abbrev of_events : List (Event × Deed) → List Event
+of_events ps = map (λ p. p.0) ps
+
+all_had : (ps : List (Event × Deed)) (w : World) → Ran book empty ps w → (m : MsgId) → HasTurn (of_events ps) m → HadTurn nothing (deeds_of book ps) m
+all_had [] w r m h = absurd h
+all_had (p ∷ ps) w (x, r, (f, does, its, d)) m h = had_turn d (of_events ps) (deeds_of book ps) m (all_had ps x r m) h
+
+all_have : (ps : List (Event × Deed)) (w : World) → Ran book empty ps w → (m : MsgId) → HadTurn nothing (deeds_of book ps) m → HasTurn (of_events ps) m
+all_have [] w r m h = absurd (true≢false (sym h))
+all_have (p ∷ ps) w (x, r, (f, does, its, d)) m h = has_turn d (of_events ps) (deeds_of book ps) m (all_have ps x r m) h
+
+all_before : (ps : List (Event × Deed)) (w : World) → Ran book empty ps w → (a b : MsgId) → TurnBefore nothing (deeds_of book ps) a b → HasTurnBefore (of_events ps) a b
+all_before [] w r a b h = absurd (true≢false (sym h.0))
+all_before (p ∷ ps) w (x, r, (f, does, its, d)) a b h = turn_before d (of_events ps) (deeds_of book ps) a b (all_have ps x r a) (all_before ps x r a b) h
+
+keeps : (ps : List (Event × Deed)) (w : World) → Ran book empty ps w → HaveOwnNames (of_events ps) → KeepOrder ps
+keeps ps w r h a b i t = all_before ps w r a b (events_keep happening step_law empty ps w a b empty_settled (own_names_happen ps w r h) i (all_had ps w r b t))
 
 pub runs_keep_order : RunsKeepOrder
 runs_keep_order es w ps r h = keeps ps w r.ran (subst HaveOwnNames (sym r.events) h)

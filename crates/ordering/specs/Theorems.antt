@@ -1,15 +1,15 @@
 -- That turns keep the order of messages.
-use Rattle.std.specs.Prelude.{◌≡◌, ℕ, List, [], ◌∷◌, map}
+use Rattle.std.specs.Prelude.{◌≡◌, ◌⊎◌, ℕ, List, [], ◌∷◌, map}
 use Rattle.std.specs.List.{AllByRecursion}
 use Rattle.history.specs.Subject.{Run}
 use Rattle.history.specs.Records.{Row, State}
 use Rattle.history.specs.Stands.{Stands}
 use Rattle.ids.specs.declared.names.MsgId.{MsgId}
-use Rattle.eorder.specs.Deeds.{Deed, HadTurn, TurnBefore}
+use Rattle.eorder.specs.Deeds.{Deed}
 use Rattle.eorder.specs.Journals.{worlds_of, LiveRun}
 use Rattle.eorder.specs.Order.{Before}
-use Rattle.eorder.specs.Worlds.{Worlds, seen, Ran, deeds_of, history}
-use Rattle.worldcells.specs.Events.{Event}
+use Rattle.eorder.specs.Worlds.{Worlds, seen, Ran, history}
+use Rattle.worldcells.specs.Events.{Act, turn, Event}
 use Rattle.worldcells.specs.World.{World, empty}
 use Rattle.event.specs.Events.{events}
 use Rattle.ordering.specs.Deeds.{doing}
@@ -28,9 +28,27 @@ pub record RanFromNothing (es : List Event) (w : World) (ps : List (Event × Dee
   pub events : map (λ p. p.0) ps ≡ es
   pub ran : Ran book empty ps w
 
--- where b had its turn, each message that is before it in the partial order had its turn before
+-- the event is a turn of the message
+abbrev pub IsTurnOf : MsgId → Act → Type 0
+IsTurnOf m (turn v b budget) = b ≡ m
+IsTurnOf m _ = ⊥
+
+-- the message had its turn among these events; and so had b, with a's turn before it
+abbrev pub HasTurn : List Event → MsgId → Type 0
+HasTurn [] m = ⊥
+HasTurn (e ∷ es) m = IsTurnOf m e.act ⊎ HasTurn es m
+
+abbrev pub HasTurnBefore : List Event → MsgId → MsgId → Type 0
+HasTurnBefore [] a b = ⊥
+HasTurnBefore (e ∷ es) a b = (IsTurnOf b e.act × HasTurn es a) ⊎ HasTurnBefore es a b
+
+-- by what these events did, a message is before another one in the partial order
+abbrev pub IsBefore : List (Event × Deed) → MsgId → MsgId → Type 0
+IsBefore ps a b = Before (seen book empty) (history book ps) a b
+
+-- where b has its turn, each message that is before it has its turn before
 abbrev pub KeepOrder : List (Event × Deed) → Type 0
-KeepOrder ps = (a b : MsgId) → Before (seen book empty) (history book ps) a b → HadTurn (seen book empty) (deeds_of book ps) b → TurnBefore (seen book empty) (deeds_of book ps) a b
+KeepOrder ps = (a b : MsgId) → IsBefore ps a b → HasTurn (map (λ p. p.0) ps) b → HasTurnBefore (map (λ p. p.0) ps) a b
 
 -- each run of events from the empty world is one of deeds
 abbrev pub RunsAreDeeds : Type 0
