@@ -14,7 +14,7 @@ use Rattle.ids.specs.declared.names.MsgId.{MsgId}
 use Rattle.ids.specs.declared.names.PromId.{PromId}
 use Rattle.ids.specs.declared.reference.Reference.{Reference}
 use Rattle.cells.specs.Doing.{over, Under, play, and_then}
-use Rattle.eorder.specs.Acts.{Act, sent, Fences}
+use Rattle.eorder.specs.Acts.{Act, Fences}
 use Rattle.eorder.specs.Fences.{member}
 use Rattle.eorder.specs.Places.{Carrier, argument, published, same_message, same_carrier}
 use Rattle.eorder.specs.Worlds.{after_acts}
@@ -23,7 +23,7 @@ use Rattle.kernele.specs.Tree.{Name, Trees, Methods}
 use Rattle.scopes.specs.Free.{captures}
 use Rattle.kernele.specs.declared.tree.Pattern.{Pattern}
 use Rattle.kernele.specs.declared.tree.Pattern.TheVariants as pattern
-use Rattle.values.specs.Data.{Val, object, Vals, no_vals, and_val, Reply}
+use Rattle.values.specs.Data.{Val, object, Vals, no_vals, and_val}
 use Rattle.values.specs.Replies.{data_reply}
 use Rattle.values.specs.Wanted.{wants_datum}
 use Rattle.refs.specs.Walks.{same_promise}
@@ -41,8 +41,8 @@ use Rattle.erules.specs.Rules.{sought_in, seeking, slot_read, slot_put, noun_rea
 use Rattle.ordering.specs.Acting.{left_in, joined_to, leaving_in, sent_on, message_acts, send_acts, left_unless, published_acts, resolver_acts}
 use Rattle.ordering.specs.Laws.{IsSentBy}
 use Rattle.ordering.specs.Reading.{Sets, fences_in, fences_of_delivery, after_of, reading, numbered, was_after, travels_in, publication_in, publication_fences, NoneDone, afters, travelling, turn_fences}
-use Rattle.ordering.proofs.Readings.{or_false, or_assoc, and_none, with_after, among, with_all, sent_sets, sent_names, join_sets, left_all, sent_all, join_all}
-use Rattle.ordering.proofs.Effects.{Still, Makes, ended_still, settled_still, still_then, of_settled_still, waiting_still, promising_still, SentTo, SentBy, sending_makes, PublishedTo, PublishedBy}
+use Rattle.ordering.proofs.Readings.{or_false, and_none, with_after, among, with_all, sent_sets, sent_names, left_all, sent_all, join_all}
+use Rattle.ordering.proofs.Effects.{Still, Makes, ended_still, settled_still, still_then, of_settled_still, waiting_still, promising_still, SentTo, sending_makes, PublishedTo, PublishedBy}
 
 -- ---- lists of what was made
 

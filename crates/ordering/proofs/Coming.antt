@@ -8,16 +8,16 @@ use Rattle.ids.specs.declared.names.PromId.{PromId}
 use Rattle.ids.specs.declared.reference.Reference.{Reference}
 use Rattle.ids.specs.declared.reference.Reference.TheVariants as reference
 use Rattle.ids.specs.References.{same_reference}
-use Rattle.cells.specs.Doing.{over, Under, play, and_then}
+use Rattle.cells.specs.Doing.{Under, play, and_then}
 use Rattle.cells.proofs.Doings.{one_after_another}
-use Rattle.eorder.specs.Acts.{Act, came, joined, did, Fences}
+use Rattle.eorder.specs.Acts.{Act, Fences}
 use Rattle.eorder.specs.Carried.{Carried}
 use Rattle.eorder.specs.Fences.{member}
 use Rattle.eorder.specs.Places.{Carrier, argument, published, carried}
 use Rattle.eorder.specs.Worlds.{after_acts}
 use Rattle.eorder.proofs.Worlds.{after_append}
-use Rattle.kernele.specs.Tree.{Name, Trees}
-use Rattle.values.specs.Data.{Val, null, bool, int, text, list, object, ejector, promise, broken, Vals}
+use Rattle.kernele.specs.Tree.{Name}
+use Rattle.values.specs.Data.{Val, null, bool, int, text, list, object, ejector, promise, broken}
 use Rattle.heap.specs.State.{State, Cell, Content, same_cell, Nouns, fixed}
 use Rattle.post.specs.Delivery.{Call, Handler, When, Delivery}
 use Rattle.post.specs.Messages.{Published}
@@ -30,15 +30,15 @@ use Rattle.erules.specs.At.{At}
 use Rattle.erules.specs.Doings.{under, with_under, given_by, behind}
 use Rattle.erules.specs.Outcomes.{End, values}
 use Rattle.erules.specs.Outbox.{empty_outbox}
-use Rattle.erules.specs.Rules.{Target, called, inside, binding}
-use Rattle.deliveries.specs.Turn.{start, knowing, Found, list_coming, call_coming, call_met, call_meeting, handled, when_met, Led, led_gives, led_uses, led_enters, Begins, opens, asks, calls, waits}
+use Rattle.erules.specs.Rules.{Target, binding}
+use Rattle.deliveries.specs.Turn.{start, knowing, Found, list_coming, call_coming, handled, when_met, Led, led_gives, led_uses, led_enters, Begins, opens, asks, calls, waits}
 use Rattle.ordering.specs.Acts.{came_act, came_acts, arriving, list_arriving, call_acts, led_acts, begun_acts, learning_place, learning_acts}
 use Rattle.ordering.specs.Acting.{joined_to}
 use Rattle.ordering.specs.Laws.{IsSentBy, Brings, BringsLast, BringsAll, DoneBy, learnt_at}
 use Rattle.ordering.specs.Reading.{Sets, fences_in, reading, afters, travelling, turn_fences}
 use Rattle.ordering.proofs.Readings.{or_false, and_none, with_names, came_reads, join_all}
 use Rattle.ordering.proofs.Effects.{Still, still_then, comes_in_still, ended_still, more_sets, Joins, settles_to, end_joins, entered_makes}
-use Rattle.ordering.proofs.Acted.{all_append, join_sends, Acts, Acted, QuietAt, Quiet, fences_at, same, none, quietly, quiet_then, acted_then, quiet_behind, quiet_first, behind_quiet, bound_quiet, called_quiet, used_acts}
+use Rattle.ordering.proofs.Acted.{all_append, join_sends, Acts, Acted, QuietAt, fences_at, same, none, quietly, quiet_then, acted_then, quiet_behind, quiet_first, behind_quiet, bound_quiet, called_quiet, used_acts}
 use Rattle.ordering.proofs.Rules.{TargetMakes, target_makes, items_act}
 
 -- ---- references come in

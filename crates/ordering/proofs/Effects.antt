@@ -1,6 +1,5 @@
 -- What is done to the cells of a vat does to its fences.
 use Rattle.std.proofs.Common.{◌≡◌, Bool, true, false, cond, ◌||◌, ◌&&◌, List, [], ◌∷◌, ◌++◌, Option, Some, None, is_some, true≢false, refl, sym, ap, ◌∙◌, subst}
-use Rattle.std.specs.List.{list_any}
 use Rattle.ids.proofs.References.{reference_equal, reference_self}
 use Rattle.ids.specs.References.{same_reference}
 use Rattle.ids.specs.declared.names.VatNo.{VatNo}
@@ -9,27 +8,26 @@ use Rattle.ids.specs.declared.names.PromId.{PromId}
 use Rattle.ids.specs.declared.names.ObjId.{ObjId}
 use Rattle.ids.specs.declared.reference.Reference.{Reference}
 use Rattle.ids.specs.declared.reference.Reference.TheVariants as reference
-use Rattle.cells.specs.Doing.{over, reads, writes, Under, touching, holding, play, and_then}
+use Rattle.cells.specs.Doing.{over, writes, Under, touching, holding, play, and_then}
 use Rattle.cells.proofs.Doings.{one_after_another}
 use Rattle.eorder.specs.Fences.{member, joined as both, names_in, cell_of}
-use Rattle.eorder.specs.Carried.{Carried, fence_with, with_fence, carries, has_names}
+use Rattle.eorder.specs.Carried.{Carried, fence_with, with_fence, carries}
 use Rattle.eorder.proofs.FenceSets.{fences_are_sets}
 use Rattle.eorder.specs.Places.{same_message}
 use Rattle.kernele.specs.Tree.{Name}
-use Rattle.values.specs.Data.{Val, broken, promise, Vals, no_vals, and_val, Reply}
-use Rattle.values.specs.Replies.{text_in, data_reply}
-use Rattle.values.specs.Wanted.{wants_datum}
-use Rattle.heap.specs.State.{State, Cell, view_cell, object_cell, fence_cell, pending, resolved, Content, bound, held, made, viewed, fenced, resolver, same_cell}
+use Rattle.values.specs.Data.{Val, broken, Vals, no_vals, and_val}
+use Rattle.values.specs.Replies.{text_in}
+use Rattle.heap.specs.State.{Cell, view_cell, object_cell, fence_cell, pending, resolved, Content, bound, held, made, viewed, fenced, resolver, same_cell}
 use Rattle.refs.specs.Walks.{Resolutions, walked, followed}
 use Rattle.refs.specs.Settling.{settling}
-use Rattle.sends.specs.Vats.{Vat, Nothing, nothing, names_of, names_for, ended, settled, settled_behind, all_settled, reference_in, references, references_in, each_once, fence_of, carried, leaving, fence_joined, end_joined, entrance, comes_in, entered, sent_after, goes_to}
-use Rattle.sends.specs.Making.{Refusal, Making, refused, makes, of_settled, with_room, turn_too_large, Sent, send_placed, sending, condition, waiting, promising, Published, entered_at, entered_if_come, publishing, already_used, first_use, used, resolving, no_text, smashed_by, smashing, ending, told, value_too_large, problem}
+use Rattle.sends.specs.Vats.{Vat, Nothing, names_of, names_for, ended, settled, settled_behind, all_settled, reference_in, references, references_in, each_once, carried, leaving, fence_joined, end_joined, entrance, comes_in, entered, sent_after, goes_to}
+use Rattle.sends.specs.Making.{Refusal, Making, refused, makes, of_settled, with_room, turn_too_large, Sent, send_placed, sending, condition, waiting, promising, Published, entered_at, entered_if_come, publishing, first_use, used, resolving, smashed_by, smashing, value_too_large}
 use Rattle.sends.specs.Playing.{views_in, looked_at}
 use Rattle.sends.proofs.Playing.{played, looked_state}
 use Rattle.sends.proofs.Followed.{ends_are_followed}
 use Rattle.sends.proofs.Settled.{settled_alike}
 use Rattle.ordering.specs.Reading.{Sets, fences_in}
-use Rattle.ordering.proofs.Readings.{or_false, or_assoc, and_none, alone, with_names, among, sent_sets, sent_names, join_sets}
+use Rattle.ordering.proofs.Readings.{or_false, and_none, with_names, among, sent_sets, sent_names, join_sets}
 
 -- ---- what changes no fence
 

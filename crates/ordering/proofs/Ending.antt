@@ -1,6 +1,5 @@
 -- How a turn ends does to fences what its acts say.
-use Rattle.std.proofs.Common.{◌≡◌, Bool, true, false, ◌||◌, ◌&&◌, not, List, [], ◌∷◌, ◌++◌, Option, Some, None, cond, refl, sym, ap, ◌∙◌, subst}
-use Rattle.std.specs.List.{list_any, AllByRecursion}
+use Rattle.std.proofs.Common.{◌≡◌, Bool, true, false, ◌&&◌, not, List, [], Some, None, cond, refl, sym, ap, ◌∙◌, subst}
 use Rattle.ids.specs.declared.names.EventName.{EventName}
 use Rattle.ids.specs.declared.names.VatNo.{VatNo}
 use Rattle.ids.specs.declared.names.MsgId.{MsgId}
@@ -19,13 +18,13 @@ use Rattle.sends.specs.Vats.{settled, names_for}
 use Rattle.sends.specs.Making.{Published, told as told_value, ending}
 use Rattle.erules.specs.At.{At}
 use Rattle.erules.specs.Doings.{given_by, behind, under, published_out}
-use Rattle.erules.specs.Outcomes.{Cause, thrown, ejected, abandoned, reason, End, value, halt}
+use Rattle.erules.specs.Outcomes.{reason, End, value, halt}
 use Rattle.erules.specs.Outbox.{Outbox, empty_outbox, and_publication}
-use Rattle.deliveries.specs.Turn.{Found, Told, told, lost, telling, telling_at, commented, lost_outbox, ending_at, Outcome, outcome_by, Delivers, delivers}
-use Rattle.ordering.specs.Acts.{kept_acts, delivery_acts, begun_acts}
+use Rattle.deliveries.specs.Turn.{Told, told, lost, telling, telling_at, commented, ending_at, outcome_by, delivers}
+use Rattle.ordering.specs.Acts.{kept_acts, begun_acts}
 use Rattle.ordering.specs.Acting.{published_acts}
-use Rattle.ordering.specs.Laws.{IsSentBy, BringsAll, DoneBy, DeliveriesAct, LearningActs}
-use Rattle.ordering.specs.Reading.{fences_in, publication_fences, NoneDone, reading, afters, travelling, turn_fences}
+use Rattle.ordering.specs.Laws.{IsSentBy, DoneBy, DeliveriesAct, LearningActs}
+use Rattle.ordering.specs.Reading.{fences_in, publication_fences, NoneDone, reading, afters, turn_fences}
 use Rattle.ordering.proofs.Effects.{settled_still, publishing_makes}
 use Rattle.ordering.proofs.Acted.{all_append, Acts, QuietAt, fences_at, same, behind_quiet, quiet_behind, publication_acts}
 use Rattle.ordering.proofs.Coming.{begun_act, learning_act}

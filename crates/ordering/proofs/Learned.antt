@@ -1,5 +1,5 @@
 -- What a vat learns does in a world what its acts say.
-use Rattle.std.proofs.Common.{◌≡◌, Bool, true, false, List, [], ◌∷◌, ◌++◌, map, Option, Some, None, refl, sym, ap, ◌∙◌, subst, append-nil}
+use Rattle.std.proofs.Common.{◌≡◌, Bool, false, List, [], ◌∷◌, ◌++◌, map, Option, Some, None, refl, sym, ap, ◌∙◌, subst, append-nil}
 use Rattle.std.specs.List.{list_any, AllByRecursion}
 use Rattle.history.specs.Subject.{written}
 use Rattle.ids.specs.declared.names.EventName.{EventName}

@@ -1,7 +1,6 @@
 -- What single acts do to the fences of a vat, and to what a turn has made.
-use Rattle.std.proofs.Common.{◌≡◌, ℕ, Bool, true, false, cond, ◌||◌, ◌&&◌, List, [], ◌∷◌, ◌++◌, Option, Some, None, refl, sym, ap, ◌∙◌}
+use Rattle.std.proofs.Common.{◌≡◌, Bool, true, false, cond, ◌||◌, ◌&&◌, List, [], ◌∷◌, Option, Some, None, refl, sym, ap, ◌∙◌}
 use Rattle.std.specs.List.{list_any}
-use Rattle.ids.specs.Cells.{vat_cmp}
 use Rattle.std.specs.Ordering.{is_eq}
 use Rattle.ids.proofs.Keys.{equal_self}
 use Rattle.ids.proofs.References.{reference_equal}
@@ -12,7 +11,7 @@ use Rattle.ids.specs.declared.names.PromId.{PromId}
 use Rattle.ids.specs.declared.reference.Reference.{Reference}
 use Rattle.ids.specs.declared.reference.Reference.TheVariants as reference
 use Rattle.eorder.specs.Places.{Carrier, Place, fence_at, carried, sent_after, same_vat, same_message, same_carrier}
-use Rattle.eorder.specs.Acts.{Act, sent, left, came, joined, did, Fences, applied}
+use Rattle.eorder.specs.Acts.{sent, left, came, joined, did, Fences, applied}
 use Rattle.eorder.specs.Worlds.{after_acts}
 use Rattle.eorder.proofs.Worlds.{after_append}
 use Rattle.ordering.specs.Acting.{left_in, sent_on, joined_to}

@@ -1,5 +1,5 @@
 -- Each rule of evaluation does to fences what its acts say.
-use Rattle.std.proofs.Common.{◌≡◌, ℕ, Bool, true, false, cond, List, [], ◌∷◌, ◌++◌, Option, Some, None, codes, refl, sym, subst}
+use Rattle.std.proofs.Common.{◌≡◌, ℕ, Bool, true, false, cond, List, Option, Some, None, codes, subst}
 use Rattle.std.specs.Str.{bytes_eq}
 use Rattle.ids.specs.declared.names.EventName.{EventName}
 use Rattle.ids.specs.declared.names.VatNo.{VatNo}
@@ -13,14 +13,13 @@ use Rattle.heap.specs.State.{Plain, plain, resolver, object_cell, Content, bound
 use Rattle.sends.specs.Vats.{Vat}
 use Rattle.sends.specs.Making.{Making, Published, resolving, smashing}
 use Rattle.erules.specs.At.{At}
-use Rattle.erules.specs.Outcomes.{End, value, halt, Gather, values, halted}
-use Rattle.erules.specs.Doings.{datum_of, datum_read, given_by, behind, resolver_end, resolver_out}
-use Rattle.post.specs.Delivery.{Handler}
+use Rattle.erules.specs.Outcomes.{End, Gather, values, halted}
+use Rattle.erules.specs.Doings.{datum_of, datum_read, given_by, behind, resolver_out}
 use Rattle.erules.specs.Rules.{Target, gives, enters, uses, method_in, method_target, resolver_target, object_target, no_such_method, Callee, on_object, on_ejector, on_datum, on_far, callee_of, callee_target, target_of, receiver, receiver_read, called, parts_of, entering}
 use Rattle.erules.specs.Rules.{Ends, at_budget, at_depth, at_node, Runs, run_null, run_bool, run_int, run_text, run_noun, run_define, run_variable, run_assign, run_call_receiver, run_call_gives, run_call_enters, run_call_uses, run_send_receiver, run_send, run_list, run_same_left, run_same, run_define_list, run_hide, run_throw, run_if_goes, run_if_ends, run_while_again, run_while_halts, run_while_done, run_while_ends, run_for, run_for_ends, run_try, run_try_caught, run_object, run_escape, run_when, run_when_catch, run_new_promise, run_break_ref, run_state_ref, Needs, needs, Args, args_none, args_next, args_halt, Items, items_none, items_next, items_halt, Block, in_block, Taking, in_taking, Each, each_none, each_next, each_halt}
 use Rattle.ordering.specs.Acting.{resolver_acts, acts, acts_below, acts_of_datum, acts_of_args, acts_of_items, acts_of_block, acts_of_taking, acts_of_each}
 use Rattle.ordering.proofs.Effects.{Makes, PublishedTo, resolving_makes, smashing_makes}
-use Rattle.ordering.proofs.Acted.{Acts, Acted, QuietAt, none, quietly, acted_then, quiet_behind, quiet_first, noun_quiet, matched_quiet, defined_quiet, parts_quiet, declared_quiet, assigned_quiet, object_quiet, called_quiet, datum_quiet, same_quiet, pair_quiet, when_quiet, sent_acts, used_acts}
+use Rattle.ordering.proofs.Acted.{Acted, QuietAt, none, quietly, acted_then, quiet_behind, quiet_first, noun_quiet, matched_quiet, defined_quiet, parts_quiet, declared_quiet, assigned_quiet, object_quiet, called_quiet, datum_quiet, same_quiet, pair_quiet, when_quiet, sent_acts, used_acts}
 
 -- ---- what uses a resolver publishes
 

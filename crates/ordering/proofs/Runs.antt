@@ -3,15 +3,14 @@ use Rattle.std.proofs.Common.{◌≡◌, ◌≢◌, ℕ, ◌+◌, Bool, true, fa
 use Rattle.std.specs.List.{AllByRecursion}
 use Rattle.history.specs.Subject.{Run, run_none, run_more, written, after}
 use Rattle.history.specs.Journal.{Entry, live_set, name_of, Distinct}
-use Rattle.history.specs.Records.{Row, State, contents, entries_of}
-use Rattle.history.specs.Stands.{Stands}
+use Rattle.history.specs.Records.{contents, entries_of}
 use Rattle.ids.specs.declared.names.EventName.{EventName}
 use Rattle.ids.specs.declared.names.VatNo.{VatNo}
 use Rattle.ids.specs.declared.names.MsgId.{MsgId}
 use Rattle.ids.specs.declared.cells.CellKey.TheVariants as key
 use Rattle.eorder.specs.Acts.{Start}
 use Rattle.eorder.specs.Deeds.{Deed, HadTurn, TurnBefore}
-use Rattle.eorder.specs.Journals.{AllDo, LiveRun}
+use Rattle.eorder.specs.Journals.{AllDo}
 use Rattle.eorder.specs.Order.{Settled}
 use Rattle.eorder.specs.Places.{same_message}
 use Rattle.eorder.specs.Worlds.{seen, Ran, deeds_of}

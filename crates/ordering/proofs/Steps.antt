@@ -1,5 +1,5 @@
 -- The steps of a book do what their deeds say.
-use Rattle.std.proofs.Common.{◌≡◌, Bool, true, false, cond, List, [], ◌∷◌, map, Option, Some, None, option_map, refl, sym, ap, ◌∙◌, subst}
+use Rattle.std.proofs.Common.{◌≡◌, false, [], map, Option, Some, None, option_map, refl, sym, ◌∙◌, subst}
 use Rattle.history.specs.Subject.{after}
 use Rattle.ids.specs.declared.names.VatNo.{VatNo}
 use Rattle.ids.specs.declared.names.MsgId.{MsgId}

@@ -1,7 +1,6 @@
 -- What is read of fences, of messages and of publications in a world after writes.
 use Rattle.std.proofs.Common.{◌≡◌, ℕ, ◌+◌, ◌<◌, Bool, true, false, cond, not, ◌||◌, ◌&&◌, List, [], ◌∷◌, ◌++◌, map, Option, Some, None, is_some, true≢false, refl, sym, ap, ◌∙◌, subst, arith, append-nil}
 use Rattle.std.specs.List.{list_any, AllByRecursion}
-use Rattle.std.proofs.lemmas.Bool.{or_parts}
 use Rattle.history.specs.Subject.{written}
 use Rattle.ids.specs.CellKeys.{same_key}
 use Rattle.ids.specs.References.{same_reference}
@@ -17,7 +16,7 @@ use Rattle.ids.proofs.Keys.{equal, exact_promises}
 use Rattle.ids.specs.Cells.{promise_cmp}
 use Rattle.std.specs.Ordering.{is_eq}
 use Rattle.eorder.specs.Fences.{member}
-use Rattle.eorder.specs.Places.{argument, published as in_publication, same_message, same_vat, same_carrier}
+use Rattle.eorder.specs.Places.{published as in_publication, same_message, same_vat}
 use Rattle.eorder.proofs.Places.{message_equal}
 use Rattle.heap.specs.State as heap
 use Rattle.heap.specs.State.{Cell, top, slot_cell, object_cell, view_cell, fence_cell, same_cell, State}
@@ -28,7 +27,7 @@ use Rattle.sends.specs.Vats.{names_of, names_for}
 use Rattle.worldcells.specs.World.{Content, message, published, World, content_of, cell_key, message_in, published_in, published_as}
 use Rattle.event.specs.Events.{events, in_world, letters_from, on_the_board, counted}
 use Rattle.ordering.specs.Deeds.{fence_in, was_published}
-use Rattle.ordering.specs.Reading.{numbered, publication_in, publication_fences, NoneDone}
+use Rattle.ordering.specs.Reading.{numbered, publication_in, publication_fences}
 use Rattle.ordering.proofs.Readings.{or_false}
 
 -- writes

@@ -13,7 +13,7 @@ use Rattle.eorder.specs.Fences.{member}
 use Rattle.eorder.specs.Places.{Carrier, argument, published, carried}
 use Rattle.eorder.specs.Worlds.{after_acts}
 use Rattle.heap.specs.State.{State}
-use Rattle.post.specs.Delivery.{Delivery, opening, asked, sent as sent_call, waiting}
+use Rattle.post.specs.Delivery.{Delivery, sent as sent_call}
 use Rattle.post.specs.Messages.{Message, Published}
 use Rattle.sends.specs.Vats.{names_for, entered, references, coming_in}
 use Rattle.erules.specs.At.{At}

@@ -9,7 +9,7 @@ use Rattle.ids.specs.declared.reference.Reference.{Reference}
 use Rattle.eorder.specs.Acts.{Fences}
 use Rattle.eorder.specs.Carried.{Carried}
 use Rattle.eorder.specs.Fences.{member}
-use Rattle.eorder.specs.Places.{Carrier, argument, published, Place, fence_at, carried, sent_after, same_vat, same_message, same_carrier}
+use Rattle.eorder.specs.Places.{Carrier, argument, published, fence_at, carried, sent_after, same_vat, same_message, same_carrier}
 use Rattle.heap.specs.State.{State, fence_cell}
 use Rattle.post.specs.Delivery.{Delivery, sent}
 use Rattle.post.specs.Messages.{is_done, Message, Published}
