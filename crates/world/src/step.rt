@@ -5,17 +5,16 @@ ghost use Rattle.kernele.specs.View.{program_of};
 ghost use Rattle.heap.specs.Found.{Found};
 ghost use Rattle.heap.specs.View.{state_of};
 ghost use Rattle.turn.specs.Tasks.{task_of};
-ghost use Rattle.ids.specs.declared.cells.CellKey.TheVariants as key;
 ghost use Rattle.worldcells.specs.EventView.{event_of};
-ghost use Rattle.worldcells.specs.Events.{birth, ask, turn};
-ghost use Rattle.post.specs.MessageView.{message_of, place_of};
+ghost use Rattle.worldcells.specs.Events.{birth, ask, arrive, forward, learn, turn};
+ghost use Rattle.post.specs.MessageView.{message_of, published_of};
 ghost use Rattle.worldcells.specs.View.{seen_of_world, world_of};
-ghost use Rattle.post.specs.Messages.{at_vat};
-ghost use Rattle.worldcells.specs.World.{message as message_content};
+ghost use Rattle.deliveries.specs.Outcomes.{found_of};
 ghost use Rattle.erules.specs.OutboxView.{letter_of};
-ghost use Rattle.event.specs.Events.{AreNew, Foot, InOrder, letters_from};
+ghost use Rattle.event.specs.Events.{AreNew, Foot, letters_from};
 ghost use Rattle.event.specs.Effects.{Happens};
-ghost use Rattle.world.specs.Steps.{StepsTo, TellsStep, Ready, RunsAt, Unready as IsUnready};
+ghost use Rattle.event.specs.ReadyView.{IsWay};
+ghost use Rattle.world.specs.Steps.{StepsTo, TellsStep, Learnable, Numbers, Ready, RunsAt, Unlearnable, Unnamed, Unready as IsUnready};
 ghost use Rattle.world.specs.declared.step.StepFault.TheVariants.{Memory};
 
 use cells::swaps::Swaps;
@@ -73,20 +72,36 @@ fn effects_of_birth(
     earlier: &[Text],
     script: &Program,
 ) -> Result<Effects, StepFault>
-    ensures ok { IfOk result (λ it. (f : Foot) × Happens (record { name = event; act = birth name.now (program_of script.now) }) f (world_of world.now) it) }
-    ensures err { IfErr result (λ fault. TellsStep (record { name = event; act = birth name.now (program_of script.now) }) (world_of world.now) fault) }
+    ensures ok { IfOk result (λ it. (f : Foot) × Happens (record { name = event; act = birth name.now earlier.now (program_of script.now) }) f (world_of world.now) it) }
+    ensures err { IfErr result (λ fault. TellsStep (record { name = event; act = birth name.now earlier.now (program_of script.now) }) (world_of world.now) fault) }
 {
     let None = world.vat(name) else {
         return Err(StepFault::Impossible);
     };
-    let mut vats = Vec::new(alloc);
-    for other in earlier {
-        let Some(vat) = world.vat(other) else {
+    let vats = numbers_of(alloc, world, earlier)?;
+    Ok(birth_effects(
+        alloc,
+        event,
+        name,
+        earlier,
+        vats.as_slice(),
+        script,
+    )?)
+}
+
+/// The numbers of the vats of these names, if each has one.
+fn numbers_of(alloc: Global, world: &World, names: &[Text]) -> Result<Vec<VatNo>, StepFault>
+    ensures ok { IfOk result (λ found. Numbers (world_of world.now) names.now found.items) }
+    ensures err { IfErr result (λ fault. Unnamed (world_of world.now) names.now fault) }
+{
+    let mut numbers = Vec::new(alloc);
+    for name in names {
+        let Some(vat) = world.vat(name) else {
             return Err(StepFault::Impossible);
         };
-        vats.push(vat.number)?;
+        numbers.push(vat.number)?;
     }
-    Ok(birth_effects(alloc, event, name, earlier, &vats, script)?)
+    Ok(numbers)
 }
 
 /// The effects of an asked program, if the vat is there.
@@ -112,7 +127,10 @@ fn effects_of_arrival(
     world: &World,
     event: EventName,
     name: MsgId,
-) -> Result<Effects, StepFault> {
+) -> Result<Effects, StepFault>
+    ensures ok { IfOk result (λ it. (f : Foot) × Happens (record { name = event; act = arrive name }) f (world_of world.now) it) }
+    ensures err { IfErr result (λ fault. TellsStep (record { name = event; act = arrive name }) (world_of world.now) fault) }
+{
     let Some(message) = world.message(name) else {
         return Err(StepFault::Impossible);
     };
@@ -128,7 +146,10 @@ fn effects_of_forwarding(
     world: &World,
     event: EventName,
     name: MsgId,
-) -> Result<Effects, StepFault> {
+) -> Result<Effects, StepFault>
+    ensures ok { IfOk result (λ it. (f : Foot) × Happens (record { name = event; act = forward name }) f (world_of world.now) it) }
+    ensures err { IfErr result (λ fault. TellsStep (record { name = event; act = forward name }) (world_of world.now) fault) }
+{
     let Ok((message, vat)) = message_at_vat(world, name) else {
         return Err(StepFault::Impossible);
     };
@@ -141,14 +162,18 @@ fn effects_of_forwarding(
     Ok(move_effects(alloc, event, name, forwarded, &onward.through)?)
 }
 
-/// The effects of what a vat learns of a promise, if that is open in its view and was published.
+/// The effects of what a vat learns of a promise, if that is open in its view and was published. What is seen in the world stays.
 fn effects_of_learning(
     alloc: Global,
     world: &mut World,
     event: EventName,
     vat: VatNo,
     promise: PromId,
-) -> Result<Effects, StepFault> {
+) -> Result<Effects, StepFault>
+    ensures ok { IfOk result (λ it. (f : Foot) × Happens (record { name = event; act = learn vat promise }) f (world_of world.old) it) }
+    ensures err { IfErr result (λ fault. TellsStep (record { name = event; act = learn vat promise }) (world_of world.old) fault) }
+    ensures seen { seen_of_world world.new ≡ seen_of_world world.old }
+{
     let published = learnable(world, vat, promise)?;
     let state = world.share_vat(alloc, vat)?;
     let footprint = learn(alloc, event, vat, state, promise, &published)?;
@@ -156,7 +181,10 @@ fn effects_of_learning(
 }
 
 /// What a promise was published as that is open in a vat's view, shared.
-fn learnable(world: &World, vat: VatNo, promise: PromId) -> Result<Published, StepFault> {
+fn learnable(world: &World, vat: VatNo, promise: PromId) -> Result<Published, StepFault>
+    ensures ok { IfOk result (λ b. Learnable (world_of world.now) vat promise (published_of b)) }
+    ensures err { IfErr result (λ fault. Unlearnable (world_of world.now) vat promise fault) }
+{
     let Some(state) = world.home(vat) else {
         return Err(StepFault::Impossible);
     };
@@ -176,7 +204,8 @@ fn ready(
     vat: VatNo,
     name: MsgId,
 ) -> Result<(Message, Way), StepFault>
-    ensures ok { IfOk result (λ g. Ready (world_of world.now) name (message_of g) vat) }
+    ensures ok { IfOk result (λ r. Ready (world_of world.now) name (message_of r.0) vat) }
+    ensures way { IfOk result (λ r. IsWay (world_of world.now) vat (message_of r.0) r.1) }
     ensures err { IfErr result (λ fault. IsUnready (world_of world.now) name vat fault) }
 {
     let Ok((message, home)) = message_at_vat(world, name) else {
@@ -216,7 +245,7 @@ fn run_at(
     lead: Lead,
     vat: VatNo,
 ) -> Result<Ran, AllocError>
-    ensures ok { IfOk result (λ ran. RunsAt (world_of world.old) event name budget message vat ran) }
+    ensures ok { IfOk result (λ ran. RunsAt (world_of world.old) event name budget message (found_of lead) vat ran) }
     ensures seen { seen_of_world world.new ≡ seen_of_world world.old }
 {
     let state = world.share_vat(alloc, vat)?;
