@@ -1,8 +1,9 @@
 // One step of the world: what each kind of event does.
-ghost use Rattle.std.specs.Prelude.{◌≡◌, ◌⊎◌, ⊥, IfOk, IfErr, OnOk, OnErr, map};
+ghost use Rattle.std.specs.Prelude.{◌≡◌, ◌⊎◌, ◌↔◌, IfOk, IfErr, IsTrue, OnOk, OnErr, Some, map};
 ghost use Rattle.std.specs.Arc.{arc_value};
 ghost use Rattle.kernele.specs.View.{program_of};
 ghost use Rattle.heap.specs.Found.{Found};
+ghost use Rattle.heap.specs.State.{pending, view_cell, viewed};
 ghost use Rattle.heap.specs.View.{state_of};
 ghost use Rattle.turn.specs.Tasks.{task_of};
 ghost use Rattle.worldcells.specs.EventView.{event_of};
@@ -24,7 +25,7 @@ use event::effects::{Effects, ask_effects, birth_effects, learn_effects, move_ef
 use event::forwarding::onward;
 use event::learning::learn;
 use event::ready::{Delay, Way, check_ready, message_at_vat};
-use heap::state::View;
+use heap::state::{VatState, View};
 use ids::names::{EventName, MsgId, PromId, VatNo};
 use ids::text::Text;
 use kernele::tree::Program;
@@ -188,13 +189,23 @@ fn learnable(world: &World, vat: VatNo, promise: PromId) -> Result<Published, St
     let Some(state) = world.home(vat) else {
         return Err(StepFault::Impossible);
     };
-    let Some(View::Open) = state.views.get(&promise) else {
+    if !is_open(state, promise) {
         return Err(StepFault::Impossible);
-    };
+    }
     let Some(published) = world.published(promise) else {
         return Err(StepFault::Impossible);
     };
     Ok(published.share()?)
+}
+
+/// Whether a promise is open in what a vat knows.
+fn is_open(state: &VatState, promise: PromId) -> bool
+    ensures { IsTrue result ↔ (state_of state.now (view_cell promise) ≡ Some (viewed pending)) }
+{
+    match state.views.get(&promise) {
+        Some(View::Open) => true,
+        Some(View::Resolved(_)) | None => false,
+    }
 }
 
 /// A message that may be delivered now to this vat, shared, and the way to its target.
