@@ -1,5 +1,5 @@
 -- What an event needs, and what a turn that was run brings.
-use Rattle.std.proofs.Common.{◌≡◌, ℕ, List, map, Option, Some, None, unwrap_or, refl, sym, ap, ◌∙◌, subst}
+use Rattle.std.proofs.Common.{◌≡◌, ◌⊎◌, inl, inr, ℕ, List, map, Option, Some, None, unwrap_or, refl, sym, ap, ◌∙◌, subst}
 use Rattle.std.specs.Option.{option_map}
 use Rattle.std.proofs.Math.Logic.{∥∥₁_elim, ∥∥₁_map}
 use Rattle.ids.specs.declared.names.EventName.{EventName}
@@ -19,10 +19,14 @@ use Rattle.deliveries.proofs.Turns.{delivery_same}
 use Rattle.event.specs.Events.{Foot, AreNew, Does, forwards, learns, turns, DeliversOn, Turn, Turns, goes_on, letters_from, learn_foot, moved_foot, turn_foot}
 use Rattle.event.specs.Effects.{Happens, BringsLearnt, BringsTurn, turn_of}
 use Rattle.event.specs.Forwarding.{delivery_onward, going_on, onward_of}
+use Rattle.event.specs.ReadyView.{IsWay}
 use Rattle.event.specs.Walks.{board_walk, found_by}
 use Rattle.event.specs.declared.effects.Effects.{Effects}
+use Rattle.event.specs.declared.ready.Way.{Way}
 use Rattle.turn.specs.declared.ticket.Ran.{Ran}
-use Rattle.world.specs.Steps.{Learnable, Ready, RunsAt}
+use Rattle.world.specs.Steps.{Learnable, Ready, RunsAt, TellsStep}
+use Rattle.world.specs.declared.step.StepFault.{StepFault}
+use Rattle.world.specs.declared.step.StepFault.TheVariants as faults
 use Rattle.world.proofs.Impossible.{TurnAt, turn_at, turn_ready}
 
 -- ---- a message that goes on
@@ -32,16 +36,25 @@ module _ (e : EventName) (m : MsgId) (w : World) (g h : Message) (v u : VatNo) (
   flies : h ≡ record g { place = flying u }
   flies = ap (λ (o : Option Message). unwrap_or o h) (moved ∙ ap (λ p. option_map (λ (x : VatNo). record g { place = flying u }) (waits_at p)) there)
 
+  -- the vat and the promises on the way to it
+  abbrev pub on_way : VatNo → List PromId → VatNo × List PromId
+  on_way x ps = (x, ps)
+
+  abbrev vat_in : VatNo → Option (VatNo × List PromId) → Option VatNo
+  vat_in x None = Some x
+  vat_in x (Some q) = Some q.0
+
+  abbrev way_in : List PromId → Option (VatNo × List PromId) → List PromId
+  way_in ps None = ps
+  way_in ps (Some q) = q.1
+
   -- where the end of its target is in that vat, and these promises are on the way
-  gone : (o : Option VatNo) (ps : List PromId) → Some (u, through) ≡ option_map (λ x. (x, ps)) o → (o ≡ Some u) × (ps ≡ through)
+  gone : (o : Option VatNo) (ps : List PromId) → Some (on_way u through) ≡ option_map (λ x. on_way x ps) o → (o ≡ Some u) × (ps ≡ through)
   gone None ps is = absurd (cc is)
-  gone (Some x) ps is = (
-    ap (λ (q : Option (VatNo × List PromId)). Some (unwrap_or q (x, ps)).0) (sym is),
-    ap (λ (q : Option (VatNo × List PromId)). (unwrap_or q (x, ps)).1) (sym is),
-  )
+  gone (Some x) ps is = (ap (vat_in x) (sym is), ap (way_in ps) (sym is))
 
   -- so it is a call
-  sent_on : (d : Delivery) → g.delivery ≡ d → Some (u, through) ≡ delivery_onward w v d → Does (record { name = e; act = forward m }) w (moved_foot (map key.Board through) m h)
+  sent_on : (d : Delivery) → g.delivery ≡ d → Some (on_way u through) ≡ delivery_onward w v d → Does (record { name = e; act = forward m }) w (moved_foot (map key.Board through) m h)
   sent_on (sent c) is goes =
       let walk = board_walk w c.target in
       let to = gone (goes_on v walk.end) walk.through goes in
@@ -52,7 +65,7 @@ module _ (e : EventName) (m : MsgId) (w : World) (g h : Message) (v u : VatNo) (
   sent_on (asked ts) is goes = absurd (cc goes)
   sent_on (waiting b) is goes = absurd (cc goes)
 
-  pub goes_forward : Some (u, through) ≡ onward_of w v g → Does (record { name = e; act = forward m }) w (moved_foot (map key.Board through) m h)
+  pub goes_forward : Some (on_way u through) ≡ onward_of w v g → Does (record { name = e; act = forward m }) w (moved_foot (map key.Board through) m h)
   goes_forward = sent_on g.delivery refl
 
 -- ---- what a vat learns
@@ -90,6 +103,17 @@ module _ (e : EventName) (w : World) (m : MsgId) (n : ℕ) (g : code-message.Mes
   pub turn_happens : (it : Effects) → AreNew w (letters_from e 0 turned.outcome.out.letters) → (b : BringsTurn e w m turned it) → Happens (record { name = e; act = turn v m n }) (turn_foot e w m turned b.cells b.left) w it
   turn_happens it fresh b = record { does = ∥∥₁_map (is_turn fresh) (λ t. turns t b.leaves); brings = b.brings }
 
+  -- so do the effects of a turn that sends what is new in this world, as it is after the turn was run
+  pub turn_done : (u : World) → u ≡ w → (way : Way) → IsWay w v (message_of g) way → AreNew u (letters_from e 0 turned.outcome.out.letters) → (it : Effects)
+      → (u (key.Msg m) ≡ Some (message turned.message) → AreNew u (letters_from e 0 turned.outcome.out.letters) → IsWay u v turned.message way → BringsTurn e u m turned it)
+      → (f : Foot) × Happens (record { name = e; act = turn v m n }) f w it
+  turn_done u same way is fresh it does =
+      let carried : IsWay w v turned.message way = subst (λ (x : code-message.Message). IsWay w v (message_of x) way) (sym runs.same) is in
+      let waits : u (key.Msg m) ≡ Some (message turned.message) = subst (λ (x : World). x (key.Msg m) ≡ Some (message turned.message)) (sym same) ready_carried.waiting in
+      let brought : BringsTurn e u m turned it = does waits fresh (subst (λ (x : World). IsWay x v turned.message way) (sym same) carried) in
+      let brings : BringsTurn e w m turned it = subst (λ (x : World). BringsTurn e x m turned it) same brought in
+      (turn_foot e w m turned brings.cells brings.left, turn_happens it (subst (λ (x : World). AreNew x (letters_from e 0 turned.outcome.out.letters)) same fresh) brings)
+
   -- any turn of the message has the same outcome
   same_outcome : (t : TurnAt e w v m n) → DeliversOn turned.message (found_by w turned.message.delivery) e v (vat_state w v) n turned.outcome turned.touched turned.written → t.turn.outcome ≡ turned.outcome
   same_outcome t d =
@@ -107,3 +131,8 @@ module _ (e : EventName) (w : World) (m : MsgId) (n : ℕ) (g : code-message.Mes
   no_turn h f d =
       let t = turn_at e w v m n f d in
       ∥∥₁_elim delivered (λ a. absurd a) (λ x. h (subst (λ (o : deliveries.Outcome). AreNew w (letters_from e 0 o.out.letters)) (same_outcome t x) t.turns.fresh))
+
+  pub tells_old : (fault : StepFault) (u : World) → u ≡ w → (fault ≡ faults.Memory) ⊎ (AreNew u (letters_from e 0 turned.outcome.out.letters) → ⊥) → TellsStep (record { name = e; act = turn v m n }) w fault
+  tells_old faults.Memory u same h = tt
+  tells_old faults.Impossible u same (inl h) = absurd (cc h)
+  tells_old faults.Impossible u same (inr h) = no_turn (λ a. h (subst (λ (x : World). AreNew x (letters_from e 0 turned.outcome.out.letters)) (sym same) a))

@@ -1,6 +1,7 @@
 // One step of the world: what each kind of event does.
-ghost use Rattle.std.specs.Prelude.{◌≡◌, ◌⊎◌, ◌↔◌, IfOk, IfErr, IsTrue, OnOk, OnErr, Some, map};
+ghost use Rattle.std.specs.Prelude.{◌≡◌, ◌⊎◌, ◌↔◌, IfOk, IfErr, IsTrue, OnOk, OnErr, None, Some, map};
 ghost use Rattle.std.specs.Arc.{arc_value};
+ghost use Rattle.ids.specs.declared.cells.CellKey.TheVariants as key;
 ghost use Rattle.kernele.specs.View.{program_of};
 ghost use Rattle.heap.specs.Found.{Found};
 ghost use Rattle.heap.specs.State.{pending, view_cell, viewed};
@@ -10,6 +11,7 @@ ghost use Rattle.worldcells.specs.EventView.{event_of};
 ghost use Rattle.worldcells.specs.Events.{birth, ask, arrive, forward, learn, turn};
 ghost use Rattle.post.specs.MessageView.{message_of, published_of};
 ghost use Rattle.worldcells.specs.View.{seen_of_world, world_of};
+ghost use Rattle.worldcells.specs.World.{vat_state};
 ghost use Rattle.deliveries.specs.Outcomes.{found_of};
 ghost use Rattle.erules.specs.OutboxView.{letter_of};
 ghost use Rattle.event.specs.Events.{AreNew, Foot, letters_from};
@@ -97,10 +99,10 @@ fn numbers_of(alloc: Global, world: &World, names: &[Text]) -> Result<Vec<VatNo>
 {
     let mut numbers = Vec::new(alloc);
     for name in names {
-        let Some(vat) = world.vat(name) else {
-            return Err(StepFault::Impossible);
-        };
-        numbers.push(vat.number)?;
+        match world.vat(name) {
+            Some(vat) => numbers.push(vat.number)?,
+            None => return Err(StepFault::Impossible),
+        }
     }
     Ok(numbers)
 }
@@ -186,20 +188,27 @@ fn learnable(world: &World, vat: VatNo, promise: PromId) -> Result<Published, St
     ensures ok { IfOk result (λ b. Learnable (world_of world.now) vat promise (published_of b)) }
     ensures err { IfErr result (λ fault. Unlearnable (world_of world.now) vat promise fault) }
 {
-    let Some(state) = world.home(vat) else {
-        return Err(StepFault::Impossible);
-    };
-    if !is_open(state, promise) {
+    if !is_open(world, vat, promise) {
         return Err(StepFault::Impossible);
     }
-    let Some(published) = world.published(promise) else {
-        return Err(StepFault::Impossible);
-    };
-    Ok(published.share()?)
+    match world.published(promise) {
+        Some(published) => Ok(published.share()?),
+        None => Err(StepFault::Impossible),
+    }
 }
 
-/// Whether a promise is open in what a vat knows.
-fn is_open(state: &VatState, promise: PromId) -> bool
+/// Whether a promise is open in a vat's view.
+fn is_open(world: &World, vat: VatNo, promise: PromId) -> bool
+    ensures { IsTrue result ↔ (vat_state (world_of world.now) vat (view_cell promise) ≡ Some (viewed pending)) }
+{
+    match world.home(vat) {
+        Some(state) => is_open_in(state, promise),
+        None => false,
+    }
+}
+
+/// Whether a promise is open in what a state knows.
+fn is_open_in(state: &VatState, promise: PromId) -> bool
     ensures { IsTrue result ↔ (state_of state.now (view_cell promise) ≡ Some (viewed pending)) }
 {
     match state.views.get(&promise) {
@@ -279,14 +288,23 @@ fn check_new(world: &World, event: EventName, letters: &[Letter]) -> Result<(), 
     ensures err { IfErr result (λ fault. (fault ≡ Memory) ⊎ (AreNew (world_of world.now) (letters_from event 0 (map letter_of letters.now)) → ⊥)) }
 {
     for place in 0..letters.len() {
-        let Ok(index) = u32::try_from(place) else {
-            return Err(StepFault::Memory);
-        };
-        if world.message(MsgId { event, index }).is_some() {
-            return Err(StepFault::Impossible);
-        }
+        check_free(world, event, place)?;
     }
     Ok(())
+}
+
+/// There is no message of this event and number yet.
+fn check_free(world: &World, event: EventName, place: usize) -> Result<(), StepFault>
+    ensures ok { OnOk result (world_of world.now (key.Msg (record { event = event; index = place })) ≡ None) }
+    ensures err { IfErr result (λ fault. (fault ≡ Memory) ⊎ (world_of world.now (key.Msg (record { event = event; index = place })) ≡ None → ⊥)) }
+{
+    let Ok(index) = u32::try_from(place) else {
+        return Err(StepFault::Memory);
+    };
+    match world.message(MsgId { event, index }) {
+        Some(_) => Err(StepFault::Impossible),
+        None => Ok(()),
+    }
 }
 
 /// The effects of a turn, if its message may be delivered to its vat. What is seen in the world stays.
