@@ -27,26 +27,26 @@ use Rattle.turn.specs.declared.ticket.Ran.{Ran}
 use Rattle.world.specs.Steps.{Learnable, Ready, RunsAt, TellsStep}
 use Rattle.world.specs.declared.step.StepFault.{StepFault}
 use Rattle.world.specs.declared.step.StepFault.TheVariants as faults
-use Rattle.world.proofs.Impossible.{TurnAt, turn_at, turn_ready}
+use Rattle.world.proofs.Impossible.{TurnAt, turn_at}
 
 -- ---- a message that goes on
+
+-- the vat and the promises on the way to it
+abbrev pub on_way : VatNo → List PromId → VatNo × List PromId
+on_way x ps = (x, ps)
+
+abbrev vat_in : VatNo → Option (VatNo × List PromId) → Option VatNo
+vat_in x None = Some x
+vat_in x (Some q) = Some q.0
+
+abbrev way_in : List PromId → Option (VatNo × List PromId) → List PromId
+way_in ps None = ps
+way_in ps (Some q) = q.1
 
 module _ (e : EventName) (m : MsgId) (w : World) (g h : Message) (v u : VatNo) (through : List PromId) (waits : w (key.Msg m) ≡ Some (message g)) (there : g.place ≡ at_vat v) (moved : Some h ≡ forwarded u g) where
   -- it flies to that vat
   flies : h ≡ record g { place = flying u }
   flies = ap (λ (o : Option Message). unwrap_or o h) (moved ∙ ap (λ p. option_map (λ (x : VatNo). record g { place = flying u }) (waits_at p)) there)
-
-  -- the vat and the promises on the way to it
-  abbrev pub on_way : VatNo → List PromId → VatNo × List PromId
-  on_way x ps = (x, ps)
-
-  abbrev vat_in : VatNo → Option (VatNo × List PromId) → Option VatNo
-  vat_in x None = Some x
-  vat_in x (Some q) = Some q.0
-
-  abbrev way_in : List PromId → Option (VatNo × List PromId) → List PromId
-  way_in ps None = ps
-  way_in ps (Some q) = q.1
 
   -- where the end of its target is in that vat, and these promises are on the way
   gone : (o : Option VatNo) (ps : List PromId) → Some (on_way u through) ≡ option_map (λ x. on_way x ps) o → (o ≡ Some u) × (ps ≡ through)

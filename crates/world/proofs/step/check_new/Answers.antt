@@ -1,4 +1,5 @@
-use Rattle.std.proofs.Common.{◌≡◌, ◌⊎◌, inl, inr, ◌<◌, None, length, map, arith, length-map}
+use Rattle.std.proofs.Common.{◌≡◌, ◌⊎◌, inl, inr, ◌<◌, None, length, map, arith}
+use Rattle.std.proofs.lemmas.List.{length-map}
 use Rattle.std.proofs.lemmas.Result.{err_from_is_err_and}
 use Rattle.erules.specs.OutboxView.{letter_of}
 use Rattle.worldcells.specs.View.{world_of}
@@ -11,12 +12,12 @@ loop-place-init c = left_start (world_of c.args.world.now) c.args.event (map let
 pub loop-place-preserved : goal.loop-place-preserved
 loop-place-preserved c =
     let ls = map letter_of c.args.letters.now in
-    let h : c.loop-place.place < length ls = omega (arith, length-map letter_of c.args.letters.now) in
+    let h : c.loop-place.place < length ls = omega (arith, length-map c.args.letters.now letter_of) in
     left_more (world_of c.args.world.now) c.args.event ls c.loop-place.place h c.loop-place.invariant c.in_ok-check_free.ensures.ok
 
 pub returns-in_err-check_free-clause-err : goal.returns-in_err-check_free-clause-err
 returns-in_err-check_free-clause-err c =
     let ls = map letter_of c.args.letters.now in
-    let h : c.loop-place.place < length ls = omega (arith, length-map letter_of c.args.letters.now) in
+    let h : c.loop-place.place < length ls = omega (arith, length-map c.args.letters.now letter_of) in
     let p = err_from_is_err_and c.from_residual.result c.from_residual.ensures.1 in
     rw (p.1, p.2) (elim c.in_err-check_free.ensures.err [ inl m ↦ inl m | inr old ↦ inr (left_never (world_of c.args.world.now) c.args.event ls c.loop-place.place h c.loop-place.invariant old) ])

@@ -16,4 +16,4 @@ returns-clause-ok c =
 pub returns-in_err-vats-clause-err : goal.returns-in_err-vats-clause-err
 returns-in_err-vats-clause-err c =
     let p = err_from_is_err_and c.from_residual.result c.from_residual.ensures.1 in
-    rw (p.1, p.2) (tells_unnamed c.in_err-vats.field-0 c.args.event c.args.name.now c.args.earlier.now (program_of c.args.script.now) (world_of c.args.world.now) c.in_err-vats.ensures.err)
+    rw (p.1, p.2) (tells_unnamed c.in_err-vats.field-0.0 c.args.event c.args.name.now c.args.earlier.now (program_of c.args.script.now) (world_of c.args.world.now) c.in_err-vats.ensures.err)

@@ -14,7 +14,7 @@ pub returns-clause-ok : goal.returns-clause-ok
 returns-clause-ok c =
     let w = world_of c.args.world.now in
     let u = world_of c.run_at.new.world in
-    let same : u ≡ w = ap (λ (s : State) k. (s k).0) c.in_ok-ran.ensures.seen in
+    let same : u ≡ w = ap {B = World} (λ (s : State) k. (s k).0) c.in_ok-ran.ensures.seen in
     let e = c.args.event in
     let m = c.args.name in
     let g = c.in_ok-message.message in
@@ -28,13 +28,13 @@ pub returns-in_err-check_new-clause-err : goal.returns-in_err-check_new-clause-e
 returns-in_err-check_new-clause-err c =
     let w = world_of c.args.world.now in
     let u = world_of c.run_at.new.world in
-    let same : u ≡ w = ap (λ (s : State) k. (s k).0) c.in_ok-ran.ensures.seen in
+    let same : u ≡ w = ap {B = World} (λ (s : State) k. (s k).0) c.in_ok-ran.ensures.seen in
     let e = c.args.event in
     let m = c.args.name in
     let g = c.in_ok-message.message in
     let v = c.args.vat in
     let r = c.in_ok-ran.ran in
-    let fault = c.in_err-check_new.field-0 in
+    let fault = c.in_err-check_new.field-0.0 in
     let runs = subst (λ (f : Found). RunsAt w e m c.args.budget g f v r) (c.in_ok-lead.ensures ∙ c.in_ok-message.ensures.way.lead) c.in_ok-ran.ensures.ok in
     let p = err_from_is_err_and c.from_residual-in_err-check_new.result c.from_residual-in_err-check_new.ensures.1 in
     rw (p.1, p.2) (tells_old e w m c.args.budget g v r c.in_ok-message.ensures.ok runs fault u same (rw c.as_slice.ensures.value at c.in_err-check_new.ensures.err))

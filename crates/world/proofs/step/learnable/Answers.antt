@@ -1,4 +1,4 @@
-use Rattle.std.proofs.Common.{Some, ap, sym, ◌∙◌}
+use Rattle.std.proofs.Common.{ap, sym, ◌∙◌}
 use Rattle.std.proofs.lemmas.Bool.{false≢true}
 use Rattle.worldcells.specs.World.{published_in}
 use Rattle.world.proofs.step.learnable.Goals as goal
@@ -8,9 +8,3 @@ returns-then-not-is_open-clause-err c = λ b h. false≢true (sym c.if-not-is_op
 
 pub returns-in-None-clause-err : goal.returns-in-None-clause-err
 returns-in-None-clause-err c = λ b h. absurd (cc (ap published_in c.in-None.ensures, h.resolved))
-
-pub returns-in-Some-clause-ok : goal.returns-in-Some-clause-ok
-returns-in-Some-clause-ok c = record {
-  unresolved = c.is_open.ensures.0 c.if-not-is_open.false;
-  resolved = ap published_in (sym c.in-Some.ensures) ∙ ap Some (sym c.in_ok-share.ensures);
-}

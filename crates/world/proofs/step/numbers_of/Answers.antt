@@ -11,7 +11,7 @@ loop-name-init c = numbers_none (world_of c.args.world.now) c.new-numbers.result
 pub loop-name-preserved : goal.loop-name-preserved
 loop-name-preserved c =
     numbers_more (world_of c.args.world.now) c.args.names.now c.loop-name.name-index c.name-item.result (vat_of c.in-Some.vat.now) c.loop-name.numbers.items c.push.new.self.items c.loop-name-test.true c.name-item.is (ap vat_in (sym c.in-Some.ensures))
-    c.in_ok-push.ensures.items c.loop-name.invariant
+    c.in_ok-push-in-Some.ensures.items c.loop-name.invariant
 
 pub returns-in-None-clause-err : goal.returns-in-None-clause-err
 returns-in-None-clause-err c = not_named (world_of c.args.world.now) c.args.names.now c.loop-name.name-index c.name-item.result c.loop-name-test.true c.name-item.is (ap vat_in (sym c.in-None.ensures))
