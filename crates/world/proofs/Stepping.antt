@@ -121,9 +121,9 @@ module _ (e : EventName) (w : World) (m : MsgId) (n : ℕ) (g : code-message.Mes
       let o = t.turn.outcome in
       let same : k ≡ turned.message = ap (λ (c : Option Content). unwrap_or (message_in c) k) (sym t.turns.waiting ∙ ready_carried.waiting) in
       let here : DeliversOn k (found_by w k.delivery) e v (vat_state w v) n o t.turn.touched t.turn.written =
-          subst (λ (x : VatNo). DeliversOn k (found_by w k.delivery) e x (vat_state w x) n o t.turn.touched t.turn.written) t.vat t.turns.delivers in
+      subst (λ (x : VatNo). DeliversOn k (found_by w k.delivery) e x (vat_state w x) n o t.turn.touched t.turn.written) t.vat t.turns.delivers in
       let also : DeliversOn turned.message (found_by w turned.message.delivery) e v (vat_state w v) n o t.turn.touched t.turn.written =
-          subst (λ (x : Message). DeliversOn x (found_by w x.delivery) e v (vat_state w v) n o t.turn.touched t.turn.written) same here in
+      subst (λ (x : Message). DeliversOn x (found_by w x.delivery) e v (vat_state w v) n o t.turn.touched t.turn.written) same here in
       delivery_same also.0 d.0
 
   -- so there is none where something that it sends is not new

@@ -6,9 +6,9 @@ ghost use Rattle.event.specs.Runs.{PlainRun};
 ghost use Rattle.world.specs.Reruns.{TellsRun};
 
 use crate::step::{StepFault, step};
+use std::alloc::Global;
 use worldcells::event::Event;
 use worldcells::world::World;
-use std::alloc::Global;
 
 /// The world that these events lead to from the empty one, one after another.
 ///

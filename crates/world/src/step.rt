@@ -23,7 +23,9 @@ ghost use Rattle.world.specs.declared.step.StepFault.TheVariants.{Memory};
 use cells::swaps::Swaps;
 use deliveries::lead::Lead;
 use erules::outbox::Letter;
-use event::effects::{Effects, ask_effects, birth_effects, learn_effects, move_effects, turn_effects};
+use event::effects::{
+    Effects, ask_effects, birth_effects, learn_effects, move_effects, turn_effects,
+};
 use event::forwarding::onward;
 use event::learning::learn;
 use event::ready::{Delay, Way, check_ready, message_at_vat};
@@ -31,13 +33,13 @@ use heap::state::{VatState, View};
 use ids::names::{EventName, MsgId, PromId, VatNo};
 use ids::text::Text;
 use kernele::tree::Program;
-use worldcells::event::{Action, Event};
 use post::message::Message;
 use post::published::Published;
-use worldcells::world::World;
 use std::alloc::{AllocError, AllocFailed, Global};
 use turn::ticket::{Out, Ran, Ticket};
 use undo::records::{make_rooms, swap_records};
+use worldcells::event::{Action, Event};
+use worldcells::world::World;
 
 /// The seat of turns that are run from none.
 const NO_SEAT: u64 = 0;
@@ -82,14 +84,7 @@ fn effects_of_birth(
         return Err(StepFault::Impossible);
     };
     let vats = numbers_of(alloc, world, earlier)?;
-    Ok(birth_effects(
-        alloc,
-        event,
-        name,
-        earlier,
-        vats.as_slice(),
-        script,
-    )?)
+    Ok(birth_effects(alloc, event, name, earlier, vats.as_slice(), script)?)
 }
 
 /// The numbers of the vats of these names, if each has one.
@@ -218,12 +213,7 @@ fn is_open_in(state: &VatState, promise: PromId) -> bool
 }
 
 /// A message that may be delivered now to this vat, shared, and the way to its target.
-fn ready(
-    alloc: Global,
-    world: &World,
-    vat: VatNo,
-    name: MsgId,
-) -> Result<(Message, Way), StepFault>
+fn ready(alloc: Global, world: &World, vat: VatNo, name: MsgId) -> Result<(Message, Way), StepFault>
     ensures ok { IfOk result (λ r. Ready (world_of world.now) name (message_of r.0) vat) }
     ensures way { IfOk result (λ r. IsWay (world_of world.now) vat (message_of r.0) r.1) }
     ensures err { IfErr result (λ fault. IsUnready (world_of world.now) name vat fault) }
