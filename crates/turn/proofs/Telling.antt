@@ -1,11 +1,10 @@
 -- What a turn leaves that told something, from what was done to its draft.
-use Rattle.std.proofs.Common.{◌≡◌, ℕ, Option, codes, is_some, sym, ap, subst, ◌∙◌}
+use Rattle.std.proofs.Common.{◌≡◌, Option, codes, is_some, sym, ap, subst, ◌∙◌}
 use Rattle.ids.specs.declared.names.PromId.{PromId}
 use Rattle.ids.specs.declared.names.EjId.{EjId}
 use Rattle.kernele.specs.Tree.{Name}
 use Rattle.values.specs.Data.{Val, Reply, throws}
 use Rattle.values.specs.declared.value.Value.{Value}
-use Rattle.heap.specs.State.{Cell, Content, State}
 use Rattle.heap.specs.Drafted.{Drafted}
 use Rattle.heap.specs.Drafts.{began_with, touched_of, writes_of}
 use Rattle.heap.specs.Found.{Found as FoundCells, touched_in, writes_in}

@@ -1,4 +1,4 @@
-use Rattle.std.proofs.Common.{◌≡◌, refl, ap, ◌∙◌}
+use Rattle.std.proofs.Common.{refl, ap, ◌∙◌}
 use Rattle.values.specs.View.{val_of, vals_of}
 use Rattle.post.specs.DeliveryView.{call_of}
 use Rattle.erules.specs.Outcomes.{halt, value}

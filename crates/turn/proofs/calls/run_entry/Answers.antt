@@ -1,4 +1,4 @@
-use Rattle.std.proofs.Common.{ap, rules, subst}
+use Rattle.std.proofs.Common.{rules, subst}
 use Rattle.code.specs.View.{trees_of_codes}
 use Rattle.values.specs.Data.{null}
 use Rattle.erules.specs.Answered.{OnEnd}

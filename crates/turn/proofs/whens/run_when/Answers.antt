@@ -1,5 +1,4 @@
-use Rattle.std.proofs.Common.{◌≡◌, ap, ◌∙◌, subst}
-use Rattle.values.specs.View.{val_of}
+use Rattle.std.proofs.Common.{ap, ◌∙◌, subst}
 use Rattle.sends.specs.Vats.{ended}
 use Rattle.post.specs.DeliveryView.{when_of}
 use Rattle.erules.specs.Answered.{OnEnd}
