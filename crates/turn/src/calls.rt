@@ -25,7 +25,12 @@ use std::alloc::{AllocError, Global};
 use values::value::Value;
 
 /// Makes a call that was sent on the end of its target. Its arguments come in first, and then a list that it is made on.
-pub(crate) fn run_call(w: &mut Working, call: &Call, lead: &Lead, into: &mut Value) -> Result<(), Stop>
+pub(crate) fn run_call(
+    w: &mut Working,
+    call: &Call,
+    lead: &Lead,
+    into: &mut Value,
+) -> Result<(), Stop>
     ensures { OnEnd result into.new w.new (Led (call_met (call_of call.now) (found_of lead.now) (at w.old)) (call_meeting (call_of call.now) (found_of lead.now) (at w.old))) }
 {
     bring_in(w, call, lead)?;
