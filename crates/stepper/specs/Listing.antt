@@ -1,33 +1,37 @@
 -- The journal and a cone as texts.
 use Rattle.std.specs.Prelude.{ℕ, ◌+◌, List, [], ◌∷◌, ◌++◌, map, Bool, true, false, cond, Option, Some, None, codes}
 use Rattle.std.specs.Fmt.{decimal}
+use Rattle.std.specs.Ordering.{is_eq}
+use Rattle.ids.specs.Cells.{vat_cmp}
 use Rattle.ids.specs.Names.{event_text, message_text, promise_text}
 use Rattle.ids.specs.declared.names.EventName.{EventName}
 use Rattle.ids.specs.declared.names.PromId.{PromId}
 use Rattle.ids.specs.declared.names.VatNo.{VatNo}
 use Rattle.kernele.specs.Tree.{Name}
 use Rattle.worldcells.specs.Events.{Act, birth, ask, arrive, forward, learn, turn, Event}
-use Rattle.worldcells.specs.World.{same_vat}
 use Rattle.journal.specs.Lines.{Line}
 use Rattle.causality.specs.Selections.{name_of}
 
 -- the event of a birth names the vat that is born
-abbrev pub born_as : VatNo → Event → Option Name → Option Name
-born_as v (record { name = e; act = birth x earlier script }) other = cond (same_vat (record { 0 = e }) v) (Some x) other
-born_as v e other = other
+abbrev pub born_by : VatNo → EventName → Act → Option Name → Option Name
+born_by v e (birth x earlier script) other = cond (is_eq (vat_cmp (record { 0 = e }) v)) (Some x) other
+born_by v e a other = other
 
--- the name with which a vat was born, also by a birth that is undone
-abbrev pub born_by : VatNo → Line → Option Name → Option Name
-born_by v l other = born_as v l.entry.event other
+abbrev pub born_as : VatNo → Event → Option Name → Option Name
+born_as v e other = born_by v e.name e.act other
+
+-- the name with which a vat was born, also by a birth that is undone; before these lines it was this
+abbrev pub born_among : List Line → VatNo → Option Name → Option Name
+born_among [] v known = known
+born_among (l ∷ ls) v known = born_among ls v (born_as v l.entry.event known)
 
 abbrev pub born : List Line → VatNo → Option Name
-born [] v = None
-born (l ∷ ls) v = born_by v l (born ls v)
+born lines v = born_among lines v None
 
 -- learn NAME PROM
-abbrev pub learn_act_text : Option Name → PromId → List ℕ
-learn_act_text (Some x) p = codes "learn " ++ (x ++ (codes " " ++ promise_text p))
-learn_act_text None p = []
+abbrev pub learn_text : Option Name → PromId → List ℕ
+learn_text (Some x) p = codes "learn " ++ (x ++ (codes " " ++ promise_text p))
+learn_text None p = []
 
 -- birth NAME, ask NAME, arrive M, forward M, learn NAME P, turn M
 abbrev pub act_text : (VatNo → Option Name) → Act → List ℕ
@@ -35,7 +39,7 @@ act_text names (birth x earlier script) = codes "birth " ++ x
 act_text names (ask x program) = codes "ask " ++ x
 act_text names (arrive m) = codes "arrive " ++ message_text m
 act_text names (forward m) = codes "forward " ++ message_text m
-act_text names (learn v p) = learn_act_text (names v) p
+act_text names (learn v p) = learn_text (names v) p
 act_text names (turn v m budget) = codes "turn " ++ message_text m
 
 abbrev pub mark_text : Bool → List ℕ

@@ -7,7 +7,6 @@ use Rattle.ids.specs.declared.names.EventName.{EventName}
 use Rattle.ids.specs.declared.names.MsgId.{MsgId}
 use Rattle.ids.specs.declared.names.PromId.{PromId}
 use Rattle.ids.specs.declared.names.VatNo.{VatNo}
-use Rattle.ids.specs.declared.cells.CellKey.TheVariants as key
 use Rattle.kernele.specs.Tree.{Trees}
 use Rattle.scopes.specs.Scope as scope
 use Rattle.values.specs.Shown as values
@@ -19,7 +18,6 @@ use Rattle.ereader.specs.Shown as reading
 use Rattle.ereader.specs.declared.fault.ReadFault.{ReadFault}
 use Rattle.post.specs.Messages.{Vat}
 use Rattle.worldcells.specs.Events.{birth, ask, arrive, forward, learn}
-use Rattle.worldcells.specs.World.{vat_named}
 use Rattle.event.specs.Events.{Foot, Turn, birth_foot, ask_foot, first_message}
 use Rattle.agenda.specs.Enabled.{Enabled, First}
 use Rattle.agenda.specs.declared.agenda.Step.{Step}
@@ -29,7 +27,8 @@ use Rattle.journal.specs.Lines.{Line}
 use Rattle.causality.specs.Exact.{Cone}
 use Rattle.causality.specs.Selections.{chosen}
 use Rattle.book.specs.Refusals.{Refusal, no_vat, name_taken, no_message, not_there, not_ready, before, nothing_to_learn, full, stale, vat_out, no_ticket, no_event, no_position, not_live, still_live, not_closed, crossed, cause_missing, dependent, bad_budget, unchecked}
-use Rattle.book.specs.Refusals.{birth_refusal, ask_refusal, arrival_refusal, forward_refusal, learn_refusal, learning_refusal, can_learn, checkout_refusal, undo_refusal, redo_refusal, cone_refusal, exchange_refusal}
+use Rattle.book.specs.Refusals.{birth_refusal, ask_refusal, arrival_refusal, forward_refusal, learning_refusal, checkout_refusal, undo_refusal, redo_refusal, cone_refusal, exchange_refusal}
+use Rattle.book.specs.Learning.{LearnsNamed, RefusesNamed}
 use Rattle.book.specs.Books.{Book}
 use Rattle.book.specs.Calls.{EntersNext, TurnsNext, Undoes, Redoes, Exchanges, StoodAt}
 use Rattle.commands.specs.Lines.{line_of, behind_line}
@@ -37,9 +36,9 @@ use Rattle.commands.specs.declared.numbers.PromiseName.{PromiseName}
 use Rattle.commands.specs.Commands as command
 use Rattle.commands.specs.Commands.{Spelled, spelled_by, fault_text}
 use Rattle.commands.specs.Scripts.{fault_of, script_of, behind_lines}
-use Rattle.stepper.specs.Show.{ByBirth, Shows}
+use Rattle.stepper.specs.Show.{Shows}
 use Rattle.stepper.specs.Listing.{journal_text, cone_text}
-use Rattle.stepper.specs.Steps.{enabled_text}
+use Rattle.stepper.specs.Steps.{ShowsEnabled}
 use Rattle.commands.specs.declared.command.LineFault.{LineFault}
 
 -- no CODE NAME ARGS
@@ -143,18 +142,19 @@ FirstIn b s = First b.world (λ v. has_vat v b.out) s
 abbrev pub EnabledIn : Book → List Step → Type 0
 EnabledIn b steps = Enabled b.world (λ v. has_vat v b.out) steps
 
--- so many steps, each the first that may be done, up to one that finds nothing
+-- one step is the first that may be done; then a next one may follow, unless nothing was found or it was refused. Without memory it is not
+-- known what may be done.
+pub data Steps (budget : ℕ) : Book → List ℕ → Bool → Book → Bool → Type 0 where
+  step_done : {b d : Book} {s : Step} {reply : List ℕ} → FirstIn b (Some s) → Moves budget b s reply false d → Steps budget b reply false d true
+  step_refused : {b d : Book} {s : Step} {reply : List ℕ} → FirstIn b (Some s) → Moves budget b s reply true d → Steps budget b reply true d false
+  step_idle : {b : Book} → FirstIn b None → Steps budget b idle_text false b false
+  step_without_memory : {b : Book} → Steps budget b (refused (codes "B20 Memory")) true b false
+
+-- so many steps, up to one behind which none follows
 pub data Runs (budget : ℕ) : ℕ → Book → List ℕ → Bool → Book → Type 0 where
   runs_out : {b : Book} → Runs budget 0 b [] false b
-  runs_idle : {n : ℕ} {b : Book} → FirstIn b None → Runs budget (suc n) b idle_text false b
-  runs_on : {n : ℕ} {b c d : Book} {s : Step} {reply replies : List ℕ} {q r : Bool} → FirstIn b (Some s) → Moves budget b s reply q c → Runs budget n c replies r d
-      → Runs budget (suc n) b (reply ++ replies) (q || r) d
-  -- without memory it is not known what may be done
-  runs_blind : {n : ℕ} {b d : Book} {replies : List ℕ} {r : Bool} → Runs budget n b replies r d → Runs budget (suc n) b (refused (codes "B20 Memory") ++ replies) true d
-
--- the promises of an event and a number, which a command names without their homes
-abbrev pub IsNamed : PromiseName → PromId → Type 0
-IsNamed n p = (p.event ≡ n.event) × (p.index ≡ n.index)
+  runs_on : {n : ℕ} {b c d : Book} {reply replies : List ℕ} {q r : Bool} → Steps budget b reply q c true → Runs budget n c replies r d → Runs budget (suc n) b (reply ++ replies) (q || r) d
+  runs_last : {n : ℕ} {b d : Book} {reply : List ℕ} {r : Bool} → Steps budget b reply r d false → Runs budget (suc n) b reply r d
 
 -- With a budget for each turn: a command leads from a book to a reply, refused or not, and a book.
 pub data Answers (budget : ℕ) : Book → Spelled → List ℕ → Bool → Book → Type 0 where
@@ -162,15 +162,12 @@ pub data Answers (budget : ℕ) : Book → Spelled → List ℕ → Bool → Boo
   forward_moves : {b d : Book} {m : MsgId} {reply : List ℕ} {r : Bool} → Moves budget b (step.Forward m) reply r d → Answers budget b (command.forward m) reply r d
   turn_moves : {b d : Book} {m : MsgId} {reply : List ℕ} {r : Bool} → Moves budget b (step.Turn m) reply r d → Answers budget b (command.turn m) reply r d
   learn_without_memory : {b : Book} {x : List ℕ} {n : PromiseName} → Answers budget b (command.learn x n) (refused (codes "B20 Memory")) true b
-  -- no vat, or no promise of that name that the vat can learn of
-  learn_refused : {b : Book} {x : List ℕ} {n : PromiseName} {r : Refusal} → ((p : PromId) → IsNamed n p → learn_refusal b x p ≡ Some r) → Answers budget b (command.learn x n) (refused (refusal_text r)) true b
-  learn_moves : {b d : Book} {x : List ℕ} {n : PromiseName} {v : Vat} {p : PromId} {reply : List ℕ} {r : Bool} → vat_named b.world x ≡ Some v → IsNamed n p → can_learn b.world v.number p ≡ true
-      → Moves budget b (step.Learn v.number p) reply r d → Answers budget b (command.learn x n) reply r d
-  steps : {b d : Book} {reply : List ℕ} {r : Bool} → Runs budget 1 b reply r d → Answers budget b command.step reply r d
+  learn_refused : {b : Book} {x : List ℕ} {n : PromiseName} {r : Refusal} → RefusesNamed b x n.event n.index r → Answers budget b (command.learn x n) (refused (refusal_text r)) true b
+  learn_accepted : {b d : Book} {x : List ℕ} {n : PromiseName} {e : EventName} → LearnsNamed x n.event n.index e b d → Answers budget b (command.learn x n) (done_text e) false d
+  stepped : {b d : Book} {reply : List ℕ} {r more : Bool} → Steps budget b reply r d more → Answers budget b command.step reply r d
   runs : {b d : Book} {n : ℕ} {reply : List ℕ} {r : Bool} → Runs budget n b reply r d → Answers budget b (command.run n) reply r d
   enabled_without_memory : {b : Book} → Answers budget b command.enabled (refused (codes "B20 Memory")) true b
-  enabled : {b : Book} {vats : List (VatNo × List ℕ)} {found : List Step} → EnabledIn b found → ByBirth (λ x. b.world (key.Name x)) vats
-      → Answers budget b command.enabled (enabled_text vats found) false b
+  enabled : {b : Book} {found : List Step} {text : List ℕ} → EnabledIn b found → ShowsEnabled b.world found text → Answers budget b command.enabled text false b
   ask_without_memory : {b : Book} {x text : List ℕ} → Answers budget b (command.ask x text) (refused (codes "B20 Memory")) true b
   asked_without_memory : {b : Book} {x text : List ℕ} → Answers budget b (command.ask x text) (refused (codes "L7 Memory")) true b
   asked_unread : {b : Book} {x text : List ℕ} {f : ReadFault} → ReadAs text (Err f) → Answers budget b (command.ask x text) (refused (reading.shown f)) true b
@@ -209,7 +206,7 @@ pub data AnswersBirth : Book → List ℕ → List (List ℕ) → Result (List �
   script_unread : {b : Book} {x text : List ℕ} {earlier : List (List ℕ)} {f : ReadFault} → ReadAs text (Err f) → AnswersBirth b x earlier (Ok text) (refused (reading.shown f)) true b
   birth_refused : {b : Book} {x text : List ℕ} {earlier : List (List ℕ)} {program : Trees} {r : Refusal} → ReadAs text (Ok program) → birth_refusal b x earlier program ≡ Some r
       → AnswersBirth b x earlier (Ok text) (refused (refusal_text r)) true b
-  birth_accepted : {b d : Book} {x text : List ℕ} {earlier : List (List ℕ)} {program : Trees} {e : EventName} {vats : List Vat} → ReadAs text (Ok program) → birth_refusal b x earlier program ≡ None
+  birth_accepted : {b d : Book} {x text : List ℕ} {earlier : List (List ℕ)} {program : Trees} {e : EventName} (vats : List Vat) → ReadAs text (Ok program) → birth_refusal b x earlier program ≡ None
       → EntersNext (record { name = e; act = birth x earlier program }) (birth_foot e x earlier vats program) 0 b d → AnswersBirth b x earlier (Ok text) (queued_text e) false d
 
 -- what the first line of an input says: why it is no text, or the command that it spells, if any

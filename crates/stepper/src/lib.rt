@@ -1,8 +1,8 @@
 //! Answers commands on vats: one reply for each.
 #![tactic(auto)]
 
-mod ended;
 mod enabled;
+mod ended;
 mod engine;
 mod listing;
 mod reply;
