@@ -1,5 +1,5 @@
 -- When a call of the book is refused.
-use Rattle.std.specs.Prelude.{ℕ, zero, suc, is_some, ◌||◌, ◌&&◌, ◌==◌, ◌+◌, not, cond, Bool, false, List, [], ◌∷◌, length, Option, Some, None, Ok, Err, nat_lt, slice_get}
+use Rattle.std.specs.Prelude.{ℕ, zero, suc, is_some, ◌||◌, ◌==◌, ◌+◌, not, cond, Bool, false, List, [], ◌∷◌, length, Option, Some, None, Ok, Err, nat_lt, slice_get}
 use Rattle.std.specs.Option.{option_map}
 use Rattle.history.specs.Subject.{meets}
 use Rattle.kernele.specs.Tree.{Name, Trees}
@@ -9,12 +9,11 @@ use Rattle.ids.specs.declared.names.EventName.{EventName}
 use Rattle.ids.specs.declared.names.VatNo.{VatNo}
 use Rattle.ids.specs.declared.names.MsgId.{MsgId}
 use Rattle.ids.specs.declared.names.PromId.{PromId}
-use Rattle.heap.specs.State.{view_cell}
 use Rattle.post.specs.Messages.{Vat, flies_to, waits_at, Message}
-use Rattle.worldcells.specs.World.{World, vat_named, message_of, published_as, vat_state}
+use Rattle.worldcells.specs.World.{World, vat_named, message_of}
 use Rattle.event.specs.Ready.{lost, early, place_of}
 use Rattle.event.specs.Forwarding.{onward_of}
-use Rattle.agenda.specs.Agendas.{is_open}
+use Rattle.agenda.specs.Agendas.{can_learn}
 use Rattle.event.specs.declared.ready.Unready.{Unready}
 use Rattle.event.specs.declared.ready.Unready.TheVariants as why
 use Rattle.journal.specs.Lines.{plain, Line}
@@ -130,10 +129,7 @@ forward_refusal b m =
     first (option_map (refusal_of m) (lost b.world m))
     (first (onward_refusal b.world (message_of b.world m) (place_of (message_of b.world m))) (full_refusal b))
 
--- what a vat can learn: the promise is open in its view, and was published
-abbrev pub can_learn : World → VatNo → PromId → Bool
-can_learn w v p = is_open (vat_state w v (view_cell p)) && is_some (published_as w p)
-
+-- what a vat learns: the promise is open in its view, and was published
 abbrev pub learning_refusal : Book → VatNo → PromId → Option Refusal
 learning_refusal b v p = first (refuse_where (not (can_learn b.world v p)) nothing_to_learn) (full_refusal b)
 

@@ -1,6 +1,7 @@
 // The book: the world, the journal that made it, the names that are not drawn yet, and the tickets that are out.
-ghost use Rattle.std.specs.Prelude.{◌≡◌, ◌≢◌, ◌≤◌, ◌+◌, ◌↔◌, List, None, Some, true, false, IsTrue, IfOk, IfErr, IfSome, OnOk, OnErr, length, filter, map};
-ghost use Rattle.std.specs.Option.{option_map};
+ghost use Rattle.std.specs.Prelude.{◌≡◌, ◌≢◌, ◌≤◌, ◌+◌, ◌↔◌, List, Option, None, Some, true, false, IsTrue, IfOk, IfErr, IfSome, OnOk, OnErr, length, filter, map, not};
+ghost use Rattle.std.specs.Option.{option_map, ForSome};
+ghost use Rattle.history.specs.Records.{contents};
 ghost use Rattle.history.specs.Chains.{last_writer};
 ghost use Rattle.history.specs.Journal.{live_set};
 ghost use Rattle.ids.specs.declared.cells.CellKey.{CellKey};
@@ -10,14 +11,19 @@ ghost use Rattle.scopes.specs.Check.{scopes_of};
 ghost use Rattle.scopes.specs.Scope.{checked_program};
 ghost use Rattle.scopes.specs.declared.naming.TopName.{TopName};
 ghost use Rattle.heap.specs.Found.{Found};
+ghost use Rattle.heap.specs.State.{view_cell, viewed};
+ghost use Rattle.heap.specs.View.{view_of, state_of as state_in_cells};
 ghost use Rattle.worldcells.specs.Events.{birth, ask, arrive, forward, learn};
 ghost use Rattle.worldcells.specs.EventView.{event_of};
-ghost use Rattle.post.specs.MessageView.{place_of, message_of, vat_of};
-ghost use Rattle.worldcells.specs.Theory.{state_of_world};
+ghost use Rattle.post.specs.MessageView.{place_of, message_of, published_of, vat_of};
+ghost use Rattle.worldcells.specs.Theory.{cells, state_of_world};
 ghost use Rattle.worldcells.specs.View.{world_of};
 ghost use Rattle.post.specs.Messages.{Vat as VatModel, at_vat};
-ghost use Rattle.worldcells.specs.World.{vat, vat_named, vat_state};
-ghost use Rattle.event.specs.Events.{AreNamed, Foot, Turn, birth_foot, ask_foot};
+ghost use Rattle.worldcells.specs.World.{World as WorldModel, vat, vat_named, vat_state};
+ghost use Rattle.event.specs.Events.{Foot, Turn, birth_foot, ask_foot};
+ghost use Rattle.event.specs.ReadyView.{IsWay};
+ghost use Rattle.agenda.specs.Agendas.{AlikeBut, KnownAs, can_learn, is_open as is_open_of, open_view};
+ghost use Rattle.agenda.specs.AgendaView.{NotedIn};
 ghost use Rattle.agenda.specs.Enabled.{Enabled, First};
 ghost use Rattle.event.specs.Effects.{Happens};
 ghost use Rattle.deliveries.specs.Outcomes.{told_of};
@@ -27,31 +33,33 @@ ghost use Rattle.journal.specs.Lines.{plain, lines_of, entries_in};
 ghost use Rattle.causality.specs.Exact.{Cone};
 ghost use Rattle.causality.specs.Journals.{IsJournal};
 ghost use Rattle.causality.specs.Selections.{chosen};
-ghost use Rattle.undo.specs.CoreView.{items_of};
+ghost use Rattle.undo.specs.CoreView.{items_of, state_of};
 ghost use Rattle.desk.specs.Desks.{has_vat, is_out, without};
-ghost use Rattle.std.specs.Option.{option_map};
 ghost use Rattle.desk.specs.DeskView.{lent_of as desk_lent, out_of};
-ghost use Rattle.book.specs.Refusals.{birth_refusal, ask_refusal, arrival_refusal, forward_refusal, learn_refusal, checkout_refusal, full_refusal, check_refusal, taken_refusal, undo_refusal, redo_refusal, cone_refusal, exchange_refusal, budget_refusal, refusal_of, full, journal_full};
+ghost use Rattle.book.specs.Refusals.{birth_refusal, ask_refusal, arrival_refusal, forward_refusal, Refusal, named_refusal, learn_refusal, learning_refusal, nothing_to_learn, refuse_where, checkout_refusal, full_refusal, check_refusal, taken_refusal, undo_refusal, redo_refusal, cone_refusal, exchange_refusal, budget_refusal, refusal_of, full, journal_full};
 ghost use Rattle.book.specs.Books.{blank};
-ghost use Rattle.book.specs.Calls.{EntersNext, Admitted, TurnsNext, lent_of, Lends, Commits, IsKnown, IsFresh, Undoes, Redoes, Exchanges, StoodAt, live_events};
-ghost use Rattle.book.specs.Fault.{Tells, TellsCommit, Unturned};
+ghost use Rattle.book.specs.Calls.{EntersNext, Admitted, AdmitsArrival, AdmitsForward, AdmitsLearning, Numbers, CanLearn, LeadsAsBefore, TurnsNext, lent_of, Lends, Commits, IsKnown, IsFresh, Undoes, Redoes, Exchanges, StoodAt, live_events};
+ghost use Rattle.book.specs.Fault.{Tells, delay_tells, TellsLost, TellsStale, TellsCommit, Unturned};
+ghost use Rattle.book.specs.Learning.{LearnsNamed, TellsNamed};
 ghost use Rattle.book.specs.Standing.{Stands};
 ghost use Rattle.book.specs.declared.book.TheConstants.{MOST_ENTRIES};
 ghost use Rattle.book.specs.declared.fault.BookFault.TheVariants.{NoTicket, Stale, Full, Memory};
 
 use crate::fault::BookFault;
-use agenda::agenda::{Agenda, Step};
 use crate::selecting::{check_cone, check_exchange, check_redo, check_undo};
+use agenda::agenda::{Agenda, Step};
 use causality::cone::cone;
 use causality::names::NameSet;
 use causality::selection::positions;
 use cells::swaps::Swaps;
 use deliveries::lead::Lead;
-use desk::desk::{Desk, Lent};
-use event::effects::{Effects, ask_effects, birth_effects, learn_effects, move_effects, turn_effects};
-use event::forwarding::onward;
-use event::found::is_found;
 use deliveries::outcome::Ended;
+use desk::desk::{Desk, Lent};
+use event::effects::{
+    Effects, ask_effects, birth_effects, learn_effects, move_effects, turn_effects,
+};
+use event::forwarding::{Destination, onward};
+use event::found::is_found;
 use event::learning::learn;
 use event::ready::{Delay, Unready, Way, check_ready, message_at_vat};
 use heap::reach::Footprint;
@@ -61,15 +69,15 @@ use ids::names::{EventName, MsgId, PromId, VatNo};
 use ids::text::Text;
 use journal::entry::Entry;
 use kernele::tree::Program;
-use worldcells::event::{Action, Event};
 use post::message::{Message, Place, same_sent};
 use post::published::Published;
 use post::vat::Vat;
-use worldcells::world::World;
 use scopes::{CheckFault, Outer, check};
 use std::alloc::{AllocError, Global};
 use turn::ticket::{Out, Ran, Task, Ticket};
 use undo::undoing::{Core, Deed};
+use worldcells::event::{Action, Event};
+use worldcells::world::World;
 
 /// The greatest name that an event may have.
 const LAST_NAME: u64 = 4_294_967_295;
@@ -102,6 +110,7 @@ pub struct Book {
     pub ghost in_range: { next ≤ 4294967296 },
     pub ghost stands: { Stands core next (out_of desk) },
     pub ghost within: { length (items_of core) ≤ MOST_ENTRIES },
+    pub ghost noted: { ForSome agenda (NotedIn (contents cells (state_of core))) },
 }
 
 fn check_program(alloc: Global, program: &Program, outer: &Outer) -> Result<(), BookFault>
@@ -126,7 +135,9 @@ fn unready_fault(message: MsgId, unready: Unready) -> BookFault
     }
 }
 
-fn delay_fault(message: MsgId, delay: Delay) -> BookFault {
+fn delay_fault(message: MsgId, delay: Delay) -> BookFault
+    ensures { (refusal : Option Refusal) → delay_tells message delay refusal → Tells result refusal }
+{
     match delay {
         Delay::Memory => BookFault::Memory,
         Delay::Unready(unready) => unready_fault(message, unready),
@@ -154,10 +165,48 @@ fn is_found_at(alloc: Global, footprint: &Footprint, world: &World, vat: VatNo) 
 }
 
 /// Whether a promise is open in the view of a vat, if it has a state.
-fn is_open(state: Option<&VatState>, promise: PromId) -> bool {
-    match state {
-        Some(state) => matches!(state.views.get(&promise), Some(View::Open)),
+fn is_open(world: &World, vat: VatNo, promise: PromId) -> bool
+    ensures { result ≡ open_view (world_of world.now) promise vat }
+{
+    match world.home(vat) {
+        Some(state) => is_open_in(state, promise),
         None => false,
+    }
+}
+
+/// Whether a promise is open in the view of this state.
+fn is_open_in(state: &VatState, promise: PromId) -> bool
+    ensures { result ≡ is_open_of (state_in_cells state.now (view_cell promise)) }
+{
+    match state.views.get(&promise) {
+        Some(view) => is_open_view(view),
+        None => false,
+    }
+}
+
+/// Whether nothing was learnt of a promise.
+fn is_open_view(view: &View) -> bool
+    ensures { result ≡ is_open_of (Some (viewed (view_of view.now))) }
+{
+    match view {
+        View::Open => true,
+        View::Resolved(_) => false,
+    }
+}
+
+/// The agenda with what the cells hold now that an event touched. Without memory there is none, and it is to be found anew.
+fn noted(
+    alloc: Global,
+    agenda: Option<Agenda>,
+    world: &World,
+    touched: &[CellKey],
+) -> Option<Agenda>
+    ensures { (before : WorldModel) → ForSome agenda (NotedIn before) → AlikeBut touched.now before (world_of world.now) → ForSome result (NotedIn (world_of world.now)) }
+{
+    let mut agenda = agenda?;
+    match agenda.note(alloc, world, touched) {
+        Ok(()) => Some(agenda),
+        Err(_) => None,
     }
 }
 
@@ -178,6 +227,23 @@ fn is_copy(found: Option<&Message>, carried: &Message) -> bool
         Some(message) => same_sent(message, carried),
         None => true,
     }
+}
+
+/// Where the message of a ticket leads, if it is ready and leads where it led.
+fn same_way(alloc: Global, world: &World, out: &Task) -> Result<Way, BookFault>
+    ensures ok { OnOk result (LeadsAsBefore (world_of world.now) out.now) }
+    ensures way { IfOk result (IsWay (world_of world.now) out.now.vat (message_of out.now.message)) }
+    ensures err { IfErr result (λ fault. TellsLost fault (world_of world.now) out.now) }
+{
+    let way = match check_ready(alloc, world, &out.message, out.vat) {
+        Ok(way) => way,
+        Err(Delay::Memory) => return Err(BookFault::Memory),
+        Err(Delay::Unready(_)) => return Err(BookFault::Stale),
+    };
+    if !way.lead.is_same(&out.lead) {
+        return Err(BookFault::Stale);
+    }
+    Ok(way)
 }
 
 /// Whether the ticket that was found out, if one was, is this one.
@@ -258,17 +324,8 @@ impl Book {
         self.core
             .enter(self.alloc, deed, &touched, records, &mut Swaps::none())?;
         self.next += 1;
-        self.note(&touched);
+        self.agenda = noted(self.alloc, self.agenda.take(), self.core.world(), &touched);
         Ok(())
-    }
-
-    /// Notes on the agenda what the cells hold now that an event touched. Without memory it is to be found anew.
-    fn note(&mut self, touched: &[CellKey]) {
-        if let Some(agenda) = &mut self.agenda {
-            if agenda.note(self.alloc, self.core.world(), touched).is_err() {
-                self.agenda = None;
-            }
-        }
     }
 
     /// What is known of the vat of this name.
@@ -296,28 +353,32 @@ impl Book {
         script: &Program,
     ) -> Result<(EventName, Vec<VatNo>), BookFault>
         ensures ok { IfOk result (λ r. (r.0.0 ≡ self.now.next) × (self.now.next ≤ 4294967295) × ((book_of self.now).world (key.Name name.now) ≡ None)
-            × ((vats : List VatModel) × AreNamed (book_of self.now).world earlier.now vats × (r.1.items ≡ map (λ v. v.number) vats))
+            × Numbers (book_of self.now).world earlier.now r.1.items
             × (birth_refusal (book_of self.now) name.now earlier.now (program_of script.now) ≡ None)) }
         ensures err { IfErr result (λ fault. Tells fault (birth_refusal (book_of self.now) name.now earlier.now (program_of script.now))) }
     {
         self.check_free(name)?;
-        let vats = self.vats_named(earlier)?;
+        let vats = self.numbers_of(earlier)?;
         let outer = Outer::for_script(self.alloc, earlier)?;
         check_program(self.alloc, script, &outer)?;
         let event = self.next_event()?;
         Ok((event, vats))
     }
 
-    /// The vats of these names.
-    fn vats_named(&self, names: &[Text]) -> Result<Vec<VatNo>, BookFault> {
-        let mut vats = Vec::new(self.alloc);
+    /// The numbers of the vats of these names.
+    fn numbers_of(&self, names: &[Text]) -> Result<Vec<VatNo>, BookFault>
+        ensures numbers { IfOk result (λ numbers. Numbers (book_of self.now).world names.now numbers.items) }
+        ensures ok { OnOk result (named_refusal (book_of self.now).world names.now ≡ None) }
+        ensures err { IfErr result (λ fault. Tells fault (named_refusal (book_of self.now).world names.now)) }
+    {
+        let mut numbers = Vec::new(self.alloc);
         for name in names {
-            match self.vat(name) {
-                Some(vat) => vats.push(vat.number)?,
-                None => return Err(BookFault::NoVat(name.share()?)),
-            }
+            let Some(vat) = self.vat(name) else {
+                return Err(BookFault::NoVat(name.share()?));
+            };
+            numbers.push(vat.number)?;
         }
-        Ok(vats)
+        Ok(numbers)
     }
 
     /// A new vat, with its script as its opening message.
@@ -384,6 +445,22 @@ impl Book {
         Ok(event)
     }
 
+    /// The name of an arrival that may be entered, and the message where it arrived.
+    fn admit_arrival(&self, name: MsgId) -> Result<(EventName, Message), BookFault>
+        ensures ok { IfOk result (λ r. AdmitsArrival (book_of self.now) name r.0 (message_of r.1)) }
+        ensures in_range { OnOk result (self.now.next ≤ 4294967295) }
+        ensures err { IfErr result (λ fault. Tells fault (arrival_refusal (book_of self.now) name)) }
+    {
+        let Some(message) = self.core.world().message(name) else {
+            return Err(BookFault::NoMessage(name));
+        };
+        let Some(arrived) = message.arrived()? else {
+            return Err(BookFault::NotThere);
+        };
+        let event = self.next_event()?;
+        Ok((event, arrived))
+    }
+
     /// A message arrives at the vat to which it is on its way.
     ///
     /// # Errors
@@ -393,13 +470,7 @@ impl Book {
         ensures err { IfErr result (λ fault. Tells fault (arrival_refusal (book_of self.old) name)) }
         ensures unchanged { OnErr result (book_of self.new ≡ book_of self.old) }
     {
-        let Some(message) = self.core.world().message(name) else {
-            return Err(BookFault::NoMessage(name));
-        };
-        let Some(arrived) = message.arrived()? else {
-            return Err(BookFault::NotThere);
-        };
-        let event = self.next_event()?;
+        let (event, arrived) = self.admit_arrival(name)?;
         let effects = move_effects(self.alloc, event, name, arrived, &[])?;
         self.enter(
             Event {
@@ -411,6 +482,27 @@ impl Book {
         Ok(event)
     }
 
+    /// The name of a forwarding that may be entered, the message on its way, and the promises whose publications it looked at.
+    fn admit_forward(&self, name: MsgId) -> Result<(EventName, Message, Vec<PromId>), BookFault>
+        ensures ok { IfOk result (λ r. AdmitsForward (book_of self.now) name r.0 (message_of r.1) r.2.items) }
+        ensures in_range { OnOk result (self.now.next ≤ 4294967295) }
+        ensures err { IfErr result (λ fault. Tells fault (forward_refusal (book_of self.now) name)) }
+    {
+        let world = self.core.world();
+        let (message, vat) = match message_at_vat(world, name) {
+            Ok(found) => found,
+            Err(unready) => return Err(unready_fault(name, unready)),
+        };
+        let Some(Destination { to, through }) = onward(self.alloc, world, message, vat)? else {
+            return Err(BookFault::NotReady);
+        };
+        let Some(forwarded) = message.forwarded(to)? else {
+            return Err(BookFault::NotThere);
+        };
+        let event = self.next_event()?;
+        Ok((event, forwarded, through))
+    }
+
     /// A message goes on to the vat to which its target leads.
     ///
     /// # Errors
@@ -420,19 +512,8 @@ impl Book {
         ensures err { IfErr result (λ fault. Tells fault (forward_refusal (book_of self.old) name)) }
         ensures unchanged { OnErr result (book_of self.new ≡ book_of self.old) }
     {
-        let world = self.core.world();
-        let (message, vat) = match message_at_vat(world, name) {
-            Ok(found) => found,
-            Err(unready) => return Err(unready_fault(name, unready)),
-        };
-        let Some(onward) = onward(self.alloc, world, message, vat)? else {
-            return Err(BookFault::NotReady);
-        };
-        let Some(forwarded) = message.forwarded(onward.to)? else {
-            return Err(BookFault::NotThere);
-        };
-        let event = self.next_event()?;
-        let effects = move_effects(self.alloc, event, name, forwarded, &onward.through)?;
+        let (event, forwarded, through) = self.admit_forward(name)?;
+        let effects = move_effects(self.alloc, event, name, forwarded, &through)?;
         self.enter(
             Event {
                 name: event,
@@ -448,7 +529,7 @@ impl Book {
     /// # Errors
     /// `NoVat`, `NothingToLearn`, `Full`, `Memory`, tried in this order.
     pub fn learn(&mut self, name: &Text, promise: PromId) -> Result<EventName, BookFault>
-        ensures ok { IfOk result (λ e. (learn_refusal (book_of self.old) name.now promise ≡ None) × ((v : VatNo) × (f : Foot) × EntersNext (record { name = e; act = learn v promise }) f 0 (book_of self.old) (book_of self.new))) }
+        ensures ok { IfOk result (λ e. (learn_refusal (book_of self.old) name.now promise ≡ None) × ((v : VatModel) × (f : Foot) × (vat_named (book_of self.old).world name.now ≡ Some v) × EntersNext (record { name = e; act = learn v.number promise }) f 0 (book_of self.old) (book_of self.new))) }
         ensures err { IfErr result (λ fault. Tells fault (learn_refusal (book_of self.old) name.now promise)) }
         ensures unchanged { OnErr result (book_of self.new ≡ book_of self.old) }
     {
@@ -468,24 +549,28 @@ impl Book {
         name: &Text,
         event: EventName,
         index: u32,
-    ) -> Result<EventName, BookFault> {
+    ) -> Result<EventName, BookFault>
+        ensures ok { IfOk result (λ e. LearnsNamed name.now event index e (book_of self.old) (book_of self.new)) }
+        ensures err { IfErr result (λ fault. TellsNamed fault (book_of self.old) name.now event index) }
+        ensures unchanged { OnErr result (book_of self.new ≡ book_of self.old) }
+    {
         let vat = match self.vat(name) {
             Some(vat) => vat.number,
             None => return Err(BookFault::NoVat(name.share()?)),
         };
-        let agenda = self.agenda()?;
-        let found = agenda.known_as(vat, event, index);
-        self.agenda = Some(agenda);
-        match found {
+        match self.known_as(vat, event, index)? {
             Some(promise) => self.learn_at(vat, promise),
             None => Err(BookFault::NothingToLearn),
         }
     }
 
     /// The same by the vat's number.
-    pub fn learn_at(&mut self, vat: VatNo, promise: PromId) -> Result<EventName, BookFault> {
-        let published = self.learnable(vat, promise)?;
-        let event = self.next_event()?;
+    pub fn learn_at(&mut self, vat: VatNo, promise: PromId) -> Result<EventName, BookFault>
+        ensures ok { IfOk result (λ e. (learning_refusal (book_of self.old) vat promise ≡ None) × ((f : Foot) × EntersNext (record { name = e; act = learn vat promise }) f 0 (book_of self.old) (book_of self.new))) }
+        ensures err { IfErr result (λ fault. Tells fault (learning_refusal (book_of self.old) vat promise)) }
+        ensures unchanged { OnErr result (book_of self.new ≡ book_of self.old) }
+    {
+        let (event, published) = self.admit_learning(vat, promise)?;
         let state = self.core.share_vat(self.alloc, vat)?;
         let footprint = learn(self.alloc, event, vat, state, promise, &published)?;
         let effects = learn_effects(self.alloc, event, vat, promise, &footprint)?;
@@ -499,10 +584,29 @@ impl Book {
         Ok(event)
     }
 
+    /// The name of what a vat learns that may be entered, and what the promise was published as.
+    fn admit_learning(
+        &self,
+        vat: VatNo,
+        promise: PromId,
+    ) -> Result<(EventName, Published), BookFault>
+        ensures ok { IfOk result (λ r. AdmitsLearning (book_of self.now) vat promise r.0 (published_of r.1)) }
+        ensures in_range { OnOk result (self.now.next ≤ 4294967295) }
+        ensures err { IfErr result (λ fault. Tells fault (learning_refusal (book_of self.now) vat promise)) }
+    {
+        let published = self.learnable(vat, promise)?;
+        let event = self.next_event()?;
+        Ok((event, published))
+    }
+
     /// What a promise was published as that is open in a vat's view, shared.
-    fn learnable(&self, vat: VatNo, promise: PromId) -> Result<Published, BookFault> {
+    fn learnable(&self, vat: VatNo, promise: PromId) -> Result<Published, BookFault>
+        ensures can { IfOk result (λ p. CanLearn (book_of self.now).world vat promise (published_of p)) }
+        ensures ok { OnOk result (refuse_where (not (can_learn (book_of self.now).world vat promise)) nothing_to_learn ≡ None) }
+        ensures err { IfErr result (λ fault. Tells fault (refuse_where (not (can_learn (book_of self.now).world vat promise)) nothing_to_learn)) }
+    {
         let world = self.core.world();
-        if !is_open(world.home(vat), promise) {
+        if !is_open(world, vat, promise) {
             return Err(BookFault::NothingToLearn);
         }
         match world.published(promise) {
@@ -511,8 +615,27 @@ impl Book {
         }
     }
 
+    /// The promise of this event and number that a vat can learn of.
+    fn known_as(
+        &mut self,
+        vat: VatNo,
+        event: EventName,
+        index: u32,
+    ) -> Result<Option<PromId>, AllocError>
+        ensures known { IfOk result (KnownAs (can_learn (book_of self.old).world) vat event index) }
+        ensures same { book_of self.new ≡ book_of self.old }
+    {
+        let agenda = self.agenda()?;
+        let found = agenda.known_as(vat, event, index);
+        self.agenda = Some(agenda);
+        Ok(found)
+    }
+
     /// What may be done next, found once.
-    fn agenda(&mut self) -> Result<Agenda, AllocError> {
+    fn agenda(&mut self) -> Result<Agenda, AllocError>
+        ensures noted { IfOk result (NotedIn (book_of self.old).world) }
+        ensures same { book_of self.new ≡ book_of self.old }
+    {
         match self.agenda.take() {
             Some(agenda) => Ok(agenda),
             None => Agenda::new(self.alloc, self.core.world()),
@@ -623,7 +746,8 @@ impl Book {
     fn check_fresh(&self, ran: &Ran) -> Result<Way, BookFault>
         requires { IsKnown (book_of self.now) ran.now.carried }
         ensures ok { OnOk result (IsFresh (book_of self.now) ran.now) }
-        ensures err { IfErr result (λ fault. (fault ≡ Stale) × (IsFresh (book_of self.now) ran.now → ⊥)) }
+        ensures way { IfOk result (IsWay (book_of self.now).world ran.now.carried.vat (message_of ran.now.carried.message)) }
+        ensures err { IfErr result (λ fault. TellsStale fault (book_of self.now) ran.now) }
     {
         let world = self.core.world();
         let out = &ran.carried;
@@ -632,12 +756,9 @@ impl Book {
             Some(message)
                 if is_at(message.place, out.vat)
                     && is_at(out.message.place, out.vat)
-                    && is_found_at(self.alloc, &ran.outcome.footprint, world, out.vat) => {}
-            _ => return Err(BookFault::Stale),
-        }
-        match check_ready(self.alloc, world, &out.message, out.vat) {
-            Ok(way) if way.lead.is_same(&out.lead) => Ok(way),
-            Err(Delay::Memory) => Err(BookFault::Memory),
+                    && is_found_at(self.alloc, &ran.outcome.footprint, world, out.vat) => {
+                same_way(self.alloc, world, out)
+            }
             _ => Err(BookFault::Stale),
         }
     }
@@ -687,7 +808,7 @@ impl Book {
         self.core
             .enter(self.alloc, deed, &touched, records, &mut Swaps::none())?;
         self.desk.remove(out.event);
-        self.note(&touched);
+        self.agenda = noted(self.alloc, self.agenda.take(), self.core.world(), &touched);
         Ok(())
     }
 
