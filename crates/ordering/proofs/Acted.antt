@@ -376,11 +376,11 @@ module _ (base : Fences) (v : VatNo) (before : PromId → Bool) (e : EventName) 
       let c : Carrier → Sets = travelling before e ls a.out.publications in
       let f : Fences = fences_at a in
       let went : (n k : MsgId) → afters e (ls ++ l ∷ []) n k ≡ with_after m (sent_names o s) (afters e ls) n k = λ n k.
-          afters_more e ls l n k ∙ (λ j. afters e ls n k || (same_message (its j) n && h.after k j)) in
+      afters_more e ls l n k ∙ (λ j. afters e ls n k || (same_message (its j) n && h.after k j)) in
       let took : (d : Carrier) (r : Reference) (k : MsgId) → travelling before e (ls ++ l ∷ []) a.out.publications d r k ≡ with_all (argument m) rs (sent_sets m o s) c d r k = λ d r k.
-          travelling_more before e ls a.out.publications l d r k ∙ (λ j. c d r k || (same_carrier (argument (its j)) d && h.fences r k j))
-          ∙ ap (λ b. c d r k || b) (and_assoc (same_carrier (argument m) d) (among rs r) (fences_in w.state r k))
-          ∙ ap (λ (t : Sets). c d r k || ((same_carrier (argument m) d && among rs r) && t r k)) h.moved in
+      travelling_more before e ls a.out.publications l d r k ∙ (λ j. c d r k || (same_carrier (argument (its j)) d && h.fences r k j))
+      ∙ ap (λ b. c d r k || b) (and_assoc (same_carrier (argument m) d) (among rs r) (fences_in w.state r k))
+      ∙ ap (λ (t : Sets). c d r k || ((same_carrier (argument m) d && among rs r) && t r k)) h.moved in
       record {
         fences = (λ j. reading base v (h.moved j) (λ n k. went n k j) (λ d r k. took d r k j))
             ∙ sym (left_all base v (argument m) rs (sent_sets m o s) (with_after m (sent_names o s) (afters e ls)) c)
@@ -418,7 +418,7 @@ module _ (base : Fences) (v : VatNo) (before : PromId → Bool) (e : EventName) 
         ∙ silent (travelling before e ls bs c r m) (same_carrier (published p) c)) j)
     counts false n i h =
         (λ j. reading base v s a (λ c r m. (published_more before e ls bs p b n c r m ∙ (λ k. travelling before e ls bs c r m || (same_carrier (published p) c && (not (i k) && h r m k)))
-            ∙ ap (λ q. travelling before e ls bs c r m || q) (and_assoc (same_carrier (published p) c) (among (each_once [] (references b.value)) r) (s r m))) j))
+        ∙ ap (λ q. travelling before e ls bs c r m || q) (and_assoc (same_carrier (published p) c) (among (each_once [] (references b.value)) r) (s r m))) j))
         ∙ sym (left_all base v (published p) (each_once [] (references b.value)) s a (travelling before e ls bs))
 
     leaves : (q : Bool) → is_published p bs ≡ q → ((r : Reference) (m : MsgId) → member (names_for b.fences r) m ≡ (among (each_once [] (references b.value)) r && s r m))
@@ -434,12 +434,11 @@ module _ (base : Fences) (v : VatNo) (before : PromId → Bool) (e : EventName) 
       let a : MsgId → MsgId → Bool = afters e out.letters in
       let bs : List (PromId × post.Published) = out.publications in
       let cs : List (PromId × post.Published) = and_publication p its bs in
-      let lefts : List Act = left_unless (before p || is_published p bs) p b.value in
-      (
+      let lefts : List Act = left_unless (before p || is_published p bs) p b.value in (
         (λ j. reading base v (h.moved j) (afters e (l j)) (travelling before e (l j) (q j)))
-        ∙ sym (join_all base v p b.joined (fences_in s) a (travelling before e out.letters cs))
-        ∙ ap (after_acts v (joined_to p b.joined)) (leaves (fences_in s) a out.letters bs p its (is_published p bs) refl h.fences)
-        ∙ sym (after_append v (joined_to p b.joined) lefts (turn_fences base v before e s out)),
+            ∙ sym (join_all base v p b.joined (fences_in s) a (travelling before e out.letters cs))
+            ∙ ap (after_acts v (joined_to p b.joined)) (leaves (fences_in s) a out.letters bs p its (is_published p bs) refl h.fences)
+            ∙ sym (after_append v (joined_to p b.joined) lefts (turn_fences base v before e s out)),
         all_append (IsSentBy e) (joined_to p b.joined) lefts (join_sends e p b.joined) (unless_sends (before p || is_published p bs) p b.value),
       )
 

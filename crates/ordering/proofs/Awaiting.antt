@@ -80,8 +80,7 @@ pub ready_law : (w : World) (m : MsgId) (g : Message) → message_of w m ≡ Som
     → AllByRecursion (λ k. (b : MsgId) → fences_of_world w k b ≡ true → is_done_in w b ≡ true) (awaited_places m (walked_along w (looked_up w g.delivery)))
 ready_law w m g is h =
     let ps : List PromId = looked_up w g.delivery in
-    let all : (b : MsgId) → member (awaited_along w g.after ps) b ≡ true → is_done_in w b ≡ true = undone_none w (awaited w g) h in
-    (
+    let all : (b : MsgId) → member (awaited_along w g.after ps) b ≡ true → is_done_in w b ≡ true = undone_none w (awaited w g) h in (
       λ b t. all b (names_stay w g.after ps b (after_within g.delivery g.after b (sym (ap (λ o. member (message_after o) b) is) ∙ t))),
       along_within w (is_done_in w) g.after ps all,
     )

@@ -224,10 +224,10 @@ learning_act base before e v s p b h =
     let o : Option Reference = given_by (entered p b.value) a in
     let f : Fences = turn_fences base v before e s empty_outbox in
     let first : turn_fences base v before e x.state empty_outbox ≡ after_acts v (joined_to p o) f =
-        ap (λ s. reading base v s (afters e []) (travelling before e [] [])) (entered_makes p b.value (under a)) ∙ sym (join_all base v p o (fences_in s) (afters e []) (travelling before e [] [])) in
+    ap (λ s. reading base v s (afters e []) (travelling before e [] [])) (entered_makes p b.value (under a)) ∙ sym (join_all base v p o (fences_in s) (afters e []) (travelling before e [] [])) in
     let second : turn_fences base v before e (behind d x).state empty_outbox ≡ after_acts v (arriving (published p) rs (behind d x)) (turn_fences base v before e x.state empty_outbox) =
-        came_reads_in base v (afters e []) (travelling before e [] []) b.fences (published p) rs (under x) (λ r n. or_false (base (carried (published p) r) n) ∙ h r n)
-        ∙ ap (λ xs. after_acts v xs (turn_fences base v before e x.state empty_outbox)) (sym (came_by_views (published p) (each_once [] rs) (behind d x))) in
+    came_reads_in base v (afters e []) (travelling before e [] []) b.fences (published p) rs (under x) (λ r n. or_false (base (carried (published p) r) n) ∙ h r n)
+    ∙ ap (λ xs. after_acts v xs (turn_fences base v before e x.state empty_outbox)) (sym (came_by_views (published p) (each_once [] rs) (behind d x))) in
     record {
       fences = ap (λ (z : At). turn_fences base v before e z.state empty_outbox) (behind_then (entered p b.value) (λ t. d) a) ∙ second ∙ ap (after_acts v (arriving (published p) rs (behind d x))) first
           ∙ sym (after_append v (arriving (published p) rs (behind d x)) (joined_to p o) f);

@@ -53,7 +53,7 @@ module _ (base : Fences) (v : VatNo) (before : PromId → Bool) (e : EventName) 
       let x : Published = given_by (ending p r) b in
       let ys : List Act = published_acts before p x b.out in
       let q = publication_acts base v before e p x b.state (behind (ending p r) b).state b.out (published_out p x (commented r b.out)) (publishing_makes p (told_value r) (under b)) (commented_letters r b.out)
-          (ap (and_publication p (record { value = x.value; fences = x.fences })) (commented_publications r b.out)) in
+      (ap (and_publication p (record { value = x.value; fences = x.fences })) (commented_publications r b.out)) in
       record {
         fences = q.0 ∙ ap (after_acts v ys) a.fences ∙ sym (after_append v ys acts (turn_fences base v before e s empty_outbox));
         sends = all_append (IsSentBy e) ys acts q.1 a.sends;

@@ -167,7 +167,7 @@ module _ (e : EventName) (w : World) (m : MsgId) (n : ℕ) (t : Turn) (cells : L
       let one : g ≡ t.message = some_equal (sym is ∙ is_there) in
       let out : o ≡ t.outcome = delivery_same (subst (λ y. Delivers y (found_by w y.delivery) e v (vat_state w v) n o) one r) h.delivers.0 in
       let d : DoneBy (fences_of_world w) (was_published w) e v (vat_state w v) acts o.state o.out =
-          deliveries_act (fences_of_world w) (was_published w) m p g (found_by w g.delivery) e v (vat_state w v) n o r (all_brings w m g is g.delivery refl) in
+      deliveries_act (fences_of_world w) (was_published w) m p g (found_by w g.delivery) e v (vat_state w v) n o r (all_brings w m g is g.delivery refl) in
       let undone : NoneDone t.outcome.out.letters = subst (λ (y : Outcome). NoneDone y.out.letters) out d.undone in
       record {
         new = ap (λ y. done_in (message_in y)) h.waiting ∙ ap is_done h.there;

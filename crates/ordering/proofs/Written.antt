@@ -131,8 +131,8 @@ none_later : (e : EventName) (g : Delivery → List MsgId → Bool) (i j : ℕ) 
 none_later e g i j [] h = refl
 none_later e g i j (l ∷ ls) h =
     let other : same_message (record { event = e; index = i }) (record { event = e; index = j }) ≡ false =
-        is_false (same_message (record { event = e; index = i }) (record { event = e; index = j }))
-        (λ t. let q : i ≡ j = ap (λ (m : MsgId). m.index) (message_equal (record { event = e; index = i }) (record { event = e; index = j }) t) in omega (arith, h, q)) in
+    is_false (same_message (record { event = e; index = i }) (record { event = e; index = j }))
+    (λ t. let q : i ≡ j = ap (λ (m : MsgId). m.index) (message_equal (record { event = e; index = i }) (record { event = e; index = j }) t) in omega (arith, h, q)) in
     ap (λ b. (b && g l.1.delivery l.1.after) || list_any (λ l. same_message l.0 (record { event = e; index = j }) && g l.1.delivery l.1.after) (numbered e (i + 1) ls)) other
     ∙ none_later e g (i + 1) j ls (omega (arith, h))
 
