@@ -1,6 +1,6 @@
 -- Why an arrival, a forwarding or what a vat learns is refused, and when it is not.
-use Rattle.std.proofs.Common.{◌≡◌, ℕ, Bool, true, false, not, ◌&&◌, List, [], ◌∷◌, ◌++◌, Option, Some, None, is_some, map, refl, sym, ap, ap₂, ◌∙◌, subst}
-use Rattle.std.proofs.lemmas.Bool.{false≢true, and_parts}
+use Rattle.std.proofs.Common.{◌≡◌, Bool, true, false, not, ◌&&◌, List, [], Option, Some, None, is_some, map, refl, sym, ap, ap₂, ◌∙◌, subst}
+use Rattle.std.proofs.lemmas.Bool.{false≢true}
 use Rattle.std.specs.Option.{option_map}
 use Rattle.ids.specs.declared.names.MsgId.{MsgId}
 use Rattle.ids.specs.declared.names.VatNo.{VatNo}
@@ -9,11 +9,10 @@ use Rattle.ids.specs.declared.names.EventName.{EventName}
 use Rattle.ids.specs.declared.cells.CellKey.TheVariants as key
 use Rattle.heap.specs.State as heap
 use Rattle.heap.specs.State.{pending, resolved, view_cell}
-use Rattle.kernele.specs.Tree.{Name}
 use Rattle.post.specs.Delivery.{Delivery, Call, opening, asked, sent, waiting}
-use Rattle.post.specs.Messages.{Vat, Message, Place, Published, at_vat, flying, done, flies_to, waits_at, arrived, forwarded}
+use Rattle.post.specs.Messages.{Message, Place, Published, at_vat, flying, flies_to, waits_at, arrived, forwarded}
 use Rattle.worldcells.specs.Events.{arrive, forward, learn}
-use Rattle.worldcells.specs.World.{World, message, message_in, message_of, published_as, published_in, published, vat_named, vat_in, vat, vat_state}
+use Rattle.worldcells.specs.World.{World, message, message_in, message_of, published_as, published_in, published}
 use Rattle.event.specs.Events.{Foot, Does, arrives, forwards, learns, goes_on, moved_foot, learn_foot}
 use Rattle.event.specs.Effects.{BringsLearnt, Happens}
 use Rattle.event.specs.declared.effects.Effects.{Effects}

@@ -1,8 +1,8 @@
 -- An event is entered: the book stands, the world goes one step, and the journal has one more line.
-use Rattle.std.proofs.Common.{◌≡◌, ◌≢◌, ℕ, ◌+◌, ◌<◌, ◌≤◌, Bool, true, false, List, [], ◌∷◌, ◌++◌, map, is_some, refl, sym, ap, ap₂, ◌∙◌, subst, arith}
+use Rattle.std.proofs.Common.{◌≡◌, ◌≢◌, ℕ, ◌+◌, ◌<◌, ◌≤◌, true, List, [], ◌∷◌, ◌++◌, map, is_some, refl, sym, ap, ◌∙◌, subst, arith}
 use Rattle.std.proofs.Math.Logic.{∥∥₁_elim, ∥∥₁_prop}
 use Rattle.std.specs.List.{AllByRecursion}
-use Rattle.history.specs.Subject.{empty, after, new, touches}
+use Rattle.history.specs.Subject.{empty, new, touches}
 use Rattle.history.specs.Journal.{Free, causes_of, new_entry}
 use Rattle.history.specs.Records.{State, Row, Record, contents, entries_of, swap_record}
 use Rattle.history.specs.Chains.{HasCells}

@@ -1,6 +1,5 @@
 -- Whether the world is still as a turn found it, and what is worked out of the turn where it is.
-use Rattle.std.proofs.Common.{◌≡◌, ℕ, List, Option, Some, None, sym, ap, ◌∙◌, subst}
-use Rattle.ids.specs.declared.names.MsgId.{MsgId}
+use Rattle.std.proofs.Common.{◌≡◌, Some, None, sym, ◌∙◌, subst}
 use Rattle.ids.specs.declared.cells.CellKey.TheVariants as key
 use Rattle.heap.specs.State.{State}
 use Rattle.post.specs.MessageView.{message_of}

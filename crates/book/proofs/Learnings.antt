@@ -1,5 +1,5 @@
 -- What a vat that is named learns of a promise, and why it does not.
-use Rattle.std.proofs.Common.{◌≡◌, ℕ, true, false, Option, Some, None, refl, sym, ap, ◌∙◌}
+use Rattle.std.proofs.Common.{◌≡◌, ℕ, Option, Some, None, refl, ap, ◌∙◌}
 use Rattle.ids.specs.declared.names.EventName.{EventName}
 use Rattle.ids.specs.declared.names.PromId.{PromId}
 use Rattle.kernele.specs.Tree.{Name}
@@ -11,7 +11,7 @@ use Rattle.agenda.specs.Agendas.{KnownAs, can_learn}
 use Rattle.book.specs.Books.{Book}
 use Rattle.book.specs.Calls.{EntersNext}
 use Rattle.book.specs.Fault.{Tells}
-use Rattle.book.specs.Learning.{LearnsNamed, RefusesNamed, nothing_named, not_entered, TellsNamed}
+use Rattle.book.specs.Learning.{LearnsNamed, nothing_named, not_entered, TellsNamed}
 use Rattle.book.specs.Refusals.{Refusal, no_vat, nothing_to_learn, learn_refusal, learn_refusal_by, learning_refusal}
 use Rattle.book.specs.declared.fault.BookFault.{BookFault}
 use Rattle.book.specs.declared.fault.BookFault.TheVariants as fault

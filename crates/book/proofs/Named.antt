@@ -1,5 +1,5 @@
 -- The vats of names, one name after another.
-use Rattle.std.proofs.Common.{◌≡◌, ℕ, zero, suc, ◌+◌, ◌<◌, ◌≤◌, List, [], ◌∷◌, ◌++◌, length, map, get_or, take, Option, Some, None, refl, sym, ap, ◌∙◌, subst, arith}
+use Rattle.std.proofs.Common.{◌≡◌, ℕ, zero, suc, ◌+◌, ◌<◌, ◌≤◌, List, [], ◌∷◌, ◌++◌, length, get_or, take, Option, Some, None, refl, sym, ap, ◌∙◌, subst, arith}
 use Rattle.std.proofs.lemmas.List.{take_more, take_all, map-append}
 use Rattle.ids.specs.declared.names.VatNo.{VatNo}
 use Rattle.kernele.specs.Tree.{Name}
@@ -7,7 +7,7 @@ use Rattle.post.specs.Messages.{Vat}
 use Rattle.worldcells.specs.World.{World, vat_named}
 use Rattle.event.specs.Events.{AreNamed}
 use Rattle.book.specs.Calls.{Numbers}
-use Rattle.book.specs.Refusals.{Refusal, first, no_vat, absent_refusal, named_refusal}
+use Rattle.book.specs.Refusals.{first, no_vat, absent_refusal, named_refusal}
 
 -- one more name behind the others
 named_more : (w : World) (xs : List Name) (vs : List Vat) (x : Name) (v : Vat) → AreNamed w xs vs → vat_named w x ≡ Some v → AreNamed w (xs ++ x ∷ []) (vs ++ v ∷ [])

@@ -1,5 +1,5 @@
 -- An agenda keeps its notes where nothing is shown anew, and has those of the next world once an event's cells are noted.
-use Rattle.std.proofs.Common.{◌≡◌, ℕ, Bool, true, false, ◌||◌, List, [], ◌∷◌, ◌++◌, map, Option, Some, None, refl, sym, ap, ◌∙◌, subst}
+use Rattle.std.proofs.Common.{◌≡◌, ℕ, Bool, true, false, ◌||◌, List, [], ◌∷◌, map, Option, Some, None, refl, sym, ap, ◌∙◌, subst}
 use Rattle.std.specs.List.{list_any, AllByRecursion}
 use Rattle.std.specs.Option.{ForSome}
 use Rattle.std.proofs.lemmas.Bool.{false≢true}
@@ -8,7 +8,7 @@ use Rattle.history.specs.Subject.{after}
 use Rattle.history.specs.Records.{State, Record, contents}
 use Rattle.history.proofs.Exchanges.{contents_after}
 use Rattle.ids.specs.CellKeys.{same_key}
-use Rattle.ids.proofs.CellKeys.{same_exact, same_self}
+use Rattle.ids.proofs.CellKeys.{same_self}
 use Rattle.ids.specs.declared.names.EventName.{EventName}
 use Rattle.ids.specs.declared.cells.CellKey.{CellKey}
 use Rattle.worldcells.specs.Events.{Event}

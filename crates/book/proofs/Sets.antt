@@ -1,8 +1,6 @@
 -- Worlds and journals are sets: any two proofs that two of them are the same are the same.
 use Rattle.std.proofs.Common.{Bool, List, Option}
 use Rattle.std.proofs.Props.{props}
-use Rattle.history.specs.Subject.{Footprint}
-use Rattle.history.specs.Journal.{Entry}
 use Rattle.ids.specs.declared.cells.CellKey.{CellKey}
 use Rattle.kernele.specs.declared.tree.Pattern.{Pattern}
 use Rattle.kernele.specs.Tree.{Name, Trees, Trees-set}
@@ -13,7 +11,7 @@ use Rattle.post.specs.Delivery.{Call, Call-set, Handler, Handler-set, When, When
 use Rattle.worldcells.specs.Events.{Act, Event}
 use Rattle.post.specs.Messages.{Vat, Vat-set, Place, Place-set, Message, Message-set, Published, Published-set}
 use Rattle.worldcells.specs.World.{Content, Content-set, World}
-use Rattle.journal.specs.Lines.{plain, Line}
+use Rattle.journal.specs.Lines.{Line}
 
 names : IsSet Name
 names = hlevel props

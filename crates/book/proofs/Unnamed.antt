@@ -1,16 +1,15 @@
 -- Nothing in the world is named by an event that no entry of the journal is of.
-use Rattle.std.proofs.Common.{◌≡◌, ◌≢◌, ℕ, ◌+◌, Bool, true, false, cond, List, [], ◌∷◌, ◌++◌, map, filter, Option, Some, None, refl, sym, ap, ◌∙◌, subst}
+use Rattle.std.proofs.Common.{◌≡◌, ℕ, ◌+◌, Bool, true, false, cond, List, [], ◌∷◌, map, filter, Option, Some, None, refl, sym, ap, ◌∙◌}
 use Rattle.std.proofs.Math.Logic.{∥∥₁_elim}
 use Rattle.std.proofs.Props.{props}
-use Rattle.std.proofs.lemmas.Bool.{false≢true}
 use Rattle.std.specs.List.{AllByRecursion, Contains}
-use Rattle.history.specs.Subject.{Run, run_none, run_more, empty, after, written}
+use Rattle.history.specs.Subject.{Run, run_none, run_more, empty, written}
 use Rattle.history.specs.Journal.{Entry, Free, live_set}
 use Rattle.history.specs.Records.{contents, entries_of}
 use Rattle.history.proofs.Lists.{all_map, all_mapped, all_append}
 use Rattle.history.proofs.Standing.{standing_run}
 use Rattle.ids.specs.CellKeys.{same_key}
-use Rattle.ids.proofs.CellKeys.{same_exact, same_self}
+use Rattle.ids.proofs.CellKeys.{same_exact}
 use Rattle.ids.specs.declared.names.EventName.{EventName}
 use Rattle.ids.specs.declared.names.VatNo.{VatNo}
 use Rattle.ids.specs.declared.names.MsgId.{MsgId}
@@ -22,13 +21,13 @@ use Rattle.heap.specs.State.{Cell, top, slot_cell, object_cell, view_cell, fence
 use Rattle.post.specs.Messages.{Message, Published}
 use Rattle.worldcells.specs.Events.{Event}
 use Rattle.worldcells.specs.Theory.{cells}
-use Rattle.worldcells.specs.World.{World, Content, message, message_in, message_of, content_of, cell_key}
+use Rattle.worldcells.specs.World.{World, Content, message_in, message_of, cell_key}
 use Rattle.event.specs.Events.{Foot, Does, births, asks, arrives, forwards, learns, turns, events, letters_from, on_the_board, counted, in_world, made_by, AreNew}
 use Rattle.event.proofs.Law.{events_laws}
 use Rattle.undo.specs.CoreView.{state_of}
 use Rattle.undo.specs.declared.undoing.Core.{Core}
 use Rattle.desk.specs.Desks.{Lent}
-use Rattle.book.specs.Standing.{Kept, Stands}
+use Rattle.book.specs.Standing.{Stands}
 use Rattle.book.proofs.Sets as sets
 use Rattle.book.proofs.Tickets.{all_out, all_filter}
 

@@ -1,6 +1,6 @@
 -- What the accepted calls of a book do.
-use Rattle.std.specs.Prelude.{◌≡◌, ℕ, ◌+◌, ◌==◌, Bool, true, ◌&&◌, ◌||◌, not, List, [], ◌∷◌, ◌++◌, map, filter, reverse, is_some, Some, None, Contains, slice_get}
-use Rattle.std.specs.List.{list_any, AllByRecursion}
+use Rattle.std.specs.Prelude.{◌≡◌, ℕ, ◌+◌, true, ◌&&◌, ◌||◌, not, List, [], ◌∷◌, ◌++◌, map, filter, reverse, is_some, Some, None, Contains, slice_get}
+use Rattle.std.specs.List.{AllByRecursion}
 use Rattle.std.specs.Arc.{arc_value}
 use Rattle.std.specs.Option.{option_map}
 use Rattle.history.specs.Subject.{after, new, touches}
@@ -30,7 +30,6 @@ use Rattle.deliveries.specs.Outcomes.{found_of}
 use Rattle.deliveries.specs.declared.lead.Lead.{Lead}
 use Rattle.event.specs.Runs.{PlainRun}
 use Rattle.event.specs.Effects.{turn_of}
-use Rattle.deliveries.specs.declared.outcome.Outcome.{Outcome}
 use Rattle.turn.specs.Tasks.{task_of}
 use Rattle.turn.specs.declared.ticket.Out.{Out}
 use Rattle.turn.specs.declared.ticket.Task.{Task}

@@ -1,9 +1,8 @@
-use Rattle.std.proofs.Common.{◌≡◌, ◌∙◌, Option, sym, ap, subst}
+use Rattle.std.proofs.Common.{◌≡◌, ◌∙◌, sym, ap, subst}
 use Rattle.std.specs.Option.{option_map}
 use Rattle.std.proofs.lemmas.Result.{err_from_is_err_and}
 use Rattle.history.specs.Records.{contents}
 use Rattle.post.specs.MessageView.{message_of}
-use Rattle.post.specs.declared.message.Message.{Message as CodeMessage}
 use Rattle.worldcells.specs.Theory.{cells}
 use Rattle.worldcells.specs.View.{world_of}
 use Rattle.book.specs.BookView.{book_of}

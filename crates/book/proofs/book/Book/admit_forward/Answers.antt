@@ -1,8 +1,8 @@
-use Rattle.std.proofs.Common.{◌≡◌, ◌∙◌, Option, Some, sym, ap, subst}
+use Rattle.std.proofs.Common.{◌≡◌, ◌∙◌, Some, sym, ap, subst}
 use Rattle.std.specs.Option.{option_map}
 use Rattle.std.proofs.lemmas.Result.{err_from_is_err_and}
 use Rattle.history.specs.Records.{contents}
-use Rattle.post.specs.Messages.{waits_at, Place, Message}
+use Rattle.post.specs.Messages.{waits_at}
 use Rattle.post.specs.MessageView.{message_of}
 use Rattle.worldcells.specs.Theory.{cells}
 use Rattle.worldcells.specs.View.{world_of}

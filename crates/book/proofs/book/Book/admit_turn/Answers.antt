@@ -7,7 +7,6 @@ use Rattle.worldcells.specs.Theory.{cells}
 use Rattle.worldcells.specs.View.{world_of}
 use Rattle.post.specs.Messages.{Message}
 use Rattle.worldcells.specs.World.{World, message}
-use Rattle.deliveries.specs.Outcomes.{found_of}
 use Rattle.event.specs.Walks.{found_by}
 use Rattle.book.specs.BookView.{book_of}
 use Rattle.book.specs.Calls.{IsReadyAt}

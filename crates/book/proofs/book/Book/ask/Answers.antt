@@ -1,7 +1,7 @@
 use Rattle.std.proofs.Common.{sym, subst}
 use Rattle.kernele.specs.View.{program_of}
 use Rattle.kernele.specs.Tree.{Name}
-use Rattle.worldcells.specs.Events.{Event, ask}
+use Rattle.worldcells.specs.Events.{ask}
 use Rattle.ids.specs.declared.names.VatNo.{VatNo}
 use Rattle.event.specs.Events.{Does, ask_foot, asks}
 use Rattle.book.specs.BookView.{book_of}

@@ -1,9 +1,9 @@
-use Rattle.std.proofs.Common.{◌≡◌, ◌∙◌, List, None, map, sym, ap, subst}
+use Rattle.std.proofs.Common.{◌≡◌, ◌∙◌, List, None, sym, subst}
 use Rattle.kernele.specs.View.{program_of}
 use Rattle.kernele.specs.Tree.{Name}
-use Rattle.worldcells.specs.Events.{Event, birth}
+use Rattle.worldcells.specs.Events.{birth}
 use Rattle.worldcells.specs.Theory.{kepts_of}
-use Rattle.event.specs.Events.{AreNamed, birth_foot, births}
+use Rattle.event.specs.Events.{birth_foot, births}
 use Rattle.book.specs.BookView.{book_of}
 use Rattle.event.specs.Effects.{Brings, Happens}
 use Rattle.book.specs.Calls.{EntersNext, Numbers}

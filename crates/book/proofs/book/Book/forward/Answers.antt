@@ -1,4 +1,4 @@
-use Rattle.std.proofs.Common.{◌≡◌, List, map, ap, subst}
+use Rattle.std.proofs.Common.{List, map, subst}
 use Rattle.ids.specs.declared.names.PromId.{PromId}
 use Rattle.ids.specs.declared.cells.CellKey.TheVariants as key
 use Rattle.post.specs.MessageView.{message_of}

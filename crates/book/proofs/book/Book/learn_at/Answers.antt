@@ -1,19 +1,15 @@
-use Rattle.std.proofs.Common.{◌≡◌, ◌∙◌, sym, ap, subst}
-use Rattle.std.specs.Arc.{arc_value}
-use Rattle.history.specs.Records.{contents}
+use Rattle.std.proofs.Common.{sym, subst}
 use Rattle.heap.specs.State.{State}
-use Rattle.heap.specs.View.{state_of as heap_state_of}
 use Rattle.post.specs.MessageView.{published_of}
 use Rattle.worldcells.specs.Events.{learn}
-use Rattle.worldcells.specs.World.{World, vat_state}
+use Rattle.worldcells.specs.World.{vat_state}
 use Rattle.event.specs.Learning.{Learns}
-use Rattle.event.specs.Effects.{BringsLearnt, Happens}
+use Rattle.event.specs.Effects.{Happens}
 use Rattle.desk.specs.DeskView.{out_of}
-use Rattle.undo.specs.CoreView.{state_of}
 use Rattle.book.specs.Books.{Book}
 use Rattle.book.specs.BookView.{book_of}
 use Rattle.book.specs.Calls.{EntersNext}
-use Rattle.book.proofs.Admitting.{learnt_happens, room_for_learning}
+use Rattle.book.proofs.Admitting.{learnt_happens}
 use Rattle.book.proofs.Entering.{stands_same, book_same}
 use Rattle.book.proofs.Noting.{noted_same}
 use Rattle.book.proofs.Within.{within_same}

@@ -1,4 +1,4 @@
-use Rattle.std.proofs.Common.{◌≡◌, ◌∙◌, Some, sym, ap, subst}
+use Rattle.std.proofs.Common.{◌≡◌, ◌∙◌, sym, ap, subst}
 use Rattle.history.specs.Records.{contents}
 use Rattle.post.specs.Messages.{Published}
 use Rattle.post.specs.MessageView.{published_of}
