@@ -19,8 +19,17 @@ use Rattle.worldcells.specs.declared.world.World as code
 use Rattle.event.specs.Events.{Foot, events}
 use Rattle.event.specs.Effects.{Brings}
 use Rattle.event.proofs.Law.{events_laws}
-use Rattle.agenda.specs.Agendas.{AlikeBut}
-use Rattle.agenda.specs.AgendaView.{NotedIn}
+use Rattle.std.specs.Prelude.{Result, IfOk}
+use Rattle.ids.specs.declared.names.VatNo.{VatNo}
+use Rattle.ids.specs.declared.names.PromId.{PromId}
+use Rattle.desk.specs.Desks.{Lent, has_vat}
+use Rattle.desk.specs.DeskView.{out_of}
+use Rattle.desk.specs.declared.desk.Desk.{Desk}
+use Rattle.agenda.specs.Enabled.{Enabled, First}
+use Rattle.agenda.specs.declared.agenda.Step.{Step}
+use Rattle.book.specs.Books.{Book}
+use Rattle.agenda.specs.Agendas.{AlikeBut, KnownAs, can_learn}
+use Rattle.agenda.specs.AgendaView.{NotedIn, has_known, out_at}
 use Rattle.agenda.specs.declared.agenda.Agenda.{Agenda}
 use Rattle.journal.specs.Items.{Item, entered}
 use Rattle.undo.specs.CoreView.{state_of, shown}
@@ -84,3 +93,21 @@ noted_same old new agenda is h = subst (λ (j : List Item × State cells). Noted
 
 pub noted_kept : (old new : Core) (agenda : Option Agenda) → state_of new ≡ state_of old → Noted agenda (state_of old) → Noted agenda (state_of new)
 noted_kept old new agenda is h = subst (Noted agenda) (sym is) h
+
+-- what an agenda with the notes of a book's world tells is told of the book
+module _ (b : Book) (w : World) (d : Desk) (agenda : Agenda) (same : w ≡ b.world) (out : out_of d ≡ b.out) (noted : NotedIn b.world agenda) where
+  pub first_told : {E : Type 0} (r : Result (Option Step) E) → (NotedIn w agenda → IfOk r (First w (out_at d))) → IfOk r (First b.world (λ v. has_vat v b.out))
+  first_told r tells =
+      subst (λ (lent : List Lent). IfOk r (First b.world (λ v. has_vat v lent))) out
+      (subst (λ (u : World). IfOk r (First u (out_at d))) same (tells (subst (λ (u : World). NotedIn u agenda) (sym same) noted)))
+
+  pub all_told : {V E : Type 0} (items : V → List Step) (r : Result V E) → (NotedIn w agenda → IfOk r (λ x. Enabled w (out_at d) (items x))) → IfOk r (λ x. Enabled b.world (λ v. has_vat v b.out) (items x))
+  all_told items r tells =
+      subst (λ (lent : List Lent). IfOk r (λ x. Enabled b.world (λ v. has_vat v lent) (items x))) out
+      (subst (λ (u : World). IfOk r (λ x. Enabled u (out_at d) (items x))) same (tells (subst (λ (u : World). NotedIn u agenda) (sym same) noted)))
+
+-- and so what is known to a vat
+module _ (b : Book) (agenda : Agenda) (noted : NotedIn b.world agenda) where
+  pub known_told : (v : VatNo) (e : EventName) (i : ℕ) (o : Option PromId) → KnownAs (has_known agenda) v e i o → KnownAs (can_learn b.world) v e i o
+  known_told v e i None h = λ q ev ix. sym (noted.learns v q) ∙ h q ev ix
+  known_told v e i (Some p) h = (h.0, h.1, sym (noted.learns v p) ∙ h.2, λ q ev ix k. h.3 q ev ix (noted.learns v q ∙ k))

@@ -6,7 +6,7 @@ use Rattle.ids.specs.declared.names.VatNo.{VatNo}
 use Rattle.ids.specs.declared.names.MsgId.{MsgId}
 use Rattle.kernele.specs.Tree.{Name, Trees}
 use Rattle.post.specs.Messages.{Vat}
-use Rattle.worldcells.specs.Events.{Act, birth, ask, arrive, forward, learn, turn, Event}
+use Rattle.worldcells.specs.Events.{Act, birth, turn, Event}
 use Rattle.worldcells.specs.World.{World}
 use Rattle.event.specs.Events.{Foot, AreNamed, Turn, Turns, Does, births, asks, arrives, forwards, learns, turns}
 use Rattle.world.specs.Steps.{Unnamed, TellsStep}

@@ -1,4 +1,4 @@
-use Rattle.std.proofs.Common.{◌≡◌, ◌∷◌, ◌+◌, List, [], drop, map, ap, subst}
+use Rattle.std.proofs.Common.{◌≡◌, ◌+◌, List, [], drop, map, ap, subst}
 use Rattle.std.proofs.lemmas.List.{drop_all}
 use Rattle.worldcells.specs.EventView.{event_of}
 use Rattle.worldcells.specs.Events.{Event}

@@ -1,7 +1,6 @@
 use Rattle.std.proofs.Common.{List, Some, map, ap, sym, ◌∙◌}
 use Rattle.std.specs.Option.{option_map}
 use Rattle.ids.specs.declared.names.PromId.{PromId}
-use Rattle.ids.specs.declared.names.VatNo.{VatNo}
 use Rattle.ids.specs.declared.cells.CellKey.TheVariants as key
 use Rattle.post.specs.MessageView.{message_of}
 use Rattle.worldcells.specs.View.{world_of}
