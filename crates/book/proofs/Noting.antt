@@ -47,6 +47,13 @@ noted_none s a e = absurd (none_some a e)
     none_some : (a : Agenda) → None ≡ Some a → ⊥
     none_some a e = cc
 
+-- an agenda that is there
+pub there : (P : Agenda → Type 0) (agenda : Agenda) → P agenda → ForSome (Some agenda) P
+there P agenda h x e = subst P (one agenda x e) h
+  where
+    one : (a b : Agenda) → Some a ≡ Some b → a ≡ b
+    one a b e = cc
+
 pub noted_some : (agenda : Agenda) (s : State cells) → NotedIn (contents cells s) agenda → Noted (Some agenda) s
 noted_some agenda s h x e = subst (NotedIn (contents cells s)) (one agenda x e) h
   where
