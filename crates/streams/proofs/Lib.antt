@@ -1,0 +1,5 @@
+pub mod Feeds
+pub mod Gathering
+pub mod Giving
+pub mod Lawful
+pub mod Taking
