@@ -5,15 +5,14 @@ use Rattle.std.proofs.Props.{props}
 use Rattle.std.specs.List.{AllByRecursion}
 use Rattle.history.proofs.Lists.{all_map}
 use Rattle.journal.proofs.Touching.{told_new}
-use Rattle.std.proofs.lemmas.List.{reverse-reverse}
 use Rattle.history.specs.Subject.{empty, new, Run}
 use Rattle.history.specs.Journal.{Entry, live_set}
 use Rattle.history.specs.Chains.{last_writer}
 use Rattle.history.specs.Records.{State, Row, contents, entries_of}
 use Rattle.history.proofs.Standing.{standing_run, last_shown}
 use Rattle.ids.specs.declared.cells.CellKey.{CellKey}
-use Rattle.post.specs.Events.{Event}
-use Rattle.post.specs.Theory.{cells}
+use Rattle.worldcells.specs.Events.{Event}
+use Rattle.worldcells.specs.Theory.{cells}
 use Rattle.event.specs.Events.{Does, events}
 use Rattle.event.proofs.Law.{events_laws}
 use Rattle.journal.specs.Items.{Item}
@@ -28,7 +27,7 @@ use Rattle.undo.specs.declared.undoing.Core.{Core}
 use Rattle.undo.proofs.Standing.{begins}
 use Rattle.event.specs.Runs.{PlainRun}
 use Rattle.book.specs.Calls.{live_events}
-use Rattle.book.specs.Standing.{Kept, Stands}
+use Rattle.book.specs.Standing.{Stands}
 
 -- nothing has happened, and the book stands
 pub blank_stands : (core : Core) (out : List Lent) → items_of core ≡ [] → ((k : CellKey) → state_of core k ≡ (None, None)) → out ≡ [] → Stands core 1 out

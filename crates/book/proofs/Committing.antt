@@ -1,10 +1,9 @@
 -- A turn that was run is entered, and its ticket struck out.
-use Rattle.std.proofs.Common.{◌≡◌, ℕ, ◌+◌, ◌<◌, true, false, List, [], ◌∷◌, ◌++◌, Option, None, Some, refl, sym, ap, ◌∙◌, subst, le_refl}
+use Rattle.std.proofs.Common.{◌≡◌, ℕ, ◌+◌, ◌<◌, List, [], ◌∷◌, ◌++◌, Option, None, Some, refl, sym, ap, ◌∙◌, subst, le_refl}
 use Rattle.std.proofs.Math.Logic.{∥∥₁_elim, ∥∥₁_map}
 use Rattle.std.proofs.Props.{props}
 use Rattle.std.proofs.lemmas.List.Elements.{Contains-push}
-use Rattle.std.specs.Prelude.{IfSome, IfErr, OnOk, Result, Ok, Err, is_ok}
-use Rattle.std.proofs.lemmas.Bool.{false≢true}
+use Rattle.std.specs.Prelude.{IfSome}
 use Rattle.std.specs.Option.{option_map}
 use Rattle.std.specs.Arc.{arc_value}
 use Rattle.history.specs.Journal.{Free}
@@ -12,17 +11,21 @@ use Rattle.history.specs.Records.{contents, entries_of}
 use Rattle.ids.specs.declared.names.EventName.{EventName}
 use Rattle.ids.specs.declared.names.MsgId.{MsgId}
 use Rattle.ids.specs.declared.cells.CellKey.TheVariants as key
-use Rattle.heap.specs.Found.{Found}
+use Rattle.heap.specs.Found.{Found as FoundCells, touched_in}
 use Rattle.heap.specs.State.{State}
 use Rattle.heap.specs.View.{state_of as heap_state_of}
-use Rattle.post.specs.Events.{Event, turn}
-use Rattle.post.specs.Messages.{message_of}
-use Rattle.post.specs.Theory.{cells, kepts_of}
-use Rattle.post.specs.World.{World, Content, Message, message, Place, at_vat, vat_state}
-use Rattle.post.specs.World.{message_of as world_message}
-use Rattle.event.specs.Events.{Does, Foot, InOrder, Turn, Turns, turns, turn_foot, events}
+use Rattle.worldcells.specs.Events.{Event, turn}
+use Rattle.post.specs.MessageView.{message_of}
+use Rattle.worldcells.specs.Theory.{cells, kepts_of}
+use Rattle.post.specs.Messages.{Message, Place, at_vat}
+use Rattle.worldcells.specs.World.{World, Content, message, vat_state}
+use Rattle.worldcells.specs.World.{message_of as world_message}
+use Rattle.deliveries.specs.Turn.{Found}
+use Rattle.deliveries.specs.Outcomes.{outcome_on, written_by}
+use Rattle.erules.specs.OutboxView.{outbox_of}
+use Rattle.event.specs.Events.{Does, Foot, AreNew, DeliversOn, Turn, Turns, turns, turn_foot, letters_from, events}
 use Rattle.event.specs.Effects.{BringsTurn}
-use Rattle.event.specs.Ready.{awaits, early, lost}
+use Rattle.event.specs.Ready.{early, lost}
 use Rattle.event.specs.declared.effects.Effects.{Effects}
 use Rattle.journal.specs.Items.{entered}
 use Rattle.desk.specs.Desks.{Lent, without}
@@ -33,7 +36,7 @@ use Rattle.turn.specs.declared.ticket.Ran.{Ran}
 use Rattle.undo.specs.CoreView.{shown, state_of}
 use Rattle.undo.specs.declared.undoing.Core.{Core}
 use Rattle.book.specs.Books.{Book}
-use Rattle.book.specs.Calls.{lent_of, Lends, IsKnown, IsFresh, EntersTurn, turn_in, Commits, TurnsNext}
+use Rattle.book.specs.Calls.{lent_of, Lends, IsKnown, IsFresh, LeadsAsBefore, EntersTurn, turn_in, Commits, TurnsNext}
 use Rattle.book.specs.Fault.{TellsCommit}
 use Rattle.book.specs.Refusals.{refuse_where, refusal_of, budget_refusal, message_out, vat_out, full, journal_full, checkout_refusal}
 use Rattle.book.specs.Calls.{strange, changed, no_room}
@@ -42,11 +45,21 @@ use Rattle.book.specs.declared.fault.BookFault.{BookFault}
 use Rattle.book.specs.declared.fault.BookFault.TheVariants as fault
 use Rattle.book.proofs.Entering.{book_with, book_enters, book_stands, kept_entered}
 use Rattle.book.proofs.Within.{neither, room_for_names}
+use Rattle.book.proofs.Unnamed.{letters_new}
 use Rattle.book.proofs.Tickets.{all_out, without_differ, apart_without, all_filter}
 
--- the turn that a ticket was run for is one of the world, wherever the world is as the turn found it
-pub run_turns : (b : Book) (r : Ran) → IsFresh b r → ∥ Turns r.carried.event b.world r.carried.name r.carried.budget (turn_in b.world r) ∥₁
-run_turns b r h = ∥∥₁_map (r.met (vat_state b.world r.carried.vat) h.found) (λ d. record { waiting = h.waiting; there = h.there; in_order = h.in_order; delivers = d })
+-- the turn that a ticket was run for is one of the world, wherever the world is as the turn found it and what was sent is new there
+pub run_turns : (b : Book) (r : Ran) → IsFresh b r → AreNew b.world (letters_from r.carried.event 0 (outbox_of r.outcome.out).letters) → ∥ Turns r.carried.event b.world r.carried.name r.carried.budget (turn_in b.world r) ∥₁
+run_turns b r h new =
+    let u : State = vat_state b.world r.carried.vat in
+    ∥∥₁_map (r.met u h.found) (λ d. record {
+      waiting = h.waiting;
+      there = h.there;
+      leads = h.leads.ready.leads;
+      in_order = h.leads.ready.in_order;
+      delivers = subst (λ (f : Found). DeliversOn (message_of r.carried.message) f r.carried.event r.carried.vat u r.carried.budget (outcome_on r.outcome u) (touched_in r.outcome.footprint) (written_by r.outcome)) h.leads.lead d;
+      fresh = new;
+    })
 
 -- a message that the world has is the one that is carried, their places aside
 pub is_copied : {A : Type 0} (f : A → Message) (Q : Message → Type 0) (o : Option A) (x : Option Content) → option_map (λ a. message (f a)) o ≡ x → IfSome o (λ a. Q (f a)) → (g : Message) → x ≡ Some (message g) → Q g
@@ -63,11 +76,6 @@ pub copied_if : {A : Type 0} (f : A → Message) (Q : Message → Type 0) (o : O
 copied_if f Q None x e h = tt
 copied_if f Q (Some a) x e h = h (f a) (sym e)
 
--- what a message waits for is done
-pub in_order_awaits : (w : World) (after : Option MsgId) → InOrder w after → awaits w after ≡ None
-in_order_awaits w None h = refl
-in_order_awaits w (Some m) h = rw h refl
-
 pub same_message : (a b : Message) → Some (message a) ≡ Some (message b) → a ≡ b
 same_message a b e = cc
 
@@ -81,14 +89,9 @@ pub fresh_waiting : (b : Book) (t : Task) (g : Message) → IsKnown b t → b.wo
     → b.world (key.Msg t.name) ≡ Some (message (message_of t.message))
 fresh_waiting b t g k waits here there = waits ∙ ap (λ (x : Message). Some (message x)) (ap (λ (p : Place). record g { place = p }) (here ∙ sym there) ∙ k.copy g waits)
 
--- what a test that passed says, and that a test passed where nothing is against it
-pub passed : {A E : Type 0} (r : Result A E) (P : Type 0) → OnOk r P → is_ok r ≡ true → P
-passed (Ok a) P h e = h
-passed (Err b) P h e = absurd (false≢true e)
-
-pub passes : {A E : Type 0} (r : Result A E) (o : Option E) → IfErr r (λ y. o ≡ Some y) → o ≡ None → is_ok r ≡ true
-passes (Ok a) o h e = refl
-passes (Err b) o h e = cc
+-- what the turn of a ticket that is out sends is new
+pub sent_new : (core : Core) (next : ℕ) (out : List Lent) → Stands core next out → (r : Ran) → IsKnown (book_with core next out) r.carried → AreNew (contents cells (state_of core)) (letters_from r.carried.event 0 (outbox_of r.outcome.out).letters)
+sent_new core next out h r known = letters_new core next out h (lent_of r.carried) known.out 0 (outbox_of r.outcome.out).letters
 
 -- a turn that was run, and what it brings, is entered in a core
 module _ (old now : Core) (next : ℕ) (out : List Lent) (r : Ran) (it : Effects) where
@@ -98,13 +101,16 @@ module _ (old now : Core) (next : ℕ) (out : List Lent) (r : Ran) (it : Effects
   abbrev e : Event
   e = record { name = r.carried.event; act = turn r.carried.vat r.carried.name r.carried.budget }
 
-  module _ (brings : BringsTurn r.carried.event r.carried.name (turn_in w r) it) (is : shown now ≡ entered e r.carried.seat it.touched.items (kepts_of it.records.items) (shown old))
+  module _ (brings : BringsTurn r.carried.event w r.carried.name (turn_in w r) it) (is : shown now ≡ entered e r.carried.seat it.touched.items (kepts_of it.records.items) (shown old))
       (known : IsKnown (book_with old next out) r.carried) (fresh : IsFresh (book_with old next out) r) (h : Stands old next out) where
     abbrev f : Foot
-    f = turn_foot r.carried.event r.carried.name (turn_in w r) brings.cells brings.left
+    f = turn_foot r.carried.event w r.carried.name (turn_in w r) brings.cells brings.left
+
+    its_turn : ∥ Turns r.carried.event w r.carried.name r.carried.budget (turn_in w r) ∥₁
+    its_turn = run_turns (book_with old next out) r fresh (sent_new old next out h r known)
 
     does : ∥ Does e w f ∥₁
-    does = ∥∥₁_map (run_turns (book_with old next out) r fresh) (λ t. turns t brings.leaves)
+    does = ∥∥₁_map its_turn (λ t. turns t brings.leaves)
 
     drawn : r.carried.event.0 < next
     drawn = ∥∥₁_elim h (hlevel props) (λ k. all_out _ out (lent_of r.carried) k.drawn known.out)
@@ -114,7 +120,7 @@ module _ (old now : Core) (next : ℕ) (out : List Lent) (r : Ran) (it : Effects
 
     pub committed_turn : (others : List Lent) → EntersTurn r.carried.event r.carried.name r.carried.budget r.carried.seat (turn_in w r) (book_with old next out) (book_with now next others)
     committed_turn others = record {
-      turns = run_turns (book_with old next out) r fresh;
+      turns = its_turn;
       cells = brings.cells;
       left = brings.left;
       leaves = brings.leaves;
@@ -133,7 +139,7 @@ has_room b m budget e = room_for_names b (neither (option_map (refusal_of m) (ea
 
 -- a ticket that was just lent and run can be refused for want of memory alone
 module _ (m : MsgId) (budget seat : ℕ) (t : Out) (old mid : Book) (r : Ran) (lends : Lends m budget seat t old mid) (same : r.carried ≡ task_of t)
-    (found : Found r.outcome.footprint (heap_state_of (arc_value t.state))) (room : checkout_refusal old m budget ≡ None) where
+    (found : FoundCells r.outcome.footprint (heap_state_of (arc_value t.state))) (room : checkout_refusal old m budget ≡ None) where
   abbrev lent_book : Book
   lent_book = record old { next = old.next + 1; out = old.out ++ lent_of (task_of t) ∷ [] }
 
@@ -150,8 +156,8 @@ module _ (m : MsgId) (budget seat : ℕ) (t : Out) (old mid : Book) (r : Ran) (l
   lent_fresh = subst (λ (b : Book). IsFresh b r) (sym lends.lent) (record {
     waiting = subst (λ (o : Task). old.world (key.Msg o.name) ≡ Some (message (message_of o.message))) (sym same) lends.carries.waiting;
     there = subst (λ (o : Task). (message_of o.message).place ≡ at_vat o.vat) (sym same) lends.carries.there;
-    in_order = subst (λ (o : Task). InOrder old.world (message_of o.message).after) (sym same) lends.in_order;
-    found = subst (λ (o : Task). Found r.outcome.footprint (vat_state old.world o.vat)) (sym same) (subst (λ (s : State). Found r.outcome.footprint s) lends.carries.state found);
+    leads = subst (LeadsAsBefore old.world) (sym same) (record { ready = lends.ready; lead = lends.carries.lead });
+    found = subst (λ (o : Task). FoundCells r.outcome.footprint (vat_state old.world o.vat)) (sym same) (subst (λ (s : State). FoundCells r.outcome.footprint s) lends.carries.state found);
   })
 
   pub lent_room : journal_full mid ≡ None
@@ -169,6 +175,8 @@ module _ (m : MsgId) (budget seat : ℕ) (t : Out) (old mid : Book) (r : Ran) (l
   memory_alone (fault.NameTaken x) h = absurd h
   memory_alone (fault.NoMessage n) h = absurd h
   memory_alone fault.NotThere h = absurd h
+  memory_alone fault.NotReady h = absurd h
+  memory_alone fault.NothingToLearn h = absurd h
   memory_alone (fault.Before n) h = absurd h
   memory_alone fault.VatOut h = absurd h
   memory_alone (fault.NoEvent n) h = absurd h

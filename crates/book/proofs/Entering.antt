@@ -1,8 +1,8 @@
 -- An event is entered: the book stands, the world goes one step, and the journal has one more line.
-use Rattle.std.proofs.Common.{◌≡◌, ◌≢◌, ℕ, ◌+◌, ◌<◌, ◌≤◌, Bool, true, false, List, [], ◌∷◌, ◌++◌, map, is_some, refl, sym, ap, ap₂, ◌∙◌, subst, arith}
+use Rattle.std.proofs.Common.{◌≡◌, ◌≢◌, ℕ, ◌+◌, ◌<◌, ◌≤◌, true, List, [], ◌∷◌, ◌++◌, map, is_some, refl, sym, ap, ◌∙◌, subst, arith}
 use Rattle.std.proofs.Math.Logic.{∥∥₁_elim, ∥∥₁_prop}
 use Rattle.std.specs.List.{AllByRecursion}
-use Rattle.history.specs.Subject.{empty, after, new, touches}
+use Rattle.history.specs.Subject.{empty, new, touches}
 use Rattle.history.specs.Journal.{Free, causes_of, new_entry}
 use Rattle.history.specs.Records.{State, Row, Record, contents, entries_of, swap_record}
 use Rattle.history.specs.Chains.{HasCells}
@@ -11,8 +11,8 @@ use Rattle.history.proofs.Lists.{all_map, all_both}
 use Rattle.history.proofs.Naming.{causes_named, causes_below, free_causes, free_from}
 use Rattle.ids.specs.CellKeys.{same_key}
 use Rattle.ids.specs.declared.cells.CellKey.{CellKey}
-use Rattle.post.specs.Events.{Event}
-use Rattle.post.specs.Theory.{cells}
+use Rattle.worldcells.specs.Events.{Event}
+use Rattle.worldcells.specs.Theory.{cells}
 use Rattle.event.specs.Events.{Foot, Does, events}
 use Rattle.event.specs.Effects.{Brings}
 use Rattle.event.proofs.Law.{events_laws}

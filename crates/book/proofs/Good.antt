@@ -12,9 +12,9 @@ use Rattle.history.specs.Records.{Row, Fits, contents, entries_of}
 use Rattle.history.proofs.Changes.{good_runs}
 use Rattle.history.proofs.Lists.{all_map, all_both, all_of, all_mapped, all_reversed}
 use Rattle.history.proofs.Naming.{named_reversed}
-use Rattle.post.specs.Events.{Event}
-use Rattle.post.specs.World.{World}
-use Rattle.post.specs.Theory.{cells}
+use Rattle.worldcells.specs.Events.{Event}
+use Rattle.worldcells.specs.World.{World}
+use Rattle.worldcells.specs.Theory.{cells}
 use Rattle.event.specs.Events.{Does, events}
 use Rattle.event.proofs.Law.{events_laws}
 use Rattle.journal.specs.Items.{Item}

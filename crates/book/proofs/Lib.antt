@@ -11,6 +11,12 @@ pub mod Placed
 pub mod Exchanging
 pub mod GivingBack
 pub mod Tickets
+pub mod Unnamed
+pub mod Noting
+pub mod Named
 pub mod Checkouts
+pub mod Admitting
+pub mod Learnings
+pub mod Freshness
 pub mod Committing
 pub mod Good

@@ -4,8 +4,8 @@ use Rattle.history.specs.Subject.{Run, empty}
 use Rattle.history.specs.Journal.{Entry, live_set}
 use Rattle.history.specs.Records.{State, Row, contents, entries_of}
 use Rattle.history.proofs.Standing.{standing_run}
-use Rattle.post.specs.Events.{Event}
-use Rattle.post.specs.Theory.{cells}
+use Rattle.worldcells.specs.Events.{Event}
+use Rattle.worldcells.specs.Theory.{cells}
 use Rattle.event.specs.Events.{Does, events}
 use Rattle.event.proofs.Law.{events_laws}
 use Rattle.journal.specs.Items.{Item}

@@ -1,16 +1,17 @@
 -- Worlds and journals are sets: any two proofs that two of them are the same are the same.
-use Rattle.std.proofs.Common.{Bool, List}
+use Rattle.std.proofs.Common.{Bool, List, Option}
 use Rattle.std.proofs.Props.{props}
-use Rattle.history.specs.Subject.{Footprint}
-use Rattle.history.specs.Journal.{Entry}
 use Rattle.ids.specs.declared.cells.CellKey.{CellKey}
 use Rattle.kernele.specs.declared.tree.Pattern.{Pattern}
 use Rattle.kernele.specs.Tree.{Name, Trees, Trees-set}
+use Rattle.values.specs.Data.{Vals, Vals-set}
 use Rattle.heap.specs.Sets.{vals, binds, objects, views}
-use Rattle.post.specs.Delivery.{Delivery, Delivery-set}
-use Rattle.post.specs.Events.{Act, Event}
-use Rattle.post.specs.World.{Vat, Vat-set, Place, Place-set, Message, Message-set, Content, Content-set, World}
-use Rattle.journal.specs.Lines.{plain, Line}
+use Rattle.heap.specs.State.{Nouns}
+use Rattle.post.specs.Delivery.{Call, Call-set, Handler, Handler-set, When, When-set, Delivery, Delivery-set}
+use Rattle.worldcells.specs.Events.{Act, Event}
+use Rattle.post.specs.Messages.{Vat, Vat-set, Place, Place-set, Message, Message-set, Published, Published-set}
+use Rattle.worldcells.specs.World.{Content, Content-set, World}
+use Rattle.journal.specs.Lines.{Line}
 
 names : IsSet Name
 names = hlevel props
@@ -24,8 +25,26 @@ pattern_lists = hlevel (props, patterns)
 trees : IsSet Trees
 trees = Trees-set (hlevel props) (hlevel props) names patterns pattern_lists
 
+value_lists : IsSet Vals
+value_lists = Vals-set (hlevel props) (hlevel props) names (hlevel props) (hlevel props) (hlevel props)
+
+calls : IsSet Call
+calls = Call-set vals names value_lists (hlevel props)
+
+nouns : IsSet Nouns
+nouns = hlevel (props, binds)
+
+handlers : IsSet Handler
+handlers = Handler-set patterns trees
+
+optional_handlers : IsSet (Option Handler)
+optional_handlers = hlevel (props, handlers)
+
+whens : IsSet When
+whens = When-set vals nouns trees optional_handlers
+
 deliveries : IsSet Delivery
-deliveries = Delivery-set trees
+deliveries = Delivery-set (hlevel props) trees calls whens
 
 vats : IsSet Vat
 vats = hlevel (props, Vat-set)
@@ -36,8 +55,11 @@ places = hlevel (props, Place-set)
 messages : IsSet Message
 messages = Message-set deliveries (hlevel props) (hlevel props) places
 
-contents : IsSet Content
-contents = Content-set vats binds vals objects views (hlevel props) messages
+publications : IsSet Published
+publications = Published-set vals (hlevel props)
+
+pub contents : IsSet Content
+contents = Content-set vats binds vals objects views (hlevel props) messages publications
 
 pub World-set : IsSet World
 World-set = hlevel (props, contents)

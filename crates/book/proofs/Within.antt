@@ -5,16 +5,17 @@ use Rattle.std.proofs.lemmas.Bool.{ltb-false}
 use Rattle.std.proofs.lemmas.List.{length-append, length-map}
 use Rattle.history.specs.Records.{State, Record}
 use Rattle.ids.specs.declared.cells.CellKey.{CellKey}
-use Rattle.post.specs.Events.{Event}
-use Rattle.post.specs.Theory.{cells}
-use Rattle.post.specs.World.{Vat, vat_named}
+use Rattle.worldcells.specs.Events.{Event}
+use Rattle.worldcells.specs.Theory.{cells}
+use Rattle.post.specs.Messages.{Vat}
+use Rattle.worldcells.specs.World.{vat_named}
 use Rattle.kernele.specs.Tree.{Name, Trees}
 use Rattle.scopes.specs.Scope.{checked_program, script_scopes, asked_scopes}
 use Rattle.journal.specs.Items.{Item, entered, exchanged}
 use Rattle.journal.specs.Lines.{Line, line_of, lines_of}
 use Rattle.undo.specs.CoreView.{items_of, state_of, shown}
 use Rattle.undo.specs.declared.undoing.Core.{Core}
-use Rattle.book.specs.Refusals.{Refusal, first, refuse_where, full, journal_full, full_refusal, check_refusal, taken_refusal, birth_refusal, ask_refusal, ask_refusal_by}
+use Rattle.book.specs.Refusals.{Refusal, first, refuse_where, full, journal_full, full_refusal, check_refusal, taken_refusal, named_refusal, birth_refusal, ask_refusal, ask_refusal_by}
 use Rattle.book.specs.Books.{Book}
 use Rattle.book.specs.declared.book.TheConstants.{MOST_ENTRIES}
 
@@ -43,11 +44,12 @@ pub room_for_names : (b : Book) → full_refusal b ≡ None → journal_full b �
 room_for_names b e = no_room_left (nat_lt 4294967295 b.next) (nat_lt 1048575 (length b.journal)) e
 
 -- and so for a birth, and an asked program, that is not refused
-pub room_for_birth : (b : Book) (x : Name) (script : Trees) → birth_refusal b x script ≡ None → full_refusal b ≡ None
-room_for_birth b x script e = neither (check_refusal (checked_program script (script_scopes []))) (full_refusal b) (neither (taken_refusal x (vat_named b.world x)) _ e)
+pub room_for_birth : (b : Book) (x : Name) (earlier : List Name) (script : Trees) → birth_refusal b x earlier script ≡ None → full_refusal b ≡ None
+room_for_birth b x earlier script e =
+    neither (check_refusal (checked_program script (script_scopes earlier))) (full_refusal b) (neither (named_refusal b.world earlier) _ (neither (taken_refusal x (vat_named b.world x)) _ e))
 
 pub room_for_ask : (b : Book) (x : Name) (program : Trees) (v : Vat) → vat_named b.world x ≡ Some v → ask_refusal b x program ≡ None → full_refusal b ≡ None
-room_for_ask b x program v is e = neither (check_refusal (checked_program program (asked_scopes v.tops))) (full_refusal b) (subst (λ (o : Option Vat). ask_refusal_by o b x program ≡ None) is e)
+room_for_ask b x program v is e = neither (check_refusal (checked_program program (asked_scopes v.earlier v.tops))) (full_refusal b) (subst (λ (o : Option Vat). ask_refusal_by o b x program ≡ None) is e)
 
 not_refused : (b : Bool) (refusal : Refusal) → refuse_where b refusal ≡ None → b ≡ false
 not_refused true refusal e = cc

@@ -1,6 +1,6 @@
 -- What the program's book stands for.
 use Rattle.history.specs.Records.{contents}
-use Rattle.post.specs.Theory.{cells}
+use Rattle.worldcells.specs.Theory.{cells}
 use Rattle.journal.specs.Lines.{lines_of}
 use Rattle.undo.specs.CoreView.{items_of, state_of}
 use Rattle.desk.specs.DeskView.{out_of}

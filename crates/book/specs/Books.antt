@@ -1,6 +1,6 @@
 -- The book: what has happened so far.
 use Rattle.std.specs.Prelude.{ℕ, List, []}
-use Rattle.post.specs.World.{World, empty}
+use Rattle.worldcells.specs.World.{World, empty}
 use Rattle.journal.specs.Lines.{Line}
 use Rattle.desk.specs.Desks.{Lent}
 

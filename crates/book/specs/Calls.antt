@@ -1,28 +1,35 @@
 -- What the accepted calls of a book do.
-use Rattle.std.specs.Prelude.{◌≡◌, ℕ, ◌+◌, ◌==◌, Bool, true, ◌&&◌, ◌||◌, not, List, [], ◌∷◌, ◌++◌, map, filter, reverse, is_some, Some, None, Contains, slice_get}
-use Rattle.std.specs.List.{list_any, AllByRecursion}
+use Rattle.std.specs.Prelude.{◌≡◌, ℕ, ◌+◌, true, ◌&&◌, ◌||◌, not, List, [], ◌∷◌, ◌++◌, map, filter, reverse, is_some, Some, None, Contains, slice_get}
+use Rattle.std.specs.List.{AllByRecursion}
 use Rattle.std.specs.Arc.{arc_value}
 use Rattle.std.specs.Option.{option_map}
 use Rattle.history.specs.Subject.{after, new, touches}
 use Rattle.history.specs.Journal.{causes_of}
 use Rattle.ids.specs.declared.names.EventName.{EventName}
 use Rattle.ids.specs.declared.names.MsgId.{MsgId}
+use Rattle.ids.specs.declared.names.PromId.{PromId}
 use Rattle.ids.specs.declared.names.VatNo.{VatNo}
 use Rattle.ids.specs.declared.cells.CellKey.{CellKey}
 use Rattle.ids.specs.declared.cells.CellKey.TheVariants as key
 use Rattle.heap.specs.State as heap
-use Rattle.heap.specs.State.{Cell}
+use Rattle.heap.specs.State.{Cell, pending, view_cell}
 use Rattle.heap.specs.View.{state_of}
 use Rattle.heap.specs.Found.{Found}
-use Rattle.post.specs.Events.{Event, turn}
-use Rattle.post.specs.Messages.{message_of}
+use Rattle.worldcells.specs.Events.{Event, turn}
+use Rattle.post.specs.MessageView.{message_of}
 use Rattle.post.specs.declared.message.Message as code-message
-use Rattle.post.specs.World as world
-use Rattle.post.specs.World.{Message, message, at_vat, vat_state}
-use Rattle.event.specs.Events.{Foot, Does, events, InOrder, Turn, Turns, Leaves, turn_foot}
+use Rattle.worldcells.specs.World as world
+use Rattle.post.specs.Messages.{Vat, Message, Published, at_vat, flying, waits_at, arrived}
+use Rattle.worldcells.specs.World.{message, published_as, vat_state}
+use Rattle.kernele.specs.Tree.{Name}
+use Rattle.event.specs.Events.{AreNamed, Foot, Does, events, Turn, Turns, TurnLeaves, turn_foot}
+use Rattle.event.specs.Forwarding.{onward_of}
+use Rattle.event.specs.Ready.{leads_there, first_undone}
+use Rattle.event.specs.Walks.{awaited, found_by}
+use Rattle.deliveries.specs.Outcomes.{found_of}
+use Rattle.deliveries.specs.declared.lead.Lead.{Lead}
 use Rattle.event.specs.Runs.{PlainRun}
 use Rattle.event.specs.Effects.{turn_of}
-use Rattle.event.specs.declared.outcome.Outcome.{Outcome}
 use Rattle.turn.specs.Tasks.{task_of}
 use Rattle.turn.specs.declared.ticket.Out.{Out}
 use Rattle.turn.specs.declared.ticket.Task.{Task}
@@ -32,7 +39,7 @@ use Rattle.journal.specs.Items.{exchanged}
 use Rattle.causality.specs.Selections.{name_of, is_live, chosen}
 use Rattle.desk.specs.Desks.{Lent, without}
 use Rattle.book.specs.Books.{Book}
-use Rattle.book.specs.Refusals.{Refusal, no_ticket, stale, full, journal_full, undo_refusal, checkout_refusal}
+use Rattle.book.specs.Refusals.{Refusal, no_ticket, stale, full, journal_full, arrival_refusal, forward_refusal, learning_refusal, undo_refusal, checkout_refusal}
 
 -- the line of a new event from a seat: it is live, it has the cells that its footprint touches and writes, and as its causes the live
 -- events before it that wrote a cell that it touches, the oldest first
@@ -63,19 +70,63 @@ pub record EntersNext (e : Event) (f : Foot) (seat : ℕ) (old now : Book) : Typ
 abbrev pub lent_of : Task → Lent
 lent_of t = record { number = t.event; message = t.name; vat = t.vat; budget = t.budget; seat = t.seat }
 
--- a ticket carries a message of the world that is at its vat, and the vat's state
+-- a ticket carries a message of the world that is at its vat, where it leads, and the vat's state
 pub record Carries (w : world.World) (t : Out) : Type 0 where
   pub waiting : w (key.Msg t.name) ≡ Some (message (message_of t.message))
   pub there : (message_of t.message).place ≡ at_vat t.vat
+  pub lead : found_of t.lead ≡ found_by w (message_of t.message).delivery
   pub state : state_of (arc_value t.state) ≡ vat_state w t.vat
 
--- a message may be delivered with this budget, as the turn of the name that comes next
-pub record Admitted (b : Book) (m : MsgId) (budget : ℕ) (g : code-message.Message) (v : VatNo) (e : EventName) : Type 0 where
+-- the numbers of the vats of these names
+pub record Numbers (w : world.World) (names : List Name) (numbers : List VatNo) : Type 0 where
+  pub vats : List Vat
+  pub named : AreNamed w names vats
+  pub numbered : map (λ v. v.number) vats ≡ numbers
+
+-- a message may arrive under the name that comes next, and is this one then
+pub record AdmitsArrival (b : Book) (m : MsgId) (e : EventName) (h : Message) : Type 0 where
+  pub named : e.0 ≡ b.next
+  pub refusal : arrival_refusal b m ≡ None
+  pub message : Message
+  pub there : world.message_of b.world m ≡ Some message
+  pub arrives : arrived message ≡ Some h
+
+-- a message may go on under the name that comes next, and is this one then; these are the promises on the way of its target
+pub record AdmitsForward (b : Book) (m : MsgId) (e : EventName) (h : Message) (through : List PromId) : Type 0 where
+  pub named : e.0 ≡ b.next
+  pub refusal : forward_refusal b m ≡ None
+  pub message : Message
+  pub there : world.message_of b.world m ≡ Some message
+  pub here : VatNo
+  pub waits : waits_at message.place ≡ Some here
+  pub to : VatNo
+  pub onward : onward_of b.world here message ≡ Some (to, through)
+  pub forwards : h ≡ record message { place = flying to }
+
+-- a promise is open in a vat's view, and was published as this
+pub record CanLearn (w : world.World) (v : VatNo) (p : PromId) (q : Published) : Type 0 where
+  pub unresolved : vat_state w v (view_cell p) ≡ Some (heap.viewed pending)
+  pub resolved : published_as w p ≡ Some q
+
+-- a vat may learn what a promise was published as under the name that comes next
+pub record AdmitsLearning (b : Book) (v : VatNo) (p : PromId) (e : EventName) (q : Published) : Type 0 where
+  pub named : e.0 ≡ b.next
+  pub refusal : learning_refusal b v p ≡ None
+  pub can : CanLearn b.world v p q
+
+-- a message at a vat may be delivered there
+pub record IsReadyAt (w : world.World) (g : Message) (v : VatNo) : Type 0 where
+  pub leads : leads_there w v g ≡ true
+  pub in_order : first_undone w (awaited w g) ≡ None
+
+-- a message may be delivered with this budget, as the turn of the name that comes next, and this is where it leads
+pub record Admitted (b : Book) (m : MsgId) (budget : ℕ) (g : code-message.Message) (l : Lead) (v : VatNo) (e : EventName) : Type 0 where
   pub named : e.0 ≡ b.next
   pub refusal : checkout_refusal b m budget ≡ None
   pub waiting : b.world (key.Msg m) ≡ Some (message (message_of g))
   pub there : (message_of g).place ≡ at_vat v
-  pub in_order : InOrder b.world (message_of g).after
+  pub ready : IsReadyAt b.world (message_of g) v
+  pub lead : found_of l ≡ found_by b.world (message_of g).delivery
 
 -- a ticket for a message is lent to a seat: it has the name that comes next
 pub record Lends (m : MsgId) (budget seat : ℕ) (t : Out) (old now : Book) : Type 0 where
@@ -84,7 +135,7 @@ pub record Lends (m : MsgId) (budget seat : ℕ) (t : Out) (old now : Book) : Ty
   pub same_budget : t.budget ≡ budget
   pub same_seat : t.seat ≡ seat
   pub carries : Carries old.world t
-  pub in_order : InOrder old.world (message_of t.message).after
+  pub ready : IsReadyAt old.world (message_of t.message) t.vat
   pub lent : now ≡ record old { next = old.next + 1; out = old.out ++ lent_of (task_of t) ∷ [] }
 
 -- a ticket is out, and of a message that the world has it carries a copy, their places aside
@@ -92,11 +143,16 @@ pub record IsKnown (b : Book) (t : Task) : Type 0 where
   pub out : Contains b.out (lent_of t)
   pub copy : (g : Message) → b.world (key.Msg t.name) ≡ Some (message g) → record g { place = (message_of t.message).place } ≡ message_of t.message
 
--- the message is still ready at its vat, and each cell that the turn touched holds what was found there
+-- the message of a ticket is ready at its vat, and leads where it led
+pub record LeadsAsBefore (w : world.World) (t : Task) : Type 0 where
+  pub ready : IsReadyAt w (message_of t.message) t.vat
+  pub lead : found_of t.lead ≡ found_by w (message_of t.message).delivery
+
+-- the message is still ready at its vat and leads where it led, and each cell that the turn touched holds what was found there
 pub record IsFresh (b : Book) (r : Ran) : Type 0 where
   pub waiting : b.world (key.Msg r.carried.name) ≡ Some (message (message_of r.carried.message))
   pub there : (message_of r.carried.message).place ≡ at_vat r.carried.vat
-  pub in_order : InOrder b.world (message_of r.carried.message).after
+  pub leads : LeadsAsBefore b.world r.carried
   pub found : Found r.outcome.footprint (vat_state b.world r.carried.vat)
 
 -- why a turn that was run is refused
@@ -110,8 +166,8 @@ pub record EntersTurn (e : EventName) (m : MsgId) (budget seat : ℕ) (t : Turn)
   pub turns : ∥ Turns e old.world m budget t ∥₁
   pub cells : List Cell
   pub left : List (Cell × heap.Content)
-  pub leaves : Leaves t cells left
-  pub enters : Enters (record { name = e; act = turn t.vat m budget }) (turn_foot e m t cells left) seat old now
+  pub leaves : TurnLeaves t cells left
+  pub enters : Enters (record { name = e; act = turn t.vat m budget }) (turn_foot e old.world m t cells left) seat old now
 
 -- the turn that a ticket was run for
 abbrev pub turn_in : world.World → Ran → Turn

@@ -4,7 +4,7 @@ use Rattle.std.specs.List.{AllByRecursion}
 use Rattle.history.specs.Subject.{after, new, touches}
 use Rattle.history.specs.Journal.{Entry, name_of, is_in, live_set, Distinct, Sound}
 use Rattle.ids.specs.declared.cells.CellKey.{CellKey}
-use Rattle.post.specs.World.{World, empty}
+use Rattle.worldcells.specs.World.{World, empty}
 use Rattle.event.specs.Events.{Foot, Does, events}
 use Rattle.journal.specs.Lines.{plain, entries_in}
 use Rattle.book.specs.Books.{Book}

@@ -5,3 +5,4 @@ pub mod Fault
 pub mod Standing
 pub mod BookView
 pub mod Good
+pub mod Learning

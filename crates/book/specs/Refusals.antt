@@ -1,5 +1,5 @@
 -- When a call of the book is refused.
-use Rattle.std.specs.Prelude.{ℕ, zero, suc, ◌||◌, ◌&&◌, ◌==◌, ◌+◌, not, cond, Bool, false, List, [], ◌∷◌, length, Option, Some, None, Ok, Err, nat_lt, slice_get}
+use Rattle.std.specs.Prelude.{ℕ, zero, suc, is_some, ◌||◌, ◌==◌, ◌+◌, not, cond, Bool, false, List, [], ◌∷◌, length, Option, Some, None, Ok, Err, nat_lt, slice_get}
 use Rattle.std.specs.Option.{option_map}
 use Rattle.history.specs.Subject.{meets}
 use Rattle.kernele.specs.Tree.{Name, Trees}
@@ -8,8 +8,12 @@ use Rattle.scopes.specs.Scope as scope
 use Rattle.ids.specs.declared.names.EventName.{EventName}
 use Rattle.ids.specs.declared.names.VatNo.{VatNo}
 use Rattle.ids.specs.declared.names.MsgId.{MsgId}
-use Rattle.post.specs.World.{Vat, Place, at_vat, done, Message, World, vat_named, message_of}
-use Rattle.event.specs.Ready.{lost, early}
+use Rattle.ids.specs.declared.names.PromId.{PromId}
+use Rattle.post.specs.Messages.{Vat, flies_to, waits_at, Message}
+use Rattle.worldcells.specs.World.{World, vat_named, message_of}
+use Rattle.event.specs.Ready.{lost, early, place_of}
+use Rattle.event.specs.Forwarding.{onward_of}
+use Rattle.agenda.specs.Agendas.{can_learn}
 use Rattle.event.specs.declared.ready.Unready.{Unready}
 use Rattle.event.specs.declared.ready.Unready.TheVariants as why
 use Rattle.journal.specs.Lines.{plain, Line}
@@ -25,7 +29,11 @@ pub data Refusal : Type 0 where
   name_taken : (x : Name) → Refusal
   no_message : (m : MsgId) → Refusal
   not_there : Refusal
+  -- the message leads elsewhere, or nowhere
+  not_ready : Refusal
   before : (m : MsgId) → Refusal
+  -- the promise is not open in the vat's view, or was not published
+  nothing_to_learn : Refusal
   full : Refusal
   -- the world is no longer as the turn found it
   stale : Refusal
@@ -73,16 +81,26 @@ abbrev pub taken_refusal : Name → Option Vat → Option Refusal
 taken_refusal x None = None
 taken_refusal x (Some v) = Some (name_taken x)
 
--- a birth: the name is free, the script passes the check
-abbrev pub birth_refusal : Book → Name → Trees → Option Refusal
-birth_refusal b x script =
-    first (taken_refusal x (vat_named b.world x)) (first (check_refusal (checked_program script (script_scopes []))) (full_refusal b))
+abbrev pub absent_refusal : Name → Option Vat → Option Refusal
+absent_refusal x None = Some (no_vat x)
+absent_refusal x (Some v) = None
+
+-- an earlier vat that is not there
+abbrev pub named_refusal : World → List Name → Option Refusal
+named_refusal w [] = None
+named_refusal w (x ∷ xs) = first (absent_refusal x (vat_named w x)) (named_refusal w xs)
+
+-- a birth: the name is free, the earlier vats are there, the script passes the check among their names
+abbrev pub birth_refusal : Book → Name → List Name → Trees → Option Refusal
+birth_refusal b x earlier script =
+    first (taken_refusal x (vat_named b.world x))
+    (first (named_refusal b.world earlier) (first (check_refusal (checked_program script (script_scopes earlier))) (full_refusal b)))
 
 abbrev pub ask_refusal_by : Option Vat → Book → Name → Trees → Option Refusal
 ask_refusal_by None b x program = Some (no_vat x)
-ask_refusal_by (Some v) b x program = first (check_refusal (checked_program program (asked_scopes v.tops))) (full_refusal b)
+ask_refusal_by (Some v) b x program = first (check_refusal (checked_program program (asked_scopes v.earlier v.tops))) (full_refusal b)
 
--- an asked program: the vat is there, the program passes the check among the names that its script defines
+-- an asked program: the vat is there, the program passes the check among the names of its earlier vats and those that its script defines
 abbrev pub ask_refusal : Book → Name → Trees → Option Refusal
 ask_refusal b x program = ask_refusal_by (vat_named b.world x) b x program
 
@@ -90,21 +108,51 @@ ask_refusal b x program = ask_refusal_by (vat_named b.world x) b x program
 abbrev pub refusal_of : MsgId → Unready → Refusal
 refusal_of m why.NoMessage = no_message m
 refusal_of m why.NotThere = not_there
+refusal_of m why.NotReady = not_ready
 refusal_of m (why.Before n) = before n
+
+-- an arrival: the message is there, and on its way
+abbrev pub arrival_refusal_by : MsgId → Option Message → Option Refusal
+arrival_refusal_by m None = Some (no_message m)
+arrival_refusal_by m (Some g) = refuse_where (not (is_some (flies_to g.place))) not_there
+
+abbrev pub arrival_refusal : Book → MsgId → Option Refusal
+arrival_refusal b m = first (arrival_refusal_by m (message_of b.world m)) (full_refusal b)
+
+-- a forwarding: the message is at a vat, and its target leads to another one
+abbrev pub onward_refusal : World → Option Message → Option VatNo → Option Refusal
+onward_refusal w (Some g) (Some v) = refuse_where (not (is_some (onward_of w v g))) not_ready
+onward_refusal w _ _ = None
+
+abbrev pub forward_refusal : Book → MsgId → Option Refusal
+forward_refusal b m =
+    first (option_map (refusal_of m) (lost b.world m))
+    (first (onward_refusal b.world (message_of b.world m) (place_of (message_of b.world m))) (full_refusal b))
+
+-- what a vat learns: the promise is open in its view, and was published
+abbrev pub learning_refusal : Book → VatNo → PromId → Option Refusal
+learning_refusal b v p = first (refuse_where (not (can_learn b.world v p)) nothing_to_learn) (full_refusal b)
+
+abbrev pub learn_refusal_by : Option Vat → Book → Name → PromId → Option Refusal
+learn_refusal_by None b x p = Some (no_vat x)
+learn_refusal_by (Some v) b x p = learning_refusal b v.number p
+
+abbrev pub learn_refusal : Book → Name → PromId → Option Refusal
+learn_refusal b x p = learn_refusal_by (vat_named b.world x) b x p
 
 -- a budget is 1 to 1,000,000
 abbrev pub budget_refusal : ℕ → Option Refusal
 budget_refusal budget = refuse_where (budget == 0 || nat_lt 1000000 budget) bad_budget
 
-abbrev pub place_out : Place → List Lent → Bool
-place_out (at_vat v) out = has_vat v out
-place_out (done e) out = false
+abbrev pub vat_at_is_out : Option VatNo → List Lent → Bool
+vat_at_is_out (Some v) out = has_vat v out
+vat_at_is_out None out = false
 
 abbrev pub message_out : Option Message → List Lent → Bool
 message_out None out = false
-message_out (Some g) out = place_out g.place out
+message_out (Some g) out = vat_at_is_out (waits_at g.place) out
 
--- a checkout: the budget is good, the message is at a vat, no ticket of the vat is out, what the message waits for is done
+-- a checkout: the budget is good, the message is at a vat, no ticket of the vat is out, the message leads there, and what it waits for is done
 abbrev pub checkout_refusal : Book → MsgId → ℕ → Option Refusal
 checkout_refusal b m budget =
     first (budget_refusal budget) (first (option_map (refusal_of m) (lost b.world m))

@@ -1,6 +1,7 @@
 // The book: the world, the journal that made it, the names that are not drawn yet, and the tickets that are out.
-ghost use Rattle.std.specs.Prelude.{◌≡◌, ◌≢◌, ◌≤◌, ◌+◌, ◌↔◌, List, None, Some, true, false, IsTrue, IfOk, IfErr, IfSome, OnOk, OnErr, length, filter, map};
-ghost use Rattle.std.specs.Option.{option_map};
+ghost use Rattle.std.specs.Prelude.{◌≡◌, ◌≢◌, ◌≤◌, ◌+◌, ◌↔◌, List, Option, None, Some, true, false, IsTrue, IfOk, IfErr, IfSome, OnOk, OnErr, length, filter, map, not};
+ghost use Rattle.std.specs.Option.{option_map, ForSome};
+ghost use Rattle.history.specs.Records.{contents};
 ghost use Rattle.history.specs.Chains.{last_writer};
 ghost use Rattle.history.specs.Journal.{live_set};
 ghost use Rattle.ids.specs.declared.cells.CellKey.{CellKey};
@@ -10,58 +11,73 @@ ghost use Rattle.scopes.specs.Check.{scopes_of};
 ghost use Rattle.scopes.specs.Scope.{checked_program};
 ghost use Rattle.scopes.specs.declared.naming.TopName.{TopName};
 ghost use Rattle.heap.specs.Found.{Found};
-ghost use Rattle.post.specs.Events.{birth, ask};
-ghost use Rattle.post.specs.EventView.{event_of};
-ghost use Rattle.post.specs.Messages.{place_of, message_of, vat_of};
-ghost use Rattle.post.specs.Theory.{state_of_world};
-ghost use Rattle.post.specs.View.{world_of};
-ghost use Rattle.post.specs.World.{at_vat, vat, vat_named, vat_state};
+ghost use Rattle.heap.specs.State.{view_cell, viewed};
+ghost use Rattle.heap.specs.View.{view_of, state_of as state_in_cells};
+ghost use Rattle.worldcells.specs.Events.{birth, ask, arrive, forward, learn};
+ghost use Rattle.worldcells.specs.EventView.{event_of};
+ghost use Rattle.post.specs.MessageView.{place_of, message_of, published_of, vat_of};
+ghost use Rattle.worldcells.specs.Theory.{cells, state_of_world};
+ghost use Rattle.worldcells.specs.View.{world_of};
+ghost use Rattle.post.specs.Messages.{Vat as VatModel, at_vat};
+ghost use Rattle.worldcells.specs.World.{World as WorldModel, vat, vat_named, vat_state};
 ghost use Rattle.event.specs.Events.{Foot, Turn, birth_foot, ask_foot};
+ghost use Rattle.event.specs.ReadyView.{IsWay};
+ghost use Rattle.agenda.specs.Agendas.{AlikeBut, KnownAs, can_learn, is_open as is_open_of, open_view};
+ghost use Rattle.agenda.specs.AgendaView.{NotedIn};
+ghost use Rattle.agenda.specs.Enabled.{Enabled, First};
 ghost use Rattle.event.specs.Effects.{Happens};
-ghost use Rattle.event.specs.Outcomes.{ended_of};
+ghost use Rattle.deliveries.specs.Outcomes.{told_of};
 ghost use Rattle.event.specs.Runs.{PlainRun};
 ghost use Rattle.journal.specs.Items.{item_of};
 ghost use Rattle.journal.specs.Lines.{plain, lines_of, entries_in};
 ghost use Rattle.causality.specs.Exact.{Cone};
 ghost use Rattle.causality.specs.Journals.{IsJournal};
 ghost use Rattle.causality.specs.Selections.{chosen};
-ghost use Rattle.undo.specs.CoreView.{items_of};
-ghost use Rattle.desk.specs.Desks.{is_out, without};
-ghost use Rattle.std.specs.Option.{option_map};
+ghost use Rattle.undo.specs.CoreView.{items_of, state_of};
+ghost use Rattle.desk.specs.Desks.{has_vat, is_out, without};
 ghost use Rattle.desk.specs.DeskView.{lent_of as desk_lent, out_of};
-ghost use Rattle.book.specs.Refusals.{birth_refusal, ask_refusal, checkout_refusal, full_refusal, check_refusal, taken_refusal, undo_refusal, redo_refusal, cone_refusal, exchange_refusal, budget_refusal, refusal_of, full, journal_full};
+ghost use Rattle.book.specs.Refusals.{birth_refusal, ask_refusal, arrival_refusal, forward_refusal, Refusal, named_refusal, learn_refusal, learning_refusal, nothing_to_learn, refuse_where, checkout_refusal, full_refusal, check_refusal, taken_refusal, undo_refusal, redo_refusal, cone_refusal, exchange_refusal, budget_refusal, refusal_of, full, journal_full};
 ghost use Rattle.book.specs.Books.{blank};
-ghost use Rattle.book.specs.Calls.{EntersNext, Admitted, TurnsNext, lent_of, Lends, Commits, IsKnown, IsFresh, Undoes, Redoes, Exchanges, StoodAt, live_events};
-ghost use Rattle.book.specs.Fault.{Tells, TellsCommit, Unturned};
+ghost use Rattle.book.specs.Calls.{EntersNext, Admitted, AdmitsArrival, AdmitsForward, AdmitsLearning, Numbers, CanLearn, LeadsAsBefore, TurnsNext, lent_of, Lends, Commits, IsKnown, IsFresh, Undoes, Redoes, Exchanges, StoodAt, live_events};
+ghost use Rattle.book.specs.Fault.{Tells, delay_tells, TellsLost, TellsStale, TellsCommit, Unturned};
+ghost use Rattle.book.specs.Learning.{LearnsNamed, TellsNamed};
 ghost use Rattle.book.specs.Standing.{Stands};
 ghost use Rattle.book.specs.declared.book.TheConstants.{MOST_ENTRIES};
 ghost use Rattle.book.specs.declared.fault.BookFault.TheVariants.{NoTicket, Stale, Full, Memory};
 
 use crate::fault::BookFault;
 use crate::selecting::{check_cone, check_exchange, check_redo, check_undo};
+use agenda::agenda::{Agenda, Step};
 use causality::cone::cone;
 use causality::names::NameSet;
 use causality::selection::positions;
 use cells::swaps::Swaps;
+use deliveries::lead::Lead;
+use deliveries::outcome::Ended;
 use desk::desk::{Desk, Lent};
-use event::effects::{Effects, ask_effects, birth_effects, turn_effects};
+use event::effects::{
+    Effects, ask_effects, birth_effects, learn_effects, move_effects, turn_effects,
+};
+use event::forwarding::{Destination, onward};
 use event::found::is_found;
-use event::outcome::Ended;
-use event::ready::{Unready, check_order, message_at_vat};
+use event::learning::learn;
+use event::ready::{Delay, Unready, Way, check_ready, message_at_vat};
 use heap::reach::Footprint;
-use heap::state::VatState;
-use ids::names::{EventName, MsgId, VatNo};
+use heap::state::{VatState, View};
+use ids::cells::CellKey;
+use ids::names::{EventName, MsgId, PromId, VatNo};
 use ids::text::Text;
 use journal::entry::Entry;
 use kernele::tree::Program;
-use post::event::{Action, Event};
 use post::message::{Message, Place, same_sent};
+use post::published::Published;
 use post::vat::Vat;
-use post::world::World;
 use scopes::{CheckFault, Outer, check};
 use std::alloc::{AllocError, Global};
 use turn::ticket::{Out, Ran, Task, Ticket};
 use undo::undoing::{Core, Deed};
+use worldcells::event::{Action, Event};
+use worldcells::world::World;
 
 /// The greatest name that an event may have.
 const LAST_NAME: u64 = 4_294_967_295;
@@ -89,9 +105,12 @@ pub struct Book {
     core: Core,
     next: u64,
     desk: Desk,
+    /// What may be done next; none where it is to be found anew.
+    agenda: Option<Agenda>,
     pub ghost in_range: { next ≤ 4294967296 },
     pub ghost stands: { Stands core next (out_of desk) },
     pub ghost within: { length (items_of core) ≤ MOST_ENTRIES },
+    pub ghost noted: { ForSome agenda (NotedIn (contents cells (state_of core))) },
 }
 
 fn check_program(alloc: Global, program: &Program, outer: &Outer) -> Result<(), BookFault>
@@ -111,7 +130,17 @@ fn unready_fault(message: MsgId, unready: Unready) -> BookFault
     match unready {
         Unready::NoMessage => BookFault::NoMessage(message),
         Unready::NotThere => BookFault::NotThere,
+        Unready::NotReady => BookFault::NotReady,
         Unready::Before(first) => BookFault::Before(first),
+    }
+}
+
+fn delay_fault(message: MsgId, delay: Delay) -> BookFault
+    ensures { (refusal : Option Refusal) → delay_tells message delay refusal → Tells result refusal }
+{
+    match delay {
+        Delay::Memory => BookFault::Memory,
+        Delay::Unready(unready) => unready_fault(message, unready),
     }
 }
 
@@ -135,12 +164,58 @@ fn is_found_at(alloc: Global, footprint: &Footprint, world: &World, vat: VatNo) 
     }
 }
 
+/// Whether a promise is open in the view of a vat, if it has a state.
+fn is_open(world: &World, vat: VatNo, promise: PromId) -> bool
+    ensures { result ≡ open_view (world_of world.now) promise vat }
+{
+    match world.home(vat) {
+        Some(state) => is_open_in(state, promise),
+        None => false,
+    }
+}
+
+/// Whether a promise is open in the view of this state.
+fn is_open_in(state: &VatState, promise: PromId) -> bool
+    ensures { result ≡ is_open_of (state_in_cells state.now (view_cell promise)) }
+{
+    match state.views.get(&promise) {
+        Some(view) => is_open_view(view),
+        None => false,
+    }
+}
+
+/// Whether nothing was learnt of a promise.
+fn is_open_view(view: &View) -> bool
+    ensures { result ≡ is_open_of (Some (viewed (view_of view.now))) }
+{
+    match view {
+        View::Open => true,
+        View::Resolved(_) => false,
+    }
+}
+
+/// The agenda with what the cells hold now that an event touched. Without memory there is none, and it is to be found anew.
+fn noted(
+    alloc: Global,
+    agenda: Option<Agenda>,
+    world: &World,
+    touched: &[CellKey],
+) -> Option<Agenda>
+    ensures { (before : WorldModel) → ForSome agenda (NotedIn before) → AlikeBut touched.now before (world_of world.now) → ForSome result (NotedIn (world_of world.now)) }
+{
+    let mut agenda = agenda?;
+    match agenda.note(alloc, world, touched) {
+        Ok(()) => Some(agenda),
+        Err(_) => None,
+    }
+}
+
 fn is_at(place: Place, vat: VatNo) -> bool
     ensures { IsTrue result ↔ (place_of place ≡ at_vat vat) }
 {
     match place {
         Place::At(home) => home == vat,
-        Place::Done(_) => false,
+        Place::Flying(_) | Place::Done(_) => false,
     }
 }
 
@@ -152,6 +227,23 @@ fn is_copy(found: Option<&Message>, carried: &Message) -> bool
         Some(message) => same_sent(message, carried),
         None => true,
     }
+}
+
+/// Where the message of a ticket leads, if it is ready and leads where it led.
+fn same_way(alloc: Global, world: &World, out: &Task) -> Result<Way, BookFault>
+    ensures ok { OnOk result (LeadsAsBefore (world_of world.now) out.now) }
+    ensures way { IfOk result (IsWay (world_of world.now) out.now.vat (message_of out.now.message)) }
+    ensures err { IfErr result (λ fault. TellsLost fault (world_of world.now) out.now) }
+{
+    let way = match check_ready(alloc, world, &out.message, out.vat) {
+        Ok(way) => way,
+        Err(Delay::Memory) => return Err(BookFault::Memory),
+        Err(Delay::Unready(_)) => return Err(BookFault::Stale),
+    };
+    if !way.lead.is_same(&out.lead) {
+        return Err(BookFault::Stale);
+    }
+    Ok(way)
 }
 
 /// Whether the ticket that was found out, if one was, is this one.
@@ -182,6 +274,7 @@ impl Book {
             core: Core::new(alloc),
             next: 1,
             desk: Desk::new(alloc),
+            agenda: None,
         }
     }
 
@@ -231,6 +324,7 @@ impl Book {
         self.core
             .enter(self.alloc, deed, &touched, records, &mut Swaps::none())?;
         self.next += 1;
+        self.agenda = noted(self.alloc, self.agenda.take(), self.core.world(), &touched);
         Ok(())
     }
 
@@ -252,28 +346,59 @@ impl Book {
     }
 
     /// The name of a birth that may be entered.
-    fn admit_birth(&self, name: &Text, script: &Program) -> Result<EventName, BookFault>
-        ensures ok { IfOk result (λ e. (e.0 ≡ self.now.next) × (self.now.next ≤ 4294967295) × ((book_of self.now).world (key.Name name.now) ≡ None) × (birth_refusal (book_of self.now) name.now (program_of script.now) ≡ None)) }
-        ensures err { IfErr result (λ fault. Tells fault (birth_refusal (book_of self.now) name.now (program_of script.now))) }
+    fn admit_birth(
+        &self,
+        name: &Text,
+        earlier: &[Text],
+        script: &Program,
+    ) -> Result<(EventName, Vec<VatNo>), BookFault>
+        ensures ok { IfOk result (λ r. (r.0.0 ≡ self.now.next) × (self.now.next ≤ 4294967295) × ((book_of self.now).world (key.Name name.now) ≡ None)
+            × Numbers (book_of self.now).world earlier.now r.1.items
+            × (birth_refusal (book_of self.now) name.now earlier.now (program_of script.now) ≡ None)) }
+        ensures err { IfErr result (λ fault. Tells fault (birth_refusal (book_of self.now) name.now earlier.now (program_of script.now))) }
     {
         self.check_free(name)?;
-        let outer = Outer::for_script(self.alloc, &[])?;
+        let vats = self.numbers_of(earlier)?;
+        let outer = Outer::for_script(self.alloc, earlier)?;
         check_program(self.alloc, script, &outer)?;
-        self.next_event()
+        let event = self.next_event()?;
+        Ok((event, vats))
+    }
+
+    /// The numbers of the vats of these names.
+    fn numbers_of(&self, names: &[Text]) -> Result<Vec<VatNo>, BookFault>
+        ensures numbers { IfOk result (λ numbers. Numbers (book_of self.now).world names.now numbers.items) }
+        ensures ok { OnOk result (named_refusal (book_of self.now).world names.now ≡ None) }
+        ensures err { IfErr result (λ fault. Tells fault (named_refusal (book_of self.now).world names.now)) }
+    {
+        let mut numbers = Vec::new(self.alloc);
+        for name in names {
+            let Some(vat) = self.vat(name) else {
+                return Err(BookFault::NoVat(name.share()?));
+            };
+            numbers.push(vat.number)?;
+        }
+        Ok(numbers)
     }
 
     /// A new vat, with its script as its opening message.
     ///
     /// # Errors
     /// `NameTaken`, a fault of the check, `Full`, `Memory`, tried in this order.
-    pub fn birth(&mut self, name: &Text, script: Program) -> Result<EventName, BookFault>
-        ensures ok { IfOk result (λ e. (birth_refusal (book_of self.old) name.now (program_of script) ≡ None) × EntersNext (record { name = e; act = birth name.now (program_of script) }) (birth_foot e name.now (program_of script)) 0 (book_of self.old) (book_of self.new)) }
-        ensures err { IfErr result (λ fault. Tells fault (birth_refusal (book_of self.old) name.now (program_of script))) }
+    pub fn birth(
+        &mut self,
+        name: &Text,
+        earlier: Vec<Text>,
+        script: Program,
+    ) -> Result<EventName, BookFault>
+        ensures ok { IfOk result (λ e. (birth_refusal (book_of self.old) name.now earlier.items (program_of script) ≡ None)
+            × ((vats : List VatModel) × EntersNext (record { name = e; act = birth name.now earlier.items (program_of script) }) (birth_foot e name.now earlier.items vats (program_of script)) 0 (book_of self.old) (book_of self.new))) }
+        ensures err { IfErr result (λ fault. Tells fault (birth_refusal (book_of self.old) name.now earlier.items (program_of script))) }
         ensures unchanged { OnErr result (book_of self.new ≡ book_of self.old) }
     {
-        let event = self.admit_birth(name, &script)?;
-        let effects = birth_effects(self.alloc, event, name, &script)?;
-        let action = Action::Birth(name.share()?, script);
+        let (event, vats) = self.admit_birth(name, &earlier, &script)?;
+        let effects = birth_effects(self.alloc, event, name, &earlier, &vats, &script)?;
+        let action = Action::Birth(name.share()?, earlier, script);
         self.enter(
             Event {
                 name: event,
@@ -286,13 +411,13 @@ impl Book {
 
     /// The name of an asked program that may be entered, and its vat.
     fn admit_ask(&self, name: &Text, program: &Program) -> Result<(EventName, VatNo), BookFault>
-        ensures ok { IfOk result (λ r. (r.0.0 ≡ self.now.next) × (self.now.next ≤ 4294967295) × ((tops : List TopName) × (vat_named (book_of self.now).world name.now ≡ Some (record { number = r.1; tops = tops }))) × (ask_refusal (book_of self.now) name.now (program_of program.now) ≡ None)) }
+        ensures ok { IfOk result (λ r. (r.0.0 ≡ self.now.next) × (self.now.next ≤ 4294967295) × ((v : VatModel) × (vat_named (book_of self.now).world name.now ≡ Some v) × (v.number ≡ r.1)) × (ask_refusal (book_of self.now) name.now (program_of program.now) ≡ None)) }
         ensures err { IfErr result (λ fault. Tells fault (ask_refusal (book_of self.now) name.now (program_of program.now))) }
     {
         let Some(vat) = self.vat(name) else {
             return Err(BookFault::NoVat(name.share()?));
         };
-        let outer = Outer::for_asked(self.alloc, &vat.tops)?;
+        let outer = Outer::for_asked(self.alloc, &vat.earlier, &vat.tops)?;
         check_program(self.alloc, program, &outer)?;
         let event = self.next_event()?;
         Ok((event, vat.number))
@@ -320,13 +445,233 @@ impl Book {
         Ok(event)
     }
 
-    /// A message that may be delivered with this budget, shared, its vat, and the name of its turn.
+    /// The name of an arrival that may be entered, and the message where it arrived.
+    fn admit_arrival(&self, name: MsgId) -> Result<(EventName, Message), BookFault>
+        ensures ok { IfOk result (λ r. AdmitsArrival (book_of self.now) name r.0 (message_of r.1)) }
+        ensures in_range { OnOk result (self.now.next ≤ 4294967295) }
+        ensures err { IfErr result (λ fault. Tells fault (arrival_refusal (book_of self.now) name)) }
+    {
+        let Some(message) = self.core.world().message(name) else {
+            return Err(BookFault::NoMessage(name));
+        };
+        let Some(arrived) = message.arrived()? else {
+            return Err(BookFault::NotThere);
+        };
+        let event = self.next_event()?;
+        Ok((event, arrived))
+    }
+
+    /// A message arrives at the vat to which it is on its way.
+    ///
+    /// # Errors
+    /// `NoMessage`, `NotThere`, `Full`, `Memory`, tried in this order.
+    pub fn arrive(&mut self, name: MsgId) -> Result<EventName, BookFault>
+        ensures ok { IfOk result (λ e. (arrival_refusal (book_of self.old) name ≡ None) × ((f : Foot) × EntersNext (record { name = e; act = arrive name }) f 0 (book_of self.old) (book_of self.new))) }
+        ensures err { IfErr result (λ fault. Tells fault (arrival_refusal (book_of self.old) name)) }
+        ensures unchanged { OnErr result (book_of self.new ≡ book_of self.old) }
+    {
+        let (event, arrived) = self.admit_arrival(name)?;
+        let effects = move_effects(self.alloc, event, name, arrived, &[])?;
+        self.enter(
+            Event {
+                name: event,
+                action: Action::Arrive(name),
+            },
+            effects,
+        )?;
+        Ok(event)
+    }
+
+    /// The name of a forwarding that may be entered, the message on its way, and the promises whose publications it looked at.
+    fn admit_forward(&self, name: MsgId) -> Result<(EventName, Message, Vec<PromId>), BookFault>
+        ensures ok { IfOk result (λ r. AdmitsForward (book_of self.now) name r.0 (message_of r.1) r.2.items) }
+        ensures in_range { OnOk result (self.now.next ≤ 4294967295) }
+        ensures err { IfErr result (λ fault. Tells fault (forward_refusal (book_of self.now) name)) }
+    {
+        let world = self.core.world();
+        let (message, vat) = match message_at_vat(world, name) {
+            Ok(found) => found,
+            Err(unready) => return Err(unready_fault(name, unready)),
+        };
+        let Some(Destination { to, through }) = onward(self.alloc, world, message, vat)? else {
+            return Err(BookFault::NotReady);
+        };
+        let Some(forwarded) = message.forwarded(to)? else {
+            return Err(BookFault::NotThere);
+        };
+        let event = self.next_event()?;
+        Ok((event, forwarded, through))
+    }
+
+    /// A message goes on to the vat to which its target leads.
+    ///
+    /// # Errors
+    /// `NoMessage`, `NotThere`, `NotReady`, `Full`, `Memory`, tried in this order.
+    pub fn forward(&mut self, name: MsgId) -> Result<EventName, BookFault>
+        ensures ok { IfOk result (λ e. (forward_refusal (book_of self.old) name ≡ None) × ((f : Foot) × EntersNext (record { name = e; act = forward name }) f 0 (book_of self.old) (book_of self.new))) }
+        ensures err { IfErr result (λ fault. Tells fault (forward_refusal (book_of self.old) name)) }
+        ensures unchanged { OnErr result (book_of self.new ≡ book_of self.old) }
+    {
+        let (event, forwarded, through) = self.admit_forward(name)?;
+        let effects = move_effects(self.alloc, event, name, forwarded, &through)?;
+        self.enter(
+            Event {
+                name: event,
+                action: Action::Forward(name),
+            },
+            effects,
+        )?;
+        Ok(event)
+    }
+
+    /// The vat of this name learns what a promise was published as that is open in its view.
+    ///
+    /// # Errors
+    /// `NoVat`, `NothingToLearn`, `Full`, `Memory`, tried in this order.
+    pub fn learn(&mut self, name: &Text, promise: PromId) -> Result<EventName, BookFault>
+        ensures ok { IfOk result (λ e. (learn_refusal (book_of self.old) name.now promise ≡ None) × ((v : VatModel) × (f : Foot) × (vat_named (book_of self.old).world name.now ≡ Some v) × EntersNext (record { name = e; act = learn v.number promise }) f 0 (book_of self.old) (book_of self.new))) }
+        ensures err { IfErr result (λ fault. Tells fault (learn_refusal (book_of self.old) name.now promise)) }
+        ensures unchanged { OnErr result (book_of self.new ≡ book_of self.old) }
+    {
+        let vat = match self.vat(name) {
+            Some(vat) => vat.number,
+            None => return Err(BookFault::NoVat(name.share()?)),
+        };
+        self.learn_at(vat, promise)
+    }
+
+    /// The same by the event and the number of the promise, which do without its home.
+    ///
+    /// # Errors
+    /// As `learn`.
+    pub fn learn_named(
+        &mut self,
+        name: &Text,
+        event: EventName,
+        index: u32,
+    ) -> Result<EventName, BookFault>
+        ensures ok { IfOk result (λ e. LearnsNamed name.now event index e (book_of self.old) (book_of self.new)) }
+        ensures err { IfErr result (λ fault. TellsNamed fault (book_of self.old) name.now event index) }
+        ensures unchanged { OnErr result (book_of self.new ≡ book_of self.old) }
+    {
+        let vat = match self.vat(name) {
+            Some(vat) => vat.number,
+            None => return Err(BookFault::NoVat(name.share()?)),
+        };
+        match self.known_as(vat, event, index)? {
+            Some(promise) => self.learn_at(vat, promise),
+            None => Err(BookFault::NothingToLearn),
+        }
+    }
+
+    /// The same by the vat's number.
+    pub fn learn_at(&mut self, vat: VatNo, promise: PromId) -> Result<EventName, BookFault>
+        ensures ok { IfOk result (λ e. (learning_refusal (book_of self.old) vat promise ≡ None) × ((f : Foot) × EntersNext (record { name = e; act = learn vat promise }) f 0 (book_of self.old) (book_of self.new))) }
+        ensures err { IfErr result (λ fault. Tells fault (learning_refusal (book_of self.old) vat promise)) }
+        ensures unchanged { OnErr result (book_of self.new ≡ book_of self.old) }
+    {
+        let (event, published) = self.admit_learning(vat, promise)?;
+        let state = self.core.share_vat(self.alloc, vat)?;
+        let footprint = learn(self.alloc, event, vat, state, promise, &published)?;
+        let effects = learn_effects(self.alloc, event, vat, promise, &footprint)?;
+        self.enter(
+            Event {
+                name: event,
+                action: Action::Learn(vat, promise),
+            },
+            effects,
+        )?;
+        Ok(event)
+    }
+
+    /// The name of what a vat learns that may be entered, and what the promise was published as.
+    fn admit_learning(
+        &self,
+        vat: VatNo,
+        promise: PromId,
+    ) -> Result<(EventName, Published), BookFault>
+        ensures ok { IfOk result (λ r. AdmitsLearning (book_of self.now) vat promise r.0 (published_of r.1)) }
+        ensures in_range { OnOk result (self.now.next ≤ 4294967295) }
+        ensures err { IfErr result (λ fault. Tells fault (learning_refusal (book_of self.now) vat promise)) }
+    {
+        let published = self.learnable(vat, promise)?;
+        let event = self.next_event()?;
+        Ok((event, published))
+    }
+
+    /// What a promise was published as that is open in a vat's view, shared.
+    fn learnable(&self, vat: VatNo, promise: PromId) -> Result<Published, BookFault>
+        ensures can { IfOk result (λ p. CanLearn (book_of self.now).world vat promise (published_of p)) }
+        ensures ok { OnOk result (refuse_where (not (can_learn (book_of self.now).world vat promise)) nothing_to_learn ≡ None) }
+        ensures err { IfErr result (λ fault. Tells fault (refuse_where (not (can_learn (book_of self.now).world vat promise)) nothing_to_learn)) }
+    {
+        let world = self.core.world();
+        if !is_open(world, vat, promise) {
+            return Err(BookFault::NothingToLearn);
+        }
+        match world.published(promise) {
+            Some(published) => Ok(published.share()?),
+            None => Err(BookFault::NothingToLearn),
+        }
+    }
+
+    /// The promise of this event and number that a vat can learn of.
+    fn known_as(
+        &mut self,
+        vat: VatNo,
+        event: EventName,
+        index: u32,
+    ) -> Result<Option<PromId>, AllocError>
+        ensures known { IfOk result (KnownAs (can_learn (book_of self.old).world) vat event index) }
+        ensures same { book_of self.new ≡ book_of self.old }
+    {
+        let agenda = self.agenda()?;
+        let found = agenda.known_as(vat, event, index);
+        self.agenda = Some(agenda);
+        Ok(found)
+    }
+
+    /// What may be done next, found once.
+    fn agenda(&mut self) -> Result<Agenda, AllocError>
+        ensures noted { IfOk result (NotedIn (book_of self.old).world) }
+        ensures same { book_of self.new ≡ book_of self.old }
+    {
+        match self.agenda.take() {
+            Some(agenda) => Ok(agenda),
+            None => Agenda::new(self.alloc, self.core.world()),
+        }
+    }
+
+    /// The first that may be done: what a message can do, in order of their names, then what vats can learn, in order of birth and of
+    /// promise. Turns and learning of vats of which a ticket is out are left out. Fails only for want of memory.
+    pub fn next(&mut self) -> Result<Option<Step>, AllocError>
+        ensures first { IfOk result (First (book_of self.old).world (λ v. has_vat v (book_of self.old).out)) }
+        ensures same { book_of self.new ≡ book_of self.old }
+    {
+        let agenda = self.agenda()?;
+        let step = agenda.first(self.alloc, self.core.world(), &self.desk);
+        self.agenda = Some(agenda);
+        step
+    }
+
+    /// All that may be done, in that order. Fails only for want of memory.
+    pub fn enabled(&mut self) -> Result<Vec<Step>, AllocError>
+        ensures all { IfOk result (λ steps. Enabled (book_of self.old).world (λ v. has_vat v (book_of self.old).out) steps.items) }
+        ensures same { book_of self.new ≡ book_of self.old }
+    {
+        let agenda = self.agenda()?;
+        let steps = agenda.all(self.alloc, self.core.world(), &self.desk);
+        self.agenda = Some(agenda);
+        steps
+    }
+
+    /// A message that may be delivered with this budget, shared, where it leads, its vat, and the name of its turn.
     fn admit_turn(
         &self,
         message: MsgId,
         budget: u32,
-    ) -> Result<(Message, VatNo, EventName), BookFault>
-        ensures ok { IfOk result (λ r. Admitted (book_of self.now) message budget r.0 r.1 r.2) }
+    ) -> Result<(Message, Lead, VatNo, EventName), BookFault>
+        ensures ok { IfOk result (λ r. Admitted (book_of self.now) message budget r.0 r.1 r.2 r.3) }
         ensures in_range { OnOk result (self.now.next ≤ 4294967295) }
         ensures err { IfErr result (λ fault. Tells fault (checkout_refusal (book_of self.now) message budget)) }
     {
@@ -339,11 +684,12 @@ impl Book {
         if self.desk.has_vat(vat) {
             return Err(BookFault::VatOut);
         }
-        if let Err(unready) = check_order(world, waiting.sent.after) {
-            return Err(unready_fault(message, unready));
-        }
+        let lead = match check_ready(self.alloc, world, waiting, vat) {
+            Ok(way) => way.lead,
+            Err(delay) => return Err(delay_fault(message, delay)),
+        };
         let event = self.next_event()?;
-        Ok((waiting.share()?, vat, event))
+        Ok((waiting.share()?, lead, vat, event))
     }
 
     /// Lends a ticket for the turn of a message, with at most this many steps, to a seat. The ticket shares the vat's state.
@@ -360,7 +706,7 @@ impl Book {
         ensures err { IfErr result (λ fault. Tells fault (checkout_refusal (book_of self.old) message budget)) }
         ensures unchanged { OnErr result (book_of self.new ≡ book_of self.old) }
     {
-        let (carried, vat, event) = self.admit_turn(message, budget)?;
+        let (carried, lead, vat, event) = self.admit_turn(message, budget)?;
         let state = self.core.share_vat(self.alloc, vat)?;
         self.desk.lend(Lent {
             number: event,
@@ -375,6 +721,7 @@ impl Book {
             event,
             name: message,
             message: carried,
+            lead,
             vat,
             state,
             budget,
@@ -396,10 +743,11 @@ impl Book {
     }
 
     /// The message of a known ticket is ready at its vat, and the vat holds what the turn found.
-    fn check_fresh(&self, ran: &Ran) -> Result<(), BookFault>
+    fn check_fresh(&self, ran: &Ran) -> Result<Way, BookFault>
         requires { IsKnown (book_of self.now) ran.now.carried }
         ensures ok { OnOk result (IsFresh (book_of self.now) ran.now) }
-        ensures err { IfErr result (λ fault. (fault ≡ Stale) × (IsFresh (book_of self.now) ran.now → ⊥)) }
+        ensures way { IfOk result (IsWay (book_of self.now).world ran.now.carried.vat (message_of ran.now.carried.message)) }
+        ensures err { IfErr result (λ fault. TellsStale fault (book_of self.now) ran.now) }
     {
         let world = self.core.world();
         let out = &ran.carried;
@@ -408,8 +756,9 @@ impl Book {
             Some(message)
                 if is_at(message.place, out.vat)
                     && is_at(out.message.place, out.vat)
-                    && check_order(world, out.message.sent.after).is_ok()
-                    && is_found_at(self.alloc, &ran.outcome.footprint, world, out.vat) => Ok(()),
+                    && is_found_at(self.alloc, &ran.outcome.footprint, world, out.vat) => {
+                same_way(self.alloc, world, out)
+            }
             _ => Err(BookFault::Stale),
         }
     }
@@ -431,14 +780,16 @@ impl Book {
         ensures unchanged { OnErr result (book_of self.new ≡ book_of self.old) }
     {
         self.check_known(&ran.carried)?;
-        self.check_fresh(ran)?;
+        let way = self.check_fresh(ran)?;
         self.check_room()?;
         let out = &ran.carried;
         let Effects { touched, records } = turn_effects(
             self.alloc,
+            self.core.world(),
             out.event,
             out.name,
             &out.message,
+            &way,
             out.vat,
             &ran.outcome,
         )?;
@@ -457,6 +808,7 @@ impl Book {
         self.core
             .enter(self.alloc, deed, &touched, records, &mut Swaps::none())?;
         self.desk.remove(out.event);
+        self.agenda = noted(self.alloc, self.agenda.take(), self.core.world(), &touched);
         Ok(())
     }
 
@@ -517,7 +869,7 @@ impl Book {
     /// # Errors
     /// `BadBudget`, `NoMessage`, `NotThere`, `VatOut`, `Before`, `Full`, `Memory`, tried in this order.
     pub fn turn(&mut self, message: MsgId, budget: u32) -> Result<Turned, BookFault>
-        ensures ok { IfOk result (λ t. (checkout_refusal (book_of self.old) message budget ≡ None) × ((u : Turn) × TurnsNext t.event message budget u (book_of self.old) (book_of self.new) × (ended_of t.ended ≡ u.outcome.end))) }
+        ensures ok { IfOk result (λ t. (checkout_refusal (book_of self.old) message budget ≡ None) × ((u : Turn) × TurnsNext t.event message budget u (book_of self.old) (book_of self.new) × (told_of t.ended ≡ u.outcome.told))) }
         ensures err { IfErr result (λ fault. Tells fault (checkout_refusal (book_of self.old) message budget)) }
         ensures unchanged { IfErr result (λ fault. Unturned fault (book_of self.old) (book_of self.new)) }
     {
@@ -553,6 +905,7 @@ impl Book {
         let positions = positions(self.alloc, self.core.entries(), &names)?;
         self.core.prepare(self.alloc, &positions)?;
         self.core.undo(&positions, &mut Swaps::none());
+        self.agenda = None;
         Ok(positions.len())
     }
 
@@ -570,6 +923,7 @@ impl Book {
         let positions = positions(self.alloc, self.core.entries(), &names)?;
         self.core.prepare(self.alloc, &positions)?;
         self.core.redo(&positions, &mut Swaps::none());
+        self.agenda = None;
         Ok(positions.len())
     }
 

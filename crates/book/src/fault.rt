@@ -22,8 +22,12 @@ pub enum BookFault {
     NoMessage(MsgId),
     /// The message is not at a vat.
     NotThere,
+    /// The message's target does not lead to the vat where it is, or elsewhere; or the value of its `when` is not known.
+    NotReady,
     /// This message must be done first.
     Before(MsgId),
+    /// The promise is not open in the vat's view, or not published.
+    NothingToLearn,
     /// The journal has no room, or names are used up.
     Full,
     /// The world is no longer as the turn found it.
@@ -84,7 +88,9 @@ impl Display for BookFault {
             BookFault::NameTaken(name) => write_about(f, "B2 NameTaken ", name),
             BookFault::NoMessage(message) => write_about(f, "B3 NoMessage ", message),
             BookFault::NotThere => f.write_str("B4 NotThere"),
+            BookFault::NotReady => f.write_str("B5 NotReady"),
             BookFault::Before(message) => write_about(f, "B6 Before ", message),
+            BookFault::NothingToLearn => f.write_str("B7 NothingToLearn"),
             BookFault::Full => f.write_str("B8 Full"),
             BookFault::Stale => f.write_str("B9 Stale"),
             BookFault::VatOut => f.write_str("B10 VatOut"),

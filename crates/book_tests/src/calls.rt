@@ -2,7 +2,7 @@
 
 use book::book::Book;
 use ereader::read;
-use event::outcome::Ended;
+use deliveries::outcome::Ended;
 use ids::names::{EventName, MsgId};
 use ids::text::Text;
 use journal::entry::Mark;
@@ -41,7 +41,23 @@ pub(crate) fn birth(
     script: &str,
     event: u64,
 ) {
-    match book.birth(&name(rt, vat), program(rt, script)) {
+    birth_behind(rt, book, vat, &[], script, event);
+}
+
+/// Enters a birth of a vat whose script sees these earlier ones, and its number is this.
+pub(crate) fn birth_behind(
+    rt: &(impl Abort + AllocGlobal),
+    book: &mut Book,
+    vat: &str,
+    earlier: &[&str],
+    script: &str,
+    event: u64,
+) {
+    let mut names = Vec::new(rt.alloc());
+    for other in earlier {
+        names.push(name(rt, other)).expect(rt, "no memory");
+    }
+    match book.birth(&name(rt, vat), names, program(rt, script)) {
         Ok(born) => assert!(rt; born == EventName(event)),
         Err(fault) => panic!(rt; "birth: {fault}"),
     }

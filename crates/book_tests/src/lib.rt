@@ -10,4 +10,6 @@ mod plain_runs;
 #[cfg(test)]
 mod sessions;
 #[cfg(test)]
+mod several;
+#[cfg(test)]
 mod tickets;

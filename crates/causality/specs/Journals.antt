@@ -1,8 +1,8 @@
 -- Journals as they come about: their items stand for rows that made a world from the empty one.
 use Rattle.std.specs.Prelude.{ℕ, List}
 use Rattle.history.specs.Records.{State, Row}
-use Rattle.post.specs.World.{empty}
-use Rattle.post.specs.Theory.{cells}
+use Rattle.worldcells.specs.World.{empty}
+use Rattle.worldcells.specs.Theory.{cells}
 use Rattle.journal.specs.Items.{Item}
 use Rattle.journal.specs.Standing.{ItemsStand}
 use Rattle.event.specs.Events.{Does, events}

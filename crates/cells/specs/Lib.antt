@@ -1,3 +1,4 @@
 pub mod Seen
 pub mod Clones
 pub mod Touches
+pub mod Doing

@@ -1,6 +1,7 @@
 // What holds of two exchanges.
 ghost use Rattle.std.specs.Prelude.{◌≡◌, true};
 ghost use Rattle.cells.specs.Seen.{seen, has_room};
+ghost use Rattle.cells.specs.Doing.{OneAfterAnother, CellsOnlyGrow, GoesAlike};
 
 use crate::store::{CellStore, Record};
 use crate::swaps::Swaps;
@@ -19,3 +20,11 @@ pub fn swap_twice<K: Key + Drop, V: Drop>(
     store.swap_record(kept, swaps);
     store.swap_record(kept, swaps);
 }
+
+/// What is done behind another goes on from its result and its cells; the cells touched and written only grow, and what is not written
+/// stays; and in a state that agrees on the cells touched all goes alike.
+pub fn what_is_done_is_lawful<K, V, A, B>()
+    ensures one_after_another { OneAfterAnother K V A B }
+    ensures cells_only_grow { CellsOnlyGrow K V A }
+    ensures goes_alike { GoesAlike K V A }
+{}

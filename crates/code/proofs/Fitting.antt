@@ -1,12 +1,14 @@
 -- Code that holds vectors fits where its parts and the vectors' code do.
 use Rattle.std.proofs.Common.{◌≡◌, List, [], ◌∷◌, ◌++◌, ℕ, Option, Bool, false, refl, ap, sym, ◌∙◌}
 use Rattle.scopes.specs.Scope.{name_of, names_of_all}
-use Rattle.scopes.specs.Free.{captures}
+use Rattle.scopes.specs.Free.{captures, when_captures}
+use Rattle.kernele.specs.Tree.{none}
 use Rattle.kernele.specs.declared.tree.Pattern.{Pattern}
-use Rattle.code.specs.View.{tree_of_code, methods_of_codes}
+use Rattle.kernele.specs.declared.tree.Pattern.TheVariants as pattern
+use Rattle.code.specs.View.{tree_of_code, trees_of_codes, methods_of_codes}
 use Rattle.code.specs.Frames.{Frame, only_names, after, all_placed, captured_names_of, fits, fits_row, fits_methods_row, fits_all, fits_methods}
 use Rattle.code.specs.Index.{index_in, index_fits}
-use Rattle.code.proofs.Views.{methods_row}
+use Rattle.code.proofs.Views.{trees_row, methods_row}
 use Rattle.code.specs.declared.code.Capture.{Capture}
 use Rattle.code.specs.declared.code.Code as code
 use Rattle.code.specs.declared.code.Code.{Code}
@@ -66,3 +68,19 @@ fits-Object own frame p captured ms index =
 
 pub fits-Escape : (own : Bool) (frame : Frame) (x : List ℕ) (body : Arc (Vec Code Global) Global) → fits own frame (code.Escape x body) ≡ fits_all false (frame ++ x ∷ []) body.value.items
 fits-Escape own frame x body = fits_of_row false (frame ++ x ∷ []) body.value
+
+pub fits-Send : (own : Bool) (frame : Frame) (r : Arc Code Global) (verb : List ℕ) (args : Arc (Vec Code Global) Global)
+    → fits own frame (code.Send r verb args) ≡ (fits own frame r.value × fits_all own (after own (tree_of_code r.value) frame) args.value.items)
+fits-Send own frame r verb args = ap (λ A. fits own frame r.value × A) (fits_of_row own (after own (tree_of_code r.value) frame) args.value)
+
+pub fits-When : (own : Bool) (frame : Frame) (e : Arc Code Global) (captured : Arc (Vec Capture Global) Global) (body : Arc (Vec Code Global) Global)
+    → fits own frame (code.When e captured body)
+    ≡ (fits own frame e.value × (captured_names_of captured.value.items ≡ when_captures (trees_of_codes body.value.items) pattern.Ignore none) × all_placed (after own (tree_of_code e.value) frame) captured.value.items × fits_all false (captured_names_of captured.value.items) body.value.items)
+fits-When own frame e captured body =
+    λ i. fits own frame e.value × (captured_names_of captured.value.items ≡ when_captures (trees_row body.value i) pattern.Ignore none) × all_placed (after own (tree_of_code e.value) frame) captured.value.items × fits_of_row false (captured_names_of captured.value.items) body.value i
+
+pub fits-WhenCatch : (own : Bool) (frame : Frame) (e : Arc Code Global) (captured : Arc (Vec Capture Global) Global) (body : Arc (Vec Code Global) Global) (p : Pattern) (handler : Arc (Vec Code Global) Global)
+    → fits own frame (code.WhenCatch e captured body p handler)
+    ≡ (fits own frame e.value × (captured_names_of captured.value.items ≡ when_captures (trees_of_codes body.value.items) p (trees_of_codes handler.value.items)) × all_placed (after own (tree_of_code e.value) frame) captured.value.items × fits_all false (captured_names_of captured.value.items) body.value.items × fits_all false (captured_names_of captured.value.items ++ only_names (name_of p)) handler.value.items)
+fits-WhenCatch own frame e captured body p handler =
+    λ i. fits own frame e.value × (captured_names_of captured.value.items ≡ when_captures (trees_row body.value i) p (trees_row handler.value i)) × all_placed (after own (tree_of_code e.value) frame) captured.value.items × fits_of_row false (captured_names_of captured.value.items) body.value i × fits_of_row false (captured_names_of captured.value.items ++ only_names (name_of p)) handler.value i

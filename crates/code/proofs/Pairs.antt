@@ -13,7 +13,7 @@ use Rattle.code.specs.declared.code.MethodCode.{MethodCode}
 use Rattle.code.specs.declared.index.MethodIndex.{MethodIndex}
 use Rattle.code.specs.View.{tree_of_code, trees_of_codes, methods_of_codes}
 use Rattle.code.specs.Sameness.{pattern_alike, alike, all_alike, methods_alike}
-use Rattle.code.proofs.Views.{tree_of_code-Call, tree_of_code-List, tree_of_code-Hide, tree_of_code-If, tree_of_code-While, tree_of_code-For, tree_of_code-Try, tree_of_code-Object, tree_of_code-Escape}
+use Rattle.code.proofs.Views.{tree_of_code-Call, tree_of_code-List, tree_of_code-Hide, tree_of_code-If, tree_of_code-While, tree_of_code-For, tree_of_code-Try, tree_of_code-Object, tree_of_code-Escape, tree_of_code-Send, tree_of_code-When, tree_of_code-WhenCatch}
 
 abbrev Part : Type 0
 Part = Arc Code Global
@@ -56,3 +56,13 @@ objects_pair a b p q cs ds ms ns i j h k = pair h k (tree_of_code-Object p cs ms
 
 pub escapes_pair : (a b : Code) (x y : List ℕ) (xs ys : Row) → a ≡ code.Escape x xs → b ≡ code.Escape y ys → alike (tree_of_code a) (tree_of_code b) ≡ (bytes_eq x y && rows_alike xs ys)
 escapes_pair a b x y xs ys p q = pair p q (tree_of_code-Escape x xs) (tree_of_code-Escape y ys)
+
+pub sends_pair : (a b : Code) (r s : Part) (v w : List ℕ) (xs ys : Row) → a ≡ code.Send r v xs → b ≡ code.Send s w ys → alike (tree_of_code a) (tree_of_code b) ≡ (bytes_eq v w && part_alike r s && rows_alike xs ys)
+sends_pair a b r s v w xs ys p q = pair p q (tree_of_code-Send r v xs) (tree_of_code-Send s w ys)
+
+pub whens_pair : (a b : Code) (e f : Part) (cs ds : Arc (Vec Capture Global) Global) (xs ys : Row) → a ≡ code.When e cs xs → b ≡ code.When f ds ys → alike (tree_of_code a) (tree_of_code b) ≡ (part_alike e f && rows_alike xs ys)
+whens_pair a b e f cs ds xs ys p q = pair p q (tree_of_code-When e cs xs) (tree_of_code-When f ds ys)
+
+pub when_catches_pair : (a b : Code) (e f : Part) (cs ds : Arc (Vec Capture Global) Global) (xs ys : Row) (p q : Pattern) (us vs : Row) → a ≡ code.WhenCatch e cs xs p us → b ≡ code.WhenCatch f ds ys q vs
+    → alike (tree_of_code a) (tree_of_code b) ≡ (part_alike e f && rows_alike xs ys && pattern_alike p q && rows_alike us vs)
+when_catches_pair a b e f cs ds xs ys p q us vs h k = pair h k (tree_of_code-WhenCatch e cs xs p us) (tree_of_code-WhenCatch f ds ys q vs)

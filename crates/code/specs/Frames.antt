@@ -1,9 +1,10 @@
 -- Frames: which names stand where, and when code fits the frame in which it is evaluated.
 use Rattle.std.specs.Prelude.{◌≡◌, ℕ, ◌+◌, Bool, true, false, Option, Some, None, List, [], ◌∷◌, ◌++◌, map}
 use Rattle.std.specs.Str.{bytes_eq}
-use Rattle.kernele.specs.Tree.{Name, Tree, Trees}
+use Rattle.kernele.specs.Tree.{Name, Tree, Trees, none}
+use Rattle.kernele.specs.declared.tree.Pattern.TheVariants as binding
 use Rattle.scopes.specs.Scope.{name_of, names_of_all, own_names, own_names_in}
-use Rattle.scopes.specs.Free.{captures}
+use Rattle.scopes.specs.Free.{captures, when_captures}
 use Rattle.scopes.specs.declared.naming.TopName.{TopName}
 use Rattle.code.specs.declared.code.Place.{Place}
 use Rattle.code.specs.declared.code.Place.TheVariants as place
@@ -11,7 +12,7 @@ use Rattle.code.specs.declared.code.Capture.{Capture}
 use Rattle.code.specs.declared.code.Code as code
 use Rattle.code.specs.declared.code.Code.{Code}
 use Rattle.code.specs.declared.code.MethodCode.{MethodCode}
-use Rattle.code.specs.View.{tree_of_code, methods_of_code_row}
+use Rattle.code.specs.View.{tree_of_code, trees_of_code_row, methods_of_code_row}
 use Rattle.code.specs.Index.{index_in, index_fits}
 
 -- the names of a frame, the oldest first
@@ -93,6 +94,19 @@ abbrev mutual
       (captured_names_of captured.value.items ≡ captures pattern (methods_of_code_row ms)) × all_placed frame captured.value.items
       × fits_methods_row (captured_names_of captured.value.items ++ only_names (name_of pattern)) ms × index_fits (index_in index) (methods_of_code_row ms)
   fits own frame (code.Escape' x p shape body) = fits_row false (frame ++ x ∷ []) body
+  fits own frame (code.Send' p r verb q shape args) = fits own frame r × fits_row own (after own (tree_of_code r) frame) args
+  -- what a `when` captures is found behind its value; its block begins with the captured names, and its handler with those and the
+  -- name that the problem is bound to
+  fits own frame (code.When' p e captured q shape body) =
+      fits own frame e × (captured_names_of captured.value.items ≡ when_captures (trees_of_code_row body) binding.Ignore none)
+      × all_placed (after own (tree_of_code e) frame) captured.value.items × fits_row false (captured_names_of captured.value.items) body
+  fits own frame (code.WhenCatch' p e captured q shape body pattern r shape2 handler) =
+      fits own frame e × (captured_names_of captured.value.items ≡ when_captures (trees_of_code_row body) pattern (trees_of_code_row handler))
+      × all_placed (after own (tree_of_code e) frame) captured.value.items × fits_row false (captured_names_of captured.value.items) body
+      × fits_row false (captured_names_of captured.value.items ++ only_names (name_of pattern)) handler
+  fits own frame code.NewPromise = Unit {0}
+  fits own frame (code.BreakRef' p e) = fits own frame e
+  fits own frame (code.StateRef' p e) = fits own frame e
 
   pub fits_row : {n : _} → Bool → Frame → code.Row_of-Code n → Type 0
   fits_row own frame code.end_of-Code = Unit {0}

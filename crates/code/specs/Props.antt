@@ -2,16 +2,17 @@
 use Rattle.std.specs.Prelude.{ℕ, Bool, false, List, [], ◌∷◌, ◌++◌, Option, Some, None}
 use Rattle.std.proofs.Common.{refl}
 use Rattle.std.proofs.Props.{props}
-use Rattle.kernele.specs.Tree.{Methods}
+use Rattle.kernele.specs.Tree.{Methods, none}
+use Rattle.kernele.specs.declared.tree.Pattern.TheVariants as binding
 use Rattle.scopes.specs.Scope.{name_of, names_of_all}
-use Rattle.scopes.specs.Free.{captures}
+use Rattle.scopes.specs.Free.{captures, when_captures}
 use Rattle.code.specs.declared.code.Place.{Place}
 use Rattle.code.specs.declared.code.Capture.{Capture}
 use Rattle.code.specs.declared.code.Code as code
 use Rattle.code.specs.declared.code.Code.{Code}
 use Rattle.code.specs.declared.code.MethodCode.{MethodCode}
 use Rattle.code.specs.declared.index.MethodIndex.{MethodIndex}
-use Rattle.code.specs.View.{tree_of_code, methods_of_code_row}
+use Rattle.code.specs.View.{tree_of_code, trees_of_code_row, methods_of_code_row}
 use Rattle.code.specs.Index.{position_in, found_at, index_in, index_fits}
 use Rattle.code.specs.Frames.{Frame, only_names, after, place_in, all_placed, captured_names_of, fits, fits_row, fits_methods_row, fits_all, fits_methods}
 
@@ -64,6 +65,25 @@ mutual
         index_fits-prop (index_in index) (methods_of_code_row ms) a.3 b.3 i,
       )
   fits-prop own frame (code.Escape' x p shape body) a b = row-prop false (frame ++ x ∷ []) body a b
+  fits-prop own frame (code.Send' p r verb q shape args) a b = λ i. (fits-prop own frame r a.0 b.0 i, row-prop own (after own (tree_of_code r) frame) args a.1 b.1 i)
+  fits-prop own frame (code.When' p e captured q shape body) a b =
+      λ i. (
+        fits-prop own frame e a.0 b.0 i,
+        Frame-set (captured_names_of captured.value.items) (when_captures (trees_of_code_row body) binding.Ignore none) a.1 b.1 i,
+        all_placed-prop (after own (tree_of_code e) frame) captured.value.items a.2 b.2 i,
+        row-prop false (captured_names_of captured.value.items) body a.3 b.3 i,
+      )
+  fits-prop own frame (code.WhenCatch' p e captured q shape body pattern r shape2 handler) a b =
+      λ i. (
+        fits-prop own frame e a.0 b.0 i,
+        Frame-set (captured_names_of captured.value.items) (when_captures (trees_of_code_row body) pattern (trees_of_code_row handler)) a.1 b.1 i,
+        all_placed-prop (after own (tree_of_code e) frame) captured.value.items a.2 b.2 i,
+        row-prop false (captured_names_of captured.value.items) body a.3 b.3 i,
+        row-prop false (captured_names_of captured.value.items ++ only_names (name_of pattern)) handler a.4 b.4 i,
+      )
+  fits-prop own frame code.NewPromise a b = refl
+  fits-prop own frame (code.BreakRef' p e) a b = fits-prop own frame e a b
+  fits-prop own frame (code.StateRef' p e) a b = fits-prop own frame e a b
 
   row-prop : {n : _} (own : Bool) (frame : Frame) (k : code.Row_of-Code n) → IsProp (fits_row own frame k)
   row-prop own frame code.end_of-Code a b = refl

@@ -2,7 +2,7 @@
 use Rattle.std.specs.Prelude.{Bool, true, false, ◌&&◌, ◌≡◌, List, [], ◌∷◌}
 use Rattle.std.specs.Bool.{Decides}
 use Rattle.std.specs.Str.{bytes_eq}
-use Rattle.kernele.specs.Tree.{Tree, null_tree, bool_tree, int_tree, text_tree, noun, define, variable, assign, call, list_tree, same_tree, define_list, hide, if_tree, while_tree, for_tree, try_tree, throw_tree, object_tree, escape_tree, Trees, none, and_then, Methods, no_methods, and_method}
+use Rattle.kernele.specs.Tree.{Tree, null_tree, bool_tree, int_tree, text_tree, noun, define, variable, assign, call, list_tree, same_tree, define_list, hide, if_tree, while_tree, for_tree, try_tree, throw_tree, object_tree, escape_tree, send, when_tree, when_catch_tree, new_promise, break_ref, state_ref, Trees, none, and_then, Methods, no_methods, and_method}
 use Rattle.kernele.specs.declared.tree.Pattern.{Pattern}
 use Rattle.kernele.specs.declared.tree.Pattern.TheVariants as pattern
 use Rattle.code.specs.declared.code.MethodCode.{MethodCode}
@@ -42,6 +42,12 @@ abbrev mutual
   alike (throw_tree e) (throw_tree f) = alike e f
   alike (object_tree p ms) (object_tree q ns) = pattern_alike p q && methods_alike ms ns
   alike (escape_tree x ts) (escape_tree y us) = bytes_eq x y && all_alike ts us
+  alike (send r v args) (send s w brgs) = bytes_eq v w && alike r s && all_alike args brgs
+  alike (when_tree e ts) (when_tree f us) = alike e f && all_alike ts us
+  alike (when_catch_tree e ts p hs) (when_catch_tree f us q ks) = alike e f && all_alike ts us && pattern_alike p q && all_alike hs ks
+  alike new_promise new_promise = true
+  alike (break_ref e) (break_ref f) = alike e f
+  alike (state_ref e) (state_ref f) = alike e f
   alike _ _ = false
 
   pub all_alike : Trees → Trees → Bool

@@ -15,7 +15,7 @@ pub enum Place {
     Top,
 }
 
-/// A name that an object captures, and where it is found when the object is made.
+/// A name that an object or a `when` captures, and where it is found when the object or the message of the `when` is made.
 #[derive(Drop)]
 pub struct Capture {
     pub name: Text,
@@ -53,6 +53,18 @@ pub enum Code {
     Object(Pattern, Arc<Vec<Capture>>, Arc<Vec<MethodCode>>, Option<Arc<MethodIndex>>),
     /// The name of the ejector, and the block that it ends.
     Escape(Text, Arc<Vec<Code>>),
+    /// A message to a receiver: its verb and its arguments.
+    Send(Arc<Code>, Verb, Arc<Vec<Code>>),
+    /// A value, what is captured behind it, and the block that runs when the value is known.
+    When(Arc<Code>, Arc<Vec<Capture>>, Arc<Vec<Code>>),
+    /// The same, and what a problem is bound to, and its handler.
+    WhenCatch(Arc<Code>, Arc<Vec<Capture>>, Arc<Vec<Code>>, Pattern, Arc<Vec<Code>>),
+    /// A promise and its resolver.
+    NewPromise,
+    /// A broken value, of this problem.
+    BreakRef(Arc<Code>),
+    /// How far a value is known.
+    StateRef(Arc<Code>),
 }
 
 // By hand, so that what drops one elsewhere calls this and is not proved anew for all that it holds.
@@ -79,7 +91,13 @@ impl Drop for Code {
             | Code::Try(_, _, _)
             | Code::Throw(_)
             | Code::Object(_, _, _, _)
-            | Code::Escape(_, _) => {}
+            | Code::Escape(_, _)
+            | Code::Send(_, _, _)
+            | Code::When(_, _, _)
+            | Code::WhenCatch(_, _, _, _, _)
+            | Code::NewPromise
+            | Code::BreakRef(_)
+            | Code::StateRef(_) => {}
         }
     }
 }

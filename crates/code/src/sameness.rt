@@ -67,6 +67,16 @@ fn same_code(a: &Code, b: &Code) -> bool
             same_pattern(p, q) && same_methods(ms, ns)
         }
         (Code::Escape(x, xs), Code::Escape(y, ys)) => x == y && same_codes(xs, ys),
+        (Code::Send(r, v, xs), Code::Send(s, w, ys)) => {
+            v.text() == w.text() && same_code(r, s) && same_codes(xs, ys)
+        }
+        (Code::When(e, _, xs), Code::When(f, _, ys)) => same_code(e, f) && same_codes(xs, ys),
+        (Code::WhenCatch(e, _, xs, p, us), Code::WhenCatch(f, _, ys, q, vs)) => {
+            same_code(e, f) && same_codes(xs, ys) && same_pattern(p, q) && same_codes(us, vs)
+        }
+        (Code::NewPromise, Code::NewPromise) => true,
+        (Code::BreakRef(e), Code::BreakRef(f)) => same_code(e, f),
+        (Code::StateRef(e), Code::StateRef(f)) => same_code(e, f),
         _ => false,
     }
 }

@@ -3,3 +3,9 @@ pub mod Numerals
 pub mod Places
 pub mod ScriptLemmas
 pub mod Wording
+pub mod Vats
+pub mod LineTexts
+pub mod WordTexts
+pub mod WordCuts
+pub mod Spellings
+pub mod Births

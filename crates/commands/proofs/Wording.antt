@@ -1,33 +1,30 @@
 -- Cutting off one word after another gives all words of a text.
-use Rattle.std.proofs.Common.{◌≡◌, ℕ, suc, ◌+◌, ◌<◌, ◌≤◌, List, [], ◌∷◌, ◌++◌, append_assoc, append-nil, length, take, drop, filter, Bool, true, false, not, cond, Option, Some, None, refl, sym, ap, subst, ◌∙◌, arith, length-drop, ◌==◌}
+use Rattle.std.proofs.Common.{◌≡◌, ℕ, suc, ◌+◌, ◌<◌, ◌≤◌, List, [], ◌∷◌, ◌++◌, append_assoc, append-nil, length, map, take, drop, filter, Bool, true, false, not, cond, Option, Some, None, refl, sym, ap, subst, ◌∙◌, arith, length-drop, ◌==◌}
 use Rattle.std.specs.Option.{option_map, option_and_then}
 use Rattle.std.specs.List.{position_or_len, slice_split, onto_first}
+use Rattle.std.specs.Borrow.{Bor}
+use Rattle.std.proofs.lemmas.List.{map-append}
 use Rattle.ids.specs.declared.names.EventName.{EventName}
-use Rattle.commands.specs.Words.{is_blank, without_blanks, first_word, behind_word, is_word, words_in}
+use Rattle.commands.specs.Words.{is_blank, is_bare, without_blanks, first_word, behind_word, is_word, words_in}
 use Rattle.commands.specs.Numbers.{event_named, events_named, one_or_more}
 
-one_more : (n : ℕ) → 1 + n ≡ suc n
+pub one_more : (n : ℕ) → 1 + n ≡ suc n
 one_more n = omega arith
 
 -- a blank in front is left out
-skip_blank : (b : ℕ) (bs : List ℕ) → is_blank b ≡ true → without_blanks (b ∷ bs) ≡ without_blanks bs
+pub skip_blank : (b : ℕ) (bs : List ℕ) → is_blank b ≡ true → without_blanks (b ∷ bs) ≡ without_blanks bs
 skip_blank b bs h =
     ap (λ t. drop (cond (not (not t)) (1 + position_or_len (λ c. not (is_blank c)) bs) 0) (b ∷ bs)) h
     ∙ ap (λ n. drop n (b ∷ bs)) (one_more (position_or_len (λ c. not (is_blank c)) bs))
 
-keep_other : (b : ℕ) (bs : List ℕ) → is_blank b ≡ false → without_blanks (b ∷ bs) ≡ b ∷ bs
+pub keep_other : (b : ℕ) (bs : List ℕ) → is_blank b ≡ false → without_blanks (b ∷ bs) ≡ b ∷ bs
 keep_other b bs h = ap (λ t. drop (cond (not (not t)) (1 + position_or_len (λ c. not (is_blank c)) bs) 0) (b ∷ bs)) h
 
--- a text begins with no blank
-abbrev pub begins : List ℕ → Bool
-begins [] = true
-begins (b ∷ bs) = not (is_blank b)
+begins_by : (b : ℕ) (bs : List ℕ) (t : Bool) → is_blank b ≡ t → is_bare (without_blanks bs) ≡ true → is_bare (without_blanks (b ∷ bs)) ≡ true
+begins_by b bs true h k = ap is_bare (skip_blank b bs h) ∙ k
+begins_by b bs false h k = ap is_bare (keep_other b bs h) ∙ ap not h
 
-begins_by : (b : ℕ) (bs : List ℕ) (t : Bool) → is_blank b ≡ t → begins (without_blanks bs) ≡ true → begins (without_blanks (b ∷ bs)) ≡ true
-begins_by b bs true h k = ap begins (skip_blank b bs h) ∙ k
-begins_by b bs false h k = ap begins (keep_other b bs h) ∙ ap not h
-
-pub blanks_gone : (text : List ℕ) → begins (without_blanks text) ≡ true
+pub blanks_gone : (text : List ℕ) → is_bare (without_blanks text) ≡ true
 blanks_gone [] = refl
 blanks_gone (b ∷ bs) = begins_by b bs (is_blank b) refl (blanks_gone bs)
 
@@ -44,23 +41,23 @@ words_behind_blanks [] = refl
 words_behind_blanks (b ∷ bs) = skip_by b bs (is_blank b) refl (words_behind_blanks bs)
 
 -- what is behind the first word, with the blanks before it
-abbrev behind : List ℕ → List ℕ
+abbrev pub behind : List ℕ → List ℕ
 behind text = drop (position_or_len is_blank text) text
 
 abbrev parts_behind : List ℕ → List (List ℕ)
 parts_behind [] = []
 parts_behind (b ∷ bs) = slice_split is_blank bs
 
-first_blank : (b : ℕ) (bs : List ℕ) → is_blank b ≡ true → first_word (b ∷ bs) ≡ []
+pub first_blank : (b : ℕ) (bs : List ℕ) → is_blank b ≡ true → first_word (b ∷ bs) ≡ []
 first_blank b bs h = ap (λ t. take (cond (not t) (1 + position_or_len is_blank bs) 0) (b ∷ bs)) h
 
-first_other : (b : ℕ) (bs : List ℕ) → is_blank b ≡ false → first_word (b ∷ bs) ≡ b ∷ first_word bs
+pub first_other : (b : ℕ) (bs : List ℕ) → is_blank b ≡ false → first_word (b ∷ bs) ≡ b ∷ first_word bs
 first_other b bs h = ap (λ t. take (cond (not t) (1 + position_or_len is_blank bs) 0) (b ∷ bs)) h ∙ ap (λ n. take n (b ∷ bs)) (one_more (position_or_len is_blank bs))
 
-behind_blank : (b : ℕ) (bs : List ℕ) → is_blank b ≡ true → behind (b ∷ bs) ≡ b ∷ bs
+pub behind_blank : (b : ℕ) (bs : List ℕ) → is_blank b ≡ true → behind (b ∷ bs) ≡ b ∷ bs
 behind_blank b bs h = ap (λ t. drop (cond (not t) (1 + position_or_len is_blank bs) 0) (b ∷ bs)) h
 
-behind_other : (b : ℕ) (bs : List ℕ) → is_blank b ≡ false → behind (b ∷ bs) ≡ behind bs
+pub behind_other : (b : ℕ) (bs : List ℕ) → is_blank b ≡ false → behind (b ∷ bs) ≡ behind bs
 behind_other b bs h = ap (λ t. drop (cond (not t) (1 + position_or_len is_blank bs) 0) (b ∷ bs)) h ∙ ap (λ n. drop n (b ∷ bs)) (one_more (position_or_len is_blank bs))
 
 parts_by : (b : ℕ) (bs : List ℕ) (t : Bool) → is_blank b ≡ t → slice_split is_blank bs ≡ first_word bs ∷ parts_behind (behind bs)
@@ -85,7 +82,7 @@ words_behind : (text : List ℕ) → filter is_word (parts_behind (behind text))
 words_behind [] = refl
 words_behind (b ∷ bs) = behind_by b bs (is_blank b) refl (words_behind bs)
 
-not_true : (b : Bool) → not b ≡ true → b ≡ false
+pub not_true : (b : Bool) → not b ≡ true → b ≡ false
 not_true true h = cc
 not_true false h = refl
 
@@ -93,7 +90,7 @@ is_word_more : (b : ℕ) (bs : List ℕ) → is_word (b ∷ bs) ≡ true
 is_word_more b bs = grind arith
 
 -- a text that begins with no blank begins with a word
-pub words_cut : (text : List ℕ) → begins text ≡ true → (length text == 0) ≡ false → words_in text ≡ first_word text ∷ words_in (behind_word text)
+pub words_cut : (text : List ℕ) → is_bare text ≡ true → (length text == 0) ≡ false → words_in text ≡ first_word text ∷ words_in (behind_word text)
 words_cut [] h k = cc
 words_cut (b ∷ bs) h k =
     let other = not_true (is_blank b) h in
@@ -103,7 +100,7 @@ words_cut (b ∷ bs) h k =
     ∙ ap (λ ws. first_word (b ∷ bs) ∷ ws) (words_behind (b ∷ bs) ∙ sym (words_behind_blanks (behind (b ∷ bs))))
 
 -- less is left behind a word
-pub shorter_behind : (text : List ℕ) → begins text ≡ true → (length text == 0) ≡ false → length (behind_word text) < length text
+pub shorter_behind : (text : List ℕ) → is_bare text ≡ true → (length text == 0) ≡ false → length (behind_word text) < length text
 shorter_behind [] h k = cc
 shorter_behind (b ∷ bs) h k =
     let other = not_true (is_blank b) h in
@@ -133,7 +130,7 @@ more_named so_far e (Some es) = ap Some (sym (append_assoc so_far (e ∷ []) es)
 more_named so_far e None = refl
 
 -- one more word names an event
-pub named_more : (words rest word behind : List ℕ) (events later : List EventName) (e : EventName) → begins rest ≡ true → (length rest == 0) ≡ false
+pub named_more : (words rest word behind : List ℕ) (events later : List EventName) (e : EventName) → is_bare rest ≡ true → (length rest == 0) ≡ false
     → word ≡ first_word rest → behind ≡ behind_word rest → Some e ≡ event_named word → later ≡ events ++ e ∷ []
     → events_named (words_in words) ≡ option_map (λ es. events ++ es) (events_named (words_in rest))
     → events_named (words_in words) ≡ option_map (λ es. later ++ es) (events_named (words_in behind))
@@ -149,7 +146,7 @@ none_of_more [] h = refl
 none_of_more (w ∷ ws) h = sym h
 
 -- a word names none
-pub named_not : (words rest word : List ℕ) (events : List EventName) → begins rest ≡ true → (length rest == 0) ≡ false → word ≡ first_word rest → None ≡ event_named word
+pub named_not : (words rest word : List ℕ) (events : List EventName) → is_bare rest ≡ true → (length rest == 0) ≡ false → word ≡ first_word rest → None ≡ event_named word
     → events_named (words_in words) ≡ option_map (λ es. events ++ es) (events_named (words_in rest)) → None ≡ one_or_more (words_in words)
 named_not words rest word events b l w n h =
     none_of_more (words_in words)
@@ -177,3 +174,23 @@ pub named_all : (words rest : List ℕ) (events : List EventName) → (length re
     → events_named (words_in words) ≡ option_map (λ es. events ++ es) (events_named (words_in rest)) → cond (not (length events == 0)) (Some events) None ≡ one_or_more (words_in words)
 named_all words rest events l h =
     all_named (words_in words) events (h ∙ ap (λ ws. option_map (λ es. events ++ es) (events_named ws)) (no_words rest l) ∙ ap Some (append-nil events))
+
+-- words that a program holds
+abbrev pub held : List (Bor (List ℕ)) → List (List ℕ)
+held ws = map (λ w. w.now) ws
+
+-- before the first word there is none
+pub all_first : (text rest : List ℕ) (words : List (Bor (List ℕ))) → words ≡ [] → rest ≡ without_blanks text → held words ++ words_in rest ≡ words_in text
+all_first text rest words e f = ap (λ ws. held ws ++ words_in rest) e ∙ ap words_in f ∙ words_behind_blanks text
+
+-- one more word
+pub all_more : (text rest : List ℕ) (word : Bor (List ℕ)) (behind : List ℕ) (words later : List (Bor (List ℕ))) → is_bare rest ≡ true → (length rest == 0) ≡ false
+    → word.now ≡ first_word rest → behind ≡ behind_word rest → later ≡ words ++ word ∷ [] → held words ++ words_in rest ≡ words_in text → held later ++ words_in behind ≡ words_in text
+all_more text rest word behind words later b l w r g h =
+    let cut = words_cut rest b l ∙ ap (λ x. x ∷ words_in (behind_word rest)) (sym w) ∙ ap (λ x. word.now ∷ words_in x) (sym r) in
+    ap (λ ws. held ws ++ words_in behind) g ∙ ap (λ ws. ws ++ words_in behind) (map-append (λ (x : Bor (List ℕ)). x.now) words (word ∷ []))
+    ∙ append_assoc (held words) (word.now ∷ []) (words_in behind) ∙ ap (λ ws. held words ++ ws) (sym cut) ∙ h
+
+-- behind the last word there are all
+pub all_done : (text rest : List ℕ) (words : List (Bor (List ℕ))) → (length rest == 0) ≡ true → held words ++ words_in rest ≡ words_in text → held words ≡ words_in text
+all_done text rest words l h = sym (append-nil (held words)) ∙ ap (λ ws. held words ++ ws) (sym (no_words rest l)) ∙ h

@@ -1,21 +1,29 @@
 -- The commands, and the lines that spell them.
-use Rattle.std.specs.Prelude.{ℕ, List, [], ◌∷◌, Bool, true, ◌&&◌, ◌==◌, length, nat_le, cond, Option, Some, None, Result, Ok, Err, codes}
+use Rattle.std.specs.Prelude.{ℕ, List, [], ◌∷◌, map, Bool, true, false, not, ◌&&◌, ◌||◌, ◌==◌, length, nat_le, cond, Option, Some, None, Result, Ok, Err, codes}
 use Rattle.std.specs.Option.{option_map, option_and_then}
 use Rattle.std.specs.Str.{bytes_eq}
+use Rattle.std.specs.List.{before_first, after_first}
 use Rattle.etoken.specs.Names.{is_name}
 use Rattle.ids.specs.declared.names.EventName.{EventName}
 use Rattle.ids.specs.declared.names.MsgId.{MsgId}
-use Rattle.commands.specs.Words.{without_blanks, first_word, behind_word, words_in}
-use Rattle.commands.specs.Numbers.{number_of, message_named, event_named, one_or_more}
+use Rattle.commands.specs.Words.{without_blanks, first_word, behind_word, words_in, ends_blank}
+use Rattle.commands.specs.Numbers.{number_of, behind_tag, message_named, promise_named, event_named, one_or_more}
+use Rattle.commands.specs.declared.numbers.PromiseName.{PromiseName}
 use Rattle.commands.specs.declared.command.Command.{Command}
 use Rattle.commands.specs.declared.command.Command.TheVariants as code
 use Rattle.commands.specs.declared.command.LineFault.{LineFault}
 use Rattle.commands.specs.declared.command.LineFault.TheVariants.{UnknownCommand, BadWord, LineTooLong, Truncated}
 
 pub data Spelled : Type 0 where
-  birth : (x : List ℕ) → (lines : ℕ) → Spelled
+  birth : (x : List ℕ) → (earlier : List (List ℕ)) → (lines : ℕ) → Spelled
   ask : (x : List ℕ) → (text : List ℕ) → Spelled
+  arrive : (m : MsgId) → Spelled
+  forward : (m : MsgId) → Spelled
+  learn : (x : List ℕ) → (p : PromiseName) → Spelled
   turn : (m : MsgId) → Spelled
+  step : Spelled
+  run : (steps : ℕ) → Spelled
+  enabled : Spelled
   show : Spelled
   journal : Spelled
   cone : (e : EventName) → Spelled
@@ -34,21 +42,61 @@ at_most limit n = cond (nat_le n limit) (Some n) None
 abbrev pub is_empty : List ℕ → Bool
 is_empty w = length w == 0
 
--- vat NAME () N
+-- a word is among these
+abbrev pub is_among : List (List ℕ) → List ℕ → Bool
+is_among [] w = false
+is_among (v ∷ vs) w = cond (bytes_eq v w) true (is_among vs w)
+
+-- words that name vats, none of them twice
+abbrev pub are_vats : List (List ℕ) → Bool
+are_vats [] = true
+are_vats (w ∷ ws) = cond (is_vat_name w) (cond (is_among ws w) false (are_vats ws)) false
+
+-- the names inside brackets, which stand against the first and the last of them, or against each other
+abbrev pub earlier_of : List ℕ → Option (List (List ℕ))
+earlier_of inside =
+    cond (is_empty (first_word inside) && not (is_empty inside) || ends_blank inside) None (cond (are_vats (words_in inside)) (Some (words_in inside)) None)
+
+-- the number of lines, behind blanks and with nothing behind it
+abbrev pub lines_of : List ℕ → Option ℕ
+lines_of behind =
+    let count = behind_word behind in
+    cond (is_empty (first_word behind) && is_empty (behind_word count)) (option_and_then (at_most 4096) (number_of (first_word count))) None
+
+abbrev pub birth_with : List ℕ → Option (List (List ℕ)) → Option ℕ → Option Spelled
+birth_with x None lines = None
+birth_with x (Some earlier) None = None
+birth_with x (Some earlier) (Some lines) = Some (birth x earlier lines)
+
+abbrev pub is_closing : ℕ → Bool
+is_closing b = b == 41
+
+-- the names up to the closing bracket, and the number of lines behind it
+abbrev pub birth_in : List ℕ → Option (List ℕ) → Option Spelled
+birth_in x None = None
+birth_in x (Some text) = birth_with x (earlier_of (before_first is_closing text)) (lines_of (after_first is_closing text))
+
+-- vat NAME (EARLIER..) N
 abbrev pub birth_of : List ℕ → Option Spelled
-birth_of words =
-    let behind_name = behind_word words in
-    let behind_earlier = behind_word behind_name in
-    cond (is_vat_name (first_word words) && bytes_eq (first_word behind_name) (codes "()") && is_empty (behind_word behind_earlier))
-    (option_map (birth (first_word words)) (option_and_then (at_most 4096) (number_of (first_word behind_earlier)))) None
+birth_of words = cond (is_vat_name (first_word words)) (birth_in (first_word words) (behind_tag 40 (behind_word words))) None
 
 -- ask NAME TEXT: the text is the line's rest, and may be empty
 abbrev pub ask_of : List ℕ → Option Spelled
 ask_of words = cond (is_vat_name (first_word words)) (Some (ask (first_word words) (behind_word words))) None
 
--- turn M
-abbrev pub turn_of : List ℕ → Option Spelled
-turn_of words = cond (is_empty (behind_word words)) (option_map turn (message_named (first_word words))) None
+-- a command of one message
+abbrev pub of_message : (MsgId → Spelled) → List ℕ → Option Spelled
+of_message command words = cond (is_empty (behind_word words)) (option_map command (message_named (first_word words))) None
+
+-- learn NAME P
+abbrev pub learn_of : List ℕ → Option Spelled
+learn_of words =
+    let promise = behind_word words in
+    cond (is_vat_name (first_word words) && is_empty (behind_word promise)) (option_map (learn (first_word words)) (promise_named (first_word promise))) None
+
+-- run K
+abbrev pub run_of : List ℕ → Option Spelled
+run_of words = cond (is_empty (behind_word words)) (option_map run (option_and_then (at_most 1000000) (number_of (first_word words)))) None
 
 -- a command without words
 abbrev pub alone : Spelled → List ℕ → Option Spelled
@@ -75,14 +123,20 @@ abbrev pub begun_by : List ℕ → List ℕ → Result (Option Spelled) LineFaul
 begun_by word words =
     cond (bytes_eq word (codes "vat")) (formed (birth_of words))
     (cond (bytes_eq word (codes "ask")) (formed (ask_of words))
-    (cond (bytes_eq word (codes "turn")) (formed (turn_of words))
+    (cond (bytes_eq word (codes "arrive")) (formed (of_message arrive words))
+    (cond (bytes_eq word (codes "forward")) (formed (of_message forward words))
+    (cond (bytes_eq word (codes "learn")) (formed (learn_of words))
+    (cond (bytes_eq word (codes "turn")) (formed (of_message turn words))
+    (cond (bytes_eq word (codes "step")) (formed (alone step words))
+    (cond (bytes_eq word (codes "run")) (formed (run_of words))
+    (cond (bytes_eq word (codes "enabled")) (formed (alone enabled words))
     (cond (bytes_eq word (codes "show")) (formed (alone show words))
     (cond (bytes_eq word (codes "journal")) (formed (alone journal words))
     (cond (bytes_eq word (codes "cone")) (formed (of_event cone words))
     (cond (bytes_eq word (codes "undo")) (formed (of_events undo words))
     (cond (bytes_eq word (codes "undo-cone")) (formed (of_event undo_cone words))
     (cond (bytes_eq word (codes "redo")) (formed (of_events redo words))
-    (cond (bytes_eq word (codes "exchange")) (formed (exchange_of words)) (Err UnknownCommand))))))))))
+    (cond (bytes_eq word (codes "exchange")) (formed (exchange_of words)) (Err UnknownCommand))))))))))))))))
 
 -- a blank line or a comment is no command
 abbrev pub is_skipped : List ℕ → Bool
@@ -97,9 +151,15 @@ spelled_by line =
 
 -- what the program's commands stand for
 abbrev pub command_of : Command → Spelled
-command_of (code.Birth name lines) = birth name.now lines
+command_of (code.Birth name earlier lines) = birth name.now (map (λ x. x.now) earlier.items) lines
 command_of (code.Ask name text) = ask name.now text.now
+command_of (code.Arrive m) = arrive m
+command_of (code.Forward m) = forward m
+command_of (code.Learn name p) = learn name.now p
 command_of (code.Turn m) = turn m
+command_of code.Step = step
+command_of (code.Run steps) = run steps
+command_of code.Enabled = enabled
 command_of code.Show = show
 command_of code.Journal = journal
 command_of (code.Cone e) = cone e

@@ -1,10 +1,11 @@
--- Numbers, and names of messages and events, in a command.
+-- Numbers, and names of messages, promises and events, in a command.
 use Rattle.std.specs.Prelude.{ℕ, ◌+◌, ◌-◌, ◌*◌, ◌^◌, List, [], ◌∷◌, Bool, not, length, ◌&&◌, ◌==◌, nat_lt, cond, Option, Some, None}
 use Rattle.std.specs.Option.{option_map, option_and_then}
 use Rattle.std.specs.Char.{is_ascii_digit}
 use Rattle.std.specs.List.{list_all, before_first, after_first}
 use Rattle.ids.specs.declared.names.EventName.{EventName}
 use Rattle.ids.specs.declared.names.MsgId.{MsgId}
+use Rattle.commands.specs.declared.numbers.PromiseName.{PromiseName}
 
 -- decimal digits, one at least
 abbrev pub is_numeral : List ℕ → Bool
@@ -42,6 +43,15 @@ message_from (Some e) (Some i) = Some (record { event = record { 0 = e }; index 
 -- a message's name, such as e7.m0
 abbrev pub message_named : List ℕ → Option MsgId
 message_named word = message_from (tagged 101 (before_first is_dot word)) (tagged 109 (after_first is_dot word))
+
+abbrev pub promise_from : Option ℕ → Option ℕ → Option PromiseName
+promise_from None i = None
+promise_from (Some e) None = None
+promise_from (Some e) (Some i) = Some (record { event = record { 0 = e }; index = i })
+
+-- a promise's name, such as e8.p1
+abbrev pub promise_named : List ℕ → Option PromiseName
+promise_named word = promise_from (tagged 101 (before_first is_dot word)) (tagged 112 (after_first is_dot word))
 
 -- an event's name, such as e7
 abbrev pub event_named : List ℕ → Option EventName

@@ -1,9 +1,14 @@
 -- How a line is cut into words: they stand between spaces and tabs.
-use Rattle.std.specs.Prelude.{ℕ, List, drop, length, filter, Bool, not, ◌==◌, ◌||◌}
+use Rattle.std.specs.Prelude.{ℕ, List, [], ◌∷◌, drop, length, filter, slice_index, Bool, true, not, ◌==◌, ◌||◌, ◌-◌}
 use Rattle.std.specs.List.{position_or_len, before_first, slice_split}
 
 abbrev pub is_blank : ℕ → Bool
 is_blank b = b == 32 || b == 9
+
+-- no blank stands in front
+abbrev pub is_bare : List ℕ → Bool
+is_bare [] = true
+is_bare (b ∷ bs) = not (is_blank b)
 
 -- what begins with the first character that is no blank
 abbrev pub without_blanks : List ℕ → List ℕ
@@ -23,3 +28,7 @@ is_word w = not (length w == 0)
 -- all words of a text
 abbrev pub words_in : List ℕ → List (List ℕ)
 words_in text = filter is_word (slice_split is_blank text)
+
+-- the last byte is a blank
+abbrev pub ends_blank : List ℕ → Bool
+ends_blank text = is_blank (slice_index text (length text - 1))

@@ -1,12 +1,15 @@
 // Commands, as lines spell them.
-ghost use Rattle.std.specs.Prelude.{◌≡◌, Some, IfOk};
+ghost use Rattle.std.specs.Prelude.{◌≡◌, map, Some, IfOk};
 ghost use Rattle.std.specs.Option.{option_map, option_and_then};
 ghost use Rattle.commands.specs.Numbers.{number_of};
 ghost use Rattle.ids.specs.declared.names.EventName.{EventName};
-ghost use Rattle.commands.specs.Commands.{Spelled, is_vat_name, at_most, birth_of, ask_of, turn_of, show, journal, cone, undo, undo_cone, redo, exchange, exchange_of, alone, of_event, of_events, is_skipped, begun_by, spelled_by, command_of, reading_of, fault_text};
+ghost use Rattle.ids.specs.declared.names.MsgId.{MsgId};
+ghost use Rattle.commands.specs.Commands.{Spelled, is_vat_name, at_most, is_among, are_vats, earlier_of, lines_of, birth_of, ask_of, arrive, forward, learn_of, turn, step, run_of, enabled, show, journal, cone, undo, undo_cone, redo, exchange, exchange_of, alone, of_message, of_event, of_events, is_skipped, begun_by, spelled_by, command_of, reading_of, fault_text};
 
-use crate::numbers::{event_named, events_named, message_named, number};
-use crate::words::{cut_word, skip_blanks};
+use crate::numbers::{
+    PromiseName, behind_tag, event_named, events_named, message_named, number, promise_named,
+};
+use crate::words::{all_words, cut_word, ends_blank, skip_blanks};
 use etoken::names::is_name;
 use ids::names::{EventName, MsgId};
 use std::alloc::{AllocError, Global};
@@ -20,14 +23,37 @@ const MOST_LINES: u32 = 4_096;
 /// The most bytes of a vat's name.
 const LONGEST_NAME: usize = 64;
 
+/// The most steps that may be commanded at once.
+const MOST_STEPS: u32 = 1_000_000;
+
 /// A command.
 #[derive(Drop)]
 pub enum Command<'a> {
-    /// A new vat: its script is in so many lines that follow.
-    Birth { name: &'a str, lines: u32 },
+    /// A new vat: its script is in so many lines that follow, and may name these vats.
+    Birth {
+        name: &'a str,
+        earlier: Vec<&'a str>,
+        lines: u32,
+    },
     /// A program that is asked of a vat.
-    Ask { name: &'a str, text: &'a str },
+    Ask {
+        name: &'a str,
+        text: &'a str,
+    },
+    Arrive(MsgId),
+    Forward(MsgId),
+    /// A vat is to learn what is known of a promise.
+    Learn {
+        name: &'a str,
+        promise: PromiseName,
+    },
     Turn(MsgId),
+    /// The first of what may happen is to happen.
+    Step,
+    /// So many steps, one after another.
+    Run(u32),
+    /// All that may happen is to be listed.
+    Enabled,
     Show,
     Journal,
     Cone(EventName),
@@ -84,18 +110,84 @@ fn line_count(word: &str) -> Option<u32>
     (count <= MOST_LINES).then_some(count)
 }
 
-fn birth(words: &str) -> Option<Command<'_>>
-    ensures { option_map command_of result ≡ birth_of words.now }
+/// The number of lines that stands behind blanks, with nothing behind it.
+fn lines_behind(text: &str) -> Option<u32>
+    ensures { result ≡ lines_of text.now }
 {
-    let (name, behind) = cut_word(words);
-    let (earlier, behind) = cut_word(behind);
+    let (against, behind) = cut_word(text);
     let (count, end) = cut_word(behind);
-    if is_vat_name(name) && earlier == "()" && end.is_empty() {
-        let lines = line_count(count)?;
-        Some(Command::Birth { name, lines })
+    if against.is_empty() && end.is_empty() {
+        line_count(count)
     } else {
         None
     }
+}
+
+fn is_among(words: &[&str], word: &str) -> bool
+    ensures { result ≡ is_among (map (λ w. w.now) words.now) word.now }
+{
+    for other in words {
+        if *other == word {
+            return true;
+        }
+    }
+    false
+}
+
+/// Whether all words may name vats, and none is given twice.
+fn are_vats(words: &[&str]) -> bool
+    ensures { result ≡ are_vats (map (λ w. w.now) words.now) }
+{
+    let mut index = 0;
+    while index < words.len() {
+        let word = words[index];
+        if !is_vat_name(word) {
+            return false;
+        }
+        if is_among(&words[index + 1..], word) {
+            return false;
+        }
+        index += 1;
+    }
+    true
+}
+
+/// The names of earlier vats inside brackets, which stand against the first and the last of them, or against each other.
+fn earlier_vats(alloc: Global, inside: &str) -> Result<Option<Vec<&str>>, AllocError>
+    ensures { IfOk result (λ r. option_map (λ names. map (λ x. x.now) names.items) r ≡ earlier_of inside.now) }
+{
+    let (first, _) = cut_word(inside);
+    if first.is_empty() && !inside.is_empty() || ends_blank(inside.as_bytes()) {
+        return Ok(None);
+    }
+    let names = all_words(alloc, inside)?;
+    Ok(are_vats(&names).then_some(names))
+}
+
+fn birth(alloc: Global, words: &str) -> Result<Option<Command<'_>>, AllocError>
+    ensures { IfOk result (λ r. option_map command_of r ≡ birth_of words.now) }
+{
+    let (name, behind) = cut_word(words);
+    if !is_vat_name(name) {
+        return Ok(None);
+    }
+    let Some(text) = behind_tag('(', behind) else {
+        return Ok(None);
+    };
+    let Some((inside, behind)) = text.split_once(')') else {
+        return Ok(None);
+    };
+    let Some(lines) = lines_behind(behind) else {
+        return Ok(None);
+    };
+    let Some(earlier) = earlier_vats(alloc, inside)? else {
+        return Ok(None);
+    };
+    Ok(Some(Command::Birth {
+        name,
+        earlier,
+        lines,
+    }))
 }
 
 fn ask(words: &str) -> Option<Command<'_>>
@@ -105,14 +197,76 @@ fn ask(words: &str) -> Option<Command<'_>>
     is_vat_name(name).then_some(Command::Ask { name, text })
 }
 
-fn turn(words: &str) -> Option<Command<'_>>
-    ensures { option_map command_of result ≡ turn_of words.now }
+/// One message's name, with nothing behind it.
+fn one_message(words: &str) -> Option<MsgId>
+    ensures { (command : MsgId → Spelled) → option_map command result ≡ of_message command words.now }
 {
     let (name, end) = cut_word(words);
     if !end.is_empty() {
         return None;
     }
-    Some(Command::Turn(message_named(name)?))
+    message_named(name)
+}
+
+fn arrive(words: &str) -> Option<Command<'_>>
+    ensures { option_map command_of result ≡ of_message arrive words.now }
+{
+    Some(Command::Arrive(one_message(words)?))
+}
+
+fn forward(words: &str) -> Option<Command<'_>>
+    ensures { option_map command_of result ≡ of_message forward words.now }
+{
+    Some(Command::Forward(one_message(words)?))
+}
+
+fn learn(words: &str) -> Option<Command<'_>>
+    ensures { option_map command_of result ≡ learn_of words.now }
+{
+    let (name, behind) = cut_word(words);
+    let (promise, end) = cut_word(behind);
+    if is_vat_name(name) && end.is_empty() {
+        let promise = promise_named(promise)?;
+        Some(Command::Learn { name, promise })
+    } else {
+        None
+    }
+}
+
+fn turn(words: &str) -> Option<Command<'_>>
+    ensures { option_map command_of result ≡ of_message turn words.now }
+{
+    Some(Command::Turn(one_message(words)?))
+}
+
+fn step(words: &str) -> Option<Command<'_>>
+    ensures { option_map command_of result ≡ alone step words.now }
+{
+    words.is_empty().then_some(Command::Step)
+}
+
+/// A number of steps.
+fn step_count(word: &str) -> Option<u32>
+    ensures { result ≡ option_and_then (at_most 1000000) (number_of word.now) }
+{
+    let count = number(word)?;
+    (count <= MOST_STEPS).then_some(count)
+}
+
+fn run(words: &str) -> Option<Command<'_>>
+    ensures { option_map command_of result ≡ run_of words.now }
+{
+    let (count, end) = cut_word(words);
+    if !end.is_empty() {
+        return None;
+    }
+    Some(Command::Run(step_count(count)?))
+}
+
+fn enabled(words: &str) -> Option<Command<'_>>
+    ensures { option_map command_of result ≡ alone enabled words.now }
+{
+    words.is_empty().then_some(Command::Enabled)
 }
 
 fn show(words: &str) -> Option<Command<'_>>
@@ -195,9 +349,15 @@ fn begun_by<'a>(alloc: Global, word: &str, words: &'a str) -> Result<Said<'a>, A
     ensures { IfOk result (λ r. reading_of r ≡ begun_by word.now words.now) }
 {
     let command = match word {
-        "vat" => birth(words),
+        "vat" => birth(alloc, words)?,
         "ask" => ask(words),
+        "arrive" => arrive(words),
+        "forward" => forward(words),
+        "learn" => learn(words),
         "turn" => turn(words),
+        "step" => step(words),
+        "run" => run(words),
+        "enabled" => enabled(words),
         "show" => show(words),
         "journal" => journal(words),
         "cone" => cone(words),

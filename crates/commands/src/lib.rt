@@ -3,6 +3,9 @@
 
 pub mod command;
 pub mod lines;
-mod numbers;
+pub mod numbers;
 pub mod script;
+pub mod theorems;
 mod words;
+
+pub use numbers::PromiseName;

@@ -2,6 +2,7 @@
 ghost use Rattle.std.specs.Prelude.{◌≡◌, ◌<◌, length};
 ghost use Rattle.std.specs.List.{position};
 ghost use Rattle.commands.specs.Lines.{line_of, behind_line, is_long, is_line_feed, without_return};
+ghost use Rattle.commands.specs.Inputs.{BeginsWithLine};
 
 /// The most bytes that may stand before a line feed.
 const LONGEST_LINE: usize = 65_536;
@@ -34,6 +35,7 @@ pub fn cut_line(input: &[u8]) -> Cut<'_>
     requires { 0 < length input.now }
     ensures line { result.line.now ≡ line_of input.now }
     ensures rest { result.rest.now ≡ behind_line input.now }
+    ensures text { BeginsWithLine input.now result.line.now result.rest.now }
     ensures long { result.is_long ≡ is_long input.now }
     ensures shorter { length result.rest.now < length input.now }
 {

@@ -1,9 +1,9 @@
-// Numbers, and names of messages and events, in a command.
+// Numbers, and names of messages, promises and events, in a command.
 ghost use Rattle.std.specs.Prelude.{◌≡◌, ◌<◌, Some, IfOk};
 ghost use Rattle.std.specs.Char.{is_ascii_digit};
 ghost use Rattle.std.specs.Option.{option_map};
 ghost use Rattle.std.specs.List.{list_all};
-ghost use Rattle.commands.specs.Numbers.{number_of, behind_tag, tagged, message_named, event_named, one_or_more, is_numeral};
+ghost use Rattle.commands.specs.Numbers.{number_of, behind_tag, tagged, message_named, promise_named, event_named, one_or_more, is_numeral};
 ghost use Rattle.commands.specs.Words.{words_in};
 
 use crate::words::{cut_word, skip_blanks};
@@ -34,7 +34,7 @@ pub(crate) fn number(word: &str) -> Option<u32>
 }
 
 /// What stands behind a tag in front.
-fn behind_tag(tag: char, word: &str) -> Option<&str>
+pub(crate) fn behind_tag(tag: char, word: &str) -> Option<&str>
     requires { tag < 128 }
     ensures { option_map (λ r. r.now) result ≡ behind_tag tag word.now }
 {
@@ -57,6 +57,26 @@ pub(crate) fn message_named(word: &str) -> Option<MsgId>
     let event = tagged('e', event)?;
     let index = tagged('m', index)?;
     Some(MsgId {
+        event: EventName(u64::from(event)),
+        index,
+    })
+}
+
+/// A promise's name, such as `e8.p1`: its event, and its number among that event's promises. Where its home is, no name tells.
+#[derive(Clone, Copy)]
+pub struct PromiseName {
+    pub event: EventName,
+    pub index: u32,
+}
+
+/// A promise's name, such as `e8.p1`.
+pub(crate) fn promise_named(word: &str) -> Option<PromiseName>
+    ensures { result ≡ promise_named word.now }
+{
+    let (event, index) = word.split_once('.')?;
+    let event = tagged('e', event)?;
+    let index = tagged('p', index)?;
+    Some(PromiseName {
         event: EventName(u64::from(event)),
         index,
     })

@@ -1,7 +1,9 @@
 // Words of a line.
-ghost use Rattle.std.specs.Prelude.{◌≡◌, not};
+ghost use Rattle.std.specs.Prelude.{◌≡◌, map, not, IfOk};
 ghost use Rattle.std.specs.List.{position, position_or_len};
-ghost use Rattle.commands.specs.Words.{is_blank, without_blanks, first_word, behind_word};
+ghost use Rattle.commands.specs.Words.{is_blank, without_blanks, first_word, behind_word, words_in, ends_blank};
+
+use std::alloc::{AllocError, Global};
 
 fn is_blank(b: u8) -> bool
     ensures { result ≡ is_blank b }
@@ -49,4 +51,28 @@ pub(crate) fn cut_word(text: &str) -> (&str, &str)
 {
     let (word, behind) = text.split_at(word_end(text.as_bytes()));
     (word, skip_blanks(behind))
+}
+
+/// All words of a text.
+pub(crate) fn all_words(alloc: Global, text: &str) -> Result<Vec<&str>, AllocError>
+    ensures { IfOk result (λ words. map (λ w. w.now) words.items ≡ words_in text.now) }
+{
+    let mut words = Vec::new(alloc);
+    let mut rest = skip_blanks(text);
+    'words: while !rest.is_empty() {
+        let (word, behind) = cut_word(rest);
+        words.push(word)?;
+        rest = behind;
+    }
+    Ok(words)
+}
+
+/// Whether a text ends with a blank.
+pub(crate) fn ends_blank(text: &[u8]) -> bool
+    ensures { result ≡ ends_blank text.now }
+{
+    match text {
+        [.., last] => is_blank(*last),
+        _ => false,
+    }
 }

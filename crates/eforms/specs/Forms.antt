@@ -1,13 +1,18 @@
--- What operators, words, `return` and functions stand for, as trees.
-use Rattle.std.specs.Prelude.{Bool, true, false, cond, List, Option, Some, None, codes}
+-- What operators, calls, sends, words, `return` and functions stand for, as trees.
+use Rattle.std.specs.Prelude.{Bool, true, false, cond, List, [], ◌∷◌, Option, Some, None, codes}
+use Rattle.etoken.specs.Table.{entry_at}
 use Rattle.etoken.specs.declared.token.Reserved as words
 use Rattle.etoken.specs.declared.token.Reserved.TheVariants as word
 use Rattle.kernele.specs.declared.tree.Pattern.{Pattern}
-use Rattle.kernele.specs.Tree.{Name, Tree, null_tree, bool_tree, noun, call, same_tree, if_tree, object_tree, escape_tree, Trees, none, and_then, no_methods, and_method}
+use Rattle.kernele.specs.Tree.{Name, Tree, null_tree, bool_tree, noun, call, same_tree, if_tree, object_tree, escape_tree, send, Trees, none, and_then, no_methods, and_method}
 use Rattle.esigns.specs.declared.operator.Operator.{Operator}
 use Rattle.esigns.specs.declared.operator.Operator.TheVariants as operator
+use Rattle.esigns.specs.declared.operator.Link.{Link}
+use Rattle.esigns.specs.declared.operator.Link.TheVariants as link
 use Rattle.esigns.specs.declared.operator.Prefix.{Prefix}
 use Rattle.esigns.specs.declared.operator.Prefix.TheVariants as prefix
+use Rattle.eforms.specs.declared.words.RefWord.{RefWord}
+use Rattle.eforms.specs.declared.words.RefWord.TheVariants as reference
 
 -- a call with one argument
 abbrev pub binary : Tree → Name → Tree → Tree
@@ -36,6 +41,13 @@ joined operator.Or t u = if_tree t (alone (bool_tree true)) (alone u)
 abbrev pub prefix_verb : Prefix → Name
 prefix_verb prefix.Not = codes "not"
 prefix_verb prefix.Negate = codes "negate"
+
+-- what is made of a receiver: a call of it, or a send
+abbrev pub linked : Link → Tree → Name → Trees → Tree
+linked link.Method t verb ts = call t verb ts
+linked link.Run t verb ts = call t verb ts
+linked link.Index t verb ts = call t verb ts
+linked link.Send t verb ts = send t verb ts
 
 -- one more at the end
 abbrev pub snoc : Trees → Tree → Trees
@@ -68,3 +80,10 @@ literal_of word.True = Some (bool_tree true)
 literal_of word.False = Some (bool_tree false)
 literal_of word.Null = Some null_tree
 literal_of _ = None
+
+-- each name with a meaning of its own behind `Ref.`
+abbrev pub ref_words : List (Name × RefWord)
+ref_words = (codes "promise", reference.Promise) ∷ (codes "broken", reference.Broken) ∷ (codes "state", reference.State) ∷ []
+
+abbrev pub ref_word_of : Name → Option RefWord
+ref_word_of x = entry_at ref_words x

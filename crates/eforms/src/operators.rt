@@ -1,11 +1,11 @@
 // What operators stand for.
 ghost use Rattle.std.specs.Prelude.{IfOk, ◌≡◌};
 ghost use Rattle.kernele.specs.Tree.{call as call_tree, none};
-ghost use Rattle.kernele.specs.View.{tree_of};
-ghost use Rattle.eforms.specs.Forms.{binary as binary_tree, joined, prefix_verb};
+ghost use Rattle.kernele.specs.View.{tree_of, trees_of};
+ghost use Rattle.eforms.specs.Forms.{binary as binary_tree, joined, linked, prefix_verb};
 
-use enodes::nodes::{call, choose, one};
-use esigns::operator::{Operator, Prefix};
+use enodes::nodes::{call, choose, one, send};
+use esigns::operator::{Link, Operator, Prefix};
 use ids::text::Text;
 use kernele::tree::Expr;
 use std::alloc::{AllocError, Global};
@@ -83,6 +83,22 @@ pub fn join(
         }
         Operator::And => both(alloc, left, right),
         Operator::Or => either(alloc, left, right),
+    }
+}
+
+/// What is made of a receiver: a call of it, or a send.
+pub fn link(
+    alloc: Global,
+    link: Link,
+    receiver: Arc<Expr>,
+    verb: Text,
+    args: Vec<Expr>,
+) -> Result<Expr, AllocError>
+    ensures { IfOk result (λ e. tree_of e ≡ linked link (tree_of receiver.value) verb (trees_of args.items)) }
+{
+    match link {
+        Link::Method | Link::Run | Link::Index => call(alloc, receiver, verb, args),
+        Link::Send => send(alloc, receiver, verb, args),
     }
 }
 

@@ -1,5 +1,6 @@
 // What words stand for.
-ghost use Rattle.eforms.specs.Forms.{literal_of};
+ghost use Rattle.std.specs.Prelude.{◌≡◌};
+ghost use Rattle.eforms.specs.Forms.{literal_of, ref_word_of};
 ghost use Rattle.eforms.specs.View.{GivesTree};
 
 use etoken::token::Reserved;
@@ -14,5 +15,27 @@ pub fn literal(word: Reserved) -> Option<Expr>
         Reserved::False => Some(Expr::Bool(false)),
         Reserved::Null => Some(Expr::Null),
         _ => None,
+    }
+}
+
+/// A name with a meaning of its own behind `Ref.`.
+#[derive(Clone, Copy)]
+pub enum RefWord {
+    Promise,
+    Broken,
+    State,
+}
+
+impl RefWord {
+    /// The one that a name is, if it is one.
+    pub fn of(name: &str) -> Option<RefWord>
+        ensures { result ≡ ref_word_of name.now }
+    {
+        match name {
+            "promise" => Some(RefWord::Promise),
+            "broken" => Some(RefWord::Broken),
+            "state" => Some(RefWord::State),
+            _ => None,
+        }
     }
 }

@@ -6,18 +6,18 @@ use Rattle.etoken.specs.declared.token.Reserved.TheVariants as word
 use Rattle.etoken.specs.declared.token.Sign as signs
 use Rattle.etoken.specs.declared.token.Sign.TheVariants as sign
 use Rattle.kernele.specs.declared.tree.Pattern.{Pattern}
-use Rattle.kernele.specs.Tree.{Name, Tree, null_tree, define, define_list, variable, assign, call, list_tree, hide, if_tree, while_tree, for_tree, try_tree, throw_tree, object_tree, escape_tree, Trees, none, and_then, Methods}
+use Rattle.kernele.specs.Tree.{Name, Tree, null_tree, define, define_list, variable, assign, call, list_tree, hide, if_tree, while_tree, for_tree, try_tree, throw_tree, object_tree, escape_tree, send, when_tree, when_catch_tree, break_ref, state_ref, Trees, none, and_then, Methods}
 use Rattle.esigns.specs.declared.operator.Link.TheVariants as link
 use Rattle.esigns.specs.declared.operator.Bracket.{Bracket}
 use Rattle.esigns.specs.declared.operator.Bracket.TheVariants as bracket
 use Rattle.esigns.specs.Signs.{product_operator, sum_operator, comparison_operator, and_operator, or_operator, link_of}
 use Rattle.eforms.specs.Forms.{joined, prefix_verb, snoc, alone, return_tree, function_tree, block_of}
 use Rattle.enodes.specs.Nodes.{given, MethodTree, method_tree, Place, definition, definitions}
-use Rattle.egrammar.specs.Grammar.{Pat, pat_name, pat_ignore, Pats, pats_one, pats_and, PatList, pat_list_none, pat_list_some, Semicolons, semicolons_none, semicolons_more, Expr, expr_define, expr_define_list, expr_variable, expr_assign, expr_return, expr_return_null, expr_disjunction, Disjunction, disjunction_conjunction, disjunction_more, Conjunction, conjunction_comparison, conjunction_more, Comparison, comparison_sum, comparison_two, Sum, sum_product, sum_more, Product, product_unary, product_more, Unary, unary_postfix, unary_prefix, Postfix, postfix_primary, postfix_method, postfix_run, postfix_get, Primary, primary_int, primary_text, primary_true, primary_false, primary_null, primary_name, primary_list, primary_group, primary_hide, primary_if, primary_while, primary_for, primary_try, primary_throw, primary_escape, primary_object, primary_function, Method, method_to, method_plain, MethodList, methods_none, methods_and, Conditional, conditional_alone, conditional_else, conditional_else_if, Condition, condition, Braced, braced, Args, args_none, args_some, Items, items_one, items_and, Sequence, sequence_one, sequence_and, Block, block_empty, block_items, Program}
-use Rattle.egrammar.specs.Reading.{Read, ◌>>=◌, or_else, rest_of, sign_in, front, is_comma, is_semicolon, is_becomes, is_close, past, past_word, operand_next, commas_next, push_pattern, Within, items_at, args_at, is_at_word, is_var_word, is_if_word, is_in_word, is_catch_word, is_assignment, pattern_at, patterns_at, pattern_list_at, define_list_at, define_one_at, define_at, target_at, is_definition, begins, taking_at, method_at, methods_next, methods_at, methods_past_at, body_at, return_at, given_at, expr_at, primary_at, linked_at, postfix_next, postfix_at, unary_at, product_at, sum_at, comparison_at, conjunction_at, disjunction_at, if_at, within_at, skip_semicolons, is_block_end, separator_at, block_next, block_at, block_past_at, braced_at, condition_at, branch_at, else_at, ended, program_at}
+use Rattle.egrammar.specs.Grammar.{Pat, pat_name, pat_ignore, Pats, pats_one, pats_and, PatList, pat_list_none, pat_list_some, Semicolons, semicolons_none, semicolons_more, Expr, expr_define, expr_define_list, expr_variable, expr_assign, expr_return, expr_return_null, expr_disjunction, Disjunction, disjunction_conjunction, disjunction_more, Conjunction, conjunction_comparison, conjunction_more, Comparison, comparison_sum, comparison_two, Sum, sum_product, sum_more, Product, product_unary, product_more, Unary, unary_postfix, unary_prefix, Postfix, postfix_primary, postfix_method, postfix_run, postfix_get, postfix_send, postfix_send_run, Primary, primary_int, primary_text, primary_true, primary_false, primary_null, primary_name, primary_list, primary_group, primary_hide, primary_if, primary_while, primary_for, primary_try, primary_throw, primary_escape, primary_object, primary_function, primary_when, primary_when_catch, primary_promise, primary_broken, primary_state, Method, method_to, method_plain, MethodList, methods_none, methods_and, Conditional, conditional_alone, conditional_else, conditional_else_if, Condition, condition, Braced, braced, Args, args_none, args_some, Items, items_one, items_and, Sequence, sequence_one, sequence_and, Block, block_empty, block_items, Program}
+use Rattle.egrammar.specs.Reading.{Read, ◌>>=◌, or_else, rest_of, sign_in, front, is_comma, is_semicolon, is_becomes, is_close, past, past_word, operand_next, commas_next, push_pattern, Within, items_at, args_at, is_at_word, is_var_word, is_if_word, is_in_word, is_catch_word, is_arrow, when_from, is_assignment, pattern_at, patterns_at, pattern_list_at, define_list_at, define_one_at, define_at, target_at, is_definition, begins, taking_at, method_at, methods_next, methods_at, methods_past_at, body_at, return_at, given_at, expr_at, primary_at, linked_at, postfix_next, postfix_at, unary_at, product_at, sum_at, comparison_at, conjunction_at, disjunction_at, if_at, within_at, skip_semicolons, is_block_end, separator_at, block_next, block_at, block_past_at, braced_at, condition_at, branch_at, else_at, ended, program_at}
 use Rattle.egrammar.proofs.Turns.{Turns, turns_begin, turns_more, if_is, some_same, none_some}
 use Rattle.egrammar.proofs.Steps.{methods_begin, methods_more, methods_end, operand_more, operand_end, postfix_end, commas_end, skip-end, block_begin, block_more, block_end}
-use Rattle.egrammar.proofs.Uses.{less_expr, less_pat, less_pat_list, less_disjunction, less_conjunction, less_comparison, less_sum, less_product, less_unary, less_postfix, less_conditional, less_condition, less_braced, less_args, less_items, le_semicolons, less_sequence, sign_strength, Below, product_none, sum_none, comparison_none, and_none, or_none, link_none, front_none, no_else, product_strength, sum_strength, comparison_strength, and_strength, or_strength, no_prefix, no_close, no_def, no_var, no_return, begins_start, method_begins, less_method, less_methods, no_assignment, start_postfix, start_disjunction, start_items, expr_begins, expr_goes, sequence_begins, pat_begins, pats_begin, braced_begins}
+use Rattle.egrammar.proofs.Uses.{less_expr, less_pat, less_pat_list, less_disjunction, less_conjunction, less_comparison, less_sum, less_product, less_unary, less_postfix, less_conditional, less_condition, less_braced, less_args, less_items, le_semicolons, less_sequence, sign_strength, Below, product_none, sum_none, comparison_none, and_none, or_none, link_none, front_none, no_else, no_catch, product_strength, sum_strength, comparison_strength, and_strength, or_strength, no_prefix, no_close, no_def, no_var, no_return, begins_start, method_begins, less_method, less_methods, no_assignment, start_postfix, start_disjunction, start_items, expr_begins, expr_goes, sequence_begins, pat_begins, pats_begin, braced_begins}
 
 complete_pat : (a r : List Token) (p : Pattern) → Pat a p r → pattern_at a ≡ Some (p, r)
 complete_pat _ _ _ pat_name = refl
@@ -256,6 +256,20 @@ module _ (m : ℕ) (within : Within)
       ap (λ o. o >>= λ p. body_at within p.0 p.1) (complete_pat a (token.Sign sign.OpenRound ∷ b) p q)
       ∙ ap (λ o. o >>= λ ps. braced_at within ps.1 >>= λ b. Some (function_tree p ps.0 b.0, b.1)) (complete_pat_list bracket.Round sign.CloseRound b c ps refl refl y)
       ∙ ap (λ o. o >>= λ b. Some (function_tree p ps b.0, b.1)) (complete_braced c r ts (omega (arith, h, less_pat q, less_pat_list y)) x)
+  complete_primary _ _ _ h (primary_when {a = a} {b = b} {r = r} {t = t} {ts = ts} x y) k =
+      ap (λ o. (o >>= past is_arrow) >>= λ e. braced_at within e.1 >>= λ b. when_from within e.0 b.0 b.1) (complete_condition a (token.Sign sign.Arrow ∷ b) t (omega (arith, h)) x)
+      ∙ ap (λ o. o >>= λ b. when_from within t b.0 b.1) (complete_braced b r ts (omega (arith, h, less_condition x)) y)
+      ∙ ap (λ o. cond o (pattern_at (rest_of r) >>= λ p. braced_at within p.1 >>= λ h. Some (when_catch_tree t ts p.0 h.0, h.1)) (Some (when_tree t ts, r))) (no_catch r k)
+  complete_primary _ _ _ h (primary_when_catch {a = a} {b = b} {c = c} {d = d} {r = r} {p = p} {t = t} {ts = ts} {us = us} x y q z) k =
+      ap (λ o. (o >>= past is_arrow) >>= λ e. braced_at within e.1 >>= λ b. when_from within e.0 b.0 b.1) (complete_condition a (token.Sign sign.Arrow ∷ b) t (omega (arith, h)) x)
+      ∙ ap (λ o. o >>= λ b. when_from within t b.0 b.1) (complete_braced b (token.Word word.Catch ∷ c) ts (omega (arith, h, less_condition x)) y)
+      ∙ ap (λ o. o >>= λ p. braced_at within p.1 >>= λ h. Some (when_catch_tree t ts p.0 h.0, h.1)) (complete_pat c d p q)
+      ∙ ap (λ o. o >>= λ h. Some (when_catch_tree t ts p h.0, h.1)) (complete_braced d r us (omega (arith, h, less_condition x, less_braced y, less_pat q)) z)
+  complete_primary _ _ _ h primary_promise k = refl
+  complete_primary _ _ _ h (primary_broken {a = a} {r = r} {t = t} x) k =
+      ap (λ o. o >>= λ e. Some (break_ref e.0, e.1)) (complete_condition a r t (omega (arith, h)) x)
+  complete_primary _ _ _ h (primary_state {a = a} {r = r} {t = t} x) k =
+      ap (λ o. o >>= λ e. Some (state_ref e.0, e.1)) (complete_condition a r t (omega (arith, h)) x)
 
   turns_postfix : (a r : List Token) (t : Tree) → length a ≤ suc m → Postfix a t r → Below 7 r → Turns (postfix_next within) (postfix_at within a) t r
   turns_postfix _ _ _ h (postfix_primary {a = a} {r = r} {t = t} p) k = turns_begin (postfix_next within) (λ u. u) (primary_at within a) (complete_primary a r t h p k)
@@ -268,6 +282,12 @@ module _ (m : ℕ) (within : Within)
   turns_postfix _ _ _ h (postfix_get {b = b} {r = r} {t = t} {ts = ts} s p) k =
       turns_more (postfix_next within) (linked_at within link.Index t b) (turns_postfix _ _ _ h s (omega arith)) refl
       (ap (λ o. o >>= λ y. Some (call t (codes "get") y.0, y.1)) (complete_args bracket.Square sign.CloseSquare b r ts refl refl (omega arith) (omega (arith, h, less_postfix s)) p)) (omega (arith, less_args p))
+  turns_postfix _ _ _ h (postfix_send {b = b} {r = r} {t = t} {verb = verb} {ts = ts} s p) k =
+      turns_more (postfix_next within) (linked_at within link.Send t (token.Name verb ∷ token.Sign sign.OpenRound ∷ b)) (turns_postfix _ _ _ h s (omega arith)) refl
+      (ap (λ o. o >>= λ y. Some (send t verb y.0, y.1)) (complete_args bracket.Round sign.CloseRound b r ts refl refl (omega arith) (omega (arith, h, less_postfix s)) p)) (omega (arith, less_args p))
+  turns_postfix _ _ _ h (postfix_send_run {b = b} {r = r} {t = t} {ts = ts} s p) k =
+      turns_more (postfix_next within) (linked_at within link.Send t (token.Sign sign.OpenRound ∷ b)) (turns_postfix _ _ _ h s (omega arith)) refl
+      (ap (λ o. o >>= λ y. Some (send t (codes "run") y.0, y.1)) (complete_args bracket.Round sign.CloseRound b r ts refl refl (omega arith) (omega (arith, h, less_postfix s)) p)) (omega (arith, less_args p))
 
   complete_postfix : (a r : List Token) (t : Tree) → length a ≤ suc m → Postfix a t r → Below 6 r → postfix_at within a ≡ Some (t, r)
   complete_postfix a r t h p b = postfix_end within (turns_postfix a r t h p (omega (arith, b))) (front_none link_of 6 link_none r b)

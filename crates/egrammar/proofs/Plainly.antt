@@ -113,6 +113,14 @@ becomes_at = here refl (long_spelled refl refl refl)
 pub equal_at : {a : List ℕ} {ts : List Token} → InLine a ts → InLine (61 ∷ 61 ∷ a) (token.Sign sign.Equal ∷ ts)
 equal_at = here refl (long_spelled refl refl refl)
 
+-- `<-`
+pub send_to_at : {a : List ℕ} {ts : List Token} → InLine a ts → InLine (60 ∷ 45 ∷ a) (token.Sign sign.SendTo ∷ ts)
+send_to_at = here refl (long_spelled refl refl refl)
+
+-- `->`
+pub arrow_at : {a : List ℕ} {ts : List Token} → InLine a ts → InLine (45 ∷ 62 ∷ a) (token.Sign sign.Arrow ∷ ts)
+arrow_at = here refl (long_spelled refl refl refl)
+
 -- no byte of a word is first: the bytes do not lengthen a word or a number before them
 abbrev pub Ends : List ℕ → Type 0
 Ends r = begins_with is_word_byte r ≡ false

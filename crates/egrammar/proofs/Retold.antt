@@ -7,12 +7,12 @@ use Rattle.etoken.specs.declared.token.Sign.TheVariants as sign
 use Rattle.etoken.specs.Cutting.{blanks_none}
 use Rattle.kernele.specs.declared.tree.Pattern.{Pattern}
 use Rattle.kernele.specs.declared.tree.Pattern.TheVariants as pattern
-use Rattle.kernele.specs.Tree.{Name, Tree, null_tree, bool_tree, int_tree, text_tree, noun, define, variable, assign, call, list_tree, same_tree, define_list, hide, if_tree, while_tree, for_tree, try_tree, throw_tree, object_tree, escape_tree, Trees, none, and_then, Methods, no_methods, and_method}
+use Rattle.kernele.specs.Tree.{Name, Tree, null_tree, bool_tree, int_tree, text_tree, noun, define, variable, assign, call, list_tree, same_tree, define_list, hide, if_tree, while_tree, for_tree, try_tree, throw_tree, object_tree, escape_tree, send, when_tree, when_catch_tree, new_promise, break_ref, state_ref, Trees, none, and_then, Methods, no_methods, and_method}
 use Rattle.kernele.specs.Spelling as text
 use Rattle.kernele.specs.Spelling.{spelled, spelled_parts, spelled_items, spelled_methods, spelling, needs_brackets, as_part, as_receiver, is_bare_receiver, bound_name}
 use Rattle.egrammar.specs.Written.{Before, led_by, between, bracketed, bound, bound_in, in_braces, taking, written, written_parts, written_items, written_methods, program_tokens}
 use Rattle.egrammar.specs.Spelled.{CutInto, SpelledBy, BindsName, BindNames, IsName, IsSpellable, AreSpellable, AreSpellableMethods}
-use Rattle.egrammar.proofs.Plainly.{InLine, in_line_end, cut_in_line, spaced, open_round_at, close_round_at, open_square_at, close_square_at, open_curly_at, close_curly_at, comma_at, semicolon_at, dot_at, becomes_at, equal_at, Ends, reserved_at, underscore_at, name_at, int_at, text_at}
+use Rattle.egrammar.proofs.Plainly.{InLine, in_line_end, cut_in_line, spaced, open_round_at, close_round_at, open_square_at, close_square_at, open_curly_at, close_curly_at, comma_at, semicolon_at, dot_at, becomes_at, equal_at, send_to_at, arrow_at, Ends, reserved_at, underscore_at, name_at, int_at, text_at}
 use Rattle.egrammar.proofs.Spelled as tokens
 
 -- the bytes are cut into these tokens, before whatever does not lengthen the last of them
@@ -41,6 +41,12 @@ as_receiver-is (try_tree body p handler) s = refl
 as_receiver-is (throw_tree e) s = refl
 as_receiver-is (object_tree p ms) s = refl
 as_receiver-is (escape_tree x body) s = refl
+as_receiver-is (send r verb args) s = refl
+as_receiver-is (when_tree e body) s = refl
+as_receiver-is (when_catch_tree e body p handler) s = refl
+as_receiver-is new_promise s = refl
+as_receiver-is (break_ref e) s = refl
+as_receiver-is (state_ref e) s = refl
 
 -- what stands, in brackets where they are wanted
 in_brackets : (wanted : Bool) (bs : List ℕ) (w : Before) → Stands bs w → Stands (text.bracketed wanted bs) (bracketed wanted w)
@@ -126,6 +132,27 @@ object-bytes x ms r = simp append_assoc
 -- of an escape
 escape-bytes : (x p r : List ℕ) → (codes "escape " ++ x ++ codes " " ++ p) ++ r ≡ codes "escape" ++ (32 ∷ (x ++ (32 ∷ (p ++ r))))
 escape-bytes x p r = simp append_assoc
+
+-- of a send
+send-bytes : (t verb args r : List ℕ) → (t ++ codes " <- " ++ (verb ++ codes "(" ++ args ++ codes ")")) ++ r ≡ t ++ (32 ∷ 60 ∷ 45 ∷ 32 ∷ (verb ++ (40 ∷ (args ++ (41 ∷ r)))))
+send-bytes t verb args r = simp append_assoc
+
+-- of a value and the block that waits for it
+when-bytes : (e p r : List ℕ) → (codes "when (" ++ e ++ codes ") -> " ++ p) ++ r ≡ codes "when" ++ (32 ∷ 40 ∷ (e ++ (41 ∷ 32 ∷ 45 ∷ 62 ∷ 32 ∷ (p ++ r))))
+when-bytes e p r = simp append_assoc
+
+-- of these and a handler
+when_catch-bytes : (e p x q r : List ℕ) → (codes "when (" ++ e ++ codes ") -> " ++ p ++ codes " catch " ++ x ++ codes " " ++ q) ++ r
+    ≡ codes "when" ++ (32 ∷ 40 ∷ (e ++ (41 ∷ 32 ∷ 45 ∷ 62 ∷ 32 ∷ (p ++ (32 ∷ (codes "catch" ++ (32 ∷ (x ++ (32 ∷ (q ++ r))))))))))
+when_catch-bytes e p x q r = simp append_assoc
+
+-- of a broken reference
+broken-bytes : (e r : List ℕ) → (codes "Ref.broken(" ++ e ++ codes ")") ++ r ≡ codes "Ref" ++ (46 ∷ (codes "broken" ++ (40 ∷ (e ++ (41 ∷ r)))))
+broken-bytes e r = simp append_assoc
+
+-- of the state of a reference
+state-bytes : (e r : List ℕ) → (codes "Ref.state(" ++ e ++ codes ")") ++ r ≡ codes "Ref" ++ (46 ∷ (codes "state" ++ (40 ∷ (e ++ (41 ∷ r)))))
+state-bytes e r = simp append_assoc
 
 -- of a method
 method-bytes : (verb ps p r : List ℕ) → (codes "method " ++ (verb ++ codes "(" ++ ps ++ codes ")") ++ codes " " ++ p) ++ r ≡ codes "method" ++ (32 ∷ (verb ++ (40 ∷ (ps ++ (41 ∷ 32 ∷ (p ++ r))))))
@@ -266,6 +293,24 @@ mutual
   stands (escape_tree x body) h = λ r us ends rest.
       subst (λ l. InLine l (written (escape_tree x body) us)) (sym (escape-bytes x (text.in_braces (spelled_items body)) r))
       (reserved_at (codes "escape") word.Escape refl refl refl refl (spaced (name_at x h.0 refl (spaced (block_stands body (stand_items body h.1) r us ends rest)))))
+  stands (send t verb ts) h = λ r us ends rest.
+      subst (λ l. InLine l (written (send t verb ts) us)) (sym (send-bytes (as_receiver t (spelled t)) verb (text.joined (codes ", ") (spelled_parts ts)) r))
+      (receiver t (stands t h.0) _ _ refl (spaced (send_to_at (spaced (name_at verb h.1 refl (open_round_at ((stand_all ts h.2).1 (41 ∷ r) _ refl (close_round_at rest))))))))
+  stands (when_tree e body) h = λ r us ends rest.
+      subst (λ l. InLine l (written (when_tree e body) us)) (sym (when-bytes (as_part e (spelled e)) (text.in_braces (spelled_items body)) r))
+      (reserved_at (codes "when") word.When refl refl refl refl (spaced (open_round_at (part e (stands e h.0) _ _ refl (close_round_at (spaced (arrow_at (spaced (block_stands body (stand_items body h.1) r us ends rest)))))))))
+  stands (when_catch_tree e body p handler) h = λ r us ends rest.
+      subst (λ l. InLine l (written (when_catch_tree e body p handler) us)) (sym (when_catch-bytes (as_part e (spelled e)) (text.in_braces (spelled_items body)) (bound_name p) (text.in_braces (spelled_items handler)) r))
+      (reserved_at (codes "when") word.When refl refl refl refl (spaced (open_round_at (part e (stands e h.0) _ _ refl (close_round_at (spaced (arrow_at (spaced
+      (block_stands body (stand_items body h.1) _ _ refl (spaced (reserved_at (codes "catch") word.Catch refl refl refl refl (spaced
+      (bound_at p h.2 refl (spaced (block_stands handler (stand_items handler h.3) r us ends rest)))))))))))))))
+  stands new_promise h = λ r us ends rest. reserved_at (codes "Ref") word.Ref refl refl refl refl (dot_at (name_at (codes "promise") refl refl (open_round_at (close_round_at rest))))
+  stands (break_ref e) h = λ r us ends rest.
+      subst (λ l. InLine l (written (break_ref e) us)) (sym (broken-bytes (as_part e (spelled e)) r))
+      (reserved_at (codes "Ref") word.Ref refl refl refl refl (dot_at (name_at (codes "broken") refl refl (open_round_at (part e (stands e h) _ _ refl (close_round_at rest))))))
+  stands (state_ref e) h = λ r us ends rest.
+      subst (λ l. InLine l (written (state_ref e) us)) (sym (state-bytes (as_part e (spelled e)) r))
+      (reserved_at (codes "Ref") word.Ref refl refl refl refl (dot_at (name_at (codes "state") refl refl (open_round_at (part e (stands e h) _ _ refl (close_round_at rest))))))
 
   -- so do all the methods
   stand_methods : (ms : Methods) → AreSpellableMethods ms → StandMethods ms

@@ -1,5 +1,8 @@
 -- What the reading functions give is in the grammar.
-use Rattle.std.proofs.Common.{◌≡◌, subst, ℕ, zero, suc, List, [], ◌∷◌, length, Option, Some, None, refl, sym, ap, ◌∙◌, Bool, true, false, cond, inl, inr}
+use Rattle.std.proofs.Common.{◌≡◌, subst, ℕ, zero, suc, List, [], ◌∷◌, length, Option, Some, None, refl, sym, ap, ◌∙◌, Bool, true, false, cond, inl, inr, codes}
+use Rattle.std.specs.Str.{bytes_eq}
+use Rattle.std.proofs.lemmas.Slice.Eq.{bytes_eq-Decides}
+use Rattle.etoken.specs.Table.{entry_at}
 use Rattle.etoken.specs.declared.token.Token.{Token}
 use Rattle.etoken.specs.declared.token.Token.TheVariants as token
 use Rattle.etoken.specs.declared.token.Reserved as words
@@ -7,17 +10,19 @@ use Rattle.etoken.specs.declared.token.Reserved.TheVariants as word
 use Rattle.etoken.specs.declared.token.Sign as signs
 use Rattle.etoken.specs.declared.token.Sign.TheVariants as sign
 use Rattle.kernele.specs.declared.tree.Pattern.{Pattern}
-use Rattle.kernele.specs.Tree.{Name, Tree, null_tree, define, define_list, variable, assign, call, list_tree, hide, if_tree, while_tree, for_tree, try_tree, throw_tree, object_tree, escape_tree, Trees, none, and_then, Methods, no_methods}
+use Rattle.kernele.specs.Tree.{Name, Tree, null_tree, define, define_list, variable, assign, call, list_tree, hide, if_tree, while_tree, for_tree, try_tree, throw_tree, object_tree, escape_tree, send, when_tree, when_catch_tree, new_promise, break_ref, state_ref, Trees, none, and_then, Methods, no_methods}
 use Rattle.esigns.specs.declared.operator.Operator.{Operator}
 use Rattle.esigns.specs.declared.operator.Link.{Link}
 use Rattle.esigns.specs.declared.operator.Link.TheVariants as link
 use Rattle.esigns.specs.declared.operator.Bracket.{Bracket}
 use Rattle.esigns.specs.declared.operator.Bracket.TheVariants as bracket
 use Rattle.esigns.specs.Signs.{product_operator, sum_operator, comparison_operator, and_operator, or_operator, prefix_operator, link_of, closer}
-use Rattle.eforms.specs.Forms.{joined, prefix_verb, snoc, alone, return_tree, returning, function_tree, literal_of}
+use Rattle.eforms.specs.Forms.{joined, prefix_verb, snoc, alone, return_tree, returning, function_tree, literal_of, linked, ref_word_of}
+use Rattle.eforms.specs.declared.words.RefWord.{RefWord}
+use Rattle.eforms.specs.declared.words.RefWord.TheVariants as reference
 use Rattle.enodes.specs.Nodes.{Place, definition, definitions, new_variable, assignment, given, MethodTree, method_tree}
-use Rattle.egrammar.specs.Grammar.{put_method, Pat, pat_name, pat_ignore, Pats, pats_one, pats_and, PatList, pat_list_none, pat_list_some, Semicolons, semicolons_none, semicolons_more, Expr, expr_define, expr_define_list, expr_variable, expr_assign, expr_return, expr_return_null, expr_disjunction, Disjunction, disjunction_conjunction, disjunction_more, Conjunction, conjunction_comparison, conjunction_more, Comparison, comparison_sum, comparison_two, Sum, sum_product, sum_more, Product, product_unary, product_more, Unary, unary_postfix, unary_prefix, Postfix, postfix_primary, postfix_method, postfix_run, postfix_get, Primary, primary_int, primary_text, primary_true, primary_false, primary_null, primary_name, primary_list, primary_group, primary_hide, primary_if, primary_while, primary_for, primary_try, primary_throw, primary_escape, primary_object, primary_function, Method, method_to, method_plain, MethodList, methods_none, methods_and, Conditional, conditional_alone, conditional_else, conditional_else_if, Condition, condition, Braced, braced, Args, args_none, args_some, Items, items_one, items_and, Sequence, sequence_one, sequence_and, Block, block_empty, block_items, Program}
-use Rattle.egrammar.specs.Reading.{Read, ◌>>=◌, or_else, rest_of, is_empty, sign_in, front, is_at_word, is_def_word, is_var_word, is_if_word, is_else_word, is_in_word, is_catch_word, is_assignment, is_comma, is_semicolon, is_becomes, is_open, is_close, repeat, past, past_word, operand_next, operands_at, commas_next, commas_at, closed_at, push_pattern, Within, items_at, args_at, list_at, pattern_at, pattern_at_sign, patterns_at, pattern_list_at, bound_at, bound_list_at, assigned_at, define_one_at, define_list_at, define_at, variable_at, assign_at, target_at, is_return_word, is_to_word, is_method_word, is_definition, is_bound, begins, method_verb_at, taking_at, method_at, methods_next, methods_at, methods_past_at, members_at, function_at, escape_at, body_at, object_at, name_at, return_at, given_at, expr_at, group_at, control_at, word_at, bracket_at, primary_at, verb_at, linked_at, postfix_next, postfix_at, unary_at, product_at, sum_at, comparison_at, conjunction_at, disjunction_at, if_at, while_at, for_at, try_at, throw_at, within_at, skip_semicolons, is_block_end, separator_at, separated, block_next, block_at, block_past_at, braced_at, hide_at, condition_at, branch_at, else_at, each_at, tried_at, ended, program_at}
+use Rattle.egrammar.specs.Grammar.{put_method, Pat, pat_name, pat_ignore, Pats, pats_one, pats_and, PatList, pat_list_none, pat_list_some, Semicolons, semicolons_none, semicolons_more, Expr, expr_define, expr_define_list, expr_variable, expr_assign, expr_return, expr_return_null, expr_disjunction, Disjunction, disjunction_conjunction, disjunction_more, Conjunction, conjunction_comparison, conjunction_more, Comparison, comparison_sum, comparison_two, Sum, sum_product, sum_more, Product, product_unary, product_more, Unary, unary_postfix, unary_prefix, Postfix, postfix_primary, postfix_method, postfix_run, postfix_get, postfix_send, postfix_send_run, Primary, primary_int, primary_text, primary_true, primary_false, primary_null, primary_name, primary_list, primary_group, primary_hide, primary_if, primary_while, primary_for, primary_try, primary_throw, primary_escape, primary_object, primary_function, primary_when, primary_when_catch, primary_promise, primary_broken, primary_state, Method, method_to, method_plain, MethodList, methods_none, methods_and, Conditional, conditional_alone, conditional_else, conditional_else_if, Condition, condition, Braced, braced, Args, args_none, args_some, Items, items_one, items_and, Sequence, sequence_one, sequence_and, Block, block_empty, block_items, Program}
+use Rattle.egrammar.specs.Reading.{Read, ◌>>=◌, or_else, rest_of, is_empty, sign_in, front, is_at_word, is_def_word, is_var_word, is_if_word, is_else_word, is_in_word, is_catch_word, is_dot, is_arrow, is_assignment, is_comma, is_semicolon, is_becomes, is_open, is_close, repeat, past, past_word, operand_next, operands_at, commas_next, commas_at, closed_at, push_pattern, Within, items_at, args_at, list_at, pattern_at, pattern_at_sign, patterns_at, pattern_list_at, bound_at, bound_list_at, assigned_at, define_one_at, define_list_at, define_at, variable_at, assign_at, target_at, is_return_word, is_to_word, is_method_word, is_definition, is_bound, begins, method_verb_at, taking_at, method_at, methods_next, methods_at, methods_past_at, members_at, function_at, escape_at, body_at, object_at, name_at, return_at, given_at, expr_at, group_at, control_at, word_at, bracket_at, primary_at, verb_at, linked_at, postfix_next, postfix_at, unary_at, product_at, sum_at, comparison_at, conjunction_at, disjunction_at, if_at, while_at, for_at, try_at, throw_at, awaited_at, when_from, when_at, ref_name_at, ref_word_at, promise_at, ref_form_at, ref_at, send_verb_at, within_at, skip_semicolons, is_block_end, separator_at, separated, block_next, block_at, block_past_at, braced_at, hide_at, condition_at, branch_at, else_at, each_at, tried_at, ended, program_at}
 use Rattle.egrammar.proofs.Turns.{bind_some, or_else_is, if_is, some_same, none_some, repeat_sound}
 
 -- a sign in front
@@ -53,6 +58,14 @@ semicolon_is _ e = absurd (cc)
 becomes_is : (o : Option signs.Sign) → is_becomes o ≡ true → o ≡ Some sign.Becomes
 becomes_is (Some sign.Becomes) e = refl
 becomes_is _ e = absurd (cc)
+
+dot_is : (o : Option signs.Sign) → is_dot o ≡ true → o ≡ Some sign.Dot
+dot_is (Some sign.Dot) e = refl
+dot_is _ e = absurd (cc)
+
+arrow_is : (o : Option signs.Sign) → is_arrow o ≡ true → o ≡ Some sign.Arrow
+arrow_is (Some sign.Arrow) e = refl
+arrow_is _ e = absurd (cc)
 
 -- the opening bracket
 abbrev open_sign : Bracket → signs.Sign
@@ -151,6 +164,38 @@ verb_front a x e =
     let g = bind_some (name_at a) (past (is_open bracket.Round)) e in
     let p = past_is (is_open bracket.Round) sign.OpenRound (open_is bracket.Round) g.0 x g.2 in
     name_front a g.0 g.1 ∙ ap (λ z. token.Name g.0.0 ∷ z) p.0 ∙ ap (λ z. token.Name z ∷ token.Sign sign.OpenRound ∷ x.1) p.1
+
+-- the names with a meaning of their own behind `Ref.`
+abbrev ref_name : RefWord → Name
+ref_name reference.Promise = codes "promise"
+ref_name reference.Broken = codes "broken"
+ref_name reference.State = codes "state"
+
+-- a row of their table
+ref_row : (x w : Name) (k l : RefWord) (rows : List (Name × RefWord)) → entry_at ((w, k) ∷ rows) x ≡ Some l → ref_name k ≡ w → (entry_at rows x ≡ Some l → x ≡ ref_name l) → x ≡ ref_name l
+ref_row x w k l rows e named rest = elim (if_is (bytes_eq x w) (Some k) (entry_at rows x) e) [
+  | inl h ↦ (bytes_eq-Decides x w).0 h.0 ∙ sym named ∙ ap ref_name (some_same h.1)
+  | inr h ↦ rest h.1
+]
+
+ref_word_is : (x : Name) (k : RefWord) → ref_word_of x ≡ Some k → x ≡ ref_name k
+ref_word_is x k e =
+    ref_row x (codes "promise") reference.Promise k ((codes "broken", reference.Broken) ∷ (codes "state", reference.State) ∷ []) e refl
+    (λ e. ref_row x (codes "broken") reference.Broken k ((codes "state", reference.State) ∷ []) e refl
+    (λ e. ref_row x (codes "state") reference.State k [] e refl (λ e. absurd (none_some e))))
+
+-- such a name behind a dot in front
+ref_front : (a : List Token) (k : RefWord × List Token) → ref_word_at a ≡ Some k → a ≡ token.Sign sign.Dot ∷ token.Name (ref_name k.0) ∷ k.1
+ref_front a k e = elim (if_is (is_dot (sign_in a)) (ref_name_at (rest_of a)) None e) [
+  | inl h ↦
+      let g = bind_some (name_at (rest_of a)) (λ x. ref_word_of x.0 >>= λ k. Some (k, x.1)) h.1 in
+      let f = bind_some (ref_word_of g.0.0) (λ k. Some (k, g.0.1)) g.2 in
+      sign_front a (dot_is (sign_in a) h.0)
+      ∙ ap (λ z. token.Sign sign.Dot ∷ z) (name_front (rest_of a) g.0 g.1)
+      ∙ ap (λ z. token.Sign sign.Dot ∷ token.Name z ∷ g.0.1) (ref_word_is g.0.0 f.0 f.1)
+      ∙ ap (λ (y : RefWord × List Token). token.Sign sign.Dot ∷ token.Name (ref_name y.0) ∷ y.1) (some_same f.2)
+  | inr h ↦ absurd (none_some h.1)
+]
 
 -- a name and `:=` in front
 assigned_is : (a : List Token) (x : Name × List Token) → assigned_at a ≡ Some x → a ≡ token.Name x.0 ∷ token.Sign sign.Becomes ∷ x.1
@@ -449,6 +494,53 @@ module _ (within : Within)
       let k = bind_some (braced_at within f.0.1) (λ h. Some (try_tree g.0.0 f.0.0 h.0, h.1)) f.2 in
       subst (λ y. Primary (token.Word word.Try ∷ a) y.0 y.1) (some_same k.2) (primary_try (sound_tried a g.0 g.1) (sound_pattern g.0.1 f.0 f.1) (sound_braced f.0.1 k.0 k.1))
 
+  sound_awaited : (a : List Token) (x : Tree × List Token) → awaited_at within a ≡ Some x → Condition a x.0 (token.Sign sign.Arrow ∷ x.1)
+  sound_awaited a x e =
+      let k = bind_some (condition_at within a) (past is_arrow) e in
+      let n = past_is is_arrow sign.Arrow arrow_is k.0 x k.2 in
+      subst (λ t. Condition a t (token.Sign sign.Arrow ∷ x.1)) n.1 (subst (λ r. Condition a k.0.0 r) n.0 (sound_condition a k.0 k.1))
+
+  -- what is behind the block of a `when`
+  sound_when_from : (a b c : List Token) (t : Tree) (ts : Trees) (x : Tree × List Token) → Condition a t (token.Sign sign.Arrow ∷ b) → Braced b ts c → when_from within t ts c ≡ Some x → Primary (token.Word word.When ∷ a) x.0 x.1
+  sound_when_from a b c t ts x p q e = elim (if_is (is_at_word is_catch_word c) (pattern_at (rest_of c) >>= λ p. braced_at within p.1 >>= λ h. Some (when_catch_tree t ts p.0 h.0, h.1)) (Some (when_tree t ts, c)) e) [
+    | inl k ↦
+        let g = bind_some (pattern_at (rest_of c)) (λ p. braced_at within p.1 >>= λ h. Some (when_catch_tree t ts p.0 h.0, h.1)) k.1 in
+        let f = bind_some (braced_at within g.0.1) (λ h. Some (when_catch_tree t ts g.0.0 h.0, h.1)) g.2 in
+        subst (λ y. Primary (token.Word word.When ∷ a) y.0 y.1) (some_same f.2)
+        (primary_when_catch p (subst (λ r. Braced b ts r) (word_front is_catch_word word.Catch catch_word c k.0) q) (sound_pattern (rest_of c) g.0 g.1) (sound_braced g.0.1 f.0 f.1))
+    | inr k ↦ subst (λ y. Primary (token.Word word.When ∷ a) y.0 y.1) (some_same k.1) (primary_when p q)
+  ]
+
+  sound_when : (a : List Token) (x : Tree × List Token) → when_at within a ≡ Some x → Primary (token.Word word.When ∷ a) x.0 x.1
+  sound_when a x e =
+      let g = bind_some (awaited_at within a) (λ e. braced_at within e.1 >>= λ b. when_from within e.0 b.0 b.1) e in
+      let f = bind_some (braced_at within g.0.1) (λ b. when_from within g.0.0 b.0 b.1) g.2 in
+      sound_when_from a g.0.1 f.0.1 g.0.0 f.0.0 x (sound_awaited a g.0 g.1) (sound_braced g.0.1 f.0 f.1) f.2
+
+  sound_promise : (a : List Token) (x : Tree × List Token) → promise_at a ≡ Some x → Primary (token.Word word.Ref ∷ token.Sign sign.Dot ∷ token.Name (codes "promise") ∷ a) x.0 x.1
+  sound_promise a x e = elim (if_is (is_open bracket.Round (sign_in a)) (past (is_close bracket.Round) (new_promise, rest_of a)) None e) [
+    | inl h ↦
+        let p = past_is (is_close bracket.Round) sign.CloseRound (close_is bracket.Round) (new_promise, rest_of a) x h.1 in
+        subst (λ z. Primary (token.Word word.Ref ∷ token.Sign sign.Dot ∷ token.Name (codes "promise") ∷ z) x.0 x.1)
+        (sym (sign_front a (open_is bracket.Round (sign_in a) h.0) ∙ ap (λ z. token.Sign sign.OpenRound ∷ z) p.0))
+        (subst (λ t. Primary (token.Word word.Ref ∷ token.Sign sign.Dot ∷ token.Name (codes "promise") ∷ token.Sign sign.OpenRound ∷ token.Sign sign.CloseRound ∷ x.1) t x.1) p.1 primary_promise)
+    | inr h ↦ absurd (none_some h.1)
+  ]
+
+  sound_ref_form : (k : RefWord) (a : List Token) (x : Tree × List Token) → ref_form_at within k a ≡ Some x → Primary (token.Word word.Ref ∷ token.Sign sign.Dot ∷ token.Name (ref_name k) ∷ a) x.0 x.1
+  sound_ref_form reference.Promise a x e = sound_promise a x e
+  sound_ref_form reference.Broken a x e =
+      let g = bind_some (condition_at within a) (λ e. Some (break_ref e.0, e.1)) e in
+      subst (λ y. Primary (token.Word word.Ref ∷ token.Sign sign.Dot ∷ token.Name (codes "broken") ∷ a) y.0 y.1) (some_same g.2) (primary_broken (sound_condition a g.0 g.1))
+  sound_ref_form reference.State a x e =
+      let g = bind_some (condition_at within a) (λ e. Some (state_ref e.0, e.1)) e in
+      subst (λ y. Primary (token.Word word.Ref ∷ token.Sign sign.Dot ∷ token.Name (codes "state") ∷ a) y.0 y.1) (some_same g.2) (primary_state (sound_condition a g.0 g.1))
+
+  sound_ref : (a : List Token) (x : Tree × List Token) → ref_at within a ≡ Some x → Primary (token.Word word.Ref ∷ a) x.0 x.1
+  sound_ref a x e =
+      let g = bind_some (ref_word_at a) (λ k. ref_form_at within k.0 k.1) e in
+      subst (λ z. Primary (token.Word word.Ref ∷ z) x.0 x.1) (sym (ref_front a g.0 g.1)) (sound_ref_form g.0.0 g.0.1 x g.2)
+
   sound_throw : (a : List Token) (x : Tree × List Token) → throw_at within a ≡ Some x → Primary (token.Word word.Throw ∷ a) x.0 x.1
   sound_throw a x e =
       let g = bind_some (condition_at within a) (λ e. Some (throw_tree e.0, e.1)) e in
@@ -531,6 +623,8 @@ module _ (within : Within)
   sound_control word.Throw a x e = sound_throw a x e
   sound_control word.Escape a x e = sound_escape a x e
   sound_control word.Def a x e = sound_object a x e
+  sound_control word.When a x e = sound_when a x e
+  sound_control word.Ref a x e = sound_ref a x e
   sound_control _ a x e = absurd (none_some e)
 
   sound_word : (w : words.Reserved) (a : List Token) (x : Tree × List Token) → word_at within w a ≡ Some x → Primary (token.Word w ∷ a) x.0 x.1
@@ -576,21 +670,31 @@ module _ (within : Within)
       subst (λ w. Postfix a (call t w ts) r) n.1 (postfix_method (subst (λ z. Postfix a t (token.Sign sign.Dot ∷ token.Name w ∷ z)) n.0 s) p)
   sound_method a (_ ∷ b) c r t ts v e s p = absurd (none_some e)
 
+  sound_send : (a b c r : List Token) (t : Tree) (ts : Trees) (v : Name) → send_verb_at b ≡ Some (v, c) → Postfix a t (token.Sign sign.SendTo ∷ b) → Args c ts (token.Sign sign.CloseRound ∷ r) → Postfix a (send t v ts) r
+  sound_send a b c r t ts v e s p = elim (if_is (is_open bracket.Round (sign_in b)) (Some (codes "run", rest_of b)) (method_verb_at b) e) [
+    | inl h ↦
+        let f = sign_front b (open_is bracket.Round (sign_in b) h.0) in
+        subst (λ w. Postfix a (send t w ts) r) (ap (λ y. y.0) (some_same h.1))
+        (postfix_send_run (subst (λ z. Postfix a t (token.Sign sign.SendTo ∷ z)) f s) (subst (λ z. Args z ts (token.Sign sign.CloseRound ∷ r)) (sym (ap (λ y. y.1) (some_same h.1))) p))
+    | inr h ↦ postfix_send (subst (λ z. Postfix a t (token.Sign sign.SendTo ∷ z)) (verb_front b (v, c) h.1) s) p
+  ]
+
   sound_linked : (s : signs.Sign) (l : Link) (a b c r : List Token) (t : Tree) (ts : Trees) (v : Name)
-      → link_of s ≡ Some l → verb_at l b ≡ Some (v, c) → Postfix a t (token.Sign s ∷ b) → Args c ts (token.Sign (close_sign (closer l)) ∷ r) → Postfix a (call t v ts) r
+      → link_of s ≡ Some l → verb_at l b ≡ Some (v, c) → Postfix a t (token.Sign s ∷ b) → Args c ts (token.Sign (close_sign (closer l)) ∷ r) → Postfix a (linked l t v ts) r
   sound_linked sign.Dot link.Method a b c r t ts v k e s p = sound_method a b c r t ts v e s p
   sound_linked sign.OpenRound link.Run a b c r t ts v k e s p =
       subst (λ w. Postfix a (call t w ts) r) (ap (λ y. y.0) (some_same e)) (postfix_run s (subst (λ z. Args z ts (token.Sign sign.CloseRound ∷ r)) (sym (ap (λ y. y.1) (some_same e))) p))
   sound_linked sign.OpenSquare link.Index a b c r t ts v k e s p =
       subst (λ w. Postfix a (call t w ts) r) (ap (λ y. y.0) (some_same e)) (postfix_get s (subst (λ z. Args z ts (token.Sign sign.CloseSquare ∷ r)) (sym (ap (λ y. y.1) (some_same e))) p))
+  sound_linked sign.SendTo link.Send a b c r t ts v k e s p = sound_send a b c r t ts v e s p
   sound_linked _ _ a b c r t ts v k e s p = absurd (cc)
 
   postfix_step : (a : List Token) (t : Tree) (b : List Token) (turn : Read Tree) (x : Tree × List Token) → postfix_next within t b ≡ Some turn → turn ≡ Some x → Postfix a t b → Postfix a x.0 x.1
   postfix_step a t b turn x e k s = elim (or_else_is (front link_of b) None (λ l. Some (linked_at within l t (rest_of b))) e) [
     | inl h ↦ absurd (none_some h.1)
     | inr h ↦
-        let g = bind_some (verb_at h.0 (rest_of b)) (λ v. args_at within (closer h.0) v.1 >>= λ y. Some (call t v.0 y.0, y.1)) (some_same h.2 ∙ k) in
-        let f = bind_some (args_at within (closer h.0) g.0.1) (λ y. Some (call t g.0.0 y.0, y.1)) g.2 in
+        let g = bind_some (verb_at h.0 (rest_of b)) (λ v. args_at within (closer h.0) v.1 >>= λ y. Some (linked h.0 t v.0 y.0, y.1)) (some_same h.2 ∙ k) in
+        let f = bind_some (args_at within (closer h.0) g.0.1) (λ y. Some (linked h.0 t g.0.0 y.0, y.1)) g.2 in
         let i = front_is link_of b h.1 in
         subst (λ y. Postfix a y.0 y.1) (some_same f.2)
         (sound_linked i.0 h.0 a (rest_of b) g.0.1 f.0.1 t f.0.0 g.0.0 i.2 g.1 (subst (λ r. Postfix a t r) i.1 s) (sound_args (closer h.0) g.0.1 f.0 f.1))

@@ -24,7 +24,7 @@ use Rattle.esigns.specs.declared.operator.Prefix.{Prefix}
 use Rattle.esigns.specs.declared.operator.Prefix.TheVariants as prefix
 use Rattle.eforms.specs.Forms.{joined, prefix_verb, snoc, returning}
 use Rattle.enodes.specs.Nodes.{MethodTree, method_tree}
-use Rattle.egrammar.specs.Grammar.{put_method, Pat, pat_name, pat_ignore, Pats, pats_one, pats_and, PatList, pat_list_none, pat_list_some, Semicolons, semicolons_none, semicolons_more, Expr, expr_define, expr_define_list, expr_variable, expr_assign, expr_return, expr_return_null, expr_disjunction, Disjunction, disjunction_conjunction, disjunction_more, Conjunction, conjunction_comparison, conjunction_more, Comparison, comparison_sum, comparison_two, Sum, sum_product, sum_more, Product, product_unary, product_more, Unary, unary_postfix, unary_prefix, Postfix, postfix_primary, postfix_method, postfix_run, postfix_get, Primary, primary_int, primary_text, primary_true, primary_false, primary_null, primary_name, primary_list, primary_group, primary_hide, primary_if, primary_while, primary_for, primary_try, primary_throw, primary_escape, primary_object, primary_function, Method, method_to, method_plain, MethodList, methods_none, methods_and, Conditional, conditional_alone, conditional_else, conditional_else_if, Condition, condition, Braced, braced, Args, args_none, args_some, Items, items_one, items_and, Sequence, sequence_one, sequence_and, Block, block_empty, block_items}
+use Rattle.egrammar.specs.Grammar.{put_method, Pat, pat_name, pat_ignore, Pats, pats_one, pats_and, PatList, pat_list_none, pat_list_some, Semicolons, semicolons_none, semicolons_more, Expr, expr_define, expr_define_list, expr_variable, expr_assign, expr_return, expr_return_null, expr_disjunction, Disjunction, disjunction_conjunction, disjunction_more, Conjunction, conjunction_comparison, conjunction_more, Comparison, comparison_sum, comparison_two, Sum, sum_product, sum_more, Product, product_unary, product_more, Unary, unary_postfix, unary_prefix, Postfix, postfix_primary, postfix_method, postfix_run, postfix_get, postfix_send, postfix_send_run, Primary, primary_int, primary_text, primary_true, primary_false, primary_null, primary_name, primary_list, primary_group, primary_hide, primary_if, primary_while, primary_for, primary_try, primary_throw, primary_escape, primary_object, primary_function, primary_when, primary_when_catch, primary_promise, primary_broken, primary_state, Method, method_to, method_plain, MethodList, methods_none, methods_and, Conditional, conditional_alone, conditional_else, conditional_else_if, Condition, condition, Braced, braced, Args, args_none, args_some, Items, items_one, items_and, Sequence, sequence_one, sequence_and, Block, block_empty, block_items}
 use Rattle.egrammar.specs.View.{plain}
 use Rattle.egrammar.specs.Spelled.{CutInto, cut_into, SpelledBy, IsName, HasLiteral, BindsName, BindNames, IsSpellable, AreSpellable, AreSpellableMethods}
 use Rattle.egrammar.proofs.Retold.{spells_itself}
@@ -219,6 +219,14 @@ mutual
       let p = postfix x h in
       let q = args y p.1.1 in
       ((p.0, refl, q.0), q.1.1)
+  postfix (postfix_send x y) = λ h.
+      let p = postfix x h in
+      let q = args y p.1.1.1.1 in
+      ((p.0, p.1.1.0, q.0), q.1.1)
+  postfix (postfix_send_run x y) = λ h.
+      let p = postfix x h in
+      let q = args y p.1.1.1 in
+      ((p.0, refl, q.0), q.1.1)
 
   primary : {a r : List Token} {t : Tree} → Primary a t r → Keeps a (IsSpellable t) r
   primary primary_int = λ h. h
@@ -256,6 +264,19 @@ mutual
       let q = pat_list_spellable x p.1.1 in
       let b = in_curly y q.1.1 in
       ((p.0, (refl, q.0, returning_spellable ts b.0, tt)), b.1)
+  primary (primary_when x y) = λ h.
+      let p = in_round x h.1 in
+      let q = in_curly y p.1.1 in
+      ((p.0, q.0), q.1)
+  primary (primary_when_catch x y o z) = λ h.
+      let p = in_round x h.1 in
+      let q = in_curly y p.1.1 in
+      let k = pat_spellable o q.1.1 in
+      let b = in_curly z k.1 in
+      ((p.0, q.0, k.0, b.0), b.1)
+  primary primary_promise = λ h. (tt, h.1.1.1.1.1)
+  primary (primary_broken x) = λ h. in_round x h.1.1.1
+  primary (primary_state x) = λ h. in_round x h.1.1.1
 
   method : {a r : List Token} {m : MethodTree} → Method a m r → Keeps a (IsSpellableMethod m) r
   method (method_to {ts = ts} x y) = λ h.

@@ -15,8 +15,8 @@ use Rattle.esigns.specs.declared.operator.Bracket.{Bracket}
 use Rattle.esigns.specs.declared.operator.Bracket.TheVariants as bracket
 use Rattle.enodes.specs.Nodes.{MethodTree}
 use Rattle.esigns.specs.Signs.{product_operator, sum_operator, comparison_operator, and_operator, or_operator, prefix_operator, link_of}
-use Rattle.egrammar.specs.Grammar.{Pat, pat_name, pat_ignore, Pats, pats_one, pats_and, PatList, pat_list_none, pat_list_some, Semicolons, semicolons_none, semicolons_more, Expr, expr_define, expr_define_list, expr_variable, expr_assign, expr_return, expr_return_null, expr_disjunction, Disjunction, disjunction_conjunction, disjunction_more, Conjunction, conjunction_comparison, conjunction_more, Comparison, comparison_sum, comparison_two, Sum, sum_product, sum_more, Product, product_unary, product_more, Unary, unary_postfix, unary_prefix, Postfix, postfix_primary, postfix_method, postfix_run, postfix_get, Primary, primary_int, primary_text, primary_true, primary_false, primary_null, primary_name, primary_list, primary_group, primary_hide, primary_if, primary_while, primary_for, primary_try, primary_throw, primary_escape, primary_object, primary_function, Method, method_to, method_plain, MethodList, methods_none, methods_and, Conditional, conditional_alone, conditional_else, conditional_else_if, Condition, condition, Braced, braced, Args, args_none, args_some, Items, items_one, items_and, Sequence, sequence_one, sequence_and, Block, block_empty, block_items}
-use Rattle.egrammar.specs.Reading.{sign_in, front, is_at_word, is_var_word, is_else_word, is_return_word, is_method_word, begins, begins_word, begins_sign, is_bound, is_definition, is_assignment, is_semicolon, is_becomes, is_open, is_close, is_block_end}
+use Rattle.egrammar.specs.Grammar.{Pat, pat_name, pat_ignore, Pats, pats_one, pats_and, PatList, pat_list_none, pat_list_some, Semicolons, semicolons_none, semicolons_more, Expr, expr_define, expr_define_list, expr_variable, expr_assign, expr_return, expr_return_null, expr_disjunction, Disjunction, disjunction_conjunction, disjunction_more, Conjunction, conjunction_comparison, conjunction_more, Comparison, comparison_sum, comparison_two, Sum, sum_product, sum_more, Product, product_unary, product_more, Unary, unary_postfix, unary_prefix, Postfix, postfix_primary, postfix_method, postfix_run, postfix_get, postfix_send, postfix_send_run, Primary, primary_int, primary_text, primary_true, primary_false, primary_null, primary_name, primary_list, primary_group, primary_hide, primary_if, primary_while, primary_for, primary_try, primary_throw, primary_escape, primary_object, primary_function, primary_when, primary_when_catch, primary_promise, primary_broken, primary_state, Method, method_to, method_plain, MethodList, methods_none, methods_and, Conditional, conditional_alone, conditional_else, conditional_else_if, Condition, condition, Braced, braced, Args, args_none, args_some, Items, items_one, items_and, Sequence, sequence_one, sequence_and, Block, block_empty, block_items}
+use Rattle.egrammar.specs.Reading.{sign_in, front, is_at_word, is_var_word, is_else_word, is_catch_word, is_return_word, is_method_word, begins, begins_word, begins_sign, is_bound, is_definition, is_assignment, is_semicolon, is_becomes, is_open, is_close, is_block_end}
 use Rattle.egrammar.proofs.Turns.{none_some}
 
 pub less_pat : {a r : List Token} {p : Pattern} → Pat a p r → length r < length a
@@ -75,6 +75,8 @@ mutual
   less_postfix (postfix_method s p) = omega (arith, less_postfix s, less_args p)
   less_postfix (postfix_run s p) = omega (arith, less_postfix s, less_args p)
   less_postfix (postfix_get s p) = omega (arith, less_postfix s, less_args p)
+  less_postfix (postfix_send s p) = omega (arith, less_postfix s, less_args p)
+  less_postfix (postfix_send_run s p) = omega (arith, less_postfix s, less_args p)
 
   pub less_primary : {a r : List Token} {t : Tree} → Primary a t r → length r < length a
   less_primary primary_int = omega arith
@@ -94,6 +96,11 @@ mutual
   less_primary (primary_escape x) = omega (arith, less_braced x)
   less_primary (primary_object p x) = omega (arith, less_pat p, less_methods x)
   less_primary (primary_function p q x) = omega (arith, less_pat p, less_pat_list q, less_braced x)
+  less_primary (primary_when x y) = omega (arith, less_condition x, less_braced y)
+  less_primary (primary_when_catch x y p z) = omega (arith, less_condition x, less_braced y, less_pat p, less_braced z)
+  less_primary primary_promise = omega arith
+  less_primary (primary_broken x) = omega (arith, less_condition x)
+  less_primary (primary_state x) = omega (arith, less_condition x)
 
   pub less_method : {a r : List Token} {m : MethodTree} → Method a m r → length r < length a
   less_method (method_to p x) = omega (arith, less_pat_list p, less_braced x)
@@ -135,6 +142,7 @@ abbrev pub sign_strength : signs.Sign → ℕ
 sign_strength sign.Dot = 6
 sign_strength sign.OpenRound = 6
 sign_strength sign.OpenSquare = 6
+sign_strength sign.SendTo = 6
 sign_strength sign.Times = 5
 sign_strength sign.Divide = 5
 sign_strength sign.Plus = 4
@@ -150,9 +158,10 @@ sign_strength sign.Or = 1
 sign_strength sign.Becomes = 1
 sign_strength _ = 0
 
--- `else` binds most tightly
+-- `else` and `catch` bind most tightly
 abbrev pub word_strength : words.Reserved → ℕ
 word_strength word.Else = 7
+word_strength word.Catch = 7
 word_strength _ = 0
 
 abbrev pub strength : List Token → ℕ
@@ -196,6 +205,7 @@ pub link_none : (s : signs.Sign) → sign_strength s < 6 → link_of s ≡ None
 link_none sign.Dot h = absurd (omega (arith, h))
 link_none sign.OpenRound h = absurd (omega (arith, h))
 link_none sign.OpenSquare h = absurd (omega (arith, h))
+link_none sign.SendTo h = absurd (omega (arith, h))
 link_none _ h = refl
 
 -- signs that bind more loosely are not what is looked for
@@ -212,6 +222,15 @@ pub no_else : (a : List Token) → Below 7 a → is_at_word is_else_word a ≡ f
 no_else [] b = refl
 no_else (token.Word w ∷ a) b = no_else_word w b
 no_else (_ ∷ a) b = refl
+
+no_catch_word : (w : words.Reserved) → word_strength w < 7 → is_catch_word w ≡ false
+no_catch_word word.Catch h = absurd (omega (arith, h))
+no_catch_word _ h = refl
+
+pub no_catch : (a : List Token) → Below 7 a → is_at_word is_catch_word a ≡ false
+no_catch [] b = refl
+no_catch (token.Word w ∷ a) b = no_catch_word w b
+no_catch (_ ∷ a) b = refl
 
 pub product_strength : (s : signs.Sign) {o : Operator} → product_operator s ≡ Some o → sign_strength s < 6
 product_strength sign.Times e = omega arith
@@ -260,6 +279,8 @@ word_start word.For _ = 2
 word_start word.Try _ = 2
 word_start word.Throw _ = 2
 word_start word.Escape _ = 2
+word_start word.When _ = 2
+word_start word.Ref _ = 2
 word_start _ _ = 0
 
 -- 0: not with an expression's token; 1: with an operator before an operand; 2: with any other
@@ -344,6 +365,8 @@ begins_at_word word.Escape a h = refl
 begins_at_word word.Try a h = refl
 begins_at_word word.Throw a h = refl
 begins_at_word word.Def a h = refl
+begins_at_word word.When a h = refl
+begins_at_word word.Ref a h = refl
 begins_at_word _ a h = absurd (omega (arith, h))
 
 begins_at_sign : (s : signs.Sign) → 0 < sign_start s → begins_sign s ≡ true
@@ -398,12 +421,19 @@ start_primary (primary_throw x) = refl
 start_primary (primary_escape x) = refl
 start_primary (primary_object p x) = start_object p refl
 start_primary (primary_function p q x) = start_object p refl
+start_primary (primary_when x y) = refl
+start_primary (primary_when_catch x y p z) = refl
+start_primary primary_promise = refl
+start_primary (primary_broken x) = refl
+start_primary (primary_state x) = refl
 
 pub start_postfix : {a r : List Token} {t : Tree} → Postfix a t r → start a ≡ 2
 start_postfix (postfix_primary p) = start_primary p
 start_postfix (postfix_method s p) = start_postfix s
 start_postfix (postfix_run s p) = start_postfix s
 start_postfix (postfix_get s p) = start_postfix s
+start_postfix (postfix_send s p) = start_postfix s
+start_postfix (postfix_send_run s p) = start_postfix s
 
 start_unary : {a r : List Token} {t : Tree} → Unary a t r → 0 < start a
 start_unary (unary_postfix p) = omega (arith, start_postfix p)
@@ -460,12 +490,19 @@ stops_primary (primary_throw x) h = absurd (cc)
 stops_primary (primary_escape x) h = absurd (cc)
 stops_primary (primary_object p x) h = absurd (cc)
 stops_primary (primary_function p q x) h = absurd (cc)
+stops_primary (primary_when x y) h = absurd (cc)
+stops_primary (primary_when_catch x y p z) h = absurd (cc)
+stops_primary primary_promise h = absurd (cc)
+stops_primary (primary_broken x) h = absurd (cc)
+stops_primary (primary_state x) h = absurd (cc)
 
 stops_postfix : {a r : List Token} {t : Tree} → Postfix a t r → is_assignment a ≡ true → is_becomes (sign_in r) ≡ true
 stops_postfix (postfix_primary p) h = stops_primary p h
 stops_postfix (postfix_method s p) h = absurd (true_false (stops_postfix s h) refl)
 stops_postfix (postfix_run s p) h = absurd (true_false (stops_postfix s h) refl)
 stops_postfix (postfix_get s p) h = absurd (true_false (stops_postfix s h) refl)
+stops_postfix (postfix_send s p) h = absurd (true_false (stops_postfix s h) refl)
+stops_postfix (postfix_send_run s p) h = absurd (true_false (stops_postfix s h) refl)
 
 stops_unary : {a r : List Token} {t : Tree} → Unary a t r → is_assignment a ≡ true → is_becomes (sign_in r) ≡ true
 stops_unary (unary_postfix p) h = stops_postfix p h

@@ -7,7 +7,7 @@ use Rattle.etoken.specs.declared.token.Sign as signs
 use Rattle.etoken.specs.declared.token.Sign.TheVariants as sign
 use Rattle.kernele.specs.declared.tree.Pattern.{Pattern}
 use Rattle.kernele.specs.declared.tree.Pattern.TheVariants as pattern
-use Rattle.kernele.specs.Tree.{Name, Tree, null_tree, bool_tree, int_tree, text_tree, noun, define, variable, assign, call, list_tree, define_list, hide, if_tree, while_tree, for_tree, try_tree, throw_tree, object_tree, escape_tree, Trees, none, and_then, Methods, no_methods, and_method}
+use Rattle.kernele.specs.Tree.{Name, Tree, null_tree, bool_tree, int_tree, text_tree, noun, define, variable, assign, call, list_tree, define_list, hide, if_tree, while_tree, for_tree, try_tree, throw_tree, object_tree, escape_tree, send, when_tree, when_catch_tree, new_promise, break_ref, state_ref, Trees, none, and_then, Methods, no_methods, and_method}
 use Rattle.esigns.specs.declared.operator.Operator.{Operator}
 use Rattle.esigns.specs.declared.operator.Prefix.{Prefix}
 use Rattle.esigns.specs.Signs.{product_operator, sum_operator, comparison_operator, and_operator, or_operator, prefix_operator}
@@ -44,6 +44,12 @@ open_curly = token.Sign sign.OpenCurly
 
 abbrev pub close_curly : Token
 close_curly = token.Sign sign.CloseCurly
+
+abbrev pub send_to : Token
+send_to = token.Sign sign.SendTo
+
+abbrev pub arrow : Token
+arrow = token.Sign sign.Arrow
 
 abbrev pub underscore : Token
 underscore = token.Sign sign.Underscore
@@ -124,7 +130,7 @@ mutual
     unary_prefix : {a r : List Token} {t : Tree} {s : signs.Sign} {o : Prefix}
         → prefix_operator s ≡ Some o → Postfix a t r → Unary (token.Sign s ∷ a) (call t (prefix_verb o) none) r
 
-  -- calls of what stands before them
+  -- calls of what stands before them, and messages to it
   pub data Postfix : List Token → Tree → List Token → Type 0 where
     postfix_primary : {a r : List Token} {t : Tree} → Primary a t r → Postfix a t r
     postfix_method : {a b r : List Token} {t : Tree} {verb : Name} {ts : Trees}
@@ -133,6 +139,10 @@ mutual
         → Postfix a t (open_round ∷ b) → Args b ts (close_round ∷ r) → Postfix a (call t (codes "run") ts) r
     postfix_get : {a b r : List Token} {t : Tree} {ts : Trees}
         → Postfix a t (open_square ∷ b) → Args b ts (close_square ∷ r) → Postfix a (call t (codes "get") ts) r
+    postfix_send : {a b r : List Token} {t : Tree} {verb : Name} {ts : Trees}
+        → Postfix a t (send_to ∷ token.Name verb ∷ open_round ∷ b) → Args b ts (close_round ∷ r) → Postfix a (send t verb ts) r
+    postfix_send_run : {a b r : List Token} {t : Tree} {ts : Trees}
+        → Postfix a t (send_to ∷ open_round ∷ b) → Args b ts (close_round ∷ r) → Postfix a (send t (codes "run") ts) r
 
   pub data Primary : List Token → Tree → List Token → Type 0 where
     primary_int : {r : List Token} {z : ℤ} → Primary (token.Int z ∷ r) (int_tree z) r
@@ -163,6 +173,17 @@ mutual
         → Pat a p (open_curly ∷ b) → MethodList b ms (close_curly ∷ r) → Primary (token.Word word.Def ∷ a) (object_tree p ms) r
     primary_function : {a b c r : List Token} {p : Pattern} {ps : List Pattern} {ts : Trees}
         → Pat a p (open_round ∷ b) → PatList b ps (close_round ∷ c) → Braced c ts r → Primary (token.Word word.Def ∷ a) (function_tree p ps ts) r
+    primary_when : {a b r : List Token} {t : Tree} {ts : Trees}
+        → Condition a t (arrow ∷ b) → Braced b ts r → Primary (token.Word word.When ∷ a) (when_tree t ts) r
+    primary_when_catch : {a b c d r : List Token} {p : Pattern} {t : Tree} {ts us : Trees}
+        → Condition a t (arrow ∷ b) → Braced b ts (token.Word word.Catch ∷ c) → Pat c p d → Braced d us r
+        → Primary (token.Word word.When ∷ a) (when_catch_tree t ts p us) r
+    primary_promise : {r : List Token}
+        → Primary (token.Word word.Ref ∷ dot ∷ token.Name (codes "promise") ∷ open_round ∷ close_round ∷ r) new_promise r
+    primary_broken : {a r : List Token} {t : Tree}
+        → Condition a t r → Primary (token.Word word.Ref ∷ dot ∷ token.Name (codes "broken") ∷ a) (break_ref t) r
+    primary_state : {a r : List Token} {t : Tree}
+        → Condition a t r → Primary (token.Word word.Ref ∷ dot ∷ token.Name (codes "state") ∷ a) (state_ref t) r
 
   -- a method
   pub data Method : List Token → MethodTree → List Token → Type 0 where

@@ -1,5 +1,5 @@
 -- What each part of the reader gives, as a function of the tokens: a tree and what is after it, or nothing.
-use Rattle.std.specs.Prelude.{Bool, true, false, cond, ℕ, zero, suc, List, [], ◌∷◌, ◌++◌, length, Option, Some, None}
+use Rattle.std.specs.Prelude.{Bool, true, false, cond, ℕ, zero, suc, List, [], ◌∷◌, ◌++◌, length, Option, Some, None, codes}
 use Rattle.etoken.specs.declared.token.Token.{Token}
 use Rattle.etoken.specs.declared.token.Token.TheVariants as token
 use Rattle.etoken.specs.declared.token.Reserved as words
@@ -8,13 +8,15 @@ use Rattle.etoken.specs.declared.token.Sign as signs
 use Rattle.etoken.specs.declared.token.Sign.TheVariants as sign
 use Rattle.kernele.specs.declared.tree.Pattern.{Pattern}
 use Rattle.kernele.specs.declared.tree.Pattern.TheVariants as pattern
-use Rattle.kernele.specs.Tree.{Name, Tree, null_tree, int_tree, text_tree, noun, call, list_tree, hide, if_tree, while_tree, for_tree, try_tree, throw_tree, object_tree, escape_tree, Trees, none, and_then, Methods, no_methods}
+use Rattle.kernele.specs.Tree.{Name, Tree, null_tree, int_tree, text_tree, noun, call, list_tree, hide, if_tree, while_tree, for_tree, try_tree, throw_tree, object_tree, escape_tree, when_tree, when_catch_tree, new_promise, break_ref, state_ref, Trees, none, and_then, Methods, no_methods}
 use Rattle.esigns.specs.declared.operator.Operator.{Operator}
 use Rattle.esigns.specs.declared.operator.Link.{Link}
 use Rattle.esigns.specs.declared.operator.Bracket.{Bracket}
 use Rattle.esigns.specs.declared.operator.Bracket.TheVariants as bracket
-use Rattle.esigns.specs.Signs.{product_operator, sum_operator, comparison_operator, and_operator, or_operator, prefix_operator, link_of, verb_of, closer}
-use Rattle.eforms.specs.Forms.{joined, prefix_verb, snoc, alone, return_tree, function_tree, literal_of, block_of}
+use Rattle.esigns.specs.Signs.{product_operator, sum_operator, comparison_operator, and_operator, or_operator, prefix_operator, link_of, is_send, verb_of, closer}
+use Rattle.eforms.specs.Forms.{joined, prefix_verb, linked, snoc, alone, return_tree, function_tree, literal_of, ref_word_of, block_of}
+use Rattle.eforms.specs.declared.words.RefWord.{RefWord}
+use Rattle.eforms.specs.declared.words.RefWord.TheVariants as reference
 use Rattle.enodes.specs.Nodes.{Place, definition, definitions, new_variable, assignment, given, MethodTree, method_tree}
 use Rattle.egrammar.specs.Grammar.{put_method}
 
@@ -103,6 +105,8 @@ begins_word word.Escape = true
 begins_word word.Try = true
 begins_word word.Throw = true
 begins_word word.Def = true
+begins_word word.When = true
+begins_word word.Ref = true
 begins_word _ = false
 
 -- a sign that an operand begins with, or that stands before one
@@ -141,6 +145,14 @@ is_semicolon _ = false
 abbrev pub is_becomes : Option signs.Sign → Bool
 is_becomes (Some sign.Becomes) = true
 is_becomes _ = false
+
+abbrev pub is_dot : Option signs.Sign → Bool
+is_dot (Some sign.Dot) = true
+is_dot _ = false
+
+abbrev pub is_arrow : Option signs.Sign → Bool
+is_arrow (Some sign.Arrow) = true
+is_arrow _ = false
 
 -- a name and the sign behind it are in front
 abbrev pub is_assignment : List Token → Bool
@@ -377,6 +389,43 @@ tried_at within a = braced_at within a >>= past_word is_catch_word
 abbrev pub try_at : Within → List Token → Read Tree
 try_at within a = tried_at within a >>= λ b. pattern_at b.1 >>= λ p. braced_at within p.1 >>= λ h. Some (try_tree b.0 p.0 h.0, h.1)
 
+-- the value of a `when` and the arrow behind it
+abbrev pub awaited_at : Within → List Token → Read Tree
+awaited_at within a = condition_at within a >>= past is_arrow
+
+-- the `catch` behind the block of a `when`, if there is one
+abbrev pub when_from : Within → Tree → Trees → List Token → Read Tree
+when_from within t ts a =
+    cond (is_at_word is_catch_word a)
+    (pattern_at (rest_of a) >>= λ p. braced_at within p.1 >>= λ h. Some (when_catch_tree t ts p.0 h.0, h.1))
+    (Some (when_tree t ts, a))
+
+-- what stands behind `when`
+abbrev pub when_at : Within → List Token → Read Tree
+when_at within a = awaited_at within a >>= λ e. braced_at within e.1 >>= λ b. when_from within e.0 b.0 b.1
+
+-- a name with a meaning of its own behind `Ref.`
+abbrev pub ref_name_at : List Token → Read RefWord
+ref_name_at a = name_at a >>= λ x. ref_word_of x.0 >>= λ k. Some (k, x.1)
+
+-- the `.` before it, and the name
+abbrev pub ref_word_at : List Token → Read RefWord
+ref_word_at a = cond (is_dot (sign_in a)) (ref_name_at (rest_of a)) None
+
+-- round brackets with nothing in them
+abbrev pub promise_at : List Token → Read Tree
+promise_at a = cond (is_open bracket.Round (sign_in a)) (past (is_close bracket.Round) (new_promise, rest_of a)) None
+
+-- what stands behind that name
+abbrev pub ref_form_at : Within → RefWord → List Token → Read Tree
+ref_form_at within reference.Promise a = promise_at a
+ref_form_at within reference.Broken a = condition_at within a >>= λ e. Some (break_ref e.0, e.1)
+ref_form_at within reference.State a = condition_at within a >>= λ e. Some (state_ref e.0, e.1)
+
+-- what stands behind `Ref`
+abbrev pub ref_at : Within → List Token → Read Tree
+ref_at within a = ref_word_at a >>= λ k. ref_form_at within k.0 k.1
+
 -- what stands behind `throw`
 abbrev pub throw_at : Within → List Token → Read Tree
 throw_at within a = condition_at within a >>= λ e. Some (throw_tree e.0, e.1)
@@ -436,6 +485,8 @@ control_at within word.Try a = try_at within a
 control_at within word.Throw a = throw_at within a
 control_at within word.Escape a = escape_at within a
 control_at within word.Def a = object_at within a
+control_at within word.When a = when_at within a
+control_at within word.Ref a = ref_at within a
 control_at within _ a = None
 
 abbrev pub word_at : Within → words.Reserved → List Token → Read Tree
@@ -455,13 +506,21 @@ primary_at within (token.Name x ∷ a) = Some (noun x, a)
 primary_at within (token.Word w ∷ a) = word_at within w a
 primary_at within (token.Sign s ∷ a) = bracket_at within s a
 
+-- the verb of a send, up to the arguments: where no name stands for it, `run`
+abbrev pub send_verb_at : List Token → Read Name
+send_verb_at a = cond (is_open bracket.Round (sign_in a)) (Some (codes "run", rest_of a)) (method_verb_at a)
+
+-- that of a call
+abbrev pub call_verb_at : Link → List Token → Read Name
+call_verb_at l a = or_else (verb_of l) (method_verb_at a) (λ v. Some (v, a))
+
 -- the verb, up to the arguments
 abbrev pub verb_at : Link → List Token → Read Name
-verb_at l a = or_else (verb_of l) (method_verb_at a) (λ v. Some (v, a))
+verb_at l a = cond (is_send l) (send_verb_at a) (call_verb_at l a)
 
--- a call of t, behind what makes it one
+-- a call of t or a message to it, behind what makes it one
 abbrev pub linked_at : Within → Link → Tree → List Token → Read Tree
-linked_at within l t a = verb_at l a >>= λ v. args_at within (closer l) v.1 >>= λ x. Some (call t v.0 x.0, x.1)
+linked_at within l t a = verb_at l a >>= λ v. args_at within (closer l) v.1 >>= λ x. Some (linked l t v.0 x.0, x.1)
 
 abbrev pub postfix_next : Within → Tree → List Token → Option (Read Tree)
 postfix_next within t a = or_else (front link_of a) None (λ l. Some (linked_at within l t (rest_of a)))

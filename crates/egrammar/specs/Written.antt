@@ -1,5 +1,5 @@
 -- The tokens of the canonical spelling.
-use Rattle.std.specs.Prelude.{Bool, true, false, not, List, [], ◌∷◌, map}
+use Rattle.std.specs.Prelude.{Bool, true, false, not, List, [], ◌∷◌, map, codes}
 use Rattle.etoken.specs.declared.token.Token.{Token}
 use Rattle.etoken.specs.declared.token.Token.TheVariants as token
 use Rattle.etoken.specs.declared.token.Reserved as words
@@ -7,9 +7,9 @@ use Rattle.etoken.specs.declared.token.Reserved.TheVariants as word
 use Rattle.etoken.specs.declared.token.Sign.TheVariants as sign
 use Rattle.kernele.specs.declared.tree.Pattern.{Pattern}
 use Rattle.kernele.specs.declared.tree.Pattern.TheVariants as pattern
-use Rattle.egrammar.specs.Grammar.{dot, comma, semicolon, becomes, open_round, close_round, open_square, close_square, open_curly, close_curly, underscore}
+use Rattle.egrammar.specs.Grammar.{dot, comma, semicolon, becomes, open_round, close_round, open_square, close_square, open_curly, close_curly, send_to, arrow, underscore}
 use Rattle.kernele.specs.Spelling.{needs_brackets, is_bare_receiver}
-use Rattle.kernele.specs.Tree.{Name, Tree, null_tree, bool_tree, int_tree, text_tree, noun, define, variable, assign, call, list_tree, same_tree, define_list, hide, if_tree, while_tree, for_tree, try_tree, throw_tree, object_tree, escape_tree, Trees, none, and_then, Methods, no_methods, and_method}
+use Rattle.kernele.specs.Tree.{Name, Tree, null_tree, bool_tree, int_tree, text_tree, noun, define, variable, assign, call, list_tree, same_tree, define_list, hide, if_tree, while_tree, for_tree, try_tree, throw_tree, object_tree, escape_tree, send, when_tree, when_catch_tree, new_promise, break_ref, state_ref, Trees, none, and_then, Methods, no_methods, and_method}
 
 -- tokens put before others
 abbrev pub Before : Type 0
@@ -90,6 +90,19 @@ abbrev mutual
       token.Word word.Throw ∷ open_round ∷ bracketed (needs_brackets e) (written e) (close_round ∷ r)
   written (object_tree p ms) r = token.Word word.Def ∷ bound p ∷ open_curly ∷ written_methods ms (close_curly ∷ r)
   written (escape_tree x body) r = token.Word word.Escape ∷ token.Name x ∷ in_braces (written_items body) r
+  written (send t verb ts) r =
+      bracketed (not (is_bare_receiver t)) (written t)
+      (send_to ∷ token.Name verb ∷ open_round ∷ between comma (written_parts ts) (close_round ∷ r))
+  written (when_tree e body) r =
+      token.Word word.When ∷ open_round ∷ bracketed (needs_brackets e) (written e) (close_round ∷ arrow ∷ in_braces (written_items body) r)
+  written (when_catch_tree e body p handler) r =
+      token.Word word.When ∷ open_round ∷ bracketed (needs_brackets e) (written e)
+      (close_round ∷ arrow ∷ in_braces (written_items body) (token.Word word.Catch ∷ bound p ∷ in_braces (written_items handler) r))
+  written new_promise r = token.Word word.Ref ∷ dot ∷ token.Name (codes "promise") ∷ open_round ∷ close_round ∷ r
+  written (break_ref e) r =
+      token.Word word.Ref ∷ dot ∷ token.Name (codes "broken") ∷ open_round ∷ bracketed (needs_brackets e) (written e) (close_round ∷ r)
+  written (state_ref e) r =
+      token.Word word.Ref ∷ dot ∷ token.Name (codes "state") ∷ open_round ∷ bracketed (needs_brackets e) (written e) (close_round ∷ r)
 
   -- the methods of an object
   pub written_methods : Methods → Before

@@ -1,14 +1,14 @@
 -- What nodes stand for.
-use Rattle.std.proofs.Common.{◌≡◌, List, [], ◌∷◌, ◌++◌, ℕ, refl, ap, ◌∙◌}
+use Rattle.std.proofs.Common.{◌≡◌, List, ℕ, ap, ◌∙◌}
 use Rattle.std.specs.declared.sync.Arc.{Arc}
 use Rattle.std.specs.declared.vec.Vec.{Vec}
 use Rattle.std.specs.declared.alloc.Global.{Global}
-use Rattle.kernele.specs.Tree.{Name, and_then, call, list_tree, hide, if_tree, while_tree, for_tree, try_tree, object_tree, escape_tree}
+use Rattle.kernele.specs.Tree.{Name, call, list_tree, hide, if_tree, while_tree, for_tree, try_tree, object_tree, escape_tree, send, when_tree, when_catch_tree}
 use Rattle.kernele.specs.View.{tree_of, trees_of, methods_of}
 use Rattle.kernele.specs.declared.tree.Expr as code
 use Rattle.kernele.specs.declared.tree.Pattern.{Pattern}
 use Rattle.kernele.specs.declared.tree.Expr.{Expr}
-use Rattle.kernele.proofs.Views.{tree_of-Call, tree_of-List, tree_of-Hide, tree_of-If, tree_of-While, tree_of-For, tree_of-Try, tree_of-Object, tree_of-Escape}
+use Rattle.kernele.proofs.Views.{tree_of-Call, tree_of-List, tree_of-Hide, tree_of-If, tree_of-While, tree_of-For, tree_of-Try, tree_of-Object, tree_of-Escape, tree_of-Send, tree_of-When, tree_of-WhenCatch}
 use Rattle.kernele.specs.declared.tree.Method.{Method}
 use Rattle.enodes.specs.Nodes.{method_tree}
 
@@ -47,6 +47,20 @@ tree_of-try p pattern q body handler e f =
 
 pub tree_of-escaped : (x : Name) (block : Arc (Vec Expr Global) Global) (body : Vec Expr Global) → block.value ≡ body → tree_of (code.Escape x block) ≡ escape_tree x (trees_of body.items)
 tree_of-escaped x block body e = tree_of-Escape x block ∙ ap (escape_tree x) (of_block block body e)
+
+pub tree_of-sent : (r : Arc Expr Global) (verb : List ℕ) (args : Arc (Vec Expr Global) Global) (items : Vec Expr Global)
+    → args.value ≡ items → tree_of (code.Send r verb args) ≡ send (tree_of r.value) verb (trees_of items.items)
+tree_of-sent r verb args items e = tree_of-Send r verb args ∙ ap (send (tree_of r.value) verb) (of_block args items e)
+
+pub tree_of-when : (v : Arc Expr Global) (p : Arc (Vec Expr Global) Global) (body : Vec Expr Global)
+    → p.value ≡ body → tree_of (code.When v p) ≡ when_tree (tree_of v.value) (trees_of body.items)
+tree_of-when v p body f = tree_of-When v p ∙ ap (when_tree (tree_of v.value)) (of_block p body f)
+
+pub tree_of-when_catch : (v : Arc Expr Global) (p : Arc (Vec Expr Global) Global) (pattern : Pattern) (q : Arc (Vec Expr Global) Global) (body handler : Vec Expr Global)
+    → p.value ≡ body → q.value ≡ handler → tree_of (code.WhenCatch v p pattern q) ≡ when_catch_tree (tree_of v.value) (trees_of body.items) pattern (trees_of handler.items)
+tree_of-when_catch v p pattern q body handler e f =
+    tree_of-WhenCatch v p pattern q ∙ ap (λ ts. when_catch_tree (tree_of v.value) ts pattern (trees_of q.value.items)) (of_block p body e)
+    ∙ ap (when_catch_tree (tree_of v.value) (trees_of body.items) pattern) (of_block q handler f)
 
 pub tree_of-object : (p : Pattern) (block : Arc (Vec Method Global) Global) (methods : Vec Method Global) → block.value ≡ methods → tree_of (code.Object p block) ≡ object_tree p (methods_of methods.items)
 tree_of-object p block methods e = tree_of-Object p block ∙ ap (λ (xs : Vec Method Global). object_tree p (methods_of xs.items)) e

@@ -1,7 +1,7 @@
 // The nodes of trees. An expression goes behind an `Arc`, or into a vector, before anything else is done: to let go of one
 // that is owned takes code for each kind of expression, wherever that may happen.
 ghost use Rattle.std.specs.Prelude.{◌≡◌, [], ◌∷◌, IfOk};
-ghost use Rattle.kernele.specs.Tree.{int_tree, text_tree, noun as noun_tree, call as call_tree, list_tree, hide as hide_tree, if_tree, while_tree, for_tree, try_tree, throw_tree, object_tree, escape_tree};
+ghost use Rattle.kernele.specs.Tree.{int_tree, text_tree, noun as noun_tree, call as call_tree, list_tree, hide as hide_tree, if_tree, while_tree, for_tree, try_tree, throw_tree, object_tree, escape_tree, send as send_tree, when_tree, when_catch_tree, new_promise as promise_tree, break_ref as break_tree, state_ref as state_tree};
 ghost use Rattle.kernele.specs.View.{tree_of, trees_of, methods_of};
 ghost use Rattle.enodes.specs.Nodes.{given, method_tree};
 ghost use Rattle.enodes.specs.View.{place_of, method_of};
@@ -47,6 +47,19 @@ pub fn call(
 {
     let args = Arc::new(alloc, args)?;
     Ok(Expr::Call(receiver, verb, args))
+}
+
+/// A message to a receiver.
+pub fn send(
+    alloc: Global,
+    receiver: Arc<Expr>,
+    verb: Text,
+    args: Vec<Expr>,
+) -> Result<Expr, AllocError>
+    ensures { IfOk result (λ e. tree_of e ≡ send_tree (tree_of receiver.value) verb (trees_of args.items)) }
+{
+    let sent = Arc::new(alloc, args)?;
+    Ok(Expr::Send(receiver, verb, sent))
 }
 
 pub fn list(alloc: Global, items: Vec<Expr>) -> Result<Expr, AllocError>
@@ -129,6 +142,50 @@ pub fn throw(problem: Arc<Expr>) -> Expr
     ensures { tree_of result ≡ throw_tree (tree_of problem.value) }
 {
     Expr::Throw(problem)
+}
+
+/// A value, and the block that runs when it is known.
+pub fn when(alloc: Global, value: Arc<Expr>, body: Vec<Expr>) -> Result<Expr, AllocError>
+    ensures { IfOk result (λ e. tree_of e ≡ when_tree (tree_of value.value) (trees_of body.items)) }
+{
+    let body = Arc::new(alloc, body)?;
+    Ok(Expr::When(value, body))
+}
+
+/// The same, and a handler of its problem.
+pub fn when_catch(
+    alloc: Global,
+    value: Arc<Expr>,
+    body: Vec<Expr>,
+    pattern: Pattern,
+    handler: Vec<Expr>,
+) -> Result<Expr, AllocError>
+    ensures { IfOk result (λ e. tree_of e ≡ when_catch_tree (tree_of value.value) (trees_of body.items) pattern (trees_of handler.items)) }
+{
+    let body = Arc::new(alloc, body)?;
+    let handler = Arc::new(alloc, handler)?;
+    Ok(Expr::WhenCatch(value, body, pattern, handler))
+}
+
+/// A promise and its resolver.
+pub fn new_promise() -> Expr
+    ensures { tree_of result ≡ promise_tree }
+{
+    Expr::NewPromise
+}
+
+/// A broken value, of this problem.
+pub fn break_ref(problem: Arc<Expr>) -> Expr
+    ensures { tree_of result ≡ break_tree (tree_of problem.value) }
+{
+    Expr::BreakRef(problem)
+}
+
+/// How far a value is known.
+pub fn state_ref(value: Arc<Expr>) -> Expr
+    ensures { tree_of result ≡ state_tree (tree_of value.value) }
+{
+    Expr::StateRef(value)
 }
 
 /// A block that an ejector ends.

@@ -4,7 +4,7 @@ use Rattle.std.specs.Prelude.{Result, Ok, Err, OnOk}
 use Rattle.ids.specs.declared.names.SlotId.{SlotId}
 use Rattle.ids.specs.declared.names.ObjId.{ObjId}
 use Rattle.values.specs.Data.{Val}
-use Rattle.heap.specs.State.{Object, Cell, slot_cell, object_cell, Content, held, made, State, write, Cells, also}
+use Rattle.heap.specs.State.{Plain, plain, Cell, slot_cell, object_cell, Content, held, made, State, write, Cells, also}
 use Rattle.heap.specs.Drafts.{Counts}
 use Rattle.erules.specs.At.{At}
 use Rattle.erules.specs.Rules.{reached, put, slot_made, object_made}
@@ -40,7 +40,7 @@ drafted_slot a s n w p q i v named is counts began touched written =
     λ k. drafted a ((is ∙ ap (λ i. write a.state (slot_cell i) (held v)) named) k) (counts k) (began k) ((touched ∙ ap (λ i. also (slot_cell i) a.touched) named) k) ((written ∙ ap (λ i. also (slot_cell i) a.written) named) k)
 
 -- an object was made
-pub drafted_object : (a : At) (s : State) (n : Counts) (w : State) (p q : Cells) (i : ObjId) (o : Object) → i ≡ record { event = a.event; index = a.objects; vat = a.vat } → s ≡ write a.state (object_cell i) (made o)
+pub drafted_object : (a : At) (s : State) (n : Counts) (w : State) (p q : Cells) (i : ObjId) (o : Plain) → i ≡ record { event = a.event; index = a.objects; vat = a.vat } → s ≡ write a.state (object_cell i) (made (plain o))
     → n ≡ record (counts_at a) { objects = a.objects + 1 } → w ≡ a.began → p ≡ also (object_cell i) a.touched → q ≡ also (object_cell i) a.written → drafted a s n w p q ≡ object_made o a
 drafted_object a s n w p q i o named is counts began touched written =
-    λ k. drafted a ((is ∙ ap (λ i. write a.state (object_cell i) (made o)) named) k) (counts k) (began k) ((touched ∙ ap (λ i. also (object_cell i) a.touched) named) k) ((written ∙ ap (λ i. also (object_cell i) a.written) named) k)
+    λ k. drafted a ((is ∙ ap (λ i. write a.state (object_cell i) (made (plain o))) named) k) (counts k) (began k) ((touched ∙ ap (λ i. also (object_cell i) a.touched) named) k) ((written ∙ ap (λ i. also (object_cell i) a.written) named) k)

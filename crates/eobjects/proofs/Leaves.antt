@@ -13,9 +13,9 @@ use Rattle.heap.specs.State.{Bind, fixed, slot, lookup, frame_of, slot_cell, hel
 use Rattle.erules.specs.At.{At}
 use Rattle.erules.specs.Fits.{all_fit_at, fits_at, frame_at, frame_behind}
 use Rattle.eobjects.specs.Leaves.{StandsAtHand, GivesAtHand, Leaf, Operands, AtHand, GoesOn}
-use Rattle.erules.specs.Outcomes.{value, reply_end}
-use Rattle.erules.specs.Rules as rules
-use Rattle.erules.specs.Rules.{reached, put, slot_in, sought_in, seeking, slot_read, noun_read, slot_put, held_end, assigned_end, noun_end, sought_slot, begun, Ends, at_node, Runs, run_int, run_noun, run_assign, run_call_gives, args_none, args_next}
+use Rattle.erules.specs.Outcomes.{value}
+use Rattle.erules.specs.Rules.{reached, put, slot_in, sought_in, seeking, slot_read, noun_read, slot_put, held_end, assigned_end, noun_end, sought_slot, Ends, at_node, Runs, run_int, run_noun, run_assign, run_call_gives, args_none, args_next}
+use Rattle.eobjects.proofs.OnData.{datum_target, datum_called}
 use Rattle.eobjects.proofs.Reached.{reached_already}
 use Rattle.erules.proofs.Steps.{runs_as, runs_to, items_more}
 use Rattle.erules.proofs.Fitting.{all_fit_then, placed_then}
@@ -63,13 +63,14 @@ pub twice : (n : ℕ) → n - 1 - 1 ≡ n - 2
 twice n = omega arith
 
 -- a call on two leaves
-leaf_call : (a : At) {k : ℕ} {r t : Tree} {verb : Name} {x y : ℤ} {v : Val} → Leaf a r (int x) → Leaf a t (int y) → 2 ≤ a.left → k < 1000 → data_reply (int x) verb (and_val (int y) no_vals) ≡ gives v
+pub leaf_call : (a : At) {k : ℕ} {r t : Tree} {verb : Name} {u m v : Val} → Leaf a r u → Leaf a t m → 2 ≤ a.left → k < 1000 → data_reply u verb (and_val m no_vals) ≡ gives v
     → Runs k (call r verb (and_then t none)) a (value v) (record a { left = a.left - 2 })
-leaf_call a {k = k} {r = r} {t = t} {verb = verb} {x = x} {y = y} {v = v} left right two deep h =
-    subst (λ n. Runs k (call r verb (and_then t none)) a (value v) (record a { left = n })) (twice a.left)
-    (run_call_gives (leaf_ends a r (int x) (k + 1) a.left left (omega (arith, two)) (omega (arith, deep)))
-    (args_next (leaf_ends a t (int y) (k + 1) (a.left - 1) right (omega (arith, two)) (omega (arith, deep))) args_none)
-    (ap (λ m. rules.gives (reply_end m)) h))
+leaf_call a {k = k} {r = r} {t = t} {verb = verb} {u = u} {m = m} {v = v} left right two deep h =
+    let b : At = record a { left = a.left - 1 - 1 } in
+    runs_to (run_call_gives (leaf_ends a r u (k + 1) a.left left (omega (arith, two)) (omega (arith, deep)))
+    (args_next (leaf_ends a t m (k + 1) (a.left - 1) right (omega (arith, two)) (omega (arith, deep))) args_none)
+    (datum_target u verb m v b h))
+    refl (ap (λ n. record a { left = n }) (sym (twice a.left)) ∙ sym (datum_called u verb m v b h))
 
 -- two leaves are the operands of a call
 pub operands : (a : At) {r : Tree} {e : Code} {es : List Code} {x y p q : ℤ} → e ∷ [] ≡ es → Leaf a r (int x) → Leaf a (tree_of_code e) (int y) → p ≡ x → q ≡ y → Operands a r (trees_of_codes es) p q

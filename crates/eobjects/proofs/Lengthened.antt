@@ -7,7 +7,7 @@ use Rattle.std.proofs.Common.{append-nil}
 use Rattle.code.specs.Frames.{Frame, behind, after, fits_all}
 use Rattle.code.specs.declared.code.Code.{Code}
 use Rattle.erules.specs.Fits.{all_fit_at, frame_at, frame_behind}
-use Rattle.values.specs.Data.{Val, Vals, null, bool, int, text, list, object, ejector, promise, broken, no_vals, and_val, gives}
+use Rattle.values.specs.Data.{Val, null, bool, no_vals, and_val, gives}
 use Rattle.values.specs.Replies.{data_reply, text_reply}
 use Rattle.values.specs.View.{val_of}
 use Rattle.values.specs.declared.value.Value.{Value}
@@ -20,39 +20,16 @@ use Rattle.erules.specs.View.{at}
 use Rattle.erules.specs.declared.working.Working.{Working}
 use Rattle.eobjects.proofs.Drafted.{drafted, drafted_put}
 use Rattle.erules.specs.Outcomes.{value, reply_end}
-use Rattle.erules.specs.Rules as rules
-use Rattle.erules.specs.Rules.{put, slot_in, sought_slot, seeking, slot_put, slot_read, noun_end, assigned_end, on_datum, callee_of, callee_target, callee_read, called, target_of, Ends, Runs, at_node, run_null, run_bool, run_text, run_assign, run_call_gives, args_none, args_next}
+use Rattle.erules.specs.Rules.{put, slot_in, sought_slot, seeking, slot_put, assigned_end, Ends, Runs, at_node, run_null, run_bool, run_text, run_assign}
 use Rattle.erules.proofs.Steps.{runs_as, runs_to}
 use Rattle.eobjects.specs.Leaves.{StandsAtHand, GivesAtHand, Leaf, AtHand, Lengthens, RanOrNot}
-use Rattle.eobjects.proofs.Leaves.{slot_at_hand, leaf_of_noun, leaf_ends, seeking_left, thrice, fourth, twice}
-
--- a verb of data gives a value on a datum alone
-datum : (v : Val) (verb : Name) (vs : Vals) (w : Val) → data_reply v verb vs ≡ gives w → callee_of v ≡ on_datum
-datum null verb vs w h = refl
-datum (bool b) verb vs w h = refl
-datum (int z) verb vs w h = refl
-datum (text s) verb vs w h = refl
-datum (list us) verb vs w h = refl
-datum (object o) verb vs w h = absurd (cc)
-datum (ejector j) verb vs w h = absurd (cc)
-datum (promise p) verb vs w h = refl
-datum (broken p) verb vs w h = refl
+use Rattle.eobjects.proofs.Leaves.{slot_at_hand, leaf_of_noun, leaf_call, seeking_left, thrice, fourth}
 
 -- a call on leaves of any kind
-leaves_call : (a : At) {k : ℕ} {r t : Tree} {verb : Name} {u m v : Val} → Leaf a r u → Leaf a t m → 2 ≤ a.left → k < 1000 → data_reply u verb (and_val m no_vals) ≡ gives v
-    → Runs k (call r verb (and_then t none)) a (value v) (record a { left = a.left - 2 })
-leaves_call a {k = k} {r = r} {t = t} {verb = verb} {u = u} {m = m} {v = v} left right two deep h =
-    let datum_is = datum u verb (and_val m no_vals) v h in
-    let b : At = record a { left = a.left - 1 - 1 } in
-    runs_to (run_call_gives (leaf_ends a r u (k + 1) a.left left (omega (arith, two)) (omega (arith, deep)))
-    (args_next (leaf_ends a t m (k + 1) (a.left - 1) right (omega (arith, two)) (omega (arith, deep))) args_none)
-    (ap (λ q. callee_target q u verb (and_val m no_vals) b) datum_is ∙ ap (λ x. rules.gives (reply_end x)) h))
-    refl (ap (λ n. record a { left = n }) (sym (twice a.left)) ∙ sym (ap (λ q. callee_read q b) datum_is))
-
 call_of_leaves : (a : At) {r t : Tree} {verb : Name} {u m v : Val} → Leaf a r u → Leaf a t m → data_reply u verb (and_val m no_vals) ≡ gives v → AtHand a (call r verb (and_then t none)) 3 v
 call_of_leaves a {r = r} {t = t} {verb = verb} {v = v} left right h = λ k n deep some.
     subst (λ m. Ends k (call r verb (and_then t none)) (record a { left = n }) (value v) (record a { left = m })) (thrice n)
-    (at_node (omega (arith, some)) (omega (arith, deep)) (leaves_call (record a { left = n - 1 }) left right (omega (arith, some)) deep h))
+    (at_node (omega (arith, some)) (omega (arith, deep)) (leaf_call (record a { left = n - 1 }) left right (omega (arith, some)) deep h))
 
 -- an assignment of a value that is at hand
 assigned_at_hand : (a : At) {x : Name} {t : Tree} {k : ℕ} {v : Val} {i : SlotId} → AtHand a t 3 v → 4 ≤ a.left → k < 999 → StandsAtHand x (slot i) a

@@ -7,5 +7,9 @@ mod Drafted
 mod Ending
 mod Sent
 mod Missing
+mod Staying
+mod OnData
+mod Leading
+mod Waiting
 mod Targets
 mod Entering

@@ -1,39 +1,54 @@
 -- Calls on an ejector that is at hand.
-use Rattle.std.proofs.Common.{arith, ◌≡◌, ℕ, ◌+◌, ◌-◌, ◌<◌, ◌≤◌, List, [], ◌∷◌, true, cond, ap, sym, subst, refl}
+use Rattle.std.proofs.Common.{arith, ◌≡◌, ℕ, ◌+◌, ◌-◌, ◌<◌, ◌≤◌, List, [], ◌∷◌, true, cond, ap, sym, ◌∙◌, subst, refl}
 use Rattle.std.specs.Prelude.{codes}
 use Rattle.std.specs.Str.{bytes_eq}
 use Rattle.ids.specs.declared.names.EjId.{EjId}
 use Rattle.kernele.specs.Tree.{Name, Tree, call, none, and_then}
 use Rattle.code.specs.View.{tree_of_code, trees_of_codes}
 use Rattle.code.specs.declared.code.Code.{Code}
-use Rattle.values.specs.Data.{ejector, no_vals, and_val}
+use Rattle.values.specs.Data.{Val, ejector, no_vals, and_val}
 use Rattle.erules.specs.At.{At}
-use Rattle.erules.specs.Outcomes.{End, value, halt}
-use Rattle.erules.specs.Rules.{gives, same_ejector, is_open, ejects, no_such_method, Ends, at_node, run_call_gives, args_none, args_next, args_halt}
+use Rattle.erules.specs.Doings.{same_vat}
+use Rattle.erules.specs.Outcomes.{End, value, halt, values}
+use Rattle.erules.proofs.Steps.{runs_to}
+use Rattle.erules.specs.Rules.{on_ejector, if_own, callee_target, callee_read, target_of, called, gives, same_ejector, is_open, ejects, no_such_method, Ends, at_node, run_call_gives, args_none, args_next, args_halt}
 use Rattle.eobjects.specs.Leaves.{Leaf, Returns, sent}
 use Rattle.eobjects.proofs.Leaves.{leaf_ends}
+use Rattle.eobjects.proofs.OnData.{own_target, own_called}
+use Rattle.eobjects.proofs.Staying.{ends_vat}
 
 twice : (n : ℕ) → n - 1 - 1 ≡ n - 2
 twice n = omega arith
 
+-- an ejector of the vat is called
+ejector_target : (i : EjId) (verb : Name) (v : Val) (b : At) → same_vat i.vat b.vat ≡ true → bytes_eq verb (codes "run") ≡ true → target_of (ejector i) verb (values (and_val v no_vals)) b ≡ gives (ejects (is_open i b.opened) i v)
+ejector_target i verb v b own run =
+    own_target (ejector i) verb (and_val v no_vals) b refl ∙ ap (λ q. callee_target (if_own q (on_ejector i)) (ejector i) verb (and_val v no_vals) b) own
+    ∙ ap (λ q. gives (cond q (ejects (is_open i b.opened) i v) (no_such_method verb (and_val v no_vals)))) run
+
+ejector_called : (i : EjId) (verb : Name) (v : Val) (b : At) → same_vat i.vat b.vat ≡ true → called (ejector i) verb (values (and_val v no_vals)) b ≡ b
+ejector_called i verb v b own = own_called (ejector i) verb (and_val v no_vals) b refl ∙ ap (λ q. callee_read (if_own q (on_ejector i)) (ejector i) verb (and_val v no_vals) b) own
+
 -- a call on an ejector, by how its argument ended
-sent_on : (a b : At) {k : ℕ} {r t : Tree} {verb : Name} {i : EjId} (o : End) → Leaf a r (ejector i) → bytes_eq verb (codes "run") ≡ true → 2 ≤ a.left → k < 1000 → Ends (k + 1) t (record a { left = a.left - 1 - 1 }) o b → Ends k (call r verb (and_then t none)) a (sent i b.opened o) b
-sent_on a b {k = k} {r = r} {verb = verb} {i = i} (value v) leaf run two deep h =
+sent_on : (a b : At) {k : ℕ} {r t : Tree} {verb : Name} {i : EjId} (o : End) → Leaf a r (ejector i) → same_vat i.vat a.vat ≡ true → bytes_eq verb (codes "run") ≡ true → 2 ≤ a.left → k < 1000 → Ends (k + 1) t (record a { left = a.left - 1 - 1 }) o b → Ends k (call r verb (and_then t none)) a (sent i b.opened o) b
+sent_on a b {k = k} {r = r} {verb = verb} {i = i} (value v) leaf own run two deep h =
+    let here : same_vat i.vat b.vat ≡ true = ap (λ w. same_vat i.vat w) (ends_vat h) ∙ own in
     at_node (omega (arith, two)) (omega (arith, deep))
-    (run_call_gives (leaf_ends a r (ejector i) (k + 1) (a.left - 1) leaf (omega (arith, two)) (omega (arith, deep))) (args_next h args_none)
-    (ap (λ q. gives (cond q (ejects (is_open i b.opened) i v) (no_such_method verb (and_val v no_vals)))) run))
-sent_on a b {k = k} {r = r} {i = i} (halt s) leaf run two deep h =
+    (runs_to (run_call_gives (leaf_ends a r (ejector i) (k + 1) (a.left - 1) leaf (omega (arith, two)) (omega (arith, deep))) (args_next h args_none)
+    (ejector_target i verb v b here run))
+    refl (sym (ejector_called i verb v b here)))
+sent_on a b {k = k} {r = r} {i = i} (halt s) leaf own run two deep h =
     at_node (omega (arith, two)) (omega (arith, deep))
     (run_call_gives (leaf_ends a r (ejector i) (k + 1) (a.left - 1) leaf (omega (arith, two)) (omega (arith, deep))) (args_halt h) refl)
 
 -- such a call on code
-pub call_returns : (a : At) {k : ℕ} {r : Tree} {x : Code} {es : List Code} {verb : Name} {i : EjId} (j : EjId) → x ∷ [] ≡ es → Leaf a r (ejector i) → same_ejector j i ≡ true → bytes_eq verb (codes "run") ≡ true → 2 ≤ a.left → k < 1000 → Returns k a j (call r verb (trees_of_codes es)) (tree_of_code x)
-call_returns a {k = k} {r = r} {x = x} {verb = verb} {i = i} j one leaf same run two deep = (
+pub call_returns : (a : At) {k : ℕ} {r : Tree} {x : Code} {es : List Code} {verb : Name} {i : EjId} (j : EjId) → x ∷ [] ≡ es → Leaf a r (ejector i) → same_ejector j i ≡ true → same_vat i.vat a.vat ≡ true → bytes_eq verb (codes "run") ≡ true → 2 ≤ a.left → k < 1000 → Returns k a j (call r verb (trees_of_codes es)) (tree_of_code x)
+call_returns a {k = k} {r = r} {x = x} {verb = verb} {i = i} j one leaf same own run two deep = (
   i,
   same,
   λ o b h.
       subst (λ es. Ends k (call r verb (trees_of_codes es)) a (sent i b.opened o) b) one
-      (sent_on a b o leaf run two deep (subst (λ n. Ends (k + 1) (tree_of_code x) (record a { left = n }) o b) (sym (twice a.left)) h)),
+      (sent_on a b o leaf own run two deep (subst (λ n. Ends (k + 1) (tree_of_code x) (record a { left = n }) o b) (sym (twice a.left)) h)),
 )
 
 -- the same of code that is such a call

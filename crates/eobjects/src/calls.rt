@@ -1,21 +1,28 @@
 // Calls: what they lead to, and how a method is entered and left.
-ghost use Rattle.std.specs.Prelude.{◌≡◌, ◌≤◌, [], length};
+ghost use Rattle.std.specs.Prelude.{◌≡◌, ◌≤◌, [], codes, length};
 ghost use Rattle.values.specs.View.{val_of, vals_of};
-ghost use Rattle.erules.specs.Rules.{callee_of, callee_target, callee_read, inside};
+ghost use Rattle.erules.specs.Answered.{OnStop};
+ghost use Rattle.erules.specs.Doings.{same_vat};
+ghost use Rattle.erules.specs.Outcomes.{halt, thrown, values};
+ghost use Rattle.erules.specs.Rules.{called, callee_of, callee_target, callee_read, if_own, inside, target_of};
 ghost use Rattle.heap.specs.View.{nouns_of};
 ghost use Rattle.erules.specs.Locals.{captured_in, locals_after, names_in};
 ghost use Rattle.erules.specs.View.{at};
 ghost use Rattle.eobjects.specs.View.{callee_view, OnTarget};
 
 use crate::objects::object_target;
+use emessages::calls::call_datum;
+use emessages::ends::take_end;
+use emessages::places::here;
 use erules::end::Stop;
 use erules::entry::Entry;
 use erules::escapes::call_ejector;
+use erules::halting::throw_made;
 use erules::local::Local;
-use erules::results::call_data;
 use erules::working::Working;
 use heap::state::Noun;
-use ids::names::{EjId, ObjId};
+use ids::names::{EjId, ObjId, VatNo};
+use ids::text::Text;
 use std::mem;
 use std::sync::Arc;
 use values::value::Value;
@@ -24,9 +31,14 @@ use values::verb::Verb;
 /// What a call is made on.
 #[derive(Clone, Copy)]
 pub enum Callee {
+    /// An object of the vat.
     Object(ObjId),
+    /// An ejector of the vat.
     Ejector(EjId),
+    /// A datum, or a broken value.
     Datum,
+    /// What is of another vat, or not known yet.
+    Far,
 }
 
 /// What a caller's names were when the method was entered.
@@ -39,8 +51,23 @@ pub struct Caller {
     ghost within: { older ≤ length (captured_in captured) },
 }
 
-/// What a call with these arguments leads to: a method's block, or a value.
+/// What a call with these arguments leads to, which is made on the end of its receiver: a method's block, or a value.
 pub fn call_target(
+    w: &mut Working,
+    receiver: &mut Value,
+    verb: &Verb,
+    args: &mut [Value],
+    into: &mut Value,
+) -> Result<Option<Entry>, Stop>
+    ensures { OnTarget result into.new w.new (λ t b. (t ≡ target_of (val_of receiver.old) verb.now (values (vals_of args.old)) (at w.old))
+        × (b ≡ called (val_of receiver.old) verb.now (values (vals_of args.old)) (at w.old))) }
+{
+    take_end(w, receiver)?;
+    call_end(w, receiver, verb, args, into)
+}
+
+/// What a call on an end leads to.
+fn call_end(
     w: &mut Working,
     receiver: &Value,
     verb: &Verb,
@@ -48,37 +75,54 @@ pub fn call_target(
     into: &mut Value,
 ) -> Result<Option<Entry>, Stop>
     ensures { OnTarget result into.new w.new (λ t b. (t
-        ≡ callee_target (callee_of (val_of receiver.now)) (val_of receiver.now) verb.now (vals_of args.old) (at w.old))
-        × (b ≡ callee_read (callee_of (val_of receiver.now)) (at w.old))) }
+        ≡ callee_target (callee_of (at w.old).vat (val_of receiver.now)) (val_of receiver.now) verb.now (vals_of args.old) (at w.old))
+        × (b ≡ callee_read (callee_of (at w.old).vat (val_of receiver.now)) (val_of receiver.now) verb.now (vals_of args.old) (at w.old))) }
 {
-    match called_on(receiver) {
+    match called_on(here(w), receiver) {
         Callee::Object(id) => object_target(w, id, verb, args, into),
         Callee::Ejector(id) => {
             call_ejector(w, id, verb, args, into)?;
             Ok(None)
         }
         Callee::Datum => {
-            call_data(w, receiver, verb, args, into)?;
+            call_datum(w, receiver, verb, args, into)?;
             Ok(None)
         }
+        Callee::Far => Err(not_near(w)),
     }
 }
 
-/// What a value is to a call.
-fn called_on(value: &Value) -> Callee
-    ensures { callee_view result ≡ callee_of (val_of value.now) }
+/// What a value is to a call in this vat.
+fn called_on(here: VatNo, value: &Value) -> Callee
+    ensures { callee_view result ≡ callee_of here (val_of value.now) }
 {
     match value {
-        Value::Object(id) => Callee::Object(*id),
-        Value::Ejector(id) => Callee::Ejector(*id),
+        Value::Object(id) => own(here, id.vat, Callee::Object(*id)),
+        Value::Ejector(id) => own(here, id.vat, Callee::Ejector(*id)),
+        Value::Promise(_) => Callee::Far,
         Value::Null
         | Value::Bool(_)
         | Value::Int(_)
         | Value::Text(_)
         | Value::List(_)
-        | Value::Promise(_)
         | Value::Broken(_) => Callee::Datum,
     }
+}
+
+/// What is of the vat, and far what is of another one.
+#[inline(always)]
+fn own(here: VatNo, vat: VatNo, callee: Callee) -> Callee
+    ensures { callee_view result ≡ if_own (same_vat vat here) (callee_view callee) }
+{
+    if vat == here { callee } else { Callee::Far }
+}
+
+/// Throws that a call was made on what is not near.
+fn not_near(w: &mut Working) -> Stop
+    ensures { OnStop result w.new (λ h b. (halt h ≡ halt (thrown (codes "not near"))) × (b ≡ at w.old)) }
+{
+    let problem = Text::new(w.alloc, "not near");
+    throw_made(w, problem)
 }
 
 /// Begins a method with what its object captured and with names of its own, in place of those of the caller.

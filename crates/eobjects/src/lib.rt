@@ -9,4 +9,6 @@ mod growing;
 pub mod nouns;
 pub mod objects;
 pub mod quick;
+mod resolvers;
 pub mod returns;
+pub mod whens;

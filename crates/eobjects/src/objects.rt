@@ -14,17 +14,19 @@ ghost use Rattle.values.specs.View.{val_of, vals_of};
 ghost use Rattle.heap.specs.State.{Nouns, object_cell, read};
 ghost use Rattle.erules.specs.Outcomes.{halt as halt_end};
 ghost use Rattle.erules.specs.Answered.{OnAnswer, OnEnd};
-ghost use Rattle.erules.specs.Rules.{reached, captured, missing, all_captured, all_sought, capture_of, capturing, has_object_room, placed, placed_end};
+ghost use Rattle.erules.specs.Rules.{reached, captured, missing, all_captured, all_sought, capture_of, capturing, placed, placed_end};
+ghost use Rattle.erules.specs.Doings.{has_object_room};
 ghost use Rattle.erules.specs.Rules.{with_object, object_end, named, named_all, method_in, gives, undefined_noun, no_such_method as no_such_method_end};
 ghost use Rattle.erules.specs.Rules.{method_target as method_target_of, object_target as object_target_of};
-ghost use Rattle.heap.specs.View.{bind_of, nouns_of, object_of};
+ghost use Rattle.heap.specs.View.{bind_of, nouns_of, plain_of};
 ghost use Rattle.heap.specs.Drafts.{draft_of};
 ghost use Rattle.erules.specs.Locals.{captured_in, locals_after};
 ghost use Rattle.erules.specs.View.{at};
-ghost use Rattle.eobjects.specs.View.{entered_or, OnTarget};
+ghost use Rattle.eobjects.specs.View.{entered_or, met_as, IsNoMethod, OnTarget};
 
 use crate::calls::empty_frame;
 use crate::nouns::{match_pattern, reach_name, seek, undefined};
+use crate::resolvers::call_resolver;
 use code::code::{Capture as CaptureCode, MethodCode};
 use code::index::{MethodIndex, share_index};
 use erules::end::{Abandon, Stop};
@@ -33,9 +35,9 @@ use erules::halting::abandon;
 use erules::local::Local;
 use erules::results::no_such_method;
 use erules::working::Working;
-use heap::made::Made;
+use heap::made::{Made, Plain};
 use heap::state::{Binding, Noun};
-use ids::names::ObjId;
+use ids::names::{ObjId, PromId};
 use ids::text::Text;
 use kernele::tree::Pattern;
 use std::alloc::{AllocError, Global};
@@ -73,7 +75,7 @@ pub fn define_object(
 
 /// Captures names from the left, the newest last. A variable is captured as its slot; the first name that stands for nothing
 /// throws.
-fn capture_all(w: &mut Working, captures: &[CaptureCode]) -> Result<Vec<Noun>, Stop>
+pub(crate) fn capture_all(w: &mut Working, captures: &[CaptureCode]) -> Result<Vec<Noun>, Stop>
     requires { all_placed (frame_at (at w.old)) captures.now }
     ensures { OnAnswer result w.new
         (λ ns b. (captured (nouns_of ns.items) ≡ all_captured (captured []) (captured_names_of captures.now) (at w.old))
@@ -124,7 +126,7 @@ fn place(
         return Err(abandon(w, Abandon::Size));
     }
     let made = make(w.alloc, pattern, nouns, methods, index)?;
-    *into = Value::Object(w.draft.new_object(made)?);
+    *into = Value::Object(w.draft.new_object(Made::Plain(made))?);
     Ok(match_pattern(w, pattern, into)?)
 }
 
@@ -135,17 +137,17 @@ fn make(
     nouns: Vec<Noun>,
     methods: &Arc<Vec<MethodCode>>,
     index: &Option<Arc<MethodIndex>>,
-) -> Result<Made, AllocError>
+) -> Result<Plain, AllocError>
     requires fits { fits_methods (names_of nouns.items ++ only_names (name_of pattern.now)) methods.now.value.items }
     requires indexed { index_fits (index_in index.now) (methods_of_codes methods.now.value.items) }
-    ensures { IfOk result (λ made. object_of made
+    ensures { IfOk result (λ made. plain_of made
         ≡ record { own = pattern.now; captured = nouns_of nouns.items; methods = methods_of_codes methods.now.value.items }) }
 {
     let captured = Arc::new(alloc, nouns)?;
     let own = pattern.share()?;
     let methods = Arc::try_clone(methods)?;
     let index = share_index(index)?;
-    Ok(Made {
+    Ok(Plain {
         own,
         captured,
         methods,
@@ -167,33 +169,53 @@ pub(crate) fn object_target(
 {
     w.draft.reach_object(id)?;
     let frame = empty_frame(w);
-    let entry = object_entry(w, frame, id, verb, args)?;
-    match entry {
-        Some(entry) => Ok(Some(entry)),
-        None => {
+    let met = meet(w, frame, id, verb, args)?;
+    match met {
+        Met::Method(entry) => Ok(Some(entry)),
+        Met::Resolver(promise) => {
+            call_resolver(w, promise, verb, args, into)?;
+            Ok(None)
+        }
+        Met::Nothing => {
             no_such_method(w, verb, args, into)?;
             Ok(None)
         }
     }
 }
 
-/// The method that a call on an object enters, if it enters one.
+/// What a call meets on an object.
+#[derive(Drop)]
+enum Met {
+    Method(Entry),
+    /// The object is the resolver of this promise.
+    Resolver(PromId),
+    Nothing,
+}
+
+/// What a call on an object meets.
 #[inline(always)]
-fn object_entry(
+fn meet(
     w: &Working,
     frame: Vec<Local>,
     id: ObjId,
     verb: &Verb,
     args: &mut [Value],
-) -> Result<Option<Entry>, AllocError>
+) -> Result<Met, AllocError>
     requires { frame.items ≡ [] }
-    ensures entry { IfOk result (λ e. entered_or (gives (no_such_method_end verb.now (vals_of args.old))) e
+    ensures met { IfOk result (λ m. met_as m verb.now (vals_of args.old)
         ≡ object_target_of id (read (draft_of w.now.draft) (object_cell id)) verb.now (vals_of args.old)) }
-    ensures kept { IfOk result (λ e. IfNone e (args.new ≡ args.old)) }
+    ensures kept { IfOk result (λ m. IsNoMethod m → args.new ≡ args.old) }
 {
     match w.draft.object(id) {
-        Some(object) => method_entry(frame, id, object, verb, args),
-        None => Ok(None),
+        Some(Made::Plain(object)) => {
+            let entry = method_entry(frame, id, object, verb, args)?;
+            match entry {
+                Some(entry) => Ok(Met::Method(entry)),
+                None => Ok(Met::Nothing),
+            }
+        }
+        Some(Made::Resolver(promise)) => Ok(Met::Resolver(*promise)),
+        None => Ok(Met::Nothing),
     }
 }
 
@@ -201,13 +223,13 @@ fn object_entry(
 fn method_entry(
     frame: Vec<Local>,
     id: ObjId,
-    object: &Made,
+    object: &Plain,
     verb: &Verb,
     args: &mut [Value],
 ) -> Result<Option<Entry>, AllocError>
     requires { frame.items ≡ [] }
     ensures entry { IfOk result (λ e. entered_or (gives (no_such_method_end verb.now (vals_of args.old))) e
-        ≡ method_target_of id (object_of object.now) verb.now (vals_of args.old)
+        ≡ method_target_of id (plain_of object.now) verb.now (vals_of args.old)
         (method_in (methods_of_codes object.now.methods.value.items) verb.now (vals_of args.old))) }
     ensures kept { IfOk result (λ e. IfNone e (args.new ≡ args.old)) }
 {
@@ -240,7 +262,7 @@ fn share_captured(captured: &Arc<Vec<Noun>>) -> Result<Option<Arc<Vec<Noun>>>, A
 
 /// The method with this verb and as many parameters as there are arguments: among many it is looked up, among few sought.
 fn find_method<'a>(
-    object: &'a Made,
+    object: &'a Plain,
     verb: &Verb,
     args: &[Value],
 ) -> Result<Option<&'a MethodCode>, AllocError>
@@ -292,7 +314,7 @@ fn scan_methods<'a>(
 fn method_nouns(
     mut nouns: Vec<Local>,
     id: ObjId,
-    object: &Made,
+    object: &Plain,
     parameters: &[Pattern],
     args: &mut [Value],
 ) -> Result<Vec<Local>, AllocError>

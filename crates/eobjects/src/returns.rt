@@ -10,6 +10,7 @@ ghost use Rattle.eobjects.specs.Leaves.{GivesAtHand, Leaf, Returns};
 
 use crate::quick::peek;
 use code::code::{Code, Place};
+use emessages::places::here;
 use erules::working::{DEEPEST, Working};
 use heap::state::Binding;
 use ids::names::EjId;
@@ -17,8 +18,8 @@ use ids::text::Text;
 use values::value::Value;
 use values::verb::Verb;
 
-/// What an item gives to this ejector, where it calls the ejector with that alone, the ejector is at hand, and there
-/// are steps for the call and for what it is made on.
+/// What an item gives to this ejector, where it calls the ejector with that alone, the ejector is of the vat and at hand,
+/// and there are steps for the call and for what it is made on.
 pub fn returned<'a>(w: &Working, ejector: EjId, item: &'a Code, level: u32) -> Option<&'a Code>
     requires { fits_at (at w.now) item.now }
     ensures steps { IfSome result (λ arg. 2 ≤ w.now.steps) }
@@ -51,6 +52,9 @@ fn given<'a>(
         return None;
     }
     let called = ejector_at(w, receiver)?;
+    if called.vat != here(w) {
+        return None;
+    }
     if ejector.cmp(&called).is_eq() && verb.text().as_str() == "run" {
         Some(&args[0])
     } else {

@@ -7,3 +7,4 @@ pub mod Assigned
 pub mod Journals
 pub mod FenceSets
 pub mod Searching
+pub mod CarriedFences

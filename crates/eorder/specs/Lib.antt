@@ -7,4 +7,5 @@ pub mod Worlds
 pub mod Journals
 pub mod Fences
 pub mod Rules
+pub mod Carried
 pub mod Theorems

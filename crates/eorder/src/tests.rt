@@ -1,8 +1,10 @@
 // Fences go with references.
 
+use crate::carried::Carried;
 use crate::fence::Fence;
 use crate::rules::{on_learn, on_pass, on_receive, on_send};
-use ids::names::{EventName, MsgId};
+use ids::names::{EventName, MsgId, ObjId, VatNo};
+use ids::reference::Reference;
 use std::process::Abort;
 
 /// The first message of an event.
@@ -21,6 +23,33 @@ fn fence(rt: &(impl Abort + AllocGlobal), events: &[u64]) -> Fence {
         fence = fence.join(&one).expect(rt, "no memory");
     }
     fence
+}
+
+/// The first object of an event, as a reference.
+fn object(event: u64) -> Reference {
+    Reference::Object(ObjId {
+        event: EventName(event),
+        index: 0,
+        vat: VatNo(EventName(1)),
+    })
+}
+
+/// The fence of one message travels with one object. What is added later for it is left out, and an empty fence, too.
+#[test]
+fn a_fence_travels_once(rt: HostRuntime) {
+    let alloc = rt.alloc();
+    let mut carried = Carried::empty(alloc);
+    assert!(rt; carried.is_empty());
+    for (at, event) in [(7, 3), (7, 4)] {
+        let added = carried.add(object(at), Fence::alone(alloc, message(event)));
+        added.expect(&rt, "no memory");
+    }
+    let empty = carried.add(object(8), Fence::empty(alloc));
+    empty.expect(&rt, "no memory");
+    assert!(rt; carried.len() == 1 && carried.carries(object(7)) && !carried.carries(object(8)));
+    let found = carried.fence(object(7)).expect(&rt, "no fence");
+    assert!(rt; found.is_same(&Fence::alone(alloc, message(3))));
+    assert!(rt; carried.is_same(&carried) && !carried.is_same(&Carried::empty(alloc)));
 }
 
 /// Names rise, each once, and both orders give the same fence.

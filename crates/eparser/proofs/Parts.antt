@@ -100,13 +100,17 @@ abbrev pub has_head : Reserved → Bool
 has_head word.If = false
 has_head word.Throw = false
 has_head word.Def = false
+has_head word.When = false
+has_head word.Ref = false
 has_head _ = true
 
-pub other_word : (w : Reserved) → (w ≡ word.If → ⊥) → (w ≡ word.Throw → ⊥) → (w ≡ word.Def → ⊥) → has_head w ≡ true
-other_word word.If f g h = absurd (f refl)
-other_word word.Throw f g h = absurd (g refl)
-other_word word.Def f g h = absurd (h refl)
-other_word _ f g h = refl
+pub other_word : (w : Reserved) → (w ≡ word.If → ⊥) → (w ≡ word.Throw → ⊥) → (w ≡ word.Def → ⊥) → (w ≡ word.When → ⊥) → (w ≡ word.Ref → ⊥) → has_head w ≡ true
+other_word word.If f g h i j = absurd (f refl)
+other_word word.Throw f g h i j = absurd (g refl)
+other_word word.Def f g h i j = absurd (h refl)
+other_word word.When f g h i j = absurd (i refl)
+other_word word.Ref f g h i j = absurd (j refl)
+other_word _ f g h i j = refl
 
 module _ (within : Within) where
   pub condition_is : (a b : List Token) {d : List Token} {t : Tree} → is_open bracket.Round (sign_in a) ≡ true → b ≡ rest_of a → within.expression b ≡ Some (t, d) → condition_at within a ≡ past (is_close bracket.Round) (t, d)
@@ -116,6 +120,8 @@ module _ (within : Within) where
   headed word.If a e = absurd (cc)
   headed word.Throw a e = absurd (cc)
   headed word.Def a e = absurd (cc)
+  headed word.When a e = absurd (cc)
+  headed word.Ref a e = absurd (cc)
   headed word.While a e = bind_again (condition_at within a) (λ c. Some (while_tree c.0, c.1)) (λ h. braced_at within h.1 >>= λ b. Some (h.0 b.0, b.1))
   headed word.For a e =
       bind_again (each_at a) (λ p. within.expression p.1 >>= λ e. Some (for_tree p.0 e.0, e.1)) (λ h. braced_at within h.1 >>= λ b. Some (h.0 b.0, b.1))

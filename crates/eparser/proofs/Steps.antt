@@ -5,11 +5,12 @@ use Rattle.std.specs.declared.sync.Arc.{Arc}
 use Rattle.etoken.specs.declared.token.Token.{Token}
 use Rattle.etoken.specs.declared.token.Sign as signs
 use Rattle.kernele.specs.declared.tree.Expr.{Expr}
-use Rattle.kernele.specs.Tree.{Name, Tree, Trees, call}
+use Rattle.kernele.specs.Tree.{Name, Tree, Trees}
 use Rattle.esigns.specs.declared.operator.Bracket.{Bracket}
 use Rattle.esigns.specs.declared.operator.Link.{Link}
 use Rattle.esigns.specs.declared.operator.Operator.{Operator}
 use Rattle.esigns.specs.Signs.{link_of, closer}
+use Rattle.eforms.specs.Forms.{linked}
 use Rattle.egrammar.specs.Reading.{Read, ◌>>=◌, rest_of, front, operand_next, Within, args_at, verb_at, postfix_next, is_block_end, separator_at, expr_at, block_next}
 use Rattle.egrammar.proofs.Turns.{Turns}
 use Rattle.egrammar.proofs.Steps.{operand_fail, postfix_fail, block_part_fail}
@@ -40,9 +41,13 @@ module _ (within : Within) where
       → Turns (postfix_next within) read t a → front link_of a ≡ Some l → b ≡ rest_of a → verb_at l b ≡ Some (v, r) → bracket ≡ closer l → Fails e (args_at within bracket r) → Fails e read
   args_fail stop.Unexpected {t = t} b {l = l} {v = v} {r = r} c e k g h f =
       postfix_fail within b c e k
-      (ap (λ y. y >>= λ w. args_at within (closer l) w.1 >>= λ x. Some (call t w.0 x.0, x.1)) g
-      ∙ ap (λ y. y >>= λ x. Some (call t v x.0, x.1)) (ap (λ z. args_at within z r) (sym h) ∙ f))
+      (ap (λ y. y >>= λ w. args_at within (closer l) w.1 >>= λ x. Some (linked l t w.0 x.0, x.1)) g
+      ∙ ap (λ y. y >>= λ x. Some (linked l t v x.0, x.1)) (ap (λ z. args_at within z r) (sym h) ∙ f))
   args_fail stop.Memory b c e k g h f = tt
+
+  pub verb_fails : (e : Stop) {read : Read Tree} {t : Tree} {a : List Token} (b : List Token) {l : Link} → Turns (postfix_next within) read t a → front link_of a ≡ Some l → b ≡ rest_of a → Fails e (verb_at l b) → Fails e read
+  verb_fails stop.Unexpected {t = t} b {l = l} c e k g = postfix_fail within b c e k (ap (λ y. y >>= λ w. args_at within (closer l) w.1 >>= λ x. Some (linked l t w.0 x.0, x.1)) g)
+  verb_fails stop.Memory b c e k g = tt
 
   pub block_part_fails : (e : Stop) {read : Read Trees} {ts : Trees} (u : Tree) {a : List Token} (b : List Token)
       → Turns (block_next within) read ts a → is_block_end a ≡ false → expr_at within a ≡ Some (u, b) → Fails e (separator_at b) → Fails e read

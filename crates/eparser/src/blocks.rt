@@ -9,6 +9,7 @@ ghost use Rattle.eparser.specs.View.{left_of, IsNoLonger, Gives, GivesShared, Gi
 use crate::head::Head;
 use crate::made;
 use crate::reader::Reader;
+use eforms::words::RefWord;
 use enodes::nodes;
 use esigns::operator::Bracket;
 use esigns::stop::Stop;
@@ -114,6 +115,14 @@ impl<'a> Reader<'a> {
                 self.skip();
                 self.object(left)
             }
+            Reserved::When => {
+                self.skip();
+                self.when(left)
+            }
+            Reserved::Ref => {
+                self.skip();
+                self.reference(left)
+            }
             _ => {
                 let head = self.head(left, word)?;
                 let body = self.braced(left)?;
@@ -173,6 +182,60 @@ impl<'a> Reader<'a> {
         }
         self.skip();
         Ok(Head::Try(body, self.pattern()?))
+    }
+
+    /// What stands behind `when`.
+    #[cycle(read)]
+    #[inline(never)]
+    fn when(&mut self, left: usize) -> Result<Expr, Stop>
+        ensures { Gives result self.old self.new (reading.when_at (within_at left)) }
+    {
+        let value = self.condition(left)?;
+        self.arrow()?;
+        let body = self.braced(left)?;
+        self.when_from(left, value, body)
+    }
+
+    /// The `catch` behind the block of a `when`, if there is one.
+    #[cycle(read)]
+    fn when_from(&mut self, left: usize, value: Arc<Expr>, body: Vec<Expr>) -> Result<Expr, Stop>
+        ensures { Gives result self.old self.new (reading.when_from (within_at left) (tree_of value.value) (trees_of body.items)) }
+    {
+        if !self.at_catch() {
+            return made::when(self.alloc, value, body);
+        }
+        self.skip();
+        let pattern = self.pattern()?;
+        let handler = self.braced(left)?;
+        made::when_catch(self.alloc, value, body, pattern, handler)
+    }
+
+    /// Round brackets with nothing in them, behind `Ref.promise`.
+    fn promise(&mut self) -> Result<Expr, Stop>
+        ensures { Gives result self.old self.new reading.promise_at }
+    {
+        self.open(Bracket::Round)?;
+        self.close(Bracket::Round)?;
+        Ok(nodes::new_promise())
+    }
+
+    /// What stands behind `Ref`.
+    #[cycle(read)]
+    #[inline(never)]
+    fn reference(&mut self, left: usize) -> Result<Expr, Stop>
+        ensures { Gives result self.old self.new (reading.ref_at (within_at left)) }
+    {
+        match self.ref_word()? {
+            RefWord::Promise => self.promise(),
+            RefWord::Broken => {
+                let problem = self.condition(left)?;
+                Ok(nodes::break_ref(problem))
+            }
+            RefWord::State => {
+                let value = self.condition(left)?;
+                Ok(nodes::state_ref(value))
+            }
+        }
     }
 
     /// What stands behind `if`.

@@ -11,7 +11,7 @@ ghost use Rattle.eparser.specs.View.{IsNoLonger, Gives, GivesPlain};
 use crate::level::{joins_two, tighter};
 use crate::made;
 use crate::reader::Reader;
-use enodes::nodes;
+use eforms::operators;
 use esigns::operator::{Bracket, Level, Link};
 use esigns::stop::Stop;
 use ids::text::Text;
@@ -19,9 +19,34 @@ use kernele::tree::Expr;
 use std::sync::Arc;
 
 impl<'a> Reader<'a> {
-    /// The verb of a call, up to its arguments.
+    /// The verb of a call or a send, up to its arguments.
     fn verb(&mut self, link: Link) -> Result<Text, Stop>
         ensures gives { GivesPlain result self.old self.new (reading.verb_at link) }
+        ensures shorter { OnOk result (IsNoLonger self.old self.new) }
+    {
+        if link.is_send() {
+            self.send_verb()
+        } else {
+            self.call_verb(link)
+        }
+    }
+
+    /// The verb of a send, up to its arguments: `run`, where no name stands for it.
+    fn send_verb(&mut self) -> Result<Text, Stop>
+        ensures gives { GivesPlain result self.old self.new reading.send_verb_at }
+        ensures shorter { OnOk result (IsNoLonger self.old self.new) }
+    {
+        if !self.at_open(Bracket::Round) {
+            return self.method_verb();
+        }
+        let run = Text::new(self.alloc, "run")?;
+        self.skip();
+        Ok(run)
+    }
+
+    /// The verb of a call, up to its arguments.
+    fn call_verb(&mut self, link: Link) -> Result<Text, Stop>
+        ensures gives { GivesPlain result self.old self.new (reading.call_verb_at link) }
         ensures shorter { OnOk result (IsNoLonger self.old self.new) }
     {
         match link.verb(self.alloc)? {
@@ -130,7 +155,7 @@ impl<'a> Reader<'a> {
             let receiver = Arc::new(self.alloc, postfix)?;
             let verb = self.verb(link)?;
             let args = self.args(left, link.bracket())?;
-            postfix = nodes::call(self.alloc, receiver, verb, args)?;
+            postfix = operators::link(self.alloc, link, receiver, verb, args)?;
         }
         Ok(postfix)
     }

@@ -1,6 +1,6 @@
 // Nodes of trees, where want of memory ends the reading. They stand apart from the recursion, since each further way out of one
 // of its functions is dear to prove.
-ghost use Rattle.kernele.specs.Tree.{list_tree, hide as hide_tree, if_tree, object_tree};
+ghost use Rattle.kernele.specs.Tree.{list_tree, hide as hide_tree, if_tree, object_tree, when_tree, when_catch_tree};
 ghost use Rattle.kernele.specs.View.{tree_of, trees_of, methods_of};
 ghost use Rattle.eforms.specs.Forms.{alone, joined as joined_trees, return_tree, function_tree};
 ghost use Rattle.eparser.specs.Heads.{given_to, prefixed as prefixed_tree};
@@ -45,6 +45,26 @@ pub(crate) fn choice(
     ensures { Makes result (if_tree (tree_of condition.value) (trees_of first.items) (trees_of second.items)) }
 {
     Ok(nodes::choose(alloc, condition, first, second)?)
+}
+
+/// A value, and the block that runs when it is known.
+pub(crate) fn when(alloc: Global, value: Arc<Expr>, body: Vec<Expr>) -> Result<Expr, Stop>
+    ensures { Makes result (when_tree (tree_of value.value) (trees_of body.items)) }
+{
+    Ok(nodes::when(alloc, value, body)?)
+}
+
+/// The same, and a handler of its problem.
+pub(crate) fn when_catch(
+    alloc: Global,
+    value: Arc<Expr>,
+    body: Vec<Expr>,
+    pattern: Pattern,
+    handler: Vec<Expr>,
+) -> Result<Expr, Stop>
+    ensures { Makes result (when_catch_tree (tree_of value.value) (trees_of body.items) pattern (trees_of handler.items)) }
+{
+    Ok(nodes::when_catch(alloc, value, body, pattern, handler)?)
 }
 
 /// What `return` stands for.

@@ -59,6 +59,8 @@ fn word_begins(word: Reserved) -> bool
             | Reserved::Try
             | Reserved::Throw
             | Reserved::Def
+            | Reserved::When
+            | Reserved::Ref
     )
 }
 
@@ -213,6 +215,18 @@ impl<'a> Reader<'a> {
             return false;
         };
         matches!(first.token, Token::Name(_)) && is_becomes(front_sign(rest))
+    }
+
+    pub(crate) fn at_dot(&self) -> bool
+        ensures { result ≡ reading.is_dot (sign_in (left_of self.now)) }
+    {
+        matches!(self.sign(), Some(Sign::Dot))
+    }
+
+    pub(crate) fn at_arrow(&self) -> bool
+        ensures { result ≡ reading.is_arrow (sign_in (left_of self.now)) }
+    {
+        matches!(self.sign(), Some(Sign::Arrow))
     }
 
     pub(crate) fn at_comma(&self) -> bool

@@ -4,6 +4,7 @@ ghost use Rattle.egrammar.specs.Reading as reading;
 ghost use Rattle.egrammar.specs.Reading.{rest_of};
 ghost use Rattle.eparser.specs.View.{left_of, Advances, IsNoLonger, GivesPlain, GivesPatterns, GivesPlace, GoesPast};
 
+use eforms::words::RefWord;
 use enodes::target::Target;
 use esigns::operator::Bracket;
 use esigns::stop::Stop;
@@ -52,6 +53,17 @@ impl<'a> Reader<'a> {
         Ok(())
     }
 
+    /// Goes past the `->` of a `when`.
+    pub(crate) fn arrow(&mut self) -> Result<(), Stop>
+        ensures { GoesPast result self.old self.new reading.is_arrow }
+    {
+        if !self.at_arrow() {
+            return Err(Stop::Unexpected);
+        }
+        self.skip();
+        Ok(())
+    }
+
     /// A name, such as a verb.
     pub(crate) fn name(&mut self) -> Result<Text, Stop>
         ensures gives { GivesPlain result self.old self.new reading.name_at }
@@ -68,6 +80,34 @@ impl<'a> Reader<'a> {
             }
             _ => Err(Stop::Unexpected),
         }
+    }
+
+    /// A name with a meaning of its own behind `Ref.`.
+    fn ref_name(&mut self) -> Result<RefWord, Stop>
+        ensures { GivesPlain result self.old self.new reading.ref_name_at }
+    {
+        let Some((first, rest)) = self.rest.split_first() else {
+            return Err(Stop::Unexpected);
+        };
+        let Token::Name(name) = &first.token else {
+            return Err(Stop::Unexpected);
+        };
+        let Some(word) = RefWord::of(name.as_str()) else {
+            return Err(Stop::Unexpected);
+        };
+        self.rest = rest;
+        Ok(word)
+    }
+
+    /// The `.` behind `Ref`, and such a name.
+    pub(crate) fn ref_word(&mut self) -> Result<RefWord, Stop>
+        ensures { GivesPlain result self.old self.new reading.ref_word_at }
+    {
+        if !self.at_dot() {
+            return Err(Stop::Unexpected);
+        }
+        self.skip();
+        self.ref_name()
     }
 
     /// What a definition binds.

@@ -11,14 +11,19 @@ use Rattle.kernele.specs.declared.tree.Pattern.TheVariants as pattern
 use Rattle.code.specs.Frames.{Frame, only_names, behind}
 use Rattle.values.specs.Data.{Val, null, bool, int, text, list, broken, object, ejector, promise, Vals, no_vals, and_val}
 use Rattle.values.specs.Replies.{items_in, list_reply, text_in}
-use Rattle.heap.specs.State.{Bind, fixed, slot, Object, frame_of}
+use Rattle.heap.specs.State.{Bind, fixed, slot, Plain, frame_of}
 use Rattle.erules.specs.At.{At}
 use Rattle.erules.specs.Outcomes.{End, value, halt, Gather, values, halted, reply_end}
-use Rattle.erules.specs.Rules.{seeking, noun_read, slot_put, capturing, called}
-use Rattle.erules.proofs.Seeking.{Reads, seeking_reads, noun_reads, captures_read, called_reads}
-use Rattle.erules.specs.Rules.{begun, Listing, listed, unlisted, listing_by, listing_of, taken, parts_of, parts_bound, parts_end, mismatch, as_many, again, bound_in, matched, matched_all, next_slot, has_room, slot_made, variable_made, variable_end, assigned, assigned_end, Capture, captured, missing, capture_of, next_object, has_object_room, object_made, placed, placed_end, with_object, object_end, leaving, escaped, sought_slot}
-use Rattle.erules.specs.Rules.{Target, gives, enters, callee_of, callee_target, target_of, list_end, same_end, Choice, goes, ends, bool_in, choice_by, choice_of, thrown_by, thrown_end, next_ejector, escape_end}
-use Rattle.erules.specs.Rules.{Ends, at_budget, at_depth, at_node, Runs, run_null, run_bool, run_int, run_text, run_noun, run_define, run_variable, run_assign, run_call_receiver, run_call_gives, run_call_enters, run_list, run_same_left, run_same, run_define_list, run_hide, run_throw, run_if_goes, run_if_ends, run_while_again, run_while_halts, run_while_done, run_while_ends, run_for, run_for_ends, run_try, run_try_caught, run_object, run_escape, Args, args_none, args_next, args_halt, Block, in_block, Taking, in_taking, Each, each_none, each_next, each_halt}
+use Rattle.erules.specs.Rules.{seeking, noun_read, slot_put, capturing, called, uses, receiver, receiver_read, when_end, when_made, broken_by, broken_end}
+use Rattle.erules.proofs.Seeking.{Reads, seeking_reads, noun_reads, captures_read}
+use Rattle.erules.specs.Rules.{begun, Listing, listed, unlisted, listing_by, listing_of, taken, parts_of, parts_bound, parts_end, mismatch, as_many, again, bound_in, matched, matched_all, next_slot, has_room, slot_made, variable_made, variable_end, assigned, assigned_end, Capture, captured, missing, capture_of, object_made, placed, placed_end, with_object, object_end, leaving, escaped, sought_slot}
+use Rattle.erules.specs.Rules.{Target, gives, enters, callee_of, callee_target, target_of, list_end, Choice, goes, ends, bool_in, choice_by, choice_of, thrown_by, thrown_end, next_ejector, escape_end}
+use Rattle.erules.specs.Rules.{Ends, at_budget, at_depth, at_node, Runs, run_null, run_bool, run_int, run_text, run_noun, run_define, run_variable, run_assign, run_call_receiver, run_call_gives, run_call_enters, run_call_uses, run_send_receiver, run_send, run_list, run_same_left, run_same, run_define_list, run_hide, run_throw, run_if_goes, run_if_ends, run_while_again, run_while_halts, run_while_done, run_while_ends, run_for, run_for_ends, run_try, run_try_caught, run_object, run_escape, run_when, run_when_catch, run_new_promise, run_break_ref, run_state_ref, Needs, needs, Args, args_none, args_next, args_halt, Block, in_block, Taking, in_taking, Each, each_none, each_next, each_halt}
+use Rattle.erules.specs.Doings.{next_object, has_object_room, same_end, same_read, sent_end, sent_at, datum_of, datum_read, state_end, given_by, resolver_end, resolver_out, promise_pair, pair_end, pair_out, behind as left_by}
+use Rattle.erules.proofs.Doings.{Works, datum_works, called_works, sent_works, when_works, pair_works, used_works, same_works}
+use Rattle.post.specs.Delivery.{Handler}
+use Rattle.sends.specs.Vats.{ended}
+use Rattle.ids.specs.declared.names.VatNo.{VatNo}
 
 -- behind a place stand these names more, in the same scope
 abbrev pub Adds : List TopName → At → At → Type 0
@@ -36,6 +41,7 @@ GatherAdds (halted h) ts a b = Unit {0}
 abbrev TargetAdds : Target → List TopName → At → At → Type 0
 TargetAdds (gives o) ts a b = EndAdds o ts a b
 TargetAdds (enters ns body) ts a b = Adds ts a b
+TargetAdds (uses p d) ts a b = Adds ts a b
 
 abbrev ChoiceAdds : Choice → List TopName → At → At → Type 0
 ChoiceAdds (goes q) ts a b = Adds ts a b
@@ -123,27 +129,27 @@ mismatch_adds words (ejector j) ts a b = tt
 mismatch_adds words (promise p) ts a b = tt
 mismatch_adds words (broken problem) ts a b = tt
 
-counted_adds : (ps : List Pattern) (v : Val) (vs : Vals) (q : Bool) (a : At) → as_many ps vs ≡ q
-    → EndAdds (parts_end (value v) (listing_by (codes "wrong list") v (cond q (Some vs) None))) (names_of_all ps) a (parts_bound ps (listing_by (codes "wrong list") v (cond q (Some vs) None)) a)
-counted_adds ps v vs true a e = all_adds ps vs a e
-counted_adds ps v vs false a e = mismatch_adds (codes "wrong list") v (names_of_all ps) a a
+counted_adds : (ps : List Pattern) (v w : Val) (vs : Vals) (q : Bool) (a : At) → as_many ps vs ≡ q
+    → EndAdds (parts_end (value v) (listing_by (codes "wrong list") w (cond q (Some vs) None))) (names_of_all ps) a (parts_bound ps (listing_by (codes "wrong list") w (cond q (Some vs) None)) a)
+counted_adds ps v w vs true a e = all_adds ps vs a e
+counted_adds ps v w vs false a e = mismatch_adds (codes "wrong list") w (names_of_all ps) a a
 
-taken_adds : (ps : List Pattern) (v : Val) (m : Option Vals) (a : At)
-    → EndAdds (parts_end (value v) (listing_by (codes "wrong list") v (taken ps m))) (names_of_all ps) a (parts_bound ps (listing_by (codes "wrong list") v (taken ps m)) a)
-taken_adds ps v (Some vs) a = counted_adds ps v vs (as_many ps vs) a refl
-taken_adds ps v None a = mismatch_adds (codes "wrong list") v (names_of_all ps) a a
+taken_adds : (ps : List Pattern) (v w : Val) (m : Option Vals) (a : At)
+    → EndAdds (parts_end (value v) (listing_by (codes "wrong list") w (taken ps m))) (names_of_all ps) a (parts_bound ps (listing_by (codes "wrong list") w (taken ps m)) a)
+taken_adds ps v w (Some vs) a = counted_adds ps v w vs (as_many ps vs) a refl
+taken_adds ps v w None a = mismatch_adds (codes "wrong list") w (names_of_all ps) a a
 
 made_adds : (room : Bool) (x : Name) (v : Val) (a : At) → EndAdds (variable_end room v) (variable_name x ∷ []) a (variable_made room x v a)
 made_adds true x v a = bound_adds a.own_scope (variable_name x) (slot (next_slot a)) (slot_made v a) refl
 made_adds false x v a = tt
 
-placed_adds : (room : Bool) (p : Pattern) (o : Object) (a b : At) → b.nouns ≡ a.nouns → b.own_scope ≡ a.own_scope → EndAdds (placed_end room a) (name_of p) a (placed room p o b)
+placed_adds : (room : Bool) (p : Pattern) (o : Plain) (a b : At) → b.nouns ≡ a.nouns → b.own_scope ≡ a.own_scope → EndAdds (placed_end room a) (name_of p) a (placed room p o b)
 placed_adds true p o a b n own = begun_adds (value (object (next_object a))) (name_of p) a b (matched p (object (next_object b)) (object_made o b)) n own (matched_adds p (object (next_object b)) (object_made o b))
 placed_adds false p o a b n own = tt
 
 object_adds : (p : Pattern) (ms : Methods) (c : Capture) (a b : At) → Reads a b → EndAdds (object_end c a) (name_of p) a (with_object p ms c b)
 object_adds p ms (captured ns) a b e =
-    let o : Object = record { own = p; captured = ns; methods = ms } in
+    let o : Plain = record { own = p; captured = ns; methods = ms } in
     subst (λ z. EndAdds (placed_end (has_object_room a) a) (name_of p) a (placed (has_object_room z) p o z)) (sym e) (placed_adds (has_object_room a) p o a (record a { touched = b.touched }) refl refl)
 object_adds p ms (missing x) a b e = tt
 
@@ -157,18 +163,46 @@ assigned_adds x v ts a b h = slot_adds x v (sought_slot x b) ts a (seeking x b) 
 target_adds : (t : Target) (ts : List TopName) (a b : At) → Adds ts a b → TargetAdds t ts a b
 target_adds (gives o) ts a b h = end_adds o ts a b h
 target_adds (enters ns body) ts a b h = h
+target_adds (uses p d) ts a b h = h
 
 call_adds : (v : Val) (verb : Name) (g : Gather) (ts us : List TopName) (a b c : At) → Adds ts a b → GatherAdds g us b c → TargetAdds (target_of v verb g c) (ts ++ us) a c
-call_adds v verb (values vs) ts us a b c h g = target_adds (callee_target (callee_of v) v verb vs c) (ts ++ us) a c (adds_both ts us a b c h g)
+call_adds v verb (values vs) ts us a b c h g = target_adds (callee_target (callee_of c.vat (receiver v c)) (receiver v c) verb vs (receiver_read v c)) (ts ++ us) a c (adds_both ts us a b c h g)
 call_adds v verb (halted s) ts us a b c h g = tt
 
 list_adds : (g : Gather) (ts : List TopName) (a b : At) → GatherAdds g ts a b → EndAdds (list_end g) ts a b
 list_adds (values vs) ts a b h = end_adds (reply_end (list_reply vs)) ts a b h
 list_adds (halted s) ts a b h = tt
 
-same_adds : (v : Val) (o : End) (ts us : List TopName) (a b c : At) → Adds ts a b → EndAdds o us b c → EndAdds (same_end v o) (ts ++ us) a c
-same_adds v (value w) ts us a b c h g = adds_both ts us a b c h g
+-- what is done between two trees adds nothing
+worked_adds : (ts : List TopName) (a b c : At) → Adds ts a b → Works b c → Adds ts a c
+worked_adds ts a b c h w = adds_on ts a b c h (ap (λ z. z.nouns) w) (ap (λ z. z.own_scope) w)
+
+same_adds : (v : Val) (o : End) (ts us : List TopName) (a b c : At) → Adds ts a b → EndAdds o us b c → EndAdds (same_end v o c) (ts ++ us) a (same_read v o c)
+same_adds v (value w) ts us a b c h g = end_adds (same_end v (value w) c) (ts ++ us) a (same_read v (value w) c) (worked_adds (ts ++ us) a c (same_read v (value w) c) (adds_both ts us a b c h g) (same_works v (value w) c))
 same_adds v (halt s) ts us a b c h g = tt
+
+sent_adds : (verb : Name) (v : Val) (g : Gather) (ts us : List TopName) (a b c : At) → Adds ts a b → GatherAdds g us b c → EndAdds (sent_end v g c) (ts ++ us) a (sent_at verb v g c)
+sent_adds verb v (values vs) ts us a b c h g =
+    end_adds (sent_end v (values vs) c) (ts ++ us) a (sent_at verb v (values vs) c) (worked_adds (ts ++ us) a c (sent_at verb v (values vs) c) (adds_both ts us a b c h g) (sent_works verb v (values vs) c))
+sent_adds verb v (halted s) ts us a b c h g = tt
+
+when_adds : (body : Trees) (handler : Option Handler) (o : End) (ts : List TopName) (a b : At) → EndAdds o ts a b → EndAdds (when_end body handler o b) ts a (when_made body handler o b)
+when_adds body handler (value v) ts a b h =
+    let z = when_made body handler (value v) b in
+    end_adds (when_end body handler (value v) b) ts a z (worked_adds ts a b z h (when_works body handler (value v) b))
+when_adds body handler (halt s) ts a b h = tt
+
+datum_adds : (o : End) (ts : List TopName) (a b : At) → EndAdds o ts a b → EndAdds (datum_of o b) ts a (datum_read o b)
+datum_adds (value v) ts a b h = worked_adds ts a b (datum_read (value v) b) h (datum_works (value v) b)
+datum_adds (halt s) ts a b h = tt
+
+broken_adds : (o : End) (ts : List TopName) (a b : At) → EndAdds o ts a b → EndAdds (broken_end o) ts a b
+broken_adds (value v) ts a b h = end_adds (broken_by v (text_in v)) ts a b h
+broken_adds (halt s) ts a b h = tt
+
+state_adds : (here : VatNo) (o : End) (ts : List TopName) (a b : At) → EndAdds o ts a b → EndAdds (state_end here o) ts a b
+state_adds here (value v) ts a b h = h
+state_adds here (halt s) ts a b h = tt
 
 tested_adds : (c : Choice) (ts : List TopName) (a b : At) → Adds ts a b → ChoiceAdds c ts a b
 tested_adds (goes q) ts a b h = h
@@ -225,33 +259,52 @@ mutual
   runs_add (run_call_receiver r) = tt
   runs_add (run_call_gives {r = r} {verb = verb} {args = ts} {a = a} {b = b} {c = c} {v = v} {g = g} {o = o} p u e) =
       let h : EndAdds o (own_names r ++ own_names_in ts) a c = subst (λ t. TargetAdds t (own_names r ++ own_names_in ts) a c) e (call_adds v verb g (own_names r) (own_names_in ts) a b c (ends_add p) (args_add u)) in
-      end_on o (own_names r ++ own_names_in ts) a c (called v g c) h (ap (λ b. b.nouns) (called_reads v g c)) (ap (λ b. b.own_scope) (called_reads v g c))
+      end_on o (own_names r ++ own_names_in ts) a c (called v verb g c) h (ap (λ b. b.nouns) (called_works v verb g c)) (ap (λ b. b.own_scope) (called_works v verb g c))
   runs_add (run_call_enters {r = r} {verb = verb} {args = ts} {a = a} {b = b} {c = c} {d = d} {v = v} {g = g} {o = o} p u e q) =
       end_adds o (own_names r ++ own_names_in ts) a (leaving c d) (subst (λ t. TargetAdds t (own_names r ++ own_names_in ts) a c) e (call_adds v verb g (own_names r) (own_names_in ts) a b c (ends_add p) (args_add u)))
+  runs_add (run_call_uses {r = r} {verb = verb} {args = ts} {a = a} {b = b} {c = c} {v = v} {g = g} {p = to} {d = d} p u e) =
+      let z = resolver_out to (given_by d (called v verb g c)) (left_by d (called v verb g c)) in
+      let h : Adds (own_names r ++ own_names_in ts) a c = subst (λ t. TargetAdds t (own_names r ++ own_names_in ts) a c) e (call_adds v verb g (own_names r) (own_names_in ts) a b c (ends_add p) (args_add u)) in
+      end_adds (resolver_end (given_by d (called v verb g c))) (own_names r ++ own_names_in ts) a z (worked_adds (own_names r ++ own_names_in ts) a c z h (used_works v verb g to d c))
+  runs_add (run_send_receiver r) = tt
+  runs_add (run_send {r = r} {verb = verb} {args = ts} {a = a} {b = b} {c = c} {v = v} {g = g} p u) = sent_adds verb v g (own_names r) (own_names_in ts) a b c (ends_add p) (args_add u)
   runs_add (run_list {ts = ts} {a = a} {b = b} {g = g} u) = list_adds g (own_names_in ts) a b (args_add u)
   runs_add (run_same_left r) = tt
   runs_add (run_same {l = l} {r = r} {a = a} {b = b} {c = c} {v = v} {o = o} p u) = same_adds v o (own_names l) (own_names r) a b c (ends_add p) (ends_add u)
   runs_add (run_define_list {ps = ps} {e = e} {a = a} {b = b} {o = value v} r) =
-      then_adds (parts_end (value v) (parts_of ps (value v))) (own_names e) (names_of_all ps) a b (parts_bound ps (parts_of ps (value v)) b) (ends_add r) (taken_adds ps v (items_in v) b)
+      let w : Val = given_by (ended v) b in
+      let d : At = datum_read (value v) b in
+      then_adds (parts_end (value v) (parts_of ps (value w))) (own_names e) (names_of_all ps) a d (parts_bound ps (parts_of ps (value w)) d)
+      (worked_adds (own_names e) a b d (ends_add r) (datum_works (value v) b)) (taken_adds ps v w (items_in w) d)
   runs_add (run_define_list {o = halt h} r) = tt
   runs_add {a = a} {b = b} {o = o} (run_hide q) = stays o a b (block_stays q).0 (block_stays q).1
-  runs_add (run_throw {e = e} {a = a} {b = b} {o = o} r) = thrown_adds o (own_names e) a b (ends_add r)
+  runs_add (run_throw {e = e} {a = a} {b = b} {o = o} r) = thrown_adds o (own_names e) a b (needs_add r)
   runs_add (run_if_goes {c = c} {a = a} {b = b} {d = d} {o = o} {p = p} r e q) =
-      end_adds p (own_names c) a d (adds_on (own_names c) a b d (subst (λ s. ChoiceAdds s (own_names c) a b) e (choice_adds o (own_names c) a b (ends_add r))) (block_stays q).0 (block_stays q).1)
-  runs_add (run_if_ends {c = c} {a = a} {b = b} {o = o} r e) = subst (λ s. ChoiceAdds s (own_names c) a b) e (choice_adds o (own_names c) a b (ends_add r))
+      end_adds p (own_names c) a d (adds_on (own_names c) a b d (subst (λ s. ChoiceAdds s (own_names c) a b) e (choice_adds o (own_names c) a b (needs_add r))) (block_stays q).0 (block_stays q).1)
+  runs_add (run_if_ends {c = c} {a = a} {b = b} {o = o} r e) = subst (λ s. ChoiceAdds s (own_names c) a b) e (choice_adds o (own_names c) a b (needs_add r))
   runs_add (run_while_again {c = c} {a = a} {b = b} {d = d} {e = z} {o = o} {p = p} r e q w) =
-      let h : Adds (own_names c) a b = subst (λ s. ChoiceAdds s (own_names c) a b) e (choice_adds o (own_names c) a b (ends_add r)) in
+      let h : Adds (own_names c) a b = subst (λ s. ChoiceAdds s (own_names c) a b) e (choice_adds o (own_names c) a b (needs_add r)) in
       begun_adds p (own_names c) a (again a d) z refl ((block_stays q).1 ∙ h.1) (runs_add w)
   runs_add (run_while_halts r e q) = tt
-  runs_add (run_while_done {c = c} {a = a} {b = b} {o = o} r e) = subst (λ s. ChoiceAdds s (own_names c) a b) e (choice_adds o (own_names c) a b (ends_add r))
-  runs_add (run_while_ends {c = c} {a = a} {b = b} {o = o} r e) = subst (λ s. ChoiceAdds s (own_names c) a b) e (choice_adds o (own_names c) a b (ends_add r))
+  runs_add (run_while_done {c = c} {a = a} {b = b} {o = o} r e) = subst (λ s. ChoiceAdds s (own_names c) a b) e (choice_adds o (own_names c) a b (needs_add r))
+  runs_add (run_while_ends {c = c} {a = a} {b = b} {o = o} r e) = subst (λ s. ChoiceAdds s (own_names c) a b) e (choice_adds o (own_names c) a b (needs_add r))
   runs_add (run_for {e = e} {a = a} {b = b} {d = d} {o = o} {q = q} r f u) =
-      end_adds q (own_names e) a d (adds_on (own_names e) a b d (subst (λ l. ListingAdds l (own_names e) a b) f (listing_adds o (own_names e) a b (ends_add r))) (each_stays u).0 (each_stays u).1)
-  runs_add (run_for_ends {e = e} {a = a} {b = b} {o = o} r f) = subst (λ l. ListingAdds l (own_names e) a b) f (listing_adds o (own_names e) a b (ends_add r))
+      end_adds q (own_names e) a d (adds_on (own_names e) a b d (subst (λ l. ListingAdds l (own_names e) a b) f (listing_adds o (own_names e) a b (needs_add r))) (each_stays u).0 (each_stays u).1)
+  runs_add (run_for_ends {e = e} {a = a} {b = b} {o = o} r f) = subst (λ l. ListingAdds l (own_names e) a b) f (listing_adds o (own_names e) a b (needs_add r))
   runs_add {a = a} {b = b} {o = o} (run_try q e) = stays o a b (block_stays q).0 (block_stays q).1
   runs_add (run_try_caught {a = a} {d = d} {q = o} q e w) = stays o a d ((taking_stays w).0 ∙ (block_stays q).0) ((taking_stays w).1 ∙ (block_stays q).1)
   runs_add (run_object {p = p} {ms = ms} {a = a}) = object_adds p ms (capture_of p ms a) a (capturing p ms a) (captures_read (captured []) (captures p ms) a)
   runs_add (run_escape {a = a} {b = b} {o = o} q) = stays (escape_end (next_ejector a) o) a (escaped a b) (taking_stays q).0 (taking_stays q).1
+  runs_add (run_when {e = e} {body = body} {a = a} {b = b} {o = o} r) = when_adds body None o (own_names e) a b (ends_add r)
+  runs_add (run_when_catch {e = e} {body = body} {p = p} {handler = handler} {a = a} {b = b} {o = o} r) = when_adds body (Some (record { pattern = p; block = handler })) o (own_names e) a b (ends_add r)
+  runs_add (run_new_promise {a = a}) =
+      let z = pair_out (given_by (promise_pair a) a) (left_by (promise_pair a) a) in
+      stays (pair_end (given_by (promise_pair a) a) a) a z (ap (λ b. b.nouns) (pair_works a)) (ap (λ b. b.own_scope) (pair_works a))
+  runs_add (run_break_ref {e = e} {a = a} {b = b} {o = o} r) = broken_adds o (own_names e) a b (needs_add r)
+  runs_add (run_state_ref {e = e} {a = a} {b = b} {o = o} r) = state_adds a.vat o (own_names e) a b (needs_add r)
+
+  pub needs_add : {k : ℕ} {t : Tree} {a b : At} {o : End} → Needs k t a o b → EndAdds o (own_names t) a b
+  needs_add (needs {t = t} {a = a} {b = b} {o = o} r) = datum_adds o (own_names t) a b (ends_add r)
 
   pub args_add : {k : ℕ} {ts : Trees} {a b : At} {g : Gather} → Args k ts a g b → GatherAdds g (own_names_in ts) a b
   args_add {a = a} args_none = adds_none a a refl refl
@@ -260,8 +313,8 @@ mutual
   args_add (args_halt r) = tt
 
 -- a condition that chose has given a value, and so has a list that is gone over
-pub goes_add : {k : ℕ} {t : Tree} {a b : At} {o : End} {q : Bool} → Ends k t a o b → choice_of o ≡ goes q → Adds (own_names t) a b
-goes_add {t = t} {a = a} {b = b} {o = o} r e = subst (λ c. ChoiceAdds c (own_names t) a b) e (choice_adds o (own_names t) a b (ends_add r))
+pub goes_add : {k : ℕ} {t : Tree} {a b : At} {o : End} {q : Bool} → Needs k t a o b → choice_of o ≡ goes q → Adds (own_names t) a b
+goes_add {t = t} {a = a} {b = b} {o = o} r e = subst (λ c. ChoiceAdds c (own_names t) a b) e (choice_adds o (own_names t) a b (needs_add r))
 
-pub lists_add : {k : ℕ} {t : Tree} {a b : At} {o : End} {vs : Vals} → Ends k t a o b → listing_of o ≡ listed vs → Adds (own_names t) a b
-lists_add {t = t} {a = a} {b = b} {o = o} r e = subst (λ l. ListingAdds l (own_names t) a b) e (listing_adds o (own_names t) a b (ends_add r))
+pub lists_add : {k : ℕ} {t : Tree} {a b : At} {o : End} {vs : Vals} → Needs k t a o b → listing_of o ≡ listed vs → Adds (own_names t) a b
+lists_add {t = t} {a = a} {b = b} {o = o} r e = subst (λ l. ListingAdds l (own_names t) a b) e (listing_adds o (own_names t) a b (needs_add r))

@@ -12,15 +12,16 @@ use Rattle.ids.specs.declared.names.ObjId.{ObjId}
 use Rattle.values.specs.Data.{Vals, object}
 use Rattle.values.specs.View.{val_of, vals_of}
 use Rattle.values.specs.declared.value.Value.{Value}
-use Rattle.heap.specs.State.{Bind, Nouns, Object, Cells, frame_of}
+use Rattle.heap.specs.State.{Bind, Nouns, Plain, Cells, frame_of}
 use Rattle.erules.specs.At.{At}
 use Rattle.erules.proofs.Patterns.{as_many-true, as_many-false}
-use Rattle.erules.specs.Rules.{sought, seeking, Capture, captured, missing, and_captured, all_captured, all_sought, named, named_all, method_in, as_many, next_object, has_object_room, object_made, placed, matched, given}
+use Rattle.erules.specs.Rules.{sought, seeking, Capture, captured, missing, and_captured, all_captured, all_sought, named, named_all, method_in, as_many, object_made, placed, matched, given}
 use Rattle.erules.specs.Rules.{capturing, placed_end, object_end}
 use Rattle.erules.proofs.Scopes.{room}
 use Rattle.erules.proofs.Seeking.{captures_read}
 use Rattle.code.specs.Frames.{captured_names_of}
 use Rattle.code.specs.declared.code.Capture.{Capture as CaptureCode}
+use Rattle.erules.specs.Doings.{next_object, has_object_room}
 
 -- behind a name that stands for nothing, nothing is captured
 missing_stays : (y : Name) (xs : List Name) (a : At) → all_captured (missing y) xs a ≡ missing y
@@ -72,7 +73,7 @@ object_ends p ms ns d a b q e =
     ap (λ (z : At). placed_end (has_object_room z) z) reads ∙ placed_ends (has_object_room a) a (capturing p ms a).touched ∙ ap (λ m. object_end m a) q
 
 -- an object for which there is room
-pub placed_there : (p : Pattern) (o q : Object) (i : ObjId) (a b c : At) → a.objects < 4096 → q ≡ o → i ≡ next_object a → b ≡ object_made q a → c ≡ matched p (object i) b → c ≡ placed (has_object_room a) p o a
+pub placed_there : (p : Pattern) (o q : Plain) (i : ObjId) (a b c : At) → a.objects < 4096 → q ≡ o → i ≡ next_object a → b ≡ object_made q a → c ≡ matched p (object i) b → c ≡ placed (has_object_room a) p o a
 placed_there p o q i a b c h e f g m =
     m ∙ (λ j. matched p (object (f j)) (g j)) ∙ ap (λ r. matched p (object (next_object a)) (object_made r a)) e ∙ sym (ap (λ r. placed r p o a) (room a.objects h))
 

@@ -1,15 +1,17 @@
 -- Each node that begins takes a step, none runs too deep.
-use Rattle.std.proofs.Common.{◌≡◌, ℕ, ◌+◌, ◌≤◌, [], ap, arith}
+use Rattle.std.proofs.Common.{◌≡◌, ℕ, ◌+◌, ◌≤◌, [], Some, None, ap, arith}
 use Rattle.kernele.specs.Tree.{Tree, Trees}
 use Rattle.scopes.specs.Free.{captures}
 use Rattle.kernele.specs.declared.tree.Pattern.{Pattern}
 use Rattle.values.specs.Data.{Val, Vals}
 use Rattle.erules.specs.At.{At}
 use Rattle.erules.specs.Outcomes.{End, Gather}
-use Rattle.erules.specs.Derivations.{nodes, nodes_below, nodes_of_args, nodes_of_items, nodes_of_block, nodes_of_taking, nodes_of_each, deepest, deepest_below, deepest_of_args, deepest_of_items, deepest_of_block, deepest_of_taking, deepest_of_each}
-use Rattle.erules.specs.Rules.{parts_of, entering, captured, capture_of, capturing, Ends, at_budget, at_depth, at_node, Runs, run_null, run_bool, run_int, run_text, run_noun, run_define, run_variable, run_assign, run_call_receiver, run_call_gives, run_call_enters, run_list, run_same_left, run_same, run_define_list, run_hide, run_throw, run_if_goes, run_if_ends, run_while_again, run_while_halts, run_while_done, run_while_ends, run_for, run_for_ends, run_try, run_try_caught, run_object, run_escape, Args, args_none, args_next, args_halt, Items, items_none, items_next, items_halt, Block, in_block, Taking, in_taking, Each, each_none, each_next, each_halt}
-use Rattle.erules.proofs.Seeking.{noun_reads, captures_read, called_reads}
+use Rattle.erules.specs.Derivations.{nodes, nodes_below, nodes_of_args, nodes_of_items, nodes_of_block, nodes_of_taking, nodes_of_each, deepest, deepest_below, deepest_of_args, deepest_of_items, deepest_of_block, deepest_of_taking, deepest_of_each, nodes_of_datum, deepest_of_datum}
+use Rattle.erules.specs.Rules.{parts_of, entering, captured, capture_of, capturing, Ends, at_budget, at_depth, at_node, Runs, run_null, run_bool, run_int, run_text, run_noun, run_define, run_variable, run_assign, run_call_receiver, run_call_gives, run_call_enters, run_call_uses, run_send_receiver, run_send, run_list, run_same_left, run_same, run_define_list, run_hide, run_throw, run_if_goes, run_if_ends, run_while_again, run_while_halts, run_while_done, run_while_ends, run_for, run_for_ends, run_try, run_try_caught, run_object, run_escape, run_when, run_when_catch, run_new_promise, run_break_ref, run_state_ref, Needs, needs, Args, args_none, args_next, args_halt, Items, items_none, items_next, items_halt, Block, in_block, Taking, in_taking, Each, each_none, each_next, each_halt}
+use Rattle.erules.proofs.Seeking.{noun_reads, captures_read}
 use Rattle.erules.proofs.Spent.{matched_left, defined_left, parts_left, declared_left, assigned_left, object_left}
+use Rattle.erules.proofs.Doings.{datum_works, called_works, sent_works, when_works, pair_works, used_works, same_works}
+use Rattle.erules.specs.Doings.{datum_of, datum_read}
 
 mutual
   pub ends_counted : {k : ℕ} {t : Tree} {a b : At} {o : End} (r : Ends k t a o b) → nodes r + b.left ≡ a.left
@@ -27,26 +29,37 @@ mutual
   runs_counted (run_variable {x = x} {b = b} {o = o} r) = omega (arith, ends_counted r, declared_left x o b)
   runs_counted (run_assign {x = x} {b = b} {o = o} r) = omega (arith, ends_counted r, assigned_left x o b)
   runs_counted (run_call_receiver r) = ends_counted r
-  runs_counted (run_call_gives {c = c} {v = v} {g = g} r u e) = omega (arith, ends_counted r, args_counted u, ap (λ b. b.left) (called_reads v g c))
-  runs_counted (run_call_enters {c = c} {v = v} {g = g} r u e q) = omega (arith, ends_counted r, args_counted u, ap (λ b. b.left) (called_reads v g c), items_counted q)
+  runs_counted (run_call_gives {verb = verb} {c = c} {v = v} {g = g} r u e) = omega (arith, ends_counted r, args_counted u, ap (λ b. b.left) (called_works v verb g c))
+  runs_counted (run_call_enters {verb = verb} {c = c} {v = v} {g = g} r u e q) = omega (arith, ends_counted r, args_counted u, ap (λ b. b.left) (called_works v verb g c), items_counted q)
+  runs_counted (run_call_uses {verb = verb} {c = c} {v = v} {g = g} {p = p} {d = d} r u e) = omega (arith, ends_counted r, args_counted u, ap (λ b. b.left) (used_works v verb g p d c))
+  runs_counted (run_send_receiver r) = ends_counted r
+  runs_counted (run_send {verb = verb} {c = c} {v = v} {g = g} r u) = omega (arith, ends_counted r, args_counted u, ap (λ b. b.left) (sent_works verb v g c))
   runs_counted (run_list r) = args_counted r
   runs_counted (run_same_left r) = ends_counted r
-  runs_counted (run_same r u) = omega (arith, ends_counted r, ends_counted u)
-  runs_counted (run_define_list {ps = ps} {b = b} {o = o} r) = omega (arith, ends_counted r, parts_left ps (parts_of ps o) b)
+  runs_counted (run_same {c = c} {v = v} {o = o} r u) = omega (arith, ends_counted r, ends_counted u, ap (λ b. b.left) (same_works v o c))
+  runs_counted (run_define_list {ps = ps} {b = b} {o = o} r) = omega (arith, ends_counted r, ap (λ b. b.left) (datum_works o b), parts_left ps (parts_of ps (datum_of o b)) (datum_read o b))
   runs_counted (run_hide q) = block_counted q
-  runs_counted (run_throw r) = ends_counted r
-  runs_counted (run_if_goes r e q) = omega (arith, ends_counted r, block_counted q)
-  runs_counted (run_if_ends r e) = ends_counted r
-  runs_counted (run_while_again r e q w) = omega (arith, ends_counted r, block_counted q, runs_counted w)
-  runs_counted (run_while_halts r e q) = omega (arith, ends_counted r, block_counted q)
-  runs_counted (run_while_done r e) = ends_counted r
-  runs_counted (run_while_ends r e) = ends_counted r
-  runs_counted (run_for r e q) = omega (arith, ends_counted r, each_counted q)
-  runs_counted (run_for_ends r e) = ends_counted r
+  runs_counted (run_throw r) = needs_counted r
+  runs_counted (run_if_goes r e q) = omega (arith, needs_counted r, block_counted q)
+  runs_counted (run_if_ends r e) = needs_counted r
+  runs_counted (run_while_again r e q w) = omega (arith, needs_counted r, block_counted q, runs_counted w)
+  runs_counted (run_while_halts r e q) = omega (arith, needs_counted r, block_counted q)
+  runs_counted (run_while_done r e) = needs_counted r
+  runs_counted (run_while_ends r e) = needs_counted r
+  runs_counted (run_for r e q) = omega (arith, needs_counted r, each_counted q)
+  runs_counted (run_for_ends r e) = needs_counted r
   runs_counted (run_try q e) = block_counted q
   runs_counted (run_try_caught q e w) = omega (arith, block_counted q, taking_counted w)
   runs_counted (run_object {p = p} {ms = ms} {a = a}) = omega (arith, object_left p ms (capture_of p ms a) (capturing p ms a), ap (λ b. b.left) (captures_read (captured []) (captures p ms) a))
   runs_counted (run_escape q) = taking_counted q
+  runs_counted (run_when {body = body} {b = b} {o = o} r) = omega (arith, ends_counted r, ap (λ b. b.left) (when_works body None o b))
+  runs_counted (run_when_catch {body = body} {p = p} {handler = handler} {b = b} {o = o} r) = omega (arith, ends_counted r, ap (λ b. b.left) (when_works body (Some (record { pattern = p; block = handler })) o b))
+  runs_counted (run_new_promise {a = a}) = omega (arith, ap (λ b. b.left) (pair_works a))
+  runs_counted (run_break_ref r) = needs_counted r
+  runs_counted (run_state_ref r) = needs_counted r
+
+  pub needs_counted : {k : ℕ} {t : Tree} {a b : At} {o : End} (r : Needs k t a o b) → nodes_of_datum r + b.left ≡ a.left
+  needs_counted (needs {b = b} {o = o} r) = omega (arith, ends_counted r, ap (λ b. b.left) (datum_works o b))
 
   pub args_counted : {k : ℕ} {ts : Trees} {a b : At} {g : Gather} (r : Args k ts a g b) → nodes_of_args r + b.left ≡ a.left
   args_counted args_none = omega arith
@@ -87,24 +100,35 @@ mutual
   runs_deep (run_call_receiver r) = ends_deep r
   runs_deep (run_call_gives r u e) = omega (arith, ends_deep r, args_deep u)
   runs_deep (run_call_enters r u e q) = omega (arith, ends_deep r, args_deep u, items_deep q)
+  runs_deep (run_call_uses r u e) = omega (arith, ends_deep r, args_deep u)
+  runs_deep (run_send_receiver r) = ends_deep r
+  runs_deep (run_send r u) = omega (arith, ends_deep r, args_deep u)
   runs_deep (run_list r) = args_deep r
   runs_deep (run_same_left r) = ends_deep r
   runs_deep (run_same r u) = omega (arith, ends_deep r, ends_deep u)
   runs_deep (run_define_list r) = ends_deep r
   runs_deep (run_hide q) = block_deep q
-  runs_deep (run_throw r) = ends_deep r
-  runs_deep (run_if_goes r e q) = omega (arith, ends_deep r, block_deep q)
-  runs_deep (run_if_ends r e) = ends_deep r
-  runs_deep (run_while_again r e q w) = omega (arith, ends_deep r, block_deep q, runs_deep w)
-  runs_deep (run_while_halts r e q) = omega (arith, ends_deep r, block_deep q)
-  runs_deep (run_while_done r e) = ends_deep r
-  runs_deep (run_while_ends r e) = ends_deep r
-  runs_deep (run_for r e q) = omega (arith, ends_deep r, each_deep q)
-  runs_deep (run_for_ends r e) = ends_deep r
+  runs_deep (run_throw r) = needs_deep r
+  runs_deep (run_if_goes r e q) = omega (arith, needs_deep r, block_deep q)
+  runs_deep (run_if_ends r e) = needs_deep r
+  runs_deep (run_while_again r e q w) = omega (arith, needs_deep r, block_deep q, runs_deep w)
+  runs_deep (run_while_halts r e q) = omega (arith, needs_deep r, block_deep q)
+  runs_deep (run_while_done r e) = needs_deep r
+  runs_deep (run_while_ends r e) = needs_deep r
+  runs_deep (run_for r e q) = omega (arith, needs_deep r, each_deep q)
+  runs_deep (run_for_ends r e) = needs_deep r
   runs_deep (run_try q e) = block_deep q
   runs_deep (run_try_caught q e w) = omega (arith, block_deep q, taking_deep w)
   runs_deep run_object = omega arith
   runs_deep (run_escape q) = taking_deep q
+  runs_deep (run_when r) = ends_deep r
+  runs_deep (run_when_catch r) = ends_deep r
+  runs_deep run_new_promise = omega arith
+  runs_deep (run_break_ref r) = needs_deep r
+  runs_deep (run_state_ref r) = needs_deep r
+
+  pub needs_deep : {k : ℕ} {t : Tree} {a b : At} {o : End} (r : Needs k t a o b) → deepest_of_datum r ≤ 1000
+  needs_deep (needs r) = ends_deep r
 
   pub args_deep : {k : ℕ} {ts : Trees} {a b : At} {g : Gather} (r : Args k ts a g b) → deepest_of_args r ≤ 1000
   args_deep args_none = omega arith

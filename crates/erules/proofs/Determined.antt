@@ -6,7 +6,12 @@ use Rattle.values.specs.Data.{Val, null, text, Vals, no_vals}
 use Rattle.heap.specs.State.{Nouns}
 use Rattle.erules.specs.At.{At}
 use Rattle.erules.specs.Outcomes.{Halt, End, value, halt, Gather, values, halted}
-use Rattle.erules.specs.Rules.{Listing, listed, unlisted, listing_of, parts_of, parts_bound, parts_end, Choice, goes, ends, choice_of, chosen, thrown_end, caught, leaving, again, sought_slot, defined, declared, declared_end, assigned, assigned_end, Target, gives, enters, target_of, called, inside, next_ejector, escaped, escape_end, list_end, same_end, gather_first, Ends, at_budget, at_depth, at_node, Runs, run_null, run_bool, run_int, run_text, run_noun, run_define, run_variable, run_assign, run_call_receiver, run_call_gives, run_call_enters, run_list, run_same_left, run_same, run_define_list, run_hide, run_throw, run_if_goes, run_if_ends, run_while_again, run_while_halts, run_while_done, run_while_ends, run_for, run_for_ends, run_try, run_try_caught, run_object, run_escape, Args, args_none, args_next, args_halt, Items, items_none, items_next, items_halt, Block, in_block, Taking, in_taking, Each, each_none, each_next, each_halt}
+use Rattle.erules.specs.Rules.{Listing, listed, unlisted, listing_of, parts_of, parts_bound, parts_end, Choice, goes, ends, choice_of, chosen, thrown_end, caught, leaving, again, sought_slot, defined, declared, declared_end, assigned, assigned_end, Target, gives, enters, target_of, called, inside, next_ejector, escaped, escape_end, list_end, gather_first, Ends, at_budget, at_depth, at_node, Runs, run_null, run_bool, run_int, run_text, run_noun, run_define, run_variable, run_assign, run_call_receiver, run_call_gives, run_call_enters, run_call_uses, run_send_receiver, run_send, run_list, run_same_left, run_same, run_define_list, run_hide, run_throw, run_if_goes, run_if_ends, run_while_again, run_while_halts, run_while_done, run_while_ends, run_for, run_for_ends, run_try, run_try_caught, run_object, run_escape, run_when, run_when_catch, run_new_promise, run_break_ref, run_state_ref, Needs, needs, Args, args_none, args_next, args_halt, Items, items_none, items_next, items_halt, Block, in_block, Taking, in_taking, Each, each_none, each_next, each_halt, uses, when_end, when_made, broken_end}
+use Rattle.erules.specs.Doings.{same_end, same_read, sent_end, sent_at, datum_of, datum_read, state_end, given_by, behind, resolver_end, resolver_out}
+use Rattle.post.specs.Delivery.{Handler}
+use Rattle.sends.specs.Vats.{Vat}
+use Rattle.sends.specs.Making.{Making, Published}
+use Rattle.ids.specs.declared.names.PromId.{PromId}
 
 -- the same end, at the same place
 pub record Same {A : Type 0} (o p : A) (b c : At) : Type 0 where
@@ -19,6 +24,10 @@ alike = record { end = refl; place = refl }
 -- the same function of the same things
 along : {A B : Type 0} {o p : A} {b c : At} (f : A → At → B) (g : A → At → At) → Same o p b c → Same (f o b) (f p c) (g o b) (g p c)
 along f g s = record { end = λ i. f (s.end i) (s.place i); place = λ i. g (s.end i) (s.place i) }
+
+-- the same functions of values, ends and places that are the same
+over_value : {A B : Type 0} {v w : Val} {o p : A} {b c : At} (f : Val → A → At → B) (g : Val → A → At → At) → v ≡ w → Same o p b c → Same (f v o b) (f w p c) (g v o b) (g w p c)
+over_value f g e s = record { end = λ i. f (e i) (s.end i) (s.place i); place = λ i. g (e i) (s.end i) (s.place i) }
 
 -- the same function of a value and an end that are the same
 with_value : {A B : Type 0} {v w : Val} {o p : A} {b c : At} (f : Val → A → B) → v ≡ w → Same o p b c → Same (f v o) (f w p) b c
@@ -98,9 +107,16 @@ some_same {x = x} e = ap (some_in x) e
 gives_enters : {o : End} {ns : Nouns} {body : Trees} → gives o ≡ enters ns body → ⊥
 gives_enters e = cc
 
+gives_uses : {o : End} {p : PromId} {d : Vat (Making Published)} → gives o ≡ uses p d → ⊥
+gives_uses e = cc
+
+enters_uses : {ns : Nouns} {body : Trees} {p : PromId} {d : Vat (Making Published)} → enters ns body ≡ uses p d → ⊥
+enters_uses e = cc
+
 given_in : End → Target → End
 given_in o (gives p) = p
 given_in o (enters ns body) = o
+given_in o (uses p d) = o
 
 gives_same : {o p : End} → gives o ≡ gives p → o ≡ p
 unfolding given_in
@@ -109,6 +125,7 @@ gives_same {o = o} e = ap (given_in o) e
 names_in : Target → Nouns
 names_in (gives o) = []
 names_in (enters ns body) = ns
+names_in (uses p d) = []
 
 names_same : {ns ms : Nouns} {bs cs : Trees} → enters ns bs ≡ enters ms cs → ns ≡ ms
 unfolding names_in
@@ -117,18 +134,34 @@ names_same e = ap names_in e
 body_in : Target → Trees
 body_in (gives o) = none
 body_in (enters ns body) = body
+body_in (uses p d) = none
 
 bodies_same : {ns ms : Nouns} {bs cs : Trees} → enters ns bs ≡ enters ms cs → bs ≡ cs
 unfolding body_in
 bodies_same e = ap body_in e
+
+-- the use of a resolver, where a call leads to one
+abbrev used_end : Target → At → End
+used_end (gives o) a = o
+used_end (enters ns body) a = value null
+used_end (uses p d) a = resolver_end (given_by d a)
+
+abbrev used_place : Target → At → At
+used_place (gives o) a = a
+used_place (enters ns body) a = a
+used_place (uses p d) a = resolver_out p (given_by d a) (behind d a)
+
+uses_same : {p q : PromId} {d e : Vat (Making Published)} {a b : At} → uses p d ≡ uses q e → a ≡ b
+    → Same (resolver_end (given_by d a)) (resolver_end (given_by e b)) (resolver_out p (given_by d a) (behind d a)) (resolver_out q (given_by e b) (behind e b))
+uses_same x y = record { end = λ i. used_end (x i) (y i); place = λ i. used_place (x i) (y i) }
 
 -- what calls lead to that are the same
 targets_meet : (verb : Name) {v w : Val} {g h : Gather} {b c : At} {x y : Target} → v ≡ w → Same g h b c → target_of v verb g b ≡ x → target_of w verb h c ≡ y → x ≡ y
 targets_meet verb p z e f = sym e ∙ (λ i. target_of (p i) verb (z.end i) (z.place i)) ∙ f
 
 -- where calls stand that are the same
-called_same : {v w : Val} {g h : Gather} {b c : At} → v ≡ w → Same g h b c → called v g b ≡ called w h c
-called_same p z = λ i. called (p i) (z.end i) (z.place i)
+called_same : (verb : Name) {v w : Val} {g h : Gather} {b c : At} → v ≡ w → Same g h b c → called v verb g b ≡ called w verb h c
+called_same verb p z = λ i. called (p i) verb (z.end i) (z.place i)
 
 -- what one function gives of two ends that are the same
 meet : {A : Type 0} {o p : End} {b c : At} {x y : A} (f : End → A) → Same o p b c → f o ≡ x → f p ≡ y → x ≡ y
@@ -185,57 +218,81 @@ mutual
   runs_same (run_call_receiver r) (run_call_receiver s) = ends_same r s
   runs_same (run_call_receiver r) (run_call_gives s u f) = absurd (value_halt (sym (ends_same r s).end))
   runs_same (run_call_receiver r) (run_call_enters s u f w) = absurd (value_halt (sym (ends_same r s).end))
+  runs_same (run_call_receiver r) (run_call_uses s u f) = absurd (value_halt (sym (ends_same r s).end))
   runs_same (run_call_gives r q e) (run_call_receiver s) = absurd (value_halt (ends_same r s).end)
   runs_same (run_call_gives {verb = verb} r q e) (run_call_gives s u f) =
       let t = ends_same r s in
       let z = args_same q (args_at t.place u) in
-      record { end = gives_same (targets_meet verb (value_same t.end) z e f); place = called_same (value_same t.end) z }
+      record { end = gives_same (targets_meet verb (value_same t.end) z e f); place = called_same verb (value_same t.end) z }
   runs_same (run_call_gives {verb = verb} r q e) (run_call_enters s u f w) = let t = ends_same r s in absurd (gives_enters (targets_meet verb (value_same t.end) (args_same q (args_at t.place u)) e f))
+  runs_same (run_call_gives {verb = verb} r q e) (run_call_uses s u f) = let t = ends_same r s in absurd (gives_uses (targets_meet verb (value_same t.end) (args_same q (args_at t.place u)) e f))
   runs_same (run_call_enters r q e v) (run_call_receiver s) = absurd (value_halt (ends_same r s).end)
   runs_same (run_call_enters {verb = verb} r q e v) (run_call_gives s u f) = let t = ends_same r s in absurd (gives_enters (sym (targets_meet verb (value_same t.end) (args_same q (args_at t.place u)) e f)))
   runs_same (run_call_enters {verb = verb} r q e v) (run_call_enters s u f w) =
       let t = ends_same r s in
       let z = args_same q (args_at t.place u) in
-      let y = items_same v (method_at (targets_meet verb (value_same t.end) z e f) (called_same (value_same t.end) z) w) in
+      let y = items_same v (method_at (targets_meet verb (value_same t.end) z e f) (called_same verb (value_same t.end) z) w) in
       record { end = y.end; place = λ i. leaving (z.place i) (y.place i) }
+  runs_same (run_call_enters {verb = verb} r q e v) (run_call_uses s u f) = let t = ends_same r s in absurd (enters_uses (targets_meet verb (value_same t.end) (args_same q (args_at t.place u)) e f))
+  runs_same (run_call_uses r q e) (run_call_receiver s) = absurd (value_halt (ends_same r s).end)
+  runs_same (run_call_uses {verb = verb} r q e) (run_call_gives s u f) = let t = ends_same r s in absurd (gives_uses (sym (targets_meet verb (value_same t.end) (args_same q (args_at t.place u)) e f)))
+  runs_same (run_call_uses {verb = verb} r q e) (run_call_enters s u f w) = let t = ends_same r s in absurd (enters_uses (sym (targets_meet verb (value_same t.end) (args_same q (args_at t.place u)) e f)))
+  runs_same (run_call_uses {verb = verb} r q e) (run_call_uses s u f) =
+      let t = ends_same r s in
+      let z = args_same q (args_at t.place u) in
+      uses_same (targets_meet verb (value_same t.end) z e f) (called_same verb (value_same t.end) z)
+  runs_same (run_send_receiver r) (run_send_receiver s) = ends_same r s
+  runs_same (run_send_receiver r) (run_send s u) = absurd (value_halt (sym (ends_same r s).end))
+  runs_same (run_send r q) (run_send_receiver s) = absurd (value_halt (ends_same r s).end)
+  runs_same (run_send {verb = verb} r q) (run_send s u) = let t = ends_same r s in over_value sent_end (sent_at verb) (value_same t.end) (args_same q (args_at t.place u))
   runs_same (run_list r) (run_list s) = along (λ g b. list_end g) (λ g b. b) (args_same r s)
   runs_same (run_same_left r) (run_same_left s) = ends_same r s
   runs_same (run_same_left r) (run_same s u) = absurd (value_halt (sym (ends_same r s).end))
   runs_same (run_same r q) (run_same_left s) = absurd (value_halt (ends_same r s).end)
-  runs_same (run_same r q) (run_same s u) = let t = ends_same r s in with_value same_end (value_same t.end) (ends_same q (ends_at t.place u))
-  runs_same (run_define_list {ps = ps} r) (run_define_list s) = along (λ o b. parts_end o (parts_of ps o)) (λ o b. parts_bound ps (parts_of ps o) b) (ends_same r s)
+  runs_same (run_same r q) (run_same s u) = let t = ends_same r s in over_value same_end same_read (value_same t.end) (ends_same q (ends_at t.place u))
+  runs_same (run_define_list {ps = ps} r) (run_define_list s) = along (λ o b. parts_end o (parts_of ps (datum_of o b))) (λ o b. parts_bound ps (parts_of ps (datum_of o b)) (datum_read o b)) (ends_same r s)
   runs_same (run_hide q) (run_hide u) = block_same q u
-  runs_same (run_throw r) (run_throw s) = along (λ o b. thrown_end o) (λ o b. b) (ends_same r s)
-  runs_same (run_if_goes {first = first} {second = second} r e q) (run_if_goes s f u) = let t = ends_same r s in block_same q (block_at (ap (λ m. chosen m first second) (goes_same (meet choice_of t e f))) t.place u)
-  runs_same (run_if_goes r e q) (run_if_ends s f) = absurd (goes_ends (meet choice_of (ends_same r s) e f))
-  runs_same (run_if_ends r e) (run_if_goes s f u) = absurd (goes_ends (sym (meet choice_of (ends_same r s) e f)))
-  runs_same (run_if_ends r e) (run_if_ends s f) = let t = ends_same r s in record { end = ends_alike (meet choice_of t e f); place = t.place }
-  runs_same {a = a} (run_while_again r e q v) (run_while_again s f u w) = let t = ends_same r s in let z = block_same q (block_at refl t.place u) in runs_same v (runs_at (λ i. again a (z.place i)) w)
-  runs_same (run_while_again r e q v) (run_while_halts s f u) = absurd (value_halt (block_same q (block_at refl (ends_same r s).place u)).end)
-  runs_same (run_while_again r e q v) (run_while_done s f) = absurd (false_true (sym (goes_same (meet choice_of (ends_same r s) e f))))
-  runs_same (run_while_again r e q v) (run_while_ends s f) = absurd (goes_ends (meet choice_of (ends_same r s) e f))
-  runs_same (run_while_halts r e q) (run_while_again s f u w) = absurd (value_halt (sym (block_same q (block_at refl (ends_same r s).place u)).end))
-  runs_same (run_while_halts r e q) (run_while_halts s f u) = let t = ends_same r s in block_same q (block_at refl t.place u)
-  runs_same (run_while_halts r e q) (run_while_done s f) = absurd (false_true (sym (goes_same (meet choice_of (ends_same r s) e f))))
-  runs_same (run_while_halts r e q) (run_while_ends s f) = absurd (goes_ends (meet choice_of (ends_same r s) e f))
-  runs_same (run_while_done r e) (run_while_again s f u w) = absurd (false_true (goes_same (meet choice_of (ends_same r s) e f)))
-  runs_same (run_while_done r e) (run_while_halts s f u) = absurd (false_true (goes_same (meet choice_of (ends_same r s) e f)))
-  runs_same (run_while_done r e) (run_while_done s f) = record { end = refl; place = (ends_same r s).place }
-  runs_same (run_while_done r e) (run_while_ends s f) = absurd (goes_ends (meet choice_of (ends_same r s) e f))
-  runs_same (run_while_ends r e) (run_while_again s f u w) = absurd (goes_ends (sym (meet choice_of (ends_same r s) e f)))
-  runs_same (run_while_ends r e) (run_while_halts s f u) = absurd (goes_ends (sym (meet choice_of (ends_same r s) e f)))
-  runs_same (run_while_ends r e) (run_while_done s f) = absurd (goes_ends (sym (meet choice_of (ends_same r s) e f)))
-  runs_same (run_while_ends r e) (run_while_ends s f) = let t = ends_same r s in record { end = ends_alike (meet choice_of t e f); place = t.place }
-  runs_same (run_for r e q) (run_for s f u) = let t = ends_same r s in each_same q (each_at (listed_same (meet listing_of t e f)) t.place u)
-  runs_same (run_for r e q) (run_for_ends s f) = absurd (listed_unlisted (meet listing_of (ends_same r s) e f))
-  runs_same (run_for_ends r e) (run_for s f u) = absurd (listed_unlisted (sym (meet listing_of (ends_same r s) e f)))
-  runs_same (run_for_ends r e) (run_for_ends s f) = let t = ends_same r s in record { end = unlisted_same (meet listing_of t e f); place = t.place }
+  runs_same (run_throw r) (run_throw s) = along (λ o b. thrown_end o) (λ o b. b) (needs_same r s)
+  runs_same (run_if_goes {first = first} {second = second} r e q) (run_if_goes s f u) = let t = needs_same r s in block_same q (block_at (ap (λ m. chosen m first second) (goes_same (meet choice_of t e f))) t.place u)
+  runs_same (run_if_goes r e q) (run_if_ends s f) = absurd (goes_ends (meet choice_of (needs_same r s) e f))
+  runs_same (run_if_ends r e) (run_if_goes s f u) = absurd (goes_ends (sym (meet choice_of (needs_same r s) e f)))
+  runs_same (run_if_ends r e) (run_if_ends s f) = let t = needs_same r s in record { end = ends_alike (meet choice_of t e f); place = t.place }
+  runs_same {a = a} (run_while_again r e q v) (run_while_again s f u w) = let t = needs_same r s in let z = block_same q (block_at refl t.place u) in runs_same v (runs_at (λ i. again a (z.place i)) w)
+  runs_same (run_while_again r e q v) (run_while_halts s f u) = absurd (value_halt (block_same q (block_at refl (needs_same r s).place u)).end)
+  runs_same (run_while_again r e q v) (run_while_done s f) = absurd (false_true (sym (goes_same (meet choice_of (needs_same r s) e f))))
+  runs_same (run_while_again r e q v) (run_while_ends s f) = absurd (goes_ends (meet choice_of (needs_same r s) e f))
+  runs_same (run_while_halts r e q) (run_while_again s f u w) = absurd (value_halt (sym (block_same q (block_at refl (needs_same r s).place u)).end))
+  runs_same (run_while_halts r e q) (run_while_halts s f u) = let t = needs_same r s in block_same q (block_at refl t.place u)
+  runs_same (run_while_halts r e q) (run_while_done s f) = absurd (false_true (sym (goes_same (meet choice_of (needs_same r s) e f))))
+  runs_same (run_while_halts r e q) (run_while_ends s f) = absurd (goes_ends (meet choice_of (needs_same r s) e f))
+  runs_same (run_while_done r e) (run_while_again s f u w) = absurd (false_true (goes_same (meet choice_of (needs_same r s) e f)))
+  runs_same (run_while_done r e) (run_while_halts s f u) = absurd (false_true (goes_same (meet choice_of (needs_same r s) e f)))
+  runs_same (run_while_done r e) (run_while_done s f) = record { end = refl; place = (needs_same r s).place }
+  runs_same (run_while_done r e) (run_while_ends s f) = absurd (goes_ends (meet choice_of (needs_same r s) e f))
+  runs_same (run_while_ends r e) (run_while_again s f u w) = absurd (goes_ends (sym (meet choice_of (needs_same r s) e f)))
+  runs_same (run_while_ends r e) (run_while_halts s f u) = absurd (goes_ends (sym (meet choice_of (needs_same r s) e f)))
+  runs_same (run_while_ends r e) (run_while_done s f) = absurd (goes_ends (sym (meet choice_of (needs_same r s) e f)))
+  runs_same (run_while_ends r e) (run_while_ends s f) = let t = needs_same r s in record { end = ends_alike (meet choice_of t e f); place = t.place }
+  runs_same (run_for r e q) (run_for s f u) = let t = needs_same r s in each_same q (each_at (listed_same (meet listing_of t e f)) t.place u)
+  runs_same (run_for r e q) (run_for_ends s f) = absurd (listed_unlisted (meet listing_of (needs_same r s) e f))
+  runs_same (run_for_ends r e) (run_for s f u) = absurd (listed_unlisted (sym (meet listing_of (needs_same r s) e f)))
+  runs_same (run_for_ends r e) (run_for_ends s f) = let t = needs_same r s in record { end = unlisted_same (meet listing_of t e f); place = t.place }
   runs_same (run_try q e) (run_try u f) = block_same q u
   runs_same (run_try q e) (run_try_caught u f w) = absurd (none_some (meet caught (block_same q u) e f))
   runs_same (run_try_caught q e v) (run_try u f) = absurd (none_some (sym (meet caught (block_same q u) e f)))
   runs_same (run_try_caught q e v) (run_try_caught u f w) = let t = block_same q u in taking_same v (taking_at (ap text (some_same (meet caught t e f))) t.place w)
   runs_same run_object run_object = alike
   runs_same {a = a} (run_escape q) (run_escape u) = along (λ o b. escape_end (next_ejector a) o) (λ o b. escaped a b) (taking_same q u)
+  runs_same (run_when {body = body} r) (run_when s) = along (λ o b. when_end body None o b) (λ o b. when_made body None o b) (ends_same r s)
+  runs_same (run_when_catch {body = body} {p = p} {handler = handler} r) (run_when_catch s) =
+      let h : Option Handler = Some (record { pattern = p; block = handler }) in
+      along (λ o b. when_end body h o b) (λ o b. when_made body h o b) (ends_same r s)
+  runs_same run_new_promise run_new_promise = alike
+  runs_same (run_break_ref r) (run_break_ref s) = along (λ o b. broken_end o) (λ o b. b) (needs_same r s)
+  runs_same {a = a} (run_state_ref r) (run_state_ref s) = along (λ o b. state_end a.vat o) (λ o b. b) (needs_same r s)
+
+  pub needs_same : {k : ℕ} {t : Tree} {a b c : At} {o p : End} → Needs k t a o b → Needs k t a p c → Same o p b c
+  needs_same (needs r) (needs s) = along (λ o b. datum_of o b) (λ o b. datum_read o b) (ends_same r s)
 
   pub args_same : {k : ℕ} {ts : Trees} {a b c : At} {g h : Gather} → Args k ts a g b → Args k ts a h c → Same g h b c
   args_same args_none args_none = alike

@@ -7,16 +7,22 @@ use Rattle.ids.specs.declared.names.ObjId.{ObjId}
 use Rattle.ids.specs.declared.names.SlotId.{SlotId}
 use Rattle.kernele.specs.Tree.{Name, Tree, Trees}
 use Rattle.kernele.specs.declared.tree.Pattern.{Pattern}
-use Rattle.values.specs.Data.{Val, null, bool, int, text, list, object, ejector, promise, broken, Vals, Reply, gives as gives_reply, throws}
-use Rattle.values.specs.Replies.{data_reply, list_reply, text_reply, text_in, items_in, no_method}
-use Rattle.heap.specs.State.{Bind, fixed, slot, Object, slot_cell, object_cell, Content, bound, held, made, viewed, fenced, State, read}
+use Rattle.values.specs.Data.{Val, null, bool, int, text, list, object, ejector, promise, broken, Vals, Reply, gives as gives_reply, throws, no_vals, and_val}
+use Rattle.values.specs.Replies.{list_reply, text_reply, text_in, items_in, no_method}
+use Rattle.heap.specs.State.{Bind, fixed, slot, Plain, slot_cell, object_cell, Content, bound, held, made, viewed, fenced, State, read, plain, resolver}
 use Rattle.erules.specs.At.{At}
 use Rattle.erules.specs.Outcomes.{thrown, ejected, abandoned, End, value, halt, Gather, values, halted, reply_end}
-use Rattle.erules.specs.Rules.{sought, sought_slot, held_end, noun_end, mismatch, Listing, listed, unlisted, listing_by, listing_of, taken, parts_of, parts_end, has_room, variable_end, declared_end, assigned_end, gather_first}
-use Rattle.erules.specs.Rules.{Capture, captured, missing, capture_of, has_object_room, placed_end, object_end, Target, gives, enters, method_in, no_such_method, method_target, object_target, same_ejector, is_open, ejects, given, ejection, Callee, on_object, on_ejector, on_datum, callee_of, callee_target, target_of, next_ejector, escape_end}
-use Rattle.erules.specs.Rules.{list_end, same_end, Choice, goes, ends, bool_in, choice_by, choice_of, thrown_by, thrown_end, entering, Ends, at_budget, at_depth, at_node, Runs, run_null, run_bool, run_int, run_text, run_noun, run_define, run_variable, run_assign, run_call_receiver, run_call_gives, run_call_enters, run_list, run_same_left, run_same, run_define_list, run_hide, run_throw, run_if_goes, run_if_ends, run_while_again, run_while_halts, run_while_done, run_while_ends, run_for, run_for_ends, run_try, run_try_caught, run_object, run_escape, Args, args_none, args_next, args_halt, Items, items_none, items_next, items_halt, Block, in_block, Taking, in_taking, Each, each_none, each_next, each_halt}
-use Rattle.erules.proofs.Seeking.{called_reads}
-use Rattle.erules.proofs.Opened.{ends_opened, args_opened, block_opened, taking_opened, matched_opened}
+use Rattle.erules.specs.Rules.{sought, sought_slot, held_end, noun_end, mismatch, Listing, listed, unlisted, listing_by, listing_of, taken, parts_of, parts_end, has_room, variable_end, declared_end, assigned_end, gather_first, uses, receiver, receiver_read, resolver_target, on_far, when_end, when_capture, when_capturing, waited_end, broken_by, broken_end, called}
+use Rattle.erules.specs.Rules.{Capture, captured, missing, capture_of, placed_end, object_end, Target, gives, enters, method_in, no_such_method, method_target, object_target, same_ejector, is_open, ejects, given, ejection, Callee, on_object, on_ejector, on_datum, callee_of, callee_target, target_of, next_ejector, escape_end}
+use Rattle.erules.specs.Rules.{list_end, Choice, goes, ends, bool_in, choice_by, choice_of, thrown_by, thrown_end, entering, Ends, at_budget, at_depth, at_node, Runs, run_null, run_bool, run_int, run_text, run_noun, run_define, run_variable, run_assign, run_call_receiver, run_call_gives, run_call_enters, run_call_uses, run_send_receiver, run_send, run_list, run_same_left, run_same, run_define_list, run_hide, run_throw, run_if_goes, run_if_ends, run_while_again, run_while_halts, run_while_done, run_while_ends, run_for, run_for_ends, run_try, run_try_caught, run_object, run_escape, run_when, run_when_catch, run_new_promise, run_break_ref, run_state_ref, Needs, needs, Args, args_none, args_next, args_halt, Items, items_none, items_next, items_halt, Block, in_block, Taking, in_taking, Each, each_none, each_next, each_halt}
+use Rattle.erules.proofs.Opened.{ends_opened, args_opened, block_opened, taking_opened, matched_opened, needs_opened}
+use Rattle.erules.specs.Doings.{has_object_room, same_end, same_forms, sent_end, send_end, send_of, refusal_end, wait_end, wait_of, datum_of, data_of, state_end, given_by, resolver_end, promise_pair, pair_end, both_settled}
+use Rattle.erules.proofs.Doings.{called_works}
+use Rattle.post.specs.Delivery.{Handler}
+use Rattle.sends.specs.Making.{Refusal, problem as a_problem, turn_too_large, Making, refused, makes, Sent, Published, resolving, smashing}
+use Rattle.ids.specs.declared.names.VatNo.{VatNo}
+use Rattle.ids.specs.declared.names.PromId.{PromId}
+use Rattle.values.specs.Promises.{same_reply}
 
 -- an end that is an ejection is of one of these ejectors
 abbrev pub Inside : End → List EjId → Type 0
@@ -25,7 +31,7 @@ Inside (halt (thrown problem)) js = Unit {0}
 Inside (halt (ejected j v)) js = is_open j js ≡ true
 Inside (halt (abandoned why)) js = Unit {0}
 
-abbrev GatherInside : Gather → List EjId → Type 0
+abbrev pub GatherInside : Gather → List EjId → Type 0
 GatherInside (values vs) js = Unit {0}
 GatherInside (halted h) js = Inside (halt h) js
 
@@ -37,9 +43,10 @@ abbrev ChoiceInside : Choice → List EjId → Type 0
 ChoiceInside (goes q) js = Unit {0}
 ChoiceInside (ends o) js = Inside o js
 
-abbrev TargetInside : Target → List EjId → Type 0
+abbrev pub TargetInside : Target → List EjId → Type 0
 TargetInside (gives o) js = Inside o js
 TargetInside (enters ns body) js = Unit {0}
+TargetInside (uses p d) js = Unit {0}
 
 -- ---- what is made of the ends of parts
 
@@ -92,9 +99,53 @@ first_inside : (v : Val) (g : Gather) (js : List EjId) → GatherInside g js →
 first_inside v (values vs) js h = tt
 first_inside v (halted i) js h = h
 
-same_inside : (v : Val) (o : End) (js : List EjId) → Inside o js → Inside (same_end v o) js
-same_inside v (value w) js h = tt
-same_inside v (halt i) js h = h
+refusal_inside : (why : Refusal) (js : List EjId) → Inside (refusal_end why) js
+refusal_inside (a_problem words) js = tt
+refusal_inside turn_too_large js = tt
+
+forms_inside : (m : Making (Val × Val)) (js : List EjId) → Inside (same_forms m) js
+forms_inside (refused why) js = refusal_inside why js
+forms_inside (makes p) js = reply_inside (same_reply p.0 p.1) js
+
+same_inside : (v : Val) (o : End) (a : At) (js : List EjId) → Inside o js → Inside (same_end v o a) js
+same_inside v (value w) a js h = forms_inside (given_by (both_settled v w) a) js
+same_inside v (halt i) a js h = h
+
+sends_inside : (m : Making Sent) (js : List EjId) → Inside (send_end m) js
+sends_inside (refused why) js = refusal_inside why js
+sends_inside (makes s) js = tt
+
+sent_inside : (v : Val) (g : Gather) (a : At) (js : List EjId) → GatherInside g js → Inside (sent_end v g a) js
+sent_inside v (values vs) a js h = sends_inside (given_by (send_of v vs a) a) js
+sent_inside v (halted i) a js h = h
+
+waits_inside : (m : Making PromId) (a : At) (js : List EjId) → Inside (wait_end m a) js
+waits_inside (refused why) a js = refusal_inside why js
+waits_inside (makes p) a js = tt
+
+waited_inside : (c : Capture) (v : Val) (a : At) (js : List EjId) → Inside (waited_end c v a) js
+waited_inside (captured ns) v a js = waits_inside (given_by (wait_of v a) a) a js
+waited_inside (missing x) v a js = tt
+
+when_inside : (body : Trees) (handler : Option Handler) (o : End) (a : At) (js : List EjId) → Inside o js → Inside (when_end body handler o a) js
+when_inside body handler (value v) a js h = waited_inside (when_capture body handler a) v (when_capturing body handler a) js
+when_inside body handler (halt i) a js h = h
+
+pair_inside : (m : Making ObjId) (a : At) (js : List EjId) → Inside (pair_end m a) js
+pair_inside (refused why) a js = refusal_inside why js
+pair_inside (makes n) a js = tt
+
+pub used_inside : (m : Making Published) (js : List EjId) → Inside (resolver_end m) js
+used_inside (refused why) js = refusal_inside why js
+used_inside (makes b) js = tt
+
+datum_inside : (o : End) (a : At) (js : List EjId) → Inside o js → Inside (datum_of o a) js
+datum_inside (value v) a js h = tt
+datum_inside (halt i) a js h = h
+
+state_inside : (here : VatNo) (o : End) (js : List EjId) → Inside o js → Inside (state_end here o) js
+state_inside here (value v) js h = tt
+state_inside here (halt i) js h = h
 
 listing_inside : (words : Name) (v : Val) (m : Option Vals) (js : List EjId) → ListingInside (listing_by words v m) js
 listing_inside words v (Some vs) js = tt
@@ -128,6 +179,14 @@ thrown_inside : (o : End) (js : List EjId) → Inside o js → Inside (thrown_en
 thrown_inside (value v) js h = problem_inside v (text_in v) js
 thrown_inside (halt i) js h = h
 
+breaks_inside : (v : Val) (m : Option Name) (js : List EjId) → Inside (broken_by v m) js
+breaks_inside v (Some problem) js = tt
+breaks_inside v None js = mismatch_inside (codes "not a text") v js
+
+broken_inside : (o : End) (js : List EjId) → Inside o js → Inside (broken_end o) js
+broken_inside (value v) js h = breaks_inside v (text_in v) js
+broken_inside (halt i) js h = h
+
 placed_inside : (room : Bool) (a : At) (js : List EjId) → Inside (placed_end room a) js
 placed_inside true a js = tt
 placed_inside false a js = tt
@@ -149,12 +208,26 @@ one_of : (q : Bool) (o p : End) (js : List EjId) → Inside o js → Inside p js
 one_of true o p js h g = h
 one_of false o p js h g = g
 
-method_inside : (i : ObjId) (o : Object) (verb : Name) (vs : Vals) (m : Option (List Pattern × Trees)) (js : List EjId) → TargetInside (method_target i o verb vs m) js
+method_inside : (i : ObjId) (o : Plain) (verb : Name) (vs : Vals) (m : Option (List Pattern × Trees)) (js : List EjId) → TargetInside (method_target i o verb vs m) js
 method_inside i o verb vs (Some m) js = tt
 method_inside i o verb vs None js = reply_inside (no_method verb vs) js
 
+either_inside : (q : Bool) (t u : Target) (js : List EjId) → TargetInside t js → TargetInside u js → TargetInside (cond q t u) js
+either_inside true t u js h g = h
+either_inside false t u js h g = g
+
+resolver_inside : (p : PromId) (verb : Name) (vs : Vals) (js : List EjId) → TargetInside (resolver_target p verb vs) js
+resolver_inside p verb no_vals js = reply_inside (no_method verb no_vals) js
+resolver_inside p verb (and_val v no_vals) js =
+    let other : Target = gives (no_such_method verb (and_val v no_vals)) in
+    let smash : Target = cond (bytes_eq verb (codes "smash")) (uses p (smashing p v)) other in
+    either_inside (bytes_eq verb (codes "resolve")) (uses p (resolving p v)) smash js tt
+    (either_inside (bytes_eq verb (codes "smash")) (uses p (smashing p v)) other js tt (reply_inside (no_method verb (and_val v no_vals)) js))
+resolver_inside p verb (and_val v (and_val w vs)) js = reply_inside (no_method verb (and_val v (and_val w vs))) js
+
 called_inside : (i : ObjId) (c : Option Content) (verb : Name) (vs : Vals) (js : List EjId) → TargetInside (object_target i c verb vs) js
-called_inside i (Some (made o)) verb vs js = method_inside i o verb vs (method_in o.methods verb vs) js
+called_inside i (Some (made (plain o))) verb vs js = method_inside i o verb vs (method_in o.methods verb vs) js
+called_inside i (Some (made (resolver p))) verb vs js = resolver_inside p verb vs js
 called_inside i (Some (bound b)) verb vs js = reply_inside (no_method verb vs) js
 called_inside i (Some (held v)) verb vs js = reply_inside (no_method verb vs) js
 called_inside i (Some (viewed k)) verb vs js = reply_inside (no_method verb vs) js
@@ -166,10 +239,11 @@ callee_inside (on_object i) v verb vs a = called_inside i (read a.state (object_
 callee_inside (on_ejector j) v verb vs a =
     one_of (bytes_eq verb (codes "run")) (ejection j a.opened verb vs (given vs)) (no_such_method verb vs) a.opened
     (ejection_inside j a.opened verb vs (given vs)) (reply_inside (no_method verb vs) a.opened)
-callee_inside on_datum v verb vs a = reply_inside (data_reply v verb vs) a.opened
+callee_inside on_datum v verb vs a = reply_inside (given_by (data_of v verb vs) a) a.opened
+callee_inside on_far v verb vs a = tt
 
-target_inside : (v : Val) (verb : Name) (g : Gather) (a : At) → GatherInside g a.opened → TargetInside (target_of v verb g a) a.opened
-target_inside v verb (values vs) a h = callee_inside (callee_of v) v verb vs a
+pub target_inside : (v : Val) (verb : Name) (g : Gather) (a : At) → GatherInside g a.opened → TargetInside (target_of v verb g a) a.opened
+target_inside v verb (values vs) a h = callee_inside (callee_of a.vat (receiver v a)) (receiver v a) verb vs (receiver_read v a)
 target_inside v verb (halted i) a h = h
 
 -- of an Escape's own ejector no value goes on
@@ -186,7 +260,7 @@ escape_inside j (halt (abandoned why)) js h = tt
 -- ---- the rules
 
 -- what holds of the Escapes after another part
-carried : (o : End) {is js : List EjId} → is ≡ js → Inside o is → Inside o js
+pub carried : (o : End) {is js : List EjId} → is ≡ js → Inside o is → Inside o js
 carried o e h = subst (λ ks. Inside o ks) e h
 
 gather_carried : (g : Gather) {is js : List EjId} → is ≡ js → GatherInside g is → GatherInside g js
@@ -219,25 +293,36 @@ mutual
   runs_inside (run_call_receiver r) = ends_inside r
   runs_inside (run_call_gives {verb = verb} {c = c} {v = v} {g = g} {o = o} r u e) =
       carried o (args_opened u ∙ ends_opened r) (target_carried c.opened e (target_inside v verb g c (gather_carried g (sym (args_opened u)) (args_inside u))))
-  runs_inside (run_call_enters {c = c} {v = v} {g = g} {o = o} r u e q) = carried o (ap (λ b. b.opened) (called_reads v g c) ∙ (args_opened u ∙ ends_opened r)) (items_inside q)
+  runs_inside (run_call_enters {verb = verb} {c = c} {v = v} {g = g} {o = o} r u e q) = carried o (ap (λ b. b.opened) (called_works v verb g c) ∙ (args_opened u ∙ ends_opened r)) (items_inside q)
+  runs_inside (run_call_uses {verb = verb} {a = a} {c = c} {v = v} {g = g} {d = d} r u e) = used_inside (given_by d (called v verb g c)) a.opened
+  runs_inside (run_send_receiver r) = ends_inside r
+  runs_inside (run_send {a = a} {c = c} {v = v} {g = g} r u) = sent_inside v g c a.opened (gather_carried g (ends_opened r) (args_inside u))
   runs_inside (run_list {a = a} {g = g} r) = list_inside g a.opened (args_inside r)
   runs_inside (run_same_left r) = ends_inside r
-  runs_inside (run_same {a = a} {v = v} {o = o} r u) = same_inside v o a.opened (carried o (ends_opened r) (ends_inside u))
-  runs_inside (run_define_list {ps = ps} {a = a} {o = o} r) = parts_inside o (parts_of ps o) a.opened (ends_inside r) (wanted_inside ps o a.opened (ends_inside r))
+  runs_inside (run_same {a = a} {c = c} {v = v} {o = o} r u) = same_inside v o c a.opened (carried o (ends_opened r) (ends_inside u))
+  runs_inside (run_define_list {ps = ps} {a = a} {b = b} {o = o} r) = parts_inside o (parts_of ps (datum_of o b)) a.opened (ends_inside r) (wanted_inside ps (datum_of o b) a.opened (datum_inside o b a.opened (ends_inside r)))
   runs_inside (run_hide q) = block_inside q
-  runs_inside (run_throw {a = a} {o = o} r) = thrown_inside o a.opened (ends_inside r)
-  runs_inside (run_if_goes {p = p} r e q) = carried p (ends_opened r) (block_inside q)
-  runs_inside (run_if_ends {a = a} {o = o} r e) = choice_carried a.opened e (tested_inside o a.opened (ends_inside r))
-  runs_inside (run_while_again {p = p} r e q w) = carried p (block_opened q ∙ ends_opened r) (runs_inside w)
-  runs_inside (run_while_halts {h = h} r e q) = carried (halt h) (ends_opened r) (block_inside q)
+  runs_inside (run_throw {a = a} {o = o} r) = thrown_inside o a.opened (needs_inside r)
+  runs_inside (run_if_goes {p = p} r e q) = carried p (needs_opened r) (block_inside q)
+  runs_inside (run_if_ends {a = a} {o = o} r e) = choice_carried a.opened e (tested_inside o a.opened (needs_inside r))
+  runs_inside (run_while_again {p = p} r e q w) = carried p (block_opened q ∙ needs_opened r) (runs_inside w)
+  runs_inside (run_while_halts {h = h} r e q) = carried (halt h) (needs_opened r) (block_inside q)
   runs_inside (run_while_done r e) = tt
-  runs_inside (run_while_ends {a = a} {o = o} r e) = choice_carried a.opened e (tested_inside o a.opened (ends_inside r))
-  runs_inside (run_for {q = p} r e q) = carried p (ends_opened r) (each_inside q)
-  runs_inside (run_for_ends {a = a} {o = o} r e) = listing_carried a.opened e (gone_inside o a.opened (ends_inside r))
+  runs_inside (run_while_ends {a = a} {o = o} r e) = choice_carried a.opened e (tested_inside o a.opened (needs_inside r))
+  runs_inside (run_for {q = p} r e q) = carried p (needs_opened r) (each_inside q)
+  runs_inside (run_for_ends {a = a} {o = o} r e) = listing_carried a.opened e (gone_inside o a.opened (needs_inside r))
   runs_inside (run_try q e) = block_inside q
   runs_inside (run_try_caught {q = p} q e w) = carried p (block_opened q) (taking_inside w)
   runs_inside (run_object {p = p} {ms = ms} {a = a}) = object_inside (capture_of p ms a) a a.opened
   runs_inside (run_escape {a = a} {o = o} q) = escape_inside (next_ejector a) o a.opened (taking_inside q)
+  runs_inside (run_when {body = body} {a = a} {b = b} {o = o} r) = when_inside body None o b a.opened (ends_inside r)
+  runs_inside (run_when_catch {body = body} {p = p} {handler = handler} {a = a} {b = b} {o = o} r) = when_inside body (Some (record { pattern = p; block = handler })) o b a.opened (ends_inside r)
+  runs_inside (run_new_promise {a = a}) = pair_inside (given_by (promise_pair a) a) a a.opened
+  runs_inside (run_break_ref {a = a} {o = o} r) = broken_inside o a.opened (needs_inside r)
+  runs_inside (run_state_ref {a = a} {o = o} r) = state_inside a.vat o a.opened (needs_inside r)
+
+  pub needs_inside : {k : ℕ} {t : Tree} {a b : At} {o : End} → Needs k t a o b → Inside o a.opened
+  needs_inside (needs {a = a} {b = b} {o = o} r) = datum_inside o b a.opened (ends_inside r)
 
   pub args_inside : {k : ℕ} {ts : Trees} {a b : At} {g : Gather} → Args k ts a g b → GatherInside g a.opened
   args_inside args_none = tt

@@ -26,7 +26,7 @@ use Rattle.heap.specs.declared.state.Noun.{Noun}
 use Rattle.erules.specs.At.{At}
 use Rattle.erules.specs.Outcomes.{End, value}
 use Rattle.erules.specs.Fits.{fits_at, all_fit_at, frame_behind}
-use Rattle.erules.specs.Rules.{Ends, goes, choice_of, listed, listing_of, matched, entering, inside, named, named_all, as_many}
+use Rattle.erules.specs.Rules.{Ends, goes, choice_of, listed, listing_of, matched, entering, inside, named, named_all, as_many, Needs}
 use Rattle.erules.proofs.Patterns.{as_many-true}
 use Rattle.erules.proofs.Added.{Adds, ends_add, goes_add, lists_add}
 
@@ -42,10 +42,10 @@ pub all_fit_then : {k : ℕ} {t : Tree} {a b : At} {v : Val} {ds es : List Code}
 all_fit_then {t = t} {a = a} {b = b} {es = es} same r h = subst (all_fit_at b) (sym same) (arrived (λ o f. fits_all o f es) t a b (ends_add r) h)
 
 -- a block fits behind a condition that chose it, and behind a list that it goes over
-pub chosen_fits : {k : ℕ} {t : Tree} {a b : At} {o : End} {q : Bool} {ds es : List Code} → ds ≡ es → Ends k t a o b → choice_of o ≡ goes q → fits_all false (after a.own_scope t (frame_of a.nouns)) es → fits_all false (frame_of b.nouns) ds
+pub chosen_fits : {k : ℕ} {t : Tree} {a b : At} {o : End} {q : Bool} {ds es : List Code} → ds ≡ es → Needs k t a o b → choice_of o ≡ goes q → fits_all false (after a.own_scope t (frame_of a.nouns)) es → fits_all false (frame_of b.nouns) ds
 chosen_fits {t = t} {a = a} {b = b} {es = es} same r e h = subst (fits_all false (frame_of b.nouns)) (sym same) (arrived (λ o f. fits_all false f es) t a b (goes_add r e) h)
 
-pub repeated_fits : {k : ℕ} {t : Tree} {a b : At} {o : End} {vs : Vals} (xs : List Name) {ds es : List Code} → ds ≡ es → Ends k t a o b → listing_of o ≡ listed vs → fits_all false (after a.own_scope t (frame_of a.nouns) ++ xs) es → fits_all false (frame_of b.nouns ++ xs) ds
+pub repeated_fits : {k : ℕ} {t : Tree} {a b : At} {o : End} {vs : Vals} (xs : List Name) {ds es : List Code} → ds ≡ es → Needs k t a o b → listing_of o ≡ listed vs → fits_all false (after a.own_scope t (frame_of a.nouns) ++ xs) es → fits_all false (frame_of b.nouns ++ xs) ds
 repeated_fits {t = t} {a = a} {b = b} xs {es = es} same r e h = subst (fits_all false (frame_of b.nouns ++ xs)) (sym same) (arrived (λ o f. fits_all false (f ++ xs) es) t a b (lists_add r e) h)
 
 -- a name that is assigned is at its place behind the right side

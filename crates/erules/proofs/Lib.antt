@@ -1,8 +1,10 @@
+pub mod Publishing
 pub mod Added
 pub mod Answering
 pub mod Captures
 pub mod Counted
 pub mod Determined
+pub mod Doings
 pub mod Ejections
 pub mod Ejectors
 pub mod Fitting
@@ -10,6 +12,7 @@ pub mod Framed
 pub mod Grown
 pub mod Kept
 pub mod Opened
+pub mod Paid
 pub mod Patterns
 pub mod Reached
 pub mod Seeking

@@ -2,11 +2,9 @@
 use Rattle.std.proofs.Common.{◌≡◌, List, [], ◌∷◌, Option, Some, None, refl, ap, ◌∙◌}
 use Rattle.ids.specs.declared.names.SlotId.{SlotId}
 use Rattle.kernele.specs.Tree.{Name}
-use Rattle.values.specs.Data.{Val}
 use Rattle.heap.specs.State.{Bind, lookup, frame_of}
 use Rattle.erules.specs.At.{At}
-use Rattle.erules.specs.Outcomes.{Gather, values, halted}
-use Rattle.erules.specs.Rules.{sought, sought_slot, sought_in, seeking, slot_read, noun_read, Capture, captured, missing, and_captured, all_sought, Callee, on_object, on_ejector, on_datum, callee_of, callee_read, called}
+use Rattle.erules.specs.Rules.{sought, sought_slot, sought_in, seeking, slot_read, noun_read, Capture, captured, missing, and_captured, all_sought}
 
 -- a place is another one, with other cells touched
 abbrev pub Reads : At → At → Type 0
@@ -42,12 +40,3 @@ captures_read (captured ns) (x ∷ xs) a =
     let c : Capture = and_captured (captured ns) x (sought x a) in
     reads_both a (seeking x a) (all_sought c xs (seeking x a)) (seeking_reads x a) (captures_read c xs (seeking x a))
 captures_read (missing y) (x ∷ xs) a = refl
-
-callee_reads : (m : Callee) (a : At) → Reads a (callee_read m a)
-callee_reads (on_object i) a = refl
-callee_reads (on_ejector j) a = refl
-callee_reads on_datum a = refl
-
-pub called_reads : (v : Val) (g : Gather) (a : At) → Reads a (called v g a)
-called_reads v (values vs) a = callee_reads (callee_of v) a
-called_reads v (halted h) a = refl

@@ -10,7 +10,7 @@ use Rattle.values.specs.View.{val_of, vals_of}
 use Rattle.values.specs.declared.value.Value.{Value}
 use Rattle.erules.specs.At.{At}
 use Rattle.erules.specs.Outcomes.{End, Halt, value, halt, Gather, values, halted}
-use Rattle.erules.specs.Rules.{entering, leaving, again, matched, Ends, at_node, Runs, begun, Args, args_none, args_next, args_halt, Items, items_none, items_next, items_halt, Block, in_block, Taking, in_taking, Each, each_none, each_next, each_halt}
+use Rattle.erules.specs.Rules.{entering, leaving, again, matched, Ends, at_node, Runs, begun, Args, args_none, args_next, args_halt, Items, items_none, items_next, items_halt, Block, in_block, Taking, in_taking, Each, each_none, each_next, each_halt, Needs, needs}
 use Rattle.erules.specs.Locals.{oldest}
 use Rattle.erules.specs.View.{at}
 use Rattle.erules.proofs.Scopes.{truncated}
@@ -19,6 +19,8 @@ use Rattle.erules.specs.declared.working.Working.{Working}
 use Rattle.kernele.specs.declared.tree.Pattern.{Pattern}
 use Rattle.std.specs.declared.vec.Vec.{Vec}
 use Rattle.std.specs.declared.alloc.Global.{Global}
+use Rattle.erules.specs.Doings.{behind, given_by}
+use Rattle.sends.specs.Vats.{ended}
 
 -- values and then more
 abbrev pub appended : Vals → Vals → Vals
@@ -101,6 +103,14 @@ ends_to {k = k} {t = t} {a = a} {c = c} {p = p} r e f = subst (λ o. Ends k t a 
 
 pub runs_to : {k : ℕ} {t : Tree} {a b c : At} {o p : End} → Runs k t a p b → o ≡ p → c ≡ b → Runs k t a o c
 runs_to {k = k} {t = t} {a = a} {c = c} {p = p} r e f = subst (λ o. Runs k t a o c) (sym e) (subst (λ d. Runs k t a p d) (sym f) r)
+
+-- the same where a datum is wanted
+pub needs_to : {k : ℕ} {t : Tree} {a b c : At} {o p : End} → Needs k t a p b → o ≡ p → c ≡ b → Needs k t a o c
+needs_to {k = k} {t = t} {a = a} {c = c} {p = p} r e f = subst (λ o. Needs k t a o c) (sym e) (subst (λ d. Needs k t a p d) (sym f) r)
+
+-- a value's end was taken where a datum is wanted
+pub end_taken : {k : ℕ} {t : Tree} {a b c : At} {v w : Val} → Ends k t a (value v) b → w ≡ given_by (ended v) b → c ≡ behind (ended v) b → Needs k t a (value w) c
+end_taken r e f = needs_to (needs r) (ap value e) f
 
 -- a slice of what an `Arc` holds
 pub slice_of : {X : Type 0} {s : List X} {v u : Vec X Global} → s ≡ v.items → v ≡ u → s ≡ u.items

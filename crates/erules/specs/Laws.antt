@@ -1,5 +1,5 @@
 -- The laws of evaluation.
-use Rattle.std.specs.Prelude.{◌≡◌, ℕ, ◌+◌, ◌≤◌, ◌++◌, true, false, cond}
+use Rattle.std.specs.Prelude.{◌≡◌, ℕ, ◌+◌, ◌≤◌, ◌++◌, true, false, cond, length}
 use Rattle.ids.specs.declared.names.EjId.{EjId}
 use Rattle.kernele.specs.Tree.{Tree}
 use Rattle.values.specs.Data.{Val}
@@ -63,6 +63,10 @@ BeginningStays = (k : ℕ) (t : Tree) (a b : At) (o : End) → Ends k t a o b �
 abbrev pub StepsOnlyFall : Type 0
 StepsOnlyFall = (k : ℕ) (t : Tree) (a b : At) (o : End) → Ends k t a o b → b.left ≤ a.left
 
+-- each promise that it makes is paid for by a step
+abbrev pub PromisesArePaidFor : Type 0
+PromisesArePaidFor = (k : ℕ) (t : Tree) (a b : At) (o : End) → Ends k t a o b → b.out.promises + b.left ≤ a.out.promises + a.left
+
 -- it takes a step for each node that begins
 abbrev pub StepsAreNodes : Type 0
 StepsAreNodes = (k : ℕ) (t : Tree) (a b : At) (o : End) (r : Ends k t a o b) → nodes r + b.left ≡ a.left
@@ -71,10 +75,11 @@ StepsAreNodes = (k : ℕ) (t : Tree) (a b : At) (o : End) (r : Ends k t a o b) �
 abbrev pub NoneRunsTooDeep : Type 0
 NoneRunsTooDeep = (k : ℕ) (t : Tree) (a b : At) (o : End) (r : Ends k t a o b) → deepest r ≤ 1000
 
--- a turn has made at most 4,096 slots and as many objects
+-- a turn has made at most 4,096 slots, as many objects, and as many messages
 pub record IsWithinRoom (a : At) : Type 0 where
   pub slots : a.slots ≤ 4096
   pub objects : a.objects ≤ 4096
+  pub messages : length a.out.letters ≤ 4096
 
 -- and so it is behind a tree where it was before
 abbrev pub RoomIsKept : Type 0

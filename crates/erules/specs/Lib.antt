@@ -1,3 +1,6 @@
+pub mod Outbox
+pub mod PublicationsView
+pub mod OutboxView
 pub mod At
 pub mod Fits
 pub mod Outcomes
@@ -7,3 +10,4 @@ pub mod View
 pub mod Answered
 pub mod Laws
 pub mod Locals
+pub mod Doings

@@ -3,18 +3,23 @@ use Rattle.std.specs.Prelude.{◌≡◌, ℕ, ◌+◌, ◌-◌, ◌<◌, ◌≤�
 use Rattle.std.specs.Str.{bytes_eq}
 use Rattle.std.specs.Ordering.{is_eq}
 use Rattle.ids.specs.Cells.{ejector_cmp}
+use Rattle.ids.specs.declared.names.VatNo.{VatNo}
 use Rattle.ids.specs.declared.names.SlotId.{SlotId}
 use Rattle.ids.specs.declared.names.ObjId.{ObjId}
 use Rattle.ids.specs.declared.names.EjId.{EjId}
-use Rattle.kernele.specs.Tree.{Name, Tree, null_tree, bool_tree, int_tree, text_tree, noun, define, variable, assign, call, list_tree, same_tree, define_list, hide, if_tree, while_tree, for_tree, try_tree, throw_tree, object_tree, escape_tree, Trees, none, and_then, Methods, no_methods, and_method}
-use Rattle.scopes.specs.Free.{captures}
+use Rattle.ids.specs.declared.names.PromId.{PromId}
+use Rattle.kernele.specs.Tree.{Name, Tree, null_tree, bool_tree, int_tree, text_tree, noun, define, variable, assign, call, list_tree, same_tree, define_list, hide, if_tree, while_tree, for_tree, try_tree, throw_tree, object_tree, escape_tree, send, when_tree, when_catch_tree, new_promise, break_ref, state_ref, Trees, none, and_then, Methods, no_methods, and_method}
+use Rattle.scopes.specs.Free.{captures, when_captures}
 use Rattle.kernele.specs.declared.tree.Pattern.{Pattern}
 use Rattle.kernele.specs.declared.tree.Pattern.TheVariants as pattern
-use Rattle.values.specs.Data.{Val, null, bool, int, text, broken, object, ejector, Vals, no_vals, and_val}
-use Rattle.values.specs.Replies.{no_method, data_reply, list_reply, text_reply, text_in, items_in}
-use Rattle.values.specs.Same.{same_as}
-use Rattle.heap.specs.State.{Bind, fixed, slot, Nouns, lookup, Object, top, slot_cell, object_cell, Cell, Content, bound, held, made, State, read, write, also}
+use Rattle.values.specs.Data.{Val, null, bool, int, text, broken, object, ejector, promise, Vals, no_vals, and_val}
+use Rattle.values.specs.Replies.{no_method, list_reply, text_reply, text_in, items_in}
+use Rattle.heap.specs.State.{Bind, fixed, slot, Nouns, lookup, Plain, plain, resolver, top, slot_cell, object_cell, Cell, Content, bound, held, made, State, read, write, also}
+use Rattle.post.specs.Delivery.{Handler}
+use Rattle.sends.specs.Vats.{Vat, ended}
+use Rattle.sends.specs.Making.{Making, Published, resolving, smashing}
 use Rattle.erules.specs.At.{At}
+use Rattle.erules.specs.Doings.{given_by, behind, datum_of, datum_read, data_of, same_vat, next_object, has_object_room, sent_end, sent_at, wait_of, wait_end, wait_out, promise_pair, pair_end, pair_out, resolver_end, resolver_out, same_end, same_read, state_end}
 use Rattle.erules.specs.Outcomes.{budget_spent, too_deep, too_large, Halt, thrown, ejected, abandoned, End, value, halt, Gather, values, halted, reply_end}
 
 -- a step was taken
@@ -231,20 +236,12 @@ capture_of p ms a = all_captured (captured []) (captures p ms) a
 abbrev pub capturing : Pattern → Methods → At → At
 capturing p ms a = all_sought (captured []) (captures p ms) a
 
--- the object that a turn makes next: they are numbered from 0 in order of making
-abbrev pub next_object : At → ObjId
-next_object a = record { event = a.event; index = a.objects; vat = a.vat }
-
--- a turn makes at most 4,096 objects
-abbrev pub has_object_room : At → Bool
-has_object_room a = ltb a.objects 4096
-
 -- an object is made
-abbrev pub object_made : Object → At → At
-object_made o a = record (put (object_cell (next_object a)) (made o) a) { objects = a.objects + 1 }
+abbrev pub object_made : Plain → At → At
+object_made o a = record (put (object_cell (next_object a)) (made (plain o)) a) { objects = a.objects + 1 }
 
 -- and its pattern takes it, where there is room for one more; without room the turn is abandoned
-abbrev pub placed : Bool → Pattern → Object → At → At
+abbrev pub placed : Bool → Pattern → Plain → At → At
 placed true p o a = matched p (object (next_object a)) (object_made o a)
 placed false p o a = a
 
@@ -276,6 +273,7 @@ named_all _ _ ns = ns
 pub data Target : Type 0 where
   gives : (o : End) → Target
   enters : (ns : Nouns) → (body : Trees) → Target
+  uses : (p : PromId) → (d : Vat (Making Published)) → Target
 
 -- a method is found by its verb and by how many parameters it has: these, and its block
 abbrev pub method_in : Methods → Name → Vals → Option (List Pattern × Trees)
@@ -287,13 +285,19 @@ abbrev pub no_such_method : Name → Vals → End
 no_such_method verb vs = reply_end (no_method verb vs)
 
 -- a method that is found is entered with the object's names, the object's own name before them, and the parameters before that
-abbrev pub method_target : ObjId → Object → Name → Vals → Option (List Pattern × Trees) → Target
+abbrev pub method_target : ObjId → Plain → Name → Vals → Option (List Pattern × Trees) → Target
 method_target i o verb vs (Some m) = enters (named_all m.0 vs (named o.own (object i) o.captured)) m.1
 method_target i o verb vs None = gives (no_such_method verb vs)
 
+-- a resolver resolves its promise to a value, or breaks it with a text
+abbrev pub resolver_target : PromId → Name → Vals → Target
+resolver_target p verb (and_val v no_vals) = cond (bytes_eq verb (codes "resolve")) (uses p (resolving p v)) (cond (bytes_eq verb (codes "smash")) (uses p (smashing p v)) (gives (no_such_method verb (and_val v no_vals))))
+resolver_target p verb vs = gives (no_such_method verb vs)
+
 -- a call on an object, by what its cell holds
 abbrev pub object_target : ObjId → Option Content → Name → Vals → Target
-object_target i (Some (made o)) verb vs = method_target i o verb vs (method_in o.methods verb vs)
+object_target i (Some (made (plain o))) verb vs = method_target i o verb vs (method_in o.methods verb vs)
+object_target i (Some (made (resolver p))) verb vs = resolver_target p verb vs
 object_target i _ verb vs = gives (no_such_method verb vs)
 
 abbrev pub same_ejector : EjId → EjId → Bool
@@ -324,37 +328,53 @@ ejection j is verb vs None = no_such_method verb vs
 abbrev pub ejector_end : EjId → List EjId → Name → Vals → End
 ejector_end j is verb vs = cond (bytes_eq verb (codes "run")) (ejection j is verb vs (given vs)) (no_such_method verb vs)
 
--- what a call is made on
+-- what a call is made on: an object or an ejector of the vat, a datum or what is broken, or what is not near
 pub data Callee : Type 0 where
   on_object : (i : ObjId) → Callee
   on_ejector : (j : EjId) → Callee
   on_datum : Callee
+  on_far : Callee
 
-abbrev pub callee_of : Val → Callee
-callee_of (object i) = on_object i
-callee_of (ejector j) = on_ejector j
-callee_of _ = on_datum
+-- what is the vat's own, by whether it is
+abbrev pub if_own : Bool → Callee → Callee
+if_own true c = c
+if_own false c = on_far
+
+abbrev pub callee_of : VatNo → Val → Callee
+callee_of here (object i) = if_own (same_vat i.vat here) (on_object i)
+callee_of here (ejector j) = if_own (same_vat j.vat here) (on_ejector j)
+callee_of here (promise p) = on_far
+callee_of here _ = on_datum
 
 -- what a call leads to, by what it is made on
 abbrev pub callee_target : Callee → Val → Name → Vals → At → Target
 callee_target (on_object i) v verb vs a = object_target i (read a.state (object_cell i)) verb vs
 callee_target (on_ejector j) v verb vs a = gives (ejector_end j a.opened verb vs)
-callee_target on_datum v verb vs a = gives (reply_end (data_reply v verb vs))
+callee_target on_datum v verb vs a = gives (reply_end (given_by (data_of v verb vs) a))
+callee_target on_far v verb vs a = gives (halt (thrown (codes "not near")))
+
+-- a call on an object reads the object, whether it has the method or not
+abbrev pub callee_read : Callee → Val → Name → Vals → At → At
+callee_read (on_object i) v verb vs a = reached (object_cell i) a
+callee_read (on_ejector j) v verb vs a = a
+callee_read on_datum v verb vs a = behind (data_of v verb vs) a
+callee_read on_far v verb vs a = a
+
+-- the receiver's end is taken once the arguments are there
+abbrev pub receiver : Val → At → Val
+receiver v a = given_by (ended v) a
+
+abbrev pub receiver_read : Val → At → At
+receiver_read v a = behind (ended v) a
 
 -- what a call leads to, once its arguments are there
 abbrev pub target_of : Val → Name → Gather → At → Target
-target_of v verb (values vs) a = callee_target (callee_of v) v verb vs a
+target_of v verb (values vs) a = callee_target (callee_of a.vat (receiver v a)) (receiver v a) verb vs (receiver_read v a)
 target_of v verb (halted h) a = gives (halt h)
 
--- a call on an object reads the object, whether it has the method or not
-abbrev pub callee_read : Callee → At → At
-callee_read (on_object i) a = reached (object_cell i) a
-callee_read (on_ejector j) a = a
-callee_read on_datum a = a
-
-abbrev pub called : Val → Gather → At → At
-called v (values vs) a = callee_read (callee_of v) a
-called v (halted h) a = a
+abbrev pub called : Val → Name → Gather → At → At
+called v verb (values vs) a = callee_read (callee_of a.vat (receiver v a)) (receiver v a) verb vs (receiver_read v a)
+called v verb (halted h) a = a
 
 -- the ejector that a turn makes next: they are numbered from 0 in order of making, and never counted against a limit
 abbrev pub next_ejector : At → EjId
@@ -378,11 +398,6 @@ escape_end j (halt (abandoned why)) = halt (abandoned why)
 abbrev pub list_end : Gather → End
 list_end (values vs) = reply_end (list_reply vs)
 list_end (halted h) = halt h
-
--- whether two values are the same, once the right one is there
-abbrev pub same_end : Val → End → End
-same_end v (value w) = value (bool (same_as v w))
-same_end v (halt h) = halt h
 
 -- what a condition leads to: one of two ways, or an end
 pub data Choice : Type 0 where
@@ -447,6 +462,44 @@ abbrev pub gather_first : Val → Gather → Gather
 gather_first v (values vs) = values (and_val v vs)
 gather_first v (halted h) = halted h
 
+-- the names that a when captures behind its value: those that are free in its block and its handler
+abbrev pub handled_names : Trees → Option Handler → List Name
+handled_names body None = when_captures body pattern.Ignore none
+handled_names body (Some h) = when_captures body h.pattern h.block
+
+abbrev pub when_capture : Trees → Option Handler → At → Capture
+when_capture body handler a = all_captured (captured []) (handled_names body handler) a
+
+abbrev pub when_capturing : Trees → Option Handler → At → At
+when_capturing body handler a = all_sought (captured []) (handled_names body handler) a
+
+-- a when is made once its names are captured: its value's end is taken, then the message is made
+abbrev pub waited_end : Capture → Val → At → End
+waited_end (captured ns) v a = wait_end (given_by (wait_of v a) a) a
+waited_end (missing x) v a = undefined_noun x
+
+abbrev pub waited : Capture → Trees → Option Handler → Val → At → At
+waited (captured ns) body handler v a = wait_out (record { value = v; captured = ns; block = body; handler = handler }) (given_by (wait_of v a) a) (behind (wait_of v a) a)
+waited (missing x) body handler v a = a
+
+-- so its names are captured once its value is there
+abbrev pub when_end : Trees → Option Handler → End → At → End
+when_end body handler (value v) a = waited_end (when_capture body handler a) v (when_capturing body handler a)
+when_end body handler (halt h) a = halt h
+
+abbrev pub when_made : Trees → Option Handler → End → At → At
+when_made body handler (value v) a = waited (when_capture body handler a) body handler v (when_capturing body handler a)
+when_made body handler (halt h) a = a
+
+-- a text breaks a reference
+abbrev pub broken_by : Val → Option Name → End
+broken_by v (Some problem) = value (broken problem)
+broken_by v None = mismatch (codes "not a text") v
+
+abbrev pub broken_end : End → End
+broken_end (value v) = broken_by v (text_in v)
+broken_end (halt h) = halt h
+
 mutual
   -- at level k, a tree begun at a ends as o at b: the budget is tested, a step is taken, then the level is tested,
   -- of which the deepest is 1,000
@@ -466,26 +519,39 @@ mutual
     run_variable : {k : ℕ} {x : Name} {e : Tree} {a b : At} {o : End} → Ends (k + 1) e a o b → Runs k (variable x e) a (declared_end o b) (declared x o b)
     run_assign : {k : ℕ} {x : Name} {e : Tree} {a b : At} {o : End} → Ends (k + 1) e a o b → Runs k (assign x e) a (assigned_end x o (sought_slot x b)) (assigned x o b)
     run_call_receiver : {k : ℕ} {r : Tree} {verb : Name} {args : Trees} {a b : At} {h : Halt} → Ends (k + 1) r a (halt h) b → Runs k (call r verb args) a (halt h) b
-    run_call_gives : {k : ℕ} {r : Tree} {verb : Name} {args : Trees} {a b c : At} {v : Val} {g : Gather} {o : End} → Ends (k + 1) r a (value v) b → Args (k + 1) args b g c → target_of v verb g c ≡ gives o → Runs k (call r verb args) a o (called v g c)
-    run_call_enters : {k : ℕ} {r : Tree} {verb : Name} {args : Trees} {a b c d : At} {v : Val} {g : Gather} {ns : Nouns} {body : Trees} {o : End} → Ends (k + 1) r a (value v) b → Args (k + 1) args b g c → target_of v verb g c ≡ enters ns body → Items (k + 1) null body (inside ns (called v g c)) o d → Runs k (call r verb args) a o (leaving c d)
+    run_call_gives : {k : ℕ} {r : Tree} {verb : Name} {args : Trees} {a b c : At} {v : Val} {g : Gather} {o : End} → Ends (k + 1) r a (value v) b → Args (k + 1) args b g c → target_of v verb g c ≡ gives o → Runs k (call r verb args) a o (called v verb g c)
+    run_call_enters : {k : ℕ} {r : Tree} {verb : Name} {args : Trees} {a b c d : At} {v : Val} {g : Gather} {ns : Nouns} {body : Trees} {o : End} → Ends (k + 1) r a (value v) b → Args (k + 1) args b g c → target_of v verb g c ≡ enters ns body → Items (k + 1) null body (inside ns (called v verb g c)) o d → Runs k (call r verb args) a o (leaving c d)
+    run_call_uses : {k : ℕ} {r : Tree} {verb : Name} {args : Trees} {a b c : At} {v : Val} {g : Gather} {p : PromId} {d : Vat (Making Published)} → Ends (k + 1) r a (value v) b → Args (k + 1) args b g c → target_of v verb g c ≡ uses p d → Runs k (call r verb args) a (resolver_end (given_by d (called v verb g c))) (resolver_out p (given_by d (called v verb g c)) (behind d (called v verb g c)))
+    run_send_receiver : {k : ℕ} {r : Tree} {verb : Name} {args : Trees} {a b : At} {h : Halt} → Ends (k + 1) r a (halt h) b → Runs k (send r verb args) a (halt h) b
+    run_send : {k : ℕ} {r : Tree} {verb : Name} {args : Trees} {a b c : At} {v : Val} {g : Gather} → Ends (k + 1) r a (value v) b → Args (k + 1) args b g c → Runs k (send r verb args) a (sent_end v g c) (sent_at verb v g c)
     run_list : {k : ℕ} {ts : Trees} {a b : At} {g : Gather} → Args (k + 1) ts a g b → Runs k (list_tree ts) a (list_end g) b
     run_same_left : {k : ℕ} {l r : Tree} {a b : At} {h : Halt} → Ends (k + 1) l a (halt h) b → Runs k (same_tree l r) a (halt h) b
-    run_same : {k : ℕ} {l r : Tree} {a b c : At} {v : Val} {o : End} → Ends (k + 1) l a (value v) b → Ends (k + 1) r b o c → Runs k (same_tree l r) a (same_end v o) c
-    run_define_list : {k : ℕ} {ps : List Pattern} {e : Tree} {a b : At} {o : End} → Ends (k + 1) e a o b → Runs k (define_list ps e) a (parts_end o (parts_of ps o)) (parts_bound ps (parts_of ps o) b)
+    run_same : {k : ℕ} {l r : Tree} {a b c : At} {v : Val} {o : End} → Ends (k + 1) l a (value v) b → Ends (k + 1) r b o c → Runs k (same_tree l r) a (same_end v o c) (same_read v o c)
+    run_define_list : {k : ℕ} {ps : List Pattern} {e : Tree} {a b : At} {o : End} → Ends (k + 1) e a o b → Runs k (define_list ps e) a (parts_end o (parts_of ps (datum_of o b))) (parts_bound ps (parts_of ps (datum_of o b)) (datum_read o b))
     run_hide : {k : ℕ} {ts : Trees} {a b : At} {o : End} → Block (k + 1) ts a o b → Runs k (hide ts) a o b
-    run_throw : {k : ℕ} {e : Tree} {a b : At} {o : End} → Ends (k + 1) e a o b → Runs k (throw_tree e) a (thrown_end o) b
-    run_if_goes : {k : ℕ} {c : Tree} {first second : Trees} {a b d : At} {o p : End} {q : Bool} → Ends (k + 1) c a o b → choice_of o ≡ goes q → Block (k + 1) (chosen q first second) b p d → Runs k (if_tree c first second) a p d
-    run_if_ends : {k : ℕ} {c : Tree} {first second : Trees} {a b : At} {o p : End} → Ends (k + 1) c a o b → choice_of o ≡ ends p → Runs k (if_tree c first second) a p b
-    run_while_again : {k : ℕ} {c : Tree} {body : Trees} {a b d e : At} {o p : End} {v : Val} → Ends (k + 1) c a o b → choice_of o ≡ goes true → Block (k + 1) body b (value v) d → Runs k (while_tree c body) (again a d) p e → Runs k (while_tree c body) a p e
-    run_while_halts : {k : ℕ} {c : Tree} {body : Trees} {a b d : At} {o : End} {h : Halt} → Ends (k + 1) c a o b → choice_of o ≡ goes true → Block (k + 1) body b (halt h) d → Runs k (while_tree c body) a (halt h) d
-    run_while_done : {k : ℕ} {c : Tree} {body : Trees} {a b : At} {o : End} → Ends (k + 1) c a o b → choice_of o ≡ goes false → Runs k (while_tree c body) a (value null) b
-    run_while_ends : {k : ℕ} {c : Tree} {body : Trees} {a b : At} {o p : End} → Ends (k + 1) c a o b → choice_of o ≡ ends p → Runs k (while_tree c body) a p b
-    run_for : {k : ℕ} {p : Pattern} {e : Tree} {body : Trees} {a b d : At} {o q : End} {vs : Vals} → Ends (k + 1) e a o b → listing_of o ≡ listed vs → Each (k + 1) p body vs b q d → Runs k (for_tree p e body) a q d
-    run_for_ends : {k : ℕ} {p : Pattern} {e : Tree} {body : Trees} {a b : At} {o q : End} → Ends (k + 1) e a o b → listing_of o ≡ unlisted q → Runs k (for_tree p e body) a q b
+    run_throw : {k : ℕ} {e : Tree} {a b : At} {o : End} → Needs (k + 1) e a o b → Runs k (throw_tree e) a (thrown_end o) b
+    run_if_goes : {k : ℕ} {c : Tree} {first second : Trees} {a b d : At} {o p : End} {q : Bool} → Needs (k + 1) c a o b → choice_of o ≡ goes q → Block (k + 1) (chosen q first second) b p d → Runs k (if_tree c first second) a p d
+    run_if_ends : {k : ℕ} {c : Tree} {first second : Trees} {a b : At} {o p : End} → Needs (k + 1) c a o b → choice_of o ≡ ends p → Runs k (if_tree c first second) a p b
+    run_while_again : {k : ℕ} {c : Tree} {body : Trees} {a b d e : At} {o p : End} {v : Val} → Needs (k + 1) c a o b → choice_of o ≡ goes true → Block (k + 1) body b (value v) d → Runs k (while_tree c body) (again a d) p e → Runs k (while_tree c body) a p e
+    run_while_halts : {k : ℕ} {c : Tree} {body : Trees} {a b d : At} {o : End} {h : Halt} → Needs (k + 1) c a o b → choice_of o ≡ goes true → Block (k + 1) body b (halt h) d → Runs k (while_tree c body) a (halt h) d
+    run_while_done : {k : ℕ} {c : Tree} {body : Trees} {a b : At} {o : End} → Needs (k + 1) c a o b → choice_of o ≡ goes false → Runs k (while_tree c body) a (value null) b
+    run_while_ends : {k : ℕ} {c : Tree} {body : Trees} {a b : At} {o p : End} → Needs (k + 1) c a o b → choice_of o ≡ ends p → Runs k (while_tree c body) a p b
+    run_for : {k : ℕ} {p : Pattern} {e : Tree} {body : Trees} {a b d : At} {o q : End} {vs : Vals} → Needs (k + 1) e a o b → listing_of o ≡ listed vs → Each (k + 1) p body vs b q d → Runs k (for_tree p e body) a q d
+    run_for_ends : {k : ℕ} {p : Pattern} {e : Tree} {body : Trees} {a b : At} {o q : End} → Needs (k + 1) e a o b → listing_of o ≡ unlisted q → Runs k (for_tree p e body) a q b
     run_try : {k : ℕ} {body : Trees} {p : Pattern} {handler : Trees} {a b : At} {o : End} → Block (k + 1) body a o b → caught o ≡ None → Runs k (try_tree body p handler) a o b
     run_try_caught : {k : ℕ} {body : Trees} {p : Pattern} {handler : Trees} {a b d : At} {o q : End} {problem : Name} → Block (k + 1) body a o b → caught o ≡ Some problem → Taking (k + 1) p (text problem) handler b q d → Runs k (try_tree body p handler) a q d
     run_object : {k : ℕ} {p : Pattern} {ms : Methods} {a : At} → Runs k (object_tree p ms) a (object_end (capture_of p ms a) a) (with_object p ms (capture_of p ms a) (capturing p ms a))
     run_escape : {k : ℕ} {x : Name} {body : Trees} {a b : At} {o : End} → Taking (k + 1) (pattern.Name x) (ejector (next_ejector a)) body (escaping a) o b → Runs k (escape_tree x body) a (escape_end (next_ejector a) o) (escaped a b)
+    run_when : {k : ℕ} {e : Tree} {body : Trees} {a b : At} {o : End} → Ends (k + 1) e a o b → Runs k (when_tree e body) a (when_end body None o b) (when_made body None o b)
+    run_when_catch : {k : ℕ} {e : Tree} {body : Trees} {p : Pattern} {handler : Trees} {a b : At} {o : End} → Ends (k + 1) e a o b
+        → Runs k (when_catch_tree e body p handler) a (when_end body (Some (record { pattern = p; block = handler })) o b) (when_made body (Some (record { pattern = p; block = handler })) o b)
+    run_new_promise : {k : ℕ} {a : At} → Runs k new_promise a (pair_end (given_by (promise_pair a) a) a) (pair_out (given_by (promise_pair a) a) (behind (promise_pair a) a))
+    run_break_ref : {k : ℕ} {e : Tree} {a b : At} {o : End} → Needs (k + 1) e a o b → Runs k (break_ref e) a (broken_end o) b
+    run_state_ref : {k : ℕ} {e : Tree} {a b : At} {o : End} → Needs (k + 1) e a o b → Runs k (state_ref e) a (state_end a.vat o) b
+
+  -- the same where a datum is wanted: the end in the vat of the value that the tree gives
+  pub data Needs : ℕ → Tree → At → End → At → Type 0 where
+    needs : {k : ℕ} {t : Tree} {a b : At} {o : End} → Ends k t a o b → Needs k t a (datum_of o b) (datum_read o b)
 
   -- trees from left to right, as arguments or as the items of a list
   pub data Args : ℕ → Trees → At → Gather → At → Type 0 where

@@ -5,6 +5,7 @@ use Rattle.values.specs.View.{val_of}
 use Rattle.erules.specs.At.{At}
 use Rattle.erules.specs.Locals.{captured_in, names_in}
 use Rattle.heap.specs.Drafts.{draft_of, counts_of, began_with, touched_of, written_of}
+use Rattle.erules.specs.OutboxView.{outbox_of}
 use Rattle.erules.specs.Outcomes.{Cause, budget_spent, too_deep, too_large, Halt, thrown, ejected, abandoned}
 use Rattle.erules.specs.declared.working.Working.{Working}
 use Rattle.erules.specs.declared.end.Abandon.{Abandon}
@@ -32,4 +33,4 @@ opened_of items = ejectors_after [] items
 
 -- where the program stands
 abbrev pub at : Working → At
-at w = record { nouns = names_in (captured_in w.captured) w.older w.nouns.items; own_scope = w.own_scope; state = draft_of w.draft; left = w.steps; event = (counts_of w.draft).event; vat = (counts_of w.draft).vat; began = began_with w.draft; slots = (counts_of w.draft).slots; objects = (counts_of w.draft).objects; ejectors = w.ejectors; opened = opened_of w.opened.items; touched = touched_of w.draft; written = written_of w.draft }
+at w = record { nouns = names_in (captured_in w.captured) w.older w.nouns.items; own_scope = w.own_scope; state = draft_of w.draft; left = w.steps; event = (counts_of w.draft).event; vat = (counts_of w.draft).vat; began = began_with w.draft; slots = (counts_of w.draft).slots; objects = (counts_of w.draft).objects; ejectors = w.ejectors; opened = opened_of w.opened.items; touched = touched_of w.draft; written = written_of w.draft; out = outbox_of w.out }

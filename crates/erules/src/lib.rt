@@ -10,6 +10,8 @@ pub mod entry;
 pub mod escapes;
 pub mod halting;
 pub mod local;
+pub mod outbox;
+pub mod publications;
 pub mod results;
 pub mod theorems;
 pub mod wanted;

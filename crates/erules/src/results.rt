@@ -62,7 +62,7 @@ pub fn no_such_method(
 
 /// An answer of data as what an evaluation gives.
 #[inline(always)]
-fn give(w: &mut Working, answer: Answer, into: &mut Value) -> Result<(), Stop>
+pub fn give(w: &mut Working, answer: Answer, into: &mut Value) -> Result<(), Stop>
     ensures { OnEnd result into.new w.new (λ o b. (o ≡ reply_end (reply_of answer)) × (b ≡ at w.old)) }
 {
     match answer {

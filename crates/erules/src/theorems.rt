@@ -1,10 +1,11 @@
 // What holds of evaluation.
-ghost use Rattle.erules.specs.Laws.{AtMostOneOutcome, EachTreeHasAnOutcome, TouchedGrows, Frame, OthersStay, WritesAlike, BeginningStays, StepsOnlyFall, StepsAreNodes, NoneRunsTooDeep, RoomIsKept, NamesAreOnlyAdded, DefinitionsAreAdded, EjectionsAreOpen};
+ghost use Rattle.erules.specs.Laws.{AtMostOneOutcome, EachTreeHasAnOutcome, TouchedGrows, Frame, OthersStay, WritesAlike, BeginningStays, StepsOnlyFall, PromisesArePaidFor, StepsAreNodes, NoneRunsTooDeep, RoomIsKept, NamesAreOnlyAdded, DefinitionsAreAdded, EjectionsAreOpen};
 
 /// A tree has exactly one outcome. It depends on no cell but those that it touches, and leaves each that it does not write.
-/// It takes a step for each node that begins, and gives none back. No node runs past level 1,000. Where a turn has made at most
-/// 4,096 slots and as many objects, so it has behind it. It adds newer names to the scopes and takes none away: where it gives a
-/// value, the names that it defines. A value on its way to an Escape leaves it only inside that Escape.
+/// It takes a step for each node that begins, and gives none back; each promise that it makes is paid for by a step. No node runs
+/// past level 1,000. Where a turn has made at most 4,096 slots and as many objects, so it has behind it. It adds newer names to the
+/// scopes and takes none away: where it gives a value, the names that it defines. A value on its way to an Escape leaves it only
+/// inside that Escape.
 pub fn evaluation_is_lawful()
     ensures one_outcome { AtMostOneOutcome }
     ensures has_an_outcome { EachTreeHasAnOutcome }
@@ -14,6 +15,7 @@ pub fn evaluation_is_lawful()
     ensures writes_alike { WritesAlike }
     ensures beginning_stays { BeginningStays }
     ensures steps_only_fall { StepsOnlyFall }
+    ensures promises_are_paid_for { PromisesArePaidFor }
     ensures steps_are_nodes { StepsAreNodes }
     ensures none_runs_too_deep { NoneRunsTooDeep }
     ensures room_is_kept { RoomIsKept }

@@ -4,6 +4,7 @@ ghost use Rattle.erules.specs.Locals.{captured_in};
 
 use crate::end::Halt;
 use crate::local::Local;
+use crate::outbox::Outbox;
 use heap::draft::Draft;
 use heap::state::Noun;
 use ids::names::EjId;
@@ -36,8 +37,11 @@ pub struct Working {
     pub ejectors: u32,
     /// The ejectors whose Escape is being evaluated, the newest last.
     pub opened: Vec<EjId>,
+    /// The messages, promises, publications and notes that the turn has made. No more promises than the steps that it has taken.
+    pub out: Outbox,
     /// Why the last evaluation that was halted has no value.
     pub halt: Halt,
     pub ghost within: { older ≤ length (captured_in captured) },
     pub ghost counted: { ejectors + steps ≤ 4294967295 },
+    pub ghost promised: { out.promises + steps ≤ 4294967295 },
 }

@@ -1,5 +1,5 @@
 -- What signs stand for where they stand.
-use Rattle.std.specs.Prelude.{List, ℕ, Option, Some, None, codes}
+use Rattle.std.specs.Prelude.{Bool, true, false, List, ℕ, Option, Some, None, codes}
 use Rattle.etoken.specs.declared.token.Sign as signs
 use Rattle.etoken.specs.declared.token.Sign.TheVariants as sign
 use Rattle.esigns.specs.declared.operator.Operator.{Operator}
@@ -60,21 +60,31 @@ prefix_operator sign.Not = Some prefix.Not
 prefix_operator sign.Minus = Some prefix.Negate
 prefix_operator _ = None
 
--- what makes a call of what stands before it
+-- what makes a call or a send of what stands before it
 abbrev pub link_of : signs.Sign → Option Link
 link_of sign.Dot = Some link.Method
 link_of sign.OpenRound = Some link.Run
 link_of sign.OpenSquare = Some link.Index
+link_of sign.SendTo = Some link.Send
 link_of _ = None
 
--- the verb of such a call, where no name stands for it
+-- a send, and not a call
+abbrev pub is_send : Link → Bool
+is_send link.Method = false
+is_send link.Run = false
+is_send link.Index = false
+is_send link.Send = true
+
+-- its verb, where no name may stand for it
 abbrev pub verb_of : Link → Option (List ℕ)
 verb_of link.Method = None
 verb_of link.Run = Some (codes "run")
 verb_of link.Index = Some (codes "get")
+verb_of link.Send = None
 
 -- the bracket that its arguments stand in
 abbrev pub closer : Link → Bracket
 closer link.Method = bracket.Round
 closer link.Run = bracket.Round
 closer link.Index = bracket.Square
+closer link.Send = bracket.Round

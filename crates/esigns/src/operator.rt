@@ -1,6 +1,6 @@
 // Signs, by what they stand for where they stand.
 ghost use Rattle.std.specs.Prelude.{◌≡◌, IfOk};
-ghost use Rattle.esigns.specs.Signs.{closer, link_of, operator_of, prefix_operator, verb_of};
+ghost use Rattle.esigns.specs.Signs.{closer, is_send, link_of, operator_of, prefix_operator, verb_of};
 
 use etoken::token::Sign;
 use ids::text::Text;
@@ -93,7 +93,7 @@ impl Prefix {
     }
 }
 
-/// What makes a call of the receiver before it.
+/// What makes a call or a send of the receiver before it.
 #[derive(Clone, Copy)]
 pub enum Link {
     /// `.verb(`
@@ -102,10 +102,12 @@ pub enum Link {
     Run,
     /// `[`
     Index,
+    /// `<-`
+    Send,
 }
 
 impl Link {
-    /// What a sign behind a receiver begins, if it makes a call of it.
+    /// What a sign behind a receiver begins, if it makes a call or a send of it.
     pub fn of(sign: Sign) -> Option<Link>
         ensures { result ≡ link_of sign }
     {
@@ -113,16 +115,27 @@ impl Link {
             Sign::Dot => Some(Link::Method),
             Sign::OpenRound => Some(Link::Run),
             Sign::OpenSquare => Some(Link::Index),
+            Sign::SendTo => Some(Link::Send),
             _ => None,
         }
     }
 
-    /// The verb of the call, where no name stands for it.
+    /// Whether it makes a send, and no call.
+    pub fn is_send(self) -> bool
+        ensures { result ≡ is_send self }
+    {
+        match self {
+            Link::Method | Link::Run | Link::Index => false,
+            Link::Send => true,
+        }
+    }
+
+    /// The verb, where no name may stand for it.
     pub fn verb(self, alloc: Global) -> Result<Option<Text>, AllocError>
         ensures { IfOk result (λ verb. verb ≡ verb_of self) }
     {
         Ok(match self {
-            Link::Method => None,
+            Link::Method | Link::Send => None,
             Link::Run => Some(Text::new(alloc, "run")?),
             Link::Index => Some(Text::new(alloc, "get")?),
         })
@@ -133,7 +146,7 @@ impl Link {
         ensures { result ≡ closer self }
     {
         match self {
-            Link::Method | Link::Run => Bracket::Round,
+            Link::Method | Link::Run | Link::Send => Bracket::Round,
             Link::Index => Bracket::Square,
         }
     }

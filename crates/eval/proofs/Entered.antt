@@ -1,6 +1,6 @@
 -- From the rules of calls and of Escapes to what the program's functions ensure.
 use Rattle.std.proofs.Common.{◌≡◌, ℕ, ◌+◌, Bool, List, length, take, subst, refl, sym, ap, ◌∙◌, rules}
-use Rattle.std.specs.Prelude.{Option, Result, Ok, Err, Vec, vec_len}
+use Rattle.std.specs.Prelude.{Option, Some, None, Result, Ok, Err, Vec, vec_len}
 use Rattle.std.specs.declared.alloc.Global.{Global}
 use Rattle.ids.specs.declared.names.EjId.{EjId}
 use Rattle.kernele.specs.Tree.{Name, Tree, Trees, call, escape_tree}
@@ -11,9 +11,11 @@ use Rattle.kernele.specs.declared.tree.Pattern.TheVariants as pattern
 use Rattle.values.specs.Data.{Val, null, ejector}
 use Rattle.heap.specs.State.{Nouns}
 use Rattle.erules.specs.At.{At}
+use Rattle.values.specs.View.{val_of}
 use Rattle.values.specs.declared.value.Value.{Value}
+use Rattle.erules.specs.Doings.{behind, given_by, resolver_end, resolver_out}
 use Rattle.erules.specs.Outcomes.{End, Halt, value, halt, Gather, halted}
-use Rattle.erules.specs.Rules.{Target, inside, leaving, gives, enters, target_of, called, next_ejector, escaping, escape_end, Ends, Runs, run_call_gives, run_call_enters, run_escape, Args, Items, Taking}
+use Rattle.erules.specs.Rules.{Target, inside, leaving, gives, enters, target_of, called, next_ejector, escaping, escape_end, Ends, Runs, run_call_gives, run_call_enters, run_call_uses, run_escape, Args, Items, Taking}
 use Rattle.heap.specs.declared.state.Noun.{Noun}
 use Rattle.erules.specs.Locals.{captured_in, names_in}
 use Rattle.erules.specs.View.{at, opened_of}
@@ -22,9 +24,9 @@ use Rattle.erules.specs.declared.end.Stop.{Stop}
 use Rattle.erules.specs.declared.end.Stop.TheVariants as stop
 use Rattle.erules.specs.declared.entry.Entry.{Entry}
 use Rattle.erules.specs.declared.working.Working.{Working}
-use Rattle.eobjects.specs.View.{OnTarget}
+use Rattle.eobjects.specs.View.{Comes, gave, used, Led, OnEntry, OnTarget, entry_target}
 use Rattle.erules.proofs.Opened.{taking_opened}
-use Rattle.erules.proofs.Seeking.{called_reads}
+use Rattle.erules.proofs.Doings.{called_works}
 use Rattle.erules.proofs.Steps.{runs_to, args_as}
 use Rattle.erules.proofs.Ejectors.{opened_truncated}
 use Rattle.eval.specs.Leading.{Leads}
@@ -38,25 +40,39 @@ pub entered : {k : ℕ} {ts bodies : Trees} {o : End} → bodies ≡ ts → (ns 
 entered {k = k} {ts = ts} {o = o} d ns w u {b = b} p n e f q r h = (at u, subst (λ x. Items k null ts x o (at u)) q (subst (λ us. Items k null us b o (at u)) d r), h ∙ (λ i. record (at u) { nouns = names_in (p i) (n i) (e i); own_scope = f i }))
 
 -- a call reads no name: behind it are those of before
-left_behind : (v : Val) (g : Gather) (y c d : At) → y ≡ called v g c → leaving y d ≡ leaving c d
-left_behind v g y c d e = ap (λ z. leaving z d) (e ∙ called_reads v g c)
+left_behind : (v : Val) (verb : Name) (g : Gather) (y c d : At) → y ≡ called v verb g c → leaving y d ≡ leaving c d
+left_behind v verb g y c d e = ap (λ z. leaving z d) (e ∙ called_works v verb g c)
 
 -- a call whose parts are known otherwise
 pub call_as : {k : ℕ} {r s : Code} {verb : Name} {xs ys : List Code} {a b : At} {o : End} → r ≡ s → xs ≡ ys → Runs k (call (tree_of_code r) verb (trees_of_codes xs)) a o b → Runs k (call (tree_of_code s) verb (trees_of_codes ys)) a o b
 call_as {k = k} {s = s} {verb = verb} {xs = xs} {a = a} {b = b} {o = o} e f h =
     subst (λ xs. Runs k (call (tree_of_code s) verb (trees_of_codes xs)) a o b) f (subst (λ r. Runs k (call (tree_of_code r) verb (trees_of_codes xs)) a o b) e h)
 
--- a call whose target is an end
-pub call_given : {k : ℕ} {r : Tree} {verb : Name} {xs ys : List Code} {a b z : At} {v : Val} {m : Target} {o : End} → xs ≡ ys → Ends (k + 1) r a (value v) b → Leads (k + 1) (trees_of_codes xs) v verb b m z → m ≡ gives o → Runs k (call r verb (trees_of_codes ys)) a o z
-call_given same p l e = runs_to (run_call_gives p (args_as same l.args) (sym l.target ∙ e)) refl l.place
+-- a call that came to an end by what it leads to
+came_to : {k : ℕ} {r : Tree} {verb : Name} {xs ys : List Code} {a b c z : At} {v : Val} {m : Target} {o : End} → xs ≡ ys → Ends (k + 1) r a (value v) b → Leads (k + 1) (trees_of_codes xs) v verb b m c → Comes m c o z → Runs k (call r verb (trees_of_codes ys)) a o z
+came_to same p l gave = runs_to (run_call_gives p (args_as same l.args) (sym l.target)) refl l.place
+came_to same p l (used {p = q} {d = d}) =
+    let place = l.place in
+    runs_to (run_call_uses p (args_as same l.args) (sym l.target)) (ap (λ c. resolver_end (given_by d c)) place) (ap (λ c. resolver_out q (given_by d c) (behind d c)) place)
+
+-- a call that enters no method
+pub call_came : {k : ℕ} {r : Tree} {verb : Name} {xs ys : List Code} {a b z : At} {v : Val} {o : End} → xs ≡ ys → Ends (k + 1) r a (value v) b → Led (Leads (k + 1) (trees_of_codes xs) v verb b) o z → Runs k (call r verb (trees_of_codes ys)) a o z
+call_came same p h = came_to same p h.2 h.3
+
+-- what is said of a method that is entered, and of a call that enters none
+pub on_method : (m : Option Entry) (v : Value) (P : Target → At → Type 0) (b : At) {e : Entry} → m ≡ Some e → OnEntry m v P b → P (entry_target e) b
+on_method m v P b is h = subst (λ m. OnEntry m v P b) is h
+
+pub on_none : (m : Option Entry) (v : Value) (P : Target → At → Type 0) (b : At) → m ≡ None → OnEntry m v P b → Led P (value (val_of v)) b
+on_none m v P b is h = subst (λ m. OnEntry m v P b) is h
 
 -- a call that enters a method
 pub call_entered : {k : ℕ} {r : Tree} {verb : Name} {xs ys : List Code} {a b y z : At} {v : Val} {m : Target} {ns : Nouns} {body : Trees} {o : End} → xs ≡ ys → Ends (k + 1) r a (value v) b → Leads (k + 1) (trees_of_codes xs) v verb b m y → m ≡ enters ns body
     → Enters (k + 1) body ns y o z → Runs k (call r verb (trees_of_codes ys)) a o z
-call_entered {k = k} {y = y} {v = v} {ns = ns} {body = body} {o = o} same p l e h =
+call_entered {k = k} {verb = verb} {y = y} {v = v} {ns = ns} {body = body} {o = o} same p l e h =
     let place = l.place in
     runs_to (run_call_enters {c = l.behind} {d = h.0} p (args_as same l.args) (sym l.target ∙ e) (subst (λ y. Items (k + 1) null body (inside ns y) o h.0) place h.1)) refl
-    (h.2 ∙ left_behind v l.gather y l.behind h.0 place)
+    (h.2 ∙ left_behind v verb l.gather y l.behind h.0 place)
 
 -- as many Escapes are being evaluated as their vector says
 pub as_many : (opened : Vec EjId Global) {n : ℕ} → n ≡ vec_len opened → n ≡ length opened.items
@@ -75,11 +91,18 @@ escape_over {k = k} {ts = ts} {o = o} x xs w u {q = q} {j = j} {b = b} {z = z} {
     (subst (λ z. Runs k (escape_tree x ts) (at w) (escape_end (next_ejector (at w)) o) z) (sym (h ∙ ap (λ is. record (at u) { opened = is }) (opened_truncated w.opened.items u.opened.items n (next_ejector (at w)) l (taking_opened taken)))) (run_escape taken))
 
 -- a call leads where its arguments have been evaluated
-pub call_leads : (r : Result (Option Entry) Stop) (into : Value) (w : Working) {k : ℕ} {ts : Trees} {a b : At} {g : Gather} (v : Val) (verb : Name) → Args k ts a g b → OnTarget r into w (λ t z. (t ≡ target_of v verb g b) × (z ≡ called v g b)) → OnTarget r into w (Leads k ts v verb a)
-call_leads (Ok e) into w {b = b} {g = g} v verb u h = record { gather = g; behind = b; args = u; target = h.0; place = h.1 }
+leads_there : {k : ℕ} {ts : Trees} {a b z : At} {g : Gather} {m : Target} (v : Val) (verb : Name) → Args k ts a g b → (m ≡ target_of v verb g b) × (z ≡ called v verb g b) → Leads k ts v verb a m z
+leads_there {b = b} {g = g} v verb u h = record { gather = g; behind = b; args = u; target = h.0; place = h.1 }
+
+led_there : {k : ℕ} {ts : Trees} {a b z : At} {g : Gather} {o : End} (v : Val) (verb : Name) → Args k ts a g b → Led (λ t z. (t ≡ target_of v verb g b) × (z ≡ called v verb g b)) o z → Led (Leads k ts v verb a) o z
+led_there v verb u h = (h.0, h.1, leads_there v verb u h.2, h.3)
+
+pub call_leads : (r : Result (Option Entry) Stop) (into : Value) (w : Working) {k : ℕ} {ts : Trees} {a b : At} {g : Gather} (v : Val) (verb : Name) → Args k ts a g b → OnTarget r into w (λ t z. (t ≡ target_of v verb g b) × (z ≡ called v verb g b)) → OnTarget r into w (Leads k ts v verb a)
+call_leads (Ok (Some e)) into w v verb u h = leads_there v verb u h
+call_leads (Ok None) into w v verb u h = led_there v verb u h
 call_leads (Err stop.Memory) into w v verb u h = tt
-call_leads (Err stop.Halted) into w {b = b} {g = g} v verb u h = record { gather = g; behind = b; args = u; target = h.0; place = h.1 }
+call_leads (Err stop.Halted) into w v verb u h = led_there v verb u h
 
 -- a call whose arguments are halted
-pub call_halts : {k : ℕ} {ts : Trees} {a b : At} (v : Val) (verb : Name) (h : Halt) → Args k ts a (halted h) b → Leads k ts v verb a (gives (halt h)) b
-call_halts {b = b} v verb h u = record { gather = halted h; behind = b; args = u; target = refl; place = refl }
+pub call_halts : {k : ℕ} {ts : Trees} {a b : At} (v : Val) (verb : Name) (h : Halt) → Args k ts a (halted h) b → Led (Leads k ts v verb a) (halt h) b
+call_halts {b = b} v verb h u = (gives (halt h), b, record { gather = halted h; behind = b; args = u; target = refl; place = refl }, gave)

@@ -1,3 +1,4 @@
+pub mod Home
 pub mod Entered
 pub mod Beginning
 pub mod Choosing
@@ -5,3 +6,5 @@ pub mod Repeating
 pub mod Unwanted
 pub mod Returning
 pub mod Sides
+pub mod Promised
+pub mod Listed

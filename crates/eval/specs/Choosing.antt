@@ -3,11 +3,11 @@ use Rattle.std.specs.Prelude.{◌≡◌, ℕ, Bool, Result}
 use Rattle.kernele.specs.Tree.{Tree}
 use Rattle.erules.specs.At.{At}
 use Rattle.erules.specs.Outcomes.{End, halt}
-use Rattle.erules.specs.Rules.{Ends, choice_of, goes, ends}
+use Rattle.erules.specs.Rules.{Needs, choice_of, goes, ends}
 use Rattle.erules.specs.Answered.{OnAnswer}
 use Rattle.erules.specs.declared.end.Stop.{Stop}
 use Rattle.erules.specs.declared.working.Working.{Working}
 
 -- at level k, from this place, the condition was evaluated, and the answer is what its end leads to
 abbrev pub Chooses : Result Bool Stop → Working → ℕ → Tree → At → Type 0
-Chooses answer w k t a = OnAnswer answer w (λ q b. (o : End) × Ends k t a o b × (choice_of o ≡ goes q)) (λ h b. (o : End) × Ends k t a o b × (choice_of o ≡ ends (halt h)))
+Chooses answer w k t a = OnAnswer answer w (λ q b. (o : End) × Needs k t a o b × (choice_of o ≡ goes q)) (λ h b. (o : End) × Needs k t a o b × (choice_of o ≡ ends (halt h)))

@@ -12,4 +12,4 @@ pub record Leads (k : ℕ) (ts : Trees) (v : Val) (verb : Name) (a : At) (m : Ta
   pub behind : At
   pub args : Args k ts a gather behind
   pub target : m ≡ target_of v verb gather behind
-  pub place : b ≡ called v gather behind
+  pub place : b ≡ called v verb gather behind

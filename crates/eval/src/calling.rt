@@ -76,7 +76,7 @@ fn eval_any_call(
 {
     let mut called = Value::Null;
     eval_part(w, receiver, level + 1, &mut called)?;
-    let entry = eval_target(w, &called, verb, args, level + 1, into)?;
+    let entry = eval_target(w, &mut called, verb, args, level + 1, into)?;
     match entry {
         Some(entry) => eval_method(w, entry, level + 1, into),
         None => Ok(()),
@@ -87,7 +87,7 @@ fn eval_any_call(
 #[cycle(evaluate)]
 fn eval_target(
     w: &mut Working,
-    receiver: &Value,
+    receiver: &mut Value,
     verb: &Verb,
     args: &[Code],
     level: u32,
@@ -95,7 +95,7 @@ fn eval_target(
 ) -> Result<Option<Entry>, Stop>
     requires level { level ≤ 1001 }
     requires fits { all_fit_at (at w.old) args.now }
-    ensures { OnTarget result into.new w.new (Leads level (trees_of_codes args.now) (val_of receiver.now) verb.now (at w.old)) }
+    ensures { OnTarget result into.new w.new (Leads level (trees_of_codes args.now) (val_of receiver.old) verb.now (at w.old)) }
 {
     if args.len() == 1 {
         let mut value = Value::Null;

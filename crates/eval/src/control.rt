@@ -15,6 +15,7 @@ ghost use Rattle.eval.specs.Unwanted.{OnSomeEnd};
 
 use crate::eval::{eval, eval_items};
 use code::code::Code;
+use emessages::ends::take_end;
 use eobjects::nouns::match_pattern;
 use eobjects::quick::{quick_truth, run_settings};
 use erules::blocks::{count_names, enter, keep_names, leave};
@@ -89,6 +90,7 @@ pub(crate) fn eval_for(
         (trees_of_codes body.now.value.items)) (at w.old)) }
 {
     eval(w, list, level + 1, into)?;
+    take_end(w, into)?;
     let values = items_of(w, into)?;
     for value in values.as_slice() {
         eval_taking(w, pattern, value, body, level + 1, into)?;
@@ -164,6 +166,7 @@ fn eval_any_condition(
     ensures { Chooses result w.new level (tree_of_code condition.now) (at w.old) }
 {
     eval(w, condition, level, into)?;
+    take_end(w, into)?;
     choose(w, into)
 }
 

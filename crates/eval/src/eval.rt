@@ -16,7 +16,10 @@ ghost use Rattle.eval.specs.Sides.{right_side};
 use crate::calling::{eval_call, eval_escape};
 use crate::control::{eval_block, eval_for, eval_if, eval_try, eval_while};
 use crate::right::take;
+use crate::sending::{eval_send, eval_when, eval_when_catch};
 use code::code::Code;
+use emessages::promises::make_promise;
+use emessages::references::give_same;
 use eobjects::nouns::read_noun;
 use eobjects::objects::define_object;
 use eobjects::quick::{noun_at_hand, quick_setting, set};
@@ -25,7 +28,6 @@ use erules::halting::abandon;
 use erules::results::{give_list, give_text};
 use erules::working::{DEEPEST, Working};
 use std::sync::Arc;
-use values::sameness::same;
 use values::value::Value;
 
 /// Evaluates an expression at a level, and puts its value into a place.
@@ -60,8 +62,11 @@ pub fn eval(w: &mut Working, e: &Code, level: u32, into: &mut Value) -> Result<(
         | Code::Var(_, right)
         | Code::Assign(_, _, right)
         | Code::DefList(_, right)
-        | Code::Throw(right) => eval_right(w, e, right, level, into),
+        | Code::Throw(right)
+        | Code::BreakRef(right)
+        | Code::StateRef(right) => eval_right(w, e, right, level, into),
         Code::Call(receiver, verb, args) => eval_call(w, receiver, verb, args, level, into),
+        Code::Send(receiver, verb, args) => eval_send(w, receiver, verb, args, level, into),
         Code::List(items) => eval_list(w, items, level, into),
         Code::Same(left, right) => eval_same(w, left, right, level, into),
         Code::Hide(body) => eval_block(w, body, level + 1, into),
@@ -73,6 +78,11 @@ pub fn eval(w: &mut Working, e: &Code, level: u32, into: &mut Value) -> Result<(
             define_object(w, pattern, captures, methods, index, into)
         }
         Code::Escape(name, body) => eval_escape(w, name, body, level, into),
+        Code::When(value, captures, block) => eval_when(w, value, captures, block, level, into),
+        Code::WhenCatch(value, captures, block, pattern, handler) => {
+            eval_when_catch(w, value, captures, block, pattern, handler, level, into)
+        }
+        Code::NewPromise => make_promise(w, into),
     }
 }
 
@@ -141,8 +151,7 @@ fn eval_same(
     let mut first = Value::Null;
     eval(w, left, level + 1, &mut first)?;
     eval(w, right, level + 1, into)?;
-    *into = Value::Bool(same(&first, into));
-    Ok(())
+    give_same(w, &first, into)
 }
 
 /// Evaluates arguments or items of a list from left to right.

@@ -7,3 +7,4 @@ pub mod calling;
 pub mod control;
 pub mod eval;
 mod right;
+mod sending;

@@ -1,31 +1,58 @@
 // What an expression does with the value of its right side.
 ghost use Rattle.std.specs.Prelude.{◌≡◌};
 ghost use Rattle.values.specs.View.{val_of};
+ghost use Rattle.erules.specs.Doings.{datum_of, datum_read};
 ghost use Rattle.erules.specs.Outcomes.{value as value_end};
+ghost use Rattle.erules.specs.Rules.{parts_bound, parts_end, parts_of};
 ghost use Rattle.erules.specs.Answered.{OnEnd};
 ghost use Rattle.erules.specs.View.{at};
 ghost use Rattle.eval.specs.Sides.{is_placed, taken_at, taken_end};
 
 use code::code::Code;
+use emessages::ends::take_end;
+use emessages::references::{give_broken, give_state};
 use eobjects::nouns::{assign, bind_parts, declare, match_pattern};
 use erules::end::Stop;
 use erules::wanted::thrown;
 use erules::working::Working;
+use kernele::tree::Pattern;
 use values::value::Value;
 
 /// Has an expression take the value of its right side. One that has none leaves the value as it is.
 #[inline(always)]
-pub(crate) fn take(w: &mut Working, e: &Code, value: &Value) -> Result<(), Stop>
+pub(crate) fn take(w: &mut Working, e: &Code, into: &mut Value) -> Result<(), Stop>
     requires { is_placed (at w.old) e.now }
-    ensures { OnEnd result value.now w.new (λ o b. (o ≡ taken_end e.now (value_end (val_of value.now)) (at w.old))
-        × (b ≡ taken_at e.now (value_end (val_of value.now)) (at w.old))) }
+    ensures { OnEnd result into.new w.new (λ o b. (o ≡ taken_end e.now (value_end (val_of into.old)) (at w.old))
+        × (b ≡ taken_at e.now (value_end (val_of into.old)) (at w.old))) }
 {
     match e {
-        Code::Def(pattern, _) => Ok(match_pattern(w, pattern, value)?),
-        Code::DefList(patterns, _) => bind_parts(w, patterns, value),
-        Code::Var(name, _) => declare(w, name, value),
-        Code::Assign(name, place, _) => assign(w, name, *place, value),
-        Code::Throw(_) => Err(thrown(w, value)),
+        Code::Def(pattern, _) => Ok(match_pattern(w, pattern, into)?),
+        Code::DefList(patterns, _) => take_parts(w, patterns, into),
+        Code::Var(name, _) => declare(w, name, into),
+        Code::Assign(name, place, _) => assign(w, name, *place, into),
+        Code::Throw(_) => {
+            take_end(w, into)?;
+            Err(thrown(w, into))
+        }
+        Code::BreakRef(_) => {
+            take_end(w, into)?;
+            give_broken(w, into)
+        }
+        Code::StateRef(_) => {
+            take_end(w, into)?;
+            give_state(w, into)
+        }
         _ => Ok(()),
     }
+}
+
+/// Has a list of patterns take the items at the end of a value, which stays as it is.
+fn take_parts(w: &mut Working, patterns: &[Pattern], value: &Value) -> Result<(), Stop>
+    ensures { OnEnd result value.now w.new (λ o b. (o
+        ≡ parts_end (value_end (val_of value.now)) (parts_of patterns.now (datum_of (value_end (val_of value.now)) (at w.old))))
+        × (b ≡ parts_bound patterns.now (parts_of patterns.now (datum_of (value_end (val_of value.now)) (at w.old))) (datum_read (value_end (val_of value.now)) (at w.old)))) }
+{
+    let mut end = value.share()?;
+    take_end(w, &mut end)?;
+    bind_parts(w, patterns, &end)
 }

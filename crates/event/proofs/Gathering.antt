@@ -1,5 +1,5 @@
 -- Lists that are gathered in order, one item after another.
-use Rattle.std.proofs.Common.{◌≡◌, ℕ, ◌+◌, List, [], ◌∷◌, ◌++◌, take, Some, slice_get, refl, sym, ap, ◌∙◌, append_assoc, append-nil}
+use Rattle.std.proofs.Common.{◌≡◌, ℕ, ◌+◌, ◌<◌, ◌≤◌, List, [], ◌∷◌, ◌++◌, length, get_or, map, take, take_all, Some, slice_get, refl, sym, ap, ap₂, ◌∙◌, append_assoc, append-nil}
 use Rattle.std.proofs.lemmas.List.{take_more, map-append}
 use Rattle.std.proofs.lemmas.Option.{slice_get_within, get_or_from_slice_get}
 use Rattle.ids.specs.declared.names.EventName.{EventName}
@@ -9,7 +9,7 @@ use Rattle.history.specs.Records.{Record}
 use Rattle.heap.specs.State as heap
 use Rattle.heap.specs.State.{Cell}
 use Rattle.cells.specs.declared.touches.Touch.{Touch}
-use Rattle.post.specs.Theory.{cells}
+use Rattle.worldcells.specs.Theory.{cells}
 use Rattle.event.specs.Entries.{Entry, entry_in, entries_in, keys_in, left_at, left_in, kept_left, kept_at}
 
 -- the items up to a place, with the next one
@@ -61,3 +61,21 @@ kept_then e v xs ys start one end h g =
 pub keys_then : (v : VatNo) (xs ys : List Entry) (start one end : List CellKey) → one ≡ start ++ keys_in v xs → end ≡ one ++ keys_in v ys → end ≡ start ++ keys_in v (xs ++ ys)
 keys_then v xs ys start one end h g =
     g ∙ ap (λ l. l ++ keys_in v ys) h ∙ append_assoc start (keys_in v xs) (keys_in v ys) ∙ ap (λ l. start ++ l) (sym (map-append _ xs ys))
+
+-- ---- lists that grow item by item in a loop
+
+-- one more item, and what it is mapped to
+pub mapped_next : {X Y : Type 0} (f : X → Y) (xs : List X) (i : ℕ) (x : X) (base done more : List Y) (y : Y) → i < length xs → x ≡ get_or xs i x → done ≡ base ++ map f (take i xs) → more ≡ done ++ y ∷ [] → y ≡ f x
+    → more ≡ base ++ map f (take (i + 1) xs)
+mapped_next f xs i x base done more y h is d m e =
+    m ∙ ap₂ (λ a b. a ++ b ∷ []) d (e ∙ ap f is) ∙ append_assoc base (map f (take i xs)) (f (get_or xs i x) ∷ [])
+    ∙ ap (λ l. base ++ l) (sym (map-append f (take i xs) (get_or xs i x ∷ [])) ∙ ap (map f) (sym (take_more xs i x h)))
+
+pub mapped_last : {X Y : Type 0} (f : X → Y) (xs : List X) (i : ℕ) (base done : List Y) → length xs ≤ i → done ≡ base ++ map f (take i xs) → done ≡ base ++ map f xs
+mapped_last f xs i base done h d = d ∙ ap (λ l. base ++ map f l) (take_all i xs h)
+
+-- the same where an item is known by its place
+pub mapped_at : {X Y : Type 0} (f : X → Y) (xs : List X) (i : ℕ) (x : X) (base done more : List Y) (y : Y) → slice_get xs i ≡ Some x → done ≡ base ++ map f (take i xs) → more ≡ done ++ y ∷ [] → y ≡ f x
+    → more ≡ base ++ map f (take (i + 1) xs)
+mapped_at f xs i x base done more y h d m e =
+    m ∙ ap₂ (λ a b. a ++ b ∷ []) d e ∙ append_assoc base (map f (take i xs)) (f x ∷ []) ∙ ap (λ l. base ++ l) (sym (map-append f (take i xs) (x ∷ [])) ∙ ap (map f) (sym (take_next xs i x h)))

@@ -3,22 +3,19 @@ use Rattle.std.proofs.Common.{◌≡◌, Bool, true, false, cond, ◌||◌, List
 use Rattle.std.specs.List.{list_any, AllByRecursion}
 use Rattle.std.specs.Map.{lookup}
 use Rattle.std.proofs.lemmas.Bool.{false≢true, or_left, or_right, or_cases}
-use Rattle.std.proofs.lemmas.Slice.Eq.{bytes_eq-Decides}
 use Rattle.history.specs.Records.{Record, Apart}
 use Rattle.history.specs.Subject.{found}
 use Rattle.history.proofs.Lists.{all_map}
 use Rattle.ids.specs.CellKeys.{same_key}
-use Rattle.ids.specs.Cells.{slot_cmp, object_cmp, promise_cmp}
 use Rattle.ids.specs.declared.names.EventName.{EventName}
 use Rattle.ids.specs.declared.names.VatNo.{VatNo}
 use Rattle.ids.specs.declared.cells.CellKey.{CellKey}
-use Rattle.ids.proofs.Keys.{equal, equal_self, exact_slots, exact_objects, exact_promises, slot_self, object_self, promise_self}
-use Rattle.ids.proofs.References.{reference_equal, reference_self}
+use Rattle.ids.proofs.Keys.{equal_self}
 use Rattle.heap.specs.State as heap
 use Rattle.heap.specs.State.{Cell, top, slot_cell, object_cell, view_cell, fence_cell, same_cell}
 use Rattle.heap.proofs.Cells.{cell_exact, cell_self}
-use Rattle.post.specs.World.{cell_key, content_of}
-use Rattle.post.specs.Theory.{cells}
+use Rattle.worldcells.specs.World.{cell_key, content_of}
+use Rattle.worldcells.specs.Theory.{cells}
 use Rattle.event.specs.Entries.{Entry, cells_in, keys_in, left_at, left_in, writes_at, kept_left}
 
 -- ---- cells that are the same

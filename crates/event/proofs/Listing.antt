@@ -5,13 +5,12 @@ use Rattle.std.proofs.lemmas.Bool.{or_left, or_right, or_cases, false≢true}
 use Rattle.ids.specs.CellKeys.{same_key}
 use Rattle.ids.specs.declared.names.VatNo.{VatNo}
 use Rattle.ids.specs.declared.cells.CellKey.{CellKey}
-use Rattle.ids.specs.declared.cells.CellKey.TheVariants as key
 use Rattle.ids.proofs.CellKeys.{same_exact as key_exact, same_self as key_self}
 use Rattle.history.specs.Subject.{found}
 use Rattle.heap.specs.State as heap
 use Rattle.heap.specs.State.{Cell, top, slot_cell, object_cell, view_cell, fence_cell, same_cell, State}
 use Rattle.heap.proofs.Cells.{cell_exact, cell_self}
-use Rattle.post.specs.World.{Content, content_of, cell_key}
+use Rattle.worldcells.specs.World.{Content, content_of, cell_key}
 use Rattle.event.specs.Events.{events}
 
 -- one key names one cell of a vat

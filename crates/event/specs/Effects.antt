@@ -1,5 +1,5 @@
 -- What the program works out of an event before it is entered.
-use Rattle.std.specs.Prelude.{◌≡◌, List}
+use Rattle.std.specs.Prelude.{◌≡◌, List, [], ◌∷◌}
 use Rattle.std.specs.List.{list_any}
 use Rattle.history.specs.Subject.{touches}
 use Rattle.history.specs.Records.{Record, Writes}
@@ -7,16 +7,20 @@ use Rattle.ids.specs.CellKeys.{same_key}
 use Rattle.ids.specs.declared.names.EventName.{EventName}
 use Rattle.ids.specs.declared.names.VatNo.{VatNo}
 use Rattle.ids.specs.declared.names.MsgId.{MsgId}
+use Rattle.ids.specs.declared.names.PromId.{PromId}
 use Rattle.ids.specs.declared.cells.CellKey.{CellKey}
+use Rattle.kernele.specs.Tree.{Name}
 use Rattle.heap.specs.State as heap
 use Rattle.heap.specs.State.{Cell}
 use Rattle.heap.specs.Found.{touched_in}
-use Rattle.post.specs.Events.{Event}
-use Rattle.post.specs.World.{Message, World}
-use Rattle.post.specs.Theory.{cells, kepts_of}
-use Rattle.event.specs.Events.{Foot, Does, events, Turn, Leaves, turn_foot}
-use Rattle.event.specs.Outcomes.{outcome_on, written_by}
-use Rattle.event.specs.declared.outcome.Outcome as code
+use Rattle.worldcells.specs.Events.{Event}
+use Rattle.post.specs.Messages.{Message, Published}
+use Rattle.post.specs.declared.earlier.Earlier.{Earlier}
+use Rattle.worldcells.specs.World.{World}
+use Rattle.worldcells.specs.Theory.{cells, kepts_of}
+use Rattle.event.specs.Events.{Foot, Does, events, Turn, TurnLeaves, Leaves, first_promise, turn_foot, learnt, learn_foot}
+use Rattle.deliveries.specs.Outcomes.{outcome_on, written_by}
+use Rattle.deliveries.specs.declared.outcome.Outcome as code
 use Rattle.event.specs.declared.effects.Effects.{Effects}
 
 -- these are the cells that an event of this name and footprint touches, and a record of what it writes
@@ -33,9 +37,21 @@ pub record Happens (e : Event) (f : Foot) (w : World) (it : Effects) : Type 0 wh
 abbrev pub turn_of : Message → VatNo → code.Outcome → heap.State → Turn
 turn_of g v o u = record { message = g; vat = v; outcome = outcome_on o u; touched = touched_in o.footprint; written = written_by o }
 
+-- earlier vats by their names and numbers, each with the promise for the result of its opening
+abbrev pub known_by : List Name → List VatNo → List Earlier
+known_by (x ∷ xs) (v ∷ vs) = record { name = x; opening = first_promise v.0 v } ∷ known_by xs vs
+known_by _ _ = []
+
 -- these are the cells that a turn touches, and what it writes
-pub record BringsTurn (e : EventName) (m : MsgId) (t : Turn) (it : Effects) : Type 0 where
+pub record BringsTurn (e : EventName) (w : World) (m : MsgId) (t : Turn) (it : Effects) : Type 0 where
   pub cells : List Cell
   pub left : List (Cell × heap.Content)
-  pub leaves : Leaves t cells left
-  pub brings : Brings e (turn_foot e m t cells left) it.touched.items (kepts_of it.records.items)
+  pub leaves : TurnLeaves t cells left
+  pub brings : Brings e (turn_foot e w m t cells left) it.touched.items (kepts_of it.records.items)
+
+-- these are the cells that a vat touches which learns what a promise was published as, and what it writes
+pub record BringsLearnt (e : EventName) (w : World) (v : VatNo) (p : PromId) (b : Published) (it : Effects) : Type 0 where
+  pub cells : List Cell
+  pub left : List (Cell × heap.Content)
+  pub leaves : Leaves (learnt w v p b).touched (learnt w v p b).written (learnt w v p b).state cells left
+  pub brings : Brings e (learn_foot v p cells left) it.touched.items (kepts_of it.records.items)

@@ -14,11 +14,11 @@ use Rattle.heap.specs.State as heap
 use Rattle.heap.specs.State.{Cell, top, slot_cell, object_cell, view_cell, fence_cell, bound, held, made, viewed, fenced}
 use Rattle.heap.specs.View.{bind_of, object_of, view_of, same_name, same_slot, same_object, same_promise, same_target}
 use Rattle.heap.specs.declared.reach.Footprint.{Footprint}
-use Rattle.post.specs.World.{Content, content_of, cell_key}
-use Rattle.post.specs.Theory.{cells}
-use Rattle.event.specs.Events.{is_abandoned}
-use Rattle.event.specs.Outcomes.{ended_of}
-use Rattle.event.specs.declared.outcome.Outcome.{Outcome}
+use Rattle.worldcells.specs.World.{Content, content_of, cell_key}
+use Rattle.worldcells.specs.Theory.{cells}
+use Rattle.event.specs.Events.{is_lost}
+use Rattle.deliveries.specs.Outcomes.{told_of}
+use Rattle.deliveries.specs.declared.outcome.Outcome.{Outcome}
 
 -- a cell that was touched, and what was written there, if it was written
 abbrev pub Entry : Type 0
@@ -80,4 +80,4 @@ abbrev pub left_unless : Bool → Footprint → List (Cell × heap.Content)
 left_unless abandoned r = cond abandoned [] (left_in (entries_of r))
 
 abbrev pub left_of : Outcome → List (Cell × heap.Content)
-left_of o = left_unless (is_abandoned (ended_of o.ended)) o.footprint
+left_of o = left_unless (is_lost (told_of o.ended)) o.footprint

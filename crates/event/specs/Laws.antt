@@ -1,71 +1,22 @@
--- The laws of turns.
-use Rattle.std.specs.Prelude.{◌≡◌, ℕ, ◌+◌, ◌≤◌, ◌↔◌, Bool, false}
+-- The laws of events.
+use Rattle.std.specs.Prelude.{◌≡◌, ℕ, ◌↔◌, None}
 use Rattle.ids.specs.declared.names.EventName.{EventName}
 use Rattle.ids.specs.declared.names.VatNo.{VatNo}
 use Rattle.ids.specs.declared.names.MsgId.{MsgId}
-use Rattle.ids.specs.declared.names.EjId.{EjId}
-use Rattle.kernele.specs.Tree.{Trees}
-use Rattle.values.specs.Data.{Val, null}
-use Rattle.heap.specs.State.{Cell, State}
-use Rattle.erules.specs.At.{At}
-use Rattle.erules.specs.Outcomes.{ejected, halt}
-use Rattle.erules.specs.Rules.{Items}
-use Rattle.post.specs.Delivery.{Delivery}
-use Rattle.post.specs.Events.{turn, Event}
-use Rattle.post.specs.World.{World}
-use Rattle.event.specs.Turn.{Outcome, Delivers, start}
-use Rattle.erules.specs.Laws.{IsWithin, AgreeOn, with_cells, IsWithinRoom}
-use Rattle.event.specs.Touched.{delivery_touched, delivery_written}
-use Rattle.event.specs.Spent.{delivery_nodes, delivery_deepest, delivery_place}
+use Rattle.ids.specs.declared.cells.CellKey.TheVariants as key
+use Rattle.worldcells.specs.Events.{turn, Event}
+use Rattle.worldcells.specs.World.{World}
 use Rattle.event.specs.Events.{Foot, Does}
 use Rattle.event.specs.Ready.{IsReady}
-
--- a delivery has at most one outcome
-abbrev pub AtMostOneDelivery : Type 0
-AtMostOneDelivery = (d : Delivery) (e : EventName) (v : VatNo) (s : State) (n : ℕ) (o p : Outcome) → Delivers d e v s n o → Delivers d e v s n p → o ≡ p
-
--- and it has one
-abbrev pub EachDeliveryHasAnOutcome : Type 0
-EachDeliveryHasAnOutcome = (d : Delivery) (e : EventName) (v : VatNo) (s : State) (n : ℕ) → (o : Outcome) × Delivers d e v s n o
-
--- what a delivery writes it touches
-abbrev pub WritesAreTouched : Type 0
-WritesAreTouched = (d : Delivery) (e : EventName) (v : VatNo) (s : State) (n : ℕ) (o : Outcome) (r : Delivers d e v s n o) → IsWithin (delivery_written r) (delivery_touched r)
-
--- in a state that agrees on the cells touched, a delivery has the same result, the same end and the same steps left, and touches
--- and writes the same cells; it leaves those that are written as it leaves them here, and the others as they were
-abbrev pub DeliveryFrame : Type 0
-DeliveryFrame = (d : Delivery) (e : EventName) (v : VatNo) (s : State) (n : ℕ) (o : Outcome) (r : Delivers d e v s n o) (u : State) → AgreeOn (delivery_touched r) u s
-    → (q : Delivers d e v u n (record o { state = with_cells (delivery_written r) o.state u })) × (delivery_touched q ≡ delivery_touched r) × (delivery_written q ≡ delivery_written r)
-
--- a cell that a delivery did not write is as it was
-abbrev pub OthersStayInTurns : Type 0
-OthersStayInTurns = (d : Delivery) (e : EventName) (v : VatNo) (s : State) (n : ℕ) (o : Outcome) (r : Delivers d e v s n o) (c : Cell) → delivery_written r c ≡ false → o.state c ≡ s c
-
--- a delivery leaves no more steps than its budget
-abbrev pub WithinBudget : Type 0
-WithinBudget = (d : Delivery) (e : EventName) (v : VatNo) (s : State) (n : ℕ) (o : Outcome) → Delivers d e v s n o → o.left ≤ n
-
--- it takes a step of its budget for each node that begins
-abbrev pub BudgetIsNodes : Type 0
-BudgetIsNodes = (d : Delivery) (e : EventName) (v : VatNo) (s : State) (n : ℕ) (o : Outcome) (r : Delivers d e v s n o) → delivery_nodes r + o.left ≡ n
-
--- no node of it runs past level 1,000
-abbrev pub NoDeliveryRunsTooDeep : Type 0
-NoDeliveryRunsTooDeep = (d : Delivery) (e : EventName) (v : VatNo) (s : State) (n : ℕ) (o : Outcome) (r : Delivers d e v s n o) → delivery_deepest r ≤ 1000
-
--- it makes at most 4,096 slots and as many objects
-abbrev pub DeliveriesStayInRoom : Type 0
-DeliveriesStayInRoom = (d : Delivery) (e : EventName) (v : VatNo) (s : State) (n : ℕ) (o : Outcome) (r : Delivers d e v s n o) → IsWithinRoom (delivery_place r)
-
--- a value on its way to an Escape leaves an evaluation only inside that Escape: so none leaves the program of a turn
-abbrev pub NoEjectionLeavesATurn : Type 0
-NoEjectionLeavesATurn = (k : ℕ) (ts : Trees) (own : Bool) (e : EventName) (w : VatNo) (s : State) (n : ℕ) (b : At) (j : EjId) (v : Val) → Items k null ts (start own e w s n) (halt (ejected j v)) b → ⊥
 
 -- an event can happen in a world
 abbrev pub CanHappen : Event → World → Type 0
 CanHappen e w = (f : Foot) × Does e w f
 
--- a turn can happen at some vat exactly where its message is ready, at whatever event and with whatever budget
+-- there is no message of an event in a world
+abbrev pub HasNoMessage : EventName → World → Type 0
+HasNoMessage e w = (i : ℕ) → w (key.Msg (record { event = e; index = i })) ≡ None
+
+-- a turn can happen at some vat exactly where its message is ready, at whatever event that has sent nothing yet, and with whatever budget
 abbrev pub ReadyMessagesHaveTurns : Type 0
-ReadyMessagesHaveTurns = (e : EventName) (w : World) (m : MsgId) (budget : ℕ) → ((v : VatNo) × CanHappen (record { name = e; act = turn v m budget }) w) ↔ IsReady w m
+ReadyMessagesHaveTurns = (e : EventName) (w : World) (m : MsgId) (budget : ℕ) → HasNoMessage e w → ((v : VatNo) × CanHappen (record { name = e; act = turn v m budget }) w) ↔ IsReady w m

@@ -1,34 +1,48 @@
 // What an event touches and writes, worked out before it is entered.
-ghost use Rattle.std.specs.Prelude.{◌≡◌, ◌++◌, ◌∷◌, [], Some, IfOk, OnOk};
+ghost use Rattle.std.specs.Prelude.{◌≡◌, ◌++◌, ◌∷◌, [], Some, List, map, IfOk, OnOk};
 ghost use Rattle.history.specs.Records.{record_of};
 ghost use Rattle.ids.specs.declared.cells.CellKey.TheVariants as key;
 ghost use Rattle.kernele.specs.View.{program_of};
-ghost use Rattle.heap.specs.State.{State};
-ghost use Rattle.post.specs.Messages.{message_of};
-ghost use Rattle.post.specs.Theory.{kepts_of, kept_of, cells};
-ghost use Rattle.post.specs.World as model;
-ghost use Rattle.event.specs.Entries.{EachOnce, entries_of, keys_in, left_of, kept_left};
-ghost use Rattle.event.specs.Events.{birth_foot, ask_foot, first_message, opening_message, asked_message, awaited, done_and_published};
-ghost use Rattle.event.specs.Outcomes.{outcome_on};
 ghost use Rattle.scopes.specs.Scope.{own_names_in};
-ghost use Rattle.values.specs.View.{val_of};
-ghost use Rattle.event.specs.Effects.{Brings, BringsTurn, turn_of};
+ghost use Rattle.heap.specs.State.{State};
+ghost use Rattle.post.specs.Messages as posts;
+ghost use Rattle.post.specs.MessageView.{message_of};
+ghost use Rattle.erules.specs.OutboxView.{letter_of};
+ghost use Rattle.erules.specs.PublicationsView.{publications_of, EachOnce as PublishedOnce};
+ghost use Rattle.worldcells.specs.Theory.{kepts_of, kept_of, cells};
+ghost use Rattle.worldcells.specs.World as model;
+ghost use Rattle.worldcells.specs.View.{world_of};
+ghost use Rattle.worldcells.specs.World.{vat_state};
+ghost use Rattle.deliveries.specs.Outcomes.{outcome_on};
+ghost use Rattle.event.specs.Entries.{EachOnce, entries_of, keys_in, left_of, kept_left};
+ghost use Rattle.event.specs.Events.{AreNew, birth_foot, ask_foot, first_message, first_promise, letters_from, opening_message, asked_message, made_by, moved_foot};
+ghost use Rattle.event.specs.Effects.{Brings, BringsLearnt, BringsTurn, known_by, turn_of};
+ghost use Rattle.event.specs.Learning.{Learns};
+ghost use Rattle.event.specs.ReadyView.{IsWay};
 
 use crate::left::{record_cells, touch_cells};
-use crate::outcome::{Ended, Outcome};
+use crate::making::{
+    message_record, record_letters, record_publications, touch_letters, touch_publications,
+};
+use crate::ready::Way;
 use cells::store::Record;
+use deliveries::outcome::{Ended, Outcome};
+use eorder::fence::Fence;
+use heap::reach::Footprint;
 use ids::cells::CellKey;
 use ids::names::{EventName, MsgId, PromId, VatNo};
 use ids::text::Text;
 use kernele::tree::Program;
 use post::delivery::Delivery;
+use post::earlier::Earlier;
 use post::message::{Message, Place, Sent};
 use post::program::{Question, Script};
-use post::record::CellRecord;
 use post::vat::Vat;
 use scopes::top_names;
 use std::alloc::{AllocError, Global};
-use values::value::Value;
+use std::sync::Arc;
+use worldcells::record::CellRecord;
+use worldcells::world::World;
 
 /// The cells that an event touches, and a record of each cell that it writes, with what it writes there.
 #[derive(Drop)]
@@ -44,54 +58,95 @@ fn first_message(event: EventName) -> MsgId
     MsgId { event, index: 0 }
 }
 
-/// A record of a message's cell, in which an event wrote this.
-fn message_record(event: EventName, name: MsgId, message: Message) -> CellRecord
-    ensures { kept_of result ≡ (key.Msg name, (Some (model.message (message_of message)), Some event.0)) }
+/// The promise that an event makes first, of this home.
+fn first_promise(event: EventName, home: VatNo) -> PromId
+    ensures { result ≡ first_promise event home }
 {
-    CellRecord::Msg(Record {
-        key: name,
-        content: Some(message),
-        writer: Some(event),
-    })
+    PromId {
+        event,
+        index: 0,
+        home,
+    }
 }
 
-/// A record of the name of a vat that is born with this script.
+/// A record of the name of a vat that is born with this script, which knows these earlier vats.
 fn name_record(
     alloc: Global,
     event: EventName,
     name: &Text,
+    earlier: &[Text],
     script: &Program,
 ) -> Result<CellRecord, AllocError>
-    ensures { IfOk result (λ r. kept_of r ≡ (key.Name name.now, (Some (model.vat (record { number = record { 0 = event }; tops = own_names_in (program_of script.now) })), Some event.0))) }
+    ensures { IfOk result (λ r. kept_of r ≡ (key.Name name.now, (Some (model.vat (record { number = record { 0 = event }; earlier = earlier.now; tops = own_names_in (program_of script.now) })), Some event.0))) }
 {
+    let vat = Vat::new(
+        alloc,
+        VatNo(event),
+        share_names(alloc, earlier)?,
+        top_names(alloc, script)?,
+    )?;
     Ok(CellRecord::Name(Record {
         key: name.share()?,
-        content: Some(Vat::new(alloc, VatNo(event), top_names(alloc, script)?)?),
+        content: Some(vat),
         writer: Some(event),
     }))
 }
 
-/// The opening message of a vat that is born with this script.
-fn opening(alloc: Global, event: EventName, script: &Program) -> Result<Message, AllocError>
-    ensures { IfOk result (λ g. message_of g ≡ opening_message event (program_of script.now)) }
+/// Names, shared.
+fn share_names(alloc: Global, names: &[Text]) -> Result<Vec<Text>, AllocError>
+    ensures { IfOk result (λ row. row.items ≡ names.now) }
 {
-    let number = VatNo(event);
-    Message::new(
-        alloc,
-        Sent {
-            delivery: Delivery::Opening(Script::new(alloc, script)?),
-            result: PromId {
-                event,
-                index: 0,
-                home: number,
-            },
-            after: None,
-        },
-        Place::At(number),
-    )
+    let mut row = Vec::with_capacity(alloc, names.len())?;
+    for name in names {
+        row.push(name.share()?)?;
+    }
+    Ok(row)
 }
 
-/// The message of a program that is asked of a vat, which waits for the vat's opening.
+/// The cells of names.
+fn name_keys(alloc: Global, names: &[Text]) -> Result<Vec<CellKey>, AllocError>
+    ensures { IfOk result (λ keys. keys.items ≡ map key.Name names.now) }
+{
+    let mut keys = Vec::with_capacity(alloc, names.len())?;
+    for name in names {
+        keys.push(CellKey::Name(name.share()?))?;
+    }
+    Ok(keys)
+}
+
+/// Earlier vats by their names, each with the promise for the result of its opening.
+fn known_as(alloc: Global, names: &[Text], vats: &[VatNo]) -> Result<Vec<Earlier>, AllocError>
+    ensures { IfOk result (λ row. row.items ≡ known_by names.now vats.now) }
+{
+    let mut row = Vec::with_capacity(alloc, names.len())?;
+    for (name, vat) in names.iter().zip(vats.iter()) {
+        row.push(Earlier {
+            name: name.share()?,
+            opening: first_promise(vat.0, *vat),
+        })?;
+    }
+    Ok(row)
+}
+
+/// The opening message of a vat that is born with this script, which knows these earlier vats by these names.
+fn opening(
+    alloc: Global,
+    event: EventName,
+    earlier: Vec<Earlier>,
+    script: &Program,
+) -> Result<Message, AllocError>
+    ensures { IfOk result (λ g. message_of g ≡ opening_message event earlier.items (program_of script.now)) }
+{
+    let number = VatNo(event);
+    let sent = Sent {
+        delivery: Delivery::Opening(Arc::new(alloc, earlier)?, Script::new(alloc, script)?),
+        result: first_promise(event, number),
+        after: Fence::empty(alloc),
+    };
+    Message::new(alloc, sent, Place::At(number))
+}
+
+/// The message of a program that is asked of a vat, which comes after the vat's opening.
 fn asked(
     alloc: Global,
     event: EventName,
@@ -100,36 +155,34 @@ fn asked(
 ) -> Result<Message, AllocError>
     ensures { IfOk result (λ g. message_of g ≡ asked_message event vat (program_of program.now)) }
 {
-    Message::new(
-        alloc,
-        Sent {
-            delivery: Delivery::Asked(Question::new(alloc, program)?),
-            result: PromId {
-                event,
-                index: 0,
-                home: vat,
-            },
-            after: Some(first_message(vat.0)),
-        },
-        Place::At(vat),
-    )
+    let sent = Sent {
+        delivery: Delivery::Asked(Question::new(alloc, program)?),
+        result: first_promise(event, vat),
+        after: Fence::alone(alloc, first_message(vat.0)),
+    };
+    Message::new(alloc, sent, Place::At(vat))
 }
 
-/// The effects of a birth of this name with this script. Fails only for want of memory.
+/// The effects of a birth of this name with this script, which knows these vats by these names. Fails only for want of memory.
 pub fn birth_effects(
     alloc: Global,
     event: EventName,
     name: &Text,
+    earlier: &[Text],
+    vats: &[VatNo],
     script: &Program,
 ) -> Result<Effects, AllocError>
-    ensures { IfOk result (λ it. Brings event (birth_foot event name.now (program_of script.now)) it.touched.items (kepts_of it.records.items)) }
+    ensures { IfOk result (λ it. (found : List posts.Vat) → map (λ v. v.number) found ≡ vats.now → Brings event (birth_foot event name.now (earlier.now) found (program_of script.now)) it.touched.items (kepts_of it.records.items)) }
 {
     let first = first_message(event);
-    let message = opening(alloc, event, script)?;
+    let message = opening(alloc, event, known_as(alloc, earlier, vats)?, script)?;
+    let mut touched = name_keys(alloc, earlier)?;
+    touched.push(CellKey::Name(name.share()?))?;
+    touched.push(CellKey::Msg(first))?;
     Ok(Effects {
-        touched: vec![in alloc; CellKey::Name(name.share()?), CellKey::Msg(first)]?,
+        touched,
         records: vec![in alloc;
-            name_record(alloc, event, name, script)?,
+            name_record(alloc, event, name, earlier, script)?,
             message_record(event, first, message),
         ]?,
     })
@@ -153,24 +206,84 @@ pub fn ask_effects(
     })
 }
 
-/// The cells that a turn of this message touched: the awaited message, the cells of the vat, the message, and its result.
+/// The effects of a message that is elsewhere now, for which the publications of these promises were looked at. Fails only for want
+/// of memory.
+pub fn move_effects(
+    alloc: Global,
+    event: EventName,
+    name: MsgId,
+    message: Message,
+    through: &[PromId],
+) -> Result<Effects, AllocError>
+    ensures { IfOk result (λ it. Brings event (moved_foot (map key.Board through.now) name (message_of message)) it.touched.items (kepts_of it.records.items)) }
+{
+    let mut touched = Vec::new(alloc);
+    touch_board(&mut touched, through)?;
+    touched.push(CellKey::Msg(name))?;
+    Ok(Effects {
+        touched,
+        records: vec![in alloc; message_record(event, name, message)]?,
+    })
+}
+
+/// The effects of what a vat learnt of a promise, which touched and wrote these cells of it. Fails only for want of memory.
+pub fn learn_effects(
+    alloc: Global,
+    event: EventName,
+    vat: VatNo,
+    promise: PromId,
+    footprint: &Footprint,
+) -> Result<Effects, AllocError>
+    ensures { IfOk result (λ it. (w : model.World) (b : posts.Published) → Learns (vat_state w vat) promise b footprint.now → BringsLearnt event w vat promise b it) }
+{
+    let mut touched = Vec::new(alloc);
+    touched.push(CellKey::Board(promise))?;
+    touch_cells(&mut touched, vat, footprint)?;
+    let mut records = Vec::new(alloc);
+    record_cells(&mut records, event, vat, footprint)?;
+    Ok(Effects { touched, records })
+}
+
+/// Touches the publications of promises.
+fn touch_board(touched: &mut Vec<CellKey>, promises: &[PromId]) -> Result<(), AllocError>
+    ensures { OnOk result (touched.new.items ≡ touched.old.items ++ map key.Board promises.now) }
+{
+    for promise in promises {
+        touched.push(CellKey::Board(*promise))?;
+    }
+    Ok(())
+}
+
+/// Touches messages.
+fn touch_messages(touched: &mut Vec<CellKey>, names: &[MsgId]) -> Result<(), AllocError>
+    ensures { OnOk result (touched.new.items ≡ touched.old.items ++ map key.Msg names.now) }
+{
+    for name in names {
+        touched.push(CellKey::Msg(*name))?;
+    }
+    Ok(())
+}
+
+/// The cells that a turn of a message touched: what was looked at to know that it is ready, the cells of the vat, and what it made.
 fn turn_touched(
     alloc: Global,
+    event: EventName,
     name: MsgId,
-    message: &Message,
+    way: &Way,
     vat: VatNo,
     outcome: &Outcome,
 ) -> Result<Vec<CellKey>, AllocError>
     ensures once { OnOk result (EachOnce outcome.now.footprint) }
-    ensures touched { IfOk result (λ touched. touched.items ≡ awaited (message_of message.now).after ++ keys_in vat (entries_of outcome.now.footprint) ++ key.Msg name ∷ key.Board (message_of message.now).result ∷ []) }
+    ensures published { OnOk result (PublishedOnce (publications_of outcome.now.out.publications)) }
+    ensures touched { IfOk result (λ keys. keys.items ≡ (map key.Board way.now.through.items ++ (map key.Msg way.now.awaited ++ map (λ b. key.Board b.0) (publications_of outcome.now.out.publications))) ++ (keys_in vat (entries_of outcome.now.footprint) ++ (map (λ p. p.0) (letters_from event 0 (map letter_of outcome.now.out.letters.items)) ++ key.Msg name ∷ []))) }
 {
     let mut touched = Vec::new(alloc);
-    if let Some(first) = message.sent.after {
-        touched.push(CellKey::Msg(first))?;
-    }
+    touch_board(&mut touched, way.through.as_slice())?;
+    touch_messages(&mut touched, way.awaited.names())?;
+    touch_publications(&mut touched, &outcome.out.publications)?;
     touch_cells(&mut touched, vat, &outcome.footprint)?;
+    touch_letters(&mut touched, event, outcome.out.letters.as_slice())?;
     touched.push(CellKey::Msg(name))?;
-    touched.push(CellKey::Board(message.sent.result))?;
     Ok(touched)
 }
 
@@ -191,48 +304,42 @@ fn record_left(
     }
 }
 
-/// A record of what the result of a turn is published as.
-fn result_record(event: EventName, promise: PromId, value: &Value) -> Result<CellRecord, AllocError>
-    ensures { IfOk result (λ r. kept_of r ≡ (key.Board promise, (Some (model.published (val_of value.now)), Some event.0))) }
-{
-    Ok(CellRecord::Board(Record {
-        key: promise,
-        content: Some(value.share()?),
-        writer: Some(event),
-    }))
-}
-
-/// Records of what a turn of this message wrote: what it left in its vat, the message as done, and the result.
+/// Records of what a turn of this message wrote: what it left in its vat, what it made, and the message as done.
 fn turn_records(
     alloc: Global,
+    world: &World,
     event: EventName,
     name: MsgId,
     message: &Message,
     vat: VatNo,
     outcome: &Outcome,
 ) -> Result<Vec<CellRecord>, AllocError>
-    ensures { IfOk result (λ records. (u : State) → kepts_of records.items ≡ kept_left event vat (left_of outcome.now) ++ record_of cells event.0 (done_and_published event name (message_of message.now) (outcome_on outcome.now u))) }
+    ensures { IfOk result (λ records. (u : State) → kepts_of records.items ≡ kept_left event vat (left_of outcome.now) ++ record_of cells event.0 (made_by event (world_of world.now) name (message_of message.now) (outcome_on outcome.now u))) }
 {
     let mut records = Vec::new(alloc);
     record_left(&mut records, event, vat, outcome)?;
+    record_letters(&mut records, event, outcome.out.letters.as_slice())?;
+    record_publications(&mut records, world, event, &outcome.out.publications)?;
     records.push(message_record(event, name, message.done_in(event)?))?;
-    records.push(result_record(event, message.sent.result, &outcome.result)?)?;
     Ok(records)
 }
 
-/// The effects of a turn of this message at this vat, which had this outcome. Fails only for want of memory.
+/// The effects of a turn of this message at this vat, which had this outcome, in a world where it sends what is new. Fails only for want
+/// of memory.
 pub fn turn_effects(
     alloc: Global,
+    world: &World,
     event: EventName,
     name: MsgId,
     message: &Message,
+    way: &Way,
     vat: VatNo,
     outcome: &Outcome,
 ) -> Result<Effects, AllocError>
-    ensures { IfOk result (λ it. (u : State) → BringsTurn event name (turn_of (message_of message.now) vat outcome.now u) it) }
+    ensures { IfOk result (λ it. world_of world.now (key.Msg name) ≡ Some (model.message (message_of message.now)) → AreNew (world_of world.now) (letters_from event 0 (map letter_of outcome.now.out.letters.items)) → IsWay (world_of world.now) vat (message_of message.now) way.now → (u : State) → BringsTurn event (world_of world.now) name (turn_of (message_of message.now) vat outcome.now u) it) }
 {
     Ok(Effects {
-        touched: turn_touched(alloc, name, message, vat, outcome)?,
-        records: turn_records(alloc, event, name, message, vat, outcome)?,
+        touched: turn_touched(alloc, event, name, way, vat, outcome)?,
+        records: turn_records(alloc, world, event, name, message, vat, outcome)?,
     })
 }

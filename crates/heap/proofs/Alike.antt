@@ -9,8 +9,8 @@ use Rattle.code.specs.View.{methods_of_codes}
 use Rattle.code.specs.Sameness.{pattern_alike, methods_alike}
 use Rattle.code.proofs.Alike.{pattern_told, methods_told}
 use Rattle.heap.specs.State.{Bind, fixed, View, resolved, Nouns}
-use Rattle.heap.specs.View.{bind_of, nouns_of, nouns_after, object_of}
-use Rattle.heap.specs.declared.made.Made.{Made}
+use Rattle.heap.specs.View.{bind_of, nouns_of, nouns_after, plain_of}
+use Rattle.heap.specs.declared.made.Plain.{Plain}
 use Rattle.heap.specs.declared.state.Noun.{Noun}
 
 -- two values, by which what has them is told apart
@@ -118,15 +118,15 @@ none_remain (a ∷ us) (b ∷ vs) xs ys h (inl e) = absurd (cc)
 none_remain (a ∷ us) (b ∷ vs) xs ys h (inr e) = absurd (cc)
 
 -- objects of the same name and with the same captured names go by their methods
-pub objects_told : (a b : Made) (r : Bool) → pattern_alike a.own b.own ≡ true → nouns_of a.captured.value.items ≡ nouns_of b.captured.value.items → r ≡ methods_alike (methods_of_codes a.methods.value.items) (methods_of_codes b.methods.value.items) → IsTrue r ↔ (object_of a ≡ object_of b)
+pub objects_told : (a b : Plain) (r : Bool) → pattern_alike a.own b.own ≡ true → nouns_of a.captured.value.items ≡ nouns_of b.captured.value.items → r ≡ methods_alike (methods_of_codes a.methods.value.items) (methods_of_codes b.methods.value.items) → IsTrue r ↔ (plain_of a ≡ plain_of b)
 objects_told a b r p q e =
     let own : a.own ≡ b.own = (pattern_told a.own b.own).0 p in
     let told = methods_told (methods_of_codes a.methods.value.items) (methods_of_codes b.methods.value.items) in
     (λ t. λ i. record { own = own i; captured = q i; methods = told.0 (sym e ∙ t) i }, λ s. e ∙ told.1 (ap (λ o. o.methods) s))
 
 -- objects of other names, or with other captured names
-pub named_otherwise : (a b : Made) {v : Bool} → v ≡ false → false ≡ pattern_alike a.own b.own → IsTrue v ↔ (object_of a ≡ object_of b)
+pub named_otherwise : (a b : Plain) {v : Bool} → v ≡ false → false ≡ pattern_alike a.own b.own → IsTrue v ↔ (plain_of a ≡ plain_of b)
 named_otherwise a b n p = (λ t. absurd (false≢true (sym n ∙ t)), λ s. absurd (false≢true (p ∙ (pattern_told a.own b.own).1 (ap (λ o. o.own) s))))
 
-pub captures_otherwise : (a b : Made) {v r : Bool} → v ≡ false → v ≡ r → IsTrue r ↔ (nouns_of a.captured.value.items ≡ nouns_of b.captured.value.items) → IsTrue v ↔ (object_of a ≡ object_of b)
+pub captures_otherwise : (a b : Plain) {v r : Bool} → v ≡ false → v ≡ r → IsTrue r ↔ (nouns_of a.captured.value.items ≡ nouns_of b.captured.value.items) → IsTrue v ↔ (plain_of a ≡ plain_of b)
 captures_otherwise a b n q told = (λ t. absurd (false≢true (sym n ∙ t)), λ s. q ∙ told.1 (ap (λ o. o.captured) s))

@@ -4,7 +4,7 @@ use Rattle.std.proofs.Props.{props}
 use Rattle.kernele.specs.declared.tree.Pattern.{Pattern}
 use Rattle.kernele.specs.Tree.{Name, Methods, Methods-set}
 use Rattle.values.specs.Data.{Val, Val-set}
-use Rattle.heap.specs.State.{Bind, Bind-set, Nouns, Object, Object-set, View, View-set, Content, Content-set}
+use Rattle.heap.specs.State.{Bind, Bind-set, Nouns, Plain, Plain-set, Object, Object-set, View, View-set, Content, Content-set}
 
 names : IsSet Name
 names = hlevel props
@@ -27,8 +27,11 @@ binds = Bind-set vals (hlevel props)
 nouns : IsSet Nouns
 nouns = hlevel (props, binds)
 
+plain_objects : IsSet Plain
+plain_objects = Plain-set patterns nouns methods
+
 pub objects : IsSet Object
-objects = Object-set patterns nouns methods
+objects = Object-set plain_objects (hlevel props)
 
 pub views : IsSet View
 views = View-set vals

@@ -32,12 +32,18 @@ abbrev pub frame_of : Nouns → List Name
 frame_of [] = []
 frame_of (n ∷ ns) = frame_of ns ++ n.0 ∷ []
 
--- what an object is: what its definition names it in its methods, the names that it captured, the newest first,
+-- an object that a definition made: what that names it in its methods, the names that it captured, the newest first,
 -- and its methods
-pub record Object : Type 0 where
+pub record Plain : Type 0 where
   pub own : Pattern
   pub captured : Nouns
   pub methods : Methods
+  deriving IsSet as Plain-set
+
+-- what an object is: a definition made it, or it resolves a promise
+pub data Object : Type 0 where
+  plain : (p : Plain) → Object
+  resolver : (p : PromId) → Object
   deriving IsSet as Object-set
 
 -- what a vat knows of a promise that has come into it: it is open, or resolved to a value

@@ -18,14 +18,16 @@ use Rattle.kernele.specs.Tree.{Name}
 use Rattle.code.specs.View.{methods_of_codes}
 use Rattle.values.specs.declared.value.Value.{Value}
 use Rattle.values.specs.View.{val_of}
-use Rattle.heap.specs.State.{Bind, fixed, slot, Nouns, Object, View, pending, resolved, Cell, top, slot_cell, object_cell, view_cell, fence_cell, Content, bound, held, made, viewed, fenced, State}
+use Rattle.heap.specs.State.{Bind, fixed, slot, Nouns, Plain, Object, plain, resolver, View, pending, resolved, Cell, top, slot_cell, object_cell, view_cell, fence_cell, Content, bound, held, made, viewed, fenced, State}
 use Rattle.heap.specs.declared.state.VatState.{VatState}
 use Rattle.heap.specs.declared.state.Binding.{Binding}
 use Rattle.heap.specs.declared.state.Binding.TheVariants as binding
 use Rattle.heap.specs.declared.state.Noun.{Noun}
 use Rattle.heap.specs.declared.state.View.{View as Known}
 use Rattle.heap.specs.declared.state.View.TheVariants as known
+use Rattle.heap.specs.declared.made.Plain.{Plain as Defined}
 use Rattle.heap.specs.declared.made.Made.{Made}
+use Rattle.heap.specs.declared.made.Made.TheVariants as made_of
 
 abbrev pub bind_of : Binding → Bind
 bind_of (binding.Fixed v) = fixed (val_of v)
@@ -39,9 +41,14 @@ nouns_after ns (n ∷ rest) = nouns_after ((n.name, bind_of n.binding) ∷ ns) r
 abbrev pub nouns_of : List Noun → Nouns
 nouns_of items = nouns_after [] items
 
+-- an object that a definition made
+abbrev pub plain_of : Defined → Plain
+plain_of m = record { own = m.own; captured = nouns_of m.captured.value.items; methods = methods_of_codes m.methods.value.items }
+
 -- what an object is
 abbrev pub object_of : Made → Object
-object_of m = record { own = m.own; captured = nouns_of m.captured.value.items; methods = methods_of_codes m.methods.value.items }
+object_of (made_of.Plain m) = plain (plain_of m)
+object_of (made_of.Resolver p) = resolver p
 
 -- what is known of a promise
 abbrev pub view_of : Known → View

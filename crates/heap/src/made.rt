@@ -10,11 +10,12 @@ ghost use Rattle.scopes.specs.Scope.{name_of};
 use crate::state::Noun;
 use code::code::MethodCode;
 use code::index::MethodIndex;
+use ids::names::PromId;
 use kernele::tree::Pattern;
 use std::sync::Arc;
 
-/// What an object is. Sharing it costs nothing that grows with it.
-pub struct Made {
+/// An object that a definition made. Sharing it costs nothing that grows with it.
+pub struct Plain {
     /// What its definition names it in its methods.
     pub own: Pattern,
     /// The names that it captured, the newest last.
@@ -27,13 +28,20 @@ pub struct Made {
 }
 
 // By hand, so that what drops one elsewhere calls this and is not proved anew for all that it holds.
-impl Drop for Made {
+impl Drop for Plain {
     fn drop(self) {
-        let Made {
+        let Plain {
             own: _,
             captured: _,
             methods: _,
             index: _,
         } = self;
     }
+}
+
+/// What an object is: a definition made it, or it resolves a promise.
+#[derive(Drop)]
+pub enum Made {
+    Plain(Plain),
+    Resolver(PromId),
 }

@@ -19,13 +19,25 @@ use std::sync::Arc;
 use values::value::Value;
 
 /// The cells of a vat that a turn touched: what it found in each, and what it wrote there, if it wrote.
-#[derive(Drop)]
 pub struct Footprint {
     pub tops: Touches<Text, Binding>,
     pub slots: Touches<SlotId, Value>,
     pub objects: Touches<ObjId, Made>,
     pub views: Touches<PromId, View>,
     pub fences: Touches<Reference, Fence>,
+}
+
+// By hand, so that what drops one elsewhere calls this and is not proved anew for all that it holds.
+impl Drop for Footprint {
+    fn drop(self) {
+        let Footprint {
+            tops: _,
+            slots: _,
+            objects: _,
+            views: _,
+            fences: _,
+        } = self;
+    }
 }
 
 /// The state that a turn began with, shared, and what it touched of it.

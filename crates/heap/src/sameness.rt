@@ -1,8 +1,8 @@
 // When the contents of two cells are the same.
 ghost use Rattle.std.specs.Prelude.{◌≡◌, ◌↔◌, IsTrue};
-ghost use Rattle.heap.specs.View.{bind_of, nouns_of, object_of, view_of};
+ghost use Rattle.heap.specs.View.{bind_of, nouns_of, plain_of, object_of, view_of};
 
-use crate::made::Made;
+use crate::made::{Made, Plain};
 use crate::state::{Binding, Noun, View};
 use code::sameness::{same_methods, same_pattern};
 use std::sync::Arc;
@@ -19,9 +19,20 @@ pub fn same_binding(a: &Binding, b: &Binding) -> bool
     }
 }
 
-/// Whether two objects are the same: what they are named, what they captured, and their methods.
+/// Whether two objects are the same: both made alike by definitions, or resolvers of one promise.
 pub fn same_made(a: &Made, b: &Made) -> bool
     ensures { IsTrue result ↔ (object_of a.now ≡ object_of b.now) }
+{
+    match (a, b) {
+        (Made::Plain(x), Made::Plain(y)) => same_plain(x, y),
+        (Made::Resolver(p), Made::Resolver(q)) => p == q,
+        _ => false,
+    }
+}
+
+/// Whether two objects that definitions made are the same: what they are named, what they captured, and their methods.
+fn same_plain(a: &Plain, b: &Plain) -> bool
+    ensures { IsTrue result ↔ (plain_of a.now ≡ plain_of b.now) }
 {
     same_pattern(&a.own, &b.own)
         && same_nouns(&a.captured, &b.captured)
@@ -39,7 +50,8 @@ pub fn same_view(a: &View, b: &View) -> bool
     }
 }
 
-fn same_nouns(xs: &Arc<Vec<Noun>>, ys: &Arc<Vec<Noun>>) -> bool
+/// Whether names stand for the same, in the same order.
+pub fn same_nouns(xs: &Arc<Vec<Noun>>, ys: &Arc<Vec<Noun>>) -> bool
     ensures { IsTrue result ↔ (nouns_of xs.now.value.items ≡ nouns_of ys.now.value.items) }
 {
     if xs.len() != ys.len() {

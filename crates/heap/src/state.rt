@@ -7,10 +7,10 @@ ghost use Rattle.ids.specs.declared.names.ObjId.{ObjId};
 ghost use Rattle.ids.specs.declared.names.PromId.{PromId};
 ghost use Rattle.ids.specs.declared.reference.Reference.{Reference};
 ghost use Rattle.heap.specs.State.{top, slot_cell, object_cell, view_cell, fence_cell, bound, held, made, viewed, fenced, nothing, read, Cell};
-ghost use Rattle.heap.specs.View.{bind_of, object_of, view_of, tops_of, slots_of, objects_of, views_of, fences_of, state_of, seen_in};
+ghost use Rattle.heap.specs.View.{bind_of, plain_of, object_of, view_of, tops_of, slots_of, objects_of, views_of, fences_of, state_of, seen_in};
 ghost use Rattle.values.specs.View.{val_of};
 
-use crate::made::Made;
+use crate::made::{Made, Plain};
 use cells::store::CellStore;
 use code::index::share_index;
 use eorder::fence::Fence;
@@ -56,17 +56,29 @@ pub struct Noun {
     pub binding: Binding,
 }
 
-impl Made {
+impl Plain {
     /// The same object, whose names, methods and index are shared. Fails only for want of memory.
-    pub fn share(&self) -> Result<Made, AllocError>
-        ensures { IfOk result (λ m. object_of m ≡ object_of self.now) }
+    pub fn share(&self) -> Result<Plain, AllocError>
+        ensures { IfOk result (λ m. plain_of m ≡ plain_of self.now) }
     {
-        Ok(Made {
+        Ok(Plain {
             own: self.own.share()?,
             captured: Arc::try_clone(&self.captured)?,
             methods: Arc::try_clone(&self.methods)?,
             index: share_index(&self.index)?,
         })
+    }
+}
+
+impl Made {
+    /// The same object, shared. Fails only for want of memory.
+    pub fn share(&self) -> Result<Made, AllocError>
+        ensures { IfOk result (λ m. object_of m ≡ object_of self.now) }
+    {
+        match self {
+            Made::Plain(plain) => Ok(Made::Plain(plain.share()?)),
+            Made::Resolver(promise) => Ok(Made::Resolver(*promise)),
+        }
     }
 }
 

@@ -5,9 +5,9 @@ use Rattle.history.specs.Records.{State, Record, swap_state, swap_record}
 use Rattle.ids.specs.CellKeys.{same_key}
 use Rattle.ids.specs.declared.names.EventName.{EventName}
 use Rattle.ids.specs.declared.cells.CellKey.{CellKey}
-use Rattle.post.specs.Events.{Event}
-use Rattle.post.specs.EventView.{event_of}
-use Rattle.post.specs.Theory.{cells, kepts_of}
+use Rattle.worldcells.specs.Events.{Event}
+use Rattle.worldcells.specs.EventView.{event_of}
+use Rattle.worldcells.specs.Theory.{cells, kepts_of}
 use Rattle.journal.specs.declared.entry.Mark.{Mark}
 use Rattle.journal.specs.declared.entry.Mark.TheVariants as mark
 use Rattle.journal.specs.declared.entry.Touched.{Touched}

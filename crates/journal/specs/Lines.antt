@@ -6,7 +6,7 @@ use Rattle.history.specs.Journal.{Entry, is_in, caused, live_set, Distinct, Orde
 use Rattle.history.specs.Chains.{chain}
 use Rattle.ids.specs.CellKeys.{same_key}
 use Rattle.ids.specs.declared.cells.CellKey.{CellKey}
-use Rattle.post.specs.Events.{Event}
+use Rattle.worldcells.specs.Events.{Event}
 use Rattle.journal.specs.Items.{Item}
 
 -- events with the cells that they touched and wrote, and without what they wrote there

@@ -2,15 +2,15 @@
 ghost use Rattle.std.specs.Prelude.{◌≡◌, map, IfOk};
 ghost use Rattle.std.specs.List.{list_any};
 ghost use Rattle.ids.specs.CellKeys.{same_key};
-ghost use Rattle.post.specs.Records.{record_of};
-ghost use Rattle.post.specs.Theory.{state_of_world};
+ghost use Rattle.worldcells.specs.Records.{record_of};
+ghost use Rattle.worldcells.specs.Theory.{state_of_world};
 ghost use Rattle.journal.specs.Items.{item_of, lasts_of, wrote_one_of, may_exchange};
 
 use ids::cells::CellKey;
 use ids::names::EventName;
-use post::event::Event;
-use post::record::CellRecord;
-use post::world::World;
+use worldcells::event::Event;
+use worldcells::record::CellRecord;
+use worldcells::world::World;
 use std::alloc::{AllocError, Global};
 
 /// Whether an event counts: an undone one is as if it had never been.

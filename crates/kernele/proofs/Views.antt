@@ -1,6 +1,6 @@
 -- A node that holds a vector stands for a tree of the vector's trees.
 use Rattle.std.proofs.Common.{◌≡◌, List, ℕ, refl, ap, sym, ◌∙◌}
-use Rattle.kernele.specs.Tree.{call, list_tree, hide, if_tree, while_tree, for_tree, try_tree, object_tree, escape_tree, Trees, Methods, and_then, and_method}
+use Rattle.kernele.specs.Tree.{call, list_tree, hide, if_tree, while_tree, for_tree, try_tree, object_tree, escape_tree, send, when_tree, when_catch_tree, Trees, Methods, and_then, and_method}
 use Rattle.kernele.specs.View.{tree_of, trees_of, trees_of_row, methods_of, methods_of_row}
 use Rattle.kernele.specs.declared.tree.Expr as code
 use Rattle.kernele.specs.declared.tree.Expr.{Expr}
@@ -40,6 +40,18 @@ tree_of-Try body p handler = ap (λ ts. try_tree ts p (trees_of_row (code.TheBlo
 
 pub tree_of-Escape : (x : List ℕ) (body : Arc (Vec Expr Global) Global) → tree_of (code.Escape x body) ≡ escape_tree x (trees_of body.value.items)
 tree_of-Escape x body = ap (escape_tree x) (trees_row body.value)
+
+pub tree_of-Send : (r : Arc Expr Global) (verb : List ℕ) (args : Arc (Vec Expr Global) Global) → tree_of (code.Send r verb args) ≡ send (tree_of r.value) verb (trees_of args.value.items)
+tree_of-Send r verb args = ap (send (tree_of r.value) verb) (trees_row args.value)
+
+pub tree_of-When : (e : Arc Expr Global) (body : Arc (Vec Expr Global) Global) → tree_of (code.When e body) ≡ when_tree (tree_of e.value) (trees_of body.value.items)
+tree_of-When e body = ap (when_tree (tree_of e.value)) (trees_row body.value)
+
+pub tree_of-WhenCatch : (e : Arc Expr Global) (body : Arc (Vec Expr Global) Global) (p : Pattern) (handler : Arc (Vec Expr Global) Global)
+    → tree_of (code.WhenCatch e body p handler) ≡ when_catch_tree (tree_of e.value) (trees_of body.value.items) p (trees_of handler.value.items)
+tree_of-WhenCatch e body p handler =
+    ap (λ ts. when_catch_tree (tree_of e.value) ts p (trees_of_row (code.TheBlock.hidden-the_row-Expr-0 handler.value))) (trees_row body.value)
+    ∙ ap (when_catch_tree (tree_of e.value) (trees_of body.value.items) p) (trees_row handler.value)
 
 method_same : {verb : List ℕ} {ps : List Pattern} {b c : Trees} {r s : Methods} → b ≡ c → r ≡ s → and_method verb ps b r ≡ and_method verb ps c s
 method_same {verb = verb} {ps = ps} p q = λ i. and_method verb ps (p i) (q i)

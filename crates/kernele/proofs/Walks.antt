@@ -2,10 +2,10 @@
 use Rattle.std.proofs.Common.{◌≡◌, ℕ, ◌+◌, ◌<◌, ◌≤◌, List, [], ◌∷◌, ◌++◌, ap, sym, ◌∙◌, length, drop, get_or, add-one, suc, append_assoc, append-nil, Bool, false, ◌==◌, codes, refl}
 use Rattle.std.proofs.Math.Seq.{drop-cons}
 use Rattle.std.proofs.lemmas.List.{drop_all}
-use Rattle.kernele.specs.Tree.{Name, Tree, call, list_tree, hide, if_tree, while_tree, for_tree, try_tree, object_tree, escape_tree, Trees, none, and_then, Methods, no_methods, and_method}
+use Rattle.kernele.specs.Tree.{Name, Tree, call, list_tree, hide, if_tree, while_tree, for_tree, try_tree, object_tree, escape_tree, send, when_tree, when_catch_tree, Trees, none, and_then, Methods, no_methods, and_method}
 use Rattle.kernele.specs.View.{tree_of, trees_of, methods_of}
 use Rattle.kernele.specs.Spelling.{joined, in_braces, spelled_items}
-use Rattle.kernele.proofs.Views.{tree_of-Call, tree_of-List, tree_of-Hide, tree_of-If, tree_of-While, tree_of-For, tree_of-Try, tree_of-Object, tree_of-Escape}
+use Rattle.kernele.proofs.Views.{tree_of-Call, tree_of-List, tree_of-Hide, tree_of-If, tree_of-While, tree_of-For, tree_of-Try, tree_of-Object, tree_of-Escape, tree_of-Send, tree_of-When, tree_of-WhenCatch}
 use Rattle.kernele.specs.declared.tree.Expr as code
 use Rattle.kernele.specs.declared.tree.Expr.{Expr}
 use Rattle.kernele.specs.declared.tree.Method.{Method}
@@ -77,6 +77,30 @@ tree_is_escape {x = x} name body is named held slice =
     ap tree_of is ∙ tree_of-Escape name body
     ∙ ap (λ y. escape_tree y (trees_of body.value.items)) (sym named)
     ∙ ap (λ ys. escape_tree x (trees_of ys)) (sym (slice ∙ ap (λ w. w.items) held))
+
+-- the tree of a send, from the references to its parts
+pub tree_is_send : {e x : Expr} {v : Vec Expr Global} {xs : List Expr} (r : Arc Expr Global) (verb : Name) (args : Arc (Vec Expr Global) Global) → e ≡ code.Send r verb args → x ≡ r.value → v ≡ args.value → xs ≡ v.items → tree_of e ≡ send (tree_of x) verb (trees_of xs)
+tree_is_send {x = x} r verb args is receiver held items =
+    ap tree_of is ∙ tree_of-Send r verb args
+    ∙ ap (λ y. send (tree_of y) verb (trees_of args.value.items)) (sym receiver)
+    ∙ ap (λ ys. send (tree_of x) verb (trees_of ys)) (sym (items ∙ ap (λ w. w.items) held))
+
+-- the tree of a `when` without a `catch`, from the references to its parts
+pub tree_is_when : {e x : Expr} {v : Vec Expr Global} {xs : List Expr} (value : Arc Expr Global) (body : Arc (Vec Expr Global) Global) → e ≡ code.When value body → x ≡ value.value → v ≡ body.value → xs ≡ v.items → tree_of e ≡ when_tree (tree_of x) (trees_of xs)
+tree_is_when {x = x} value body is from held slice =
+    ap tree_of is ∙ tree_of-When value body
+    ∙ ap (λ y. when_tree (tree_of y) (trees_of body.value.items)) (sym from)
+    ∙ ap (λ ys. when_tree (tree_of x) (trees_of ys)) (sym (slice ∙ ap (λ u. u.items) held))
+
+-- the tree of a `when` with a `catch`, from the references to its parts
+pub tree_is_when_catch : {e x : Expr} {p : Pattern} {v w : Vec Expr Global} {xs ys : List Expr} (value : Arc Expr Global) (body : Arc (Vec Expr Global) Global) (pattern : Pattern) (handler : Arc (Vec Expr Global) Global)
+    → e ≡ code.WhenCatch value body pattern handler → x ≡ value.value → v ≡ body.value → xs ≡ v.items → p ≡ pattern → w ≡ handler.value → ys ≡ w.items → tree_of e ≡ when_catch_tree (tree_of x) (trees_of xs) p (trees_of ys)
+tree_is_when_catch {x = x} {p = p} {xs = xs} value body pattern handler is from held slice bound held' slice' =
+    ap tree_of is ∙ tree_of-WhenCatch value body pattern handler
+    ∙ ap (λ y. when_catch_tree (tree_of y) (trees_of body.value.items) pattern (trees_of handler.value.items)) (sym from)
+    ∙ ap (λ ys. when_catch_tree (tree_of x) (trees_of ys) pattern (trees_of handler.value.items)) (sym (slice ∙ ap (λ u. u.items) held))
+    ∙ ap (λ q. when_catch_tree (tree_of x) (trees_of xs) q (trees_of handler.value.items)) (sym bound)
+    ∙ ap (λ ys. when_catch_tree (tree_of x) (trees_of xs) p (trees_of ys)) (sym (slice' ∙ ap (λ u. u.items) held'))
 
 -- the block of a method, from the slice of its items
 pub body_is : {v : Vec Expr Global} {xs : List Expr} (body : Arc (Vec Expr Global) Global) → v ≡ body.value → xs ≡ v.items → trees_of xs ≡ trees_of body.value.items

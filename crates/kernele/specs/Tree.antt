@@ -28,6 +28,12 @@ mutual
     throw_tree : (e : Tree) → Tree
     object_tree : (p : Pattern) → (methods : Methods) → Tree
     escape_tree : (x : Name) → (body : Trees) → Tree
+    send : (r : Tree) → (verb : Name) → (args : Trees) → Tree
+    when_tree : (e : Tree) → (body : Trees) → Tree
+    when_catch_tree : (e : Tree) → (body : Trees) → (p : Pattern) → (handler : Trees) → Tree
+    new_promise : Tree
+    break_ref : (e : Tree) → Tree
+    state_ref : (e : Tree) → Tree
     deriving IsSet as Tree-set
 
   -- a block, arguments, or the items of a list

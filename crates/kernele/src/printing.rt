@@ -58,7 +58,9 @@ fn write_beginning(e: &Expr, out: &mut String) -> Result<(), AllocError>
         Expr::Noun(name) | Expr::Assign(name, _) => out.push_str(name.as_str()),
         Expr::Def(pattern, _) | Expr::Object(pattern, _) => write_bound("def ", pattern, out),
         Expr::Var(name, _) => write_name("var ", name, out),
-        Expr::Call(receiver, _, _) => write_bracketed(!is_bare_receiver(receiver), receiver, out),
+        Expr::Call(receiver, _, _) | Expr::Send(receiver, _, _) => {
+            write_bracketed(!is_bare_receiver(receiver), receiver, out)
+        }
         Expr::List(items) => write_parts("[", items, "]", out),
         Expr::Same(left, _) => write_part("(", left, out),
         Expr::DefList(patterns, _) => write_patterns("def [", patterns, out),
@@ -69,6 +71,10 @@ fn write_beginning(e: &Expr, out: &mut String) -> Result<(), AllocError>
         Expr::Try(body, _, _) => write_block("try ", body, out),
         Expr::Throw(problem) => write_part("throw(", problem, out),
         Expr::Escape(name, _) => write_name("escape ", name, out),
+        Expr::When(value, _) | Expr::WhenCatch(value, _, _, _) => write_part("when (", value, out),
+        Expr::NewPromise => out.push_str("Ref.promise()"),
+        Expr::BreakRef(problem) => write_part("Ref.broken(", problem, out),
+        Expr::StateRef(value) => write_part("Ref.state(", value, out),
     }
 }
 
@@ -84,14 +90,13 @@ fn write_rest(e: &Expr, out: &mut String) -> Result<(), AllocError>
         | Expr::Text(_)
         | Expr::Noun(_)
         | Expr::List(_)
-        | Expr::Hide(_) => Ok(()),
+        | Expr::Hide(_)
+        | Expr::NewPromise => Ok(()),
         Expr::Def(_, value) | Expr::Var(_, value) | Expr::Assign(_, value) => {
             write_part(" := ", value, out)
         }
-        Expr::Call(_, verb, args) => {
-            write_name(".", verb, out)?;
-            write_parts("(", args, ")", out)
-        }
+        Expr::Call(_, verb, args) => write_message(".", verb, args, out),
+        Expr::Send(_, verb, args) => write_message(" <- ", verb, args, out),
         Expr::Same(_, right) => {
             write_part(" == ", right, out)?;
             out.push_str(")")
@@ -106,14 +111,43 @@ fn write_rest(e: &Expr, out: &mut String) -> Result<(), AllocError>
             write_part(" in ", list, out)?;
             write_block(" ", body, out)
         }
-        Expr::Try(_, pattern, handler) => {
-            write_bound(" catch ", pattern, out)?;
-            write_block(" ", handler, out)
-        }
-        Expr::Throw(_) => out.push_str(")"),
+        Expr::Try(_, pattern, handler) => write_catch(pattern, handler, out),
+        Expr::Throw(_) | Expr::BreakRef(_) | Expr::StateRef(_) => out.push_str(")"),
         Expr::Object(_, methods) => write_methods(methods, out),
         Expr::Escape(_, body) => write_block(" ", body, out),
+        Expr::When(_, body) => write_block(") -> ", body, out),
+        Expr::WhenCatch(_, body, pattern, handler) => {
+            write_block(") -> ", body, out)?;
+            write_catch(pattern, handler, out)
+        }
     }
+}
+
+/// Writes a word, and a verb with its arguments behind it.
+#[cycle(print)]
+fn write_message(
+    word: &str,
+    verb: &Text,
+    args: &Arc<Vec<Expr>>,
+    out: &mut String,
+) -> Result<(), AllocError>
+    ensures { OnOk result (string_bytes out.new ≡ string_bytes out.old ++ (word.now ++ message verb.now (spelled_parts (trees_of args.now.value.items)))) }
+{
+    write_name(word, verb, out)?;
+    write_parts("(", args, ")", out)
+}
+
+/// Writes what a problem is bound to, and its handler.
+#[cycle(print)]
+fn write_catch(
+    pattern: &Pattern,
+    handler: &Arc<Vec<Expr>>,
+    out: &mut String,
+) -> Result<(), AllocError>
+    ensures { OnOk result (string_bytes out.new ≡ string_bytes out.old ++ (codes " catch " ++ bound_name pattern.now ++ codes " " ++ in_braces (spelled_items (trees_of handler.now.value.items)))) }
+{
+    write_bound(" catch ", pattern, out)?;
+    write_block(" ", handler, out)
 }
 
 /// Writes methods in braces, a space before each and before the braces.
@@ -261,7 +295,13 @@ fn needs_brackets(e: &Expr) -> bool
         | Expr::Try(_, _, _)
         | Expr::Throw(_)
         | Expr::Object(_, _)
-        | Expr::Escape(_, _) => false,
+        | Expr::Escape(_, _)
+        | Expr::Send(_, _, _)
+        | Expr::When(_, _)
+        | Expr::WhenCatch(_, _, _, _)
+        | Expr::NewPromise
+        | Expr::BreakRef(_)
+        | Expr::StateRef(_) => false,
     }
 }
 
@@ -280,13 +320,19 @@ fn is_bare_receiver(e: &Expr) -> bool
         | Expr::Try(_, _, _)
         | Expr::Throw(_)
         | Expr::Object(_, _)
-        | Expr::Escape(_, _) => false,
+        | Expr::Escape(_, _)
+        | Expr::When(_, _)
+        | Expr::WhenCatch(_, _, _, _)
+        | Expr::NewPromise
+        | Expr::BreakRef(_)
+        | Expr::StateRef(_) => false,
         Expr::Null
         | Expr::Bool(_)
         | Expr::Int(_)
         | Expr::Text(_)
         | Expr::Noun(_)
         | Expr::Call(_, _, _)
+        | Expr::Send(_, _, _)
         | Expr::List(_)
         | Expr::Same(_, _) => true,
     }

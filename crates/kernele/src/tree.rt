@@ -63,6 +63,18 @@ pub enum Expr {
     Object(Pattern, Arc<Vec<Method>>),
     /// The name of the ejector, and the block that it ends.
     Escape(Text, Arc<Vec<Expr>>),
+    /// A message to a receiver: its verb and its arguments.
+    Send(Arc<Expr>, Text, Arc<Vec<Expr>>),
+    /// A value, and the block that runs when it is known.
+    When(Arc<Expr>, Arc<Vec<Expr>>),
+    /// The same, and what a problem is bound to, and its handler.
+    WhenCatch(Arc<Expr>, Arc<Vec<Expr>>, Pattern, Arc<Vec<Expr>>),
+    /// A promise and its resolver.
+    NewPromise,
+    /// A broken value, of this problem.
+    BreakRef(Arc<Expr>),
+    /// How far a value is known.
+    StateRef(Arc<Expr>),
 }
 
 // By hand, so that what drops one elsewhere calls this and is not proved anew for all that it holds.
@@ -89,7 +101,13 @@ impl Drop for Expr {
             | Expr::Try(_, _, _)
             | Expr::Throw(_)
             | Expr::Object(_, _)
-            | Expr::Escape(_, _) => {}
+            | Expr::Escape(_, _)
+            | Expr::Send(_, _, _)
+            | Expr::When(_, _)
+            | Expr::WhenCatch(_, _, _, _)
+            | Expr::NewPromise
+            | Expr::BreakRef(_)
+            | Expr::StateRef(_) => {}
         }
     }
 }

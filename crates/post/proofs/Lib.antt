@@ -1,4 +1,1 @@
-pub mod Cells
-pub mod Changing
-pub mod Worlds
-pub mod Told
+pub mod Arguments

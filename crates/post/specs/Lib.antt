@@ -1,13 +1,5 @@
 pub mod Delivery
+pub mod Blocks
 pub mod DeliveryView
-pub mod World
 pub mod Messages
-pub mod Homes
-pub mod HomesView
-pub mod Records
-pub mod View
-pub mod Exchanged
-pub mod Listed
-pub mod Theory
-pub mod Events
-pub mod EventView
+pub mod MessageView

@@ -1,13 +1,11 @@
-//! The world: vats by their names, their states, messages, and what promises were published as, in cells with last writers, and
-//! the records that exchange with cells.
+//! Messages to vats: what is delivered, where a message is, what promises are published as, and what is known of a vat by its name.
 #![tactic(auto)]
 
+pub mod call;
 pub mod delivery;
-pub mod event;
-pub mod home;
-pub mod homes;
+pub mod earlier;
 pub mod message;
 pub mod program;
-pub mod record;
+pub mod published;
 pub mod vat;
-pub mod world;
+pub mod when;

@@ -1,9 +1,10 @@
 // What is known of vats by their names.
 ghost use Rattle.std.specs.Prelude.{◌≡◌, IfOk};
 ghost use Rattle.std.specs.Arc.{arc_value};
-ghost use Rattle.post.specs.Messages.{vat_of};
+ghost use Rattle.post.specs.MessageView.{vat_of};
 
 use ids::names::VatNo;
+use ids::text::Text;
 use scopes::TopName;
 use std::alloc::{AllocError, Global};
 use std::sync::Arc;
@@ -11,6 +12,8 @@ use std::sync::Arc;
 /// What is known of a vat by its name. Sharing it costs nothing that grows with it.
 pub struct Vat {
     pub number: VatNo,
+    /// The names of the earlier vats that its script knows.
+    pub earlier: Arc<Vec<Text>>,
     /// The names that its script defines at the top.
     pub tops: Arc<Vec<TopName>>,
 }
@@ -18,18 +21,28 @@ pub struct Vat {
 // By hand, so that what drops one elsewhere calls this and is not proved anew for all that it holds.
 impl Drop for Vat {
     fn drop(self) {
-        let Vat { number: _, tops: _ } = self;
+        let Vat {
+            number: _,
+            earlier: _,
+            tops: _,
+        } = self;
     }
 }
 
 impl Vat {
-    /// A vat of this number, whose script defines these names at the top. Fails only for want of memory.
-    pub fn new(alloc: Global, number: VatNo, tops: Vec<TopName>) -> Result<Vat, AllocError>
-        ensures number { IfOk result (λ v. v.number ≡ number) }
-        ensures tops { IfOk result (λ v. (vat_of v).tops ≡ tops.items) }
+    /// A vat of this number, whose script knows these earlier vats and defines these names at the top. Fails only for want of
+    /// memory.
+    pub fn new(
+        alloc: Global,
+        number: VatNo,
+        earlier: Vec<Text>,
+        tops: Vec<TopName>,
+    ) -> Result<Vat, AllocError>
+        ensures { IfOk result (λ v. vat_of v ≡ record { number = number; earlier = earlier.items; tops = tops.items }) }
     {
         Ok(Vat {
             number,
+            earlier: Arc::new(alloc, earlier)?,
             tops: Arc::new(alloc, tops)?,
         })
     }
@@ -40,6 +53,7 @@ impl Vat {
     {
         Ok(Vat {
             number: self.number,
+            earlier: Arc::try_clone(&self.earlier)?,
             tops: Arc::try_clone(&self.tops)?,
         })
     }

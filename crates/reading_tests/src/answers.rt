@@ -6,8 +6,10 @@ use etoken::token::{Placed, Token};
 use etoken::tokens::tokens;
 use ids::text::Text;
 use kernele::print;
-use kernele::tree::{Expr, Program};
-use scopes::{CheckFault, Kind, Outer, TopName, captured_names, check, top_names};
+use kernele::tree::{Expr, Pattern, Program};
+use scopes::{
+    CheckFault, Kind, Outer, TopName, captured_by_when, captured_names, check, top_names,
+};
 use std::alloc::{AllocError, Global};
 use std::fmt::Write;
 
@@ -20,13 +22,13 @@ pub enum Asked {
     Spelling,
     /// The same, where its tokens are read by themselves.
     SpellingOfTokens,
-    /// Whether it may be asked of a vat whose script is `var v := 1; def d := 2`.
+    /// Whether it may be asked of a vat behind a vat `w`, whose script is `var v := 1; def d := 2`.
     CheckAsked,
     /// Whether it may be a script behind a vat `v`.
     CheckScript,
     /// The names that it defines.
     Names,
-    /// What its first item, an object, captures.
+    /// What its first item, an object or a `when`, captures.
     Captures,
 }
 
@@ -126,7 +128,7 @@ fn known(alloc: Global) -> Result<Vec<TopName>, CheckFault> {
 }
 
 fn check_asked(alloc: Global, program: &Program) -> Result<(), CheckFault> {
-    let outer = Outer::for_asked(alloc, &known(alloc)?)?;
+    let outer = Outer::for_asked(alloc, &[Text::new(alloc, "w")?], &known(alloc)?)?;
     check(alloc, program, &outer)
 }
 
@@ -151,6 +153,12 @@ fn write_captures(alloc: Global, program: &Program, out: &mut String) -> Result<
     match program.0.0.first() {
         Some(Expr::Object(pattern, methods)) => {
             write_words(&captured_names(alloc, pattern, methods)?, out)
+        }
+        Some(Expr::When(_, body)) => {
+            write_words(&captured_by_when(alloc, body, &Pattern::Ignore, &[])?, out)
+        }
+        Some(Expr::WhenCatch(_, body, pattern, handler)) => {
+            write_words(&captured_by_when(alloc, body, pattern, handler)?, out)
         }
         _ => Ok(()),
     }

@@ -91,6 +91,45 @@ return escape x { } => __return.run(escape x { })
 return throw ( a ) => __return.run(throw(a))
 "#;
 
+const SENDS: &str = r#"
+a <- b ( 1 , c ) => a <- b(1, c)
+a <- ( ) => a <- run()
+a <- ( 1 ) ( 2 ) => a <- run(1).run(2)
+a <- f ( ) <- g ( ) . h ( ) [ 1 ] => a <- f() <- g().h().get(1)
+( a + b ) <- c ( ) => a.add(b) <- c()
+- a <- b ( ) => a <- b().negate()
+[ a ] <- b ( c <- d ( ) ) => [a] <- b(c <- d())
+{ a } <- b ( ) => ({ a }) <- b()
+a <- b ( ) + 1 == 2 => (a <- b().add(1) == 2)
+( def x := a ) <- b ( ( def y := c ) ) => (def x := a) <- b((def y := c))
+a <- promise ( ) . broken ( ) => a <- promise().broken()
+a␊<- b ( ) => a <- b()
+"#;
+
+const WHENS: &str = r#"
+when ( a ) -> { b } => when (a) -> { b }
+when ( a ) -> { } catch p { p } => when (a) -> { } catch p { p }
+when ( a && b ) -> { 1 ; 2 } catch _ { } => when (if (a) { b } else { false }) -> { 1; 2 } catch _ { }
+when ( ( def x := a ) ) -> { x } => when ((def x := a)) -> { x }
+when ( a ) -> { b } . size ( ) => (when (a) -> { b }).size()
+when ( a ) -> { } catch p { } <- f ( ) + 1 => (when (a) -> { } catch p { }) <- f().add(1)
+x␊when ( a ) -> { }␊catch p { }␊y => x; when (a) -> { } catch p { }; y
+try { when ( a ) -> { } } catch p { } => try { when (a) -> { } } catch p { }
+when ( when ( a ) -> { } catch p { } ) -> { } => when (when (a) -> { } catch p { }) -> { }
+return when ( a ) -> { } => __return.run(when (a) -> { })
+"#;
+
+const REFS: &str = r#"
+Ref . promise ( ) => Ref.promise()
+Ref . broken ( "no" ) ; Ref . state ( x ) => Ref.broken("no"); Ref.state(x)
+Ref . state ( ( def x := 1 ) ) => Ref.state((def x := 1))
+- Ref . promise ( ) [ 0 ] => (Ref.promise()).get(0).negate()
+def [ p , r ] := Ref . promise ( ) => def [p, r] := Ref.promise()
+x␊Ref . promise ( ) => x; Ref.promise()
+return Ref . promise ( ) => __return.run(Ref.promise())
+promise ; broken ( state ) => promise; broken.run(state)
+"#;
+
 const AND_AND_OR: &str = r#"
 a && b => if (a) { b } else { false }
 a || b => if (a) { true } else { b }
@@ -114,7 +153,9 @@ fn reads_programs(rt: HostRuntime) {
     expect(
         &rt,
         Asked::Spelling,
-        &[PROGRAMS, BLOCKS, OBJECTS, RETURNS, AND_AND_OR],
+        &[
+            PROGRAMS, BLOCKS, OBJECTS, RETURNS, AND_AND_OR, SENDS, WHENS, REFS,
+        ],
     );
     expect(&rt, Asked::SpellingOfTokens, &[GIVEN_TOKENS]);
 }

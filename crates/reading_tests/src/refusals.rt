@@ -32,9 +32,6 @@ _ := 1 => L5 Unexpected 0
 x . y ( ) := 1 => L5 Unexpected 10
 f ( x := 1 ) => L5 Unexpected 6
 1 + x := 1 => L5 Unexpected 6
-when ( x ) -> { } => L5 Unexpected 0
-x <- y ( ) => L5 Unexpected 2
-Ref . promise ( ) => L5 Unexpected 0
 1 ) => L5 Unexpected 2
 1 + @ => L1 BadCharacter 4
 ( ) " => L2 UnclosedText 4
@@ -48,11 +45,41 @@ return return => L5 Unexpected 7
 return var x := 1 => L5 Unexpected 7
 return x := 1 => L5 Unexpected 9
 return def x := 1 => L5 Unexpected 13
-return when ( x ) -> { } => L5 Unexpected 7
-return Ref . promise ( ) => L5 Unexpected 7
 f ( return ) => L5 Unexpected 4
 x := return => L5 Unexpected 5
 1 + return => L5 Unexpected 4
+"#;
+
+const NO_SEND: &str = r#"
+x <- => L5 Unexpected 4
+x <- y => L5 Unexpected 6
+x <- y . z ( ) => L5 Unexpected 7
+x <- 1 ( ) => L5 Unexpected 5
+x <- [ 1 ] => L5 Unexpected 5
+x<-1 => L5 Unexpected 3
+x <- y ( 1 , ) => L5 Unexpected 13
+<- y ( ) => L5 Unexpected 0
+when x -> { } => L5 Unexpected 5
+when ( ) -> { } => L5 Unexpected 7
+when ( x ) { } => L5 Unexpected 11
+when ( x ) -> y => L5 Unexpected 14
+when ( x ) -> { } catch => L5 Unexpected 23
+when ( x ) -> { } catch { } => L5 Unexpected 24
+when ( x ) -> { } catch p => L5 Unexpected 25
+when ( x ) -> { } else { } => L5 Unexpected 18
+catch p { } => L5 Unexpected 0
+Ref => L5 Unexpected 3
+Ref ( ) => L5 Unexpected 4
+Ref . => L5 Unexpected 5
+Ref . 1 => L5 Unexpected 6
+Ref . when ( ) => L5 Unexpected 6
+Ref . other ( ) => L5 Unexpected 6
+Ref . promise => L5 Unexpected 13
+Ref . promise ( 1 ) => L5 Unexpected 16
+Ref . broken ( ) => L5 Unexpected 15
+Ref . state x => L5 Unexpected 12
+Ref . state ( x , y ) => L5 Unexpected 16
+def Ref := 1 => L5 Unexpected 4
 "#;
 
 const NO_OBJECT: &str = r#"
@@ -118,7 +145,7 @@ fn refuses_what_is_no_program(rt: HostRuntime) {
     expect(
         &rt,
         Asked::Spelling,
-        &[NO_PROGRAM, NO_RETURN, NO_OBJECT, NO_BLOCK],
+        &[NO_PROGRAM, NO_RETURN, NO_SEND, NO_OBJECT, NO_BLOCK],
     );
 }
 

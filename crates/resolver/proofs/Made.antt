@@ -1,13 +1,14 @@
 -- What is resolved of a construct, from what is resolved of its parts.
 use Rattle.std.proofs.Common.{◌≡◌, ℕ, Option, ◌+◌, ◌<◌, ◌≤◌, Bool, false, List, [], ◌∷◌, ◌++◌, length, ap, sym, subst, refl, ◌∙◌, drop, get_or, append_assoc, append-nil}
 use Rattle.std.proofs.Math.Path.{transport}
-use Rattle.kernele.specs.Tree.{Name, Tree, noun, define, variable, assign, call, list_tree, same_tree, define_list, hide, if_tree, while_tree, for_tree, try_tree, throw_tree, object_tree, escape_tree, Trees, none, and_then, Methods, and_method}
+use Rattle.kernele.specs.Tree.{Name, Tree, noun, define, variable, assign, call, list_tree, same_tree, define_list, hide, if_tree, while_tree, for_tree, try_tree, throw_tree, object_tree, escape_tree, send, when_tree, when_catch_tree, break_ref, state_ref, Trees, none, and_then, Methods, and_method}
 use Rattle.kernele.specs.View.{tree_of, trees_of, methods_of}
 use Rattle.scopes.specs.Scope.{own_names, own_names_in, name_of, names_of_all, variable_name}
-use Rattle.scopes.specs.Free.{captures}
+use Rattle.scopes.specs.Free.{captures, when_captures}
 use Rattle.kernele.specs.declared.tree.Expr.{Expr}
 use Rattle.kernele.specs.declared.tree.Method.{Method}
 use Rattle.kernele.specs.declared.tree.Pattern.{Pattern}
+use Rattle.kernele.specs.declared.tree.Pattern.TheVariants as pattern
 use Rattle.scopes.specs.declared.naming.TopName.{TopName}
 use Rattle.kernele.proofs.Walks.{trees_from, no_trees_from, methods_from, no_methods_from}
 use Rattle.code.specs.View.{tree_of_code, methods_of_codes}
@@ -20,8 +21,8 @@ use Rattle.code.specs.declared.code.Code as code
 use Rattle.code.specs.declared.code.Code.{Code}
 use Rattle.code.specs.declared.code.MethodCode.{MethodCode}
 use Rattle.code.specs.declared.index.MethodIndex.{MethodIndex}
-use Rattle.code.proofs.Views.{tree_of_code-Call, tree_of_code-List, tree_of_code-Hide, tree_of_code-If, tree_of_code-While, tree_of_code-For, tree_of_code-Try, tree_of_code-Object, tree_of_code-Escape}
-use Rattle.code.proofs.Fitting.{fits-Call, fits-List, fits-Hide, fits-If, fits-While, fits-For, fits-Try, fits-Object, fits-Escape}
+use Rattle.code.proofs.Views.{tree_of_code-Call, tree_of_code-List, tree_of_code-Hide, tree_of_code-If, tree_of_code-While, tree_of_code-For, tree_of_code-Try, tree_of_code-Object, tree_of_code-Escape, tree_of_code-Send, tree_of_code-When, tree_of_code-WhenCatch}
+use Rattle.code.proofs.Fitting.{fits-Call, fits-List, fits-Hide, fits-If, fits-While, fits-For, fits-Try, fits-Object, fits-Escape, fits-Send, fits-When, fits-WhenCatch}
 use Rattle.resolver.proofs.Growing.{behind-nothing, behind-both}
 use Rattle.std.specs.declared.sync.Arc.{Arc}
 use Rattle.std.specs.declared.vec.Vec.{Vec}
@@ -69,6 +70,12 @@ resolved_def_list ps qs r bound a e = record { tree = λ i. define_list (bound i
 pub resolved_throw : {own : Bool} {f g : Frame} {t : Tree} {r : Arc Code Global} → Resolves own f t r.value g → Resolves own f (throw_tree t) (code.Throw r) g
 resolved_throw a = record { tree = ap throw_tree a.tree; fitting = a.fitting; grown = a.grown }
 
+pub resolved_break_ref : {own : Bool} {f g : Frame} {t : Tree} {r : Arc Code Global} → Resolves own f t r.value g → Resolves own f (break_ref t) (code.BreakRef r) g
+resolved_break_ref a = record { tree = ap break_ref a.tree; fitting = a.fitting; grown = a.grown }
+
+pub resolved_state_ref : {own : Bool} {f g : Frame} {t : Tree} {r : Arc Code Global} → Resolves own f t r.value g → Resolves own f (state_ref t) (code.StateRef r) g
+resolved_state_ref a = record { tree = ap state_ref a.tree; fitting = a.fitting; grown = a.grown }
+
 pub resolved_same : {own : Bool} {f g h : Frame} {t u : Tree} {l r : Arc Code Global} → Resolves own f t l.value g → Resolves own g u r.value h → Resolves own f (same_tree t u) (code.Same l r) h
 resolved_same {own = own} {u = u} {r = r} a b = record {
   tree = λ i. same_tree (a.tree i) (b.tree i);
@@ -80,6 +87,13 @@ pub resolved_call : {own : Bool} {f g h : Frame} {t : Tree} {ts : Trees} {verb n
 resolved_call {own = own} {f = f} {ts = ts} {name = name} r args named a b = record {
   tree = tree_of_code-Call r name args ∙ λ i. call (a.tree i) (named i) (b.trees i);
   fitting = transport (sym (fits-Call own f r name args)) (a.fitting, fits_behind own args.value.items a b.fitting);
+  grown = grown_both (own_names_in ts) a b.grown;
+}
+
+pub resolved_send : {own : Bool} {f g h : Frame} {t : Tree} {ts : Trees} {verb name : Name} (r : Arc Code Global) (args : Arc (Vec Code Global) Global) → name ≡ verb → Resolves own f t r.value g → ResolvesAll own g ts args.value.items h → Resolves own f (send t verb ts) (code.Send r name args) h
+resolved_send {own = own} {f = f} {ts = ts} {name = name} r args named a b = record {
+  tree = tree_of_code-Send r name args ∙ λ i. send (a.tree i) (named i) (b.trees i);
+  fitting = transport (sym (fits-Send own f r name args)) (a.fitting, fits_behind own args.value.items a b.fitting);
   grown = grown_both (own_names_in ts) a b.grown;
 }
 
@@ -137,6 +151,35 @@ resolved_object {own = own} {f = f} {p = p} {q = q} captured codes index bound f
     indexed,
   );
   grown = grown;
+}
+
+-- a `when`, from its value, what it captures in the frame behind that, and its block in the frame of the captured names
+pub resolved_when : {own : Bool} {f g : Frame} {t : Tree} {ts : Trees} {names : List Name} (r : Arc Code Global) (captured : Arc (Vec Capture Global) Global) (body : Arc (Vec Code Global) Global) → Resolves own f t r.value g → names ≡ when_captures ts pattern.Ignore none
+    → captured_names_of captured.value.items ≡ names → all_placed g captured.value.items → ResolvesBlock names ts body.value.items → Resolves own f (when_tree t ts) (code.When r captured body) g
+resolved_when {own = own} {f = f} r captured body a found named placed b = record {
+  tree = tree_of_code-When r captured body ∙ λ i. when_tree (a.tree i) (b.trees i);
+  fitting = transport (sym (fits-When own f r captured body)) (
+    a.fitting,
+    named ∙ found ∙ (λ i. when_captures (sym b.trees i) pattern.Ignore none),
+    subst (λ (e : Frame). all_placed e captured.value.items) (next_frame a) placed,
+    subst (λ (e : Frame). fits_all false e body.value.items) (sym named) b.fitting,
+  );
+  grown = a.grown;
+}
+
+-- the same with a handler, whose frame begins with the captured names too
+pub resolved_when_catch : {own : Bool} {f g k : Frame} {p q : Pattern} {t : Tree} {ts us : Trees} {names : List Name} (r : Arc Code Global) (captured : Arc (Vec Capture Global) Global) (body handler : Arc (Vec Code Global) Global) → q ≡ p → Resolves own f t r.value g → names ≡ when_captures ts p us
+    → captured_names_of captured.value.items ≡ names → all_placed g captured.value.items → ResolvesBlock names ts body.value.items → k ≡ names → ResolvesBlock (k ++ only_names (name_of p)) us handler.value.items → Resolves own f (when_catch_tree t ts p us) (code.WhenCatch r captured body q handler) g
+resolved_when_catch {own = own} {f = f} {q = q} r captured body handler bound a found named placed b same d = record {
+  tree = tree_of_code-WhenCatch r captured body q handler ∙ λ i. when_catch_tree (a.tree i) (b.trees i) (bound i) (d.trees i);
+  fitting = transport (sym (fits-WhenCatch own f r captured body q handler)) (
+    a.fitting,
+    named ∙ found ∙ (λ i. when_captures (sym b.trees i) (sym bound i) (sym d.trees i)),
+    subst (λ (e : Frame). all_placed e captured.value.items) (next_frame a) placed,
+    subst (λ (e : Frame). fits_all false e body.value.items) (sym named) b.fitting,
+    transport (λ i. fits_all false ((same ∙ sym named) i ++ only_names (name_of (sym bound i))) handler.value.items) d.fitting,
+  );
+  grown = a.grown;
 }
 
 -- one tree, and then others

@@ -39,11 +39,13 @@ pub record ResolvesMethod (frame : Frame) (m : Method) (c : MethodCode) : Type 0
   pub parameters : c.parameters.value.items ≡ m.parameters.value.items
   pub body : ResolvesBlock (frame ++ only_names (names_of_all m.parameters.value.items)) (trees_of m.body.value.items) c.body.value.items
 
--- the right side of a definition, a variable, an assignment and a throw
+-- the right side of a definition, a variable, an assignment, a throw, a broken reference and a state
 abbrev pub right_side : Expr → Option Expr
 right_side (tree.Def' pattern p e) = Some e
 right_side (tree.Var' x p e) = Some e
 right_side (tree.Assign' x p e) = Some e
 right_side (tree.DefList' patterns p e) = Some e
 right_side (tree.Throw' p e) = Some e
+right_side (tree.BreakRef' p e) = Some e
+right_side (tree.StateRef' p e) = Some e
 right_side _ = None

@@ -62,7 +62,7 @@ pub(crate) fn add_all_bound(
     Ok(())
 }
 
-/// Where each of these names is found when an object captures it.
+/// Where each of these names is found when an object or a `when` captures it.
 pub(crate) fn place_all(
     alloc: Global,
     names: &[Text],

@@ -1,7 +1,7 @@
 // Resolving a program: one small function for all constructs that have a right side alone, and one for each other. The frame
 // holds the names that stand where the walk is, the oldest first.
 ghost use Rattle.std.specs.Prelude.{◌≡◌, [], ◌++◌, Bool, IfOk, IsSome, OnOk, Some};
-ghost use Rattle.kernele.specs.Tree.{call, same_tree, if_tree, while_tree, for_tree, try_tree, object_tree, escape_tree};
+ghost use Rattle.kernele.specs.Tree.{call, same_tree, if_tree, while_tree, for_tree, try_tree, object_tree, escape_tree, send, when_tree, when_catch_tree};
 ghost use Rattle.kernele.specs.View.{tree_of, trees_of, methods_of, program_of};
 ghost use Rattle.scopes.specs.Scope.{name_of};
 ghost use Rattle.code.specs.View.{trees_of_codes};
@@ -15,7 +15,7 @@ use code::code::{Code, MethodCode};
 use code::index::index_many;
 use ids::text::Text;
 use kernele::tree::{Expr, Method, Pattern, Program};
-use scopes::captured_names;
+use scopes::{captured_by_when, captured_names};
 use std::alloc::{AllocError, Global};
 use std::sync::Arc;
 use values::verb::Verb;
@@ -58,7 +58,9 @@ fn resolve_expr(
         | Expr::Var(_, right)
         | Expr::Assign(_, right)
         | Expr::DefList(_, right)
-        | Expr::Throw(right) => resolve_right(alloc, e, right, own_scope, frame),
+        | Expr::Throw(right)
+        | Expr::BreakRef(right)
+        | Expr::StateRef(right) => resolve_right(alloc, e, right, own_scope, frame),
         Expr::Call(receiver, verb, args) => {
             resolve_call(alloc, receiver, verb, args, own_scope, frame)
         }
@@ -77,6 +79,14 @@ fn resolve_expr(
             resolve_object(alloc, pattern, methods, own_scope, frame)
         }
         Expr::Escape(name, body) => resolve_escape(alloc, name, body, frame),
+        Expr::Send(receiver, verb, args) => {
+            resolve_send(alloc, receiver, verb, args, own_scope, frame)
+        }
+        Expr::When(value, body) => resolve_when(alloc, value, body, own_scope, frame),
+        Expr::WhenCatch(value, body, pattern, handler) => {
+            resolve_when_catch(alloc, value, body, pattern, handler, own_scope, frame)
+        }
+        Expr::NewPromise => Ok(Code::NewPromise),
     }
 }
 
@@ -190,6 +200,8 @@ fn with_right(
             Ok(Code::DefList(Arc::try_clone(patterns)?, right))
         }
         Expr::Throw(_) => Ok(Code::Throw(right)),
+        Expr::BreakRef(_) => Ok(Code::BreakRef(right)),
+        Expr::StateRef(_) => Ok(Code::StateRef(right)),
         _ => unreachable!(),
     }
 }
@@ -208,6 +220,22 @@ fn resolve_call(
     let receiver = resolve_part(alloc, receiver, own_scope, frame)?;
     let args = resolve_row(alloc, args, own_scope, frame)?;
     Ok(Code::Call(receiver, Verb::new(verb.share()?), args))
+}
+
+#[cycle(resolve)]
+fn resolve_send(
+    alloc: Global,
+    receiver: &Arc<Expr>,
+    verb: &Text,
+    args: &Arc<Vec<Expr>>,
+    own_scope: bool,
+    frame: &mut Vec<Text>,
+) -> Result<Code, AllocError>
+    ensures { IfOk result (λ c. Resolves own_scope frame.old.items (send (tree_of receiver.now.value) verb.now (trees_of args.now.value.items)) c frame.new.items) }
+{
+    let receiver = resolve_part(alloc, receiver, own_scope, frame)?;
+    let args = resolve_row(alloc, args, own_scope, frame)?;
+    Ok(Code::Send(receiver, Verb::new(verb.share()?), args))
 }
 
 #[cycle(resolve)]
@@ -326,6 +354,51 @@ fn resolve_object(
         Arc::new(alloc, captures)?,
         Arc::new(alloc, methods)?,
         index,
+    ))
+}
+
+/// A `when` finds what it captures in the frame behind its value; its block begins with those names.
+#[cycle(resolve)]
+fn resolve_when(
+    alloc: Global,
+    value: &Arc<Expr>,
+    body: &Arc<Vec<Expr>>,
+    own_scope: bool,
+    frame: &mut Vec<Text>,
+) -> Result<Code, AllocError>
+    ensures { IfOk result (λ c. Resolves own_scope frame.old.items (when_tree (tree_of value.now.value) (trees_of body.now.value.items)) c frame.new.items) }
+{
+    let value = resolve_part(alloc, value, own_scope, frame)?;
+    let mut inside = captured_by_when(alloc, body, &Pattern::Ignore, &[])?;
+    let captures = place_all(alloc, &inside, frame)?;
+    let body = resolve_block(alloc, body, &mut inside)?;
+    Ok(Code::When(value, Arc::new(alloc, captures)?, body))
+}
+
+/// The same of one with a handler, which begins with the captured names too, and with what the problem is bound to.
+#[cycle(resolve)]
+fn resolve_when_catch(
+    alloc: Global,
+    value: &Arc<Expr>,
+    body: &Arc<Vec<Expr>>,
+    pattern: &Pattern,
+    handler: &Arc<Vec<Expr>>,
+    own_scope: bool,
+    frame: &mut Vec<Text>,
+) -> Result<Code, AllocError>
+    ensures { IfOk result (λ c. Resolves own_scope frame.old.items (when_catch_tree (tree_of value.now.value) (trees_of body.now.value.items) pattern.now (trees_of handler.now.value.items)) c frame.new.items) }
+{
+    let value = resolve_part(alloc, value, own_scope, frame)?;
+    let mut inside = captured_by_when(alloc, body, pattern, handler)?;
+    let captures = place_all(alloc, &inside, frame)?;
+    let body = resolve_block(alloc, body, &mut inside)?;
+    let handler = resolve_bound_block(alloc, pattern, handler, &mut inside)?;
+    Ok(Code::WhenCatch(
+        value,
+        Arc::new(alloc, captures)?,
+        body,
+        pattern.share()?,
+        handler,
     ))
 }
 

@@ -1,8 +1,8 @@
 -- What a construct does to names, part after part: the parts from the references to them, what the parts give together, and how deep they are.
 use Rattle.std.proofs.Common.{◌≡◌, ◌⊎◌, inl, inr, ℕ, zero, suc, ◌+◌, ◌<◌, ◌≤◌, max, List, [], ◌∷◌, ◌++◌, Ok, Err, length, get_or, drop, ap, sym, refl, ◌∙◌, arith, append-nil, append_assoc}
-use Rattle.kernele.specs.Tree.{Tree, null_tree, bool_tree, int_tree, text_tree, noun, define, variable, assign, call, list_tree, same_tree, define_list, hide, if_tree, while_tree, for_tree, try_tree, throw_tree, object_tree, escape_tree}
+use Rattle.kernele.specs.Tree.{Tree, null_tree, bool_tree, int_tree, text_tree, noun, define, variable, assign, call, list_tree, same_tree, define_list, hide, if_tree, while_tree, for_tree, try_tree, throw_tree, object_tree, escape_tree, send, when_tree, when_catch_tree, new_promise, break_ref, state_ref}
 use Rattle.kernele.specs.View.{tree_of, trees_of, methods_of}
-use Rattle.kernele.proofs.Walks.{tree_is_hide, tree_is_if, tree_is_while, tree_is_for, tree_is_try, trees_from, methods_from, no_trees_from, no_methods_from}
+use Rattle.kernele.proofs.Walks.{tree_is_call, tree_is_hide, tree_is_if, tree_is_while, tree_is_for, tree_is_try, tree_is_send, tree_is_when, tree_is_when_catch, trees_from, methods_from, no_trees_from, no_methods_from}
 use Rattle.kernele.specs.declared.tree.Expr as code
 use Rattle.kernele.specs.declared.tree.Expr.{Expr}
 use Rattle.kernele.specs.declared.tree.Method.{Method}
@@ -12,7 +12,7 @@ use Rattle.std.specs.declared.vec.Vec.{Vec}
 use Rattle.std.specs.declared.alloc.Global.{Global}
 use Rattle.scopes.specs.Scope.{Scopes, Checked, in_turn, checked, nodes, depth, depth_in, depth_of, own_names}
 use Rattle.scopes.specs.Free.{free}
-use Rattle.scopes.specs.Parts.{no_names_bound, pattern_bound, Part, nothing, block, first, second, third, part_checked, part_names, part_free, part_nodes, part_depth}
+use Rattle.scopes.specs.Parts.{no_names_bound, pattern_bound, Part, nothing, evaluate_all, block, first, second, third, part_checked, part_names, part_free, part_nodes, part_depth}
 use Rattle.scopes.specs.declared.naming.TopName.{TopName}
 
 -- the first part of what begins with a block that begins with no names
@@ -21,12 +21,15 @@ pub first_is_block : {e : Expr} {v : Vec Expr Global} {xs : List Expr} (body : A
 first_is_block body (inl is) held slice = sym (ap first (tree_is_hide body is held slice))
 first_is_block body (inr is) held slice = sym (ap first (tree_is_try body is.0 is.1 is.2 held slice refl refl refl))
 
--- the second part of what has such a block behind a condition
+-- the second part of what has such a block behind an expression
 pub second_is_block : {e : Expr} {v : Vec Expr Global} {xs : List Expr} (body : Arc (Vec Expr Global) Global)
-    → ((c : Arc Expr Global) × (other : Arc (Vec Expr Global) Global) × (e ≡ code.If c body other)) ⊎ ((c : Arc Expr Global) × (e ≡ code.While c body))
+    → ((c : Arc Expr Global) × (other : Arc (Vec Expr Global) Global) × (e ≡ code.If c body other))
+    ⊎ (((c : Arc Expr Global) × (e ≡ code.While c body)) ⊎ (((c : Arc Expr Global) × (e ≡ code.When c body)) ⊎ ((c : Arc Expr Global) × (p : Pattern) × (handler : Arc (Vec Expr Global) Global) × (e ≡ code.WhenCatch c body p handler))))
     → v ≡ body.value → xs ≡ v.items → block no_names_bound (trees_of xs) ≡ second (tree_of e)
 second_is_block body (inl is) held slice = sym (ap second (tree_is_if is.0 body is.1 is.2 refl held slice refl refl))
-second_is_block body (inr is) held slice = sym (ap second (tree_is_while is.0 body is.1 refl held slice))
+second_is_block body (inr (inl is)) held slice = sym (ap second (tree_is_while is.0 body is.1 refl held slice))
+second_is_block body (inr (inr (inl is))) held slice = sym (ap second (tree_is_when is.0 body is.1 refl held slice))
+second_is_block body (inr (inr (inr is))) held slice = sym (ap second (tree_is_when_catch is.0 body is.1 is.2 is.3 refl held slice refl refl refl))
 
 -- the second part of what has a block that begins with a pattern
 pub second_is_bound_block : {e : Expr} {v : Vec Expr Global} {xs : List Expr} (p : Pattern) (body : Arc (Vec Expr Global) Global)
@@ -34,6 +37,13 @@ pub second_is_bound_block : {e : Expr} {v : Vec Expr Global} {xs : List Expr} (p
     → v ≡ body.value → xs ≡ v.items → block (pattern_bound p) (trees_of xs) ≡ second (tree_of e)
 second_is_bound_block p body (inl is) held slice = sym (ap second (tree_is_for p is.0 body is.1 refl refl held slice))
 second_is_bound_block p body (inr is) held slice = sym (ap second (tree_is_try is.0 p body is.1 refl refl refl held slice))
+
+-- the second part of what has arguments
+pub second_is_arguments : {e : Expr} {v : Vec Expr Global} {xs : List Expr} (args : Arc (Vec Expr Global) Global)
+    → ((r : Arc Expr Global) × (verb : List ℕ) × (e ≡ code.Call r verb args)) ⊎ ((r : Arc Expr Global) × (verb : List ℕ) × (e ≡ code.Send r verb args))
+    → v ≡ args.value → xs ≡ v.items → evaluate_all (trees_of xs) ≡ second (tree_of e)
+second_is_arguments args (inl is) held slice = sym (ap second (tree_is_call is.0 is.1 args is.2 refl held slice))
+second_is_arguments args (inr is) held slice = sym (ap second (tree_is_send is.0 is.1 args is.2 refl held slice))
 
 -- what has nothing to do leaves what was checked before it
 ended : (r : Checked) → r ≡ in_turn r (part_checked nothing)
@@ -62,6 +72,12 @@ checked_in_parts (try_tree body p handler) s = ended _
 checked_in_parts (throw_tree e) s = ended _ ∙ ended _
 checked_in_parts (object_tree p ms) s = ended _
 checked_in_parts (escape_tree x body) s = ended _ ∙ ended _
+checked_in_parts (send r verb args) s = ended _
+checked_in_parts (when_tree e body) s = ended _
+checked_in_parts (when_catch_tree e body p handler) s = refl
+checked_in_parts new_promise s = refl
+checked_in_parts (break_ref e) s = ended _ ∙ ended _
+checked_in_parts (state_ref e) s = ended _ ∙ ended _
 
 -- the same from its first part on
 pub first_left : (t : Tree) (s : Scopes) {one : Part} → one ≡ first t → checked t s ≡ in_turn (in_turn (part_checked one s) (part_checked (second t))) (part_checked (third t))
@@ -97,6 +113,12 @@ names_in_parts (try_tree body p handler) = refl
 names_in_parts (throw_tree e) = simp append-nil
 names_in_parts (object_tree p ms) = simp append-nil
 names_in_parts (escape_tree x body) = refl
+names_in_parts (send r verb args) = simp append-nil
+names_in_parts (when_tree e body) = simp append-nil
+names_in_parts (when_catch_tree e body p handler) = simp append-nil
+names_in_parts new_promise = refl
+names_in_parts (break_ref e) = simp append-nil
+names_in_parts (state_ref e) = simp append-nil
 
 -- what the third part of a tree adds to the names of the others, the tree adds
 pub names_left : (t : Tree) (was : List TopName) {one two three : Part} {now all : List TopName} → one ≡ first t → now ≡ was ++ part_names one → two ≡ second t → all ≡ now ++ part_names two → three ≡ third t → all ++ part_names three ≡ was ++ own_names t
@@ -129,6 +151,12 @@ free_in_parts (try_tree body p handler) bs = simp append-nil
 free_in_parts (throw_tree e) bs = simp append-nil
 free_in_parts (object_tree p ms) bs = simp append-nil
 free_in_parts (escape_tree x body) bs = simp append-nil
+free_in_parts (send r verb args) bs = simp append-nil
+free_in_parts (when_tree e body) bs = simp append-nil
+free_in_parts (when_catch_tree e body p handler) bs = simp append-nil
+free_in_parts new_promise bs = refl
+free_in_parts (break_ref e) bs = simp append-nil
+free_in_parts (state_ref e) bs = simp append-nil
 
 -- a tree is a node, and what its parts have
 pub nodes_in_parts : (t : Tree) → nodes t ≡ 1 + (part_nodes (first t) + (part_nodes (second t) + part_nodes (third t)))
@@ -152,6 +180,12 @@ nodes_in_parts (try_tree body p handler) = omega arith
 nodes_in_parts (throw_tree e) = omega arith
 nodes_in_parts (object_tree p ms) = omega arith
 nodes_in_parts (escape_tree x body) = omega arith
+nodes_in_parts (send r verb args) = omega arith
+nodes_in_parts (when_tree e body) = omega arith
+nodes_in_parts (when_catch_tree e body p handler) = omega arith
+nodes_in_parts new_promise = omega arith
+nodes_in_parts (break_ref e) = omega arith
+nodes_in_parts (state_ref e) = omega arith
 
 -- its parts stand below it
 pub depth_in_parts : (t : Tree) → depth t ≡ 1 + max (part_depth (first t)) (max (part_depth (second t)) (part_depth (third t)))
@@ -175,6 +209,12 @@ depth_in_parts (try_tree body p handler) = omega arith
 depth_in_parts (throw_tree e) = omega arith
 depth_in_parts (object_tree p ms) = omega arith
 depth_in_parts (escape_tree x body) = omega arith
+depth_in_parts (send r verb args) = omega arith
+depth_in_parts (when_tree e body) = omega arith
+depth_in_parts (when_catch_tree e body p handler) = omega arith
+depth_in_parts new_promise = omega arith
+depth_in_parts (break_ref e) = omega arith
+depth_in_parts (state_ref e) = omega arith
 
 pub first_is_lower : (t : Tree) → part_depth (first t) < depth t
 first_is_lower t = let is = depth_in_parts t in omega arith

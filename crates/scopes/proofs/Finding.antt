@@ -124,3 +124,11 @@ without_none (y ∷ ys) = ap (λ zs. y ∷ zs) (without_none ys)
 -- names found one by one are the distinct names
 pub found_all : (ys : List Name) → with_all_new [] ys ≡ distinct ys
 found_all ys = all_new [] ys ∙ without_none (distinct ys)
+
+-- what is found in two blocks, one after the other, where nothing was defined or found before, is distinct in both
+pub found_in_two : {inside after : List TopName} {start now last : List Name} (one two : List TopName → List Name) → inside ≡ [] → start ≡ [] → after ≡ inside → now ≡ with_all_new start (one inside) → last ≡ with_all_new now (two after) → last ≡ distinct (one [] ++ two [])
+found_in_two {now = now} one two begins fresh stays found found' =
+    found' ∙ ap (λ bs. with_all_new now (two bs)) (stays ∙ begins)
+    ∙ ap (λ names. with_all_new names (two [])) (found ∙ λ i. with_all_new (fresh i) (one (begins i)))
+    ∙ sym (all_new_two [] (one []) (two []))
+    ∙ found_all (one [] ++ two [])

@@ -5,3 +5,4 @@ pub mod Growth
 pub mod Finding
 pub mod Constructs
 pub mod Methods
+pub mod Told

@@ -10,7 +10,7 @@ use Rattle.std.specs.Str.{bytes_eq}
 use Rattle.std.specs.BTreeMap.{BTreeMap, Updates, IsEmpty, is_at}
 use Rattle.std.specs.Map.{lookup}
 use Rattle.kernele.specs.Tree.{Name}
-use Rattle.scopes.specs.Scope.{Names, Scopes, no_names, names_in, with_name, with_names, added, Checked, duplicate_name}
+use Rattle.scopes.specs.Scope.{Names, Scopes, no_names, with_name, with_names, added, Checked, duplicate_name}
 use Rattle.scopes.specs.Check.{names_of, scopes_of, scopes_with}
 use Rattle.scopes.specs.declared.naming.Kind.{Kind}
 use Rattle.scopes.specs.declared.naming.TopName.{TopName}
@@ -57,9 +57,9 @@ gathers all one law old new t xs i x h e same put =
     left : drop i xs ≡ get_or xs i x ∷ drop (i + 1) xs
     left = rw add-one (drop-cons xs i x h)
 
--- at the end it has them all
-pub gathered : {A : Type 0} (all : List A → List TopName) → all [] ≡ [] → (names : BTreeMap Name Kind) (xs : List A) (i : ℕ) → length xs ≤ i → with_names (all (drop i xs)) (names_of names) ≡ names_in (all xs) → names_of names ≡ names_in (all xs)
-gathered all law names xs i h invariant = sym (ap (λ us. with_names us (names_of names)) (ap all (drop_all i xs h) ∙ law)) ∙ invariant
+-- at the end it has them all, on top of those that it began with
+pub gathered : {A : Type 0} (all : List A → List TopName) → all [] ≡ [] → (base : Names) (names : BTreeMap Name Kind) (xs : List A) (i : ℕ) → length xs ≤ i → with_names (all (drop i xs)) (names_of names) ≡ with_names (all xs) base → names_of names ≡ with_names (all xs) base
+gathered all law base names xs i h invariant = sym (ap (λ us. with_names us (names_of names)) (ap all (drop_all i xs h) ∙ law)) ∙ invariant
 
 -- where a program begins, it has defined nothing yet
 pub fresh : (outer : Bor Outer) (defined : BTreeMap Name Kind) → IsEmpty defined → scopes_with (around.Program outer) (names_of defined) ≡ scopes_of outer.now

@@ -2,7 +2,7 @@
 use Rattle.std.specs.Prelude.{◌≡◌, ℕ, ◌+◌, max, List, [], ◌∷◌, ◌++◌, map, Option, Some, None, is_some, nat_lt, nat_eq, length, Bool, true, false, Result, Ok, Err, if◌then◌else◌}
 use Rattle.std.specs.Option.{option_or}
 use Rattle.std.specs.Str.{bytes_eq}
-use Rattle.kernele.specs.Tree.{Name, Tree, null_tree, bool_tree, int_tree, text_tree, noun, define, variable, assign, call, list_tree, same_tree, define_list, hide, if_tree, while_tree, for_tree, try_tree, throw_tree, object_tree, escape_tree, Trees, none, and_then, Methods, no_methods, and_method}
+use Rattle.kernele.specs.Tree.{Name, Tree, null_tree, bool_tree, int_tree, text_tree, noun, define, variable, assign, call, list_tree, same_tree, define_list, hide, if_tree, while_tree, for_tree, try_tree, throw_tree, object_tree, escape_tree, send, when_tree, when_catch_tree, new_promise, break_ref, state_ref, Trees, none, and_then, Methods, no_methods, and_method}
 use Rattle.kernele.specs.declared.tree.Pattern.{Pattern}
 use Rattle.kernele.specs.declared.tree.Pattern.TheVariants as pattern
 use Rattle.scopes.specs.declared.naming.Kind.{Kind}
@@ -32,6 +32,12 @@ abbrev mutual
   nodes (throw_tree e) = 1 + nodes e
   nodes (object_tree p ms) = 1 + nodes_of ms
   nodes (escape_tree x body) = 1 + nodes_in body
+  nodes (send r verb args) = 1 + nodes r + nodes_in args
+  nodes (when_tree e body) = 1 + nodes e + nodes_in body
+  nodes (when_catch_tree e body p handler) = 1 + nodes e + nodes_in body + nodes_in handler
+  nodes new_promise = 1
+  nodes (break_ref e) = 1 + nodes e
+  nodes (state_ref e) = 1 + nodes e
 
   pub nodes_in : Trees → ℕ
   nodes_in none = 0
@@ -64,6 +70,12 @@ abbrev mutual
   depth (throw_tree e) = 1 + depth e
   depth (object_tree p ms) = 1 + depth_of ms
   depth (escape_tree x body) = 1 + depth_in body
+  depth (send r verb args) = 1 + max (depth r) (depth_in args)
+  depth (when_tree e body) = 1 + max (depth e) (depth_in body)
+  depth (when_catch_tree e body p handler) = 1 + max (depth e) (max (depth_in body) (depth_in handler))
+  depth new_promise = 1
+  depth (break_ref e) = 1 + depth e
+  depth (state_ref e) = 1 + depth e
 
   pub depth_in : Trees → ℕ
   depth_in none = 0
@@ -115,9 +127,10 @@ pub record Scopes : Type 0 where
 abbrev pub script_scopes : List Name → Scopes
 script_scopes earlier = record { own = names_in (definitions earlier); around = no_names }
 
--- an asked program stands in a scope of its own, inside one that has the names of its vat
-abbrev pub asked_scopes : List TopName → Scopes
-asked_scopes known = record { own = no_names; around = names_in known }
+-- an asked program stands in a scope of its own, inside one that has the names of the vats before its own and those that the script of
+-- its vat defined
+abbrev pub asked_scopes : List Name → List TopName → Scopes
+asked_scopes earlier tops = record { own = no_names; around = with_names tops (names_in (definitions earlier)) }
 
 -- why a program is refused
 pub data Refusal : Type 0 where
@@ -204,7 +217,8 @@ abbrev pub new_method : List Signature → Signature → Scopes → Checked
 new_method earlier m s = if has_signature earlier m then Err (duplicate_name m.0) else Ok s
 
 -- the names of an expression, in the order in which it is evaluated: a receiver before its arguments, those from the left,
--- a condition before its blocks, a list before the body, a body before its handler, an object's own name before its methods;
+-- a condition before its blocks, a list before the body, what a `when` waits for before its blocks, a body before its handler,
+-- an object's own name before its methods;
 -- each block is a scope of its own, which begins with the names of its patterns
 abbrev mutual
   pub checked : Tree → Scopes → Checked
@@ -228,6 +242,12 @@ abbrev mutual
   checked (throw_tree e) s = checked e s
   checked (object_tree p ms) s = in_turn (bound p s) (checked_methods [] ms)
   checked (escape_tree x body) s = in_block (checked_with (pattern.Name x) (checked_all body)) s
+  checked (send r verb args) s = in_turn (checked r s) (checked_all args)
+  checked (when_tree e body) s = in_turn (checked e s) (in_block (checked_all body))
+  checked (when_catch_tree e body p handler) s = in_turn (in_turn (checked e s) (in_block (checked_all body))) (in_block (checked_with p (checked_all handler)))
+  checked new_promise s = Ok s
+  checked (break_ref e) s = checked e s
+  checked (state_ref e) s = checked e s
 
   pub checked_all : Trees → Scopes → Checked
   checked_all none s = Ok s
@@ -278,6 +298,12 @@ abbrev mutual
   own_names (throw_tree e) = own_names e
   own_names (object_tree p ms) = name_of p
   own_names (escape_tree x body) = []
+  own_names (send r verb args) = own_names r ++ own_names_in args
+  own_names (when_tree e body) = own_names e
+  own_names (when_catch_tree e body p handler) = own_names e
+  own_names new_promise = []
+  own_names (break_ref e) = own_names e
+  own_names (state_ref e) = own_names e
 
   pub own_names_in : Trees → List TopName
   own_names_in none = []

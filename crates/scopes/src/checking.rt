@@ -2,7 +2,7 @@
 ghost use Rattle.std.specs.Prelude.{◌≡◌, ◌++◌, [], map, false, Some, Ok, IsOk, IfOk, IfErr, OnOk, MatchResult};
 ghost use Rattle.std.specs.Fmt.{WritesOnOk};
 ghost use Rattle.kernele.specs.View.{tree_of, trees_of, methods_of, program_of};
-ghost use Rattle.scopes.specs.Scope.{checked, checked_all, checked_methods, checked_program, found, assigned, added, bound, all_bound, entered, in_block, same_signature, has_signature, script_scopes, asked_scopes, kind_in, with_name};
+ghost use Rattle.scopes.specs.Scope.{checked, checked_all, checked_methods, checked_program, found, assigned, added, bound, all_bound, entered, in_block, same_signature, has_signature, script_scopes, asked_scopes, names_in, definitions, kind_in, with_name};
 ghost use Rattle.scopes.specs.Check.{Gives, Refuses, fault_text, MayRefuse, names_of, scopes_of, scopes_in, scopes_with, signature_of};
 ghost use Rattle.scopes.specs.Parts.{part_checked, part_in, binding_checked, binding_in, checked_behind};
 ghost use Rattle.scopes.specs.declared.checking.CheckFault.TheVariants.{Memory};
@@ -85,6 +85,17 @@ impl<T: Drop> From<AllocFailed<T>> for CheckFault {
     }
 }
 
+/// The names of earlier vats, which are no variables.
+fn names_of_vats(alloc: Global, earlier: &[Text]) -> Result<BTreeMap<Text, Kind>, AllocError>
+    ensures { IfOk result (λ names. names_of names ≡ names_in (definitions earlier.now)) }
+{
+    let mut names = BTreeMap::new(alloc);
+    for name in earlier {
+        names.insert(name.share()?, Kind::Definition)?;
+    }
+    Ok(names)
+}
+
 /// The names that a program finds in scope.
 #[derive(Drop)]
 pub struct Outer {
@@ -99,20 +110,17 @@ impl Outer {
     pub fn for_script(alloc: Global, earlier: &[Text]) -> Result<Outer, AllocError>
         ensures { IfOk result (λ outer. scopes_of outer ≡ script_scopes earlier.now) }
     {
-        let mut own = BTreeMap::new(alloc);
-        for name in earlier {
-            own.insert(name.share()?, Kind::Definition)?;
-        }
+        let own = names_of_vats(alloc, earlier)?;
         let around = BTreeMap::new(alloc);
         Ok(Outer { own, around })
     }
 
-    /// For an asked program, which may hide the names that its vat knows.
-    pub fn for_asked(alloc: Global, known: &[TopName]) -> Result<Outer, AllocError>
-        ensures { IfOk result (λ outer. scopes_of outer ≡ asked_scopes known.now) }
+    /// For an asked program, which may hide the names of the vats before its own, and those that the script of its vat defined.
+    pub fn for_asked(alloc: Global, earlier: &[Text], tops: &[TopName]) -> Result<Outer, AllocError>
+        ensures { IfOk result (λ outer. scopes_of outer ≡ asked_scopes earlier.now tops.now) }
     {
-        let mut around = BTreeMap::new(alloc);
-        for top in known {
+        let mut around = names_of_vats(alloc, earlier)?;
+        for top in tops {
             around.insert(top.name.share()?, top.kind)?;
         }
         let own = BTreeMap::new(alloc);

@@ -1,8 +1,8 @@
-// The names that an object captures.
+// The names that an object or a `when` captures.
 ghost use Rattle.std.specs.Prelude.{◌≡◌, ◌++◌, IfOk, OnOk};
 ghost use Rattle.kernele.specs.View.{tree_of, trees_of, methods_of};
 ghost use Rattle.scopes.specs.Scope.{own_names, own_names_in};
-ghost use Rattle.scopes.specs.Free.{captures, free, free_in, free_of, occurring, defines as defined_by, is_among as among_those};
+ghost use Rattle.scopes.specs.Free.{captures, when_captures, free, free_in, free_of, occurring, defines as defined_by, is_among as among_those, FreeNamesAreInScope, UnboundNamesAreFree};
 ghost use Rattle.scopes.specs.Found.{with_all_new};
 ghost use Rattle.scopes.specs.Parts.{part_in, part_names, part_free, binding_in, binding_names};
 
@@ -24,6 +24,23 @@ pub fn captured_names(
     let mut found = Vec::new(alloc);
     add_bound(pattern, &mut inside)?;
     find_in_methods(methods, &mut inside, &mut found)?;
+    Ok(found)
+}
+
+/// The names that a `when` with this block and this handler captures behind its value, each once, in the order in which they
+/// first occur in its text. Where it has no `catch`, the handler has no items.
+pub fn captured_by_when(
+    alloc: Global,
+    body: &[Expr],
+    pattern: &Pattern,
+    handler: &[Expr],
+) -> Result<Vec<Text>, AllocError>
+    ensures { IfOk result (λ names. names.items ≡ when_captures (trees_of body.now) pattern.now (trees_of handler.now)) }
+{
+    let mut inside = Vec::new(alloc);
+    let mut found = Vec::new(alloc);
+    find_in_block(Binding::Nothing, body, &mut inside, &mut found)?;
+    find_in_block(Binding::Pattern(pattern), handler, &mut inside, &mut found)?;
     Ok(found)
 }
 
@@ -160,3 +177,10 @@ fn is_among(names: &[Text], name: &Text) -> bool
     }
     false
 }
+
+/// The names that are free in a program are those that its check looks for in the scopes around it: where it passes, each of
+/// them is there, and one that is refused as unbound is one of them and is not there.
+pub fn checks_free_names()
+    ensures passed { FreeNamesAreInScope }
+    ensures unbound { UnboundNamesAreFree }
+{}

@@ -1,4 +1,4 @@
-//! What a program may name: its own names, the check of its scopes, size and depth, and what objects capture.
+//! What a program may name: its own names, the check of its scopes, size and depth, and what objects and whens capture.
 #![tactic(auto)]
 
 mod checking;
@@ -8,5 +8,5 @@ mod naming;
 mod parts;
 
 pub use checking::{CheckFault, Outer, check};
-pub use free::captured_names;
+pub use free::{captured_by_when, captured_names, checks_free_names};
 pub use naming::{Kind, TopName, adds_own_names, top_names};

@@ -39,7 +39,9 @@ pub(crate) fn first_part(e: &Expr) -> Part<'_>
     ensures { part_in result ≡ first (tree_of e.now) }
 {
     match e {
-        Expr::Null | Expr::Bool(_) | Expr::Int(_) | Expr::Text(_) => Part::Nothing,
+        Expr::Null | Expr::Bool(_) | Expr::Int(_) | Expr::Text(_) | Expr::NewPromise => {
+            Part::Nothing
+        }
         Expr::Noun(name) => Part::Noun(name),
         Expr::Assign(name, value) => Part::Target(name, value),
         Expr::Def(_, e)
@@ -50,7 +52,12 @@ pub(crate) fn first_part(e: &Expr) -> Part<'_>
         | Expr::If(e, _, _)
         | Expr::While(e, _)
         | Expr::For(_, e, _)
-        | Expr::Throw(e) => Part::Evaluate(e),
+        | Expr::Throw(e)
+        | Expr::Send(e, _, _)
+        | Expr::When(e, _)
+        | Expr::WhenCatch(e, _, _, _)
+        | Expr::BreakRef(e)
+        | Expr::StateRef(e) => Part::Evaluate(e),
         Expr::List(items) => Part::EvaluateAll(items),
         Expr::Hide(body) | Expr::Try(body, _, _) => Part::Block(Binding::Nothing, body),
         Expr::Object(pattern, _) => Part::Bind(Binding::Pattern(pattern)),
@@ -67,8 +74,11 @@ pub(crate) fn second_part(e: &Expr) -> Part<'_>
         Expr::Var(name, _) => Part::Bind(Binding::Variable(name)),
         Expr::DefList(patterns, _) => Part::Bind(Binding::Patterns(patterns)),
         Expr::Assign(_, e) | Expr::Same(_, e) => Part::Evaluate(e),
-        Expr::Call(_, _, args) => Part::EvaluateAll(args),
-        Expr::If(_, body, _) | Expr::While(_, body) => Part::Block(Binding::Nothing, body),
+        Expr::Call(_, _, args) | Expr::Send(_, _, args) => Part::EvaluateAll(args),
+        Expr::If(_, body, _)
+        | Expr::While(_, body)
+        | Expr::When(_, body)
+        | Expr::WhenCatch(_, body, _, _) => Part::Block(Binding::Nothing, body),
         Expr::For(pattern, _, body) | Expr::Try(_, pattern, body) => {
             Part::Block(Binding::Pattern(pattern), body)
         }
@@ -81,7 +91,10 @@ pub(crate) fn second_part(e: &Expr) -> Part<'_>
         | Expr::List(_)
         | Expr::Hide(_)
         | Expr::Throw(_)
-        | Expr::Escape(_, _) => Part::Nothing,
+        | Expr::Escape(_, _)
+        | Expr::NewPromise
+        | Expr::BreakRef(_)
+        | Expr::StateRef(_) => Part::Nothing,
     }
 }
 
@@ -92,6 +105,9 @@ pub(crate) fn third_part(e: &Expr) -> Part<'_>
     match e {
         Expr::Assign(name, _) => Part::Assign(name),
         Expr::If(_, _, body) => Part::Block(Binding::Nothing, body),
+        Expr::WhenCatch(_, _, pattern, handler) => {
+            Part::Block(Binding::Pattern(pattern), handler)
+        }
         Expr::Null
         | Expr::Bool(_)
         | Expr::Int(_)
@@ -109,6 +125,11 @@ pub(crate) fn third_part(e: &Expr) -> Part<'_>
         | Expr::Try(_, _, _)
         | Expr::Throw(_)
         | Expr::Object(_, _)
-        | Expr::Escape(_, _) => Part::Nothing,
+        | Expr::Escape(_, _)
+        | Expr::Send(_, _, _)
+        | Expr::When(_, _)
+        | Expr::NewPromise
+        | Expr::BreakRef(_)
+        | Expr::StateRef(_) => Part::Nothing,
     }
 }

@@ -10,17 +10,23 @@ use Rattle.ereader.specs.Texts as texts
 use Rattle.ereader.specs.Shown as reading
 use Rattle.ereader.specs.declared.fault.ReadFault.{ReadFault}
 use Rattle.ereader.specs.declared.fault.ReadFault.TheVariants as read_fault
-use Rattle.post.specs.Events.{birth, ask}
-use Rattle.event.specs.Events.{Turn, birth_foot, ask_foot}
+use Rattle.worldcells.specs.Events.{birth, ask, arrive, forward, learn}
+use Rattle.event.specs.Events.{Foot, Turn, birth_foot, ask_foot}
+use Rattle.post.specs.Messages.{Vat}
+use Rattle.deliveries.specs.Turn.{Told}
+use Rattle.agenda.specs.declared.agenda.Step.{Step}
+use Rattle.agenda.specs.declared.agenda.Step.TheVariants as step
 use Rattle.journal.specs.Lines.{Line}
 use Rattle.causality.specs.Exact.{Cone}
-use Rattle.book.specs.Refusals.{Refusal, no_vat, name_taken, no_message, not_there, before, full, stale, vat_out, no_ticket, no_event, no_position, not_live, still_live, not_closed, crossed, cause_missing, dependent, bad_budget, unchecked}
-use Rattle.book.specs.Refusals.{birth_refusal, ask_refusal, checkout_refusal, undo_refusal, redo_refusal, cone_refusal, exchange_refusal}
+use Rattle.book.specs.Refusals.{Refusal, no_vat, name_taken, no_message, not_there, not_ready, before, nothing_to_learn, full, stale, vat_out, no_ticket, no_event, no_position, not_live, still_live, not_closed, crossed, cause_missing, dependent, bad_budget, unchecked}
+use Rattle.book.specs.Refusals.{birth_refusal, ask_refusal, arrival_refusal, forward_refusal, learning_refusal, checkout_refusal, undo_refusal, redo_refusal, cone_refusal, exchange_refusal}
 use Rattle.book.specs.Books.{Book, blank}
 use Rattle.book.specs.Calls.{EntersNext, TurnsNext, Undoes, Redoes, Exchanges, StoodAt}
 use Rattle.ids.specs.declared.names.EventName.{EventName}
 use Rattle.ids.specs.declared.names.MsgId.{MsgId}
-use Rattle.erules.specs.Outcomes.{End}
+use Rattle.ids.specs.declared.names.PromId.{PromId}
+use Rattle.commands.specs.declared.numbers.PromiseName.{PromiseName}
+use Rattle.book.specs.Learning.{LearnsNamed, TellsNamed}
 use Rattle.ids.specs.declared.names.VatNo.{VatNo}
 use Rattle.book.specs.Fault as book
 use Rattle.book.specs.Fault.{Tells, check_tells, Unturned}
@@ -33,8 +39,10 @@ use Rattle.commands.specs.Commands as commands
 use Rattle.commands.specs.Commands.{Spelled, spelled_by, fault_text}
 use Rattle.commands.specs.Scripts.{script_of, behind_lines, fault_of}
 use Rattle.commands.specs.declared.command.LineFault.{LineFault}
-use Rattle.stepper.specs.Replies.{refused, refusal_text, Answers, ask_without_memory, asked_without_memory, asked_unread, ask_refused, turn_without_memory, turn_without_memory_named, turn_refused, count_of, undone_text, redone_text, listed, cone_found, undo_cone_found, cone_without_memory, cone_refused, undo_without_memory, undo_refused, undo_accepted, undo_cone_without_memory, undo_cone_refused, redo_without_memory, redo_refused, redo_accepted, exchange_without_memory, exchange_refused, exchange_accepted, exchanged_text, AnswersBirth, birth_without_memory, script_without_memory, script_unread, birth_refused, birth_accepted, ask_accepted, turn_accepted, queued_text, turned_text, FirstReply, born, answered, skipped, script_refused, said, said_by, Replies, first_and_more, no_more}
+use Rattle.stepper.specs.Replies.{refused, refusal_text, Answers, ask_without_memory, asked_without_memory, asked_unread, ask_refused, Moves, move_without_memory, arrival_refused, arrives, forwarding_refused, forwards, turn_without_memory_named, turn_refused, turns, learning_refused, learns, learn_without_memory, learn_refused, learn_accepted, EnabledIn, enabled, enabled_without_memory, done_text, count_of, undone_text, redone_text, listed, cone_found, undo_cone_found, cone_without_memory, cone_refused, undo_without_memory, undo_refused, undo_accepted, undo_cone_without_memory, undo_cone_refused, redo_without_memory, redo_refused, redo_accepted, exchange_without_memory, exchange_refused, exchange_accepted, exchanged_text, AnswersBirth, birth_without_memory, script_without_memory, script_unread, birth_refused, birth_accepted, ask_accepted, queued_text, turned_text, FirstReply, born, answered, skipped, script_refused, said, said_by, Replies, first_and_more, no_more}
 use Rattle.stepper.specs.Listing.{journal_text, cone_text}
+use Rattle.stepper.specs.Steps.{ShowsEnabled}
+use Rattle.worldcells.specs.World.{World}
 use Rattle.commands.specs.Lines.{line_of, behind_line}
 
 -- what holds where a call succeeded leads to more
@@ -56,6 +64,8 @@ told (fault.NoVat x) o T h g m = g (no_vat x) h
 told (fault.NameTaken x) o T h g m = g (name_taken x) h
 told (fault.NoMessage x) o T h g m = g (no_message x) h
 told fault.NotThere o T h g m = g not_there h
+told fault.NotReady o T h g m = g not_ready h
+told fault.NothingToLearn o T h g m = g nothing_to_learn h
 told (fault.Before x) o T h g m = g (before x) h
 told fault.Full o T h g m = g full h
 told (fault.NoEvent e) o T h g m = g (no_event e) h
@@ -92,15 +102,47 @@ module _ (budget : ℕ) (b : Book) where
   pub ask_not_read : (x text : List ℕ) (f : ReadFault) → texts.Answers text (Err f) → Answers budget b (commands.ask x text) (refused (reading.shown f)) true b
   ask_not_read x text f h = unread f text (λ words. Answers budget b (commands.ask x text) (refused words) true b) h (λ k. asked_unread k) asked_without_memory
 
-  pub turn_told : (m : MsgId) (f : BookFault) → Tells f (checkout_refusal b m budget) → Answers budget b (commands.turn m) (refused (book.fault_text f)) true b
-  turn_told m f t = told f (checkout_refusal b m budget) (λ words. Answers budget b (commands.turn m) (refused words) true b) t (λ r e. turn_refused e) turn_without_memory
+  -- a move that the book refuses
+  move_fails : {s : Step} (o : Option Refusal) → ((r : Refusal) → o ≡ Some r → Moves budget b s (refused (refusal_text r)) true b) → (f : BookFault) {d : Book} → Tells f o → d ≡ b
+      → Moves budget b s (refused (book.fault_text f)) true d
+  move_fails {s = s} o refuses f t stays =
+      subst (λ z. Moves budget b s (refused (book.fault_text f)) true z) (sym stays) (told f o (λ words. Moves budget b s (refused words) true b) t refuses move_without_memory)
 
-  pub birth_told : (x text : List ℕ) (program : Trees) (f : BookFault) → ReadAs text (Ok program) → Tells f (birth_refusal b x program)
-      → AnswersBirth b x (Ok text) (refused (book.fault_text f)) true b
-  birth_told x text program f h t = told f (birth_refusal b x program) (λ words. AnswersBirth b x (Ok text) (refused words) true b) t (λ r e. birth_refused h e) birth_without_memory
+  pub arrival_fails : {m : MsgId} (f : BookFault) {d : Book} → Tells f (arrival_refusal b m) → d ≡ b → Moves budget b (step.Arrive m) (refused (book.fault_text f)) true d
+  arrival_fails {m = m} f t stays = move_fails (arrival_refusal b m) (λ r e. arrival_refused e) f t stays
 
-  pub birth_not_read : (x text : List ℕ) (f : ReadFault) → texts.Answers text (Err f) → AnswersBirth b x (Ok text) (refused (reading.shown f)) true b
-  birth_not_read x text f h = unread f text (λ words. AnswersBirth b x (Ok text) (refused words) true b) h (λ k. script_unread k) script_without_memory
+  pub arrival_done : {m : MsgId} {e : EventName} {d : Book} → (arrival_refusal b m ≡ None) × ((f : Foot) × EntersNext (record { name = e; act = arrive m }) f 0 b d) → Moves budget b (step.Arrive m) (done_text e) false d
+  arrival_done (none, (f, enters)) = arrives none enters
+
+  pub forwarding_fails : {m : MsgId} (f : BookFault) {d : Book} → Tells f (forward_refusal b m) → d ≡ b → Moves budget b (step.Forward m) (refused (book.fault_text f)) true d
+  forwarding_fails {m = m} f t stays = move_fails (forward_refusal b m) (λ r e. forwarding_refused e) f t stays
+
+  pub forwarding_done : {m : MsgId} {e : EventName} {d : Book} → (forward_refusal b m ≡ None) × ((f : Foot) × EntersNext (record { name = e; act = forward m }) f 0 b d) → Moves budget b (step.Forward m) (done_text e) false d
+  forwarding_done (none, (f, enters)) = forwards none enters
+
+  pub learning_fails : {v : VatNo} {p : PromId} (f : BookFault) {d : Book} → Tells f (learning_refusal b v p) → d ≡ b → Moves budget b (step.Learn v p) (refused (book.fault_text f)) true d
+  learning_fails {v = v} {p = p} f t stays = move_fails (learning_refusal b v p) (λ r e. learning_refused e) f t stays
+
+  pub learning_done : {v : VatNo} {p : PromId} {e : EventName} {d : Book} → (learning_refusal b v p ≡ None) × ((f : Foot) × EntersNext (record { name = e; act = learn v p }) f 0 b d) → Moves budget b (step.Learn v p) (done_text e) false d
+  learning_done (none, (f, enters)) = learns none enters
+
+  -- a vat learns of a promise that is named without its home
+  pub learn_fails : {x y : List ℕ} {n : PromiseName} (f : BookFault) {d : Book} → y ≡ x → TellsNamed f b y n.event n.index → d ≡ b → Answers budget b (commands.learn x n) (refused (book.fault_text f)) true d
+  learn_fails {y = y} {n = n} f {d = d} same t stays =
+      subst (λ z. Answers budget b (commands.learn z n) (refused (book.fault_text f)) true d) same
+      (subst (λ z. Answers budget b (commands.learn y n) (refused (book.fault_text f)) true z) (sym stays)
+      (told f t.refusal (λ words. Answers budget b (commands.learn y n) (refused words) true b) t.tells (λ r e. learn_refused (t.refuses r e)) learn_without_memory))
+
+  pub learn_done : {x y : List ℕ} {n : PromiseName} {e : EventName} {d : Book} → y ≡ x → LearnsNamed y n.event n.index e b d → Answers budget b (commands.learn x n) (done_text e) false d
+  learn_done {n = n} {e = e} {d = d} same h = subst (λ z. Answers budget b (commands.learn z n) (done_text e) false d) same (learn_accepted h)
+
+  birth_told : (x : List ℕ) (earlier : List (List ℕ)) (text : List ℕ) (program : Trees) (f : BookFault) → ReadAs text (Ok program) → Tells f (birth_refusal b x earlier program)
+      → AnswersBirth b x earlier (Ok text) (refused (book.fault_text f)) true b
+  birth_told x earlier text program f h t =
+      told f (birth_refusal b x earlier program) (λ words. AnswersBirth b x earlier (Ok text) (refused words) true b) t (λ r e. birth_refused h e) birth_without_memory
+
+  pub birth_not_read : (x : List ℕ) (earlier : List (List ℕ)) (text : List ℕ) (f : ReadFault) → texts.Answers text (Err f) → AnswersBirth b x earlier (Ok text) (refused (reading.shown f)) true b
+  birth_not_read x earlier text f h = unread f text (λ words. AnswersBirth b x earlier (Ok text) (refused words) true b) h (λ k. script_unread k) script_without_memory
 
   pub ask_done : {x y text : List ℕ} {program : Trees} {e : EventName} {d : Book} → y ≡ x → ReadAs text (Ok program) → (ask_refusal b y program ≡ None) × ((v : VatNo) × EntersNext (record { name = e; act = ask y program }) (ask_foot e y v program) 0 b d)
       → Answers budget b (commands.ask x text) (queued_text e) false d
@@ -112,20 +154,24 @@ module _ (budget : ℕ) (b : Book) where
       subst (λ z. Answers budget b (commands.ask z text) (refused (book.fault_text f)) true d) same
       (subst (λ z. Answers budget b (commands.ask y text) (refused (book.fault_text f)) true z) (sym stays) (ask_told y text program f h t))
 
-  pub birth_done : {x y text : List ℕ} {program : Trees} {e : EventName} {d : Book} → y ≡ x → ReadAs text (Ok program) → (birth_refusal b y program ≡ None) × EntersNext (record { name = e; act = birth y program }) (birth_foot e y program) 0 b d
-      → AnswersBirth b x (Ok text) (queued_text e) false d
-  birth_done {text = text} {program = program} {e = e} {d = d} same h a = subst (λ z. AnswersBirth b z (Ok text) (queued_text e) false d) same (birth_accepted h a.0 a.1)
+  pub birth_done : {x y text : List ℕ} {xs ys : List (List ℕ)} {program : Trees} {e : EventName} {d : Book} → y ≡ x → ys ≡ xs → ReadAs text (Ok program)
+      → (birth_refusal b y ys program ≡ None) × ((vats : List Vat) × EntersNext (record { name = e; act = birth y ys program }) (birth_foot e y ys vats program) 0 b d)
+      → AnswersBirth b x xs (Ok text) (queued_text e) false d
+  birth_done {y = y} {text = text} {xs = xs} {e = e} {d = d} same sames h (none, (vats, enters)) =
+      subst (λ z. AnswersBirth b z xs (Ok text) (queued_text e) false d) same
+      (subst (λ zs. AnswersBirth b y zs (Ok text) (queued_text e) false d) sames (birth_accepted vats h none enters))
 
-  pub birth_fails : {x y text : List ℕ} {program : Trees} (f : BookFault) {d : Book} → y ≡ x → ReadAs text (Ok program) → Tells f (birth_refusal b y program) → d ≡ b
-      → AnswersBirth b x (Ok text) (refused (book.fault_text f)) true d
-  birth_fails {y = y} {text = text} {program = program} f {d = d} same h t stays =
-      subst (λ z. AnswersBirth b z (Ok text) (refused (book.fault_text f)) true d) same
-      (subst (λ z. AnswersBirth b y (Ok text) (refused (book.fault_text f)) true z) (sym stays) (birth_told y text program f h t))
+  pub birth_fails : {x y text : List ℕ} {xs ys : List (List ℕ)} {program : Trees} (f : BookFault) {d : Book} → y ≡ x → ys ≡ xs → ReadAs text (Ok program) → Tells f (birth_refusal b y ys program) → d ≡ b
+      → AnswersBirth b x xs (Ok text) (refused (book.fault_text f)) true d
+  birth_fails {y = y} {text = text} {xs = xs} {ys = ys} {program = program} f {d = d} same sames h t stays =
+      subst (λ z. AnswersBirth b z xs (Ok text) (refused (book.fault_text f)) true d) same
+      (subst (λ zs. AnswersBirth b y zs (Ok text) (refused (book.fault_text f)) true d) sames
+      (subst (λ z. AnswersBirth b y ys (Ok text) (refused (book.fault_text f)) true z) (sym stays) (birth_told y ys text program f h t)))
 
-  pub turn_done : {m : MsgId} {e : EventName} {d : Book} {o : End}
-      → (checkout_refusal b m budget ≡ None) × ((t : Turn) × TurnsNext e m budget t b d × (o ≡ t.outcome.end))
-      → Answers budget b (commands.turn m) (turned_text e o) false d
-  turn_done {m = m} {e = e} {d = d} (none, (t, turns, same)) = subst (λ z. Answers budget b (commands.turn m) (turned_text e z) false d) (sym same) (turn_accepted {t = t} none turns)
+  pub turn_done : {m : MsgId} {e : EventName} {d : Book} {o : Told}
+      → (checkout_refusal b m budget ≡ None) × ((t : Turn) × TurnsNext e m budget t b d × (o ≡ t.outcome.told))
+      → Moves budget b (step.Turn m) (turned_text e o) false d
+  turn_done {m = m} {e = e} {d = d} (none, (t, ran, same)) = subst (λ z. Moves budget b (step.Turn m) (turned_text e z) false d) (sym same) (turns {t = t} none ran)
 
   -- a refused turn leaves the book as it was, but for a name that was drawn without memory
   unturned : (f : BookFault) (d : Book) (T : Book → Type 0) → Unturned f b d → T b → (f ≡ fault.Memory → T (record b { next = b.next + 1 })) → T d
@@ -133,15 +179,26 @@ module _ (budget : ℕ) (b : Book) where
   unturned fault.Memory d T (inr e) here named = subst T (sym e) (named refl)
   unturned f d T e here named = subst T (sym e) here
 
-  named_told : {m : MsgId} (f : BookFault) → f ≡ fault.Memory → Answers budget b (commands.turn m) (refused (book.fault_text f)) true (record b { next = b.next + 1 })
-  named_told {m = m} f e = subst (λ g. Answers budget b (commands.turn m) (refused (book.fault_text g)) true (record b { next = b.next + 1 })) (sym e) turn_without_memory_named
+  named_told : {m : MsgId} (f : BookFault) → f ≡ fault.Memory → Moves budget b (step.Turn m) (refused (book.fault_text f)) true (record b { next = b.next + 1 })
+  named_told {m = m} f e = subst (λ g. Moves budget b (step.Turn m) (refused (book.fault_text g)) true (record b { next = b.next + 1 })) (sym e) turn_without_memory_named
 
-  pub turn_fails : {m : MsgId} (f : BookFault) {d : Book} → Tells f (checkout_refusal b m budget) → Unturned f b d → Answers budget b (commands.turn m) (refused (book.fault_text f)) true d
-  turn_fails {m = m} f {d = d} t stays = unturned f d (λ z. Answers budget b (commands.turn m) (refused (book.fault_text f)) true z) stays (turn_told m f t) (named_told {m = m} f)
+  pub turn_fails : {m : MsgId} (f : BookFault) {d : Book} → Tells f (checkout_refusal b m budget) → Unturned f b d → Moves budget b (step.Turn m) (refused (book.fault_text f)) true d
+  turn_fails {m = m} f {d = d} t stays =
+      unturned f d (λ z. Moves budget b (step.Turn m) (refused (book.fault_text f)) true z) stays (move_fails (checkout_refusal b m budget) (λ r e. turn_refused e) f t refl) (named_told {m = m} f)
 
   -- the journal as it is
   pub all_listed : {lines : List Line} → lines ≡ b.journal → Answers budget b commands.journal (journal_text lines) false b
   all_listed same = subst (λ ls. Answers budget b commands.journal (journal_text ls) false b) (sym same) listed
+
+  -- all that may be done, as the world shows it
+  pub all_enabled : {d : Book} {w : World} {steps found : List Step} {text : List ℕ} → d ≡ b → w ≡ d.world → steps ≡ found → EnabledIn b found → ShowsEnabled w steps text
+      → Answers budget b commands.enabled text false d
+  all_enabled {w = w} {found = found} {text = text} same world same_steps all shows =
+      subst (λ z. Answers budget b commands.enabled text false z) (sym same)
+      (enabled all (subst (λ z. ShowsEnabled z found text) (world ∙ ap (λ (z : Book). z.world) same) (subst (λ z. ShowsEnabled w z text) same_steps shows)))
+
+  pub none_enabled : {d : Book} → d ≡ b → Answers budget b commands.enabled (refused (codes "B20 Memory")) true d
+  none_enabled same = subst (λ z. Answers budget b commands.enabled (refused (codes "B20 Memory")) true z) (sym same) enabled_without_memory
 
   pub cone_done : {e : EventName} {names events : List EventName} → names ≡ events → (cone_refusal b.journal e ≡ None) × Cone b.journal e events
       → Answers budget b (commands.cone e) (cone_text names) false b
@@ -188,7 +245,7 @@ module _ (budget : ℕ) (b : Book) where
       → Answers budget b (commands.exchange position) (exchanged_text e f) false d
   exchange_done (none, exchanges, stood) = exchange_accepted none exchanges stood
 
-or_false : (s : Bool) → s ≡ (s || false)
+pub or_false : (s : Bool) → s ≡ (s || false)
 or_false true = refl
 or_false false = refl
 
@@ -201,13 +258,13 @@ pub happens_as : {old new : Engine} {P Q : Book → List ℕ → Bool → Book �
 happens_as f h = record { reply = h.reply; refusal = h.refusal; allowed = f _ _ _ _ h.allowed; adds = h.adds; budget = h.budget }
 
 -- the first line is a command for a vat
-pub born_at : (budget : ℕ) (b d : Book) (c : Spelled) (x : List ℕ) (lines : ℕ) (input rest reply : List ℕ) (refusal : Bool) (script : Result (List ℕ) LineFault)
-    → c ≡ commands.birth x lines → script ≡ script_of lines input → rest ≡ behind_lines lines input → AnswersBirth b x script reply refusal d
+pub born_at : (budget : ℕ) (b d : Book) (c : Spelled) (x : List ℕ) (earlier : List (List ℕ)) (lines : ℕ) (input rest reply : List ℕ) (refusal : Bool) (script : Result (List ℕ) LineFault)
+    → c ≡ commands.birth x earlier lines → script ≡ script_of lines input → rest ≡ behind_lines lines input → AnswersBirth b x earlier script reply refusal d
     → FirstReply budget b (Ok (Some c)) input reply refusal d rest
-born_at budget b d c x lines input rest reply refusal script e f g h =
+born_at budget b d c x earlier lines input rest reply refusal script e f g h =
     subst (λ z. FirstReply budget b (Ok (Some z)) input reply refusal d rest) (sym e)
-    (subst (λ z. FirstReply budget b (Ok (Some (commands.birth x lines))) input reply refusal d z) (sym g)
-    (born (subst (λ z. AnswersBirth b x z reply refusal d) f h)))
+    (subst (λ z. FirstReply budget b (Ok (Some (commands.birth x earlier lines))) input reply refusal d z) (sym g)
+    (born (subst (λ z. AnswersBirth b x earlier z reply refusal d) f h)))
 
 -- the first line is another command
 pub answered_at : (budget : ℕ) (b d : Book) (c a : Spelled) (input reply : List ℕ) (refusal : Bool) → c ≡ a → Answers budget b a reply refusal d → FirstReply budget b (Ok (Some c)) input reply refusal d input
@@ -221,8 +278,8 @@ answered_alone {old = old} c a input (Ok y) spelled is was same h =
 answered_alone c a input (Err e) spelled is was same h = absurd (cc)
 
 -- the script is refused
-pub refused_at : (b : Book) (x : List ℕ) (f : LineFault) (script : Result (List ℕ) LineFault) → script ≡ Err f → AnswersBirth b x script (refused (fault_text f)) true b
-refused_at b x f script e = subst (λ z. AnswersBirth b x z (refused (fault_text f)) true b) (sym e) script_refused
+pub refused_at : (b : Book) (x : List ℕ) (earlier : List (List ℕ)) (f : LineFault) (script : Result (List ℕ) LineFault) → script ≡ Err f → AnswersBirth b x earlier script (refused (fault_text f)) true b
+refused_at b x earlier f script e = subst (λ z. AnswersBirth b x earlier z (refused (fault_text f)) true b) (sym e) script_refused
 
 -- what holds of a success leads to more
 pub if_ok : {A E : Type 0} {P Q : A → Type 0} (r : Result A E) → ((x : A) → P x → Q x) → IfOk r P → IfOk r Q
@@ -249,7 +306,7 @@ said_fault input f e = sym (ap (λ g. said_by g (line_of input)) e)
 pub nothing_happens : (e : Engine) (budget : ℕ) (input : List ℕ) → Happens e e (λ b r s d. FirstReply budget b (Ok None) input r s d input)
 nothing_happens e budget input = record { reply = []; refusal = false; allowed = skipped; adds = record { text = sym (append-nil (string_bytes e.written.text)); refused = or_false e.written.refused }; budget = refl }
 
-or_or : (a b c : Bool) → a || (b || c) ≡ (a || b) || c
+pub or_or : (a b c : Bool) → a || (b || c) ≡ (a || b) || c
 or_or true b c = refl
 or_or false b c = refl
 

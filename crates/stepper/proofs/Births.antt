@@ -12,8 +12,8 @@ use Rattle.std.proofs.lemmas.Map.Lookups.{exact_unsigned}
 use Rattle.kernele.specs.Tree.{Name}
 use Rattle.ids.specs.Cells.{vat_cmp}
 use Rattle.ids.specs.declared.names.VatNo.{VatNo}
-use Rattle.post.specs.World.{Content, vat}
-use Rattle.post.specs.Messages.{vat_of}
+use Rattle.worldcells.specs.World.{Content, vat}
+use Rattle.post.specs.MessageView.{vat_of}
 use Rattle.post.specs.declared.vat.Vat.{Vat}
 use Rattle.stepper.specs.Show.{number_in, name_of, ByBirth}
 

@@ -22,7 +22,7 @@ use Rattle.heap.specs.declared.state.Contents.{Contents}
 use Rattle.ids.specs.declared.reference.Reference.{Reference}
 use Rattle.ids.specs.contracts.reference.ReferenceOrd.TheImpl as reference_order
 use Rattle.kernele.specs.Tree.{Name}
-use Rattle.post.specs.World.{Content, World, vat_state}
+use Rattle.worldcells.specs.World.{Content, World, vat_state}
 use Rattle.stepper.specs.Show.{Lists, noun_lines, slot_lines, object_lines, view_lines, fence_lines, vat_line, StateLines, VatLines, vat_lines_none, vat_lines_more, number_in, ByBirth, message_lines, board_lines, Shows}
 use Rattle.stepper.specs.ShowView.{entries_as, nouns_in, slots_in, objects_in, views_in, fences_in, Written}
 

@@ -1,14 +1,19 @@
 -- Names of events, from their numbers, and the lines that have them as causes.
-use Rattle.std.proofs.Common.{◌≡◌, ℕ, List, [], ◌∷◌, map, Some, refl, ap, ◌∙◌}
+use Rattle.std.proofs.Common.{◌≡◌, ℕ, List, [], ◌∷◌, map, Option, Some, refl, ap, ◌∙◌}
 use Rattle.std.specs.Option.{option_map}
 use Rattle.std.specs.List.{slice_get}
 use Rattle.std.proofs.lemmas.Option.{slice_get-map}
 use Rattle.ids.specs.declared.names.EventName.{EventName}
+use Rattle.ids.specs.declared.names.VatNo.{VatNo}
+use Rattle.kernele.specs.Tree.{Name}
+use Rattle.worldcells.specs.EventView.{act_of}
+use Rattle.worldcells.specs.declared.event.Action.{Action}
+use Rattle.worldcells.specs.declared.event.Action.TheVariants as action
 use Rattle.journal.specs.Items.{Item, item_of}
 use Rattle.journal.specs.Lines.{Line, line_of, lines_of}
 use Rattle.journal.specs.declared.entry.Entry.{Entry}
 use Rattle.causality.specs.Selections.{numbers}
-use Rattle.stepper.specs.Listing.{events_of}
+use Rattle.stepper.specs.Listing.{events_of, born_as}
 use Rattle.stepper.specs.ListingView.{line_with}
 
 -- the events of their own numbers
@@ -28,3 +33,12 @@ pub cause_line : (entries : List Entry) (i : ℕ) (e : Entry) (names : List Even
 cause_line entries i e names at causes =
     let items = map item_of entries in
     ap (λ ns. line_with ns (item_of e)) (causes (line_of items (item_of e)) (slice_get-map (line_of items) items i ∙ ap (option_map (line_of items)) (slice_get-map item_of entries i ∙ ap (option_map item_of) at)))
+
+-- in another event no vat is born
+pub not_born : (v : VatNo) (e : EventName) (a : Action) (other : Option Name) → ((x : _) → (earlier : _) → (script : _) → a ≡ action.Birth x earlier script → ⊥) → born_as v (record { name = e; act = act_of a }) other ≡ other
+not_born v e (action.Birth x earlier script) other differs = absurd (differs x earlier script refl)
+not_born v e (action.Ask x program) other differs = refl
+not_born v e (action.Arrive m) other differs = refl
+not_born v e (action.Forward m) other differs = refl
+not_born v e (action.Learn w p) other differs = refl
+not_born v e (action.Turn w m budget) other differs = refl

@@ -1,7 +1,9 @@
 -- What an answer does to the book and to the replies.
-use Rattle.std.specs.Prelude.{◌≡◌, ℕ, List, Bool}
+use Rattle.std.specs.Prelude.{◌≡◌, ℕ, List, Bool, not}
 use Rattle.book.specs.Books as books
 use Rattle.book.specs.BookView.{book_of}
+use Rattle.agenda.specs.declared.agenda.Step.{Step}
+use Rattle.stepper.specs.Replies.{Moves}
 use Rattle.stepper.specs.Written.{Adds}
 use Rattle.stepper.specs.declared.engine.Engine.{Engine}
 
@@ -16,3 +18,7 @@ pub record Happens (old new : Engine) (Allowed : books.Book → List ℕ → Boo
 -- the same, and this is left of the input
 abbrev pub HappensAt : Engine → Engine → List ℕ → (books.Book → List ℕ → Bool → books.Book → List ℕ → Type 0) → Type 0
 HappensAt old new rest Allowed = Happens old new (λ b r s d. Allowed b r s d rest)
+
+-- something was done, or was refused
+abbrev pub Moved : Engine → Engine → Step → Bool → Type 0
+Moved old new step done = Happens old new (λ b r s d. (s ≡ not done) × Moves old.budget b step r s d)

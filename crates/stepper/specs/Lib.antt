@@ -3,6 +3,7 @@ pub mod Engine
 pub mod Fault
 pub mod Listing
 pub mod ListingView
+pub mod Steps
 pub mod Replies
 pub mod Show
 pub mod ShowView

@@ -1,33 +1,44 @@
 -- The replies to a text of commands.
-use Rattle.std.specs.Prelude.{◌≡◌, ℕ, ◌+◌, ◌<◌, List, [], ◌∷◌, ◌++◌, length, filter, Bool, true, false, ◌||◌, Option, Some, None, Result, Ok, Err, codes}
+use Rattle.std.specs.Prelude.{◌≡◌, ℕ, suc, ◌+◌, ◌<◌, List, [], ◌∷◌, ◌++◌, length, filter, Bool, true, false, ◌||◌, Option, Some, None, Result, Ok, Err, codes}
 use Rattle.std.specs.Fmt.{decimal}
 use Rattle.ids.specs.Names.{event_text, message_text}
 use Rattle.ids.specs.Quoted.{quoted}
 use Rattle.ids.specs.declared.names.EventName.{EventName}
 use Rattle.ids.specs.declared.names.MsgId.{MsgId}
+use Rattle.ids.specs.declared.names.PromId.{PromId}
 use Rattle.ids.specs.declared.names.VatNo.{VatNo}
 use Rattle.kernele.specs.Tree.{Trees}
 use Rattle.scopes.specs.Scope as scope
 use Rattle.values.specs.Shown as values
-use Rattle.erules.specs.Outcomes.{End, value, halt, thrown, ejected, abandoned, reason}
+use Rattle.erules.specs.Outcomes.{reason}
+use Rattle.deliveries.specs.Turn.{Told, told, lost}
+use Rattle.values.specs.Data.{gives, throws}
 use Rattle.ereader.specs.Texts.{ReadAs}
 use Rattle.ereader.specs.Shown as reading
 use Rattle.ereader.specs.declared.fault.ReadFault.{ReadFault}
-use Rattle.post.specs.Events.{birth, ask}
-use Rattle.event.specs.Events.{Turn, birth_foot, ask_foot, first_message}
+use Rattle.post.specs.Messages.{Vat}
+use Rattle.worldcells.specs.Events.{birth, ask, arrive, forward, learn}
+use Rattle.event.specs.Events.{Foot, Turn, birth_foot, ask_foot, first_message}
+use Rattle.agenda.specs.Enabled.{Enabled, First}
+use Rattle.agenda.specs.declared.agenda.Step.{Step}
+use Rattle.agenda.specs.declared.agenda.Step.TheVariants as step
+use Rattle.desk.specs.Desks.{has_vat}
 use Rattle.journal.specs.Lines.{Line}
 use Rattle.causality.specs.Exact.{Cone}
 use Rattle.causality.specs.Selections.{chosen}
-use Rattle.book.specs.Refusals.{Refusal, no_vat, name_taken, no_message, not_there, before, full, stale, vat_out, no_ticket, no_event, no_position, not_live, still_live, not_closed, crossed, cause_missing, dependent, bad_budget, unchecked}
-use Rattle.book.specs.Refusals.{birth_refusal, ask_refusal, checkout_refusal, undo_refusal, redo_refusal, cone_refusal, exchange_refusal}
+use Rattle.book.specs.Refusals.{Refusal, no_vat, name_taken, no_message, not_there, not_ready, before, nothing_to_learn, full, stale, vat_out, no_ticket, no_event, no_position, not_live, still_live, not_closed, crossed, cause_missing, dependent, bad_budget, unchecked}
+use Rattle.book.specs.Refusals.{birth_refusal, ask_refusal, arrival_refusal, forward_refusal, learning_refusal, checkout_refusal, undo_refusal, redo_refusal, cone_refusal, exchange_refusal}
+use Rattle.book.specs.Learning.{LearnsNamed, RefusesNamed}
 use Rattle.book.specs.Books.{Book}
 use Rattle.book.specs.Calls.{EntersNext, TurnsNext, Undoes, Redoes, Exchanges, StoodAt}
 use Rattle.commands.specs.Lines.{line_of, behind_line}
+use Rattle.commands.specs.declared.numbers.PromiseName.{PromiseName}
 use Rattle.commands.specs.Commands as command
 use Rattle.commands.specs.Commands.{Spelled, spelled_by, fault_text}
 use Rattle.commands.specs.Scripts.{fault_of, script_of, behind_lines}
 use Rattle.stepper.specs.Show.{Shows}
 use Rattle.stepper.specs.Listing.{journal_text, cone_text}
+use Rattle.stepper.specs.Steps.{ShowsEnabled}
 use Rattle.commands.specs.declared.command.LineFault.{LineFault}
 
 -- no CODE NAME ARGS
@@ -50,7 +61,9 @@ refusal_text (no_vat x) = codes "B1 NoVat " ++ x
 refusal_text (name_taken x) = codes "B2 NameTaken " ++ x
 refusal_text (no_message m) = codes "B3 NoMessage " ++ message_text m
 refusal_text not_there = codes "B4 NotThere"
+refusal_text not_ready = codes "B5 NotReady"
 refusal_text (before m) = codes "B6 Before " ++ message_text m
+refusal_text nothing_to_learn = codes "B7 NothingToLearn"
 refusal_text full = codes "B8 Full"
 refusal_text stale = codes "B9 Stale"
 refusal_text vat_out = codes "B10 VatOut"
@@ -70,16 +83,23 @@ refusal_text (unchecked fault) = check_text fault
 abbrev pub queued_text : EventName → List ℕ
 queued_text e = codes "ok " ++ (event_text e ++ (codes " " ++ (message_text (first_message e) ++ 10 ∷ [])))
 
--- how a turn ended; none ends with a value on its way to an Escape, whose ejector would be spent
-abbrev pub end_text : End → List ℕ
-end_text (value v) = codes "value " ++ values.shown v
-end_text (halt (thrown problem)) = codes "problem " ++ quoted problem
-end_text (halt (ejected j v)) = codes "problem " ++ quoted (codes "ejector is spent")
-end_text (halt (abandoned why)) = codes "abandoned " ++ quoted (reason why)
+-- ok EVENT
+abbrev pub done_text : EventName → List ℕ
+done_text e = codes "ok " ++ (event_text e ++ 10 ∷ [])
+
+-- idle
+abbrev pub idle_text : List ℕ
+idle_text = codes "idle" ++ 10 ∷ []
+
+-- what a turn told
+abbrev pub told_text : Told → List ℕ
+told_text (told (gives v)) = codes "value " ++ values.shown v
+told_text (told (throws problem)) = codes "problem " ++ quoted problem
+told_text (lost why) = codes "abandoned " ++ quoted (reason why)
 
 -- ok EVENT value V, or problem T, or abandoned T
-abbrev pub turned_text : EventName → End → List ℕ
-turned_text e o = codes "ok " ++ (event_text e ++ (codes " " ++ (end_text o ++ 10 ∷ [])))
+abbrev pub turned_text : EventName → Told → List ℕ
+turned_text e o = codes "ok " ++ (event_text e ++ (codes " " ++ (told_text o ++ 10 ∷ [])))
 
 -- how many entries of a journal these events are
 abbrev pub count_of : List EventName → List Line → ℕ
@@ -97,9 +117,57 @@ redone_text count = codes "ok redone " ++ (decimal count ++ 10 ∷ [])
 abbrev pub exchanged_text : EventName → EventName → List ℕ
 exchanged_text e f = codes "ok exchanged " ++ (event_text e ++ (codes " " ++ (event_text f ++ 10 ∷ [])))
 
--- With a budget for each turn: a command leads from a book to a reply, refused or not, and a book.
+-- With a budget for each turn: something that may be done leads from a book to a reply, refused or not, and a book.
 -- Want of memory may refuse what needs it; the book then is as it was, but for a name that a turn may have drawn.
+pub data Moves (budget : ℕ) : Book → Step → List ℕ → Bool → Book → Type 0 where
+  move_without_memory : {b : Book} {s : Step} → Moves budget b s (refused (codes "B20 Memory")) true b
+  arrival_refused : {b : Book} {m : MsgId} {r : Refusal} → arrival_refusal b m ≡ Some r → Moves budget b (step.Arrive m) (refused (refusal_text r)) true b
+  arrives : {b d : Book} {m : MsgId} {e : EventName} {f : Foot} → arrival_refusal b m ≡ None → EntersNext (record { name = e; act = arrive m }) f 0 b d
+      → Moves budget b (step.Arrive m) (done_text e) false d
+  forwarding_refused : {b : Book} {m : MsgId} {r : Refusal} → forward_refusal b m ≡ Some r → Moves budget b (step.Forward m) (refused (refusal_text r)) true b
+  forwards : {b d : Book} {m : MsgId} {e : EventName} {f : Foot} → forward_refusal b m ≡ None → EntersNext (record { name = e; act = forward m }) f 0 b d
+      → Moves budget b (step.Forward m) (done_text e) false d
+  turn_without_memory_named : {b : Book} {m : MsgId} → Moves budget b (step.Turn m) (refused (codes "B20 Memory")) true (record b { next = b.next + 1 })
+  turn_refused : {b : Book} {m : MsgId} {r : Refusal} → checkout_refusal b m budget ≡ Some r → Moves budget b (step.Turn m) (refused (refusal_text r)) true b
+  turns : {b d : Book} {m : MsgId} {e : EventName} {t : Turn} → checkout_refusal b m budget ≡ None → TurnsNext e m budget t b d
+      → Moves budget b (step.Turn m) (turned_text e t.outcome.told) false d
+  learning_refused : {b : Book} {v : VatNo} {p : PromId} {r : Refusal} → learning_refusal b v p ≡ Some r → Moves budget b (step.Learn v p) (refused (refusal_text r)) true b
+  learns : {b d : Book} {v : VatNo} {p : PromId} {e : EventName} {f : Foot} → learning_refusal b v p ≡ None → EntersNext (record { name = e; act = learn v p }) f 0 b d
+      → Moves budget b (step.Learn v p) (done_text e) false d
+
+-- the first that may be done in a book, and all of it
+abbrev pub FirstIn : Book → Option Step → Type 0
+FirstIn b s = First b.world (λ v. has_vat v b.out) s
+
+abbrev pub EnabledIn : Book → List Step → Type 0
+EnabledIn b steps = Enabled b.world (λ v. has_vat v b.out) steps
+
+-- one step is the first that may be done; then a next one may follow, unless nothing was found or it was refused. Without memory it is not
+-- known what may be done.
+pub data Steps (budget : ℕ) : Book → List ℕ → Bool → Book → Bool → Type 0 where
+  step_done : {b d : Book} {s : Step} {reply : List ℕ} → FirstIn b (Some s) → Moves budget b s reply false d → Steps budget b reply false d true
+  step_refused : {b d : Book} {s : Step} {reply : List ℕ} → FirstIn b (Some s) → Moves budget b s reply true d → Steps budget b reply true d false
+  step_idle : {b : Book} → FirstIn b None → Steps budget b idle_text false b false
+  step_without_memory : {b : Book} → Steps budget b (refused (codes "B20 Memory")) true b false
+
+-- so many steps, up to one behind which none follows
+pub data Runs (budget : ℕ) : ℕ → Book → List ℕ → Bool → Book → Type 0 where
+  runs_out : {b : Book} → Runs budget 0 b [] false b
+  runs_on : {n : ℕ} {b c d : Book} {reply replies : List ℕ} {q r : Bool} → Steps budget b reply q c true → Runs budget n c replies r d → Runs budget (suc n) b (reply ++ replies) (q || r) d
+  runs_last : {n : ℕ} {b d : Book} {reply : List ℕ} {r : Bool} → Steps budget b reply r d false → Runs budget (suc n) b reply r d
+
+-- With a budget for each turn: a command leads from a book to a reply, refused or not, and a book.
 pub data Answers (budget : ℕ) : Book → Spelled → List ℕ → Bool → Book → Type 0 where
+  arrive_moves : {b d : Book} {m : MsgId} {reply : List ℕ} {r : Bool} → Moves budget b (step.Arrive m) reply r d → Answers budget b (command.arrive m) reply r d
+  forward_moves : {b d : Book} {m : MsgId} {reply : List ℕ} {r : Bool} → Moves budget b (step.Forward m) reply r d → Answers budget b (command.forward m) reply r d
+  turn_moves : {b d : Book} {m : MsgId} {reply : List ℕ} {r : Bool} → Moves budget b (step.Turn m) reply r d → Answers budget b (command.turn m) reply r d
+  learn_without_memory : {b : Book} {x : List ℕ} {n : PromiseName} → Answers budget b (command.learn x n) (refused (codes "B20 Memory")) true b
+  learn_refused : {b : Book} {x : List ℕ} {n : PromiseName} {r : Refusal} → RefusesNamed b x n.event n.index r → Answers budget b (command.learn x n) (refused (refusal_text r)) true b
+  learn_accepted : {b d : Book} {x : List ℕ} {n : PromiseName} {e : EventName} → LearnsNamed x n.event n.index e b d → Answers budget b (command.learn x n) (done_text e) false d
+  stepped : {b d : Book} {reply : List ℕ} {r more : Bool} → Steps budget b reply r d more → Answers budget b command.step reply r d
+  runs : {b d : Book} {n : ℕ} {reply : List ℕ} {r : Bool} → Runs budget n b reply r d → Answers budget b (command.run n) reply r d
+  enabled_without_memory : {b : Book} → Answers budget b command.enabled (refused (codes "B20 Memory")) true b
+  enabled : {b : Book} {found : List Step} {text : List ℕ} → EnabledIn b found → ShowsEnabled b.world found text → Answers budget b command.enabled text false b
   ask_without_memory : {b : Book} {x text : List ℕ} → Answers budget b (command.ask x text) (refused (codes "B20 Memory")) true b
   asked_without_memory : {b : Book} {x text : List ℕ} → Answers budget b (command.ask x text) (refused (codes "L7 Memory")) true b
   asked_unread : {b : Book} {x text : List ℕ} {f : ReadFault} → ReadAs text (Err f) → Answers budget b (command.ask x text) (refused (reading.shown f)) true b
@@ -107,11 +175,6 @@ pub data Answers (budget : ℕ) : Book → Spelled → List ℕ → Bool → Boo
       → Answers budget b (command.ask x text) (refused (refusal_text r)) true b
   ask_accepted : {b d : Book} {x text : List ℕ} {program : Trees} {e : EventName} {v : VatNo} → ReadAs text (Ok program) → ask_refusal b x program ≡ None
       → EntersNext (record { name = e; act = ask x program }) (ask_foot e x v program) 0 b d → Answers budget b (command.ask x text) (queued_text e) false d
-  turn_without_memory : {b : Book} {m : MsgId} → Answers budget b (command.turn m) (refused (codes "B20 Memory")) true b
-  turn_without_memory_named : {b : Book} {m : MsgId} → Answers budget b (command.turn m) (refused (codes "B20 Memory")) true (record b { next = b.next + 1 })
-  turn_refused : {b : Book} {m : MsgId} {r : Refusal} → checkout_refusal b m budget ≡ Some r → Answers budget b (command.turn m) (refused (refusal_text r)) true b
-  turn_accepted : {b d : Book} {m : MsgId} {e : EventName} {t : Turn} → checkout_refusal b m budget ≡ None → TurnsNext e m budget t b d
-      → Answers budget b (command.turn m) (turned_text e t.outcome.end) false d
   shown : {b : Book} {text : List ℕ} → Shows b.world text → Answers budget b command.show text false b
   listed : {b : Book} → Answers budget b command.journal (journal_text b.journal) false b
   cone_without_memory : {b : Book} {e : EventName} → Answers budget b (command.cone e) (refused (codes "B20 Memory")) true b
@@ -136,15 +199,15 @@ pub data Answers (budget : ℕ) : Book → Spelled → List ℕ → Bool → Boo
       → Answers budget b (command.exchange position) (exchanged_text e f) false d
 
 -- the same for a vat whose script was taken from the lines behind the command
-pub data AnswersBirth : Book → List ℕ → Result (List ℕ) LineFault → List ℕ → Bool → Book → Type 0 where
-  birth_without_memory : {b : Book} {x : List ℕ} {text : List ℕ} → AnswersBirth b x (Ok text) (refused (codes "B20 Memory")) true b
-  script_without_memory : {b : Book} {x : List ℕ} {text : List ℕ} → AnswersBirth b x (Ok text) (refused (codes "L7 Memory")) true b
-  script_refused : {b : Book} {x : List ℕ} {f : LineFault} → AnswersBirth b x (Err f) (refused (fault_text f)) true b
-  script_unread : {b : Book} {x text : List ℕ} {f : ReadFault} → ReadAs text (Err f) → AnswersBirth b x (Ok text) (refused (reading.shown f)) true b
-  birth_refused : {b : Book} {x text : List ℕ} {program : Trees} {r : Refusal} → ReadAs text (Ok program) → birth_refusal b x program ≡ Some r
-      → AnswersBirth b x (Ok text) (refused (refusal_text r)) true b
-  birth_accepted : {b d : Book} {x text : List ℕ} {program : Trees} {e : EventName} → ReadAs text (Ok program) → birth_refusal b x program ≡ None
-      → EntersNext (record { name = e; act = birth x program }) (birth_foot e x program) 0 b d → AnswersBirth b x (Ok text) (queued_text e) false d
+pub data AnswersBirth : Book → List ℕ → List (List ℕ) → Result (List ℕ) LineFault → List ℕ → Bool → Book → Type 0 where
+  birth_without_memory : {b : Book} {x : List ℕ} {earlier : List (List ℕ)} {text : List ℕ} → AnswersBirth b x earlier (Ok text) (refused (codes "B20 Memory")) true b
+  script_without_memory : {b : Book} {x : List ℕ} {earlier : List (List ℕ)} {text : List ℕ} → AnswersBirth b x earlier (Ok text) (refused (codes "L7 Memory")) true b
+  script_refused : {b : Book} {x : List ℕ} {earlier : List (List ℕ)} {f : LineFault} → AnswersBirth b x earlier (Err f) (refused (fault_text f)) true b
+  script_unread : {b : Book} {x text : List ℕ} {earlier : List (List ℕ)} {f : ReadFault} → ReadAs text (Err f) → AnswersBirth b x earlier (Ok text) (refused (reading.shown f)) true b
+  birth_refused : {b : Book} {x text : List ℕ} {earlier : List (List ℕ)} {program : Trees} {r : Refusal} → ReadAs text (Ok program) → birth_refusal b x earlier program ≡ Some r
+      → AnswersBirth b x earlier (Ok text) (refused (refusal_text r)) true b
+  birth_accepted : {b d : Book} {x text : List ℕ} {earlier : List (List ℕ)} {program : Trees} {e : EventName} (vats : List Vat) → ReadAs text (Ok program) → birth_refusal b x earlier program ≡ None
+      → EntersNext (record { name = e; act = birth x earlier program }) (birth_foot e x earlier vats program) 0 b d → AnswersBirth b x earlier (Ok text) (queued_text e) false d
 
 -- what the first line of an input says: why it is no text, or the command that it spells, if any
 abbrev pub said_by : Option LineFault → List ℕ → Result (Option Spelled) LineFault
@@ -158,8 +221,8 @@ said input = said_by (fault_of input) (line_of input)
 pub data FirstReply (budget : ℕ) : Book → Result (Option Spelled) LineFault → List ℕ → List ℕ → Bool → Book → List ℕ → Type 0 where
   skipped : {b : Book} {input : List ℕ} → FirstReply budget b (Ok None) input [] false b input
   no_command : {b : Book} {f : LineFault} {input : List ℕ} → FirstReply budget b (Err f) input (refused (fault_text f)) true b input
-  born : {b d : Book} {x : List ℕ} {lines : ℕ} {input reply : List ℕ} {refusal : Bool}
-      → AnswersBirth b x (script_of lines input) reply refusal d → FirstReply budget b (Ok (Some (command.birth x lines))) input reply refusal d (behind_lines lines input)
+  born : {b d : Book} {x : List ℕ} {earlier : List (List ℕ)} {lines : ℕ} {input reply : List ℕ} {refusal : Bool}
+      → AnswersBirth b x earlier (script_of lines input) reply refusal d → FirstReply budget b (Ok (Some (command.birth x earlier lines))) input reply refusal d (behind_lines lines input)
   answered : {b d : Book} {c : Spelled} {input reply : List ℕ} {refusal : Bool}
       → Answers budget b c reply refusal d → FirstReply budget b (Ok (Some c)) input reply refusal d input
 

@@ -20,8 +20,9 @@ use Rattle.kernele.specs.declared.tree.Pattern.{Pattern}
 use Rattle.kernele.specs.declared.tree.Pattern.TheVariants as pattern
 use Rattle.values.specs.Shown.{shown}
 use Rattle.heap.specs.State as state
-use Rattle.heap.specs.State.{State, top, slot_cell, object_cell, view_cell, fence_cell, bound, fixed, slot, held, made, viewed, pending, resolved, fenced}
-use Rattle.post.specs.World.{Place, at_vat, done, Content, vat, message, published, World, vat_state}
+use Rattle.heap.specs.State.{State, top, slot_cell, object_cell, view_cell, fence_cell, bound, fixed, slot, held, made, plain, resolver, viewed, pending, resolved, fenced}
+use Rattle.post.specs.Messages.{Place, flying, at_vat, done}
+use Rattle.worldcells.specs.World.{Content, vat, message, published, World, vat_state}
 
 -- xs has the contents of a finite map with their keys, in the order of the keys
 pub record Lists {K V : Type 0} (cmp : K → K → Ordering) (at : K → Option V) (xs : List (K × V)) : Type 0 where
@@ -41,12 +42,13 @@ abbrev pub names_text : List MsgId → List ℕ
 names_text [] = []
 names_text (m ∷ ms) = codes " " ++ (message_text m ++ names_text ms)
 
--- VALUE, or slot SLOT, or what an object was bound to, or what is known of a promise, or the messages behind a reference
+-- VALUE, or slot SLOT, or what an object was bound to, or which promise a resolver resolves, or what is known of a promise, or the messages behind a reference
 abbrev pub content_text : state.Content → List ℕ
 content_text (bound (fixed v)) = shown v
 content_text (bound (slot s)) = codes "slot " ++ slot_text s
 content_text (held v) = shown v
-content_text (made o) = pattern_text o.own
+content_text (made (plain o)) = pattern_text o.own
+content_text (made (resolver p)) = codes "resolver " ++ promise_text p
 content_text (viewed pending) = codes " open"
 content_text (viewed (resolved v)) = codes " = " ++ shown v
 content_text (fenced names) = names_text names
@@ -67,7 +69,7 @@ abbrev pub slot_lines : List (SlotId × state.Content) → List ℕ
 slot_lines [] = []
 slot_lines (e ∷ es) = slot_line e ++ slot_lines es
 
---  object OBJ NAME, or object OBJ _
+--  object OBJ NAME, or object OBJ _, or object OBJ resolver PROM
 abbrev pub object_line : ObjId × state.Content → List ℕ
 object_line e = codes " object " ++ (object_text e.0 ++ (codes " " ++ (content_text e.1 ++ line_feed)))
 
@@ -150,15 +152,17 @@ pub record ByBirth (at : Name → Option Content) (vs : List (VatNo × Name)) : 
   pub named : (v : VatNo) (x : Name) → name_of vs v ≡ Some x → number_in (at x) ≡ Some v
   pub all : (x : Name) (v : VatNo) → number_in (at x) ≡ Some v → IsSome (name_of vs v)
 
-abbrev pub at_text : Option Name → List ℕ
-at_text (Some x) = codes " at " ++ x
-at_text None = []
+-- where a message is, and the vat's name
+abbrev pub named_text : List ℕ → Option Name → List ℕ
+named_text words (Some x) = words ++ x
+named_text words None = []
 
 abbrev pub place_text : List (VatNo × Name) → Place → List ℕ
-place_text vs (at_vat v) = at_text (name_of vs v)
+place_text vs (flying v) = named_text (codes " flying ") (name_of vs v)
+place_text vs (at_vat v) = named_text (codes " at ") (name_of vs v)
 place_text vs (done e) = codes " done " ++ event_text e
 
--- msg MSG at NAME, or msg MSG done EVENT
+-- msg MSG flying NAME, or msg MSG at NAME, or msg MSG done EVENT
 abbrev pub message_line : List (VatNo × Name) → MsgId × Content → List ℕ
 message_line vs (m, message g) = codes "msg " ++ (message_text m ++ (place_text vs g.place ++ line_feed))
 message_line vs (m, _) = []
@@ -169,7 +173,7 @@ message_lines vs (e ∷ es) = message_line vs e ++ message_lines vs es
 
 -- board PROM = VALUE
 abbrev pub board_line : PromId × Content → List ℕ
-board_line (p, published v) = codes "board " ++ (promise_text p ++ (codes " = " ++ (shown v ++ line_feed)))
+board_line (p, published b) = codes "board " ++ (promise_text p ++ (codes " = " ++ (shown b.value ++ line_feed)))
 board_line (p, _) = []
 
 abbrev pub board_lines : List (PromId × Content) → List ℕ

@@ -15,9 +15,10 @@ use Rattle.ids.specs.declared.names.PromId.{PromId}
 use Rattle.ids.specs.declared.names.SlotId.{SlotId}
 use Rattle.ids.specs.declared.names.ObjId.{ObjId}
 use Rattle.ids.specs.declared.reference.Reference.{Reference}
-use Rattle.post.specs.World.{Content, message, published}
-use Rattle.post.specs.Messages.{message_of}
+use Rattle.worldcells.specs.World.{Content, message, published}
+use Rattle.post.specs.MessageView.{message_of, published_of}
 use Rattle.post.specs.declared.message.Message.{Message}
+use Rattle.post.specs.declared.published.Published.{Published}
 
 -- entries, each content as what it stands for
 abbrev pub entries_as : {K V W : Type 0} → (V → W) → List (K × V) → List (K × W)
@@ -41,8 +42,8 @@ fence_entries es = entries_as fenced es
 abbrev pub message_entries : List (MsgId × Message) → List (MsgId × Content)
 message_entries es = entries_as (λ g. message (message_of g)) es
 
-abbrev pub board_entries : List (PromId × Value) → List (PromId × Content)
-board_entries es = entries_as (λ v. published (val_of v)) es
+abbrev pub board_entries : List (PromId × Published) → List (PromId × Content)
+board_entries es = entries_as (λ p. published (published_of p)) es
 
 abbrev pub nouns_in : BTreeMap Name Binding → List (Name × state.Content)
 nouns_in m = noun_entries m.entries
@@ -62,7 +63,7 @@ fences_in m = fence_entries m.entries
 abbrev pub messages_in : BTreeMap MsgId Message → List (MsgId × Content)
 messages_in m = message_entries m.entries
 
-abbrev pub board_in : BTreeMap PromId Value → List (PromId × Content)
+abbrev pub board_in : BTreeMap PromId Published → List (PromId × Content)
 board_in m = board_entries m.entries
 
 -- behind the text before stands now a text of this kind

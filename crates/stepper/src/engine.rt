@@ -1,5 +1,5 @@
 // Commands answered one after another.
-ghost use Rattle.std.specs.Prelude.{◌≡◌, ◌<◌, ◌≤◌, ℕ, List, Bool, length, OnOk, IfOk, IfErr, Ok, Some, string_bytes};
+ghost use Rattle.std.specs.Prelude.{◌≡◌, ◌<◌, ◌≤◌, ℕ, List, map, length, OnOk, IfOk, IfErr, Ok, Some};
 ghost use Rattle.kernele.specs.View.{program_of};
 ghost use Rattle.ereader.specs.Texts.{ReadAs};
 ghost use Rattle.book.specs.Books.{Book as BookModel, blank};
@@ -9,16 +9,18 @@ ghost use Rattle.commands.specs.Lines.{behind_line};
 ghost use Rattle.stepper.specs.Fault.{fault_text};
 ghost use Rattle.stepper.specs.declared.engine.Fault.TheVariants.{Memory};
 ghost use Rattle.commands.specs.ScriptView.{script_text};
-ghost use Rattle.stepper.specs.Replies.{Answers, AnswersBirth, FirstReply, Replies, said};
+ghost use Rattle.stepper.specs.Replies.{Answers, AnswersBirth, FirstReply, Moves, Replies, Steps, said};
 
 use crate::reply::Written;
+use agenda::agenda::Step;
 use book::book::{Book, Turned};
 use book::fault::BookFault;
+use commands::PromiseName;
 use commands::command::{Command, LineFault, command_of};
 use commands::lines::cut_line;
 use commands::script::{take_script, text_of};
 use ereader::read;
-use ids::names::{EventName, MsgId};
+use ids::names::{EventName, MsgId, PromId, VatNo};
 use ids::text::Text;
 use kernele::tree::Program;
 use std::alloc::{AllocError, Global};
@@ -94,7 +96,7 @@ struct Engine {
 }
 
 impl Engine {
-    ghost use Rattle.stepper.specs.Engine.{Happens, HappensAt};
+    ghost use Rattle.stepper.specs.Engine.{Happens, HappensAt, Moved};
 
     fn ask_program(&mut self, name: &str, program: Program) -> Result<(), AllocError>
         ensures { (text : List ℕ) → ReadAs text (Ok (program_of program)) → OnOk result (Happens self.old self.new (λ b r s d. Answers self.old.budget b (commands.ask name.now text) r s d)) }
@@ -117,12 +119,114 @@ impl Engine {
         }
     }
 
-    fn turn(&mut self, message: MsgId) -> Result<(), AllocError>
-        ensures { OnOk result (Happens self.old self.new (λ b r s d. Answers self.old.budget b (commands.turn message) r s d)) }
+    fn learn(&mut self, name: &str, promise: PromiseName) -> Result<(), AllocError>
+        ensures { OnOk result (Happens self.old self.new (λ b r s d. Answers self.old.budget b (commands.learn name.now promise) r s d)) }
+    {
+        let Ok(name) = Text::new(self.alloc, name) else {
+            return self.written.refuse_call(&BookFault::Memory);
+        };
+        match self.book.learn_named(&name, promise.event, promise.index) {
+            Ok(event) => self.written.done(event),
+            Err(fault) => self.written.refuse_call(&fault),
+        }
+    }
+
+    fn arrive(&mut self, message: MsgId) -> Result<bool, AllocError>
+        ensures { IfOk result (λ done. Moved self.old self.new (Step.Arrive message) done) }
+    {
+        match self.book.arrive(message) {
+            Ok(event) => self.written.moved(event),
+            Err(fault) => self.written.not_moved(&fault),
+        }
+    }
+
+    fn forward(&mut self, message: MsgId) -> Result<bool, AllocError>
+        ensures { IfOk result (λ done. Moved self.old self.new (Step.Forward message) done) }
+    {
+        match self.book.forward(message) {
+            Ok(event) => self.written.moved(event),
+            Err(fault) => self.written.not_moved(&fault),
+        }
+    }
+
+    fn turn(&mut self, message: MsgId) -> Result<bool, AllocError>
+        ensures { IfOk result (λ done. Moved self.old self.new (Step.Turn message) done) }
     {
         match self.book.turn(message, self.budget) {
             Ok(Turned { event, ended }) => self.written.turned(event, &ended),
-            Err(fault) => self.written.refuse_call(&fault),
+            Err(fault) => self.written.not_moved(&fault),
+        }
+    }
+
+    /// A vat learns what is known of a promise, by its number.
+    fn learn_at(&mut self, vat: VatNo, promise: PromId) -> Result<bool, AllocError>
+        ensures { IfOk result (λ done. Moved self.old self.new (Step.Learn vat promise) done) }
+    {
+        match self.book.learn_at(vat, promise) {
+            Ok(event) => self.written.moved(event),
+            Err(fault) => self.written.not_moved(&fault),
+        }
+    }
+
+    /// Does something, and answers whether it was done.
+    fn make_move(&mut self, step: Step) -> Result<bool, AllocError>
+        ensures { IfOk result (λ done. Moved self.old self.new step done) }
+    {
+        match step {
+            Step::Arrive(message) => self.arrive(message),
+            Step::Forward(message) => self.forward(message),
+            Step::Turn(message) => self.turn(message),
+            Step::Learn(vat, promise) => self.learn_at(vat, promise),
+        }
+    }
+
+    /// Does what a command of one message says.
+    fn obey(&mut self, step: Step) -> Result<(), AllocError>
+        ensures { OnOk result (Happens self.old self.new (λ b r s d. Moves self.old.budget b step r s d)) }
+    {
+        self.make_move(step)?;
+        Ok(())
+    }
+
+    /// Does the first that may be done. Answers whether a next step may follow: something was found, and it was not refused.
+    fn try_step(&mut self) -> Result<bool, AllocError>
+        ensures { IfOk result (λ more. Happens self.old self.new (λ b r s d. Steps self.old.budget b r s d more)) }
+    {
+        match self.book.next() {
+            Ok(Some(step)) => self.make_move(step),
+            Ok(None) => self.written.idle(),
+            Err(AllocError) => self.written.not_moved(&BookFault::Memory),
+        }
+    }
+
+    fn step(&mut self) -> Result<(), AllocError>
+        ensures { OnOk result (Happens self.old self.new (λ b r s d. Answers self.old.budget b commands.step r s d)) }
+    {
+        self.try_step()?;
+        Ok(())
+    }
+
+    /// Steps, at most so many, up to one that finds nothing to do or is refused.
+    fn run(&mut self, most: u32) -> Result<(), AllocError>
+        ensures { OnOk result (Happens self.old self.new (λ b r s d. Answers self.old.budget b (commands.run most) r s d)) }
+    {
+        let mut left = most;
+        'steps: while left > 0 {
+            let goes_on = self.try_step()?;
+            if !goes_on {
+                return Ok(());
+            }
+            left -= 1;
+        }
+        Ok(())
+    }
+
+    fn enabled(&mut self) -> Result<(), AllocError>
+        ensures { OnOk result (Happens self.old self.new (λ b r s d. Answers self.old.budget b commands.enabled r s d)) }
+    {
+        match self.book.enabled() {
+            Ok(steps) => self.written.enabled(self.alloc, self.book.world(), &steps),
+            Err(AllocError) => self.written.refuse_call(&BookFault::Memory),
         }
     }
 
@@ -185,33 +289,46 @@ impl Engine {
         }
     }
 
-    fn birth_program(&mut self, name: &str, script: Program) -> Result<(), AllocError>
-        ensures { (text : List ℕ) → ReadAs text (Ok (program_of script)) → OnOk result (Happens self.old self.new (λ b r s d. AnswersBirth b name.now (Ok text) r s d)) }
+    fn birth_program(
+        &mut self,
+        name: &str,
+        earlier: &[&str],
+        script: Program,
+    ) -> Result<(), AllocError>
+        ensures { (text : List ℕ) → ReadAs text (Ok (program_of script)) → OnOk result (Happens self.old self.new (λ b r s d. AnswersBirth b name.now (map (λ x. x.now) earlier.now) (Ok text) r s d)) }
     {
         let Ok(name) = Text::new(self.alloc, name) else {
             return self.written.refuse_call(&BookFault::Memory);
         };
-        match self.book.birth(&name, script) {
+        let Ok(earlier) = texts(self.alloc, earlier) else {
+            return self.written.refuse_call(&BookFault::Memory);
+        };
+        match self.book.birth(&name, earlier, script) {
             Ok(event) => self.written.queued(event),
             Err(fault) => self.written.refuse_call(&fault),
         }
     }
 
-    fn birth_text(&mut self, name: &str, text: &str) -> Result<(), AllocError>
-        ensures { OnOk result (Happens self.old self.new (λ b r s d. AnswersBirth b name.now (Ok text.now) r s d)) }
+    fn birth_text(&mut self, name: &str, earlier: &[&str], text: &str) -> Result<(), AllocError>
+        ensures { OnOk result (Happens self.old self.new (λ b r s d. AnswersBirth b name.now (map (λ x. x.now) earlier.now) (Ok text.now) r s d)) }
     {
         match read(self.alloc, text) {
-            Ok(program) => self.birth_program(name, program),
+            Ok(program) => self.birth_program(name, earlier, program),
             Err(fault) => self.written.refuse_text(&fault),
         }
     }
 
     /// A new vat, whose script was taken from the lines behind the command.
-    fn birth(&mut self, name: &str, script: &Result<String, LineFault>) -> Result<(), AllocError>
-        ensures { OnOk result (Happens self.old self.new (λ b r s d. AnswersBirth b name.now (script_text script.now) r s d)) }
+    fn birth(
+        &mut self,
+        name: &str,
+        earlier: &[&str],
+        script: &Result<String, LineFault>,
+    ) -> Result<(), AllocError>
+        ensures { OnOk result (Happens self.old self.new (λ b r s d. AnswersBirth b name.now (map (λ x. x.now) earlier.now) (script_text script.now) r s d)) }
     {
         match script {
-            Ok(text) => self.birth_text(name, text.as_str()),
+            Ok(text) => self.birth_text(name, earlier, text.as_str()),
             Err(fault) => self.written.refuse_line(*fault),
         }
     }
@@ -222,13 +339,23 @@ impl Engine {
         ensures reply { IfOk result (λ rest. HappensAt self.old self.new rest.now (λ b r s d i. FirstReply self.old.budget b (Ok (Some (command_of command.entry))) input.now r s d i)) }
     {
         match command {
-            Command::Birth { name, lines } => {
+            Command::Birth {
+                name,
+                earlier,
+                lines,
+            } => {
                 let script = take_script(self.alloc, input, lines)?;
-                self.birth(name, &script.text)?;
+                self.birth(name, &earlier, &script.text)?;
                 return Ok(script.rest);
             }
             Command::Ask { name, text } => self.ask(name, text),
-            Command::Turn(message) => self.turn(message),
+            Command::Arrive(message) => self.obey(Step::Arrive(message)),
+            Command::Forward(message) => self.obey(Step::Forward(message)),
+            Command::Learn { name, promise } => self.learn(name, promise),
+            Command::Turn(message) => self.obey(Step::Turn(message)),
+            Command::Step => self.step(),
+            Command::Run(most) => self.run(most),
+            Command::Enabled => self.enabled(),
             Command::Show => self.show(),
             Command::Journal => self.journal(),
             Command::Cone(event) => self.cone(event),
@@ -276,6 +403,17 @@ impl Engine {
             Err(fault) => self.answer_said(Err(fault), cut.rest),
         }
     }
+}
+
+/// Names as texts of their own.
+fn texts(alloc: Global, names: &[&str]) -> Result<Vec<Text>, AllocError>
+    ensures { IfOk result (λ texts. texts.items ≡ map (λ x. x.now) names.now) }
+{
+    let mut texts = Vec::with_capacity(alloc, names.len())?;
+    for name in names {
+        texts.push(Text::new(alloc, name)?)?;
+    }
+    Ok(texts)
 }
 
 /// The replies to a text of commands.

@@ -1,6 +1,7 @@
 //! Answers commands on vats: one reply for each.
 #![tactic(auto)]
 
+mod enabled;
 mod ended;
 mod engine;
 mod listing;

@@ -1,29 +1,32 @@
 // Replies, as they are written.
-ghost use Rattle.std.specs.Prelude.{◌≡◌, ◌++◌, [], map, true, false, OnOk, string_bytes};
+ghost use Rattle.std.specs.Prelude.{◌≡◌, ◌++◌, [], map, true, false, IfOk, OnOk, string_bytes};
 ghost use Rattle.ereader.specs.Shown.{shown};
 ghost use Rattle.book.specs.Fault as book_fault;
-ghost use Rattle.post.specs.View.{world_of};
-ghost use Rattle.event.specs.Outcomes.{ended_of};
+ghost use Rattle.worldcells.specs.View.{world_of};
+ghost use Rattle.deliveries.specs.Outcomes.{told_of};
 ghost use Rattle.commands.specs.Commands.{fault_text};
-ghost use Rattle.stepper.specs.Replies.{refused, queued_text, turned_text, end_text, undone_text, redone_text, exchanged_text};
+ghost use Rattle.stepper.specs.Replies.{refused, queued_text, done_text, idle_text, turned_text, told_text, undone_text, redone_text, exchanged_text};
 ghost use Rattle.stepper.specs.Listing.{journal_text, cone_text};
 ghost use Rattle.journal.specs.Items.{item_of};
 ghost use Rattle.journal.specs.Lines.{lines_of};
 ghost use Rattle.causality.specs.Journals.{IsJournal};
 ghost use Rattle.stepper.specs.Show.{Shows};
+ghost use Rattle.stepper.specs.Steps.{ShowsEnabled};
 
+use crate::enabled::write_enabled;
 use crate::listing::{write_cone, write_journal};
 use crate::show::write_world;
+use agenda::agenda::Step;
 use book::fault::BookFault;
 use commands::command::LineFault;
+use deliveries::outcome::Ended;
 use ereader::fault::ReadFault;
-use event::outcome::Ended;
 use ids::names::{EventName, MsgId};
 use ids::quote::write_quoted;
 use journal::entry::Entry;
-use post::world::World;
 use std::alloc::{AllocError, Global};
 use values::showing::write_value;
+use worldcells::world::World;
 
 /// The replies so far, and whether one is a refusal.
 #[derive(Drop)]
@@ -33,7 +36,7 @@ pub struct Written {
 }
 
 fn write_end(ended: &Ended, out: &mut String) -> Result<(), AllocError>
-    ensures { OnOk result (string_bytes out.new ≡ string_bytes out.old ++ end_text (ended_of ended.now)) }
+    ensures { OnOk result (string_bytes out.new ≡ string_bytes out.old ++ told_text (told_of ended.now)) }
 {
     match ended {
         Ended::Value(value) => {
@@ -73,14 +76,59 @@ impl Written {
         write!(out, "ok {event} {message}\n")
     }
 
+    /// An event happened that has nothing to tell.
+    pub(crate) fn done(&mut self, event: EventName) -> Result<(), AllocError>
+        ensures { OnOk result (Adds self.old self.new (done_text event) false) }
+    {
+        let out = &mut self.text;
+        write!(out, "ok {event}\n")
+    }
+
+    /// Something was done, which is an event that has nothing to tell.
+    pub(crate) fn moved(&mut self, event: EventName) -> Result<bool, AllocError>
+        ensures { IfOk result (λ done. (done ≡ true) × Adds self.old self.new (done_text event) false) }
+    {
+        self.done(event)?;
+        Ok(true)
+    }
+
+    /// Something was not done.
+    pub(crate) fn not_moved(&mut self, fault: &BookFault) -> Result<bool, AllocError>
+        ensures { IfOk result (λ done. (done ≡ false) × Adds self.old self.new (refused (book_fault.fault_text fault.now)) true) }
+    {
+        self.refuse_call(fault)?;
+        Ok(false)
+    }
+
+    /// Nothing was done, since there is nothing to do.
+    pub(crate) fn idle(&mut self) -> Result<bool, AllocError>
+        ensures { IfOk result (λ done. (done ≡ false) × Adds self.old self.new idle_text false) }
+    {
+        self.text.push_str("idle\n")?;
+        Ok(false)
+    }
+
+    /// All that may be done.
+    pub(crate) fn enabled(
+        &mut self,
+        alloc: Global,
+        world: &World,
+        steps: &[Step],
+    ) -> Result<(), AllocError>
+        ensures { OnOk result (AddsText self.old self.new (ShowsEnabled (world_of world.now) steps.now)) }
+    {
+        write_enabled(alloc, world, steps, &mut self.text)
+    }
+
     /// A turn was run.
-    pub(crate) fn turned(&mut self, event: EventName, ended: &Ended) -> Result<(), AllocError>
-        ensures { OnOk result (Adds self.old self.new (turned_text event (ended_of ended.now)) false) }
+    pub(crate) fn turned(&mut self, event: EventName, ended: &Ended) -> Result<bool, AllocError>
+        ensures { IfOk result (λ done. (done ≡ true) × Adds self.old self.new (turned_text event (told_of ended.now)) false) }
     {
         let out = &mut self.text;
         write!(out, "ok {event} ")?;
         write_end(ended, out)?;
-        out.push_str("\n")
+        out.push_str("\n")?;
+        Ok(true)
     }
 
     /// The world is shown.

@@ -1,5 +1,5 @@
 // The world as a text.
-ghost use Rattle.std.specs.Prelude.{◌≡◌, ◌++◌, IfOk, OnOk, string_bytes};
+ghost use Rattle.std.specs.Prelude.{◌≡◌, ◌++◌, IfOk, OnOk, string_bytes, option_copied};
 ghost use Rattle.std.specs.BTreeMap.{get};
 ghost use Rattle.std.specs.Cmp.Lexicographic.{slice_cmp};
 ghost use Rattle.std.specs.Option.{option_map};
@@ -10,11 +10,11 @@ ghost use Rattle.values.specs.View.{val_of};
 ghost use Rattle.values.specs.Shown.{shown};
 ghost use Rattle.heap.specs.State.{bound, held, made, viewed, fenced};
 ghost use Rattle.heap.specs.View.{bind_of, object_of, view_of, state_of, tops_of, slots_of, objects_of, views_of, fences_of};
-ghost use Rattle.post.specs.Listed.{names_in};
-ghost use Rattle.post.specs.Messages.{place_of, message_of};
-ghost use Rattle.post.specs.View.{world_of};
-ghost use Rattle.post.specs.World.{message as message_content, published, vat_state};
-ghost use Rattle.stepper.specs.Show.{pattern_text, content_text, noun_line, noun_lines, slot_line, slot_lines, object_line, object_lines, view_line, view_lines, names_text, fence_line, fence_lines, vat_line, place_text, message_line, message_lines, board_line, board_lines, Lists, ByBirth, StateLines, VatLines, Shows};
+ghost use Rattle.worldcells.specs.Listed.{names_in};
+ghost use Rattle.post.specs.MessageView.{place_of, message_of, published_of};
+ghost use Rattle.worldcells.specs.View.{world_of};
+ghost use Rattle.worldcells.specs.World.{message as message_content, published, vat_state};
+ghost use Rattle.stepper.specs.Show.{pattern_text, content_text, noun_line, noun_lines, slot_line, slot_lines, object_line, object_lines, view_line, view_lines, names_text, fence_line, fence_lines, vat_line, named_text, place_text, message_line, message_lines, board_line, board_lines, Lists, ByBirth, StateLines, VatLines, Shows};
 ghost use Rattle.stepper.specs.ShowView.{nouns_in, slots_in, objects_in, views_in, fences_in, messages_in, board_in, Written};
 
 use eorder::fence::Fence;
@@ -25,12 +25,13 @@ use ids::reference::Reference;
 use ids::text::Text;
 use kernele::tree::Pattern;
 use post::message::{Message, Place};
+use post::published::Published;
 use post::vat::Vat;
-use post::world::World;
 use std::alloc::{AllocError, Global};
 use std::collections::BTreeMap;
 use values::showing::write_value;
 use values::value::Value;
+use worldcells::world::World;
 
 fn write_binding(binding: &Binding, out: &mut String) -> Result<(), AllocError>
     ensures { OnOk result (string_bytes out.new ≡ string_bytes out.old ++ content_text (bound (bind_of binding.now))) }
@@ -92,7 +93,10 @@ fn write_object(name: ObjId, object: &Made, out: &mut String) -> Result<(), Allo
     ensures { OnOk result (string_bytes out.new ≡ string_bytes out.old ++ object_line (name, made (object_of object.now))) }
 {
     write!(out, " object {name} ")?;
-    write_pattern(&object.own, out)?;
+    match object {
+        Made::Plain(plain) => write_pattern(&plain.own, out)?,
+        Made::Resolver(promise) => write!(out, "resolver {promise}")?,
+    }
     out.push_str("\n")
 }
 
@@ -197,7 +201,7 @@ fn write_home(
 }
 
 /// The vats in order of birth, each with its name.
-fn vats_by_birth(
+pub(crate) fn vats_by_birth(
     alloc: Global,
     names: &BTreeMap<Text, Vat>,
 ) -> Result<BTreeMap<VatNo, Text>, AllocError>
@@ -234,11 +238,18 @@ fn write_place(
     ensures { OnOk result (string_bytes out.new ≡ string_bytes out.old ++ place_text vats.now.entries (place_of place)) }
 {
     match place {
-        Place::At(number) => match vats.get(&number) {
-            Some(name) => write!(out, " at {name}"),
-            None => Ok(()),
-        },
+        Place::Flying(number) => write_vat_name(" flying ", vats.get(&number), out),
+        Place::At(number) => write_vat_name(" at ", vats.get(&number), out),
         Place::Done(event) => write!(out, " done {event}"),
+    }
+}
+
+fn write_vat_name(words: &str, name: Option<&Text>, out: &mut String) -> Result<(), AllocError>
+    ensures { OnOk result (string_bytes out.new ≡ string_bytes out.old ++ named_text words.now (option_copied name.entry)) }
+{
+    match name {
+        Some(name) => write!(out, "{words}{name}"),
+        None => Ok(()),
     }
 }
 
@@ -270,21 +281,25 @@ fn write_messages(
     Ok(())
 }
 
-fn write_published(promise: PromId, value: &Value, out: &mut String) -> Result<(), AllocError>
-    ensures { OnOk result (string_bytes out.new ≡ string_bytes out.old ++ board_line (promise, published (val_of value.now))) }
+fn write_published(
+    promise: PromId,
+    publication: &Published,
+    out: &mut String,
+) -> Result<(), AllocError>
+    ensures { OnOk result (string_bytes out.new ≡ string_bytes out.old ++ board_line (promise, published (published_of publication.now))) }
 {
     write!(out, "board {promise} = ")?;
-    write_value(value, out)?;
+    write_value(&publication.value, out)?;
     out.push_str("\n")
 }
 
 /// Writes what was published, in order of the promises.
-fn write_board(board: &BTreeMap<PromId, Value>, out: &mut String) -> Result<(), AllocError>
+fn write_board(board: &BTreeMap<PromId, Published>, out: &mut String) -> Result<(), AllocError>
     ensures written { OnOk result (string_bytes out.new ≡ string_bytes out.old ++ board_lines (board_in board.now)) }
-    ensures listed { OnOk result (Lists promise_cmp (λ p. option_map (λ v. published (val_of v)) (get promise_cmp board.now p)) (board_in board.now)) }
+    ensures listed { OnOk result (Lists promise_cmp (λ p. option_map (λ q. published (published_of q)) (get promise_cmp board.now p)) (board_in board.now)) }
 {
-    for (promise, value) in board.iter() {
-        write_published(*promise, value, out)?;
+    for (promise, publication) in board.iter() {
+        write_published(*promise, publication, out)?;
     }
     Ok(())
 }

@@ -1,2 +1,6 @@
 pub mod Deliveries
+pub mod Knowing
+pub mod Calling
+pub mod Waiting
 pub mod Meeting
+pub mod Telling

@@ -1,39 +1,37 @@
 -- From where a turn's program ended to what it comes to on every state that agrees with what the turn found.
-use Rattle.std.proofs.Common.{◌≡◌, ℕ, Bool, true, false, cond, List, Option, Some, None, is_some, refl, sym, ap, subst, ◌∙◌}
+use Rattle.std.proofs.Common.{◌≡◌, ℕ, Bool, true, false, cond, Option, Some, None, is_some, refl, sym, ap, subst, ◌∙◌}
 use Rattle.cells.specs.Touches.{standing}
 use Rattle.ids.specs.declared.names.EventName.{EventName}
+use Rattle.ids.specs.declared.names.PromId.{PromId}
 use Rattle.ids.specs.declared.names.VatNo.{VatNo}
-use Rattle.values.specs.Data.{Val, null}
 use Rattle.heap.specs.State.{Cell, Content, State, Cells}
-use Rattle.heap.specs.Found.{Found, touch_in, touched_in, writes_in, left_by}
+use Rattle.heap.specs.Found.{Found as FoundCells, touch_in, touched_in, writes_in, left_by}
 use Rattle.heap.specs.declared.reach.Footprint.{Footprint}
 use Rattle.erules.specs.At.{At}
 use Rattle.erules.specs.Laws.{AgreeOn, with_cells}
-use Rattle.erules.specs.Outcomes.{End, value, halt, thrown, ejected, abandoned}
-use Rattle.kernele.specs.Tree.{Trees}
-use Rattle.code.specs.View.{trees_of_codes}
-use Rattle.code.specs.declared.code.Code.{Code}
-use Rattle.erules.specs.Rules.{Items}
-use Rattle.erules.proofs.Reached.{items_later}
-use Rattle.post.specs.declared.delivery.Delivery as code
-use Rattle.post.specs.declared.delivery.Delivery.TheVariants as delivery
-use Rattle.post.specs.declared.program.Script.{Script}
-use Rattle.post.specs.declared.program.Question.{Question}
+use Rattle.erules.specs.Outbox.{Outbox}
+use Rattle.erules.specs.Outcomes.{End, value, halt}
+use Rattle.post.specs.Messages.{Message}
+use Rattle.std.specs.Arc.{arc_value}
 use Rattle.post.specs.DeliveryView.{delivery_of}
-use Rattle.post.specs.Delivery.{Delivery, opening, asked}
-use Rattle.event.specs.Turn.{Outcome, Delivers, opens, asks, outcome, kept, settled, start}
-use Rattle.event.specs.Touched.{delivery_touched, delivery_written}
-use Rattle.event.specs.Outcomes.{ended_of, outcome_on, written_by, Meets}
-use Rattle.turn.specs.Runs.{RunsTo}
-use Rattle.event.specs.declared.outcome.Outcome as code-outcome
-use Rattle.event.proofs.Turns.{delivery_framed, delivery_within}
+use Rattle.post.specs.MessageView.{message_of}
+use Rattle.post.specs.declared.message.Message as code-message
+use Rattle.post.specs.declared.message.Sent.{Sent}
+use Rattle.deliveries.specs.Turn.{start, Found, Told, told, lost, Outcome, Begins, Delivers, delivers, telling, telling_at, ending_at, finish, outcome, outcome_by}
+use Rattle.deliveries.specs.Touched.{delivery_touched, delivery_written}
+use Rattle.deliveries.specs.Outcomes.{kept, outcome_on, told_of, written_by, Meets}
+use Rattle.deliveries.specs.declared.outcome.Outcome as code-outcome
+use Rattle.deliveries.proofs.Begun.{begun_later}
+use Rattle.deliveries.proofs.Turns.{delivery_framed, delivery_within}
+use Rattle.turn.specs.Runs.{Does, RunsTo, is_opening}
+use Rattle.turn.proofs.Deliveries.{begins_at}
 
 some_of : {X : Type 0} (o : Option X) → is_some o ≡ true → (x : X) × (o ≡ Some x)
 some_of None h = cc
 some_of (Some x) h = (x, refl)
 
 -- two states that agree with what was found agree on the cells touched
-found_agree : (r : Footprint) (s u : State) → Found r s → Found r u → AgreeOn (touched_in r) u s
+found_agree : (r : Footprint) (s u : State) → FoundCells r s → FoundCells r u → AgreeOn (touched_in r) u s
 found_agree r s u f g c h =
     let t = some_of (touch_in r c) h in
     sym (g c t.0 t.1) ∙ f c t.0 t.1
@@ -47,47 +45,61 @@ same_by true s u h = sym (h refl)
 same_by false s u h = refl
 
 -- what is left of the written cells over a state is what the footprint leaves, and of an abandoned turn the state itself
-left_alike : (r : Footprint) (o : End) (s b u : State) → ((c : Cell) (x : Content) → writes_in r c ≡ Some x → b c ≡ Some x) → ((c : Cell) → is_some (writes_in r c) ≡ true → u c ≡ s c)
-    → (c : Cell) → with_cells (λ c. is_some (writes_in r c)) (kept o s b) u c ≡ kept o u (left_by r u) c
-left_alike r (value v) s b u h g c = over_by (writes_in r c) (b c) (u c) (h c)
-left_alike r (halt (thrown problem)) s b u h g c = over_by (writes_in r c) (b c) (u c) (h c)
-left_alike r (halt (ejected j v)) s b u h g c = over_by (writes_in r c) (b c) (u c) (h c)
-left_alike r (halt (abandoned why)) s b u h g c = same_by (is_some (writes_in r c)) (s c) (u c) (g c)
+left_alike : (r : Footprint) (p : PromId) (t : Told) (s u : State) (z : At) → ((c : Cell) (x : Content) → writes_in r c ≡ Some x → z.state c ≡ Some x) → ((c : Cell) → is_some (writes_in r c) ≡ true → u c ≡ s c)
+    → (c : Cell) → with_cells (λ c. is_some (writes_in r c)) (outcome_by s p t z).state u c ≡ kept t u (left_by r u) c
+left_alike r p (told a) s u z h g c = over_by (writes_in r c) (z.state c) (u c) (h c)
+left_alike r p (lost why) s u z h g c = same_by (is_some (writes_in r c)) (s c) (u c) (g c)
 
--- the outcome on another state, by its parts
-outcome_alike : {s t : State} {v w : Val} {e f : End} {m n : ℕ} → s ≡ t → v ≡ w → e ≡ f → m ≡ n
-    → ◌≡◌ {A = Outcome} (record { state = s; result = v; end = e; left = m }) (record { state = t; result = w; end = f; left = n })
-outcome_alike p q r l = λ i. record { state = p i; result = q i; end = r i; left = l i }
+-- the other parts of an outcome
+told_alike : (s : State) (p : PromId) (t : Told) (z : At) → (outcome_by s p t z).told ≡ t
+told_alike s p (told a) z = refl
+told_alike s p (lost why) z = refl
 
--- what is known of a delivery whose program ended at this place
-pub meets : {d : Delivery} {e : EventName} {v : VatNo} {s : State} {n : ℕ} {o : End} {b : At} (x : code-outcome.Outcome) (r : Delivers d e v s n (outcome s o b))
-    → delivery_touched r ≡ b.touched → delivery_written r ≡ b.written → Found x.footprint s → RunsTo x o b → Meets d e v n x
-meets {d = d} {e = e} {v = v} {s = s} {n = n} {o = o} {b = b} x r touched written found to u g =
-    let agree : AgreeOn (delivery_touched r) u s = subst (λ q. AgreeOn q u s) (to.touched ∙ sym touched) (found_agree x.footprint s u found g) in
-    let within : (c : Cell) → written_by x c ≡ true → u c ≡ s c = λ c h. agree c (delivery_within r c (subst (λ (q : Cells). q c ≡ true) (to.written ∙ sym written) h)) in
-    let framed = delivery_framed r u agree in
-    let alike : with_cells (delivery_written r) (kept o s b.state) u ≡ kept (ended_of x.ended) u (left_by x.footprint u) =
-    ap (λ q. with_cells q (kept o s b.state) u) (written ∙ sym to.written)
-    ∙ (λ i c. left_alike x.footprint o s b.state u to.holds within c i)
-    ∙ ap (λ z. kept z u (left_by x.footprint u)) (sym to.end) in
-    let is : ◌≡◌ {A = Outcome} (record (outcome s o b) { state = with_cells (delivery_written r) (kept o s b.state) u }) (outcome_on x u) = outcome_alike alike (sym to.result) (sym to.end) (sym to.left) in
-    subst (λ z. ∥ ((q : Delivers d e v u n z) × (delivery_touched q ≡ touched_in x.footprint) × (delivery_written q ≡ written_by x)) ∥₁) is
-    ∣ (framed.0, framed.1 ∙ touched ∙ sym to.touched, framed.2 ∙ written ∙ sym to.written) ∣₁
+steps_alike : (s : State) (p : PromId) (t : Told) (b : At) → (outcome_by s p t (ending_at p t b)).left ≡ b.left
+steps_alike s p (told a) b = refl
+steps_alike s p (lost why) b = refl
 
--- what a program's run gives
-abbrev pub Completes : Trees → Bool → EventName → VatNo → State → ℕ → code-outcome.Outcome → Type 0
-Completes ts own e v s n x = (o : End) × (b : At) × Items 1 null ts (start own e v s n) o b × RunsTo x (settled o) b
+out_alike : (s w : State) (p : PromId) (t : Told) (z : At) → (outcome_by s p t z).out ≡ (outcome_by w p t z).out
+out_alike s w p (told a) z = refl
+out_alike s w p (lost why) z = refl
 
-pub completes_found : {ts : Trees} {own : Bool} {e : EventName} {v : VatNo} {s : State} {n : ℕ} (x : code-outcome.Outcome) → Completes ts own e v s n x → Found x.footprint s
-completes_found x h = subst (Found x.footprint) (items_later h.2).began h.3.found
+outcome_alike : {s t : State} {v w : Told} {m n : ℕ} {x y : Outbox} → s ≡ t → v ≡ w → m ≡ n → x ≡ y
+    → ◌≡◌ {A = Outcome} (record { state = s; told = v; left = m; out = x }) (record { state = t; told = w; left = n; out = y })
+outcome_alike p q l e = λ i. record { state = p i; told = q i; left = l i; out = e i }
 
--- a delivery whose program ran so, from the slice of its items
-pub opening_meets : {p : Script} {items : List Code} {e : EventName} {v : VatNo} {s : State} {n : ℕ} (d : code.Delivery) (x : code-outcome.Outcome) → d ≡ delivery.Opening p → items ≡ p.items.value.items → Completes (trees_of_codes items) true e v s n x
-    → Meets (delivery_of d) e v n x
-opening_meets {e = e} {v = v} {n = n} d x is same h =
-    subst (λ d. Meets d e v n x) (sym (ap delivery_of is ∙ ap (λ items. opening (trees_of_codes items)) (sym same))) (meets x (opens h.2) refl refl (completes_found x h) h.3)
+-- what is told changes nothing of where the program stands but its cells
+telling_began : (o : End) (b : At) → (telling_at o b).began ≡ b.began
+telling_began (value v) b = refl
+telling_began (halt h) b = refl
 
-pub asked_meets : {p : Question} {items : List Code} {e : EventName} {v : VatNo} {s : State} {n : ℕ} (d : code.Delivery) (x : code-outcome.Outcome) → d ≡ delivery.Asked p → items ≡ p.items.value.items → Completes (trees_of_codes items) false e v s n x
-    → Meets (delivery_of d) e v n x
-asked_meets {e = e} {v = v} {n = n} d x is same h =
-    subst (λ d. Meets d e v n x) (sym (ap delivery_of is ∙ ap (λ items. asked (trees_of_codes items)) (sym same))) (meets x (asks h.2) refl refl (completes_found x h) h.3)
+-- what a turn found is what the state has in which it began
+found_there : (g : Message) {f : Found} {e : EventName} {v : VatNo} {s : State} {n : ℕ} {o : End} {b : At} (x : code-outcome.Outcome) → Begins g.delivery f e v s n o b → RunsTo x g.result o b → FoundCells x.footprint s
+found_there g {o = o} {b = b} x r to = subst (FoundCells x.footprint) (telling_began o b ∙ (begun_later r).began) to.found
+
+-- what is known of a delivery that ended at this place
+meets : {g : Message} {f : Found} {e : EventName} {v : VatNo} {s : State} {n : ℕ} {o : End} {b : At} (x : code-outcome.Outcome) → Begins g.delivery f e v s n o b → RunsTo x g.result o b → Meets g f e v n x
+meets {g = g} {f = f} {e = e} {v = v} {s = s} {n = n} {o = o} {b = b} x r to u h =
+    let p = g.result in
+    let t = telling o b in
+    let place = telling_at o b in
+    let z = finish p o b in
+    let d : Delivers g f e v s n (outcome s p o b) = delivers r in
+    let agree : AgreeOn (delivery_touched d) u s = subst (λ q. AgreeOn q u s) to.touched (found_agree x.footprint s u (found_there g x r to) h) in
+    let within : (c : Cell) → written_by x c ≡ true → u c ≡ s c = λ c k. agree c (delivery_within d c (subst (λ (q : Cells). q c ≡ true) to.written k)) in
+    let framed = delivery_framed d u agree in
+    let state : with_cells (delivery_written d) (outcome s p o b).state u ≡ kept (told_of x.ended) u (left_by x.footprint u) =
+    ap (λ q. with_cells q (outcome s p o b).state u) (sym to.written)
+    ∙ (λ i c. left_alike x.footprint p t s u z to.holds within c i)
+    ∙ ap (λ t. kept t u (left_by x.footprint u)) (sym to.told) in
+    let is : ◌≡◌ {A = Outcome} (record (outcome s p o b) { state = with_cells (delivery_written d) (outcome s p o b).state u }) (outcome_on x u) =
+    outcome_alike state (told_alike s p t z ∙ sym to.told) (steps_alike s p t place ∙ sym to.left) (out_alike s place.began p t z ∙ sym to.out) in
+    subst (λ y. ∥ ((q : Delivers g f e v u n y) × (delivery_touched q ≡ touched_in x.footprint) × (delivery_written q ≡ written_by x)) ∥₁) is
+    ∣ (framed.0, framed.1 ∙ sym to.touched, framed.2 ∙ sym to.written) ∣₁
+
+-- what the program's turn of a message comes to, from where it began
+pub came_to : (m : code-message.Message) {y : Sent} {f : Found} {e : EventName} {v : VatNo} {s : State} {n : ℕ} {a : At} (o : End) (b : At) (x : code-outcome.Outcome) → y ≡ arc_value m.sent → a ≡ start (is_opening (delivery_of y.delivery)) e v s n
+    → Does (delivery_of y.delivery) f a o b → RunsTo x y.result o b → FoundCells x.footprint s × Meets (message_of m) f e v n x
+came_to m {f = f} {e = e} {v = v} {s = s} {n = n} {a = a} o b x is began does to =
+    let r = begins_at (delivery_of (arc_value m.sent).delivery) (began ∙ ap (λ (y : Sent). start (is_opening (delivery_of y.delivery)) e v s n) is) (subst (λ (y : Sent). Does (delivery_of y.delivery) f a o b) is does) in
+    let told : RunsTo x (message_of m).result o b = subst (λ (y : Sent). RunsTo x y.result o b) is to in
+    (found_there (message_of m) x r told, meets {g = message_of m} x r told)

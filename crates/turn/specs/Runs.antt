@@ -1,20 +1,42 @@
--- What the program's outcome of a turn tells of where its evaluation ended.
-use Rattle.std.specs.Prelude.{◌≡◌, Some}
+-- What a delivery runs from the place where its turn begins, and what the program's outcome tells of where it ended.
+use Rattle.std.specs.Prelude.{◌≡◌, Bool, true, false, Some}
+use Rattle.ids.specs.declared.names.PromId.{PromId}
+use Rattle.values.specs.Data.{null}
 use Rattle.heap.specs.State.{Cell, Content}
-use Rattle.heap.specs.Found.{Found, touched_in, writes_in}
-use Rattle.values.specs.View.{val_of}
+use Rattle.heap.specs.Found.{Found as FoundCells, touched_in, writes_in}
+use Rattle.post.specs.Delivery.{Delivery, opening, asked, sent, waiting}
+use Rattle.sends.specs.Vats.{ended}
 use Rattle.erules.specs.At.{At}
+use Rattle.erules.specs.Doings.{given_by, behind}
 use Rattle.erules.specs.Outcomes.{End}
-use Rattle.event.specs.Turn.{published}
-use Rattle.event.specs.Outcomes.{ended_of, written_by}
-use Rattle.event.specs.declared.outcome.Outcome.{Outcome}
+use Rattle.erules.specs.OutboxView.{outbox_of}
+use Rattle.erules.specs.Rules.{Items}
+use Rattle.deliveries.specs.Outcomes.{told_of, written_by}
+use Rattle.deliveries.specs.Turn.{Found, Led, Told, knowing, call_met, call_meeting, when_met, telling, telling_at, ending_at, outcome_by}
+use Rattle.deliveries.specs.declared.outcome.Outcome.{Outcome}
 
--- a turn that ended so at this place leaves this
-pub record RunsTo (r : Outcome) (o : End) (b : At) : Type 0 where
-  pub touched : touched_in r.footprint ≡ b.touched
-  pub written : written_by r ≡ b.written
-  pub holds : (c : Cell) (x : Content) → writes_in r.footprint c ≡ Some x → b.state c ≡ Some x
-  pub found : Found r.footprint b.began
-  pub result : val_of r.result ≡ published o
-  pub end : ended_of r.ended ≡ o
-  pub left : r.steps ≡ b.left
+-- a script is evaluated in the vat's own scope
+abbrev pub is_opening : Delivery → Bool
+is_opening (opening earlier ts) = true
+is_opening _ = false
+
+-- from this place a delivery whose target leads there ends so
+abbrev pub Does : Delivery → Found → At → End → At → Type 0
+Does (opening earlier ts) f a o b = Items 1 null ts (knowing earlier a) o b
+Does (asked ts) f a o b = Items 1 null ts a o b
+Does (sent c) f a o b = Led (call_met c f a) (call_meeting c f a) o b
+Does (waiting w) f a o b = Led (when_met w (given_by (ended w.value) a)) (behind (ended w.value) a) o b
+
+-- a turn that told this at this place left this outcome, and published its result
+pub record Leaves (x : Outcome) (p : PromId) (t : Told) (b : At) : Type 0 where
+  pub touched : touched_in x.footprint ≡ (ending_at p t b).touched
+  pub written : written_by x ≡ (ending_at p t b).written
+  pub holds : (c : Cell) (y : Content) → writes_in x.footprint c ≡ Some y → (ending_at p t b).state c ≡ Some y
+  pub found : FoundCells x.footprint b.began
+  pub told : told_of x.ended ≡ t
+  pub left : x.steps ≡ b.left
+  pub out : outbox_of x.out ≡ (outcome_by b.began p t (ending_at p t b)).out
+
+-- the same of a turn whose delivery ended so at this place
+abbrev pub RunsTo : Outcome → PromId → End → At → Type 0
+RunsTo x p o b = Leaves x p (telling o b) (telling_at o b)

@@ -1,76 +1,74 @@
 // One delivery to a vat.
 ghost use Rattle.std.specs.Prelude.{◌≡◌, [], IfOk};
 ghost use Rattle.std.specs.Arc.{arc_value};
-ghost use Rattle.code.specs.Frames.{fits_all};
-ghost use Rattle.code.specs.View.{trees_of_codes};
-ghost use Rattle.values.specs.Data.{null};
-ghost use Rattle.values.specs.View.{val_of};
-ghost use Rattle.erules.specs.At.{At};
-ghost use Rattle.erules.specs.Outcomes.{End as ModelEnd, value as value_end, halt as halt_end};
-ghost use Rattle.erules.specs.Rules.{Items};
-ghost use Rattle.event.specs.Turn.{start, settled, published as published_of};
 ghost use Rattle.heap.specs.Found.{Found};
 ghost use Rattle.heap.specs.View.{state_of};
-ghost use Rattle.erules.specs.View.{at, halt_of};
-ghost use Rattle.event.specs.Outcomes.{ended_of, Meets};
+ghost use Rattle.erules.specs.Answered.{OnEnd};
+ghost use Rattle.erules.specs.View.{at};
+ghost use Rattle.deliveries.specs.Outcomes.{Meets, found_of};
+ghost use Rattle.deliveries.specs.Turn.{start};
 ghost use Rattle.post.specs.DeliveryView.{delivery_of};
-ghost use Rattle.turn.specs.Runs.{RunsTo};
+ghost use Rattle.post.specs.MessageView.{message_of};
+ghost use Rattle.turn.specs.Runs.{Does, is_opening};
 
-use code::code::Code;
+use crate::calls::run_call;
+use crate::ending::{end, lose};
+use crate::opening::run_opening;
+use crate::whens::run_when;
+use deliveries::lead::Lead;
+use deliveries::outcome::Outcome;
 use erules::end::{Abandon, Halt, Stop};
+use erules::outbox::Outbox;
 use erules::working::Working;
 use eval::eval::eval_items;
-use event::outcome::{Ended, Outcome};
 use heap::draft::Draft;
 use heap::state::VatState;
 use ids::names::{EventName, VatNo};
-use ids::text::Text;
 use post::delivery::Delivery;
+use post::message::{Message, Sent};
 use std::alloc::{AllocError, Global};
 use std::sync::Arc;
-use values::limits::is_within_limits;
 use values::value::Value;
 
-/// Runs a turn of a vat in this state, which itself stays as it is. Fails only for want of memory.
+/// Runs the turn of a message at a vat in this state, which itself stays as it is. The message's target leads there. Fails only for
+/// want of memory.
 pub fn deliver(
     alloc: Global,
-    delivery: &Delivery,
+    message: &Message,
+    lead: &Lead,
     event: EventName,
     vat: VatNo,
     state: &Arc<VatState>,
     budget: u32,
 ) -> Result<Outcome, AllocError>
     ensures found { IfOk result (λ o. Found o.footprint (state_of (arc_value state.now))) }
-    ensures meets { IfOk result (λ o. Meets (delivery_of delivery.now) event vat budget o) }
+    ensures meets { IfOk result (λ o. Meets (message_of message.now) (found_of lead.now) event vat budget o) }
 {
-    match delivery {
-        Delivery::Opening(script) => {
-            run_items(alloc, &script.items, true, event, vat, state, budget)
-        }
-        Delivery::Asked(question) => {
-            run_items(alloc, &question.items, false, event, vat, state, budget)
-        }
+    let sent: &Sent = &message.sent;
+    let mut w = begin(alloc, &sent.delivery, event, vat, state, budget)?;
+    let mut value = Value::Null;
+    match run(&mut w, &sent.delivery, lead, &mut value) {
+        Ok(()) => end(w, sent.result, value),
+        Err(Stop::Halted) => lose(w, sent.result),
+        Err(Stop::Memory) => Err(AllocError),
     }
 }
 
-fn run_items(
+/// A turn that is to run a delivery: a script defines top nouns.
+fn begin(
     alloc: Global,
-    items: &[Code],
-    own_scope: bool,
+    delivery: &Delivery,
     event: EventName,
     vat: VatNo,
     state: &Arc<VatState>,
     budget: u32,
-) -> Result<Outcome, AllocError>
-    requires { fits_all own_scope [] items.now }
-    ensures { IfOk result (λ r. (o : ModelEnd) × (b : At)
-        × Items 1 null (trees_of_codes items.now) (start own_scope event vat (state_of (arc_value state.now)) budget) o b
-        × RunsTo r (settled o) b) }
+) -> Result<Working, AllocError>
+    ensures { IfOk result (λ w. at w ≡ start (is_opening (delivery_of delivery.now)) event vat (state_of (arc_value state.now)) budget) }
 {
-    let mut w = Working {
+    Ok(Working {
         alloc,
         draft: Draft::new(alloc, Arc::try_clone(state)?, event, vat),
-        own_scope,
+        own_scope: defines_tops(delivery),
         captured: None,
         older: 0,
         nouns: Vec::new(alloc),
@@ -78,78 +76,31 @@ fn run_items(
         steps: budget,
         ejectors: 0,
         opened: Vec::new(alloc),
+        out: Outbox::new(alloc),
         halt: Halt::Abandoned(Abandon::Budget),
-    };
-    let mut value = Value::Null;
-    match eval_items(&mut w, items, 1, &mut value) {
-        Ok(()) => {
-            let ended = settle(alloc, value)?;
-            finish(w, ended)
-        }
-        Err(Stop::Halted) => {
-            let ended = halted(alloc, &w.halt)?;
-            finish(w, ended)
-        }
-        Err(Stop::Memory) => Err(AllocError),
-    }
-}
-
-/// The outcome of a turn that ended so.
-fn finish(w: Working, ended: Ended) -> Result<Outcome, AllocError>
-    ensures { IfOk result (λ r. RunsTo r (ended_of ended) (at w)) }
-{
-    let Working {
-        alloc,
-        draft,
-        own_scope: _,
-        captured: _,
-        older: _,
-        nouns: _,
-        spare: _,
-        steps,
-        ejectors: _,
-        opened: _,
-        halt: _,
-    } = w;
-    let result = published(alloc, &ended)?;
-    let footprint = draft.finish()?;
-    Ok(Outcome {
-        footprint,
-        result,
-        ended,
-        steps,
     })
 }
 
-/// How a turn whose program gave this value ends: a value past the limits of a value is a problem.
-fn settle(alloc: Global, value: Value) -> Result<Ended, AllocError>
-    ensures { IfOk result (λ e. ended_of e ≡ settled (value_end (val_of value))) }
+/// Whether a delivery is evaluated in the vat's own scope.
+fn defines_tops(delivery: &Delivery) -> bool
+    ensures { result ≡ is_opening (delivery_of delivery.now) }
 {
-    if is_within_limits(&value) {
-        Ok(Ended::Value(value))
-    } else {
-        Ok(Ended::Problem(Text::new(alloc, "value too large")?))
+    match delivery {
+        Delivery::Opening(_, _) => true,
+        Delivery::Asked(_) | Delivery::Sent(_) | Delivery::Waiting(_) => false,
     }
 }
 
-/// How a turn whose program was halted ends.
-fn halted(alloc: Global, halt: &Halt) -> Result<Ended, AllocError>
-    ensures { IfOk result (λ e. ended_of e ≡ settled (halt_end (halt_of halt.now))) }
+/// Runs a delivery.
+fn run(w: &mut Working, delivery: &Delivery, lead: &Lead, into: &mut Value) -> Result<(), Stop>
+    requires own { (at w.old).own_scope ≡ is_opening (delivery_of delivery.now) }
+    requires bare { (at w.old).nouns ≡ [] }
+    ensures { OnEnd result into.new w.new (Does (delivery_of delivery.now) (found_of lead.now) (at w.old)) }
 {
-    match halt {
-        Halt::Thrown(problem) => Ok(Ended::Problem(problem.share()?)),
-        // No ejection leaves its Escape.
-        Halt::Ejected(_, _) => Ok(Ended::Problem(Text::new(alloc, "ejector is spent")?)),
-        Halt::Abandoned(why) => Ok(Ended::Abandoned(*why)),
-    }
-}
-
-fn published(alloc: Global, ended: &Ended) -> Result<Value, AllocError>
-    ensures { IfOk result (λ v. val_of v ≡ published_of (ended_of ended.now)) }
-{
-    match ended {
-        Ended::Value(value) => value.share(),
-        Ended::Problem(problem) => Ok(Value::Broken(problem.share()?)),
-        Ended::Abandoned(why) => Ok(Value::Broken(Text::new(alloc, why.reason())?)),
+    match delivery {
+        Delivery::Opening(earlier, script) => run_opening(w, earlier, &script.items, into),
+        Delivery::Asked(question) => eval_items(w, &question.items, 1, into),
+        Delivery::Sent(call) => run_call(w, call, lead, into),
+        Delivery::Waiting(when) => run_when(w, when, into),
     }
 }

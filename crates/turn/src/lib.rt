@@ -5,5 +5,9 @@
 //! evaluation in it.
 #![tactic(auto)]
 
+mod calls;
 pub mod delivery;
+mod ending;
+mod opening;
 pub mod ticket;
+mod whens;

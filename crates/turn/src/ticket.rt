@@ -4,11 +4,12 @@ ghost use Rattle.std.specs.Arc.{arc_value};
 ghost use Rattle.heap.specs.Found.{Found};
 ghost use Rattle.turn.specs.Tasks.{task_of};
 ghost use Rattle.heap.specs.View.{state_of};
-ghost use Rattle.post.specs.DeliveryView.{delivery_of};
-ghost use Rattle.event.specs.Outcomes.{Meets};
+ghost use Rattle.post.specs.MessageView.{message_of};
+ghost use Rattle.deliveries.specs.Outcomes.{Meets, found_of};
 
 use crate::delivery::deliver;
-use event::outcome::Outcome;
+use deliveries::lead::Lead;
+use deliveries::outcome::Outcome;
 use heap::state::VatState;
 use ids::names::{EventName, MsgId, VatNo};
 use post::message::Message;
@@ -24,6 +25,8 @@ pub struct Out {
     pub event: EventName,
     pub name: MsgId,
     pub message: Message,
+    /// Where the message leads.
+    pub lead: Lead,
     pub vat: VatNo,
     pub state: Arc<VatState>,
     pub budget: u32,
@@ -36,6 +39,7 @@ pub struct Task {
     pub event: EventName,
     pub name: MsgId,
     pub message: Message,
+    pub lead: Lead,
     pub vat: VatNo,
     pub budget: u32,
     pub seat: u64,
@@ -47,7 +51,7 @@ pub struct Task {
 pub struct Ran {
     pub carried: Task,
     pub outcome: Outcome,
-    pub ghost met: { Meets (delivery_of (arc_value carried.message.sent).delivery) carried.event carried.vat carried.budget outcome },
+    pub ghost met: { Meets (message_of carried.message) (found_of carried.lead) carried.event carried.vat carried.budget outcome },
 }
 
 /// A turn checked out of a book. It must be spent: run and committed, or discarded.
@@ -78,7 +82,8 @@ impl Ticket<Out> {
         let Ticket { stage } = self;
         match deliver(
             stage.alloc,
-            &stage.message.sent.delivery,
+            &stage.message,
+            &stage.lead,
             stage.event,
             stage.vat,
             &stage.state,
@@ -92,7 +97,7 @@ impl Ticket<Out> {
 
 /// The ticket of a turn that was run with this outcome. The state is let go.
 fn with_outcome(stage: Out, outcome: Outcome) -> Ticket<Ran>
-    requires { Meets (delivery_of (arc_value stage.message.sent).delivery) stage.event stage.vat stage.budget outcome }
+    requires { Meets (message_of stage.message) (found_of stage.lead) stage.event stage.vat stage.budget outcome }
     ensures carried { result.carried ≡ task_of stage }
     ensures outcome { result.outcome ≡ outcome }
 {
@@ -101,6 +106,7 @@ fn with_outcome(stage: Out, outcome: Outcome) -> Ticket<Ran>
         event,
         name,
         message,
+        lead,
         vat,
         state: _,
         budget,
@@ -112,6 +118,7 @@ fn with_outcome(stage: Out, outcome: Outcome) -> Ticket<Ran>
                 event,
                 name,
                 message,
+                lead,
                 vat,
                 budget,
                 seat,

@@ -2,8 +2,8 @@
 use Rattle.std.specs.Prelude.{Bool, List, map}
 use Rattle.history.specs.Records.{State}
 use Rattle.ids.specs.declared.cells.CellKey.{CellKey}
-use Rattle.post.specs.View.{is_ready}
-use Rattle.post.specs.Theory.{cells, state_of_world}
+use Rattle.worldcells.specs.View.{is_ready}
+use Rattle.worldcells.specs.Theory.{cells, state_of_world}
 use Rattle.journal.specs.Items.{Item, item_of}
 use Rattle.undo.specs.declared.undoing.Core.{Core}
 

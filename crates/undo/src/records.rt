@@ -2,12 +2,12 @@
 ghost use Rattle.std.specs.Prelude.{◌≡◌, ◌+◌, ◌%◌, ◌^◌, true, length, OnOk, OnErr};
 ghost use Rattle.history.specs.Records.{swap_state, swap_record};
 ghost use Rattle.ids.specs.declared.cells.CellKey.{CellKey};
-ghost use Rattle.post.specs.View.{seen_of_world, is_ready};
-ghost use Rattle.post.specs.Theory.{cells, state_of_world, kept_of, kepts_of, all_pass};
+ghost use Rattle.worldcells.specs.View.{seen_of_world, is_ready};
+ghost use Rattle.worldcells.specs.Theory.{cells, state_of_world, kept_of, kepts_of, all_pass};
 
 use cells::swaps::Swaps;
-use post::record::CellRecord;
-use post::world::World;
+use worldcells::record::CellRecord;
+use worldcells::world::World;
 use std::alloc::{AllocError, Global};
 
 /// Makes room for the cells of these records, and makes the states of their vats their own. What is seen stays. Fails only for

@@ -5,10 +5,10 @@ ghost use Rattle.heap.specs.View as heap;
 ghost use Rattle.history.specs.Records.{contents};
 ghost use Rattle.history.specs.Walks.{step_at, walk};
 ghost use Rattle.ids.specs.declared.cells.CellKey.{CellKey};
-ghost use Rattle.post.specs.EventView.{event_of};
-ghost use Rattle.post.specs.View.{is_ready};
-ghost use Rattle.post.specs.World.{vat_state};
-ghost use Rattle.post.specs.Theory.{cells, state_of_world, kepts_of, all_pass};
+ghost use Rattle.worldcells.specs.EventView.{event_of};
+ghost use Rattle.worldcells.specs.View.{is_ready};
+ghost use Rattle.worldcells.specs.World.{vat_state};
+ghost use Rattle.worldcells.specs.Theory.{cells, state_of_world, kepts_of, all_pass};
 ghost use Rattle.journal.specs.Items.{item_of, is_live, swap_item, entered, keys_at, all_ready, records_at, may_exchange, neighbours, exchanged};
 
 use crate::records::{make_rooms, swap_records};
@@ -17,9 +17,9 @@ use heap::state::VatState;
 use ids::cells::CellKey;
 use ids::names::VatNo;
 use journal::entry::{Entry, Mark, may_exchange, with_writers};
-use post::event::Event;
-use post::record::CellRecord;
-use post::world::World;
+use worldcells::event::Event;
+use worldcells::record::CellRecord;
+use worldcells::world::World;
 use std::alloc::{AllocError, Global};
 use std::sync::Arc;
 

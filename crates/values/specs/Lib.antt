@@ -6,6 +6,7 @@ pub mod Promises
 pub mod Shown
 pub mod Verbs
 pub mod Replies
+pub mod Wanted
 pub mod View
 pub mod Items
 pub mod ItemsFall

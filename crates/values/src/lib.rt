@@ -14,3 +14,4 @@ pub mod texts;
 pub mod theorems;
 pub mod value;
 pub mod verb;
+pub mod wanted;

@@ -8,9 +8,13 @@ mod depth;
 #[cfg(test)]
 mod endings;
 #[cfg(test)]
+mod examples;
+#[cfg(test)]
 mod objects;
 #[cfg(test)]
 mod sessions;
+#[cfg(test)]
+mod several;
 #[cfg(test)]
 mod steps;
 #[cfg(test)]

@@ -27,6 +27,7 @@ const ASKED_TEXTS: &str = r#"
 "a\n" + "\"" => value "a\n\""
 "hé".size() => value 2
 1 + "a" => problem "bad argument"
+1 <- run() => value <e4.p0>
 3(1, 2) => problem "no method run/2"
 !null => problem "no method not/0"
 def x := 6; def _ := 7; x * 7 => value 42
@@ -42,7 +43,7 @@ def x := 1; x := 2 => no K2 AssignToDef x
 "x => no L2 UnclosedText 0
 1 + => no L5 Unexpected 3
 1 < 2 < 3 => no L5 Unexpected 6
-1 <- run() => no L5 Unexpected 2
+1 <- => no L5 Unexpected 4
 9223372036854775808 => no L4 IntegerTooLarge 0
 "a\q" => no L3 BadEscape 2
 1 & 2 => no L1 BadCharacter 2
@@ -80,8 +81,8 @@ no S2 BadWord
 no S2 BadWord
 > show all
 no S2 BadWord
-> vat b (a) 0
-no S2 BadWord
+> vat b (b c) 0
+no B1 NoVat b
 > vat b () 4097
 no S2 BadWord
 > turn e01.m00

@@ -4,8 +4,11 @@ use crate::tables::{expect_text, row};
 use cells::store::CellStore;
 use cells::swaps::Swaps;
 use cells::touches::Touches;
+use deliveries::lead::Lead;
+use deliveries::outcome::{Ended, Outcome};
+use eorder::carried::Carried;
+use eorder::fence::Fence;
 use ereader::read;
-use event::outcome::{Ended, Outcome};
 use heap::draft::Draft;
 use heap::reach::Footprint;
 use heap::state::{Binding, VatState};
@@ -34,8 +37,10 @@ fn program(rt: &(impl Abort + AllocGlobal), text: &str) -> Program {
 
 /// The opening of a vat with this script.
 fn opening(rt: &(impl Abort + AllocGlobal), text: &str) -> Delivery {
-    let script = Script::new(rt.alloc(), &program(rt, text));
-    Delivery::Opening(script.expect(rt, "no memory"))
+    let alloc = rt.alloc();
+    let none = Arc::new(alloc, Vec::new(alloc)).expect(rt, "no memory");
+    let script = Script::new(alloc, &program(rt, text));
+    Delivery::Opening(none, script.expect(rt, "no memory"))
 }
 
 /// A text that is asked of a vat.
@@ -53,9 +58,18 @@ fn waiting(rt: &(impl Abort + AllocGlobal), delivery: Delivery) -> Message {
             index: 0,
             home: ALICE,
         },
-        after: None,
+        after: Fence::empty(rt.alloc()),
     };
     Message::new(rt.alloc(), sent, Place::At(ALICE)).expect(rt, "no memory")
+}
+
+/// Where a message leads that has no target.
+fn nowhere(rt: &(impl Abort + AllocGlobal)) -> Lead {
+    let none = Carried::empty(rt.alloc());
+    Lead {
+        end: Value::Null,
+        fences: Arc::new(rt.alloc(), none).expect(rt, "no memory"),
+    }
 }
 
 /// Runs a turn by a ticket, with a budget of 2,000 steps.
@@ -73,6 +87,7 @@ fn run(
             index: 0,
         },
         message: waiting(rt, delivery),
+        lead: nowhere(rt),
         vat: ALICE,
         state: Arc::try_clone(state).expect(rt, "no memory"),
         budget: 2000,
@@ -118,6 +133,8 @@ fn written(
     write_cells(rt, &mut after.tops, &footprint.tops, writer);
     write_cells(rt, &mut after.slots, &footprint.slots, writer);
     write_cells(rt, &mut after.objects, &footprint.objects, writer);
+    write_cells(rt, &mut after.views, &footprint.views, writer);
+    write_cells(rt, &mut after.fences, &footprint.fences, writer);
     Arc::new(rt.alloc(), after).expect(rt, "no memory")
 }
 

@@ -1,2 +1,5 @@
 pub mod Going
+pub mod Impossible
+pub mod Naming
+pub mod Numbering
 pub mod Stepping

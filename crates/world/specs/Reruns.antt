@@ -1,7 +1,7 @@
 -- Why events could not be run.
 use Rattle.std.specs.Prelude.{List}
-use Rattle.post.specs.Events.{Event}
-use Rattle.post.specs.World.{World}
+use Rattle.worldcells.specs.Events.{Event}
+use Rattle.worldcells.specs.World.{World}
 use Rattle.event.specs.Runs.{PlainRun}
 use Rattle.world.specs.declared.step.StepFault.{StepFault}
 use Rattle.world.specs.declared.step.StepFault.TheVariants as fault

@@ -1,14 +1,14 @@
 // The plain run of events.
 ghost use Rattle.std.specs.Prelude.{IfOk, IfErr, map};
-ghost use Rattle.post.specs.EventView.{event_of};
-ghost use Rattle.post.specs.View.{world_of};
+ghost use Rattle.worldcells.specs.EventView.{event_of};
+ghost use Rattle.worldcells.specs.View.{world_of};
 ghost use Rattle.event.specs.Runs.{PlainRun};
 ghost use Rattle.world.specs.Reruns.{TellsRun};
 
 use crate::step::{StepFault, step};
-use post::event::Event;
-use post::world::World;
 use std::alloc::Global;
+use worldcells::event::Event;
+use worldcells::world::World;
 
 /// The world that these events lead to from the empty one, one after another.
 ///

@@ -1,33 +1,45 @@
 // One step of the world: what each kind of event does.
-ghost use Rattle.std.specs.Prelude.{◌≡◌, IfOk, IfErr, OnOk, OnErr};
+ghost use Rattle.std.specs.Prelude.{◌≡◌, ◌⊎◌, ◌↔◌, IfOk, IfErr, IsTrue, OnOk, OnErr, None, Some, map};
 ghost use Rattle.std.specs.Arc.{arc_value};
+ghost use Rattle.ids.specs.declared.cells.CellKey.TheVariants as key;
 ghost use Rattle.kernele.specs.View.{program_of};
 ghost use Rattle.heap.specs.Found.{Found};
+ghost use Rattle.heap.specs.State.{pending, view_cell, viewed};
 ghost use Rattle.heap.specs.View.{state_of};
 ghost use Rattle.turn.specs.Tasks.{task_of};
-ghost use Rattle.ids.specs.declared.cells.CellKey.TheVariants as key;
-ghost use Rattle.post.specs.EventView.{event_of};
-ghost use Rattle.post.specs.Events.{birth, ask, turn};
-ghost use Rattle.post.specs.Messages.{message_of, place_of};
-ghost use Rattle.post.specs.View.{seen_of_world, world_of};
-ghost use Rattle.post.specs.World.{at_vat, message as message_content};
-ghost use Rattle.event.specs.Events.{Foot, InOrder};
+ghost use Rattle.worldcells.specs.EventView.{event_of};
+ghost use Rattle.worldcells.specs.Events.{birth, ask, arrive, forward, learn, turn};
+ghost use Rattle.post.specs.MessageView.{message_of, published_of};
+ghost use Rattle.worldcells.specs.View.{seen_of_world, world_of};
+ghost use Rattle.worldcells.specs.World.{vat_state};
+ghost use Rattle.deliveries.specs.Outcomes.{found_of};
+ghost use Rattle.erules.specs.OutboxView.{letter_of};
+ghost use Rattle.event.specs.Events.{AreNew, Foot, letters_from};
 ghost use Rattle.event.specs.Effects.{Happens};
-ghost use Rattle.world.specs.Steps.{StepsTo, TellsStep, Ready, RunsAt, Unready as IsUnready};
+ghost use Rattle.event.specs.ReadyView.{IsWay};
+ghost use Rattle.world.specs.Steps.{StepsTo, TellsStep, Learnable, Numbers, Ready, RunsAt, Unlearnable, Unnamed, Unready as IsUnready};
 ghost use Rattle.world.specs.declared.step.StepFault.TheVariants.{Memory};
 
 use cells::swaps::Swaps;
-use event::effects::{Effects, ask_effects, birth_effects, turn_effects};
-use event::ready::{check_order, message_at_vat};
-use ids::names::{EventName, MsgId, VatNo};
+use deliveries::lead::Lead;
+use erules::outbox::Letter;
+use event::effects::{
+    Effects, ask_effects, birth_effects, learn_effects, move_effects, turn_effects,
+};
+use event::forwarding::onward;
+use event::learning::learn;
+use event::ready::{Delay, Way, check_ready, message_at_vat};
+use heap::state::{VatState, View};
+use ids::names::{EventName, MsgId, PromId, VatNo};
 use ids::text::Text;
 use kernele::tree::Program;
-use post::event::{Action, Event};
 use post::message::Message;
-use post::world::World;
+use post::published::Published;
 use std::alloc::{AllocError, AllocFailed, Global};
 use turn::ticket::{Out, Ran, Ticket};
 use undo::records::{make_rooms, swap_records};
+use worldcells::event::{Action, Event};
+use worldcells::world::World;
 
 /// The seat of turns that are run from none.
 const NO_SEAT: u64 = 0;
@@ -62,15 +74,32 @@ fn effects_of_birth(
     world: &World,
     event: EventName,
     name: &Text,
+    earlier: &[Text],
     script: &Program,
 ) -> Result<Effects, StepFault>
-    ensures ok { IfOk result (λ it. (f : Foot) × Happens (record { name = event; act = birth name.now (program_of script.now) }) f (world_of world.now) it) }
-    ensures err { IfErr result (λ fault. TellsStep (record { name = event; act = birth name.now (program_of script.now) }) (world_of world.now) fault) }
+    ensures ok { IfOk result (λ it. (f : Foot) × Happens (record { name = event; act = birth name.now earlier.now (program_of script.now) }) f (world_of world.now) it) }
+    ensures err { IfErr result (λ fault. TellsStep (record { name = event; act = birth name.now earlier.now (program_of script.now) }) (world_of world.now) fault) }
 {
     let None = world.vat(name) else {
         return Err(StepFault::Impossible);
     };
-    Ok(birth_effects(alloc, event, name, script)?)
+    let vats = numbers_of(alloc, world, earlier)?;
+    Ok(birth_effects(alloc, event, name, earlier, vats.as_slice(), script)?)
+}
+
+/// The numbers of the vats of these names, if each has one.
+fn numbers_of(alloc: Global, world: &World, names: &[Text]) -> Result<Vec<VatNo>, StepFault>
+    ensures ok { IfOk result (λ found. Numbers (world_of world.now) names.now found.items) }
+    ensures err { IfErr result (λ fault. Unnamed (world_of world.now) names.now fault) }
+{
+    let mut numbers = Vec::new(alloc);
+    for name in names {
+        match world.vat(name) {
+            Some(vat) => numbers.push(vat.number)?,
+            None => return Err(StepFault::Impossible),
+        }
+    }
+    Ok(numbers)
 }
 
 /// The effects of an asked program, if the vat is there.
@@ -90,9 +119,103 @@ fn effects_of_ask(
     Ok(ask_effects(alloc, event, name, vat.number, program)?)
 }
 
-/// A message that may be delivered now to this vat, shared.
-fn ready(world: &World, vat: VatNo, name: MsgId) -> Result<Message, StepFault>
-    ensures ok { IfOk result (λ g. Ready (world_of world.now) name (message_of g) vat) }
+/// The effects of an arrival, if the message is on its way.
+fn effects_of_arrival(
+    alloc: Global,
+    world: &World,
+    event: EventName,
+    name: MsgId,
+) -> Result<Effects, StepFault>
+    ensures ok { IfOk result (λ it. (f : Foot) × Happens (record { name = event; act = arrive name }) f (world_of world.now) it) }
+    ensures err { IfErr result (λ fault. TellsStep (record { name = event; act = arrive name }) (world_of world.now) fault) }
+{
+    let Some(message) = world.message(name) else {
+        return Err(StepFault::Impossible);
+    };
+    let Some(arrived) = message.arrived()? else {
+        return Err(StepFault::Impossible);
+    };
+    Ok(move_effects(alloc, event, name, arrived, &[])?)
+}
+
+/// The effects of a forwarding, if the message's target leads to another vat.
+fn effects_of_forwarding(
+    alloc: Global,
+    world: &World,
+    event: EventName,
+    name: MsgId,
+) -> Result<Effects, StepFault>
+    ensures ok { IfOk result (λ it. (f : Foot) × Happens (record { name = event; act = forward name }) f (world_of world.now) it) }
+    ensures err { IfErr result (λ fault. TellsStep (record { name = event; act = forward name }) (world_of world.now) fault) }
+{
+    let Ok((message, vat)) = message_at_vat(world, name) else {
+        return Err(StepFault::Impossible);
+    };
+    let Some(onward) = onward(alloc, world, message, vat)? else {
+        return Err(StepFault::Impossible);
+    };
+    let Some(forwarded) = message.forwarded(onward.to)? else {
+        return Err(StepFault::Impossible);
+    };
+    Ok(move_effects(alloc, event, name, forwarded, &onward.through)?)
+}
+
+/// The effects of what a vat learns of a promise, if that is open in its view and was published. What is seen in the world stays.
+fn effects_of_learning(
+    alloc: Global,
+    world: &mut World,
+    event: EventName,
+    vat: VatNo,
+    promise: PromId,
+) -> Result<Effects, StepFault>
+    ensures ok { IfOk result (λ it. (f : Foot) × Happens (record { name = event; act = learn vat promise }) f (world_of world.old) it) }
+    ensures err { IfErr result (λ fault. TellsStep (record { name = event; act = learn vat promise }) (world_of world.old) fault) }
+    ensures seen { seen_of_world world.new ≡ seen_of_world world.old }
+{
+    let published = learnable(world, vat, promise)?;
+    let state = world.share_vat(alloc, vat)?;
+    let footprint = learn(alloc, event, vat, state, promise, &published)?;
+    Ok(learn_effects(alloc, event, vat, promise, &footprint)?)
+}
+
+/// What a promise was published as that is open in a vat's view, shared.
+fn learnable(world: &World, vat: VatNo, promise: PromId) -> Result<Published, StepFault>
+    ensures ok { IfOk result (λ b. Learnable (world_of world.now) vat promise (published_of b)) }
+    ensures err { IfErr result (λ fault. Unlearnable (world_of world.now) vat promise fault) }
+{
+    if !is_open(world, vat, promise) {
+        return Err(StepFault::Impossible);
+    }
+    match world.published(promise) {
+        Some(published) => Ok(published.share()?),
+        None => Err(StepFault::Impossible),
+    }
+}
+
+/// Whether a promise is open in a vat's view.
+fn is_open(world: &World, vat: VatNo, promise: PromId) -> bool
+    ensures { IsTrue result ↔ (vat_state (world_of world.now) vat (view_cell promise) ≡ Some (viewed pending)) }
+{
+    match world.home(vat) {
+        Some(state) => is_open_in(state, promise),
+        None => false,
+    }
+}
+
+/// Whether a promise is open in what a state knows.
+fn is_open_in(state: &VatState, promise: PromId) -> bool
+    ensures { IsTrue result ↔ (state_of state.now (view_cell promise) ≡ Some (viewed pending)) }
+{
+    match state.views.get(&promise) {
+        Some(View::Open) => true,
+        Some(View::Resolved(_)) | None => false,
+    }
+}
+
+/// A message that may be delivered now to this vat, shared, and the way to its target.
+fn ready(alloc: Global, world: &World, vat: VatNo, name: MsgId) -> Result<(Message, Way), StepFault>
+    ensures ok { IfOk result (λ r. Ready (world_of world.now) name (message_of r.0) vat) }
+    ensures way { IfOk result (λ r. IsWay (world_of world.now) vat (message_of r.0) r.1) }
     ensures err { IfErr result (λ fault. IsUnready (world_of world.now) name vat fault) }
 {
     let Ok((message, home)) = message_at_vat(world, name) else {
@@ -101,10 +224,11 @@ fn ready(world: &World, vat: VatNo, name: MsgId) -> Result<Message, StepFault>
     if home != vat {
         return Err(StepFault::Impossible);
     }
-    let Ok(()) = check_order(world, message.sent.after) else {
-        return Err(StepFault::Impossible);
-    };
-    Ok(message.share()?)
+    match check_ready(alloc, world, message, vat) {
+        Ok(way) => Ok((message.share()?, way)),
+        Err(Delay::Memory) => Err(StepFault::Memory),
+        Err(Delay::Unready(_)) => Err(StepFault::Impossible),
+    }
 }
 
 /// Runs the turn of a ticket.
@@ -128,9 +252,10 @@ fn run_at(
     name: MsgId,
     budget: u32,
     message: Message,
+    lead: Lead,
     vat: VatNo,
 ) -> Result<Ran, AllocError>
-    ensures ok { IfOk result (λ ran. RunsAt (world_of world.old) event name budget message vat ran) }
+    ensures ok { IfOk result (λ ran. RunsAt (world_of world.old) event name budget message (found_of lead) vat ran) }
     ensures seen { seen_of_world world.new ≡ seen_of_world world.old }
 {
     let state = world.share_vat(alloc, vat)?;
@@ -139,11 +264,37 @@ fn run_at(
         event,
         name,
         message,
+        lead,
         vat,
         state,
         budget,
         seat: NO_SEAT,
     }))
+}
+
+/// Of the messages that an event makes none is there yet.
+fn check_new(world: &World, event: EventName, letters: &[Letter]) -> Result<(), StepFault>
+    ensures ok { OnOk result (AreNew (world_of world.now) (letters_from event 0 (map letter_of letters.now))) }
+    ensures err { IfErr result (λ fault. (fault ≡ Memory) ⊎ (AreNew (world_of world.now) (letters_from event 0 (map letter_of letters.now)) → ⊥)) }
+{
+    for place in 0..letters.len() {
+        check_free(world, event, place)?;
+    }
+    Ok(())
+}
+
+/// There is no message of this event and number yet.
+fn check_free(world: &World, event: EventName, place: usize) -> Result<(), StepFault>
+    ensures ok { OnOk result (world_of world.now (key.Msg (record { event = event; index = place })) ≡ None) }
+    ensures err { IfErr result (λ fault. (fault ≡ Memory) ⊎ (world_of world.now (key.Msg (record { event = event; index = place })) ≡ None → ⊥)) }
+{
+    let Ok(index) = u32::try_from(place) else {
+        return Err(StepFault::Memory);
+    };
+    match world.message(MsgId { event, index }) {
+        Some(_) => Err(StepFault::Impossible),
+        None => Ok(()),
+    }
 }
 
 /// The effects of a turn, if its message may be delivered to its vat. What is seen in the world stays.
@@ -159,9 +310,20 @@ fn effects_of_turn(
     ensures err { IfErr result (λ fault. TellsStep (record { name = event; act = turn vat name budget }) (world_of world.old) fault) }
     ensures seen { seen_of_world world.new ≡ seen_of_world world.old }
 {
-    let message = ready(world, vat, name)?;
-    let ran = run_at(alloc, world, event, name, budget, message, vat)?;
-    Ok(turn_effects(alloc, event, name, &ran.carried.message, vat, &ran.outcome)?)
+    let (message, way) = ready(alloc, world, vat, name)?;
+    let lead = way.lead.share()?;
+    let ran = run_at(alloc, world, event, name, budget, message, lead, vat)?;
+    check_new(world, event, ran.outcome.out.letters.as_slice())?;
+    Ok(turn_effects(
+        alloc,
+        world,
+        event,
+        name,
+        &ran.carried.message,
+        &way,
+        vat,
+        &ran.outcome,
+    )?)
 }
 
 /// The effects of an event, if it is possible. What is seen in the world stays.
@@ -171,8 +333,15 @@ fn effects_of(alloc: Global, world: &mut World, event: &Event) -> Result<Effects
     ensures seen { seen_of_world world.new ≡ seen_of_world world.old }
 {
     match &event.action {
-        Action::Birth(name, script) => effects_of_birth(alloc, world, event.name, name, script),
+        Action::Birth(name, earlier, script) => {
+            effects_of_birth(alloc, world, event.name, name, earlier, script)
+        }
         Action::Ask(name, program) => effects_of_ask(alloc, world, event.name, name, program),
+        Action::Arrive(message) => effects_of_arrival(alloc, world, event.name, *message),
+        Action::Forward(message) => effects_of_forwarding(alloc, world, event.name, *message),
+        Action::Learn(vat, promise) => {
+            effects_of_learning(alloc, world, event.name, *vat, *promise)
+        }
         Action::Turn {
             vat,
             message,

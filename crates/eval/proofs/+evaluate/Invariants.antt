@@ -81,6 +81,15 @@ decreases-eval::eval_list l = 8 * (1000 - l.level) + 6
 abbrev pub decreases-eval::eval_same : goal.decreases-eval::eval_same
 decreases-eval::eval_same l = 8 * (1000 - l.level) + 6
 
+abbrev pub decreases-sending::eval_send : goal.decreases-sending::eval_send
+decreases-sending::eval_send l = 8 * (1000 - l.level) + 6
+
+abbrev pub decreases-sending::eval_when : goal.decreases-sending::eval_when
+decreases-sending::eval_when l = 8 * (1000 - l.level) + 6
+
+abbrev pub decreases-sending::eval_when_catch : goal.decreases-sending::eval_when_catch
+decreases-sending::eval_when_catch l = 8 * (1000 - l.level) + 6
+
 abbrev pub decreases-control::eval_if : goal.decreases-control::eval_if
 decreases-control::eval_if l = 8 * (1000 - l.level) + 6
 

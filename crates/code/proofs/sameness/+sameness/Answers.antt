@@ -2,7 +2,7 @@ use Rattle.std.proofs.Common.{refl, arith}
 use Rattle.std.proofs.lemmas.Slice.Zip.{either_empty_from_Zip}
 use Rattle.code.specs.View.{tree_of_code, trees_of_codes, methods_of_codes}
 use Rattle.code.specs.Sameness.{alike, all_alike, methods_alike, method_alike}
-use Rattle.code.proofs.Pairs.{calls_pair, lists_pair, hides_pair, ifs_pair, whiles_pair, fors_pair, tries_pair, objects_pair, escapes_pair}
+use Rattle.code.proofs.Pairs.{calls_pair, lists_pair, hides_pair, ifs_pair, whiles_pair, fors_pair, tries_pair, objects_pair, escapes_pair, sends_pair, whens_pair, when_catches_pair}
 use Rattle.code.proofs.Zipped.{ItemByItem, counted, counts_differ, left_after, differ_here, none_left}
 use Rattle.code.proofs.sameness.+sameness.Goals as goal
 
@@ -89,4 +89,26 @@ same_code-returns-then-same_pattern-4 t c =
 pub same_code-returns-then-eq-4 : goal.same_code-returns-then-eq-4
 same_code-returns-then-eq-4 t c =
     let e = escapes_pair c.args.a.now c.args.b.now c.in-Escape-Escape.x c.in-Escape-Escape.y c.in-Escape-Escape.xs c.in-Escape-Escape.ys c.in-Escape-Escape.is-0 c.in-Escape-Escape.is-1 in
+    grind arith
+
+pub same_code-returns-then-same_code-6 : goal.same_code-returns-then-same_code-6
+same_code-returns-then-same_code-6 t c =
+    let e = sends_pair c.args.a.now c.args.b.now c.in-Send-Send.r c.in-Send-Send.s c.in-Send-Send.v c.in-Send-Send.w c.in-Send-Send.xs c.in-Send-Send.ys c.in-Send-Send.is-0 c.in-Send-Send.is-1 in
+    grind arith
+
+pub same_code-returns-then-same_code-7 : goal.same_code-returns-then-same_code-7
+same_code-returns-then-same_code-7 t c =
+    let e = whens_pair c.args.a.now c.args.b.now c.in-When-When.e c.in-When-When.f _ _ c.in-When-When.xs c.in-When-When.ys c.in-When-When.is-0 c.in-When-When.is-1 in
+    grind arith
+
+pub same_code-returns-then-same_pattern-5 : goal.same_code-returns-then-same_pattern-5
+same_code-returns-then-same_pattern-5 t c =
+    let w = c.in-WhenCatch-WhenCatch in
+    let e = when_catches_pair c.args.a.now c.args.b.now w.e w.f _ _ w.xs w.ys w.p w.q w.us w.vs w.is-0 w.is-1 in
+    grind arith
+
+pub same_code-returns-else-same_pattern-5 : goal.same_code-returns-else-same_pattern-5
+same_code-returns-else-same_pattern-5 t c =
+    let w = c.in-WhenCatch-WhenCatch in
+    let e = when_catches_pair c.args.a.now c.args.b.now w.e w.f _ _ w.xs w.ys w.p w.q w.us w.vs w.is-0 w.is-1 in
     grind arith

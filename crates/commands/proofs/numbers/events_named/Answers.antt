@@ -1,13 +1,13 @@
 use Rattle.std.proofs.Common.{◌≡◌, ◌==◌, ap, ◌∙◌, false, arith, rules, length, drop}
 use Rattle.std.specs.List.{position_or_len}
-use Rattle.commands.specs.Words.{is_blank}
-use Rattle.commands.proofs.Wording.{begins, blanks_gone, named_first, named_more, named_not, shorter_behind}
+use Rattle.commands.specs.Words.{is_blank, is_bare}
+use Rattle.commands.proofs.Wording.{blanks_gone, named_first, named_more, named_not, shorter_behind}
 use Rattle.commands.proofs.numbers.events_named.Goals as goal
 
 pub words-init : goal.words-init
 words-init c = record {
   named = named_first c.args.words.now c.skip_blanks-rest.result.now _ c.new-events.ensures.items c.skip_blanks-rest.ensures;
-  begins = ap begins c.skip_blanks-rest.ensures ∙ blanks_gone c.args.words.now;
+  begins = ap is_bare c.skip_blanks-rest.ensures ∙ blanks_gone c.args.words.now;
   text = search rules;
 }
 
@@ -18,7 +18,7 @@ words-preserved c =
     record {
       named = named_more c.args.words.now rest _ _ c.words.events.items _ c.in-Some.event c.words.invariant.begins more c.cut_word.ensures.word c.cut_word.ensures.rest
           c.in-Some.ensures c.in_ok-push.ensures.items c.words.invariant.named;
-      begins = ap begins c.cut_word.ensures.rest ∙ blanks_gone (drop (position_or_len is_blank rest) rest);
+      begins = ap is_bare c.cut_word.ensures.rest ∙ blanks_gone (drop (position_or_len is_blank rest) rest);
       text = search rules;
     }
 

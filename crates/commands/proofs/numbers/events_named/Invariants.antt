@@ -4,14 +4,14 @@ use Rattle.std.proofs.Common.{◌≡◌, ◌++◌, length, true}
 use Rattle.std.specs.Option.{option_map}
 use Rattle.commands.specs.Words.{words_in}
 use Rattle.commands.specs.Numbers.{events_named}
-use Rattle.commands.proofs.Wording.{begins}
+use Rattle.commands.specs.Words.{is_bare}
 use Rattle.commands.proofs.numbers.events_named.Given as goal
 
 -- the events so far, and then those of the words that are left
 abbrev pub invariant-words : goal.invariant-words
 invariant-words l = record {
   named : events_named (words_in l.fn.words) ≡ option_map (λ es. l.events.items ++ es) (events_named (words_in l.rest));
-  begins : begins l.rest ≡ true;
+  begins : is_bare l.rest ≡ true;
   text : shadow (Utf8 l.rest);
 }
 

@@ -1,44 +1,15 @@
-use Rattle.std.proofs.Common.{◌≡◌, subst, ap, ◌∙◌}
+use Rattle.std.proofs.Common.{◌≡◌, subst}
+use Rattle.values.specs.Data.{Val}
 use Rattle.values.specs.View.{val_of, vals_of}
-use Rattle.erules.specs.Rules.{gives, callee_read, callee_target}
+use Rattle.erules.specs.At.{At}
+use Rattle.erules.specs.Rules.{callee_of, callee_read, callee_target, receiver_read}
 use Rattle.erules.specs.View.{at}
-use Rattle.erules.proofs.Answering.{handed_on}
 use Rattle.eobjects.specs.View.{OnTarget}
-use Rattle.eobjects.proofs.Targets.{stops_call}
 use Rattle.eobjects.proofs.calls.call_target.Goals as goal
 
-pub returns-in-Object : goal.returns-in-Object
-returns-in-Object c =
-    let v = val_of c.args.receiver.now in
-    let a = at c.args.w.now in
-    subst (λ m. OnTarget c.object_target.result c.object_target.new.into c.object_target.new.w (λ t b. (t ≡ callee_target m v c.args.verb.now (vals_of c.args.args.now) a) × (b ≡ callee_read m a))) c.in-Object.ensures c.object_target.ensures
-
-pub returns-in_ok-call_data-in-Datum : goal.returns-in_ok-call_data-in-Datum
-returns-in_ok-call_data-in-Datum c =
-    let v = val_of c.args.receiver.now in
-    let a = at c.args.w.now in (
-      ap gives c.in_ok-call_data-in-Datum.ensures.0 ∙ ap (λ m. callee_target m v c.args.verb.now (vals_of c.args.args.now) a) c.in-Datum.ensures,
-      c.in_ok-call_data-in-Datum.ensures.1 ∙ ap (λ m. callee_read m a) c.in-Datum.ensures,
-    )
-
-pub returns-in_err-call_data-in-Datum : goal.returns-in_err-call_data-in-Datum
-returns-in_err-call_data-in-Datum c =
-    let v = val_of c.args.receiver.now in
-    let a = at c.args.w.now in
-    handed_on c.from_residual-in_err-call_data-in-Datum.result c.in_err-call_data-in-Datum.field-0.0 c.call_data.new.w _ _ _ c.from_residual-in_err-call_data-in-Datum.ensures.1
-    (stops_call c.in_err-call_data-in-Datum.field-0.0 c.call_data.new.w _ _ a _ (ap (λ m. callee_target m v c.args.verb.now (vals_of c.args.args.now) a) c.in-Datum.ensures) (ap (λ m. callee_read m a) c.in-Datum.ensures) c.in_err-call_data-in-Datum.ensures) (λ h b p. p)
-
-pub returns-in_ok-call_ejector-in-Ejector : goal.returns-in_ok-call_ejector-in-Ejector
-returns-in_ok-call_ejector-in-Ejector c =
-    let v = val_of c.args.receiver.now in
-    let a = at c.args.w.now in (
-      ap gives c.in_ok-call_ejector-in-Ejector.ensures.0 ∙ ap (λ m. callee_target m v c.args.verb.now (vals_of c.args.args.now) a) c.in-Ejector.ensures,
-      c.in_ok-call_ejector-in-Ejector.ensures.1 ∙ ap (λ m. callee_read m a) c.in-Ejector.ensures,
-    )
-
-pub returns-in_err-call_ejector-in-Ejector : goal.returns-in_err-call_ejector-in-Ejector
-returns-in_err-call_ejector-in-Ejector c =
-    let v = val_of c.args.receiver.now in
-    let a = at c.args.w.now in
-    handed_on c.from_residual.result c.in_err-call_ejector-in-Ejector.field-0.0 c.call_ejector.new.w _ _ _ c.from_residual.ensures.1
-    (stops_call c.in_err-call_ejector-in-Ejector.field-0.0 c.call_ejector.new.w _ _ a _ (ap (λ m. callee_target m v c.args.verb.now (vals_of c.args.args.now) a) c.in-Ejector.ensures) (ap (λ m. callee_read m a) c.in-Ejector.ensures) c.in_err-call_ejector-in-Ejector.ensures) (λ h b p. p)
+pub returns : goal.returns
+returns c =
+    let vs = vals_of c.args.args.now in
+    let verb = c.args.verb.now in
+    subst (λ (u : Val). OnTarget c.call_end.result c.call_end.new.into c.call_end.new.w (λ t b. (t ≡ callee_target (callee_of (at c.args.w.now).vat u) u verb vs (receiver_read (val_of c.args.receiver.now) (at c.args.w.now))) × (b ≡ callee_read (callee_of (at c.args.w.now).vat u) u verb vs (receiver_read (val_of c.args.receiver.now) (at c.args.w.now))))) c.in_ok-take_end.ensures.end
+    (subst (λ (z : At). OnTarget c.call_end.result c.call_end.new.into c.call_end.new.w (λ t b. (t ≡ callee_target (callee_of z.vat (val_of c.take_end.new.value)) (val_of c.take_end.new.value) verb vs z) × (b ≡ callee_read (callee_of z.vat (val_of c.take_end.new.value)) (val_of c.take_end.new.value) verb vs z))) c.in_ok-take_end.ensures.place c.call_end.ensures)

@@ -5,6 +5,7 @@ use Rattle.erules.proofs.Ejections.{ends_inside}
 use Rattle.erules.proofs.Framed.{ends_framed, ends_written}
 use Rattle.erules.proofs.Grown.{ends_grow}
 use Rattle.erules.proofs.Kept.{ends_in_room}
+use Rattle.erules.proofs.Paid.{ends_paid}
 use Rattle.erules.proofs.Reached.{ends_later}
 use Rattle.erules.proofs.Spent.{ends_left}
 use Rattle.erules.proofs.Total.{ends_somehow}
@@ -20,6 +21,7 @@ returns c = record {
   writes_alike = λ k t a b o r h w. ends_written w r h;
   beginning_stays = λ k t a b o r. (ends_later r).began;
   steps_only_fall = λ k t a b o r. ends_left r;
+  promises_are_paid_for = λ k t a b o r. ends_paid r;
   steps_are_nodes = λ k t a b o r. ends_counted r;
   none_runs_too_deep = λ k t a b o r. ends_deep r;
   room_is_kept = λ k t a b o r h. ends_in_room r h;

@@ -2,8 +2,9 @@ use Rattle.std.proofs.Common.{◌≡◌, ◌∙◌, List, ap, sym}
 use Rattle.kernele.specs.declared.tree.Pattern.{Pattern}
 use Rattle.code.specs.declared.code.Code.{Code}
 use Rattle.values.specs.View.{val_of}
+use Rattle.erules.specs.Doings.{datum_of, datum_read, state_end}
 use Rattle.erules.specs.Outcomes.{value}
-use Rattle.erules.specs.Rules.{parts_bound, parts_end, parts_of}
+use Rattle.erules.specs.Rules.{broken_end, parts_bound, parts_end, parts_of, thrown_end}
 use Rattle.erules.specs.View.{at}
 use Rattle.erules.proofs.Answering.{end_to, stop_to}
 use Rattle.erules.proofs.Steps.{slice_of}
@@ -13,35 +14,50 @@ use Rattle.eval.proofs.right.take.Goals as goal
 
 pub returns-in_ok-match_pattern-in-Def : goal.returns-in_ok-match_pattern-in-Def
 returns-in_ok-match_pattern-in-Def c =
-    let o = value (val_of c.args.value.now) in
+    let o = value (val_of c.args.into.now) in
     let a = at c.args.w.now in
     (ap (λ (e : Code). taken_end e o a) (sym c.in-Def.is), c.in_ok-match_pattern-in-Def.ensures ∙ ap (λ (e : Code). taken_at e o a) (sym c.in-Def.is))
 
 pub returns-in-DefList : goal.returns-in-DefList
 returns-in-DefList c =
-    let o = value (val_of c.args.value.now) in
+    let o = value (val_of c.args.into.now) in
     let a = at c.args.w.now in
     let slice : c.deref-in-DefList.result.now ≡ c.in-DefList.patterns.value.items = slice_of c.deref-in-DefList.ensures.value c.deref.ensures in
-    end_to c.bind_parts.result c.args.value.now c.bind_parts.new.w _ _ _ _ (ap (λ (ps : List Pattern). parts_end o (parts_of ps o)) slice ∙ ap (λ (e : Code). taken_end e o a) (sym c.in-DefList.is))
-    (ap (λ (ps : List Pattern). parts_bound ps (parts_of ps o) a) slice ∙ ap (λ (e : Code). taken_at e o a) (sym c.in-DefList.is)) c.bind_parts.ensures
+    end_to c.take_parts.result c.args.into.now c.take_parts.new.w _ _ _ _ (ap (λ (ps : List Pattern). parts_end o (parts_of ps (datum_of o a))) slice ∙ ap (λ (e : Code). taken_end e o a) (sym c.in-DefList.is))
+    (ap (λ (ps : List Pattern). parts_bound ps (parts_of ps (datum_of o a)) (datum_read o a)) slice ∙ ap (λ (e : Code). taken_at e o a) (sym c.in-DefList.is)) c.take_parts.ensures
 
 pub returns-in-Var : goal.returns-in-Var
 returns-in-Var c =
-    let o = value (val_of c.args.value.now) in
+    let o = value (val_of c.args.into.now) in
     let a = at c.args.w.now in
-    end_to c.declare.result c.args.value.now c.declare.new.w _ _ _ _ (ap (λ (e : Code). taken_end e o a) (sym c.in-Var.is)) (ap (λ (e : Code). taken_at e o a) (sym c.in-Var.is)) c.declare.ensures
+    end_to c.declare.result c.args.into.now c.declare.new.w _ _ _ _ (ap (λ (e : Code). taken_end e o a) (sym c.in-Var.is)) (ap (λ (e : Code). taken_at e o a) (sym c.in-Var.is)) c.declare.ensures
 
 pub returns-in-Assign : goal.returns-in-Assign
 returns-in-Assign c =
-    let o = value (val_of c.args.value.now) in
+    let o = value (val_of c.args.into.now) in
     let a = at c.args.w.now in
-    end_to c.assign.result c.args.value.now c.assign.new.w _ _ _ _ (ap (λ (e : Code). taken_end e o a) (sym c.in-Assign.is)) (ap (λ (e : Code). taken_at e o a) (sym c.in-Assign.is)) c.assign.ensures
+    end_to c.assign.result c.args.into.now c.assign.new.w _ _ _ _ (ap (λ (e : Code). taken_end e o a) (sym c.in-Assign.is)) (ap (λ (e : Code). taken_at e o a) (sym c.in-Assign.is)) c.assign.ensures
 
-pub returns-in-Throw : goal.returns-in-Throw
-returns-in-Throw c =
-    let o = value (val_of c.args.value.now) in
+pub returns-in_ok-take_end-in-Throw : goal.returns-in_ok-take_end-in-Throw
+returns-in_ok-take_end-in-Throw c =
+    let o = value (val_of c.args.into.now) in
     let a = at c.args.w.now in
-    stop_to c.thrown.result c.thrown.new.w _ _ _ _ (ap (λ (e : Code). taken_end e o a) (sym c.in-Throw.is)) (ap (λ (e : Code). taken_at e o a) (sym c.in-Throw.is)) c.thrown.ensures
+    let taken = c.in_ok-take_end-in-Throw.ensures in
+    stop_to c.thrown.result c.thrown.new.w _ _ _ _ (ap (λ v. thrown_end (value v)) taken.end ∙ ap (λ (e : Code). taken_end e o a) (sym c.in-Throw.is)) (taken.place ∙ ap (λ (e : Code). taken_at e o a) (sym c.in-Throw.is)) c.thrown.ensures
+
+pub returns-in_ok-take_end-in-BreakRef : goal.returns-in_ok-take_end-in-BreakRef
+returns-in_ok-take_end-in-BreakRef c =
+    let o = value (val_of c.args.into.now) in
+    let a = at c.args.w.now in
+    let taken = c.in_ok-take_end-in-BreakRef.ensures in
+    end_to c.give_broken.result c.give_broken.new.into c.give_broken.new.w _ _ _ _ (ap (λ v. broken_end (value v)) taken.end ∙ ap (λ (e : Code). taken_end e o a) (sym c.in-BreakRef.is)) (taken.place ∙ ap (λ (e : Code). taken_at e o a) (sym c.in-BreakRef.is)) c.give_broken.ensures
+
+pub returns-in_ok-take_end-in-StateRef : goal.returns-in_ok-take_end-in-StateRef
+returns-in_ok-take_end-in-StateRef c =
+    let o = value (val_of c.args.into.now) in
+    let a = at c.args.w.now in
+    let taken = c.in_ok-take_end-in-StateRef.ensures in
+    end_to c.give_state.result c.give_state.new.into c.give_state.new.w _ _ _ _ ((λ i. state_end (taken.place i).vat (value (taken.end i))) ∙ ap (λ (e : Code). taken_end e o a) (sym c.in-StateRef.is)) (taken.place ∙ ap (λ (e : Code). taken_at e o a) (sym c.in-StateRef.is)) c.give_state.ensures
 
 pub returns-in_default : goal.returns-in_default
-returns-in_default c = takes_nothing c.args.e.now (value (val_of c.args.value.now)) (at c.args.w.now) c.in_default.not-Def c.in_default.not-Var c.in_default.not-Assign c.in_default.not-DefList c.in_default.not-Throw
+returns-in_default c = takes_nothing c.args.e.now (value (val_of c.args.into.now)) (at c.args.w.now) c.in_default.not-Def c.in_default.not-Var c.in_default.not-Assign c.in_default.not-DefList c.in_default.not-Throw c.in_default.not-BreakRef c.in_default.not-StateRef

@@ -1,6 +1,20 @@
+use Rattle.std.proofs.Common.{[], ◌∷◌, ◌++◌, map, ap₂, ◌∙◌}
+use Rattle.ids.specs.declared.cells.CellKey.TheVariants as key
+use Rattle.post.specs.MessageView.{message_of}
+use Rattle.erules.specs.OutboxView.{letter_of}
+use Rattle.erules.specs.PublicationsView.{publications_of}
+use Rattle.worldcells.specs.View.{world_of}
+use Rattle.event.specs.Entries.{entries_of, keys_in}
+use Rattle.event.specs.Events.{letters_from}
 use Rattle.event.proofs.Leaving.{turn_brings}
 use Rattle.event.proofs.effects.turn_effects.Goals as goal
-use Rattle.post.specs.Messages.{message_of}
 
 pub returns : goal.returns
-returns c = λ u. turn_brings c.args.event c.args.name (message_of c.args.message.now) c.args.vat c.args.outcome.now u c.in_ok-turn_touched.ensures.once _ c.in_ok-turn_touched.ensures.touched (c.in_ok-turn_records.ensures u)
+returns c =
+    let o = c.args.outcome.now in
+    let rest = keys_in c.args.vat (entries_of o.footprint) ++ (map (λ p. p.0) (letters_from c.args.event 0 (map letter_of o.out.letters.items)) ++ key.Msg c.args.name ∷ []) in
+    λ is new way u.
+    turn_brings c.args.event (world_of c.args.world.now) c.args.name (message_of c.args.message.now) c.args.vat o u c.in_ok-turn_touched.ensures.once is new c.in_ok-turn_touched.ensures.published _
+    (c.in_ok-turn_touched.ensures.touched
+    ∙ ap₂ (λ ps ms. (map key.Board ps ++ (map key.Msg ms ++ map (λ b. key.Board b.0) (publications_of o.out.publications))) ++ rest) way.through way.awaited)
+    (c.in_ok-turn_records.ensures u)

@@ -2,7 +2,7 @@ use Rattle.std.proofs.Common.{◌≡◌, ℕ, List, [], ◌∷◌, refl, ap, sym
 use Rattle.std.proofs.lemmas.Result.{IfOk-equal}
 use Rattle.kernele.specs.Spelling.{led_by, joined, as_part, spelled, spelled_parts, spelled_items, spelled_methods, methods_in_braces, method_text}
 use Rattle.kernele.specs.View.{tree_of, trees_of, methods_of}
-use Rattle.kernele.proofs.Views.{tree_of-Call, tree_of-List, tree_of-Hide, tree_of-If, tree_of-While, tree_of-For, tree_of-Try, tree_of-Escape}
+use Rattle.kernele.proofs.Views.{tree_of-Call, tree_of-List, tree_of-Hide, tree_of-If, tree_of-While, tree_of-For, tree_of-Try, tree_of-Escape, tree_of-Send, tree_of-When, tree_of-WhenCatch}
 use Rattle.kernele.proofs.Walks.{tree_is_object, braces, append_more, append_end, methods_more, methods_end}
 use Rattle.kernele.proofs.Halves.{written_in_two}
 use Rattle.kernele.proofs.printing.+print.Goals as goal
@@ -38,6 +38,9 @@ pub write_beginning-returns-in-List : goal.write_beginning-returns-in-List
 write_beginning-returns-in-List t c =
     rw (ap tree_of c.in-List.is ∙ tree_of-List c.in-List.items) c.write_parts.ensures
 
+pub write_beginning-returns-in-BreakRef : goal.write_beginning-returns-in-BreakRef
+write_beginning-returns-in-BreakRef t c = rw (ap tree_of c.in-BreakRef.is, ← c.deref-in-BreakRef.ensures) c.write_part-in-BreakRef.ensures
+
 pub write_beginning-returns-in-Hide : goal.write_beginning-returns-in-Hide
 write_beginning-returns-in-Hide t c =
     rw (ap tree_of c.in-Hide.is ∙ tree_of-Hide c.in-Hide.body) c.write_block.ensures
@@ -46,9 +49,9 @@ pub write_beginning-returns-in-Try : goal.write_beginning-returns-in-Try
 write_beginning-returns-in-Try t c =
     rw (ap tree_of c.in-Try.is ∙ tree_of-Try c.in-Try.body c.in-Try.field-1 c.in-Try.field-2) c.write_block-in-Try.ensures
 
-pub write_rest-returns-in_ok-write_name-in-Call : goal.write_rest-returns-in_ok-write_name-in-Call
-write_rest-returns-in_ok-write_name-in-Call t c =
-    rw (ap tree_of c.in-Call.is ∙ tree_of-Call c.in-Call.field-0 c.in-Call.verb c.in-Call.args) (search (rules, IfOk-equal, append_assoc))
+pub write_rest-returns-in-Call : goal.write_rest-returns-in-Call
+write_rest-returns-in-Call t c =
+    rw (ap tree_of c.in-Call.is ∙ tree_of-Call c.in-Call.field-0 c.in-Call.verb c.in-Call.args) c.write_message.ensures
 
 pub write_rest-returns-in_ok-write_block-in-If : goal.write_rest-returns-in_ok-write_block-in-If
 write_rest-returns-in_ok-write_block-in-If t c =
@@ -62,9 +65,21 @@ pub write_rest-returns-in_ok-write_part-in-For : goal.write_rest-returns-in_ok-w
 write_rest-returns-in_ok-write_part-in-For t c =
     rw (ap tree_of c.in-For.is ∙ tree_of-For c.in-For.field-0 c.in-For.list c.in-For.body) (search (rules, IfOk-equal, append_assoc))
 
-pub write_rest-returns-in_ok-write_bound-in-Try : goal.write_rest-returns-in_ok-write_bound-in-Try
-write_rest-returns-in_ok-write_bound-in-Try t c =
-    rw (ap tree_of c.in-Try.is ∙ tree_of-Try c.in-Try.field-0 c.in-Try.pattern c.in-Try.handler) (search (rules, IfOk-equal, append_assoc))
+pub write_rest-returns-in-Try : goal.write_rest-returns-in-Try
+write_rest-returns-in-Try t c =
+    rw (ap tree_of c.in-Try.is ∙ tree_of-Try c.in-Try.field-0 c.in-Try.pattern c.in-Try.handler) c.write_catch.ensures
+
+pub write_rest-returns-in-Send : goal.write_rest-returns-in-Send
+write_rest-returns-in-Send t c =
+    rw (ap tree_of c.in-Send.is ∙ tree_of-Send c.in-Send.field-0 c.in-Send.verb c.in-Send.args) c.write_message-in-Send.ensures
+
+pub write_rest-returns-in-When : goal.write_rest-returns-in-When
+write_rest-returns-in-When t c =
+    rw (ap tree_of c.in-When.is ∙ tree_of-When c.in-When.field-0 c.in-When.body) c.write_block-in-When.ensures
+
+pub write_rest-returns-in_ok-write_block-in-WhenCatch : goal.write_rest-returns-in_ok-write_block-in-WhenCatch
+write_rest-returns-in_ok-write_block-in-WhenCatch t c =
+    rw (ap tree_of c.in-WhenCatch.is ∙ tree_of-WhenCatch c.in-WhenCatch.field-0 c.in-WhenCatch.body c.in-WhenCatch.pattern c.in-WhenCatch.handler) (search (rules, IfOk-equal, append_assoc))
 
 pub write_rest-returns-in-Escape : goal.write_rest-returns-in-Escape
 write_rest-returns-in-Escape t c =

@@ -45,3 +45,9 @@ decreases-write_parts l = 6 * most (λ e. the_size e) l.parts.now.value.items + 
 
 abbrev pub decreases-write_methods : goal.decreases-write_methods
 decreases-write_methods l = 6 * most (λ m. method.the_size m) l.methods.now + 4
+
+abbrev pub decreases-write_catch : goal.decreases-write_catch
+decreases-write_catch l = 6 * most (λ e. the_size e) l.handler.now.value.items + 4
+
+abbrev pub decreases-write_message : goal.decreases-write_message
+decreases-write_message l = 6 * most (λ e. the_size e) l.args.now.value.items + 5

@@ -3,15 +3,17 @@ use Rattle.std.proofs.Math.Path.{transport}
 use Rattle.std.proofs.lemmas.Result.{IfOk-weaker}
 use Rattle.kernele.specs.View.{tree_of, trees_of, methods_of}
 use Rattle.scopes.specs.Scope.{nodes, nodes_in, names_of_all}
-use Rattle.kernele.proofs.Views.{tree_of-Call, tree_of-List, tree_of-Hide, tree_of-If, tree_of-While, tree_of-For, tree_of-Try, tree_of-Object, tree_of-Escape}
-use Rattle.scopes.specs.Free.{captures}
+use Rattle.kernele.proofs.Views.{tree_of-Call, tree_of-List, tree_of-Hide, tree_of-If, tree_of-While, tree_of-For, tree_of-Try, tree_of-Object, tree_of-Escape, tree_of-Send, tree_of-When, tree_of-WhenCatch}
+use Rattle.scopes.specs.Free.{captures, when_captures}
+use Rattle.kernele.specs.Tree.{none}
+use Rattle.kernele.specs.declared.tree.Pattern.TheVariants as pattern
 use Rattle.code.specs.View.{methods_of_codes}
 use Rattle.code.specs.Index.{index_in, index_fits}
 use Rattle.code.specs.Frames.{all_placed, captured_names_of, only_names}
 use Rattle.resolver.specs.Resolves.{ResolvesAll, ResolvesMethod, ResolvesMethods}
 use Rattle.code.specs.declared.code.MethodCode.{MethodCode}
 use Rattle.resolver.proofs.Growing.{truncated}
-use Rattle.resolver.proofs.Made.{resolved_as, resolved_call, resolved_list, resolved_hide, resolved_if, resolved_while, resolved_for, resolved_try, resolved_escape, resolved_object, resolved_block, all_more, all_pushed, all_end, all_done, methods_more, methods_pushed, methods_end, methods_done}
+use Rattle.resolver.proofs.Made.{resolved_as, resolved_call, resolved_list, resolved_hide, resolved_if, resolved_while, resolved_for, resolved_try, resolved_escape, resolved_object, resolved_send, resolved_when, resolved_when_catch, resolved_block, all_more, all_pushed, all_end, all_done, methods_more, methods_pushed, methods_end, methods_done}
 use Rattle.resolver.proofs.Ranks.{part_nodes, method_nodes}
 use Rattle.resolver.proofs.Sides.{side_of, right_resolved}
 use Rattle.resolver.proofs.resolving.+resolve.Goals as goal
@@ -49,6 +51,15 @@ resolve_expr-resolve_object-requires t c = (omega (arith, ap nodes (ap tree_of c
 pub resolve_expr-resolve_escape-requires : goal.resolve_expr-resolve_escape-requires
 resolve_expr-resolve_escape-requires t c = (omega (arith, ap nodes (ap tree_of c.in-Escape.is ∙ tree_of-Escape c.in-Escape.name c.in-Escape.body)), tt)
 
+pub resolve_expr-resolve_send-requires : goal.resolve_expr-resolve_send-requires
+resolve_expr-resolve_send-requires t c = (omega (arith, ap nodes (ap tree_of c.in-Send.is ∙ tree_of-Send c.in-Send.receiver c.in-Send.verb c.in-Send.args)), tt)
+
+pub resolve_expr-resolve_when-requires : goal.resolve_expr-resolve_when-requires
+resolve_expr-resolve_when-requires t c = (omega (arith, ap nodes (ap tree_of c.in-When.is ∙ tree_of-When c.in-When.value c.in-When.body)), tt)
+
+pub resolve_expr-resolve_when_catch-requires : goal.resolve_expr-resolve_when_catch-requires
+resolve_expr-resolve_when_catch-requires t c = (omega (arith, ap nodes (ap tree_of c.in-WhenCatch.is ∙ tree_of-WhenCatch c.in-WhenCatch.value c.in-WhenCatch.body c.in-WhenCatch.pattern c.in-WhenCatch.handler)), tt)
+
 pub resolve_expr-returns-in-Call : goal.resolve_expr-returns-in-Call
 resolve_expr-returns-in-Call t c = IfOk-weaker _ _ _ (λ d h. resolved_as (ap tree_of c.in-Call.is ∙ tree_of-Call c.in-Call.receiver c.in-Call.verb c.in-Call.args) h) c.resolve_call.ensures
 
@@ -75,6 +86,15 @@ resolve_expr-returns-in-Object t c = IfOk-weaker _ _ _ (λ d h. resolved_as (ap 
 
 pub resolve_expr-returns-in-Escape : goal.resolve_expr-returns-in-Escape
 resolve_expr-returns-in-Escape t c = IfOk-weaker _ _ _ (λ d h. resolved_as (ap tree_of c.in-Escape.is ∙ tree_of-Escape c.in-Escape.name c.in-Escape.body) (h c.args.own_scope)) c.resolve_escape.ensures
+
+pub resolve_expr-returns-in-Send : goal.resolve_expr-returns-in-Send
+resolve_expr-returns-in-Send t c = IfOk-weaker _ _ _ (λ d h. resolved_as (ap tree_of c.in-Send.is ∙ tree_of-Send c.in-Send.receiver c.in-Send.verb c.in-Send.args) h) c.resolve_send.ensures
+
+pub resolve_expr-returns-in-When : goal.resolve_expr-returns-in-When
+resolve_expr-returns-in-When t c = IfOk-weaker _ _ _ (λ d h. resolved_as (ap tree_of c.in-When.is ∙ tree_of-When c.in-When.value c.in-When.body) h) c.resolve_when.ensures
+
+pub resolve_expr-returns-in-WhenCatch : goal.resolve_expr-returns-in-WhenCatch
+resolve_expr-returns-in-WhenCatch t c = IfOk-weaker _ _ _ (λ d h. resolved_as (ap tree_of c.in-WhenCatch.is ∙ tree_of-WhenCatch c.in-WhenCatch.value c.in-WhenCatch.body c.in-WhenCatch.pattern c.in-WhenCatch.handler) h) c.resolve_when_catch.ensures
 
 pub resolve_row-resolve_expr-requires : goal.resolve_row-resolve_expr-requires
 resolve_row-resolve_expr-requires t c =
@@ -115,6 +135,25 @@ resolve_methods-returns t c = methods_done c.loop-method.codes.items (c.loop-met
 
 pub resolve_call-returns : goal.resolve_call-returns
 resolve_call-returns t c = resolved_call _ _ (c.new.ensures ∙ c.in_ok-share.ensures) c.in_ok-receiver.ensures c.in_ok-args.ensures
+
+pub resolve_send-returns : goal.resolve_send-returns
+resolve_send-returns t c = resolved_send _ _ (c.new.ensures ∙ c.in_ok-share.ensures) c.in_ok-receiver.ensures c.in_ok-args.ensures
+
+pub resolve_when-returns : goal.resolve_when-returns
+resolve_when-returns t c =
+    let all = c.deref-2.ensures.value ∙ ap (λ v. v.items) c.deref.ensures in
+    resolved_when _ _ _ c.in_ok-value.ensures (c.in_ok-inside.ensures ∙ ap (λ xs. when_captures (trees_of xs) pattern.Ignore none) all)
+    (ap (λ v. captured_names_of v.items) c.in_ok-new.ensures.ok ∙ c.in_ok-captures.ensures.names ∙ c.deref-3.ensures.value)
+    (transport (λ i. all_placed (c.deref-4.ensures.value i) (sym c.in_ok-new.ensures.ok i).items) c.in_ok-captures.ensures.places) c.in_ok-body.ensures.code
+
+pub resolve_when_catch-returns : goal.resolve_when_catch-returns
+resolve_when_catch-returns t c =
+    let all = c.deref-2.ensures.value ∙ ap (λ v. v.items) c.deref.ensures in
+    let rest = c.deref-4.ensures.value ∙ ap (λ v. v.items) c.deref-3.ensures in
+    resolved_when_catch _ _ _ _ c.in_ok-share.ensures c.in_ok-value.ensures (c.in_ok-inside.ensures ∙ λ i. when_captures (trees_of (all i)) c.args.pattern.now (trees_of (rest i)))
+    (ap (λ v. captured_names_of v.items) c.in_ok-new.ensures.ok ∙ c.in_ok-captures.ensures.names ∙ c.deref-5.ensures.value)
+    (transport (λ i. all_placed (c.deref-6.ensures.value i) (sym c.in_ok-new.ensures.ok i).items) c.in_ok-captures.ensures.places)
+    c.in_ok-body.ensures.code c.in_ok-body.ensures.frame c.in_ok-handler.ensures.code
 
 pub resolve_if-returns : goal.resolve_if-returns
 resolve_if-returns t c = resolved_if _ _ _ c.in_ok-condition.ensures c.in_ok-first.ensures.code c.in_ok-first.ensures.frame c.in_ok-second.ensures.code c.in_ok-second.ensures.frame

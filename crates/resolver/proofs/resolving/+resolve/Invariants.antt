@@ -35,6 +35,9 @@ decreases-resolve_right l = 6 * nodes (tree_of l.right.now.value) + 5
 abbrev pub decreases-resolve_call : goal.decreases-resolve_call
 decreases-resolve_call l = 6 * (nodes (tree_of l.receiver.now.value) + nodes_in (trees_of l.args.now.value.items)) + 5
 
+abbrev pub decreases-resolve_send : goal.decreases-resolve_send
+decreases-resolve_send l = 6 * (nodes (tree_of l.receiver.now.value) + nodes_in (trees_of l.args.now.value.items)) + 5
+
 abbrev pub decreases-resolve_same : goal.decreases-resolve_same
 decreases-resolve_same l = 6 * (nodes (tree_of l.left.now.value) + nodes (tree_of l.right.now.value)) + 5
 
@@ -52,6 +55,12 @@ decreases-resolve_try l = 6 * (nodes_in (trees_of l.body.now.value.items) + node
 
 abbrev pub decreases-resolve_escape : goal.decreases-resolve_escape
 decreases-resolve_escape l = 6 * nodes_in (trees_of l.body.now.value.items) + 5
+
+abbrev pub decreases-resolve_when : goal.decreases-resolve_when
+decreases-resolve_when l = 6 * (nodes (tree_of l.value.now.value) + nodes_in (trees_of l.body.now.value.items)) + 5
+
+abbrev pub decreases-resolve_when_catch : goal.decreases-resolve_when_catch
+decreases-resolve_when_catch l = 6 * (nodes (tree_of l.value.now.value) + nodes_in (trees_of l.body.now.value.items) + nodes_in (trees_of l.handler.now.value.items)) + 5
 
 -- whatever the trees that are left give, the code so far and then it is what all give
 abbrev pub invariant-resolve_row-loop-tree : goal.invariant-resolve_row-loop-tree

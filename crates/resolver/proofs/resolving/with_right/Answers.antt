@@ -2,7 +2,7 @@ use Rattle.std.proofs.Common.{ap, ◌∙◌}
 use Rattle.kernele.specs.View.{tree_of}
 use Rattle.code.specs.Frames.{Frame, place_in}
 use Rattle.resolver.specs.Resolves.{right_side}
-use Rattle.resolver.proofs.Made.{resolved_as, resolved_def, resolved_var, resolved_assign, resolved_throw}
+use Rattle.resolver.proofs.Made.{resolved_as, resolved_def, resolved_var, resolved_assign, resolved_throw, resolved_break_ref, resolved_state_ref}
 use Rattle.resolver.proofs.Sides.{same_side}
 use Rattle.resolver.proofs.resolving.with_right.Goals as goal
 
@@ -19,3 +19,9 @@ returns-in_ok-share-in-Assign c =
 
 pub returns-in-Throw : goal.returns-in-Throw
 returns-in-Throw c = λ f r is h. resolved_as (ap tree_of c.in-Throw.is) (resolved_throw (same_side (ap right_side c.in-Throw.is) is h))
+
+pub returns-in-BreakRef : goal.returns-in-BreakRef
+returns-in-BreakRef c = λ f r is h. resolved_as (ap tree_of c.in-BreakRef.is) (resolved_break_ref (same_side (ap right_side c.in-BreakRef.is) is h))
+
+pub returns-in-StateRef : goal.returns-in-StateRef
+returns-in-StateRef c = λ f r is h. resolved_as (ap tree_of c.in-StateRef.is) (resolved_state_ref (same_side (ap right_side c.in-StateRef.is) is h))

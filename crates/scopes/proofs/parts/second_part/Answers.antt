@@ -1,11 +1,11 @@
 use Rattle.std.proofs.Common.{sym, ap, refl}
 use Rattle.scopes.specs.Parts.{second}
-use Rattle.kernele.proofs.Walks.{tree_is_call, tree_is_object}
-use Rattle.scopes.proofs.Constructs.{second_is_block, second_is_bound_block}
+use Rattle.kernele.proofs.Walks.{tree_is_object}
+use Rattle.scopes.proofs.Constructs.{second_is_arguments, second_is_block, second_is_bound_block}
 use Rattle.scopes.proofs.parts.second_part.Goals as goal
 
 pub returns-in-Call : goal.returns-in-Call
-returns-in-Call c = sym (ap second (tree_is_call c.in-Call.field-0 c.in-Call.field-1 c.in-Call.args c.in-Call.is refl c.deref-in-Call.ensures c.deref-in-Call-2.ensures.value))
+returns-in-Call c = second_is_arguments c.in-Call.args c.in-Call.is c.deref-in-Call.ensures c.deref-in-Call-2.ensures.value
 
 pub returns-in-If : goal.returns-in-If
 returns-in-If c = second_is_block c.in-If.body c.in-If.is c.deref-in-If.ensures c.deref-in-If-2.ensures.value

@@ -3,9 +3,9 @@ use Rattle.std.specs.Option.{option_map}
 use Rattle.std.specs.Map.Iter.{deref_pair}
 use Rattle.std.proofs.lemmas.Cmp.{nat_list_cmp_total}
 use Rattle.std.proofs.lemmas.Map.Iter.{rest_more, rest_all, btree_map_turn}
-use Rattle.post.specs.Listed.{names_in}
-use Rattle.post.specs.Messages.{vat_of}
-use Rattle.post.specs.World.{vat}
+use Rattle.worldcells.specs.Listed.{names_in}
+use Rattle.post.specs.MessageView.{vat_of}
+use Rattle.worldcells.specs.World.{vat}
 use Rattle.stepper.proofs.Births.{left_in, gathered_none, gathered_more, gathered_all}
 use Rattle.stepper.proofs.show.vats_by_birth.Goals as goal
 

@@ -1,4 +1,4 @@
-use Rattle.post.specs.Listed.{names_in}
+use Rattle.worldcells.specs.Listed.{names_in}
 use Rattle.stepper.proofs.Births.{Gathered}
 use Rattle.stepper.proofs.show.vats_by_birth.Given as goal
 

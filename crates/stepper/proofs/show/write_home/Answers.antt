@@ -1,7 +1,7 @@
 use Rattle.std.specs.Prelude.{string_bytes}
 use Rattle.heap.specs.View.{state_of}
-use Rattle.post.specs.View.{world_of}
-use Rattle.post.specs.World.{vat_state}
+use Rattle.worldcells.specs.View.{world_of}
+use Rattle.worldcells.specs.World.{vat_state}
 use Rattle.stepper.proofs.Answered.{on_ok}
 use Rattle.stepper.proofs.Listings.{state_along, nothing_written}
 use Rattle.stepper.proofs.show.write_home.Goals as goal

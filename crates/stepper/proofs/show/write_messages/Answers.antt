@@ -1,6 +1,6 @@
 use Rattle.ids.specs.Cells.{message_cmp}
-use Rattle.post.specs.World.{message}
-use Rattle.post.specs.Messages.{message_of}
+use Rattle.worldcells.specs.World.{message}
+use Rattle.post.specs.MessageView.{message_of}
 use Rattle.stepper.proofs.Listings.{entries_list}
 use Rattle.stepper.proofs.show.write_messages.Goals as goal
 

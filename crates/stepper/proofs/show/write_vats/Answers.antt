@@ -2,7 +2,7 @@ use Rattle.std.proofs.Common.{subst, sym}
 use Rattle.std.specs.Prelude.{string_bytes}
 use Rattle.std.specs.Map.Iter.{deref_pair}
 use Rattle.std.proofs.lemmas.Map.Iter.{rest_more, rest_all}
-use Rattle.post.specs.View.{world_of}
+use Rattle.worldcells.specs.View.{world_of}
 use Rattle.stepper.specs.Show.{VatLines}
 use Rattle.stepper.specs.ShowView.{Written}
 use Rattle.stepper.proofs.Listings.{vats_more, vats_none}

@@ -1,6 +1,6 @@
 use Rattle.std.proofs.Common.{List, ℕ}
 use Rattle.std.specs.Prelude.{string_bytes}
-use Rattle.post.specs.View.{world_of}
+use Rattle.worldcells.specs.View.{world_of}
 use Rattle.stepper.specs.Show.{VatLines}
 use Rattle.stepper.specs.ShowView.{Written}
 use Rattle.stepper.proofs.show.write_vats.Given as goal

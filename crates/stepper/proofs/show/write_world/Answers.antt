@@ -1,6 +1,6 @@
 use Rattle.std.specs.Prelude.{string_bytes}
 use Rattle.ids.specs.Cells.{message_cmp, promise_cmp}
-use Rattle.post.specs.View.{world_of}
+use Rattle.worldcells.specs.View.{world_of}
 use Rattle.stepper.specs.ShowView.{messages_in, board_in}
 use Rattle.stepper.proofs.Listings.{all_written, lists_along, by_birth_along}
 use Rattle.stepper.proofs.show.write_world.Goals as goal

@@ -1,8 +1,8 @@
-use Rattle.std.proofs.Common.{◌≡◌, ◌∷◌, ◌+◌, List, [], drop, map, ap, subst}
+use Rattle.std.proofs.Common.{◌≡◌, ◌+◌, List, [], drop, map, ap, subst}
 use Rattle.std.proofs.lemmas.List.{drop_all}
-use Rattle.post.specs.EventView.{event_of}
-use Rattle.post.specs.Events.{Event}
-use Rattle.post.specs.View.{world_of}
+use Rattle.worldcells.specs.EventView.{event_of}
+use Rattle.worldcells.specs.Events.{Event}
+use Rattle.worldcells.specs.View.{world_of}
 use Rattle.world.proofs.Going.{Joined, joined_start, joined_step, joined_end, tells_run, from_here}
 use Rattle.world.proofs.run.plain_run.Goals as goal
 

@@ -1,6 +1,6 @@
 use Rattle.std.proofs.Common.{drop, map}
-use Rattle.post.specs.EventView.{event_of}
-use Rattle.post.specs.View.{world_of}
+use Rattle.worldcells.specs.EventView.{event_of}
+use Rattle.worldcells.specs.View.{world_of}
 use Rattle.world.proofs.Going.{Joined}
 use Rattle.world.proofs.run.plain_run.Given as goal
 

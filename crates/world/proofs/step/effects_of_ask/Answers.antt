@@ -1,6 +1,6 @@
 use Rattle.std.proofs.Common.{ap, sym}
 use Rattle.kernele.specs.View.{program_of}
-use Rattle.post.specs.World.{vat_in}
+use Rattle.worldcells.specs.World.{vat_in}
 use Rattle.event.specs.Events.{ask_foot, asks}
 use Rattle.world.proofs.step.effects_of_ask.Goals as goal
 

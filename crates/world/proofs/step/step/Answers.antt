@@ -1,9 +1,9 @@
-use Rattle.std.proofs.Common.{◌≡◌, true, ap, ◌∙◌}
-use Rattle.history.specs.Records.{State, contents, swap_state}
+use Rattle.std.proofs.Common.{◌≡◌, ap, ◌∙◌}
+use Rattle.history.specs.Records.{contents, swap_state}
 use Rattle.history.proofs.Exchanges.{contents_after}
-use Rattle.post.specs.EventView.{event_of}
-use Rattle.post.specs.Theory.{cells, kepts_of, numbered, state_of_world, all_pass}
-use Rattle.post.specs.View.{seen_of_world, world_of, is_ready}
+use Rattle.worldcells.specs.EventView.{event_of}
+use Rattle.worldcells.specs.Theory.{cells, kepts_of, numbered, state_of_world}
+use Rattle.worldcells.specs.View.{seen_of_world}
 use Rattle.event.specs.Events.{events}
 use Rattle.event.proofs.Law.{events_laws}
 use Rattle.undo.proofs.Positions.{on_err}

@@ -8,7 +8,7 @@ use Rattle.book.proofs.book.Book.abandon.Goals as goal
 pub invariant_of-self : goal.invariant_of-self
 invariant_of-self c =
     let b = c.args.self.now in
-    record { in_range = b.in_range; stands = subst (Stands b.core b.next) (sym c.remove.ensures.rest) (stands_without b.core b.next (out_of b.desk) c.args.number b.stands); within = b.within }
+    record { in_range = b.in_range; stands = subst (Stands b.core b.next) (sym c.remove.ensures.rest) (stands_without b.core b.next (out_of b.desk) c.args.number b.stands); within = b.within; noted = b.noted }
 
 pub returns-else-remove-clause-unchanged : goal.returns-else-remove-clause-unchanged
 returns-else-remove-clause-unchanged c =

@@ -1,8 +1,9 @@
 use Rattle.std.proofs.Common.{sym, subst}
 use Rattle.kernele.specs.View.{program_of}
 use Rattle.kernele.specs.Tree.{Name}
-use Rattle.post.specs.Events.{Event, ask}
-use Rattle.event.specs.Events.{ask_foot, asks}
+use Rattle.worldcells.specs.Events.{ask}
+use Rattle.ids.specs.declared.names.VatNo.{VatNo}
+use Rattle.event.specs.Events.{Does, ask_foot, asks}
 use Rattle.book.specs.BookView.{book_of}
 use Rattle.event.specs.Effects.{Happens}
 use Rattle.book.specs.Calls.{EntersNext}
@@ -15,7 +16,7 @@ enter-requires-clause-possible c =
     let p = program_of c.args.program in
     let w = (book_of c.args.self.now).world in
     let f = ask_foot e c.args.name.now c.in_ok-event.vat p in
-    (f, subst (λ (x : Name). Happens (record { name = e; act = ask x p }) f w c.in_ok-effects.effects) (sym c.in_ok-share.ensures) (record { does = ∣ asks c.in_ok-event.ensures.ok.2.1 ∣₁; brings = c.in_ok-effects.ensures }))
+    (f, subst (λ (x : Name). Happens (record { name = e; act = ask x p }) f w c.in_ok-effects.effects) (sym c.in_ok-share.ensures) (record { does = ∣ subst (λ (v : VatNo). Does (record { name = e; act = ask c.args.name.now p }) w (ask_foot e c.args.name.now v p)) c.in_ok-event.ensures.ok.2.2 (asks c.in_ok-event.ensures.ok.2.1) ∣₁; brings = c.in_ok-effects.ensures }))
 
 pub enter-requires-clause-room : goal.enter-requires-clause-room
 enter-requires-clause-room c =
@@ -29,7 +30,7 @@ returns-clause-ok c =
     let p = program_of c.args.program in
     let w = (book_of c.args.self.now).world in
     let f = ask_foot e c.args.name.now c.in_ok-event.vat p in
-    let h : Happens (record { name = e; act = ask c.args.name.now p }) f w c.in_ok-effects.effects = record { does = ∣ asks c.in_ok-event.ensures.ok.2.1 ∣₁; brings = c.in_ok-effects.ensures } in (
+    let h : Happens (record { name = e; act = ask c.args.name.now p }) f w c.in_ok-effects.effects = record { does = ∣ subst (λ (v : VatNo). Does (record { name = e; act = ask c.args.name.now p }) w (ask_foot e c.args.name.now v p)) c.in_ok-event.ensures.ok.2.2 (asks c.in_ok-event.ensures.ok.2.1) ∣₁; brings = c.in_ok-effects.ensures } in (
       c.in_ok-event.ensures.ok.3,
       (
         c.in_ok-event.vat,

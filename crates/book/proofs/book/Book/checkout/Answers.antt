@@ -3,13 +3,14 @@ use Rattle.desk.specs.DeskView.{out_of}
 use Rattle.book.specs.Standing.{Stands}
 use Rattle.book.proofs.Entering.{stands_same}
 use Rattle.book.proofs.Tickets.{stands_lent}
+use Rattle.book.proofs.Noting.{noted_same}
 use Rattle.book.proofs.Within.{within_same}
 use Rattle.book.proofs.book.Book.checkout.Goals as goal
 
 pub invariant_of-self : goal.invariant_of-self
 invariant_of-self c =
     let b = c.args.self.now in
-    record { in_range = b.in_range; stands = stands_same b.core _ b.next (out_of b.desk) c.share_vat.ensures.shown b.stands; within = within_same b.core c.share_vat.new.self c.share_vat.ensures.shown b.within }
+    record { in_range = b.in_range; stands = stands_same b.core _ b.next (out_of b.desk) c.share_vat.ensures.shown b.stands; within = within_same b.core c.share_vat.new.self c.share_vat.ensures.shown b.within; noted = noted_same b.core c.share_vat.new.self b.agenda c.share_vat.ensures.shown b.noted }
 
 pub invariant_of-self-in-Break-branch-3 : goal.invariant_of-self-in-Break-branch-3
 invariant_of-self-in-Break-branch-3 c =
@@ -18,6 +19,7 @@ invariant_of-self-in-Break-branch-3 c =
       in_range = b.in_range;
       stands = subst (Stands c.share_vat.new.self b.next) (sym c.in_err-lend.ensures.err) (stands_same b.core _ b.next (out_of b.desk) c.share_vat.ensures.shown b.stands);
       within = within_same b.core c.share_vat.new.self c.share_vat.ensures.shown b.within;
+      noted = noted_same b.core c.share_vat.new.self b.agenda c.share_vat.ensures.shown b.noted;
     }
 
 pub invariant_of-self-2 : goal.invariant_of-self-2
@@ -29,4 +31,5 @@ invariant_of-self-2 c =
       stands = subst (Stands c.share_vat.new.self (b.next + 1)) (sym c.in_ok-lend.ensures.ok)
           (stands_lent c.share_vat.new.self b.next (out_of b.desk) _ admitted.named (stands_same b.core _ b.next (out_of b.desk) c.share_vat.ensures.shown b.stands));
       within = within_same b.core c.share_vat.new.self c.share_vat.ensures.shown b.within;
+      noted = noted_same b.core c.share_vat.new.self b.agenda c.share_vat.ensures.shown b.noted;
     }

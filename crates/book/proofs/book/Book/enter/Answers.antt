@@ -1,16 +1,21 @@
-use Rattle.std.proofs.Common.{◌≡◌, ap, ◌∙◌}
-use Rattle.post.specs.EventView.{event_of}
-use Rattle.post.specs.Theory.{kepts_of}
+use Rattle.std.proofs.Common.{◌≡◌, List, Option, ap, sym, subst, ◌∙◌}
+use Rattle.history.specs.Records.{contents}
+use Rattle.ids.specs.declared.cells.CellKey.{CellKey}
+use Rattle.agenda.specs.Agendas.{AlikeBut}
+use Rattle.agenda.specs.declared.agenda.Agenda.{Agenda}
+use Rattle.worldcells.specs.EventView.{event_of}
+use Rattle.worldcells.specs.Theory.{cells, kepts_of}
 use Rattle.journal.specs.Items.{entered}
 use Rattle.desk.specs.DeskView.{out_of}
-use Rattle.undo.specs.CoreView.{shown}
+use Rattle.undo.specs.CoreView.{shown, state_of}
 use Rattle.book.proofs.Entering.{stands_same, next_stands, next_enters}
+use Rattle.book.proofs.Noting.{Noted, noted_same, noted_next, entered_alike}
 use Rattle.book.specs.BookView.{book_of}
 use Rattle.book.proofs.Within.{within_same, within_entered, one_more, room_for_names}
 use Rattle.book.proofs.book.Book.enter.Goals as goal
 
 pub invariant_of-self : goal.invariant_of-self
-invariant_of-self c = record { in_range = c.args.self.now.in_range; stands = stands_same c.args.self.now.core c.enter.new.self c.args.self.now.next (out_of c.args.self.now.desk) c.in_err-enter.ensures.err c.args.self.now.stands; within = within_same c.args.self.now.core c.enter.new.self c.in_err-enter.ensures.err c.args.self.now.within }
+invariant_of-self c = record { in_range = c.args.self.now.in_range; stands = stands_same c.args.self.now.core c.enter.new.self c.args.self.now.next (out_of c.args.self.now.desk) c.in_err-enter.ensures.err c.args.self.now.stands; within = within_same c.args.self.now.core c.enter.new.self c.in_err-enter.ensures.err c.args.self.now.within; noted = noted_same c.args.self.now.core c.enter.new.self c.args.self.now.agenda c.in_err-enter.ensures.err c.args.self.now.noted }
 
 pub invariant_of-self-2-clause-stands : goal.invariant_of-self-2-clause-stands
 invariant_of-self-2-clause-stands c =
@@ -20,6 +25,18 @@ invariant_of-self-2-clause-stands c =
     let is : shown c.enter.new.self ≡ entered e 0 c.args.effects.touched.items kept (shown old) = c.in_ok-enter.ensures.ok ∙ ap (λ t. entered e 0 t kept (shown old)) c.deref.ensures.value in
     let h = c.requires.possible in
     next_stands old c.enter.new.self c.args.self.now.next (out_of c.args.self.now.desk) e c.args.effects.touched.items kept h.0 h.1.brings is c.requires.named c.args.self.now.stands h.1.does
+
+pub invariant_of-self-2-clause-noted : goal.invariant_of-self-2-clause-noted
+invariant_of-self-2-clause-noted c =
+    let old = c.args.self.now.core in
+    let e = event_of c.args.event in
+    let kept = kepts_of c.args.effects.records.items in
+    let is : shown c.enter.new.self ≡ entered e 0 c.args.effects.touched.items kept (shown old) = c.in_ok-enter.ensures.ok ∙ ap (λ t. entered e 0 t kept (shown old)) c.deref.ensures.value in
+    let h = c.requires.possible in
+    let alike = entered_alike old c.enter.new.self e 0 c.args.effects.touched.items kept h.0 h.1.brings is in
+    noted_next old c.enter.new.self c.take.result c.noted.result c.world.result.now c.deref-2.result.now c.world.ensures c.noted.ensures
+    (subst (λ (touched : List CellKey). AlikeBut touched (contents cells (state_of old)) (contents cells (state_of c.enter.new.self))) (sym c.deref-2.ensures.value) alike)
+    (subst (λ (agenda : Option Agenda). Noted agenda (state_of old)) (sym c.take.ensures.value) c.args.self.now.noted)
 
 pub invariant_of-self-2-clause-within : goal.invariant_of-self-2-clause-within
 invariant_of-self-2-clause-within c =

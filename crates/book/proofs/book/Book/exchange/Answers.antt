@@ -8,6 +8,9 @@ use Rattle.book.specs.Calls.{StoodAt}
 use Rattle.book.specs.Refusals.{refuse_where, dependent, placed_refusal}
 use Rattle.book.proofs.Choosing.{stands_journal}
 use Rattle.book.proofs.Exchanging.{refused_where, book_exchanged, tried_stands, places_there}
+use Rattle.history.specs.Records.{State}
+use Rattle.worldcells.specs.Theory.{cells}
+use Rattle.book.proofs.Noting.{noted_kept}
 use Rattle.book.proofs.Within.{within_tried}
 use Rattle.book.proofs.book.Book.exchange.Goals as goal
 
@@ -20,6 +23,7 @@ invariant_of-self c =
       in_range = b.in_range;
       stands = tried_stands b.core c.exchange.new.self b.next (out_of b.desk) (p - 1) at.1 c.exchange.result c.exchange.ensures.done c.exchange.ensures.shown b.stands;
       within = within_tried b.core c.exchange.new.self (p - 1) c.exchange.result c.exchange.ensures.shown b.within;
+      noted = noted_kept b.core c.exchange.new.self b.agenda (ap (λ (j : List Item × State cells). j.1) c.exchange.ensures.shown) b.noted;
     }
 
 pub returns-then-exchange-clause-ok : goal.returns-then-exchange-clause-ok

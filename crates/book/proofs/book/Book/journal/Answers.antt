@@ -1,4 +1,4 @@
-use Rattle.std.proofs.Common.{sym, ap, subst}
+use Rattle.std.proofs.Common.{sym, subst}
 use Rattle.desk.specs.DeskView.{out_of}
 use Rattle.causality.specs.Journals.{IsJournal}
 use Rattle.book.proofs.Blank.{stands_journal}

@@ -6,13 +6,14 @@ use Rattle.journal.specs.Items.{Item, item_of, swap_item}
 use Rattle.journal.specs.Lines.{lines_of}
 use Rattle.causality.specs.Journals.{IsJournal}
 use Rattle.causality.specs.Selections.{places_from}
-use Rattle.undo.specs.CoreView.{items_of, shown}
+use Rattle.undo.specs.CoreView.{items_of, state_of, shown}
 use Rattle.desk.specs.DeskView.{out_of}
 use Rattle.book.specs.Refusals.{redo_refusal}
 use Rattle.book.proofs.Choosing.{stands_journal, places_within, places_count}
 use Rattle.book.proofs.Entering.{stands_same}
 use Rattle.book.proofs.Redoing.{redone_stands, book_redone}
 use Rattle.book.specs.Calls.{redone}
+use Rattle.book.proofs.Noting.{noted_same, noted_none}
 use Rattle.book.proofs.Within.{within_same, within_marked}
 use Rattle.book.proofs.book.Book.redo.Goals as goal
 
@@ -33,7 +34,7 @@ prepare-requires c =
 pub invariant_of-self : goal.invariant_of-self
 invariant_of-self c =
     let b = c.args.self.now in
-    record { in_range = b.in_range; stands = stands_same b.core c.prepare.new.self b.next (out_of b.desk) c.prepare.ensures.shown b.stands; within = within_same b.core c.prepare.new.self c.prepare.ensures.shown b.within }
+    record { in_range = b.in_range; stands = stands_same b.core c.prepare.new.self b.next (out_of b.desk) c.prepare.ensures.shown b.stands; within = within_same b.core c.prepare.new.self c.prepare.ensures.shown b.within; noted = noted_same b.core c.prepare.new.self b.agenda c.prepare.ensures.shown b.noted }
 
 pub invariant_of-self-2 : goal.invariant_of-self-2
 invariant_of-self-2 c =
@@ -48,6 +49,7 @@ invariant_of-self-2 c =
       in_range = b.in_range;
       stands = redone_stands b.core c.redo.new.self b.next (out_of b.desk) events c.deref-2.result.now ok at is b.stands;
       within = within_marked (items_of b.core) (items_of c.redo.new.self) (redone events) (book_redone b.core c.redo.new.self b.next (out_of b.desk) events c.deref-2.result.now ok at is b.stands).marked b.within;
+      noted = noted_none (state_of c.redo.new.self);
     }
 
 pub returns-clause-ok : goal.returns-clause-ok

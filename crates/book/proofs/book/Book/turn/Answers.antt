@@ -1,7 +1,7 @@
 use Rattle.std.proofs.Common.{◌∙◌, inr, refl, sym, ap, subst}
 use Rattle.desk.specs.DeskView.{out_of}
-use Rattle.event.specs.Outcomes.{ended_of}
-use Rattle.event.specs.declared.outcome.Outcome.{Outcome}
+use Rattle.deliveries.specs.Outcomes.{told_of}
+use Rattle.deliveries.specs.declared.outcome.Outcome.{Outcome}
 use Rattle.turn.specs.Tasks.{task_of}
 use Rattle.turn.specs.declared.ticket.Out.{Out}
 use Rattle.turn.specs.declared.ticket.Task.{Task}
@@ -51,7 +51,7 @@ returns-in-Ok-commit-clause-ok c =
       (
         u,
         turned c.args.message c.args.budget 0 t (book_of s) mid r lends c.in-Ok.ensures.ok c.in-Ok.ensures.found c.in_ok-ticket.ensures.ok.0 u (book_of c.commit.new.self) c.in-Ok-commit.event refl committed.0 refl back committed.1,
-        c.in-Ok-share.ensures ∙ ap (λ (o : Outcome). ended_of o.ended) c.outcome.ensures,
+        c.in-Ok-share.ensures ∙ ap (λ (o : Outcome). told_of o.ended) c.outcome.ensures,
       ),
     )
 

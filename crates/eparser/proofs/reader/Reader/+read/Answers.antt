@@ -9,7 +9,7 @@ use Rattle.esigns.specs.Signs.{link_of, operator_of, closer}
 use Rattle.egrammar.proofs.Steps.{rest_le, front_length, operand_more, operand_end, postfix_more, postfix_end, commas_more, commas_end, block_begin, block_more, block_end, separator_le, methods_begin, methods_more, methods_end}
 use Rattle.ids.proofs.Failing.{claims_nothing}
 use Rattle.eparser.proofs.Levels.{first_read, first_fails, behind_here, behind_read, behind_compared, behind_fails, shorter_level}
-use Rattle.eparser.proofs.Steps.{gives_behind, gives_shared_behind, operand_fails, args_fail, block_part_fails}
+use Rattle.eparser.proofs.Steps.{gives_behind, gives_shared_behind, operand_fails, args_fail, verb_fails, block_part_fails}
 use Rattle.eparser.proofs.Parts.{expression_gives, expression_none, else_if_is, else_if_fails, else_if_none, makes, makes_many, makes_head, for_is, other_word, head_is, head_fails, head_block_fails, method_is, method_head_fails, method_block_fails, members_are, members_open, object_members, function_is, parameters_fail, function_fails, args_are, args_open, first_arg_fails, arg_fails, given_is, value_fails, condition_is, unary_is, primary_fails, postfix_fails, compared_is}
 use Rattle.eparser.specs.Heads.{head_at}
 use Rattle.eparser.specs.Levels.{level_at, level_from}
@@ -95,6 +95,11 @@ postfix_from-more-preserved t c =
 pub postfix_from-more-smaller : goal.postfix_from-more-smaller
 postfix_from-more-smaller t c =
     omega (arith, shorter_args c.args.left (plain c.verb.new.self.rest.now) (closer c.in-Some.link) (rw c.bracket.ensures at c.in_ok-args.ensures), c.in_ok-verb.ensures.shorter, ap length c.skip.ensures, front_length link_of (plain c.more.self.rest.now) (sym c.link.ensures ∙ c.in-Some.is))
+
+pub postfix_from-returns-in_err-verb : goal.postfix_from-returns-in_err-verb
+postfix_from-returns-in_err-verb t c =
+    let k = err_from_is_err_and c.from_residual-in_err-verb.result c.from_residual-in_err-verb.ensures.1 in
+    rw (k.1, k.2) (verb_fails (within_at c.args.left) c.in_err-verb.field-0.0 (plain c.skip.new.self.rest.now) c.more.invariant (sym c.link.ensures ∙ c.in-Some.is) c.skip.ensures c.in_err-verb.ensures.gives)
 
 pub postfix_from-returns-in_err-args : goal.postfix_from-returns-in_err-args
 postfix_from-returns-in_err-args t c =
@@ -252,17 +257,17 @@ returned-returns t c =
 pub control-returns-in_err-head-in_default : goal.control-returns-in_err-head-in_default
 control-returns-in_err-head-in_default t c =
     let k = err_from_is_err_and c.from_residual-in_err-head-in_default.result c.from_residual-in_err-head-in_default.ensures.1 in
-    rw (k.1, k.2) (head_fails (within_at c.args.left) c.in_err-head-in_default.field-0.0 c.args.word (rest_of (plain c.args.self.now.rest.now)) (other_word c.args.word c.in_default.not-If c.in_default.not-Throw c.in_default.not-Def) c.in_err-head-in_default.ensures)
+    rw (k.1, k.2) (head_fails (within_at c.args.left) c.in_err-head-in_default.field-0.0 c.args.word (rest_of (plain c.args.self.now.rest.now)) (other_word c.args.word c.in_default.not-If c.in_default.not-Throw c.in_default.not-Def c.in_default.not-When c.in_default.not-Ref) c.in_err-head-in_default.ensures)
 
 pub control-returns-in_err-body-in_default : goal.control-returns-in_err-body-in_default
 control-returns-in_err-body-in_default t c =
     let k = err_from_is_err_and c.from_residual-in_err-body-in_default.result c.from_residual-in_err-body-in_default.ensures.1 in
-    rw (k.1, k.2) (head_block_fails (within_at c.args.left) c.in_err-body-in_default.field-0.0 c.args.word (rest_of (plain c.args.self.now.rest.now)) (other_word c.args.word c.in_default.not-If c.in_default.not-Throw c.in_default.not-Def) c.in_ok-head-in_default.ensures c.in_err-body-in_default.ensures)
+    rw (k.1, k.2) (head_block_fails (within_at c.args.left) c.in_err-body-in_default.field-0.0 c.args.word (rest_of (plain c.args.self.now.rest.now)) (other_word c.args.word c.in_default.not-If c.in_default.not-Throw c.in_default.not-Def c.in_default.not-When c.in_default.not-Ref) c.in_ok-head-in_default.ensures c.in_err-body-in_default.ensures)
 
 pub control-returns-in_ok-body-in_default : goal.control-returns-in_ok-body-in_default
 control-returns-in_ok-body-in_default t c =
     makes c.whole.result c.args.self.now c.braced.new.self (λ a. control_at (within_at c.args.left) c.args.word (rest_of a)) c.whole.ensures
-    (head_is (within_at c.args.left) c.args.word (rest_of (plain c.args.self.now.rest.now)) (other_word c.args.word c.in_default.not-If c.in_default.not-Throw c.in_default.not-Def) c.in_ok-head-in_default.ensures c.in_ok-body-in_default.ensures)
+    (head_is (within_at c.args.left) c.args.word (rest_of (plain c.args.self.now.rest.now)) (other_word c.args.word c.in_default.not-If c.in_default.not-Throw c.in_default.not-Def c.in_default.not-When c.in_default.not-Ref) c.in_ok-head-in_default.ensures c.in_ok-body-in_default.ensures)
 
 pub head-returns-in_ok-list-in-For : goal.head-returns-in_ok-list-in-For
 head-returns-in_ok-list-in-For t c =

@@ -38,6 +38,15 @@ decreases-second l = 64 * l.left + 7
 abbrev pub decreases-conditional : goal.decreases-conditional
 decreases-conditional l = 64 * l.left + 8
 
+abbrev pub decreases-when_from : goal.decreases-when_from
+decreases-when_from l = 64 * l.left + 8
+
+abbrev pub decreases-when : goal.decreases-when
+decreases-when l = 64 * l.left + 9
+
+abbrev pub decreases-reference : goal.decreases-reference
+decreases-reference l = 64 * l.left + 9
+
 abbrev pub decreases-members : goal.decreases-members
 decreases-members l = 64 * l.left + 10
 

@@ -1,18 +1,13 @@
 use Rattle.std.proofs.Common.{ap, subst, sym, ◌∙◌}
-use Rattle.event.specs.Outcomes.{Meets}
-use Rattle.event.specs.declared.outcome.Outcome.{Outcome}
+use Rattle.deliveries.specs.declared.outcome.Outcome.{Outcome}
 use Rattle.heap.specs.Found.{Found}
 use Rattle.heap.specs.View.{state_of}
 use Rattle.std.specs.Arc.{arc_value}
-use Rattle.post.specs.DeliveryView.{delivery_of}
-use Rattle.post.specs.declared.message.Sent.{Sent}
 use Rattle.turn.specs.Tasks.{task_of}
 use Rattle.turn.proofs.ticket.Ticket+Out.run.Goals as goal
 
 pub with_outcome-requires : goal.with_outcome-requires
-with_outcome-requires c =
-    let turn = c.self.inside.stage in
-    subst (λ (s : Sent). Meets (delivery_of s.delivery) turn.event turn.vat turn.budget c.in-Ok.outcome) c.deref.ensures c.in-Ok.ensures.meets
+with_outcome-requires c = c.in-Ok.ensures.meets
 
 pub returns-in-Ok-clause-ok : goal.returns-in-Ok-clause-ok
 returns-in-Ok-clause-ok c = c.with_outcome.ensures.carried ∙ ap task_of c.self.view_is

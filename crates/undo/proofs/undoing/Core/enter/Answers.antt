@@ -2,9 +2,9 @@ use Rattle.std.proofs.Common.{◌≡◌, ◌+◌, ◌%◌, ◌^◌, true, List, 
 use Rattle.std.proofs.lemmas.List.{length-map}
 use Rattle.history.specs.Walks.{step_at}
 use Rattle.history.specs.Records.{State}
-use Rattle.post.specs.EventView.{event_of}
-use Rattle.post.specs.View.{is_ready}
-use Rattle.post.specs.Theory.{cells, numbered, state_of_world, kept_of, kepts_of, all_pass}
+use Rattle.worldcells.specs.EventView.{event_of}
+use Rattle.worldcells.specs.View.{is_ready}
+use Rattle.worldcells.specs.Theory.{cells, numbered, state_of_world, kept_of, kepts_of, all_pass}
 use Rattle.undo.specs.CoreView.{shown, state_of}
 use Rattle.journal.specs.Items.{Item, item_of, keys_at, pass, records_at, swap_item}
 use Rattle.journal.specs.declared.entry.Entry.{Entry}

@@ -1,6 +1,6 @@
 use Rattle.std.proofs.Common.{◌+◌, ◌%◌, ◌^◌, length, get_or, sym, ap, ◌∙◌}
 use Rattle.history.specs.Records.{State}
-use Rattle.post.specs.Theory.{cells, state_of_world, all_pass}
+use Rattle.worldcells.specs.Theory.{cells, state_of_world, all_pass}
 use Rattle.journal.specs.Items.{Item, item_of, is_live, swap_item}
 use Rattle.undo.specs.CoreView.{ready_of}
 use Rattle.undo.proofs.Entries.{stepped, ready_within, ready_at, count_at, keys_stay, keys_after}

@@ -1,0 +1,7 @@
+use Rattle.std.proofs.Common.{arith}
+use Rattle.worldcells.specs.View.{world_of}
+use Rattle.agenda.proofs.Renewing.{next_noted}
+use Rattle.agenda.proofs.agenda.Agenda.note.Goals as goal
+
+pub loop-key-preserved : goal.loop-key-preserved
+loop-key-preserved c = λ begun. next_noted (world_of c.args.world.now) c.args.written.now c.loop-key.key-index c.key-item.result _ _ (omega arith) c.key-item.is (c.loop-key.invariant begun) c.in_ok-note_cell.ensures

@@ -1,0 +1,4 @@
+pub mod Enabled
+pub mod Agendas
+pub mod AgendaView
+pub mod Found

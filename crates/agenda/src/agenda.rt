@@ -1,0 +1,445 @@
+// What may be done next.
+ghost use Rattle.std.specs.Prelude.{◌≡◌, ◌++◌, ◌&&◌, cond, nat_eq, Some, is_none, is_some, IfOk, OnOk};
+ghost use Rattle.std.specs.Option.{option_to_list};
+ghost use Rattle.std.specs.Ordering.{is_eq};
+ghost use Rattle.std.specs.BTreeSet.{contains, IsOrdered};
+ghost use Rattle.ids.specs.Cells.{message_cmp, promise_cmp, vat_cmp};
+ghost use Rattle.ids.specs.declared.names.VatNo.{VatNo};
+ghost use Rattle.ids.specs.declared.names.MsgId.{MsgId};
+ghost use Rattle.heap.specs.State.{viewed, view_cell};
+ghost use Rattle.heap.specs.View.{state_of, view_of};
+ghost use Rattle.post.specs.MessageView.{message_of};
+ghost use Rattle.worldcells.specs.View.{world_of};
+ghost use Rattle.worldcells.specs.World.{World as Cells, message_of as message_in_world, vat_state};
+ghost use Rattle.event.specs.Ready.{unready_at};
+ghost use Rattle.agenda.specs.Agendas.{AlikeBut, KnownAs, is_waiting as is_waiting_of, is_open as is_open_of, open_view, can_learn as can_learn_of};
+ghost use Rattle.agenda.specs.Enabled.{Enabled, First};
+ghost use Rattle.agenda.specs.AgendaView.{out_at};
+ghost use Rattle.agenda.specs.Found.{step_at as step_at_vat, message_step as message_step_of, learn_step};
+
+use desk::desk::Desk;
+use event::forwarding::onward;
+use event::ready::{Delay, check_ready};
+use heap::state::{VatState, View};
+use ids::cells::CellKey;
+use ids::names::{EventName, MsgId, PromId, VatNo};
+use post::message::{Message, Place};
+use std::alloc::{AllocError, Global};
+use std::collections::BTreeSet;
+use worldcells::world::World;
+
+/// Something that may be done.
+#[derive(Clone, Copy)]
+pub enum Step {
+    /// A message on its way arrives.
+    Arrive(MsgId),
+    /// A message goes on to the vat to which its target leads.
+    Forward(MsgId),
+    /// A message that is ready has its turn.
+    Turn(MsgId),
+    /// A vat learns what a promise was published as.
+    Learn(VatNo, PromId),
+}
+
+/// A promise that is open in a vat's view.
+#[derive(Clone, Copy, PartialEq, Eq, PartialOrd, Ord)]
+struct Open {
+    promise: PromId,
+    vat: VatNo,
+}
+
+/// A promise that a vat can learn of.
+#[derive(Clone, Copy, PartialEq, Eq, PartialOrd, Ord)]
+struct Known {
+    vat: VatNo,
+    promise: PromId,
+}
+
+/// The messages of a world that are not done, the promises that are open in views, and those of them that were published.
+#[derive(Drop)]
+pub struct Agenda {
+    waiting: BTreeSet<MsgId>,
+    open: BTreeSet<Open>,
+    known: BTreeSet<Known>,
+}
+
+impl Agenda {
+    ghost use Rattle.agenda.specs.AgendaView.{open_cmp, known_cmp, has_message, has_open, has_known, is_among, same_view, NotedIn, NotesMessages, NotesViews, NotesCell};
+    ghost use Rattle.agenda.specs.Found.{message_steps, learn_steps, first_in};
+
+    /// What is not done in this world. Fails only for want of memory.
+    pub fn new(alloc: Global, world: &World) -> Result<Agenda, AllocError>
+        ensures { IfOk result (NotedIn (world_of world.now)) }
+    {
+        let mut agenda = Agenda {
+            waiting: BTreeSet::new(alloc),
+            open: BTreeSet::new(alloc),
+            known: BTreeSet::new(alloc),
+        };
+        agenda.note_messages(alloc, world)?;
+        agenda.note_vats(alloc, world)?;
+        Ok(agenda)
+    }
+
+    /// Notes what the cells hold now that were written. Fails only for want of memory, and is then of no use.
+    pub fn note(
+        &mut self,
+        alloc: Global,
+        world: &World,
+        written: &[CellKey],
+    ) -> Result<(), AllocError>
+        ensures { (before : Cells) → NotedIn before self.old → AlikeBut written.now before (world_of world.now) → OnOk result (NotedIn (world_of world.now) self.new) }
+    {
+        for key in written {
+            self.note_cell(alloc, world, key)?;
+        }
+        Ok(())
+    }
+
+    /// Notes what a cell holds.
+    fn note_cell(&mut self, alloc: Global, world: &World, key: &CellKey) -> Result<(), AllocError>
+        ensures { OnOk result (NotesCell (world_of world.now) key.now self.old self.new) }
+    {
+        match key {
+            CellKey::Msg(name) => self.note_message(world, *name),
+            CellKey::View(vat, promise) => self.note_view(world, *vat, *promise),
+            CellKey::Board(promise) => self.note_publication(alloc, world, *promise),
+            CellKey::Name(_)
+            | CellKey::Slot(_)
+            | CellKey::Object(_)
+            | CellKey::Top(_, _)
+            | CellKey::Fence(_, _) => Ok(()),
+        }
+    }
+
+    /// Notes of all messages whether they are not done.
+    fn note_messages(&mut self, alloc: Global, world: &World) -> Result<(), AllocError>
+        ensures { OnOk result (NotesMessages (world_of world.now) (λ m. is_some (message_in_world (world_of world.now) m)) self.old self.new) }
+    {
+        let messages = world.messages(alloc)?;
+        for (name, _) in messages.iter() {
+            self.note_message(world, *name)?;
+        }
+        Ok(())
+    }
+
+    /// Notes whether a message is there and not done.
+    fn note_message(&mut self, world: &World, name: MsgId) -> Result<(), AllocError>
+        ensures { OnOk result (NotesMessages (world_of world.now) (λ m. is_eq (message_cmp name m)) self.old self.new) }
+    {
+        keep(&mut self.waiting, name, is_waiting(world, name))
+    }
+
+    /// Notes all views of all vats.
+    fn note_vats(&mut self, alloc: Global, world: &World) -> Result<(), AllocError>
+        ensures { OnOk result (NotesViews (world_of world.now) (λ p v. is_some (vat_state (world_of world.now) v (view_cell p))) self.old self.new) }
+    {
+        for vat in world.vats(alloc)? {
+            self.note_vat(alloc, world, vat)?;
+        }
+        Ok(())
+    }
+
+    /// Notes all views of a vat.
+    fn note_vat(&mut self, alloc: Global, world: &World, vat: VatNo) -> Result<(), AllocError>
+        ensures { OnOk result (NotesViews (world_of world.now) (λ p v. is_eq (vat_cmp vat v) && is_some (vat_state (world_of world.now) v (view_cell p))) self.old self.new) }
+    {
+        let Some(state) = world.home(vat) else {
+            return Ok(());
+        };
+        let contents = state.contents(alloc)?;
+        for (promise, _) in contents.views.iter() {
+            self.note_view(world, vat, *promise)?;
+        }
+        Ok(())
+    }
+
+    /// Notes whether a promise is open in a vat's view, and whether the vat can learn of it.
+    fn note_view(&mut self, world: &World, vat: VatNo, promise: PromId) -> Result<(), AllocError>
+        ensures { OnOk result (NotesViews (world_of world.now) (same_view promise vat) self.old self.new) }
+    {
+        let open = is_open(world, vat, promise);
+        let known = can_learn(world, vat, promise);
+        keep(&mut self.open, Open { promise, vat }, open)?;
+        keep(&mut self.known, Known { vat, promise }, known)
+    }
+
+    /// Notes the views in which a promise was open.
+    fn note_publication(
+        &mut self,
+        alloc: Global,
+        world: &World,
+        promise: PromId,
+    ) -> Result<(), AllocError>
+        ensures { OnOk result (NotesViews (world_of world.now) (λ p v. is_eq (promise_cmp promise p) && has_open self.old p v) self.old self.new) }
+    {
+        for vat in self.vats_that_wait(alloc, promise)? {
+            self.note_view(world, vat, promise)?;
+        }
+        Ok(())
+    }
+
+    /// The vats in whose views a promise is open.
+    fn vats_that_wait(&self, alloc: Global, promise: PromId) -> Result<Vec<VatNo>, AllocError>
+        ensures { IfOk result (λ vats. (v : VatNo) → is_among vats.items v ≡ has_open self.now promise v) }
+    {
+        let mut vats = Vec::new(alloc);
+        let first = Open {
+            promise,
+            vat: VatNo(EventName(0)),
+        };
+        for open in self.open.range(first..) {
+            if open.promise != promise {
+                return Ok(vats);
+            }
+            vats.push(open.vat)?;
+        }
+        Ok(vats)
+    }
+
+    /// The promise of this event and number that a vat can learn of: the first, should there be several.
+    pub fn known_as(&self, vat: VatNo, event: EventName, index: u32) -> Option<PromId>
+        ensures { KnownAs (has_known self.now) vat event index result }
+    {
+        let first = Known {
+            vat,
+            promise: PromId {
+                event,
+                index,
+                home: VatNo(EventName(0)),
+            },
+        };
+        let known = self.known.range(first..).next()?;
+        if is_of(known, vat, event, index) {
+            Some(known.promise)
+        } else {
+            None
+        }
+    }
+
+    /// The first that may be done: what a message can do, in order of their names, then what vats can learn, in order of birth and of
+    /// promise. Turns and learning of vats that are out are left out. Fails only for want of memory.
+    pub fn first(
+        &self,
+        alloc: Global,
+        world: &World,
+        desk: &Desk,
+    ) -> Result<Option<Step>, AllocError>
+        ensures { NotedIn (world_of world.now) self.now → IfOk result (First (world_of world.now) (out_at desk.now)) }
+    {
+        match self.first_of_messages(alloc, world, desk)? {
+            Some(step) => Ok(Some(step)),
+            None => Ok(self.first_learning(desk)),
+        }
+    }
+
+    /// The first that a message can do.
+    fn first_of_messages(
+        &self,
+        alloc: Global,
+        world: &World,
+        desk: &Desk,
+    ) -> Result<Option<Step>, AllocError>
+        ensures first { IfOk result (λ step. step ≡ first_in (message_steps (world_of world.now) (out_at desk.now) self.now)) }
+        ensures ordered { IsOrdered message_cmp self.now.waiting }
+    {
+        for name in self.waiting.iter() {
+            if let Some(step) = message_step(alloc, world, *name, desk)? {
+                return Ok(Some(step));
+            }
+        }
+        Ok(None)
+    }
+
+    /// The first that a vat can learn.
+    fn first_learning(&self, desk: &Desk) -> Option<Step>
+        ensures first { result ≡ first_in (learn_steps (out_at desk.now) self.now) }
+        ensures ordered { IsOrdered known_cmp self.now.known }
+    {
+        for known in self.known.iter() {
+            if let Some(step) = learning(known, desk) {
+                return Some(step);
+            }
+        }
+        None
+    }
+
+    /// All that may be done, in that order. Fails only for want of memory.
+    pub fn all(&self, alloc: Global, world: &World, desk: &Desk) -> Result<Vec<Step>, AllocError>
+        ensures { NotedIn (world_of world.now) self.now → IfOk result (λ steps. Enabled (world_of world.now) (out_at desk.now) steps.items) }
+    {
+        let mut steps = Vec::new(alloc);
+        self.add_messages(alloc, world, desk, &mut steps)?;
+        self.add_learning(desk, &mut steps)?;
+        Ok(steps)
+    }
+
+    /// Adds what messages can do.
+    fn add_messages(
+        &self,
+        alloc: Global,
+        world: &World,
+        desk: &Desk,
+        steps: &mut Vec<Step>,
+    ) -> Result<(), AllocError>
+        ensures added { OnOk result (steps.new.items ≡ steps.old.items ++ message_steps (world_of world.now) (out_at desk.now) self.now) }
+        ensures ordered { IsOrdered message_cmp self.now.waiting }
+    {
+        for name in self.waiting.iter() {
+            add_step(message_step(alloc, world, *name, desk)?, steps)?;
+        }
+        Ok(())
+    }
+
+    /// Adds what vats can learn.
+    fn add_learning(&self, desk: &Desk, steps: &mut Vec<Step>) -> Result<(), AllocError>
+        ensures added { OnOk result (steps.new.items ≡ steps.old.items ++ learn_steps (out_at desk.now) self.now) }
+        ensures ordered { IsOrdered known_cmp self.now.known }
+    {
+        for known in self.known.iter() {
+            add_step(learning(known, desk), steps)?;
+        }
+        Ok(())
+    }
+}
+
+/// Puts an item into a set or takes it out.
+fn keep<T: Ord + Drop>(set: &mut BTreeSet<T>, item: T, stays: bool) -> Result<(), AllocError>
+    ensures { OnOk result ((q : T) → contains T.cmp set.new q ≡ cond (is_eq (T.cmp item q)) stays (contains T.cmp set.old q)) }
+{
+    if stays {
+        set.insert(item)?;
+        Ok(())
+    } else {
+        set.remove(&item);
+        Ok(())
+    }
+}
+
+/// Whether a message is there and not done.
+fn is_waiting(world: &World, name: MsgId) -> bool
+    ensures { result ≡ is_waiting_of (message_in_world (world_of world.now) name) }
+{
+    match world.message(name) {
+        Some(message) => match message.place {
+            Place::Flying(_) | Place::At(_) => true,
+            Place::Done(_) => false,
+        },
+        None => false,
+    }
+}
+
+/// Whether a promise is open in a vat's view.
+fn is_open(world: &World, vat: VatNo, promise: PromId) -> bool
+    ensures { result ≡ open_view (world_of world.now) promise vat }
+{
+    match world.home(vat) {
+        Some(state) => is_open_in(state, promise),
+        None => false,
+    }
+}
+
+/// Whether a promise is open in the view of this state.
+fn is_open_in(state: &VatState, promise: PromId) -> bool
+    ensures { result ≡ is_open_of (state_of state.now (view_cell promise)) }
+{
+    match state.views.get(&promise) {
+        Some(view) => is_open_view(view),
+        None => false,
+    }
+}
+
+/// Whether nothing was learnt of a promise.
+fn is_open_view(view: &View) -> bool
+    ensures { result ≡ is_open_of (Some (viewed (view_of view.now))) }
+{
+    match view {
+        View::Open => true,
+        View::Resolved(_) => false,
+    }
+}
+
+/// Whether a vat can learn of a promise: it is open in the vat's view, and was published.
+fn can_learn(world: &World, vat: VatNo, promise: PromId) -> bool
+    ensures { result ≡ can_learn_of (world_of world.now) vat promise }
+{
+    is_open(world, vat, promise) && world.published(promise).is_some()
+}
+
+/// Whether a known promise is that of this vat, of this event and of this number.
+fn is_of(known: &Known, vat: VatNo, event: EventName, index: u32) -> bool
+    ensures { result ≡ (nat_eq known.now.vat.0.0 vat.0.0 && (nat_eq known.now.promise.event.0 event.0 && nat_eq known.now.promise.index index)) }
+{
+    known.vat == vat && known.promise.event == event && known.promise.index == index
+}
+
+/// Adds a step, if there is one.
+fn add_step(step: Option<Step>, steps: &mut Vec<Step>) -> Result<(), AllocError>
+    ensures { OnOk result (steps.new.items ≡ steps.old.items ++ option_to_list step) }
+{
+    match step {
+        Some(step) => {
+            steps.push(step)?;
+            Ok(())
+        }
+        None => Ok(()),
+    }
+}
+
+/// What a message can do: arrive, go on, or have its turn.
+fn message_step(
+    alloc: Global,
+    world: &World,
+    name: MsgId,
+    desk: &Desk,
+) -> Result<Option<Step>, AllocError>
+    ensures { IfOk result (λ step. step ≡ message_step_of (world_of world.now) (out_at desk.now) name) }
+{
+    match world.message(name) {
+        Some(message) => match message.place {
+            Place::Flying(_) => Ok(Some(Step::Arrive(name))),
+            Place::At(vat) => step_at(alloc, world, name, message, vat, desk),
+            Place::Done(_) => Ok(None),
+        },
+        None => Ok(None),
+    }
+}
+
+/// What a message at a vat can do: go on, or have its turn.
+fn step_at(
+    alloc: Global,
+    world: &World,
+    name: MsgId,
+    message: &Message,
+    vat: VatNo,
+    desk: &Desk,
+) -> Result<Option<Step>, AllocError>
+    ensures { IfOk result (λ step. step ≡ step_at_vat (world_of world.now) (out_at desk.now) name (message_of message.now) vat) }
+{
+    if onward(alloc, world, message, vat)?.is_some() {
+        return Ok(Some(Step::Forward(name)));
+    }
+    if desk.has_vat(vat) {
+        return Ok(None);
+    }
+    let ready = is_ready(alloc, world, message, vat)?;
+    Ok(ready.then_some(Step::Turn(name)))
+}
+
+/// Whether a message at a vat may be delivered.
+fn is_ready(alloc: Global, world: &World, message: &Message, vat: VatNo) -> Result<bool, AllocError>
+    ensures { IfOk result (λ ready. ready ≡ is_none (unready_at (world_of world.now) vat (message_of message.now))) }
+{
+    match check_ready(alloc, world, message, vat) {
+        Ok(_) => Ok(true),
+        Err(Delay::Memory) => Err(AllocError),
+        Err(Delay::Unready(_)) => Ok(false),
+    }
+}
+
+/// What a vat learns of a promise that it can learn of, if no ticket of it is out.
+fn learning(known: &Known, desk: &Desk) -> Option<Step>
+    ensures { result ≡ learn_step (out_at desk.now) known.now }
+{
+    (!desk.has_vat(known.vat)).then_some(Step::Learn(known.vat, known.promise))
+}

@@ -1,0 +1,10 @@
+use Rattle.std.proofs.Common.{ap, subst}
+use Rattle.std.specs.Prelude.{IfOk}
+use Rattle.history.specs.Records.{contents}
+use Rattle.worldcells.specs.Theory.{cells}
+use Rattle.worldcells.specs.World.{World}
+use Rattle.agenda.specs.AgendaView.{NotedIn}
+use Rattle.book.proofs.book.Book.agenda.Goals as goal
+
+pub returns-in-None-clause-noted : goal.returns-in-None-clause-noted
+returns-in-None-clause-noted c = subst (λ (w : World). IfOk c.new.result (NotedIn w)) (ap (contents cells) c.world.ensures) c.new.ensures

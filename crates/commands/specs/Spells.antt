@@ -1,0 +1,61 @@
+-- Commands as texts: which command a line spells, a rule for each.
+use Rattle.std.specs.Prelude.{◌≡◌, ◌≢◌, ◌↔◌, ℕ, ◌<◌, ◌≤◌, List, [], ◌∷◌, ◌++◌, length, true, false, Some, Ok, All, codes}
+use Rattle.ids.specs.declared.names.EventName.{EventName}
+use Rattle.ids.specs.declared.names.MsgId.{MsgId}
+use Rattle.commands.specs.Words.{is_blank, is_bare, ends_blank}
+use Rattle.commands.specs.Inputs.{IsWord, HasWords}
+use Rattle.commands.specs.Numbers.{number_of, message_named, promise_named, event_named, events_named}
+use Rattle.commands.specs.declared.numbers.PromiseName.{PromiseName}
+use Rattle.commands.specs.Commands.{Spelled, birth, ask, arrive, forward, learn, turn, step, run, enabled, show, journal, cone, undo, undo_cone, redo, exchange, is_vat_name, are_vats, spelled_by}
+
+-- blanks alone
+abbrev pub AreBlanks : List ℕ → Type 0
+AreBlanks bs = All (λ b. is_blank b ≡ true) bs
+
+-- a text begins with a word, and this stands behind the blanks after it
+pub data BeginsWithWord : List ℕ → List ℕ → List ℕ → Type 0 where
+  word_alone : {word : List ℕ} → IsWord word → BeginsWithWord word word []
+  word_before : {word rest : List ℕ} (blanks : List ℕ)
+      → IsWord word → 0 < length blanks → AreBlanks blanks → is_bare rest ≡ true → BeginsWithWord (word ++ blanks ++ rest) word rest
+
+-- a line begins with the word of a command, behind blanks or none, and this stands behind the blanks after it
+pub data BeginsCommand : List ℕ → List ℕ → List ℕ → Type 0 where
+  behind_blanks : {word rest : List ℕ} (blanks text : List ℕ) → AreBlanks blanks → BeginsWithWord text word rest → BeginsCommand (blanks ++ text) word rest
+
+-- a line spells a command
+pub data Spells : List ℕ → Spelled → Type 0 where
+  -- vat NAME (EARLIER..) N: the first closing bracket ends the names, which stand against both brackets
+  spells_birth : {line x more behind count : List ℕ} {earlier : List (List ℕ)} {n : ℕ} (inside : List ℕ) (b : ℕ)
+      → BeginsCommand line (codes "vat") more → BeginsWithWord more x (40 ∷ inside ++ 41 ∷ b ∷ behind) → is_vat_name x ≡ true
+      → All (λ c. c ≢ 41) inside → is_bare inside ≡ true → ends_blank inside ≡ false → HasWords inside earlier → are_vats earlier ≡ true
+      → is_blank b ≡ true → HasWords behind (count ∷ []) → number_of count ≡ Some n → n ≤ 4096 → Spells line (birth x earlier n)
+  -- ask NAME TEXT: the text is all that stands behind the blanks after the name
+  spells_ask : {line x more text : List ℕ} → BeginsCommand line (codes "ask") more → BeginsWithWord more x text → is_vat_name x ≡ true → Spells line (ask x text)
+  -- arrive M, forward M, turn M
+  spells_arrive : {line w : List ℕ} {m : MsgId} → HasWords line (codes "arrive" ∷ w ∷ []) → message_named w ≡ Some m → Spells line (arrive m)
+  spells_forward : {line w : List ℕ} {m : MsgId} → HasWords line (codes "forward" ∷ w ∷ []) → message_named w ≡ Some m → Spells line (forward m)
+  spells_turn : {line w : List ℕ} {m : MsgId} → HasWords line (codes "turn" ∷ w ∷ []) → message_named w ≡ Some m → Spells line (turn m)
+  -- learn NAME P
+  spells_learn : {line x w : List ℕ} {p : PromiseName}
+      → HasWords line (codes "learn" ∷ x ∷ w ∷ []) → is_vat_name x ≡ true → promise_named w ≡ Some p → Spells line (learn x p)
+  -- run K
+  spells_run : {line w : List ℕ} {n : ℕ} → HasWords line (codes "run" ∷ w ∷ []) → number_of w ≡ Some n → n ≤ 1000000 → Spells line (run n)
+  -- those that stand alone
+  spells_step : {line : List ℕ} → HasWords line (codes "step" ∷ []) → Spells line step
+  spells_enabled : {line : List ℕ} → HasWords line (codes "enabled" ∷ []) → Spells line enabled
+  spells_show : {line : List ℕ} → HasWords line (codes "show" ∷ []) → Spells line show
+  spells_journal : {line : List ℕ} → HasWords line (codes "journal" ∷ []) → Spells line journal
+  -- cone E, undo-cone E
+  spells_cone : {line w : List ℕ} {e : EventName} → HasWords line (codes "cone" ∷ w ∷ []) → event_named w ≡ Some e → Spells line (cone e)
+  spells_undo_cone : {line w : List ℕ} {e : EventName} → HasWords line (codes "undo-cone" ∷ w ∷ []) → event_named w ≡ Some e → Spells line (undo_cone e)
+  -- undo E.., redo E..: one event at least
+  spells_undo : {line w : List ℕ} {ws : List (List ℕ)} {events : List EventName}
+      → HasWords line (codes "undo" ∷ w ∷ ws) → events_named (w ∷ ws) ≡ Some events → Spells line (undo events)
+  spells_redo : {line w : List ℕ} {ws : List (List ℕ)} {events : List EventName}
+      → HasWords line (codes "redo" ∷ w ∷ ws) → events_named (w ∷ ws) ≡ Some events → Spells line (redo events)
+  -- exchange P
+  spells_exchange : {line w : List ℕ} {n : ℕ} → HasWords line (codes "exchange" ∷ w ∷ []) → number_of w ≡ Some n → Spells line (exchange n)
+
+-- a line is read as the command that it spells, and as no other
+abbrev pub LinesSpellCommands : Type 0
+LinesSpellCommands = (line : List ℕ) (command : Spelled) → Spells line command ↔ (spelled_by line ≡ Ok (Some command))

@@ -1,0 +1,4 @@
+pub mod Coming
+pub mod Begun
+pub mod Ending
+pub mod Turns

@@ -1,0 +1,5 @@
+pub mod Turn
+pub mod Touched
+pub mod Spent
+pub mod Outcomes
+pub mod Laws

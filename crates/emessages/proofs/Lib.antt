@@ -1,0 +1,5 @@
+pub mod Behind
+pub mod Rooms
+pub mod Made
+pub mod Same
+pub mod Arguments

@@ -1,0 +1,13 @@
+pub mod Readings
+pub mod Effects
+pub mod Acted
+pub mod Rules
+pub mod Coming
+pub mod Ending
+pub mod Written
+pub mod Unmoved
+pub mod Learned
+pub mod Awaiting
+pub mod Turned
+pub mod Steps
+pub mod Runs

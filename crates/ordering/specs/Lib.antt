@@ -1,0 +1,6 @@
+pub mod Acting
+pub mod Acts
+pub mod Reading
+pub mod Laws
+pub mod Deeds
+pub mod Theorems

@@ -1,0 +1,26 @@
+// What holds of the order of messages.
+ghost use Rattle.eorder.specs.Worlds.{StepLaw};
+ghost use Rattle.ordering.specs.Deeds.{happening};
+ghost use Rattle.ordering.specs.Laws.{DeliveriesAct, LearningActs};
+ghost use Rattle.ordering.specs.Theorems.{RunsAreDeeds, RunsKeepOrder, JournalsKeepOrder};
+
+/// What a delivery does to the fences of its vat, and the fences in what it makes, are just what its acts make of the fences from
+/// before, and each message that it sends has its event's name. So it is of what a vat learns.
+pub fn fences_are_those_of_acts()
+    ensures deliveries { DeliveriesAct }
+    ensures learning { LearningActs }
+{}
+
+/// In a world where no message has its name, an event does to the cells of fences what its deed says, and waits for what it has to
+/// wait for.
+pub fn events_do_their_deeds()
+    ensures { StepLaw happening }
+{}
+
+/// In every run of events with names of their own from the empty world, and so of the live entries of a journal: if a message is
+/// before another one in the partial order, and the later one had its turn, then the earlier had its turn before.
+pub fn turns_keep_the_order_of_messages()
+    ensures deeds { RunsAreDeeds }
+    ensures runs { RunsKeepOrder }
+    ensures journals { JournalsKeepOrder }
+{}

@@ -1,5 +1,0 @@
-use Rattle.post.proofs.Worlds.{nothing_seen}
-use Rattle.post.proofs.world.World.new.Goals as goal
-
-pub returns : goal.returns
-returns c = nothing_seen (record { names = c.new.result; homes = c.new-2.result; messages = c.new-3.result; board = c.new-4.result }) c.new.ensures.nothing c.new-2.ensures c.new-3.ensures.nothing c.new-4.ensures.nothing

@@ -1,0 +1,12 @@
+pub mod Playing
+pub mod Followed
+pub mod Settled
+pub mod Did
+pub mod Steps
+pub mod Looking
+pub mod EachOnce
+pub mod Carrying
+pub mod AllSettled
+pub mod BroughtIn
+pub mod Publications
+pub mod Messages

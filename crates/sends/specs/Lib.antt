@@ -1,0 +1,5 @@
+pub mod Vats
+pub mod Making
+pub mod Playing
+pub mod Laws
+pub mod View

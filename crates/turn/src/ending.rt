@@ -1,0 +1,161 @@
+// How turns end.
+ghost use Rattle.std.specs.Prelude.{◌≡◌, ◌∷◌, [], IfOk, option_map};
+ghost use Rattle.values.specs.View.{reply_of, val_of};
+ghost use Rattle.erules.specs.Doings.{noted, published_out};
+ghost use Rattle.erules.specs.Outcomes.{halt, value as value_end};
+ghost use Rattle.erules.specs.OutboxView.{note_of, outbox_of};
+ghost use Rattle.erules.specs.View.{at, cause_of, halt_of};
+ghost use Rattle.sends.specs.View.{published_of};
+ghost use Rattle.deliveries.specs.Outcomes.{told_of};
+ghost use Rattle.deliveries.specs.Turn.{commented, lost, lost_outbox, settled_reply, told as told_reply};
+ghost use Rattle.turn.specs.Runs.{Leaves, RunsTo};
+
+use deliveries::outcome::{Ended, Outcome};
+use eorder::carried::Carried;
+use erules::end::{Abandon, Halt};
+use erules::outbox::{Note, Outbox};
+use erules::working::Working;
+use ids::names::PromId;
+use ids::text::Text;
+use post::published::Published;
+use sends::ends::settle;
+use sends::publishing::{Published as Resolved, end_with};
+use std::alloc::{AllocError, Global};
+use values::value::{Answer, Value};
+
+/// The outcome of a turn whose delivery gave this value: its settled form is published.
+pub(crate) fn end(w: Working, promise: PromId, value: Value) -> Result<Outcome, AllocError>
+    ensures { IfOk result (λ x. RunsTo x promise (value_end (val_of value)) (at w)) }
+{
+    let mut w = w;
+    let form = settle(w.alloc, &mut w.draft, &value)?;
+    let told = answer_of(w.alloc, form)?;
+    tell(w, promise, told)
+}
+
+/// What a settled form tells, if there is one.
+fn answer_of(alloc: Global, form: Option<Value>) -> Result<Answer, AllocError>
+    ensures { IfOk result (λ a. reply_of a ≡ settled_reply (option_map val_of form)) }
+{
+    match form {
+        Some(settled) => Ok(Answer::Gives(settled)),
+        None => Ok(Answer::Throws(Text::new(alloc, "value too large")?)),
+    }
+}
+
+/// The outcome of a turn whose delivery was halted: its result is broken. Of an abandoned turn nothing else is kept.
+pub(crate) fn lose(w: Working, promise: PromId) -> Result<Outcome, AllocError>
+    ensures { IfOk result (λ x. RunsTo x promise (halt (halt_of w.halt)) (at w)) }
+{
+    match &w.halt {
+        Halt::Thrown(problem) => {
+            let told = Answer::Throws(problem.share()?);
+            tell(w, promise, told)
+        }
+        // No ejection leaves its Escape.
+        Halt::Ejected(_, _) => {
+            let told = Answer::Throws(Text::new(w.alloc, "ejector is spent")?);
+            tell(w, promise, told)
+        }
+        Halt::Abandoned(why) => {
+            let why = *why;
+            abandon(w, promise, why)
+        }
+    }
+}
+
+/// The outcome of a turn that tells this.
+fn tell(w: Working, promise: PromId, told: Answer) -> Result<Outcome, AllocError>
+    ensures { IfOk result (λ x. Leaves x promise (told_reply (reply_of told)) (at w)) }
+{
+    let Working {
+        alloc,
+        mut draft,
+        steps,
+        out,
+        ..
+    } = w;
+    let ended = ended_by(&told)?;
+    let out = comment(out, &told)?;
+    let resolved = end_with(alloc, &mut draft, promise, told)?;
+    let out = publish(alloc, out, promise, resolved)?;
+    let footprint = draft.finish()?;
+    Ok(Outcome {
+        footprint,
+        ended,
+        steps,
+        out,
+    })
+}
+
+/// What is told in a reply.
+fn ended_by(told: &Answer) -> Result<Ended, AllocError>
+    ensures { IfOk result (λ e. told_of e ≡ told_reply (reply_of told.now)) }
+{
+    match told {
+        Answer::Gives(value) => Ok(Ended::Value(value.share()?)),
+        Answer::Throws(problem) => Ok(Ended::Problem(problem.share()?)),
+    }
+}
+
+/// A problem stands in the log.
+fn comment(out: Outbox, told: &Answer) -> Result<Outbox, AllocError>
+    ensures { IfOk result (λ o. outbox_of o ≡ commented (reply_of told.now) (outbox_of out)) }
+{
+    match told {
+        Answer::Gives(_) => Ok(out),
+        Answer::Throws(problem) => note(out, Note::Comment(problem.share()?)),
+    }
+}
+
+/// One more note for the log.
+fn note(out: Outbox, note: Note) -> Result<Outbox, AllocError>
+    ensures { IfOk result (λ o. outbox_of o ≡ noted (note_of note ∷ []) (outbox_of out)) }
+{
+    let mut out = out;
+    out.notes.push(note)?;
+    Ok(out)
+}
+
+/// A promise is published as this.
+fn publish(
+    alloc: Global,
+    out: Outbox,
+    promise: PromId,
+    resolved: Resolved,
+) -> Result<Outbox, AllocError>
+    ensures { IfOk result (λ o. outbox_of o ≡ published_out promise (published_of resolved) (outbox_of out)) }
+{
+    let mut out = out;
+    let published = Published::new(alloc, resolved.value, resolved.fences)?;
+    out.publications.add(promise, published)?;
+    note(out, Note::Resolved(promise))
+}
+
+/// The outcome of an abandoned turn: its result is broken by the reason.
+fn abandon(w: Working, promise: PromId, why: Abandon) -> Result<Outcome, AllocError>
+    ensures { IfOk result (λ x. Leaves x promise (lost (cause_of why)) (at w)) }
+{
+    let out = broken_result(w.alloc, promise, why)?;
+    let footprint = w.draft.finish()?;
+    Ok(Outcome {
+        footprint,
+        ended: Ended::Abandoned(why),
+        steps: w.steps,
+        out,
+    })
+}
+
+/// What an abandoned turn publishes and notes.
+fn broken_result(alloc: Global, promise: PromId, why: Abandon) -> Result<Outbox, AllocError>
+    ensures { IfOk result (λ o. outbox_of o ≡ lost_outbox promise (cause_of why)) }
+{
+    let reason = Text::new(alloc, why.reason())?;
+    let out = note(Outbox::new(alloc), Note::Comment(reason.share()?))?;
+    let resolved = Resolved {
+        value: Value::Broken(reason),
+        fences: Carried::empty(alloc),
+        joined: None,
+    };
+    publish(alloc, out, promise, resolved)
+}

@@ -1,0 +1,8 @@
+use Rattle.std.proofs.Common.{take}
+use Rattle.worldcells.specs.View.{world_of}
+use Rattle.world.specs.Steps.{Numbers}
+use Rattle.world.proofs.step.numbers_of.Given as goal
+
+-- so far
+abbrev pub invariant-loop-name : goal.invariant-loop-name
+invariant-loop-name l = Numbers (world_of l.world) (take l.name-index l.names) l.numbers.items

@@ -1,0 +1,3 @@
+pub mod Cells
+pub mod Changing
+pub mod Worlds

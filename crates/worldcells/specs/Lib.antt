@@ -1,0 +1,10 @@
+pub mod World
+pub mod Homes
+pub mod HomesView
+pub mod Records
+pub mod View
+pub mod Exchanged
+pub mod Listed
+pub mod Theory
+pub mod Events
+pub mod EventView
