@@ -20,3 +20,4 @@ pub mod Learnings
 pub mod Freshness
 pub mod Committing
 pub mod Good
+pub mod Ordered

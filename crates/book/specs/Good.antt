@@ -4,6 +4,7 @@ use Rattle.std.specs.List.{AllByRecursion}
 use Rattle.history.specs.Subject.{after, new, touches}
 use Rattle.history.specs.Journal.{Entry, name_of, is_in, live_set, Distinct, Sound}
 use Rattle.ids.specs.declared.cells.CellKey.{CellKey}
+use Rattle.worldcells.specs.Events.{Event}
 use Rattle.worldcells.specs.World.{World, empty}
 use Rattle.event.specs.Events.{Foot, Does, events}
 use Rattle.journal.specs.Lines.{plain, entries_in}
@@ -35,3 +36,7 @@ pub record IsGood (b : Book) : Type 0 where
   pub sound : Sound plain (live_set plain) (entries_in b.journal)
   pub footprints : ∥ RunsWithCells (filter (live_set plain) (entries_in b.journal)) b.world ∥₁
   pub within : length b.journal ≤ MOST_ENTRIES
+
+-- the live events, the newest first
+abbrev pub live_events : Book → List Event
+live_events b = map (λ e. e.event) (filter (live_set plain) (entries_in b.journal))

@@ -1,7 +1,8 @@
 // What holds of books.
 ghost use Rattle.book.specs.Calls.{RedoNextGivesBack};
-ghost use Rattle.book.specs.Good.{IsGood};
+ghost use Rattle.book.specs.Good.{IsGood, live_events};
 ghost use Rattle.book.specs.BookView.{book_of};
+ghost use Rattle.ordering.specs.Theorems.{InOrder};
 
 use crate::book::Book;
 
@@ -14,4 +15,10 @@ pub fn redo_next_gives_back()
 /// the live ones, and no others, the cells of the live ones are those of the plain run, and there are no more than a journal may have.
 pub fn journals_are_good(book: &Book)
     ensures { IsGood (book_of book.now) }
+{}
+
+/// The live events of every book, also after an undo, a redo or an exchange, had their turns in the partial order of messages: each message
+/// that comes before another one in it had its turn before that one.
+pub fn turns_are_in_order(book: &Book)
+    ensures { InOrder (live_events (book_of book.now)) (book_of book.now).world }
 {}

@@ -1,7 +1,8 @@
 -- Runs of events from the empty world keep the order of messages.
 use Rattle.std.proofs.Common.{◌≡◌, ◌≢◌, ℕ, ◌+◌, Bool, true, false, cond, List, [], ◌∷◌, ◌++◌, map, filter, Option, Some, None, true≢false, inl, inr, ⊎_elim, refl, sym, ap, ◌∙◌, subst, append-nil}
+use Rattle.std.proofs.Math.Logic.{∥∥₁_map}
 use Rattle.std.specs.List.{AllByRecursion}
-use Rattle.history.specs.Subject.{Run, run_none, run_more, written, after}
+use Rattle.history.specs.Subject.{Subject, Run, run_none, run_more, written, after}
 use Rattle.history.specs.Journal.{Entry, live_set, name_of, Distinct}
 use Rattle.history.specs.Records.{contents, entries_of}
 use Rattle.ids.specs.declared.names.EventName.{EventName}
@@ -26,7 +27,7 @@ use Rattle.event.specs.Events.{events, Foot, in_world, letters_from, on_the_boar
 use Rattle.event.specs.Laws.{HasNoMessage}
 use Rattle.event.proofs.Law.{events_laws}
 use Rattle.ordering.specs.Deeds.{Do, do_birth, do_ask, do_arrive, do_forward, do_learn, do_turn, doing, happening}
-use Rattle.ordering.specs.Theorems.{HasTurn, HasTurnBefore, HaveOwnNames, book, RanFromNothing, KeepOrder, RunsAreDeeds, RunsKeepOrder, JournalsKeepOrder}
+use Rattle.ordering.specs.Theorems.{HasTurn, HasTurnBefore, HaveOwnNames, book, RanFromNothing, KeepOrder, RunsAreDeeds, RunsKeepOrder, RunsAreInOrder, JournalsKeepOrder}
 use Rattle.ordering.proofs.Steps.{step_law}
 use Rattle.ordering.proofs.Written.{Writes, Passes, passed, all_pass, not_message, board_passes_messages}
 
@@ -161,25 +162,30 @@ keeps ps w r h a b i t = all_before ps w r a b (events_keep happening step_law e
 pub runs_keep_order : RunsKeepOrder
 runs_keep_order es w ps r h = keeps ps w r.ran (subst HaveOwnNames (sym r.events) h)
 
+pub runs_in_order : RunsAreInOrder
+runs_in_order es w h own = record { ran = ∥∥₁_map h (λ r. runs_do r); kept = λ ps r. runs_keep_order es w ps r own }
+
 -- ---- journals
 
-others_filtered : (e : Entry events) (p : Entry events → Bool) (es : List (Entry events)) → AllByRecursion (λ a. name_of events a ≢ name_of events e) es → AllByRecursion (λ d. d.name ≡ e.event.name → ⊥) (map (λ a. a.event) (filter p es))
-others_filtered e p [] h = tt
-others_filtered e p (a ∷ es) h = go (p a) (others_filtered e p es h.1)
-  where
-    go : (q : Bool) → AllByRecursion (λ d. d.name ≡ e.event.name → ⊥) (map (λ a. a.event) (filter p es)) → AllByRecursion (λ d. d.name ≡ e.event.name → ⊥) (map (λ a. a.event) (cond q (a ∷ filter p es) (filter p es)))
-    go true k = (λ i. h.0 (ap (λ (n : EventName). n.0) i), k)
-    go false k = k
+-- entries of events: some of the subject's own, which tell an event that has their name
+module _ (s : Subject) (told : s.Event → Event) (names : (e : s.Event) → s.name e ≡ (told e).name.0) where
+  others_filtered : (e : Entry s) (p : Entry s → Bool) (es : List (Entry s)) → AllByRecursion (λ a. name_of s a ≢ name_of s e) es → AllByRecursion (λ d. d.name ≡ (told e.event).name → ⊥) (map (λ a. told a.event) (filter p es))
+  others_filtered e p [] h = tt
+  others_filtered e p (a ∷ es) h = go (p a) (others_filtered e p es h.1)
+    where
+      go : (q : Bool) → AllByRecursion (λ d. d.name ≡ (told e.event).name → ⊥) (map (λ a. told a.event) (filter p es)) → AllByRecursion (λ d. d.name ≡ (told e.event).name → ⊥) (map (λ a. told a.event) (cond q (a ∷ filter p es) (filter p es)))
+      go true k = (λ i. h.0 (names a.event ∙ ap (λ (n : EventName). n.0) i ∙ sym (names e.event)), k)
+      go false k = k
 
-own_names : (p : Entry events → Bool) (es : List (Entry events)) → Distinct events es → HaveOwnNames (map (λ a. a.event) (filter p es))
-own_names p [] h = tt
-own_names p (e ∷ es) h = go (p e) (own_names p es h.1)
-  where
-    go : (q : Bool) → HaveOwnNames (map (λ a. a.event) (filter p es)) → HaveOwnNames (map (λ a. a.event) (cond q (e ∷ filter p es) (filter p es)))
-    go true k = (others_filtered e p es h.0, k)
-    go false k = k
+  pub own_names : (p : Entry s → Bool) (es : List (Entry s)) → Distinct s es → HaveOwnNames (map (λ a. told a.event) (filter p es))
+  own_names p [] h = tt
+  own_names p (e ∷ es) h = go (p e) (own_names p es h.1)
+    where
+      go : (q : Bool) → HaveOwnNames (map (λ a. told a.event) (filter p es)) → HaveOwnNames (map (λ a. told a.event) (cond q (e ∷ filter p es) (filter p es)))
+      go true k = (others_filtered e p es h.0, k)
+      go false k = k
 
 pub journals_keep_order : JournalsKeepOrder
 journals_keep_order next rows state h =
     let x = live_entries_ran events doing events_laws all_do empty next rows state h in
-    (x.0, x.1, keeps x.0 (contents events state) x.1.ran (subst HaveOwnNames (sym x.1.events) (own_names (live_set events) (entries_of rows) h.named.distinct)))
+    (x.0, x.1, keeps x.0 (contents events state) x.1.ran (subst HaveOwnNames (sym x.1.events) (own_names events (λ e. e) (λ e. refl) (live_set events) (entries_of rows) h.named.distinct)))

@@ -61,3 +61,12 @@ RunsKeepOrder = (es : List Event) (w : World) (ps : List (Event × Deed)) → Ra
 -- so do the live entries of a journal, also after an undo, a redo or an exchange
 abbrev pub JournalsKeepOrder : Type 0
 JournalsKeepOrder = (next : ℕ) (rows : List (Row events)) (state : State events) → Stands events empty next rows state → (ps : List (Event × Deed)) × LiveRun events doing empty rows state ps × KeepOrder ps
+
+-- these events ran from nothing to this world, the newest first, and whatever deeds they ran by, their turns keep the order of messages
+pub record InOrder (es : List Event) (w : World) : Type 0 where
+  pub ran : ∥ (ps : List (Event × Deed)) × RanFromNothing es w ps ∥₁
+  pub kept : (ps : List (Event × Deed)) → RanFromNothing es w ps → KeepOrder ps
+
+-- each run of events with names of their own from the empty world is in order
+abbrev pub RunsAreInOrder : Type 0
+RunsAreInOrder = (es : List Event) (w : World) → ∥ Run events empty es w ∥₁ → HaveOwnNames es → InOrder es w

@@ -2,7 +2,7 @@
 ghost use Rattle.eorder.specs.Worlds.{StepLaw};
 ghost use Rattle.ordering.specs.Deeds.{happening};
 ghost use Rattle.ordering.specs.Laws.{DeliveriesAct, LearningActs};
-ghost use Rattle.ordering.specs.Theorems.{RunsAreDeeds, RunsKeepOrder, JournalsKeepOrder};
+ghost use Rattle.ordering.specs.Theorems.{RunsAreDeeds, RunsKeepOrder, RunsAreInOrder, JournalsKeepOrder};
 
 /// What a delivery does to the fences of its vat, and the fences in what it makes, are just what its acts make of the fences from
 /// before, and each message that it sends has its event's name. So it is of what a vat learns.
@@ -22,5 +22,6 @@ pub fn events_do_their_deeds()
 pub fn turns_keep_the_order_of_messages()
     ensures deeds { RunsAreDeeds }
     ensures runs { RunsKeepOrder }
+    ensures in_order { RunsAreInOrder }
     ensures journals { JournalsKeepOrder }
 {}

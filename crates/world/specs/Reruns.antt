@@ -1,8 +1,9 @@
--- Why events could not be run.
-use Rattle.std.specs.Prelude.{List}
+-- What holds of runs, and why events could not be run.
+use Rattle.std.specs.Prelude.{List, reverse}
 use Rattle.worldcells.specs.Events.{Event}
 use Rattle.worldcells.specs.World.{World}
 use Rattle.event.specs.Runs.{PlainRun}
+use Rattle.ordering.specs.Theorems.{HaveOwnNames, InOrder}
 use Rattle.world.specs.declared.step.StepFault.{StepFault}
 use Rattle.world.specs.declared.step.StepFault.TheVariants as fault
 
@@ -10,3 +11,7 @@ use Rattle.world.specs.declared.step.StepFault.TheVariants as fault
 abbrev pub TellsRun : List Event → StepFault → Type 0
 TellsRun es fault.Impossible = (w : World) → PlainRun es w → ⊥
 TellsRun es fault.Memory = Unit {0}
+
+-- where no two of these events have one name, their turns keep the order of messages
+abbrev pub KeepsOrder : List Event → World → Type 0
+KeepsOrder es w = HaveOwnNames (reverse es) → InOrder (reverse es) w

@@ -1,8 +1,9 @@
-use Rattle.std.proofs.Common.{◌≡◌, ◌+◌, List, [], drop, map, ap, subst}
+use Rattle.std.proofs.Common.{◌≡◌, ◌+◌, List, [], drop, map, reverse, ap, subst}
 use Rattle.std.proofs.lemmas.List.{drop_all}
 use Rattle.worldcells.specs.EventView.{event_of}
 use Rattle.worldcells.specs.Events.{Event}
 use Rattle.worldcells.specs.View.{world_of}
+use Rattle.ordering.proofs.Runs.{runs_in_order}
 use Rattle.world.proofs.Going.{Joined, joined_start, joined_step, joined_end, tells_run, from_here}
 use Rattle.world.proofs.run.plain_run.Goals as goal
 
@@ -15,6 +16,9 @@ returns-clause-ok c =
     let xs = c.args.events.now in
     let none : map event_of (drop c.loop-event.event-index xs) ≡ [] = ap (map event_of) (drop_all c.loop-event.event-index xs c.loop-event-test.false) in
     joined_end (map event_of xs) w (subst (λ (es : List Event). Joined w es (map event_of xs)) none c.loop-event.invariant)
+
+pub returns-clause-order : goal.returns-clause-order
+returns-clause-order c own = runs_in_order (reverse (map event_of c.args.events.now)) (world_of c.loop-event.world) (returns-clause-ok c) own
 
 pub returns-in-Err-clause-err : goal.returns-in-Err-clause-err
 returns-in-Err-clause-err c =
