@@ -30,14 +30,24 @@ pub fn text_of(line: &[u8], is_long: bool) -> Result<&str, LineFault>
 
 /// The lines of a script so far: joined, and the first fault among them.
 #[derive(Drop)]
-struct Joined {
-    text: String,
-    fault: Option<LineFault>,
+pub struct Joined {
+    pub text: String,
+    pub fault: Option<LineFault>,
 }
 
 impl Joined {
+    pub fn new(alloc: Global) -> Joined
+        ensures text { string_bytes result.text ≡ [] }
+        ensures fault { result.fault ≡ None }
+    {
+        Joined {
+            text: String::new(alloc),
+            fault: None,
+        }
+    }
+
     /// Adds a line; a line feed stands before each but the first.
-    fn add(&mut self, line: Result<&str, LineFault>, is_first: bool) -> Result<(), AllocError>
+    pub fn add(&mut self, line: Result<&str, LineFault>, is_first: bool) -> Result<(), AllocError>
         ensures fault { OnOk result (self.new.fault ≡ or_fault self.old.fault (fault_at line.entry)) }
         ensures text { OnOk result (IfOk line.entry (λ text. string_bytes self.new.text ≡ string_bytes self.old.text ++ (cond is_first [] (10 ∷ []) ++ text.now))) }
     {
@@ -53,7 +63,8 @@ impl Joined {
         Ok(())
     }
 
-    fn finish(self) -> Result<String, LineFault>
+    /// The script, or the first fault.
+    pub fn finish(self) -> Result<String, LineFault>
         ensures { script_text result ≡ unless self.fault (string_bytes self.text) }
     {
         match self.fault {
@@ -70,10 +81,7 @@ pub fn take_script<'a>(alloc: Global, input: &'a [u8], lines: u32) -> Result<Scr
     ensures shorter { IfOk result (λ script. length script.rest.now ≤ length input.now) }
 {
     let mut rest = input;
-    let mut joined = Joined {
-        text: String::new(alloc),
-        fault: None,
-    };
+    let mut joined = Joined::new(alloc);
     'lines: for taken in 0..lines {
         if rest.is_empty() {
             return Ok(Script {

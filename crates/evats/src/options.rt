@@ -23,18 +23,11 @@ pub enum Parsed<'a> {
 }
 
 /// An option that is a number from 1 on.
-fn numbered<'a>(
-    alloc: Global,
-    name: &'a str,
-    most: i64,
-    otherwise: &'a str,
-    help: &'a str,
-) -> Arg<'a> {
+fn numbered<'a>(alloc: Global, name: &'a str, most: i64, help: &'a str) -> Arg<'a> {
     Arg::new(alloc, name)
         .long(name)
         .value_name("N")
         .value_parser(value_parser!(u32).range(1..=most))
-        .default_value(otherwise)
         .help(help)
 }
 
@@ -49,15 +42,13 @@ fn command<'a>(alloc: Global) -> Result<Command<'a>, AllocError> {
         alloc,
         "budget",
         1_000_000,
-        "10000",
-        "The most steps of a turn, 1 to 1,000,000",
+        "The most steps of a turn, 1 to 1,000,000; 10,000 if not given",
     );
     let workers = numbered(
         alloc,
         "workers",
         64,
-        "8",
-        "The most workers that a command may start, 1 to 64",
+        "The most workers that a command may start, 1 to 64; 8 if not given",
     );
     Command::new(alloc, "evats")
         .about("Runs programs of communicating event-loop vats: one reply for each command")

@@ -4,9 +4,12 @@
 mod enabled;
 mod ended;
 mod engine;
+mod fault;
+mod input;
 mod listing;
 mod reply;
 mod show;
 
 pub use ended::{Ended, status};
-pub use engine::{Fault, Limits, STACK, Summary, replies};
+pub use engine::{Limits, STACK, Summary, run};
+pub use fault::Fault;

@@ -1,0 +1,21 @@
+// The engine over a reader and a writer.
+
+use std::alloc::Global;
+use std::io::{Read, Write};
+use stepper::{Ended, Fault, Limits, run};
+use streams::lines::Lines;
+use streams::outlet::Outlet;
+
+/// Answers the commands of a reader on a writer.
+pub(crate) fn answer_commands<I: Read + Drop, O: Write + Drop>(
+    alloc: Global,
+    input: I,
+    output: O,
+    limits: Limits,
+) -> Ended {
+    let Ok(mut source) = Lines::new(alloc, input) else {
+        return Ended::Ran(Err(Fault::Memory));
+    };
+    let mut sink = Outlet::new(alloc, output);
+    Ended::Ran(run(alloc, &mut source, &mut sink, limits))
+}
