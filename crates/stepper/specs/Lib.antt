@@ -5,6 +5,7 @@ pub mod Listing
 pub mod ListingView
 pub mod Steps
 pub mod Replies
+pub mod Runs
 pub mod Show
 pub mod ShowView
 pub mod Written

@@ -1,9 +1,9 @@
 // Lines on their way to the engine: before each read the replies so far go out.
-ghost use Rattle.std.specs.Prelude.{◌≡◌, MatchResult, MatchOption, []};
+ghost use Rattle.std.specs.Prelude.{◌≡◌, IfOk, IfErr, OnOk, MatchResult, MatchOption, [], true, false};
 ghost use Rattle.commands.specs.ScriptView.{script_text};
-ghost use Rattle.streams.specs.Lines.{IsSound, TakesLine, HasNoLine};
-ghost use Rattle.streams.specs.Outlet.{Gives};
-ghost use Rattle.stepper.specs.Runs.{TakesScript, StopsWithin};
+ghost use Rattle.streams.specs.Lines.{IsSound, is_at_hand, ReadsNothing, TakesLine, HasNoLine};
+ghost use Rattle.streams.specs.Outlet.{waiting, Gives};
+ghost use Rattle.stepper.specs.Runs.{StopsAtLine, StopsWithin, TakesScript};
 
 use crate::fault::Fault;
 use commands::command::LineFault;
@@ -20,7 +20,11 @@ pub(crate) fn next_line<R: Read, W: Write>(
     sink: &mut Outlet<W>,
 ) -> Result<Option<Line>, Fault>
     requires { IsSound R.remaining source.old }
-    ensures { MatchResult result (λ line. MatchOption line (HasNoLine R.remaining source.old source.new) (TakesLine R.remaining source.old source.new) × Gives W.contents sink.old sink.new []) (StopsWithin R.remaining W.contents source.old source.new sink.old sink.new 1) }
+    ensures line { IfOk result (λ line. MatchOption line (HasNoLine R.remaining source.old source.new) (TakesLine R.remaining source.old source.new)) }
+    ensures gives { OnOk result (Gives W.contents sink.old sink.new []) }
+    ensures err { IfErr result (StopsAtLine R.remaining W.contents source.old source.new sink.old sink.new) }
+    ensures at_hand { is_at_hand source.old ≡ true → ReadsNothing source.old source.new }
+    ensures sent { is_at_hand source.old ≡ false → waiting sink.new ≡ [] }
 {
     if !source.is_at_hand() {
         sink.send()?;
