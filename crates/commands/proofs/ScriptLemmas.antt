@@ -139,11 +139,6 @@ pub added : (r : Result (Bor (List ℕ)) LineFault) (line more text separator : 
 added (Ok t) line more text separator n e h = h ∙ ap (λ l. text ++ (separator ++ l)) e
 added (Err f) line more text separator n e h = absurd (cc)
 
--- nothing is behind an empty rest
-pub nothing_behind : (n k : ℕ) (rest : List ℕ) → is_empty rest ≡ true → rest ≡ behind_lines (n - k) rest
-nothing_behind n k [] h = sym (behind_none (n - k))
-nothing_behind n k (b ∷ bs) h = absurd (grind (arith, h))
-
 unless_by : (fault : Option LineFault) (text whole : List ℕ) → (fault ≡ None → text ≡ whole) → unless fault whole ≡ unless fault text
 unless_by None text whole h = ap (λ t. Ok t) (sym (h refl))
 unless_by (Some f) text whole h = refl

@@ -1,18 +1,10 @@
 // The script lines of a vat.
-ghost use Rattle.std.specs.Prelude.{◌≡◌, ◌≤◌, ◌++◌, length, [], ◌∷◌, IfOk, OnOk, cond, Some, None, string_bytes};
-ghost use Rattle.commands.specs.Scripts.{fault_in, or_fault, script_of, behind_lines, unless};
+ghost use Rattle.std.specs.Prelude.{◌≡◌, ◌++◌, [], ◌∷◌, IfOk, OnOk, cond, None, string_bytes};
+ghost use Rattle.commands.specs.Scripts.{fault_in, or_fault, unless};
 ghost use Rattle.commands.specs.ScriptView.{fault_at, script_text};
 
 use crate::command::LineFault;
-use crate::lines::cut_line;
 use std::alloc::{AllocError, Global};
-
-/// The script that the lines which follow spell, and what is behind them.
-#[derive(Drop)]
-pub struct Script<'a> {
-    pub text: Result<String, LineFault>,
-    pub rest: &'a [u8],
-}
 
 /// A line as a text.
 pub fn text_of(line: &[u8], is_long: bool) -> Result<&str, LineFault>
@@ -72,29 +64,4 @@ impl Joined {
             None => Ok(self.text),
         }
     }
-}
-
-/// Takes so many lines, whatever is wrong with them, and joins them by line feeds.
-pub fn take_script<'a>(alloc: Global, input: &'a [u8], lines: u32) -> Result<Script<'a>, AllocError>
-    ensures text { IfOk result (λ script. script_text script.text ≡ script_of lines input.now) }
-    ensures rest { IfOk result (λ script. script.rest.now ≡ behind_lines lines input.now) }
-    ensures shorter { IfOk result (λ script. length script.rest.now ≤ length input.now) }
-{
-    let mut rest = input;
-    let mut joined = Joined::new(alloc);
-    'lines: for taken in 0..lines {
-        if rest.is_empty() {
-            return Ok(Script {
-                text: Err(LineFault::Truncated),
-                rest,
-            });
-        }
-        let cut = cut_line(rest);
-        rest = cut.rest;
-        joined.add(text_of(cut.line, cut.is_long), taken == 0)?;
-    }
-    Ok(Script {
-        text: joined.finish(),
-        rest,
-    })
 }
