@@ -1,4 +1,5 @@
 // The engine over a reader and a writer.
+ghost use Rattle.evats.specs.Edge.{EndsAs};
 
 use std::alloc::Global;
 use std::io::{Read, Write};
@@ -12,10 +13,14 @@ pub(crate) fn answer_commands<I: Read + Drop, O: Write + Drop>(
     input: I,
     output: O,
     limits: Limits,
-) -> Ended {
-    let Ok(mut source) = Lines::new(alloc, input) else {
-        return Ended::Ran(Err(Fault::Memory));
-    };
-    let mut sink = Outlet::new(alloc, output);
-    Ended::Ran(run(alloc, &mut source, &mut sink, limits))
+) -> Ended
+    ensures { EndsAs I.remaining O.contents limits.budget input output result }
+{
+    match Lines::new(alloc, input) {
+        Ok(mut source) => {
+            let mut sink = Outlet::new(alloc, output);
+            Ended::Ran(run(alloc, &mut source, &mut sink, limits))
+        }
+        Err(_) => Ended::Ran(Err(Fault::Memory)),
+    }
 }

@@ -1,4 +1,8 @@
 // The words of the command line.
+ghost use Rattle.std.specs.Prelude.{◌≡◌, codes};
+ghost use Rattle.std.specs.Option.{option_map};
+ghost use Rattle.clap.specs.Words.{found_of, one_text, first_value};
+ghost use Rattle.evats.specs.Options.{IsNumber};
 
 use clap::{Arg, ArgMatches, Command, Error, value_parser};
 use std::alloc::{AllocError, Global};
@@ -57,12 +61,20 @@ fn command<'a>(alloc: Global) -> Result<Command<'a>, AllocError> {
         .arg(file(alloc))
 }
 
-fn number(matches: &ArgMatches, name: &str, otherwise: u32) -> u32 {
+/// The number of an option, or another one where none was given.
+fn number(matches: &ArgMatches, name: &str, otherwise: u32) -> u32
+    ensures { IsNumber otherwise (one_text (found_of matches.now) name.now) result }
+{
     matches.get_one::<u32>(name).unwrap_or(otherwise)
 }
 
 impl<'a> Options<'a> {
-    fn from_matches(matches: &ArgMatches<'a>) -> Self {
+    /// The options that words were matched to: 10,000 steps and 8 workers where they say no other numbers.
+    fn from_matches(matches: &ArgMatches<'a>) -> Self
+        ensures budget { IsNumber 10000 (one_text (found_of matches.now) (codes "budget")) result.limits.budget }
+        ensures workers { IsNumber 8 (one_text (found_of matches.now) (codes "workers")) result.limits.workers }
+        ensures file { option_map (λ s. s.now) result.file ≡ first_value (found_of matches.now) (codes "file") }
+    {
         Options {
             limits: Limits {
                 budget: number(matches, "budget", 10_000),

@@ -318,8 +318,7 @@ impl Engine {
                 lines,
             } => {
                 let script = take_script(self.alloc, lines, source, sink)?;
-                self.birth(name, &earlier, &script)?;
-                return Ok(());
+                return Ok(self.birth(name, &earlier, &script)?);
             }
             Command::Ask { name, text } => self.ask(name, text),
             Command::Arrive(message) => self.obey(Step::Arrive(message)),
