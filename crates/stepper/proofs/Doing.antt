@@ -15,7 +15,7 @@ use Rattle.streams.proofs.Giving.{gives_none}
 use Rattle.stepper.specs.Replies.{Answers, AnswersBirth, FirstReply, born, skipped, no_command, refused, script_lines, line_feeds}
 use Rattle.stepper.specs.Engine.{Happens}
 use Rattle.stepper.specs.Written.{Adds}
-use Rattle.stepper.specs.Runs.{Follows, TakesScript, Does, RunsOutBefore, StopsWithin, no_bytes}
+use Rattle.stepper.specs.Taking.{Follows, TakesScript, Does, RunsOutBefore, StopsWithin, no_bytes}
 use Rattle.stepper.specs.declared.engine.Engine.{Engine}
 use Rattle.stepper.specs.declared.fault.Fault.{Fault}
 use Rattle.stepper.specs.declared.fault.Fault.TheVariants.{Memory}

@@ -18,7 +18,8 @@ use Rattle.streams.specs.declared.outlet.Outlet.{Outlet}
 use Rattle.streams.proofs.Giving.{gives_both, cut_behind, gives_as}
 use Rattle.stepper.specs.Replies.{FirstReply, Replies, RepliesToAll, whole_ones, with_last, IsWhole, IsOfOne, said, script_lines}
 use Rattle.stepper.specs.Engine.{Happens}
-use Rattle.stepper.specs.Runs.{StopsAtLine, Does, StopsWithin, AnswersLine, StopsLine, RunsToEnd, RunsToFailedRead, RunsToFailedWrite, RunsOutOfMemory, RunsTo}
+use Rattle.stepper.specs.Taking.{StopsAtLine, Does, StopsWithin, AnswersLine, StopsLine}
+use Rattle.stepper.specs.Runs.{RunsToEnd, RunsToFailedRead, RunsToFailedWrite, RunsOutOfMemory, RunsTo}
 use Rattle.stepper.specs.declared.engine.Engine.{Engine}
 use Rattle.stepper.specs.declared.fault.Fault.{Fault}
 use Rattle.stepper.specs.declared.fault.Fault.TheVariants.{Reader, Writer, Memory}

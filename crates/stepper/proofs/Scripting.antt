@@ -21,7 +21,7 @@ use Rattle.streams.specs.declared.outlet.Outlet.{Outlet}
 use Rattle.streams.proofs.Feeds.{behind_no_feed}
 use Rattle.streams.proofs.Giving.{gives_both, cut_behind}
 use Rattle.stepper.specs.Replies.{line_feeds}
-use Rattle.stepper.specs.Runs.{IsOfLines, no_bytes, TakesScript, StopsAtLine, StopsWithin}
+use Rattle.stepper.specs.Taking.{IsOfLines, no_bytes, TakesScript, StopsAtLine, StopsWithin}
 use Rattle.stepper.specs.declared.fault.Fault.{Fault}
 use Rattle.stepper.specs.declared.fault.Fault.TheVariants.{Reader, Writer, Memory}
 use Rattle.stepper.proofs.Whole.{line_feeds-append, no_feeds, reads_fault, reads_short, line_stays, fault_stays, behind_is_more, of_more_lines, of_as_many, of_one_more}

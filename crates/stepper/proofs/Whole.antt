@@ -10,7 +10,7 @@ use Rattle.streams.specs.Pieces.{HasNoFeed, Reads, IsOneLine, fed, last}
 use Rattle.streams.specs.declared.line.Line.{Line}
 use Rattle.streams.proofs.Feeds.{no_feed_here, feed_behind, line_before_feed, behind_feed, long_before_feed, behind_no_feed, cut_at_feed}
 use Rattle.stepper.specs.Replies.{said, said_by, script_lines, line_feeds, IsWhole, IsOfOne, without_last}
-use Rattle.stepper.specs.Runs.{IsOfLines, no_bytes, some_bytes}
+use Rattle.stepper.specs.Taking.{IsOfLines, no_bytes, some_bytes}
 
 pub line_feeds-append : (xs ys : List ℕ) → line_feeds (xs ++ ys) ≡ line_feeds xs + line_feeds ys
 line_feeds-append xs ys = sum_by-append (λ x. cond (is_line_feed x) 1 0) xs ys

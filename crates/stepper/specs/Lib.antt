@@ -8,4 +8,5 @@ pub mod Replies
 pub mod Runs
 pub mod Show
 pub mod ShowView
+pub mod Taking
 pub mod Written

@@ -11,7 +11,8 @@ ghost use Rattle.streams.specs.Lines.{is_ended, IsSound};
 ghost use Rattle.streams.specs.Pieces.{Reads, IsOneLine};
 ghost use Rattle.streams.specs.Outlet.{waiting};
 ghost use Rattle.stepper.specs.Replies.{Answers, AnswersBirth, Moves, Steps, script_lines};
-ghost use Rattle.stepper.specs.Runs.{Does, StopsWithin, AnswersLine, StopsLine, RunsToEnd, RunsTo};
+ghost use Rattle.stepper.specs.Taking.{Does, StopsWithin, AnswersLine, StopsLine};
+ghost use Rattle.stepper.specs.Runs.{RunsToEnd, RunsTo};
 ghost use Rattle.stepper.specs.declared.fault.Fault.TheVariants.{Writer};
 
 use crate::fault::Fault;

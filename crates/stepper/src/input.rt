@@ -3,7 +3,7 @@ ghost use Rattle.std.specs.Prelude.{◌≡◌, IfOk, IfErr, OnOk, MatchResult, M
 ghost use Rattle.commands.specs.ScriptView.{script_text};
 ghost use Rattle.streams.specs.Lines.{IsSound, is_at_hand, ReadsNothing, TakesLine, HasNoLine};
 ghost use Rattle.streams.specs.Outlet.{waiting, Gives};
-ghost use Rattle.stepper.specs.Runs.{StopsAtLine, StopsWithin, TakesScript};
+ghost use Rattle.stepper.specs.Taking.{StopsAtLine, StopsWithin, TakesScript};
 
 use crate::fault::Fault;
 use commands::command::LineFault;
