@@ -1,6 +1,7 @@
 pub mod Ended
 pub mod Engine
 pub mod Fault
+pub mod Laws
 pub mod Listing
 pub mod ListingView
 pub mod Steps

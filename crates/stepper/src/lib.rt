@@ -9,6 +9,7 @@ mod input;
 mod listing;
 mod reply;
 mod show;
+pub mod theorems;
 
 pub use ended::{Ended, status};
 pub use engine::{Limits, STACK, Summary, run};
