@@ -20,7 +20,12 @@ fn a_read_fails_behind_three_lines(rt: HostRuntime) {
             calls_left,
         };
         let wanted = "ok e1 e1.m0\nok e2 value null\nok e3 e3.m0\n|reader 1 0";
-        expect(&rt, "a reader", &told(&rt, input, tapping(&rt, 100)), wanted);
+        expect(
+            &rt,
+            "a reader",
+            &told(&rt, input, tapping(&rt, 100)),
+            wanted,
+        );
     }
 }
 
@@ -29,28 +34,32 @@ fn a_read_fails_behind_three_lines(rt: HostRuntime) {
 fn a_write_fails(rt: HostRuntime) {
     let commands = commands_of(&rt, SUM);
     for most in [1, 3, 100] {
-        for (room, wanted) in [
-            (20, "ok e1 e1.m0\nok e2 va|writer 0 1"),
-            (0, "|writer 0 1"),
-        ] {
+        for (room, wanted) in [(20, "ok e1 e1.m0\nok e2 va|writer 0 1"), (0, "|writer 0 1")] {
             let output = Tap {
                 room,
                 ..tapping(&rt, most)
             };
             let input = dripping(commands.as_bytes(), most);
-            expect(&rt, "a writer that is full", &told(&rt, input, output), wanted);
+            expect(
+                &rt,
+                "a writer that is full",
+                &told(&rt, input, output),
+                wanted,
+            );
         }
     }
-    for (calls_left, wanted) in [
-        (20, "ok e1 e1.m0\nok e2 va|writer 0 1"),
-        (0, "|writer 0 1"),
-    ] {
+    for (calls_left, wanted) in [(20, "ok e1 e1.m0\nok e2 va|writer 0 1"), (0, "|writer 0 1")] {
         let output = Tap {
             calls_left,
             ..tapping(&rt, 1)
         };
         let input = dripping(commands.as_bytes(), 100);
-        expect(&rt, "a writer that fails", &told(&rt, input, output), wanted);
+        expect(
+            &rt,
+            "a writer that fails",
+            &told(&rt, input, output),
+            wanted,
+        );
     }
 }
 

@@ -156,10 +156,7 @@ pub(crate) const ORDER: Talk = &[
     ("turn e3.m0\n", "ok e4 value <e4.o0>\n"),
     ("vat alice (carol bob) 0\n", "ok e5 e5.m0\n"),
     ("turn e5.m0\n", "ok e6 value null\n"),
-    (
-        "ask alice carol <- x(); bob <- y(carol)\n",
-        "ok e7 e7.m0\n",
-    ),
+    ("ask alice carol <- x(); bob <- y(carol)\n", "ok e7 e7.m0\n"),
     ("turn e7.m0\n", "ok e8 value <e8.p1>\n"),
     ("arrive e8.m1\n", "ok e9\n"),
     ("turn e8.m1\n", "ok e10 value <e10.p0>\n"),

@@ -16,7 +16,7 @@ pub record IsUnread {R : Type 0} (input : R) (source : Lines R) : Type 0 where
   pub from : reader source ≡ input
   pub none_read : held source ≡ []
   pub none_failed : reads_failed source ≡ 0
-  pub open : is_ended source ≡ false
+  pub unended : is_ended source ≡ false
 
 -- nothing was given to the writer yet
 pub record IsUnwritten {W : Type 0} (output : W) (sink : Outlet W) : Type 0 where

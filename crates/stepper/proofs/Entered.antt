@@ -133,8 +133,8 @@ turned_once {m = m} {budget = budget} {b = b} {d = d} {x = x} {y = y} {t = t} {u
     let vat : u.vat ≡ t.vat = ∥∥₁_elim h.enters.turns (vats _ _) (λ p. ∥∥₁_elim also.enters.turns (vats _ _) (λ q. one_vat t u p q)) in (
       turned_so x y t.outcome.told u.outcome.told (sym same) words,
       enters_once h.enters.enters
-      (subst (λ (v : VatNo). Enters (record { name = x; act = turn v m budget }) (turn_foot x b.world m u also.enters.cells also.enters.left) 0 b d) vat also.enters.enters)
-      (k.drawn ∙ sym h.drawn) (k.same_out ∙ sym h.same_out),
+          (subst (λ (v : VatNo). Enters (record { name = x; act = turn v m budget }) (turn_foot x b.world m u also.enters.cells also.enters.left) 0 b d) vat also.enters.enters)
+          (k.drawn ∙ sym h.drawn) (k.same_out ∙ sym h.same_out),
     )
 
 -- ---- plain runs
