@@ -1,6 +1,6 @@
 -- How a run goes on from command to command.
-use Rattle.std.proofs.Common.{◌≡◌, ℕ, List, [], ◌++◌, Bool, true, false, Option, Some, None, Result, refl, sym, ap, subst, ◌∙◌, append_assoc, append-nil}
-use Rattle.std.specs.Prelude.{string_bytes}
+use Rattle.std.proofs.Common.{◌≡◌, ℕ, List, [], ◌++◌, Bool, true, false, Option, Some, None, Result, Ok, Err, refl, sym, ap, subst, ◌∙◌, append_assoc, append-nil}
+use Rattle.std.specs.Prelude.{string_bytes, ◌||◌, MatchResult}
 use Rattle.std.specs.Io.KnownBytes.{Consumes, IsAtEnd, prepend_known}
 use Rattle.std.proofs.KnownBytes.{Consumes-nil, Consumes-trans, Consumes-kept}
 use Rattle.book.specs.Books.{Book, blank}
@@ -62,6 +62,29 @@ module _ {R W : Type 0} (remaining : R → Option (List ℕ)) (contents : W → 
         budget = d.happens.budget;
       }
 
+  -- an engine with the same book, budget and refusals answers the same
+  line_from : {old mid new : Engine} {source later : Lines R} {sink after : Outlet W} {line : List ℕ} → mid.budget ≡ old.budget → book_of mid.book ≡ book_of old.book → mid.written.refused ≡ old.written.refused
+      → AnswersLine remaining contents mid new source later sink after line → AnswersLine remaining contents old new source later sink after line
+  line_from {old = old} {mid = mid} {new = new} {line = line} budget book refused a = record {
+    bytes = a.bytes;
+    taken = a.taken;
+    sound = a.sound;
+    none_failed = a.none_failed;
+    gives = a.gives;
+    refusal = a.refusal;
+    here = from_mid (line ++ a.bytes) [] a.here;
+    whole = a.whole;
+    before = λ unended more. from_mid ((line ++ a.bytes) ++ more) more (a.before unended more);
+    refused = a.refused ∙ ap (λ (q : Bool). q || a.refusal) refused;
+    budget = a.budget ∙ budget;
+  }
+    where
+      from_mid : (input rest : List ℕ) → FirstReply mid.budget (book_of mid.book) (said input) (behind_line input) (string_bytes new.written.text) a.refusal (book_of new.book) rest
+          → FirstReply old.budget (book_of old.book) (said input) (behind_line input) (string_bytes new.written.text) a.refusal (book_of new.book) rest
+      from_mid input rest h =
+          subst (λ (n : ℕ). FirstReply n (book_of old.book) (said input) (behind_line input) (string_bytes new.written.text) a.refusal (book_of new.book) rest) budget
+          (subst (λ (b : Book). FirstReply mid.budget b (said input) (behind_line input) (string_bytes new.written.text) a.refusal (book_of new.book) rest) book h)
+
   -- a fault behind the line of a command
   pub stops_line : (source later : Lines R) (sink after : Outlet W) (line : Line) (bytes : List ℕ) (said_so : Result (Option Spelled) LineFault) (fault : Fault)
       → Reads line bytes → IsOneLine bytes (is_ended source) → said_so ≡ said_in line
@@ -82,6 +105,17 @@ module _ {R W : Type 0} (remaining : R → Option (List ℕ)) (contents : W → 
     none_failed = d.none_failed;
     gives = d.gives;
   }
+
+  -- what came of a line, by what it says
+  pub line_answered : {A : Type 0} {old mid new : Engine} {source later : Lines R} {sink after : Outlet W} {line : Line} {said_so : Result (Option Spelled) LineFault} (r : Result A Fault)
+      → mid.budget ≡ old.budget → book_of mid.book ≡ book_of old.book → mid.written.refused ≡ old.written.refused → string_bytes mid.written.text ≡ [] → said_so ≡ said_in line
+      → MatchResult r (λ _. Does remaining contents mid new source later sink after said_so) (StopsWithin remaining contents source later sink after (script_lines said_so))
+      → (bytes : List ℕ) → Reads line bytes → IsOneLine bytes (is_ended source)
+      → MatchResult r (λ _. AnswersLine remaining contents old new source later sink after bytes) (StopsLine remaining contents source later sink after bytes)
+  line_answered {mid = mid} {new = new} {source = source} {later = later} {sink = sink} {after = after} {line = line} {said_so = said_so} (Ok x) budget book refused empty says h bytes reads one =
+      line_from budget book refused (answers_line mid new source later sink after line bytes said_so reads one says empty h)
+  line_answered {source = source} {later = later} {sink = sink} {after = after} {line = line} {said_so = said_so} (Err f) budget book refused empty says h bytes reads one =
+      stops_line source later sink after line bytes said_so f reads one says h
 
   -- how far a run is
   pub record Going (budget : ℕ) (source now : Lines R) (sink then : Outlet W) (engine : Engine) : Type 0 where

@@ -3,7 +3,7 @@ use Rattle.std.proofs.Common.{◌≡◌, ℕ, ◌+◌, ◌<◌, ◌≤◌, List,
 use Rattle.std.specs.Prelude.{IsSome}
 use Rattle.std.proofs.lemmas.List.Sums.{sum_by-append}
 use Rattle.commands.specs.Lines.{is_line_feed, line_end, line_of, behind_line, is_long}
-use Rattle.commands.specs.Commands.{Spelled}
+use Rattle.commands.specs.Commands.{Spelled, spelled_by}
 use Rattle.commands.specs.Scripts.{fault_in, fault_of}
 use Rattle.commands.specs.declared.command.LineFault.{LineFault}
 use Rattle.streams.specs.Pieces.{HasNoFeed, Reads, IsOneLine, fed, last}
@@ -25,6 +25,16 @@ no_feeds (b ∷ bs) h = let here = no_feed_here b bs (is_line_feed b) refl h in 
 -- what a line says, as it was read
 abbrev pub said_in : Line → Result (Option Spelled) LineFault
 said_in line = said_by (fault_in line.text.items line.is_long) line.text.items
+
+-- a line that is a text says what it spells
+pub said_text : (line : Line) (bytes text : List ℕ) → bytes ≡ line.text.items → text ≡ bytes → None ≡ fault_in bytes line.is_long → spelled_by text ≡ said_in line
+said_text line bytes text same e none =
+    let no_fault : fault_in line.text.items line.is_long ≡ None = ap (λ (b : List ℕ). fault_in b line.is_long) (sym same) ∙ sym none in
+    ap spelled_by (e ∙ same) ∙ sym (ap (λ f. said_by f line.text.items) no_fault)
+
+-- a line that is no text says why
+pub said_fault : (line : Line) (bytes : List ℕ) (f : LineFault) → bytes ≡ line.text.items → Some f ≡ fault_in bytes line.is_long → Err f ≡ said_in line
+said_fault line bytes f same found = sym (ap (λ g. said_by g line.text.items) (ap (λ (b : List ℕ). fault_in b line.is_long) (sym same) ∙ sym found))
 
 kept_short : (line : List ℕ) (long : Bool) → long ≡ false → cond long [] line ≡ line
 kept_short line true h = absurd (cc)
