@@ -43,12 +43,12 @@ vats = hlevel props
 one_line : (l : Line) → SameLine l l
 one_line l = record { event = refl; seat = refl; live = refl; causes = refl; touched = λ k. refl; written = λ k. refl }
 
+these_lines : (ls : List Line) → SameLines ls ls
+these_lines [] = tt
+these_lines (l ∷ ls) = (one_line l, these_lines ls)
+
 pub same_lines : (ls ms : List Line) → ms ≡ ls → SameLines ls ms
-same_lines ls ms e = subst (SameLines ls) (sym e) (these ls)
-  where
-    these : (xs : List Line) → SameLines xs xs
-    these [] = tt
-    these (x ∷ xs) = (one_line x, these xs)
+same_lines ls ms e = subst (SameLines ls) (sym e) (these_lines ls)
 
 pub same_book : (b : Book) → SameBook b b
 same_book b = record { world = refl; next = refl; out = refl; journal = same_lines b.journal b.journal refl }

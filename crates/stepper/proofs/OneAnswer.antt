@@ -1,5 +1,5 @@
 -- One answer at most to a command in a book.
-use Rattle.std.proofs.Common.{◌≡◌, ◌≢◌, ℕ, suc, zero, ◌+◌, Bool, true, false, ◌&&◌, List, [], ◌∷◌, ◌++◌, Option, Some, None, Result, Ok, Err, map, refl, sym, ap, subst, ◌∙◌, ◌⊎◌, inl, inr, ⊎_elim, cond, add-one}
+use Rattle.std.proofs.Common.{◌≡◌, ℕ, suc, zero, ◌+◌, Bool, true, false, List, [], ◌∷◌, ◌++◌, Option, Some, None, Result, Ok, Err, map, refl, sym, ap, subst, ◌∙◌, ◌⊎◌, ⊎_elim, cond, add-one}
 use Rattle.std.specs.Prelude.{codes, slice_get}
 use Rattle.std.specs.List.{AllByRecursion, filter}
 use Rattle.std.specs.Option.{option_map}
@@ -54,8 +54,8 @@ answer_once {r = r} same h = record { reply = subst (SameReply r) (sym same) one
 refused_once : {o : Option Refusal} {r s : Refusal} {b : Book} → o ≡ Some r → o ≡ Some s → SameAnswer (refused (refusal_text r)) true b (refused (refusal_text s)) true b
 refused_once {r = r} {s = s} {b = b} h k = let same : s ≡ r = cc in answer_once (ap (λ z. refused (refusal_text z)) same) (same_book b)
 
-not_both : {A : Type 0} {o : Option A} {x : A} (P : Type 0) → o ≡ Some x → o ≡ None → P
-not_both P h k = absurd (cc)
+not_both : {P A : Type 0} {o : Option A} {x : A} → o ≡ Some x → o ≡ None → P
+not_both h k = absurd (cc)
 
 -- ---- what is read of a text
 
@@ -94,29 +94,31 @@ read_once {text = text} {ts = ts} {us = us} h k = let e = one_reading text ts (O
 -- ---- what may be done first
 
 reversed : {K : Type 0} {R : K → K → Ordering} → IsTotalOrder R → (x y : K) → R x y ≡ Less → R y x ≡ Less → ⊥
-reversed o x y h k = let e = o.antisymm x y in let f = ap ordering_reverse k in cc
-
-then_less : (a b : Ordering) → ordering_then a b ≡ Less → (a ≡ Less) ⊎ ((a ≡ Equal) × (b ≡ Less))
-then_less Less b h = inl refl
-then_less Equal b h = inr (refl, h)
-then_less Greater b h = absurd (cc)
+reversed {R = R} o x y h k = let e = o.antisymm x y in let f : ordering_reverse (R y x) ≡ Greater = ap ordering_reverse k in cc
 
 then_reversed : (a b c d : Ordering) → a ≡ ordering_reverse c → (b ≡ Less → d ≡ Less → ⊥) → ordering_then a b ≡ Less → ordering_then c d ≡ Less → ⊥
-then_reversed a b c d e apart h k =
-    ⊎_elim (λ x. ⊎_elim (λ y. let f = ap ordering_reverse y in cc) (λ y. let f = ap ordering_reverse y.0 in let g = y.0 in cc) (then_less c d k))
-    (λ x. ⊎_elim (λ y. let f = ap ordering_reverse y in let g = x.0 in cc) (λ y. apart x.1 y.1) (then_less c d k)) (then_less a b h)
+then_reversed Less b Less d e apart h k = cc
+then_reversed Less b Equal d e apart h k = cc
+then_reversed Less b Greater d e apart h k = cc
+then_reversed Equal b Less d e apart h k = cc
+then_reversed Equal b Equal d e apart h k = apart h k
+then_reversed Equal b Greater d e apart h k = cc
+then_reversed Greater b c d e apart h k = cc
 
 cmp_reversed : (o p : Option MsgId) (a b : Ordering) → (a ≡ Less → b ≡ Less → ⊥) → step_cmp_by o p a ≡ Less → step_cmp_by p o b ≡ Less → ⊥
 cmp_reversed (Some m) (Some n) a b apart h k = reversed message_total m n h k
-cmp_reversed (Some m) None a b apart h k = absurd (cc)
-cmp_reversed None (Some n) a b apart h k = absurd (cc)
+cmp_reversed (Some m) None a b apart h k = cc
+cmp_reversed None (Some n) a b apart h k = cc
 cmp_reversed None None a b apart h k = apart h k
 
 step_reversed : (s t : Step) → step_cmp s t ≡ Less → step_cmp t s ≡ Less → ⊥
 step_reversed s t h k =
-    cmp_reversed (message_in s) (message_in t)
-    (ordering_then (vat_cmp (learn_in s).0 (learn_in t).0) (promise_cmp (learn_in s).1 (learn_in t).1)) (ordering_then (vat_cmp (learn_in t).0 (learn_in s).0) (promise_cmp (learn_in t).1 (learn_in s).1))
-    (then_reversed _ _ _ _ (vat_total.antisymm (learn_in s).0 (learn_in t).0) (reversed promise_total (learn_in s).1 (learn_in t).1)) h k
+    let v = (learn_in s).0 in
+    let u = (learn_in t).0 in
+    let p = (learn_in s).1 in
+    let q = (learn_in t).1 in
+    cmp_reversed (message_in s) (message_in t) (ordering_then (vat_cmp v u) (promise_cmp p q)) (ordering_then (vat_cmp u v) (promise_cmp q p))
+    (then_reversed (vat_cmp v u) (promise_cmp p q) (vat_cmp u v) (promise_cmp q p) (vat_total.antisymm v u) (reversed promise_total p q)) h k
 
 first_once : {b : Book} {s t : Step} → FirstIn b (Some s) → FirstIn b (Some t) → t ≡ s
 first_once {s = s} {t = t} h k = ⊎_elim (λ e. e) (λ less. ⊎_elim (λ e. sym e) (λ other. absurd (step_reversed s t less other)) (k.1 s h.0)) (h.1 t k.0)
@@ -129,20 +131,20 @@ one_move turn_without_memory_named k n m = absurd (n book_without_memory)
 one_move h move_without_memory n m = absurd (m book_without_memory)
 one_move h turn_without_memory_named n m = absurd (m book_without_memory)
 one_move (arrival_refused h) (arrival_refused k) n m = refused_once h k
-one_move {d = d} {e = e} {r = r} {t = t} {q = q} {p = p} (arrival_refused h) (arrives k x) n m = not_both (SameAnswer r q d t p e) h k
-one_move {d = d} {e = e} {r = r} {t = t} {q = q} {p = p} (arrives h x) (arrival_refused k) n m = not_both (SameAnswer r q d t p e) k h
+one_move (arrival_refused h) (arrives k x) n m = not_both h k
+one_move (arrives h x) (arrival_refused k) n m = not_both k h
 one_move (arrives h x) (arrives k y) n m = let one = entered_once x y in answer_once (ap done_text (sym one.0)) one.1
 one_move (forwarding_refused h) (forwarding_refused k) n m = refused_once h k
-one_move {d = d} {e = e} {r = r} {t = t} {q = q} {p = p} (forwarding_refused h) (forwards k x) n m = not_both (SameAnswer r q d t p e) h k
-one_move {d = d} {e = e} {r = r} {t = t} {q = q} {p = p} (forwards h x) (forwarding_refused k) n m = not_both (SameAnswer r q d t p e) k h
+one_move (forwarding_refused h) (forwards k x) n m = not_both h k
+one_move (forwards h x) (forwarding_refused k) n m = not_both k h
 one_move (forwards h x) (forwards k y) n m = let one = entered_once x y in answer_once (ap done_text (sym one.0)) one.1
 one_move (turn_refused h) (turn_refused k) n m = refused_once h k
-one_move {d = d} {e = e} {r = r} {t = t} {q = q} {p = p} (turn_refused h) (turns k x) n m = not_both (SameAnswer r q d t p e) h k
-one_move {d = d} {e = e} {r = r} {t = t} {q = q} {p = p} (turns h x) (turn_refused k) n m = not_both (SameAnswer r q d t p e) k h
+one_move (turn_refused h) (turns k x) n m = not_both h k
+one_move (turns h x) (turn_refused k) n m = not_both k h
 one_move (turns h x) (turns k y) n m = let one = turned_once x y in answer_once one.0 one.1
 one_move (learning_refused h) (learning_refused k) n m = refused_once h k
-one_move {d = d} {e = e} {r = r} {t = t} {q = q} {p = p} (learning_refused h) (learns k x) n m = not_both (SameAnswer r q d t p e) h k
-one_move {d = d} {e = e} {r = r} {t = t} {q = q} {p = p} (learns h x) (learning_refused k) n m = not_both (SameAnswer r q d t p e) k h
+one_move (learning_refused h) (learns k x) n m = not_both h k
+one_move (learns h x) (learning_refused k) n m = not_both k h
 one_move (learns h x) (learns k y) n m = let one = entered_once x y in answer_once (ap done_text (sym one.0)) one.1
 
 -- the same move, of what is first
@@ -187,8 +189,8 @@ one_undo : {budget : ℕ} {b d e : Book} {events : List EventName} {r t : List �
 one_undo undo_without_memory k n m = absurd (n book_without_memory)
 one_undo h undo_without_memory n m = absurd (m book_without_memory)
 one_undo (undo_refused h) (undo_refused k) n m = refused_once h k
-one_undo {d = d} {e = e} {r = r} {t = t} {q = q} {p = p} (undo_refused h) (undo_accepted k x) n m = not_both (SameAnswer r q d t p e) h k
-one_undo {d = d} {e = e} {r = r} {t = t} {q = q} {p = p} (undo_accepted h x) (undo_refused k) n m = not_both (SameAnswer r q d t p e) k h
+one_undo (undo_refused h) (undo_accepted k x) n m = not_both h k
+one_undo (undo_accepted h x) (undo_refused k) n m = not_both k h
 one_undo {d = d} {e = e} (undo_accepted h x) (undo_accepted k y) n m =
     answer_once refl (record { world = one_run x.rest y.rest; next = y.same_next ∙ sym x.same_next; out = y.same_out ∙ sym x.same_out; journal = same_lines d.journal e.journal (y.marked ∙ sym x.marked) })
 
@@ -197,8 +199,8 @@ one_redo : {budget : ℕ} {b d e : Book} {events : List EventName} {r t : List �
 one_redo redo_without_memory k n m = absurd (n book_without_memory)
 one_redo h redo_without_memory n m = absurd (m book_without_memory)
 one_redo (redo_refused h) (redo_refused k) n m = refused_once h k
-one_redo {d = d} {e = e} {r = r} {t = t} {q = q} {p = p} (redo_refused h) (redo_accepted k x) n m = not_both (SameAnswer r q d t p e) h k
-one_redo {d = d} {e = e} {r = r} {t = t} {q = q} {p = p} (redo_accepted h x) (redo_refused k) n m = not_both (SameAnswer r q d t p e) k h
+one_redo (redo_refused h) (redo_accepted k x) n m = not_both h k
+one_redo (redo_accepted h x) (redo_refused k) n m = not_both k h
 one_redo {d = d} {e = e} (redo_accepted h x) (redo_accepted k y) n m =
     answer_once refl (record { world = one_run x.run y.run; next = y.same_next ∙ sym x.same_next; out = y.same_out ∙ sym x.same_out; journal = same_lines d.journal e.journal (y.marked ∙ sym x.marked) })
 
@@ -231,9 +233,9 @@ one_ask (asked_unread h) (ask_refused k x) n m = read_or_not h k
 one_ask (asked_unread h) (ask_accepted k x y) n m = read_or_not h k
 one_ask (ask_refused h x) (asked_unread k) n m = read_or_not k h
 one_ask {b = b} {x = x} (ask_refused {program = ts} h f) (ask_refused {program = us} {r = r} k g) n m = refused_once f (subst (λ (zs : Trees). ask_refusal b x zs ≡ Some r) (read_once h k) g)
-one_ask {b = b} {d = d} {e = e} {x = x} {r = r} {t = t} {q = q} {p = p} (ask_refused h f) (ask_accepted k g y) n m = not_both (SameAnswer r q d t p e) f (subst (λ (zs : Trees). ask_refusal b x zs ≡ None) (read_once h k) g)
+one_ask {b = b} {d = d} {e = e} {x = x} {r = r} {t = t} {q = q} {p = p} (ask_refused h f) (ask_accepted k g y) n m = not_both f (subst (λ (zs : Trees). ask_refusal b x zs ≡ None) (read_once h k) g)
 one_ask (ask_accepted h f y) (asked_unread k) n m = read_or_not k h
-one_ask {b = b} {d = d} {e = e} {x = x} {r = r} {t = t} {q = q} {p = p} (ask_accepted h f y) (ask_refused {r = why} k g) n m = not_both (SameAnswer r q d t p e) (subst (λ (zs : Trees). ask_refusal b x zs ≡ Some why) (read_once h k) g) f
+one_ask {b = b} {d = d} {e = e} {x = x} {r = r} {t = t} {q = q} {p = p} (ask_accepted h f y) (ask_refused {r = why} k g) n m = not_both (subst (λ (zs : Trees). ask_refusal b x zs ≡ Some why) (read_once h k) g) f
 one_ask (ask_accepted h f y) (ask_accepted k g z) n m = asked_once (read_once h k) y z
 
 -- ---- the two laws
@@ -260,8 +262,8 @@ one_answer told cone_without_memory k n m = absurd (n book_without_memory)
 one_answer told (cone_refused h) cone_without_memory n m = absurd (m book_without_memory)
 one_answer told (cone_found h x) cone_without_memory n m = absurd (m book_without_memory)
 one_answer told (cone_refused h) (cone_refused k) n m = refused_once h k
-one_answer {d = d} {e = e} {r = r} {t = t} {q = q} {p = p} told (cone_refused h) (cone_found k x) n m = not_both (SameAnswer r q d t p e) h k
-one_answer {d = d} {e = e} {r = r} {t = t} {q = q} {p = p} told (cone_found h x) (cone_refused k) n m = not_both (SameAnswer r q d t p e) k h
+one_answer told (cone_refused h) (cone_found k x) n m = not_both h k
+one_answer told (cone_found h x) (cone_refused k) n m = not_both k h
 one_answer {b = b} told (cone_found h x) (cone_found k y) n m = answer_once (ap cone_text (cone_once x y)) (same_book b)
 one_answer told undo_without_memory k n m = one_undo undo_without_memory k n m
 one_answer told (undo_refused h) k n m = one_undo (undo_refused h) k n m
@@ -270,8 +272,8 @@ one_answer told undo_cone_without_memory k n m = absurd (n book_without_memory)
 one_answer told (undo_cone_refused h) undo_cone_without_memory n m = absurd (m book_without_memory)
 one_answer told (undo_cone_found h x y) undo_cone_without_memory n m = absurd (m book_without_memory)
 one_answer told (undo_cone_refused h) (undo_cone_refused k) n m = refused_once h k
-one_answer {d = d} {e = e} {r = r} {t = t} {q = q} {p = p} told (undo_cone_refused h) (undo_cone_found k x y) n m = not_both (SameAnswer r q d t p e) h k
-one_answer {d = d} {e = e} {r = r} {t = t} {q = q} {p = p} told (undo_cone_found h x y) (undo_cone_refused k) n m = not_both (SameAnswer r q d t p e) k h
+one_answer told (undo_cone_refused h) (undo_cone_found k x y) n m = not_both h k
+one_answer told (undo_cone_found h x y) (undo_cone_refused k) n m = not_both k h
 one_answer {budget = budget} {b = b} {e = e} {t = t} {p = p} told (undo_cone_found h x y) (undo_cone_found k v w) n m =
     one_undo y (subst (λ (es : List EventName). Answers budget b (command.undo es) t p e) (cone_once x v) w) n m
 one_answer told redo_without_memory k n m = one_redo redo_without_memory k n m
@@ -281,8 +283,8 @@ one_answer told exchange_without_memory k n m = absurd (n book_without_memory)
 one_answer told (exchange_refused h) exchange_without_memory n m = absurd (m book_without_memory)
 one_answer told (exchange_accepted h x y) exchange_without_memory n m = absurd (m book_without_memory)
 one_answer told (exchange_refused h) (exchange_refused k) n m = refused_once h k
-one_answer {d = d} {e = e} {r = r} {t = t} {q = q} {p = p} told (exchange_refused h) (exchange_accepted k x y) n m = not_both (SameAnswer r q d t p e) h k
-one_answer {d = d} {e = e} {r = r} {t = t} {q = q} {p = p} told (exchange_accepted h x y) (exchange_refused k) n m = not_both (SameAnswer r q d t p e) k h
+one_answer told (exchange_refused h) (exchange_accepted k x y) n m = not_both h k
+one_answer told (exchange_accepted h x y) (exchange_refused k) n m = not_both k h
 one_answer told (exchange_accepted {position = position} h x y) (exchange_accepted k v w) n m = exchanged_once position h x v y w
 
 born_once : {b d e : Book} {x : List ℕ} {earlier : List (List ℕ)} {ts us : Trees} {n m : EventName} {vs ws : List Vat} → us ≡ ts → EntersNext (record { name = n; act = birth x earlier ts }) (birth_foot n x earlier vs ts) 0 b d
@@ -303,8 +305,8 @@ one_birth (script_unread h) (birth_accepted vs k f y) n m = read_or_not h k
 one_birth (birth_refused h f) (script_unread k) n m = read_or_not k h
 one_birth {b = b} {x = x} {earlier = earlier} (birth_refused h f) (birth_refused {r = r} k g) n m = refused_once f (subst (λ (zs : Trees). birth_refusal b x earlier zs ≡ Some r) (read_once h k) g)
 one_birth {b = b} {d = d} {e = e} {x = x} {earlier = earlier} {r = r} {t = t} {q = q} {p = p} (birth_refused h f) (birth_accepted vs k g y) n m =
-    not_both (SameAnswer r q d t p e) f (subst (λ (zs : Trees). birth_refusal b x earlier zs ≡ None) (read_once h k) g)
+    not_both f (subst (λ (zs : Trees). birth_refusal b x earlier zs ≡ None) (read_once h k) g)
 one_birth (birth_accepted vs h f y) (script_unread k) n m = read_or_not k h
 one_birth {b = b} {d = d} {e = e} {x = x} {earlier = earlier} {r = r} {t = t} {q = q} {p = p} (birth_accepted vs h f y) (birth_refused {r = why} k g) n m =
-    not_both (SameAnswer r q d t p e) (subst (λ (zs : Trees). birth_refusal b x earlier zs ≡ Some why) (read_once h k) g) f
+    not_both (subst (λ (zs : Trees). birth_refusal b x earlier zs ≡ Some why) (read_once h k) g) f
 one_birth (birth_accepted vs h f y) (birth_accepted ws k g z) n m = born_once (read_once h k) y z

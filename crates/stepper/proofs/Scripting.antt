@@ -148,7 +148,7 @@ module _ {R W : Type 0} (remaining : R → Option (List ℕ)) (contents : W → 
     gives = gives_both contents sink then after [] [] s.gives g;
     text = sym (truncated n s.bytes taken [] fault text s.here l refl);
     left = s.here.left ∙ behind_none (n - taken);
-    no_more = of_as_many n (omega arith) s.no_more;
+    no_more = of_as_many {k = taken} n (omega arith) s.no_more;
     whole = λ unended. not_both (n ≤ line_feeds s.bytes) (is_ended later) unended none.ended;
     before = λ unended more. not_both ((Err Truncated ≡ script_of n (s.bytes ++ more)) × (more ≡ behind_lines n (s.bytes ++ more))) (is_ended later) unended none.ended;
   }
@@ -205,7 +205,7 @@ module _ {R W : Type 0} (remaining : R → Option (List ℕ)) (contents : W → 
     scripted_out line t g = record {
       bytes = s.bytes ++ t.bytes;
       taken = Consumes-trans _ _ _ s.bytes t.bytes s.consumed t.taken;
-      no_more = of_as_many n (omega arith) (of_one_more taken s.bytes t.bytes (is_ended later) (s.feeds t.not_ended) t.one);
+      no_more = of_as_many {k = taken + 1} n (omega arith) (of_one_more taken s.bytes t.bytes (is_ended later) (s.feeds t.not_ended) t.one);
       stays = λ u. not_both (s.bytes ++ t.bytes ≡ []) (is_ended now) t.not_ended (s.stays u).1;
       none_failed = t.none_failed ∙ s.none_failed;
       gives = gives_both contents sink then after [] [] s.gives g;

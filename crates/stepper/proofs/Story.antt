@@ -104,7 +104,7 @@ whole_piece line script more source later says (fed body h e) meant stays unende
 whole_piece line script more true later says (last h l) meant stays unended k = not_both (IsWhole ((line ++ script) ++ more)) later unended (stays refl).1
 
 pub not_whole_piece : (line script : List ℕ) (source : Bool) (says : Result (Option Spelled) LineFault) → IsOneLine line source → says ≡ said line → source ≡ false
-    → line_feeds script < script_lines says → ¬ IsWhole (line ++ script)
+    → line_feeds script < script_lines says → IsWhole (line ++ script) → ⊥
 not_whole_piece line script source says (fed body h e) meant unended l w =
     is_not_whole body line h e script (subst (λ (z : Result (Option Spelled) LineFault). line_feeds script < script_lines z) meant l) w
 not_whole_piece line script true says (last h l) meant unended k w = absurd (cc)

@@ -93,7 +93,7 @@ module _ (body bytes : List ℕ) (h : HasNoFeed body) (e : bytes ≡ body ++ (10
   }
 
   -- and only there
-  pub is_not_whole : line_feeds more < script_lines (said bytes) → ¬ IsWhole (bytes ++ more)
+  pub is_not_whole : line_feeds more < script_lines (said bytes) → IsWhole (bytes ++ more) → ⊥
   is_not_whole l w =
       let k : script_lines (said bytes) ≤ line_feeds (behind_line (bytes ++ more)) = subst (λ s. script_lines s ≤ line_feeds (behind_line (bytes ++ more))) said_stays w.script in
       let m : script_lines (said bytes) ≤ line_feeds more = subst (λ (r : List ℕ). script_lines (said bytes) ≤ line_feeds r) behind_is_more k in
@@ -104,7 +104,7 @@ none_is_some None e h = cc
 none_is_some (Some n) e h = cc
 
 -- bytes without a line feed are no whole command
-pub no_whole_line : (bytes : List ℕ) → HasNoFeed bytes → ¬ IsWhole bytes
+pub no_whole_line : (bytes : List ℕ) → HasNoFeed bytes → IsWhole bytes → ⊥
 no_whole_line bytes h w = none_is_some (line_end bytes) h w.line
 
 some_feed : (bytes : List ℕ) (o : Option ℕ) → line_end bytes ≡ o → IsWhole bytes → line_feeds bytes < 1 → ⊥
@@ -116,7 +116,7 @@ some_feed bytes (Some n) e w l =
     omega (arith, more, one, l)
 
 -- where there is no line feed no command is whole
-pub no_whole_feed : (bytes : List ℕ) → line_feeds bytes < 1 → ¬ IsWhole bytes
+pub no_whole_feed : (bytes : List ℕ) → line_feeds bytes < 1 → IsWhole bytes → ⊥
 no_whole_feed bytes l w = some_feed bytes (line_end bytes) refl w l
 
 fewer_or_same : (b n m : ℕ) → n ≤ m → cond (is_line_feed b) 1 0 + n ≤ cond (is_line_feed b) 1 0 + m
@@ -152,7 +152,7 @@ less_or_same k m n h l = omega arith
 
 pub of_as_many : {k : ℕ} (n : ℕ) {bytes : List ℕ} → k ≤ n → IsOfLines k bytes → IsOfLines n bytes
 of_as_many n l no_bytes = no_bytes
-of_as_many {k = k} n l (some_bytes {b} {bs} h) = some_bytes (less_or_same (line_feeds (without_last (b ∷ bs))) k n h l)
+of_as_many {k = k} n l (some_bytes {b = b} {bs = bs} h) = some_bytes (less_or_same (line_feeds (without_last (b ∷ bs))) k n h l)
 
 -- one line behind so many
 pub of_one_more : (k : ℕ) (before line : List ℕ) (ended : Bool) → line_feeds before ≡ k → IsOneLine line ended → IsOfLines (k + 1) (before ++ line)
@@ -168,11 +168,11 @@ line_of_one line ended h = no_whole_feed (without_last line) (omega (arith, one_
 -- so is a line with bytes of its script
 pub of_one_command : (line script : List ℕ) (ended : Bool) (says : Result (Option Spelled) LineFault) → IsOneLine line ended → says ≡ said line → (ended ≡ true → script ≡ [])
     → IsOfLines (script_lines says) script → IsOfOne (line ++ script)
-of_one_command line script ended says one meant stays no_bytes = subst IsOfOne (sym (append-nil line)) (line_of_one line ended one)
-of_one_command line script ended says (fed body h e) meant stays (some_bytes {b} {bs} few) =
+of_one_command line _ ended says one meant stays no_bytes = subst IsOfOne (sym (append-nil line)) (line_of_one line ended one)
+of_one_command line _ ended says (fed body h e) meant stays (some_bytes {b = b} {bs = bs} few) =
     subst (λ (l : List ℕ). ¬ IsWhole l) (sym (without_last-append line b bs))
     (is_not_whole body line h e (without_last (b ∷ bs)) (subst (λ (r : Result (Option Spelled) LineFault). line_feeds (without_last (b ∷ bs)) < script_lines r) meant few))
-of_one_command line script true says (last h l) meant stays (some_bytes {b} {bs} few) = let none : b ∷ bs ≡ [] = stays refl in absurd (cc)
+of_one_command line _ true says (last h l) meant stays (some_bytes {b = b} {bs = bs} few) = let none : b ∷ bs ≡ [] = stays refl in absurd (cc)
 
 -- bytes without a line feed are of one command
 pub of_one_part : (bytes : List ℕ) → HasNoFeed bytes → IsOfOne bytes

@@ -12,7 +12,7 @@ returns-in-Some g c =
     let contents = g.W.Write.contents in
     let e = ap reading_of (c.in-Ok.is ∙ ap (λ o. Ok o) c.in-Some.is) in
     subst (λ z. MatchResult c.answer.result (λ _. Does remaining contents c.args.self.now c.answer.new.self c.args.source.now c.answer.new.source c.args.sink.now c.answer.new.sink z)
-        (StopsWithin remaining contents c.args.source.now c.answer.new.source c.args.sink.now c.answer.new.sink (script_lines z))) (sym e) c.answer.ensures
+    (StopsWithin remaining contents c.args.source.now c.answer.new.source c.args.sink.now c.answer.new.sink (script_lines z))) (sym e) c.answer.ensures
 
 pub returns-in-None : goal.returns-in-None
 returns-in-None g c = does_nothing g.R.Read.remaining g.W.Write.contents c.args.source.now c.args.sink.now c.requires c.args.self.now (ap reading_of (c.in-Ok.is ∙ ap (λ o. Ok o) c.in-None.is))
