@@ -233,9 +233,9 @@ one_ask (asked_unread h) (ask_refused k x) n m = read_or_not h k
 one_ask (asked_unread h) (ask_accepted k x y) n m = read_or_not h k
 one_ask (ask_refused h x) (asked_unread k) n m = read_or_not k h
 one_ask {b = b} {x = x} (ask_refused {program = ts} h f) (ask_refused {program = us} {r = r} k g) n m = refused_once f (subst (λ (zs : Trees). ask_refusal b x zs ≡ Some r) (read_once h k) g)
-one_ask {b = b} {d = d} {e = e} {x = x} {r = r} {t = t} {q = q} {p = p} (ask_refused h f) (ask_accepted k g y) n m = not_both f (subst (λ (zs : Trees). ask_refusal b x zs ≡ None) (read_once h k) g)
+one_ask {b = b} {x = x} (ask_refused h f) (ask_accepted k g y) n m = not_both f (subst (λ (zs : Trees). ask_refusal b x zs ≡ None) (read_once h k) g)
 one_ask (ask_accepted h f y) (asked_unread k) n m = read_or_not k h
-one_ask {b = b} {d = d} {e = e} {x = x} {r = r} {t = t} {q = q} {p = p} (ask_accepted h f y) (ask_refused {r = why} k g) n m = not_both (subst (λ (zs : Trees). ask_refusal b x zs ≡ Some why) (read_once h k) g) f
+one_ask {b = b} {x = x} (ask_accepted h f y) (ask_refused {r = why} k g) n m = not_both (subst (λ (zs : Trees). ask_refusal b x zs ≡ Some why) (read_once h k) g) f
 one_ask (ask_accepted h f y) (ask_accepted k g z) n m = asked_once (read_once h k) y z
 
 -- ---- the two laws
@@ -304,9 +304,9 @@ one_birth (script_unread h) (birth_refused k f) n m = read_or_not h k
 one_birth (script_unread h) (birth_accepted vs k f y) n m = read_or_not h k
 one_birth (birth_refused h f) (script_unread k) n m = read_or_not k h
 one_birth {b = b} {x = x} {earlier = earlier} (birth_refused h f) (birth_refused {r = r} k g) n m = refused_once f (subst (λ (zs : Trees). birth_refusal b x earlier zs ≡ Some r) (read_once h k) g)
-one_birth {b = b} {d = d} {e = e} {x = x} {earlier = earlier} {r = r} {t = t} {q = q} {p = p} (birth_refused h f) (birth_accepted vs k g y) n m =
+one_birth {b = b} {x = x} {earlier = earlier} (birth_refused h f) (birth_accepted vs k g y) n m =
     not_both f (subst (λ (zs : Trees). birth_refusal b x earlier zs ≡ None) (read_once h k) g)
 one_birth (birth_accepted vs h f y) (script_unread k) n m = read_or_not k h
-one_birth {b = b} {d = d} {e = e} {x = x} {earlier = earlier} {r = r} {t = t} {q = q} {p = p} (birth_accepted vs h f y) (birth_refused {r = why} k g) n m =
+one_birth {b = b} {x = x} {earlier = earlier} (birth_accepted vs h f y) (birth_refused {r = why} k g) n m =
     not_both (subst (λ (zs : Trees). birth_refusal b x earlier zs ≡ Some why) (read_once h k) g) f
 one_birth (birth_accepted vs h f y) (birth_accepted ws k g z) n m = born_once (read_once h k) y z
