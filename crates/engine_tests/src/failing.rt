@@ -80,8 +80,8 @@ fn each_read_fails(rt: HostRuntime) {
             };
             let replies = replies_within(&rt, ORDER, count);
             let wanted = format!(in rt.alloc(); "{replies}|reader 1 0").expect(&rt, "no memory");
-            let told = told(&rt, input, tapping(&rt, 100));
-            expect(&rt, "a read that fails", &told, &wanted);
+            let outcome = told(&rt, input, tapping(&rt, 100));
+            expect(&rt, "a read that fails", &outcome, &wanted);
         }
     }
 }
@@ -97,13 +97,13 @@ fn each_write_fails(rt: HostRuntime) {
                 calls_left,
                 ..tapping(&rt, taken)
             };
-            let told = told(&rt, dripping(commands.as_bytes(), most), output);
-            let Some(out) = told.as_str().strip_suffix("|writer 0 1") else {
+            let outcome = told(&rt, dripping(commands.as_bytes(), most), output);
+            let Some(out) = outcome.as_str().strip_suffix("|writer 0 1") else {
                 let wanted = format!(in rt.alloc(); "{replies}|refused 0 0").expect(
                     &rt,
                     "no memory",
                 );
-                expect(&rt, "a session", &told, &wanted);
+                expect(&rt, "a session", &outcome, &wanted);
                 break;
             };
             assert!(rt; replies.as_str().starts_with(out));

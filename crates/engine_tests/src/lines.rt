@@ -6,9 +6,9 @@ use std::process::Abort;
 /// Runs commands in pieces of several sizes.
 fn expect(rt: &(impl Abort + AllocGlobal), commands: &str, wanted: &str) {
     for most in [1, 5, 8_191, 100_000] {
-        let told = told(rt, dripping(commands.as_bytes(), most), tapping(rt, 100));
-        if told.as_str() != wanted {
-            panic!(rt; "in pieces of {most} is answered: {told}\nand wanted is: {wanted}");
+        let outcome = told(rt, dripping(commands.as_bytes(), most), tapping(rt, 100));
+        if outcome.as_str() != wanted {
+            panic!(rt; "in pieces of {most} is answered: {outcome}\nand wanted is: {wanted}");
         }
     }
 }
@@ -36,7 +36,7 @@ fn sessions_end_anywhere(rt: HostRuntime) {
             "no S2 BadWord\nok e1 e1.m0\n|refused 0 0",
         ),
         (
-            "vat a (b) 1\nvat b () 0\nturn e1.m0\n",
+            "vat a (b) 1\n1\nturn e1.m0\n",
             "no B1 NoVat b\nno B3 NoMessage e1.m0\n|refused 0 0",
         ),
     ] {
