@@ -15,10 +15,8 @@ use Rattle.streams.proofs.Giving.{gives_none}
 use Rattle.stepper.specs.Replies.{Answers, AnswersBirth, FirstReply, born, skipped, no_command, refused, script_lines, line_feeds}
 use Rattle.stepper.specs.Engine.{Happens}
 use Rattle.stepper.specs.Written.{Adds}
-use Rattle.stepper.specs.Taking.{Follows, TakesScript, Does, RunsOutBefore, StopsWithin, no_bytes}
+use Rattle.stepper.specs.Taking.{Follows, TakesScript, Does, RunsOutBefore, no_bytes}
 use Rattle.stepper.specs.declared.engine.Engine.{Engine}
-use Rattle.stepper.specs.declared.fault.Fault.{Fault}
-use Rattle.stepper.specs.declared.fault.Fault.TheVariants.{Memory}
 use Rattle.stepper.proofs.Answered.{happens_as, answered_at, born_at, or_false}
 
 module _ {R W : Type 0} (remaining : R → Option (List ℕ)) (contents : W → Option (List ℕ)) (source : Lines R) (sink : Outlet W) (sound : IsSound remaining source) where
@@ -62,10 +60,8 @@ module _ {R W : Type 0} (remaining : R → Option (List ℕ)) (contents : W → 
       }))
 
   -- memory runs out where no line was taken
-  pub out_here : (lines : ℕ) (fault : Fault) → fault ≡ Memory → StopsWithin remaining contents source source sink sink lines fault
-  out_here lines fault same =
-      subst (StopsWithin remaining contents source source sink sink lines) (sym same)
-      (record { bytes = []; taken = Consumes-nil (unread remaining source); no_more = no_bytes; stays = λ t. refl; none_failed = refl; gives = gives_none contents sink })
+  pub out_here : (lines : ℕ) → RunsOutBefore remaining contents lines source source sink sink
+  out_here lines = record { bytes = []; taken = Consumes-nil (unread remaining source); no_more = no_bytes; stays = λ t. refl; none_failed = refl; gives = gives_none contents sink }
 
 module _ {R W : Type 0} (remaining : R → Option (List ℕ)) (contents : W → Option (List ℕ)) (source later : Lines R) (sink after : Outlet W) where
   -- a vat is made with its script
@@ -86,9 +82,8 @@ module _ {R W : Type 0} (remaining : R → Option (List ℕ)) (contents : W → 
   }
 
   -- memory runs out behind a script
-  pub out_born : {script : Result (List ℕ) LineFault} (says : Result (Option Spelled) LineFault) (lines : ℕ) (fault : Fault) → script_lines says ≡ lines → fault ≡ Memory
-      → TakesScript remaining contents lines source later sink after script → StopsWithin remaining contents source later sink after (script_lines says) fault
-  out_born says lines fault spelled same t =
-      subst (StopsWithin remaining contents source later sink after (script_lines says)) (sym same)
-      (subst (λ (n : ℕ). RunsOutBefore remaining contents n source later sink after) (sym spelled)
-      (record { bytes = t.bytes; taken = t.taken; no_more = t.no_more; stays = λ u. (t.stays u).0; none_failed = t.none_failed; gives = t.gives }))
+  pub out_born : {script : Result (List ℕ) LineFault} (says : Result (Option Spelled) LineFault) (lines : ℕ) → script_lines says ≡ lines → TakesScript remaining contents lines source later sink after script
+      → RunsOutBefore remaining contents (script_lines says) source later sink after
+  out_born says lines spelled t =
+      subst (λ (n : ℕ). RunsOutBefore remaining contents n source later sink after) (sym spelled)
+      (record { bytes = t.bytes; taken = t.taken; no_more = t.no_more; stays = λ u. (t.stays u).0; none_failed = t.none_failed; gives = t.gives })

@@ -119,10 +119,9 @@ module _ {R W : Type 0} (remaining : R → Option (List ℕ)) (contents : W → 
     no_more = no_bytes;
   }
 
-  -- a script of the lines that were taken
-  pub scripted_all : (source now : Lines R) (sink then : Outlet W) (fault : Option LineFault) (text : List ℕ) (script : Result (List ℕ) LineFault) → Scripted source now sink then n fault text
+  whole_script : (source now : Lines R) (sink then : Outlet W) (fault : Option LineFault) (text : List ℕ) (script : Result (List ℕ) LineFault) → Scripted source now sink then n fault text
       → script ≡ unless fault text → TakesScript remaining contents n source now sink then script
-  scripted_all source now sink then fault text script s e = record {
+  whole_script source now sink then fault text script s e = record {
     bytes = s.bytes;
     taken = s.consumed;
     sound = s.sound;
@@ -135,6 +134,11 @@ module _ {R W : Type 0} (remaining : R → Option (List ℕ)) (contents : W → 
     whole = λ unended. let same = s.feeds unended in omega (arith, same);
     before = λ unended more. let t = s.before unended more in (e ∙ sym (finished n (s.bytes ++ more) more fault text t), sym (t.left ∙ ap (λ m. behind_lines m more) (none_left n)));
   }
+
+  -- a script of the lines that were taken
+  pub scripted_all : (source now : Lines R) (sink then : Outlet W) (taken : ℕ) (fault : Option LineFault) (text : List ℕ) (script : Result (List ℕ) LineFault) → Scripted source now sink then taken fault text → taken ≡ n
+      → script ≡ unless fault text → TakesScript remaining contents n source now sink then script
+  scripted_all source now sink then taken fault text script s all e = whole_script source now sink then fault text script (subst (λ (k : ℕ). Scripted source now sink then k fault text) all s) e
 
   -- the input ended before all lines were taken
   pub scripted_short : (source now later : Lines R) (sink then after : Outlet W) (taken : ℕ) (fault : Option LineFault) (text : List ℕ) → Scripted source now sink then taken fault text → taken < n

@@ -1,4 +1,6 @@
 use Rattle.std.proofs.Common.{refl, ◌∙◌}
+use Rattle.std.proofs.lemmas.Result.{err_from_is_err_and}
+use Rattle.stepper.specs.declared.fault.Fault.TheVariants.{Memory}
 use Rattle.stepper.proofs.Whole.{said_in, said_text, said_fault}
 use Rattle.stepper.proofs.Doing.{out_here}
 use Rattle.stepper.proofs.Going.{line_answered, stops_line}
@@ -12,8 +14,12 @@ returns-in_ok-says-in-Ok g c =
 
 pub returns-in_err-says-in-Ok : goal.returns-in_err-says-in-Ok
 returns-in_err-says-in-Ok g c = λ bytes reads one.
-    stops_line g.R.Read.remaining g.W.Write.contents c.args.source.now c.args.source.now c.args.sink.now c.args.sink.now c.args.line.now bytes (said_in c.args.line.now) _ reads one refl
-    (out_here g.R.Read.remaining g.W.Write.contents c.args.source.now c.args.sink.now c.requires _ _ c.from.ensures)
+    let remaining = g.R.Read.remaining in
+    let contents = g.W.Write.contents in
+    let source = c.args.source.now in
+    let sink = c.args.sink.now in
+    let p = err_from_is_err_and c.from_residual-in_err-says-in-Ok.result c.from_residual-in_err-says-in-Ok.ensures.1 in
+    rw (p.1, p.2) (stops_line remaining contents source source sink sink c.args.line.now bytes (said_in c.args.line.now) Memory reads one refl (out_here remaining contents source sink c.requires _))
 
 pub returns-in-Err : goal.returns-in-Err
 returns-in-Err g c =

@@ -1,5 +1,6 @@
 use Rattle.std.proofs.Common.{refl, sym, ap, subst, ◌∙◌, Ok}
 use Rattle.std.specs.Prelude.{MatchResult}
+use Rattle.std.proofs.lemmas.Result.{err_from_is_err_and}
 use Rattle.commands.specs.Commands.{reading_of}
 use Rattle.stepper.specs.Replies.{script_lines}
 use Rattle.stepper.specs.Taking.{Does, StopsWithin}
@@ -22,4 +23,6 @@ returns-in_ok-refuse_line-in-Err g c =
     does_refuse g.R.Read.remaining g.W.Write.contents c.args.source.now c.args.sink.now c.requires c.in-Err.fault (ap reading_of c.in-Err.is) refl refl c.in_ok-refuse_line-in-Err.ensures
 
 pub returns-in_err-refuse_line-in-Err : goal.returns-in_err-refuse_line-in-Err
-returns-in_err-refuse_line-in-Err g c = out_here g.R.Read.remaining g.W.Write.contents c.args.source.now c.args.sink.now c.requires _ _ c.from.ensures
+returns-in_err-refuse_line-in-Err g c =
+    let p = err_from_is_err_and c.from_residual-in_err-refuse_line-in-Err.result c.from_residual-in_err-refuse_line-in-Err.ensures.1 in
+    rw (p.1, p.2) (out_here g.R.Read.remaining g.W.Write.contents c.args.source.now c.args.sink.now c.requires _)
