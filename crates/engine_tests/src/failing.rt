@@ -48,7 +48,8 @@ fn a_write_fails(rt: HostRuntime) {
             );
         }
     }
-    for (calls_left, wanted) in [(20, "ok e1 e1.m0\nok e2 va|writer 0 1"), (0, "|writer 0 1")] {
+    // A flush comes before the first read.
+    for (calls_left, wanted) in [(21, "ok e1 e1.m0\nok e2 va|writer 0 1"), (0, "|writer 0 1")] {
         let output = Tap {
             calls_left,
             ..tapping(&rt, 1)

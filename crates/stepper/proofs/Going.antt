@@ -367,3 +367,17 @@ module _ {R W : Type 0} (remaining : R → Option (List ℕ)) (contents : W → 
     replies = r.replies;
     cut = cut_so sink one two r.text r.gives s;
   }
+
+  -- what waits cannot be sent at last, however the run ended
+  pub end_cut : {A : Type 0} {budget : ℕ} {source later : Lines R} {sink one two : Outlet W} {refused : Bool} (r : Result A Fault) → (r ≡ Err Writer → ⊥)
+      → MatchResult r (λ _. RunsToEnd remaining contents budget source later sink one refused) (RunsTo remaining contents budget source later sink one) → IsCutShort contents one two []
+      → RunsTo remaining contents budget source later sink two Writer
+  end_cut {budget = budget} {source = source} {later = later} {sink = sink} {one = one} {two = two} {refused = refused} (Ok x) n h s = ends_cut budget source later sink one two refused h s
+  end_cut {budget = budget} {source = source} {later = later} {sink = sink} {one = one} {two = two} (Err f) n h s = fails_cut budget source later sink one two f (λ e. n (ap (λ (g : Fault). Err g) e)) h s
+
+  -- what waits was sent at last
+  pub end_sent : {A : Type 0} {budget : ℕ} {source later : Lines R} {sink one two : Outlet W} {refused : Bool} (r : Result A Fault) → (r ≡ Err Writer → ⊥)
+      → MatchResult r (λ _. RunsToEnd remaining contents budget source later sink one refused) (RunsTo remaining contents budget source later sink one) → Gives contents one two []
+      → MatchResult r (λ _. RunsToEnd remaining contents budget source later sink two refused) (RunsTo remaining contents budget source later sink two)
+  end_sent {budget = budget} {source = source} {later = later} {sink = sink} {one = one} {two = two} {refused = refused} (Ok x) n h s = ends_sent budget source later sink one two refused h s
+  end_sent {budget = budget} {source = source} {later = later} {sink = sink} {one = one} {two = two} (Err f) n h s = fails_sent budget source later sink one two f (λ e. n (ap (λ (g : Fault). Err g) e)) h s
