@@ -15,12 +15,19 @@ use Rattle.stepper.specs.Taking.{IsOfLines, no_bytes, some_bytes}
 pub line_feeds-append : (xs ys : List ℕ) → line_feeds (xs ++ ys) ≡ line_feeds xs + line_feeds ys
 line_feeds-append xs ys = sum_by-append (λ x. cond (is_line_feed x) 1 0) xs ys
 
-one_fewer : (b : ℕ) (n : ℕ) → is_line_feed b ≡ false → n ≡ 0 → cond (is_line_feed b) 1 0 + n ≡ 0
-one_fewer b n h e = grind (arith, h, e)
+line_feeds-cons : (b : ℕ) (bs : List ℕ) → line_feeds (b ∷ bs) ≡ line_feeds (b ∷ []) + line_feeds bs
+line_feeds-cons b bs = line_feeds-append (b ∷ []) bs
+
+other_byte : (b : ℕ) → is_line_feed b ≡ false → line_feeds (b ∷ []) ≡ 0
+other_byte b h = ap (λ t. 0 + cond t 1 0) h
 
 pub no_feeds : (bytes : List ℕ) → HasNoFeed bytes → line_feeds bytes ≡ 0
 no_feeds [] h = refl
-no_feeds (b ∷ bs) h = let here = no_feed_here b bs (is_line_feed b) refl h in one_fewer b (line_feeds bs) here.0 (no_feeds bs here.1)
+no_feeds (b ∷ bs) h =
+    let here = no_feed_here b bs (is_line_feed b) refl h in
+    let first = other_byte b here.0 in
+    let others = no_feeds bs here.1 in
+    line_feeds-cons b bs ∙ ap (λ n. n + line_feeds bs) first ∙ ap (λ n. 0 + n) others
 
 -- what a line says, as it was read
 abbrev pub said_in : Line → Result (Option Spelled) LineFault
@@ -112,21 +119,23 @@ some_feed bytes None e w l = no_whole_line bytes e w
 some_feed bytes (Some n) e w l =
     let cut = cut_at_feed bytes n e in
     let more : line_feeds bytes ≡ line_feeds (take n bytes) + line_feeds (10 ∷ drop (n + 1) bytes) = ap line_feeds cut.1 ∙ line_feeds-append (take n bytes) (10 ∷ drop (n + 1) bytes) in
-    let one : line_feeds (10 ∷ drop (n + 1) bytes) ≡ 1 + line_feeds (drop (n + 1) bytes) = refl in
+    let one : line_feeds (10 ∷ drop (n + 1) bytes) ≡ 1 + line_feeds (drop (n + 1) bytes) = line_feeds-cons 10 (drop (n + 1) bytes) in
     omega (arith, more, one, l)
 
 -- where there is no line feed no command is whole
 pub no_whole_feed : (bytes : List ℕ) → line_feeds bytes < 1 → IsWhole bytes → ⊥
 no_whole_feed bytes l w = some_feed bytes (line_end bytes) refl w l
 
-fewer_or_same : (b n m : ℕ) → n ≤ m → cond (is_line_feed b) 1 0 + n ≤ cond (is_line_feed b) 1 0 + m
-fewer_or_same b n m h = omega arith
+no_more_feeds : (k n m x y : ℕ) → x ≡ k + n → y ≡ k + m → n ≤ m → x ≤ y
+no_more_feeds k n m x y e f h = omega arith
 
 -- no line feed comes in where a byte is left out
 pub feeds_before_last : (bytes : List ℕ) → line_feeds (without_last bytes) ≤ line_feeds bytes
 feeds_before_last [] = omega arith
 feeds_before_last (b ∷ []) = omega arith
-feeds_before_last (b ∷ c ∷ bs) = fewer_or_same b (line_feeds (without_last (c ∷ bs))) (line_feeds (c ∷ bs)) (feeds_before_last (c ∷ bs))
+feeds_before_last (b ∷ c ∷ bs) =
+    no_more_feeds (line_feeds (b ∷ [])) (line_feeds (without_last (c ∷ bs))) (line_feeds (c ∷ bs)) (line_feeds (b ∷ without_last (c ∷ bs))) (line_feeds (b ∷ c ∷ bs)) (line_feeds-cons b (without_last (c ∷ bs)))
+    (line_feeds-cons b (c ∷ bs)) (feeds_before_last (c ∷ bs))
 
 pub without_last-append : (xs : List ℕ) (y : ℕ) (ys : List ℕ) → without_last (xs ++ (y ∷ ys)) ≡ xs ++ without_last (y ∷ ys)
 without_last-append [] y ys = refl

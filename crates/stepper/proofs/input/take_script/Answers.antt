@@ -1,4 +1,4 @@
-use Rattle.std.proofs.Common.{ap, refl, subst, ◌∙◌, List, ℕ, arith}
+use Rattle.std.proofs.Common.{◌≡◌, ap, refl, subst, ◌∙◌, List, ℕ, arith}
 use Rattle.std.specs.Prelude.{IfOk}
 use Rattle.std.proofs.lemmas.Result.{err_from_is_err_and}
 use Rattle.commands.specs.Scripts.{fault_in}
@@ -14,26 +14,26 @@ pub lines-preserved : goal.lines-preserved
 lines-preserved g c =
     let line = c.in-Some.line in
     scripted_more g.R.Read.remaining g.W.Write.contents c.args.lines c.args.source.now c.lines.source c.next_line.new.source c.args.sink.now c.lines.sink c.next_line.new.sink line c.lines.taken
-    c.lines.joined.fault _ _ _ c.text_of.result c.lines.invariant c.lines-test.true c.in_ok-next_line.ensures.line c.in_ok-next_line.ensures.gives
+    c.lines.joined.fault _ _ _ c.text_of.result c.lines.invariant c.lines-test.true (rw c.in-Some.is at c.in_ok-line.ensures.line) c.in_ok-line.ensures.gives
     (subst (λ (l : List ℕ). IfOk c.text_of.result (λ t. t.now ≡ l)) c.as_slice.ensures.value c.text_of.ensures.ok) (c.text_of.ensures.fault ∙ ap (λ (l : List ℕ). fault_in l line.is_long) c.as_slice.ensures.value)
-    c.in_ok-add.ensures.fault c.in_ok-add.ensures.text
+    c.in_ok-add-in-Some.ensures.fault c.in_ok-add-in-Some.ensures.text
 
 pub returns-in-None : goal.returns-in-None
 returns-in-None g c =
     scripted_short g.R.Read.remaining g.W.Write.contents c.args.lines c.args.source.now c.lines.source c.next_line.new.source c.args.sink.now c.lines.sink c.next_line.new.sink c.lines.taken _ _
-    c.lines.invariant c.lines-test.true c.in_ok-next_line.ensures.line c.in_ok-next_line.ensures.gives
+    c.lines.invariant c.lines-test.true (rw c.in-None.is at c.in_ok-line.ensures.line) c.in_ok-line.ensures.gives
 
-pub returns-in_err-next_line : goal.returns-in_err-next_line
-returns-in_err-next_line g c =
-    let p = err_from_is_err_and c.from_residual-in_err-next_line.result c.from_residual-in_err-next_line.ensures.1 in
+pub returns-in_err-line : goal.returns-in_err-line
+returns-in_err-line g c =
+    let p = err_from_is_err_and c.from_residual.result c.from_residual.ensures.1 in
     rw (p.1, p.2) (scripted_stops g.R.Read.remaining g.W.Write.contents c.args.lines c.args.source.now c.lines.source c.next_line.new.source c.args.sink.now c.lines.sink c.next_line.new.sink c.lines.taken _ _
-    c.lines.invariant c.lines-test.true _ c.in_err-next_line.ensures.err)
+    c.lines.invariant c.lines-test.true _ c.in_err-line.ensures.err)
 
-pub returns-in_err-add : goal.returns-in_err-add
-returns-in_err-add g c =
-    let p = err_from_is_err_and c.from_residual-in_err-add.result c.from_residual-in_err-add.ensures.1 in
+pub returns-in_err-add-in-Some : goal.returns-in_err-add-in-Some
+returns-in_err-add-in-Some g c =
+    let p = err_from_is_err_and c.from_residual-in_err-add-in-Some.result c.from_residual-in_err-add-in-Some.ensures.1 in
     rw (p.1, p.2) (scripted_out g.R.Read.remaining g.W.Write.contents c.args.lines c.args.source.now c.lines.source c.next_line.new.source c.args.sink.now c.lines.sink c.next_line.new.sink c.lines.taken _ _
-    c.lines.invariant c.lines-test.true c.in-Some.line c.in_ok-next_line.ensures.line c.in_ok-next_line.ensures.gives)
+    c.lines.invariant c.lines-test.true c.in-Some.line (rw c.in-Some.is at c.in_ok-line.ensures.line) c.in_ok-line.ensures.gives)
 
 pub returns : goal.returns
 returns g c = scripted_all g.R.Read.remaining g.W.Write.contents c.args.lines c.args.source.now c.lines.source c.args.sink.now c.lines.sink c.lines.taken _ _ _ c.lines.invariant (omega arith) c.finish.ensures

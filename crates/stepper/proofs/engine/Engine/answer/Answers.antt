@@ -1,7 +1,9 @@
-use Rattle.std.proofs.Common.{Bor, List, ℕ, map, ap, sym, refl, subst, ◌∙◌}
+use Rattle.std.proofs.Common.{Bor, List, ℕ, map, ap, sym, refl, subst, ◌∙◌, Ok, Some}
+use Rattle.std.proofs.lemmas.Result.{err_from_is_err_and}
 use Rattle.commands.specs.Commands.{command_of, undo, redo}
 use Rattle.commands.specs.ScriptView.{script_text}
-use Rattle.stepper.specs.Replies.{AnswersBirth, arrive_moves, forward_moves, turn_moves}
+use Rattle.stepper.specs.Replies.{AnswersBirth, arrive_moves, forward_moves, turn_moves, script_lines}
+use Rattle.stepper.specs.Taking.{StopsWithin}
 use Rattle.stepper.proofs.Answered.{on_ok, happens_as}
 use Rattle.stepper.proofs.Doing.{does_alone, does_born, out_here, out_born}
 use Rattle.stepper.proofs.engine.Engine.answer.Goals as goal
@@ -35,3 +37,20 @@ returns g c =
       | in-Redo w ↦ does_alone remaining contents source sink c.requires _ _ w.redo.result (ap command_of w.in-Redo.is ∙ ap redo (sym w.deref-in-Redo.ensures.value)) refl w.branch'-is c.in_ok-exchange.was w.self-is w.redo.ensures
       | in-Exchange w ↦ does_alone remaining contents source sink c.requires _ _ w.exchange.result (ap command_of w.in-Exchange.is) refl w.branch'-is c.in_ok-exchange.was w.self-is w.exchange.ensures
     ]
+
+pub returns-in_err-script-in-Birth : goal.returns-in_err-script-in-Birth
+returns-in_err-script-in-Birth g c =
+    let p = err_from_is_err_and c.from_residual-in_err-script-in-Birth.result c.from_residual-in_err-script-in-Birth.ensures.1 in
+    rw (p.1, p.2) (subst (λ (n : ℕ). StopsWithin g.R.Read.remaining g.W.Write.contents c.args.source.now c.take_script-script.new.source c.args.sink.now c.take_script-script.new.sink n _)
+    (sym (ap (λ z. script_lines (Ok (Some (command_of z)))) c.in-Birth.is)) c.in_err-script-in-Birth.ensures)
+
+pub returns-in_err-birth-in-Birth : goal.returns-in_err-birth-in-Birth
+returns-in_err-birth-in-Birth g c =
+    let p = err_from_is_err_and c.from_residual-in_err-birth-in-Birth.result c.from_residual-in_err-birth-in-Birth.ensures.1 in
+    rw (p.1, p.2) (out_born g.R.Read.remaining g.W.Write.contents c.args.source.now _ c.args.sink.now _ (Ok (Some (command_of c.args.command))) c.in-Birth.lines
+    (ap (λ z. script_lines (Ok (Some (command_of z)))) c.in-Birth.is) c.in_ok-script-in-Birth.ensures)
+
+pub returns-in_err-exchange : goal.returns-in_err-exchange
+returns-in_err-exchange g c =
+    let p = err_from_is_err_and c.from_residual-in_err-exchange.result c.from_residual-in_err-exchange.ensures.1 in
+    rw (p.1, p.2) (out_here g.R.Read.remaining g.W.Write.contents c.args.source.now c.args.sink.now c.requires _)
