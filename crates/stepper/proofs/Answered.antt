@@ -34,7 +34,7 @@ use Rattle.book.specs.declared.fault.BookFault.{BookFault}
 use Rattle.book.specs.declared.fault.BookFault.TheVariants as fault
 use Rattle.scopes.specs.Check as check
 use Rattle.stepper.specs.declared.engine.Engine.{Engine}
-use Rattle.stepper.specs.Engine.{Happens, HappensAt}
+use Rattle.stepper.specs.Engine.{Happens}
 use Rattle.commands.specs.Commands as commands
 use Rattle.commands.specs.Commands.{Spelled, spelled_by, fault_text}
 use Rattle.commands.specs.Scripts.{script_of, behind_lines, fault_of}

@@ -107,15 +107,14 @@ module _ {R W : Type 0} (remaining : R → Option (List ℕ)) (contents : W → 
   }
 
   -- what came of a line, by what it says
-  pub line_answered : {A : Type 0} {old mid new : Engine} {source later : Lines R} {sink after : Outlet W} {line : Line} {said_so : Result (Option Spelled) LineFault} (r : Result A Fault)
+  pub line_answered : {A : Type 0} (old mid new : Engine) (source later : Lines R) (sink after : Outlet W) (line : Line) (said_so : Result (Option Spelled) LineFault) (r : Result A Fault)
       → mid.budget ≡ old.budget → book_of mid.book ≡ book_of old.book → mid.written.refused ≡ old.written.refused → string_bytes mid.written.text ≡ [] → said_so ≡ said_in line
       → MatchResult r (λ _. Does remaining contents mid new source later sink after said_so) (StopsWithin remaining contents source later sink after (script_lines said_so))
       → (bytes : List ℕ) → Reads line bytes → IsOneLine bytes (is_ended source)
       → MatchResult r (λ _. AnswersLine remaining contents old new source later sink after bytes) (StopsLine remaining contents source later sink after bytes)
-  line_answered {mid = mid} {new = new} {source = source} {later = later} {sink = sink} {after = after} {line = line} {said_so = said_so} (Ok x) budget book refused empty says h bytes reads one =
+  line_answered old mid new source later sink after line said_so (Ok x) budget book refused empty says h bytes reads one =
       line_from budget book refused (answers_line mid new source later sink after line bytes said_so reads one says empty h)
-  line_answered {source = source} {later = later} {sink = sink} {after = after} {line = line} {said_so = said_so} (Err f) budget book refused empty says h bytes reads one =
-      stops_line source later sink after line bytes said_so f reads one says h
+  line_answered old mid new source later sink after line said_so (Err f) budget book refused empty says h bytes reads one = stops_line source later sink after line bytes said_so f reads one says h
 
   -- how far a run is
   pub record Going (budget : ℕ) (source now : Lines R) (sink then : Outlet W) (engine : Engine) : Type 0 where
@@ -230,12 +229,12 @@ module _ {R W : Type 0} (remaining : R → Option (List ℕ)) (contents : W → 
         (gives_both contents then one two [] [] s f.gives)
 
     module _ (a : AnswersLine remaining contents engine next mid later one two t.bytes) where
-      reply : List ℕ
+      abbrev reply : List ℕ
       reply = string_bytes next.written.text
 
       next_story : Story budget (g.taken ++ (t.bytes ++ a.bytes)) (g.text ++ reply) (is_ended later) next.written.refused (book_of next.book)
       next_story = subst (λ (z : Bool). Story budget (g.taken ++ (t.bytes ++ a.bytes)) (g.text ++ reply) (is_ended later) z (book_of next.book)) (sym a.refused)
-          (story_more (open_story budget source now later sink then two engine g t.not_ended) (some_piece t.bytes a.bytes (is_ended mid) t.one)
+          (story_more (t.bytes ++ a.bytes) (open_story budget source now later sink then two engine g t.not_ended) (some_piece t.bytes a.bytes (is_ended mid) t.one)
           (subst (λ (n : ℕ). FirstReply n (book_of engine.book) (said (t.bytes ++ a.bytes)) (behind_line (t.bytes ++ a.bytes)) reply a.refusal (book_of next.book) []) g.same_budget a.here)
           a.whole
           (λ unended more. subst (λ (n : ℕ). FirstReply n (book_of engine.book) (said ((t.bytes ++ a.bytes) ++ more)) (behind_line ((t.bytes ++ a.bytes) ++ more)) reply a.refusal (book_of next.book) more) g.same_budget (a.before unended more)))
@@ -367,17 +366,3 @@ module _ {R W : Type 0} (remaining : R → Option (List ℕ)) (contents : W → 
     replies = r.replies;
     cut = cut_so sink one two r.text r.gives s;
   }
-
-  -- what waits cannot be sent at last, however the run ended
-  pub end_cut : {A : Type 0} {budget : ℕ} {source later : Lines R} {sink one two : Outlet W} {refused : Bool} (r : Result A Fault) → (r ≡ Err Writer → ⊥)
-      → MatchResult r (λ _. RunsToEnd remaining contents budget source later sink one refused) (RunsTo remaining contents budget source later sink one) → IsCutShort contents one two []
-      → RunsTo remaining contents budget source later sink two Writer
-  end_cut {budget = budget} {source = source} {later = later} {sink = sink} {one = one} {two = two} {refused = refused} (Ok x) n h s = ends_cut budget source later sink one two refused h s
-  end_cut {budget = budget} {source = source} {later = later} {sink = sink} {one = one} {two = two} (Err f) n h s = fails_cut budget source later sink one two f (λ e. n (ap (λ (g : Fault). Err g) e)) h s
-
-  -- what waits was sent at last
-  pub end_sent : {A : Type 0} {budget : ℕ} {source later : Lines R} {sink one two : Outlet W} {refused : Bool} (r : Result A Fault) → (r ≡ Err Writer → ⊥)
-      → MatchResult r (λ _. RunsToEnd remaining contents budget source later sink one refused) (RunsTo remaining contents budget source later sink one) → Gives contents one two []
-      → MatchResult r (λ _. RunsToEnd remaining contents budget source later sink two refused) (RunsTo remaining contents budget source later sink two)
-  end_sent {budget = budget} {source = source} {later = later} {sink = sink} {one = one} {two = two} {refused = refused} (Ok x) n h s = ends_sent budget source later sink one two refused h s
-  end_sent {budget = budget} {source = source} {later = later} {sink = sink} {one = one} {two = two} (Err f) n h s = fails_sent budget source later sink one two f (λ e. n (ap (λ (g : Fault). Err g) e)) h s

@@ -54,12 +54,12 @@ story_all true IsLast h s = with_last (h refl) s.here
 story_all false IsLast h s = whole_ones (story_so_far s)
 
 -- one more command is answered
-pub story_more : {budget : ℕ} {taken text piece reply : List ℕ} {refused refusal ended : Bool} {now next : Book} → Story budget taken text false refused now
+pub story_more : {budget : ℕ} {taken text reply : List ℕ} {refused refusal ended : Bool} {now next : Book} (piece : List ℕ) → Story budget taken text false refused now
     → 0 < length piece → FirstReply budget now (said piece) (behind_line piece) reply refusal next []
     → (ended ≡ false → (more : List ℕ) → IsWhole (piece ++ more))
     → (ended ≡ false → (more : List ℕ) → FirstReply budget now (said (piece ++ more)) (behind_line (piece ++ more)) reply refusal next more)
     → Story budget (taken ++ piece) (text ++ reply) ended (refused || refusal) next
-story_more {budget = budget} {taken = taken} {text = text} {piece = piece} {reply = reply} {refused = refused} {refusal = refusal} {now = now} {next = next} s l here whole before = record {
+story_more {budget = budget} {taken = taken} {text = text} {reply = reply} {refused = refused} {refusal = refusal} {now = now} {next = next} piece s l here whole before = record {
   here = replies_as budget (ap (λ (z : List ℕ). text ++ z) (append-nil reply)) (ap (λ (z : Bool). refused || z) (sym (or_false refusal))) (before_then budget (story_before piece s) (first_and_more l here no_more));
   before = λ unended more replies left r d h.
       subst (λ (z : List ℕ). RepliesBefore budget blank z ((text ++ reply) ++ replies) ((refused || refusal) || r) d left) (sym (append_assoc taken piece more))

@@ -442,13 +442,22 @@ pub fn run<R: Read, W: Write>(
         book: Book::new(alloc),
         written: Written::new(alloc),
     };
-    let answered = engine.answer_all(source, sink);
-    if let Err(Fault::Writer) = answered {
-        return Err(Fault::Writer);
+    match engine.answer_all(source, sink) {
+        Ok(()) => {
+            sink.send()?;
+            Ok(Summary {
+                refused: engine.written.refused,
+            })
+        }
+        Err(Fault::Reader) => {
+            sink.send()?;
+            Err(Fault::Reader)
+        }
+        // Nothing waits any more.
+        Err(Fault::Writer) => Err(Fault::Writer),
+        Err(Fault::Memory) => {
+            sink.send()?;
+            Err(Fault::Memory)
+        }
     }
-    sink.send()?;
-    answered?;
-    Ok(Summary {
-        refused: engine.written.refused,
-    })
 }

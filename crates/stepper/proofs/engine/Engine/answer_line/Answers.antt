@@ -9,7 +9,7 @@ use Rattle.stepper.proofs.engine.Engine.answer_line.Goals as goal
 pub returns-in_ok-says-in-Ok : goal.returns-in_ok-says-in-Ok
 returns-in_ok-says-in-Ok g c =
     let line = c.args.line.now in
-    line_answered g.R.Read.remaining g.W.Write.contents c.answer_said.result refl refl refl c.clear.ensures.bytes
+    line_answered g.R.Read.remaining g.W.Write.contents c.args.self.now _ c.answer_said.new.self c.args.source.now c.answer_said.new.source c.args.sink.now c.answer_said.new.sink line _ c.answer_said.result refl refl refl c.clear.ensures.bytes
     (c.in_ok-says-in-Ok.ensures ∙ said_text line c.as_slice.result.now c.in-Ok.text.now c.as_slice.ensures.value c.in-Ok.ensures.ok c.in-Ok.ensures.fault) c.answer_said.ensures
 
 pub returns-in_err-says-in-Ok : goal.returns-in_err-says-in-Ok
@@ -18,10 +18,11 @@ returns-in_err-says-in-Ok g c = λ bytes reads one.
     let contents = g.W.Write.contents in
     let source = c.args.source.now in
     let sink = c.args.sink.now in
-    let p = err_from_is_err_and c.from_residual-in_err-says-in-Ok.result c.from_residual-in_err-says-in-Ok.ensures.1 in
+    let p = err_from_is_err_and c.from_residual.result c.from_residual.ensures.1 in
     rw (p.1, p.2) (stops_line remaining contents source source sink sink c.args.line.now bytes (said_in c.args.line.now) Memory reads one refl (out_here remaining contents source sink c.requires _))
 
 pub returns-in-Err : goal.returns-in-Err
 returns-in-Err g c =
-    line_answered g.R.Read.remaining g.W.Write.contents c.answer_said-in-Err.result refl refl refl c.clear.ensures.bytes
+    line_answered g.R.Read.remaining g.W.Write.contents c.args.self.now _ c.answer_said-in-Err.new.self c.args.source.now c.answer_said-in-Err.new.source c.args.sink.now c.answer_said-in-Err.new.sink c.args.line.now _
+    c.answer_said-in-Err.result refl refl refl c.clear.ensures.bytes
     (said_fault c.args.line.now c.as_slice.result.now c.in-Err.fault c.as_slice.ensures.value c.in-Err.ensures.fault) c.answer_said-in-Err.ensures

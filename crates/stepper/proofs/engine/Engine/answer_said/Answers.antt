@@ -24,5 +24,5 @@ returns-in_ok-refuse_line-in-Err g c =
 
 pub returns-in_err-refuse_line-in-Err : goal.returns-in_err-refuse_line-in-Err
 returns-in_err-refuse_line-in-Err g c =
-    let p = err_from_is_err_and c.from_residual-in_err-refuse_line-in-Err.result c.from_residual-in_err-refuse_line-in-Err.ensures.1 in
+    let p = err_from_is_err_and c.from_residual.result c.from_residual.ensures.1 in
     rw (p.1, p.2) (out_here g.R.Read.remaining g.W.Write.contents c.args.source.now c.args.sink.now c.requires _)
