@@ -139,5 +139,5 @@ turned_once {m = m} {budget = budget} {b = b} {d = d} {x = x} {y = y} {t = t} {u
 
 -- ---- plain runs
 
-pub one_run : {es : List Event} {w v : World} → PlainRun es w → PlainRun es v → v ≡ w
-one_run h k = ∥∥₁_elim h (World-set _ _) (λ a. ∥∥₁_elim k (World-set _ _) (λ b. runs_are_one events events_laws b a))
+pub one_run : (es : List Event) {w v : World} → PlainRun es w → PlainRun es v → v ≡ w
+one_run es h k = ∥∥₁_elim h (World-set _ _) (λ a. ∥∥₁_elim k (World-set _ _) (λ b. runs_are_one events events_laws b a))

@@ -37,7 +37,7 @@ use Rattle.causality.specs.Selections.{name_of, chosen}
 use Rattle.causality.specs.Exact.{Cone}
 use Rattle.book.specs.Refusals.{Refusal, ask_refusal, birth_refusal, exchange_refusal}
 use Rattle.book.specs.Books.{Book}
-use Rattle.book.specs.Calls.{EntersNext, Undoes, Redoes, Exchanges, StoodAt}
+use Rattle.book.specs.Calls.{EntersNext, Undoes, Redoes, Exchanges, StoodAt, rest_of, live_events, redone_in}
 use Rattle.commands.specs.Commands as command
 use Rattle.commands.specs.Commands.{Spelled, fault_text}
 use Rattle.commands.specs.declared.command.LineFault.{LineFault}
@@ -76,9 +76,9 @@ fault_once (read_fault h) (read_deep k i) = no_tokens h k
 fault_once (read_fault h) (read_unexpected k i n m) = no_tokens h k
 fault_once (read_deep h i) (read_fault k) = no_tokens k h
 fault_once (read_deep h i) (read_deep k j) = one_fault
-fault_once (read_deep h i) (read_unexpected k j n m) = absurd (j (subst (λ ps. IsTooDeep (plain_tokens ps)) (same_tokens h k) i))
+fault_once (read_deep h i) (read_unexpected k j n m) = absurd (j (subst (λ ps. IsTooDeep (plain_tokens ps)) (same_tokens k h) i))
 fault_once (read_unexpected h i n m) (read_fault k) = no_tokens k h
-fault_once (read_unexpected h i n m) (read_deep k j) = absurd (i (subst (λ ps. IsTooDeep (plain_tokens ps)) (same_tokens k h) j))
+fault_once (read_unexpected h i n m) (read_deep k j) = absurd (i (subst (λ ps. IsTooDeep (plain_tokens ps)) (same_tokens h k) j))
 fault_once (read_unexpected {i = x} h i n m) (read_unexpected {i = y} k j o p) = places x y
 
 unread_so : {f g : ReadFault} {b : Book} → SameFault f g → SameAnswer (refused (reading.shown f)) true b (refused (reading.shown g)) true b
@@ -120,8 +120,8 @@ step_reversed s t h k =
     cmp_reversed (message_in s) (message_in t) (ordering_then (vat_cmp v u) (promise_cmp p q)) (ordering_then (vat_cmp u v) (promise_cmp q p))
     (then_reversed (vat_cmp v u) (promise_cmp p q) (vat_cmp u v) (promise_cmp q p) (vat_total.antisymm v u) (reversed promise_total p q)) h k
 
-first_once : {b : Book} {s t : Step} → FirstIn b (Some s) → FirstIn b (Some t) → t ≡ s
-first_once {s = s} {t = t} h k = ⊎_elim (λ e. e) (λ less. ⊎_elim (λ e. sym e) (λ other. absurd (step_reversed s t less other)) (k.1 s h.0)) (h.1 t k.0)
+first_once : (b : Book) {s t : Step} → FirstIn b (Some s) → FirstIn b (Some t) → t ≡ s
+first_once b {s = s} {t = t} h k = ⊎_elim (λ e. e) (λ less. ⊎_elim (λ e. sym e) (λ other. absurd (step_reversed s t less other)) (k.1 s h.0)) (h.1 t k.0)
 
 -- ---- what is done
 
@@ -154,10 +154,10 @@ move_as {budget = budget} {b = b} {d = d} {r = r} {q = q} e h = subst (λ (z : S
 one_step : {budget : ℕ} {b d e : Book} {r t : List ℕ} {q p more other : Bool} → Steps budget b r q d more → Steps budget b t p e other → ¬ IsForWant r → ¬ IsForWant t → SameAnswer r q d t p e
 one_step step_without_memory k n m = absurd (n book_without_memory)
 one_step h step_without_memory n m = absurd (m book_without_memory)
-one_step (step_done f h) (step_done g k) n m = one_move h (move_as (first_once f g) k) n m
-one_step (step_done f h) (step_refused g k) n m = one_move h (move_as (first_once f g) k) n m
-one_step (step_refused f h) (step_done g k) n m = one_move h (move_as (first_once f g) k) n m
-one_step (step_refused f h) (step_refused g k) n m = one_move h (move_as (first_once f g) k) n m
+one_step {b = b} (step_done f h) (step_done g k) n m = one_move h (move_as (first_once b f g) k) n m
+one_step {b = b} (step_done f h) (step_refused g k) n m = one_move h (move_as (first_once b f g) k) n m
+one_step {b = b} (step_refused f h) (step_done g k) n m = one_move h (move_as (first_once b f g) k) n m
+one_step {b = b} (step_refused f h) (step_refused g k) n m = one_move h (move_as (first_once b f g) k) n m
 one_step (step_done {s = s} f h) (step_idle g) n m = absurd (g s f.0)
 one_step (step_refused {s = s} f h) (step_idle g) n m = absurd (g s f.0)
 one_step (step_idle f) (step_done {s = s} g k) n m = absurd (f s g.0)
@@ -191,8 +191,8 @@ one_undo h undo_without_memory n m = absurd (m book_without_memory)
 one_undo (undo_refused h) (undo_refused k) n m = refused_once h k
 one_undo (undo_refused h) (undo_accepted k x) n m = not_both h k
 one_undo (undo_accepted h x) (undo_refused k) n m = not_both k h
-one_undo {d = d} {e = e} (undo_accepted h x) (undo_accepted k y) n m =
-    answer_once refl (record { world = one_run x.rest y.rest; next = y.same_next ∙ sym x.same_next; out = y.same_out ∙ sym x.same_out; journal = same_lines d.journal e.journal (y.marked ∙ sym x.marked) })
+one_undo {b = b} {d = d} {e = e} {events = events} (undo_accepted h x) (undo_accepted k y) n m =
+    answer_once refl (record { world = one_run (rest_of events b.journal) x.rest y.rest; next = y.same_next ∙ sym x.same_next; out = y.same_out ∙ sym x.same_out; journal = same_lines d.journal e.journal (y.marked ∙ sym x.marked) })
 
 one_redo : {budget : ℕ} {b d e : Book} {events : List EventName} {r t : List ℕ} {q p : Bool} → Answers budget b (command.redo events) r q d → Answers budget b (command.redo events) t p e
     → ¬ IsForWant r → ¬ IsForWant t → SameAnswer r q d t p e
@@ -201,8 +201,8 @@ one_redo h redo_without_memory n m = absurd (m book_without_memory)
 one_redo (redo_refused h) (redo_refused k) n m = refused_once h k
 one_redo (redo_refused h) (redo_accepted k x) n m = not_both h k
 one_redo (redo_accepted h x) (redo_refused k) n m = not_both k h
-one_redo {d = d} {e = e} (redo_accepted h x) (redo_accepted k y) n m =
-    answer_once refl (record { world = one_run x.run y.run; next = y.same_next ∙ sym x.same_next; out = y.same_out ∙ sym x.same_out; journal = same_lines d.journal e.journal (y.marked ∙ sym x.marked) })
+one_redo {b = b} {d = d} {e = e} {events = events} (redo_accepted h x) (redo_accepted k y) n m =
+    answer_once refl (record { world = one_run (live_events (redone_in events b.journal)) x.run y.run; next = y.same_next ∙ sym x.same_next; out = y.same_out ∙ sym x.same_out; journal = same_lines d.journal e.journal (y.marked ∙ sym x.marked) })
 
 -- what is exchanged stands at a position, counted from 1
 exchanged_once : {b d e : Book} {x y u v : EventName} (position : ℕ) → exchange_refusal b.journal position ≡ None → Exchanges position b d → Exchanges position b e → StoodAt position b.journal x y → StoodAt position b.journal u v
@@ -287,9 +287,9 @@ one_answer told (exchange_refused h) (exchange_accepted k x y) n m = not_both h 
 one_answer told (exchange_accepted h x y) (exchange_refused k) n m = not_both k h
 one_answer told (exchange_accepted {position = position} h x y) (exchange_accepted k v w) n m = exchanged_once position h x v y w
 
-born_once : {b d e : Book} {x : List ℕ} {earlier : List (List ℕ)} {ts us : Trees} {n m : EventName} {vs ws : List Vat} → us ≡ ts → EntersNext (record { name = n; act = birth x earlier ts }) (birth_foot n x earlier vs ts) 0 b d
+born_once : {b d e : Book} {x : List ℕ} {earlier : List (List ℕ)} {ts us : Trees} {n m : EventName} (vs ws : List Vat) → us ≡ ts → EntersNext (record { name = n; act = birth x earlier ts }) (birth_foot n x earlier vs ts) 0 b d
     → EntersNext (record { name = m; act = birth x earlier us }) (birth_foot m x earlier ws us) 0 b e → SameAnswer (queued_text n) false d (queued_text m) false e
-born_once {b = b} {e = e} {x = x} {earlier = earlier} {m = m} {ws = ws} same h k =
+born_once {b = b} {e = e} {x = x} {earlier = earlier} {m = m} vs ws same h k =
     let one = entered_once h (subst (λ (zs : Trees). EntersNext (record { name = m; act = birth x earlier zs }) (birth_foot m x earlier ws zs) 0 b e) same k) in answer_once (ap queued_text (sym one.0)) one.1
 
 pub one_birth : {b d e : Book} {x : List ℕ} {earlier : List (List ℕ)} {script : Result (List ℕ) LineFault} {r t : List ℕ} {q p : Bool} → AnswersBirth b x earlier script r q d → AnswersBirth b x earlier script t p e
@@ -309,4 +309,4 @@ one_birth {b = b} {x = x} {earlier = earlier} (birth_refused h f) (birth_accepte
 one_birth (birth_accepted vs h f y) (script_unread k) n m = read_or_not k h
 one_birth {b = b} {x = x} {earlier = earlier} (birth_accepted vs h f y) (birth_refused {r = why} k g) n m =
     not_both (subst (λ (zs : Trees). birth_refusal b x earlier zs ≡ Some why) (read_once h k) g) f
-one_birth (birth_accepted vs h f y) (birth_accepted ws k g z) n m = born_once (read_once h k) y z
+one_birth (birth_accepted vs h f y) (birth_accepted ws k g z) n m = born_once vs ws (read_once h k) y z
