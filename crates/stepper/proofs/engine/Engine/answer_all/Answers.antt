@@ -14,8 +14,8 @@ pub commands-preserved : goal.commands-preserved
 commands-preserved g c =
     let t = rw c.in-Some.is at c.in_ok-line.ensures.line in
     run_goes_on g.R.Read.remaining g.W.Write.contents c.args.self.now.budget c.args.source.now c.commands.source c.next_line.new.source c.answer_line.new.source c.args.sink.now c.commands.sink c.next_line.new.sink
-    c.answer_line.new.sink c.commands.self c.answer_line.new.self c.in-Some.line c.commands.invariant t c.in_ok-line.ensures.gives (c.in_ok-answer_line-in-Some.ensures t.bytes t.reads t.one) c.give.new.sink
-    (subst (λ (l : List ℕ). Gives g.W.Write.contents c.answer_line.new.sink c.give.new.sink l) c.as_bytes.ensures.value c.in_ok-give.ensures.ok)
+    c.answer_line.new.sink c.commands.self c.answer_line.new.self c.in-Some.line c.commands.invariant t c.in_ok-line.ensures.gives (c.in_ok-answer_line-in-Some.ensures t.bytes t.reads t.one) c.give.new.self
+    (subst (λ (l : List ℕ). Gives g.W.Write.contents c.answer_line.new.sink c.give.new.self l) c.as_bytes.ensures.value c.in_ok-give.ensures.ok)
 
 pub returns-in-None : goal.returns-in-None
 returns-in-None g c =
@@ -41,7 +41,7 @@ returns-in_err-give g c =
     let p = err_from_is_err_and c.from_residual-in_err-give.result c.from_residual-in_err-give.ensures.1 in
     rw (p.1, p.2) (run_is_cut g.R.Read.remaining g.W.Write.contents c.args.self.now.budget c.args.source.now c.commands.source c.next_line.new.source c.answer_line.new.source c.args.sink.now c.commands.sink
     c.next_line.new.sink c.answer_line.new.sink c.commands.self c.answer_line.new.self c.in-Some.line c.commands.invariant t c.in_ok-line.ensures.gives (c.in_ok-answer_line-in-Some.ensures t.bytes t.reads t.one)
-    c.give.new.sink (subst (λ (l : List ℕ). IsCutShort g.W.Write.contents c.answer_line.new.sink c.give.new.sink l) c.as_bytes.ensures.value c.in_err-give.ensures.err))
+    c.give.new.self (subst (λ (l : List ℕ). IsCutShort g.W.Write.contents c.answer_line.new.sink c.give.new.self l) c.as_bytes.ensures.value c.in_err-give.ensures.err))
 
 pub returns : goal.returns
 returns g c = run_is_endless g.R.Read.remaining g.W.Write.contents c.args.self.now.budget c.args.source.now c.commands.source c.args.sink.now c.commands.sink c.commands.self c.commands.invariant
