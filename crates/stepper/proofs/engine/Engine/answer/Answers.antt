@@ -41,7 +41,7 @@ returns g c =
 pub returns-in_err-script-in-Birth : goal.returns-in_err-script-in-Birth
 returns-in_err-script-in-Birth g c =
     let p = err_from_is_err_and c.from_residual.result c.from_residual.ensures.1 in
-    rw (p.1, p.2) (subst (λ (n : ℕ). StopsWithin g.R.Read.remaining g.W.Write.contents c.args.source.now c.take_script.new.source c.args.sink.now c.take_script.new.sink n _)
+    rw (p.1, p.2) (subst (λ (n : ℕ). StopsWithin g.R.Read.remaining g.W.Write.contents c.args.source.now c.take_script.new.source c.args.sink.now c.take_script.new.sink n c.in_err-script-in-Birth.field-0.0)
     (sym (ap (λ z. script_lines (Ok (Some (command_of z)))) c.in-Birth.is)) c.in_err-script-in-Birth.ensures)
 
 pub returns-in_err-birth-in-Birth : goal.returns-in_err-birth-in-Birth
