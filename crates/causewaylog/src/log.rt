@@ -1,4 +1,13 @@
 // The log of a vat.
+ghost use Rattle.std.specs.Prelude.{◌≡◌, ◌+◌, ◌++◌, ◌<◌, ◌^◌, map, IfOk, OnOk, string_bytes};
+ghost use Rattle.erules.specs.OutboxView.{note_of};
+ghost use Rattle.journal.specs.Items.{item_of};
+ghost use Rattle.book.specs.BookView.{book_of};
+ghost use Rattle.serde_json.specs.View.{view};
+ghost use Rattle.causewaylog.specs.Facts.{facts_of};
+ghost use Rattle.causewaylog.specs.Live.{live_of};
+ghost use Rattle.causewaylog.specs.Log.{log_text, records_from, records_of};
+ghost use Rattle.causewaylog.specs.Turns.{live_in, turns_of};
 
 use crate::facts::{anchor, of_got, of_note};
 use crate::turns::{got_by, vat_called};
@@ -17,7 +26,9 @@ fn add_turn(
     turn: usize,
     message: MsgId,
     notes: &[Note],
-) -> Result<(), AllocError> {
+) -> Result<(), AllocError>
+    ensures { OnOk result (map view records.new.items ≡ map view records.old.items ++ records_from loop_name.now turn 0 (facts_of (record { got = message; notes = map note_of notes.now }))) }
+{
     let first = anchor(alloc, loop_name, turn, 0)?;
     records.push(of_got(alloc, first, message)?)?;
     for (index, note) in notes.iter().enumerate() {
@@ -33,7 +44,9 @@ fn records_of(
     entries: &[Entry],
     loop_name: &str,
     vat: VatNo,
-) -> Result<Vec<Value>, AllocError> {
+) -> Result<Vec<Value>, AllocError>
+    ensures { IfOk result (λ all. map view all.items ≡ records_of loop_name.now 1 (turns_of vat (live_of (map item_of entries.now)))) }
+{
     let mut records = Vec::new(alloc);
     let mut turns = 0;
     for entry in entries {
@@ -45,13 +58,15 @@ fn records_of(
     Ok(records)
 }
 
-/// The log of the live turns of the vat of this name, as a list in JSON: empty where there is no such vat. Fails only for want of
-/// memory.
-pub fn log_of(alloc: Global, book: &Book, loop_name: &str) -> Result<String, AllocError> {
+/// The log of the live turns of the vat of this name, as a list of records in JSON: empty where there is no such vat. Fails only for
+/// want of memory.
+pub fn log_of(alloc: Global, book: &Book, loop_name: &str) -> Result<String, AllocError>
+    ensures { IfOk result (λ text. string_bytes text ≡ log_text loop_name.now (live_in (book_of book.now).journal)) }
+{
     let entries = book.journal();
     let records = match vat_called(entries, loop_name) {
         Some(vat) => records_of(alloc, entries, loop_name, vat)?,
         None => Vec::new(alloc),
     };
-    Value::Array(records).to_string(alloc)
+    Value::from(records).to_string(alloc)
 }

@@ -103,9 +103,13 @@ run_of words = cond (is_empty (behind_word words)) (option_map run (option_and_t
 abbrev pub alone : Spelled → List ℕ → Option Spelled
 alone command words = cond (is_empty words) (Some command) None
 
+-- a word, if it may name a vat
+abbrev pub vat_named : List ℕ → Option (List ℕ)
+vat_named w = cond (is_vat_name w) (Some w) None
+
 -- log NAME
 abbrev pub log_of : List ℕ → Option Spelled
-log_of words = cond (is_vat_name (first_word words) && is_empty (behind_word words)) (Some (log (first_word words))) None
+log_of words = cond (is_empty (behind_word words)) (option_map log (vat_named (first_word words))) None
 
 -- a command of one event
 abbrev pub of_event : (EventName → Spelled) → List ℕ → Option Spelled

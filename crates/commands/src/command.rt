@@ -287,7 +287,10 @@ fn log(words: &str) -> Option<Command<'_>>
     ensures { option_map command_of result ≡ log_of words.now }
 {
     let (name, end) = cut_word(words);
-    (is_vat_name(name) && end.is_empty()).then_some(Command::Log(name))
+    if !end.is_empty() {
+        return None;
+    }
+    is_vat_name(name).then_some(Command::Log(name))
 }
 
 /// One event's name, with nothing behind it.

@@ -5,7 +5,6 @@ use Rattle.std.specs.List.{AllByRecursion}
 use Rattle.history.specs.Subject.{Subject, Run, run_none, run_more, written, after}
 use Rattle.history.specs.Journal.{Entry, live_set, name_of, Distinct}
 use Rattle.history.specs.Records.{contents, entries_of}
-use Rattle.history.proofs.Standing.{standing_run}
 use Rattle.ids.specs.declared.names.EventName.{EventName}
 use Rattle.ids.specs.declared.names.VatNo.{VatNo}
 use Rattle.ids.specs.declared.names.MsgId.{MsgId}
@@ -25,7 +24,6 @@ use Rattle.worldcells.specs.Events.{Event, event_in}
 use Rattle.worldcells.specs.World.{Content, message, World, empty, message_in, message_of}
 use Rattle.event.specs.Events.{events, noted_events, Foot, in_world, letters_from, on_the_board, counted, first_message, Does, births, asks, arrives, forwards, learns, turns}
 use Rattle.event.specs.Laws.{HasNoMessage}
-use Rattle.event.proofs.Law.{noted_laws}
 use Rattle.event.proofs.Noted.{live_run}
 use Rattle.ordering.specs.Deeds.{Do, do_birth, do_ask, do_arrive, do_forward, do_learn, do_turn, doing, happening}
 use Rattle.ordering.specs.Theorems.{HasTurn, HasTurnBefore, HaveOwnNames, book, RanFromNothing, KeepOrder, RunsAreDeeds, RunsKeepOrder, RunsAreInOrder, JournalsKeepOrder, live_events}
