@@ -4,7 +4,7 @@ use Rattle.commands.specs.ScriptView.{script_text}
 use Rattle.stepper.specs.Replies.{AnswersBirth, arrive_moves, forward_moves, turn_moves}
 use Rattle.stepper.proofs.Answered.{on_ok, happens_as, born_at, answered_alone}
 use Rattle.stepper.proofs.engine.Engine.answer.Goals as goal
-use Rattle.stepper.proofs.engine.Engine.answer.Goals.{in-Ask, in-Arrive, in-Forward, in-Learn, in-Turn, in-Step, in-Run, in-Enabled, in-Show, in-Journal, in-Cone, in-Undo, in-UndoCone, in-Redo, in-Exchange}
+use Rattle.stepper.proofs.engine.Engine.answer.Goals.{in-Ask, in-Arrive, in-Forward, in-Learn, in-Turn, in-Step, in-Run, in-Enabled, in-Show, in-Journal, in-Log, in-Cone, in-Undo, in-UndoCone, in-Redo, in-Exchange}
 
 pub returns-in-Birth-clause-reply : goal.returns-in-Birth-clause-reply
 returns-in-Birth-clause-reply c = happens_as
@@ -25,6 +25,7 @@ returns-clause-reply c =
       | in-Enabled w ↦ answered_alone _ _ input w.enabled.result (ap command_of w.in-Enabled.is) w.branch'-is c.in_ok-exchange.was w.self-is w.enabled.ensures
       | in-Show w ↦ answered_alone _ _ input w.show.result (ap command_of w.in-Show.is) w.branch'-is c.in_ok-exchange.was w.self-is w.show.ensures
       | in-Journal w ↦ answered_alone _ _ input w.journal.result (ap command_of w.in-Journal.is) w.branch'-is c.in_ok-exchange.was w.self-is w.journal.ensures
+      | in-Log w ↦ answered_alone _ _ input w.log.result (ap command_of w.in-Log.is) w.branch'-is c.in_ok-exchange.was w.self-is w.log.ensures
       | in-Cone w ↦ answered_alone _ _ input w.cone.result (ap command_of w.in-Cone.is) w.branch'-is c.in_ok-exchange.was w.self-is w.cone.ensures
       | in-Undo w ↦ answered_alone _ _ input w.undo.result (ap command_of w.in-Undo.is ∙ ap undo (sym w.deref-in-Undo.ensures.value)) w.branch'-is c.in_ok-exchange.was w.self-is w.undo.ensures
       | in-UndoCone w ↦ answered_alone _ _ input w.undo_cone.result (ap command_of w.in-UndoCone.is) w.branch'-is c.in_ok-exchange.was w.self-is w.undo_cone.ensures
