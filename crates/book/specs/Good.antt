@@ -28,7 +28,8 @@ pub data RunsWithCells : List (Entry plain) → World → Type 0 where
   runs_more : {e : Entry plain} {es : List (Entry plain)} {w : World} {f : Foot} → RunsWithCells es w → DoesNoted e.event w f → HasFoot e f → RunsWithCells (e ∷ es) (after events f w)
 
 -- names are apart and were drawn, causes are older entries, the live ones have their causes among the live ones, and no others, the live ones are
--- a run to the world, each with the cells that it touched and wrote there, and there is no more than a journal may have
+-- a run to the world, each with the notes that it made there and the cells that it touched and wrote, and there is no more than a journal may
+-- have
 pub record IsGood (b : Book) : Type 0 where
   pub distinct : Distinct plain (entries_in b.journal)
   pub drawn : AllByRecursion (λ e. name_of plain e < b.next) (entries_in b.journal)

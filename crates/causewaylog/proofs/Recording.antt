@@ -1,5 +1,5 @@
 -- The records of turns: one turn after another, and that no number in them is a float.
-use Rattle.std.proofs.Common.{◌≡◌, ℕ, ◌+◌, Bool, true, false, ◌||◌, List, [], ◌∷◌, ◌++◌, map, refl, sym, ap, ap₂, ◌∙◌, append_assoc}
+use Rattle.std.proofs.Common.{◌≡◌, ℕ, ◌+◌, ◌≤◌, Bool, true, false, ◌||◌, List, [], ◌∷◌, ◌++◌, map, refl, sym, ap, ap₂, ◌∙◌, append_assoc, arith}
 use Rattle.kernele.specs.Tree.{Name}
 use Rattle.erules.specs.Outbox.{Note, sent_note, waits_note, resolved_note, comment_note}
 use Rattle.serde_json.specs.Data.{Data, Members}
@@ -38,3 +38,15 @@ no_floats_from x turn t = no_floats_noted x turn 1 t.notes
 pub no_floats : (x : Name) (turn : ℕ) (ts : List Turn) → items_have_float (items_of (records_of x turn ts)) ≡ false
 no_floats x turn [] = refl
 no_floats x turn (t ∷ ts) = floats_in_both (records_from x turn 0 (facts_of t)) (records_of x (turn + 1) ts) (no_floats_from x turn t) (no_floats x (turn + 1) ts)
+
+-- among so many entries so many turns were found; these records were made, and with those that are left they are all
+pub record SoFar (turns entries : ℕ) (made left all : List Data) : Type 0 where
+  pub counted : turns ≤ entries
+  pub records : made ++ left ≡ all
+
+-- so it is behind one more turn, whose records were added, and behind an entry that is none
+pub one_turn : {turns entries : ℕ} {made new from left all : List Data} → new ≡ made ++ from → SoFar turns entries made (from ++ left) all → SoFar (turns + 1) (entries + 1) new left all
+one_turn {made = made} {from = from} {left = left} is h = record { counted = omega (arith, h.counted); records = added_before made _ from left is ∙ h.records }
+
+pub no_turn : {turns entries : ℕ} {made left all : List Data} → SoFar turns entries made left all → SoFar turns (entries + 1) made left all
+no_turn h = record { counted = omega (arith, h.counted); records = h.records }

@@ -32,12 +32,7 @@ fn class(alloc: Global, kind: &str) -> Result<Value, AllocError>
 }
 
 /// A message was got or sent.
-fn of_message(
-    alloc: Global,
-    anchor: Value,
-    kind: &str,
-    message: MsgId,
-) -> Result<Value, AllocError>
+fn of_message(alloc: Global, anchor: Value, kind: &str, message: MsgId) -> Result<Value, AllocError>
     ensures { IfOk result (λ v. view v ≡ record_at (view anchor) (record { kind = kind.now; says = member (codes "message") (string (message_text message)) no_members })) }
 {
     let class = class(alloc, kind)?;

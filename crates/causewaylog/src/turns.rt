@@ -47,7 +47,9 @@ fn got_in(event: &Event, vat: VatNo) -> Option<MsgId>
 {
     match &event.action {
         Action::Turn {
-            vat: home, message, ..
+            vat: home,
+            message,
+            ..
         } if *home == vat => Some(*message),
         _ => None,
     }

@@ -129,11 +129,13 @@ law_of_learning : (e : EventName) (v : VatNo) (p : PromId) (b : Published) (cell
     → Leaves (learnt w v p b).touched (learnt w v p b).written (learnt w v p b).state cells left → Agree events (learn_foot v p cells left) w u → DoesNoted (record { name = e; act = learn v p; notes = [] }) u (learn_foot v p cells left)
 law_of_learning e v p b cells left w u waits is h a =
     let Q = λ (k : CellKey). u k ≡ w k in
-    let here = all_front Q (map (cell_key v) cells) _ a.1 in
-    (learns
-    (vat_alike v cells w u here (view_cell p) (h.touched (view_cell p) ∙ learning_viewed (vat_state w v) p b) ∙ waits)
-    (ap published_in a.0 ∙ is)
-    (learnt_alike v p b cells left w u h here), refl)
+    let here = all_front Q (map (cell_key v) cells) _ a.1 in (
+      learns
+          (vat_alike v cells w u here (view_cell p) (h.touched (view_cell p) ∙ learning_viewed (vat_state w v) p b) ∙ waits)
+          (ap published_in a.0 ∙ is)
+          (learnt_alike v p b cells left w u h here),
+      refl,
+    )
 
 -- ---- turns
 
@@ -191,17 +193,19 @@ law_of_turns e m n t cells left w v h g a =
       reads = (map key.Board (looked i) ++ (map key.Msg (order i) ++ map (λ b. key.Board b.0) t.outcome.out.publications)) ++ map (cell_key t.vat) cells;
       writes = in_world t.vat left ++ (letters ++ (on_the_board (counts i) ++ (key.Msg m, message (record t.message { place = done e })) ∷ []));
     } in
-    subst (DoesNoted (record { name = e; act = turn t.vat m n; notes = t.outcome.out.notes }) v) foot
-    (turns {t = ahead}
-    (record {
-      waiting = last.0 ∙ h.waiting;
-      there = h.there;
-      leads = leads_alike w v t.vat d board (all_map _ _ (viewed_by s d) (λ p is. ap resolution_in (agree (view_cell p) is)) (delivery_viewed r)) ∙ h.leads;
-      in_order = ap (first_undone v) order ∙ undone_alike w v (awaited w t.message) (all_front Q messages _ others) ∙ h.in_order;
-      delivers = subst (λ (f : Found). DeliversOn t.message f e t.vat u n ahead.outcome t.touched t.written) (sym (found_by_alike w v d board)) (framed.0, framed.1 ∙ h.delivers.1, framed.2 ∙ h.delivers.2);
-      fresh = new_alike w v letters (mapped_front (λ p. p.0) Q letters _ made) h.fresh;
-    })
-    (left_alike t.touched (λ c. not (is_lost t.outcome.told) && t.written c) t.outcome.state after cells left g there), refl)
+    subst (DoesNoted (record { name = e; act = turn t.vat m n; notes = t.outcome.out.notes }) v) foot (
+      turns {t = ahead}
+          (record {
+            waiting = last.0 ∙ h.waiting;
+            there = h.there;
+            leads = leads_alike w v t.vat d board (all_map _ _ (viewed_by s d) (λ p is. ap resolution_in (agree (view_cell p) is)) (delivery_viewed r)) ∙ h.leads;
+            in_order = ap (first_undone v) order ∙ undone_alike w v (awaited w t.message) (all_front Q messages _ others) ∙ h.in_order;
+            delivers = subst (λ (f : Found). DeliversOn t.message f e t.vat u n ahead.outcome t.touched t.written) (sym (found_by_alike w v d board)) (framed.0, framed.1 ∙ h.delivers.1, framed.2 ∙ h.delivers.2);
+            fresh = new_alike w v letters (mapped_front (λ p. p.0) Q letters _ made) h.fresh;
+          })
+          (left_alike t.touched (λ c. not (is_lost t.outcome.told) && t.written c) t.outcome.state after cells left g there),
+      refl,
+    )
 
 -- ---- all events
 
