@@ -29,9 +29,9 @@ facts_of t = got_fact t.got ∷ map note_fact t.notes
 
 -- where a record stands: in the loop of this name, in which turn, and how many stand before it in that turn
 abbrev pub anchor : Name → ℕ → ℕ → Data
-anchor x turn index =
-    object (member (codes "number") (number (unsigned index))
-    (member (codes "turn") (object (member (codes "loop") (string x) (member (codes "number") (number (unsigned turn)) no_members))) no_members))
+anchor x n i =
+    object (member (codes "number") (number (unsigned i))
+    (member (codes "turn") (object (member (codes "loop") (string x) (member (codes "number") (number (unsigned n)) no_members))) no_members))
 
 -- the classes of a record: its kind, and that it is an event
 abbrev pub class : List ℕ → Data

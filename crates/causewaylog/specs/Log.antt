@@ -9,15 +9,15 @@ use Rattle.causewaylog.specs.Facts.{Fact, facts_of, anchor, record_at}
 use Rattle.causewaylog.specs.Turns.{Turn, vat_called, turns_of}
 use Rattle.ids.specs.declared.names.VatNo.{VatNo}
 
--- facts of a turn as records, of which so many stand before them
+-- facts of the turn of a number as records, where so many stand before them
 abbrev pub records_from : Name → ℕ → ℕ → List Fact → List Data
-records_from x turn index [] = []
-records_from x turn index (f ∷ fs) = record_at (anchor x turn index) f ∷ records_from x turn (index + 1) fs
+records_from x n i [] = []
+records_from x n i (f ∷ fs) = record_at (anchor x n i) f ∷ records_from x n (i + 1) fs
 
 -- the records of turns, the first of which has this number
 abbrev pub records_of : Name → ℕ → List Turn → List Data
-records_of x turn [] = []
-records_of x turn (t ∷ ts) = records_from x turn 0 (facts_of t) ++ records_of x (turn + 1) ts
+records_of x n [] = []
+records_of x n (t ∷ ts) = records_from x n 0 (facts_of t) ++ records_of x (n + 1) ts
 
 -- the turns of the vat of a name, if there is one
 abbrev pub turns_called : Option VatNo → List Noted → List Turn

@@ -204,12 +204,12 @@ pub data Does : Event → World → Foot → Type 0 where
 
 -- the notes that it makes: those of a turn
 abbrev pub notes_of : {e : Event} {w : World} {f : Foot} → Does e w f → List Note
-notes_of (births vats free named) = []
-notes_of (asks named) = []
-notes_of (arrives there moved) = []
-notes_of (forwards there waiting is onward) = []
-notes_of (learns unresolved resolved leaves) = []
-notes_of (turns {t = t} possible leaves) = t.outcome.out.notes
+notes_of (births vats h i) = []
+notes_of (asks h) = []
+notes_of (arrives h i) = []
+notes_of (forwards h i j k) = []
+notes_of (learns h i j) = []
+notes_of (turns {t = t} h i) = t.outcome.out.notes
 
 -- an event is possible in a world, has this footprint there, and makes its notes
 abbrev pub DoesNoted : Rule

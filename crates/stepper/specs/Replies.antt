@@ -121,7 +121,7 @@ exchanged_text e f = codes "ok exchanged " ++ (event_text e ++ (codes " " ++ (ev
 
 -- a log, and the end of the line
 abbrev pub logged_text : List ℕ → List ℕ
-logged_text log = log ++ 10 ∷ []
+logged_text text = text ++ 10 ∷ []
 
 -- With a budget for each turn: something that may be done leads from a book to a reply, refused or not, and a book.
 -- Want of memory may refuse what needs it; the book then is as it was, but for a name that a turn may have drawn.
