@@ -52,7 +52,8 @@ fn records_of(
     for entry in entries {
         if let Some(message) = got_by(entry, vat) {
             turns += 1;
-            add_turn(alloc, &mut records, loop_name, turns, message, &entry.notes)?;
+            let notes = entry.notes.as_slice();
+            add_turn(alloc, &mut records, loop_name, turns, message, notes)?;
         }
     }
     Ok(records)
