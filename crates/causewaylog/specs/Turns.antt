@@ -1,5 +1,6 @@
 -- The live turns of a vat.
 use Rattle.std.specs.Prelude.{Bool, cond, List, [], ◌∷◌, map, filter, Option, Some, None}
+use Rattle.std.specs.Option.{option_or}
 use Rattle.std.specs.Str.{bytes_eq}
 use Rattle.ids.specs.declared.names.EventName.{EventName}
 use Rattle.ids.specs.declared.names.VatNo.{VatNo}
@@ -20,15 +21,10 @@ abbrev pub born_as : Name → EventName → Act → Option VatNo
 born_as x e (birth y earlier script) = cond (bytes_eq y x) (Some (record { 0 = e })) None
 born_as x e a = None
 
--- the first of two, if it is there, and otherwise the second
-abbrev pub or_later : Option VatNo → Option VatNo → Option VatNo
-or_later (Some v) later = Some v
-or_later None later = later
-
--- the vat of this name among events
+-- the vat of this name among events: the first that is born with it
 abbrev pub vat_called : Name → List Noted → Option VatNo
 vat_called x [] = None
-vat_called x (e ∷ es) = or_later (born_as x e.name e.act) (vat_called x es)
+vat_called x (e ∷ es) = option_or (born_as x e.name e.act) (vat_called x es)
 
 -- a turn: the message that it got, and what it noted then
 pub record Turn : Type 0 where
