@@ -6,8 +6,8 @@ ghost use Rattle.book.specs.BookView.{book_of};
 ghost use Rattle.serde_json.specs.View.{view};
 ghost use Rattle.causewaylog.specs.Facts.{facts_of};
 ghost use Rattle.causewaylog.specs.Live.{live_of};
-ghost use Rattle.causewaylog.specs.Log.{log_text, records_from, records_of};
-ghost use Rattle.causewaylog.specs.Turns.{live_in, turns_of};
+ghost use Rattle.causewaylog.specs.Log.{log_text, records_from, records_of, turns_called};
+ghost use Rattle.causewaylog.specs.Turns.{live_in, turns_of, vat_called};
 
 use crate::facts::{anchor, of_got, of_note};
 use crate::turns::{got_by, vat_called};
@@ -59,15 +59,25 @@ fn records_of(
     Ok(records)
 }
 
+/// The records of the live turns of the vat of this name: none where there is no such vat.
+fn records_called(
+    alloc: Global,
+    entries: &[Entry],
+    loop_name: &str,
+) -> Result<Vec<Value>, AllocError>
+    ensures { IfOk result (λ all. let es = live_of (map item_of entries.now) in map view all.items ≡ records_of loop_name.now 1 (turns_called (vat_called loop_name.now es) es)) }
+{
+    match vat_called(entries, loop_name) {
+        Some(vat) => records_of(alloc, entries, loop_name, vat),
+        None => Ok(Vec::new(alloc)),
+    }
+}
+
 /// The log of the live turns of the vat of this name, as a list of records in JSON: empty where there is no such vat. Fails only for
 /// want of memory.
 pub fn log_of(alloc: Global, book: &Book, loop_name: &str) -> Result<String, AllocError>
     ensures { IfOk result (λ text. string_bytes text ≡ log_text loop_name.now (live_in (book_of book.now).journal)) }
 {
-    let entries = book.journal();
-    let records = match vat_called(entries, loop_name) {
-        Some(vat) => records_of(alloc, entries, loop_name, vat)?,
-        None => Vec::new(alloc),
-    };
+    let records = records_called(alloc, book.journal(), loop_name)?;
     Value::from(records).to_string(alloc)
 }
