@@ -45,8 +45,8 @@ pub record SoFar (turns entries : ℕ) (made left all : List Data) : Type 0 wher
   pub records : made ++ left ≡ all
 
 -- so it is behind one more turn, whose records were added, and behind an entry that is none
-pub one_turn : {turns entries : ℕ} {made new from left all : List Data} → new ≡ made ++ from → SoFar turns entries made (from ++ left) all → SoFar (turns + 1) (entries + 1) new left all
-one_turn {made = made} {from = from} {left = left} is h = record { counted = omega (arith, h.counted); records = added_before made _ from left is ∙ h.records }
+pub one_turn : {turns entries : ℕ} (made new from left : List Data) {all : List Data} → new ≡ made ++ from → SoFar turns entries made (from ++ left) all → SoFar (turns + 1) (entries + 1) new left all
+one_turn made new from left is h = record { counted = omega (arith, h.counted); records = added_before made new from left is ∙ h.records }
 
 pub no_turn : {turns entries : ℕ} {made left all : List Data} → SoFar turns entries made left all → SoFar turns (entries + 1) made left all
 no_turn h = record { counted = omega (arith, h.counted); records = h.records }
