@@ -1,5 +1,5 @@
 -- The live turns of a vat, as they are found among entries.
-use Rattle.std.specs.Prelude.{Bool, true, false, cond, List, [], ◌∷◌, Option, None}
+use Rattle.std.specs.Prelude.{cond, List, [], ◌∷◌, Option, None}
 use Rattle.ids.specs.declared.names.VatNo.{VatNo}
 use Rattle.ids.specs.declared.names.MsgId.{MsgId}
 use Rattle.kernele.specs.Tree.{Name}

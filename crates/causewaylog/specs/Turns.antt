@@ -1,5 +1,5 @@
 -- The live turns of a vat.
-use Rattle.std.specs.Prelude.{Bool, cond, List, [], ◌∷◌, map, filter, Option, Some, None}
+use Rattle.std.specs.Prelude.{cond, List, [], ◌∷◌, map, filter, Option, Some, None}
 use Rattle.std.specs.Option.{option_or}
 use Rattle.std.specs.Str.{bytes_eq}
 use Rattle.ids.specs.declared.names.EventName.{EventName}

@@ -1,5 +1,5 @@
 // The log of a vat.
-ghost use Rattle.std.specs.Prelude.{◌≡◌, ◌+◌, ◌++◌, ◌<◌, ◌^◌, map, IfOk, OnOk, string_bytes};
+ghost use Rattle.std.specs.Prelude.{◌≡◌, ◌++◌, map, IfOk, OnOk, string_bytes};
 ghost use Rattle.erules.specs.OutboxView.{note_of};
 ghost use Rattle.journal.specs.Items.{item_of};
 ghost use Rattle.book.specs.BookView.{book_of};

@@ -24,7 +24,6 @@ use Rattle.sends.specs.Playing.{views_in}
 use Rattle.erules.specs.Laws.{AgreeOn, with_cells}
 use Rattle.post.specs.Delivery.{Call, Delivery, opening, asked, sent, waiting}
 use Rattle.post.specs.Messages.{Vat, Place, flying, done, waits_at, arrived, Message, Published}
-use Rattle.erules.specs.Outbox.{Note}
 use Rattle.worldcells.specs.Events.{Act, forward, learn, turn, Event, event_in, with_notes}
 use Rattle.worldcells.specs.World.{Content, message, World, vat_in, message_in, published_in, cell_content, lives_in, cell_key, published_as, vat_state}
 use Rattle.deliveries.specs.Touched.{delivery_touched, delivery_written}

@@ -1,4 +1,4 @@
-use Rattle.std.proofs.Common.{◌≡◌, ◌+◌, ◌≤◌, ◌++◌, drop, map}
+use Rattle.std.proofs.Common.{◌+◌, drop, map}
 use Rattle.journal.specs.Items.{item_of}
 use Rattle.serde_json.specs.View.{view}
 use Rattle.causewaylog.specs.Live.{live_of}
