@@ -13,7 +13,7 @@ use Rattle.book.proofs.Admitting.{learnt_happens}
 use Rattle.book.proofs.Entering.{stands_same, book_same}
 use Rattle.book.proofs.Noting.{noted_same}
 use Rattle.book.proofs.Within.{within_same}
-use Rattle.book.proofs.book.Book.learn_at.Goals as goal
+use Rattle.book.proofs.book.Book.learn_at_as.Goals as goal
 
 pub invariant_of-self : goal.invariant_of-self
 invariant_of-self c =
@@ -50,4 +50,4 @@ returns-clause-ok c =
     let learns : Learns (vat_state b.world v) p q c.in_ok-footprint.footprint = subst (λ (u : State). Learns u p q c.in_ok-footprint.footprint) c.in_ok-state.ensures.shared c.in_ok-footprint.ensures in
     let h = learnt_happens b.world v p e q c.in_ok-effects.effects c.in_ok-event.ensures.ok.can (c.in_ok-effects.ensures b.world q learns) in
     let enters = c.in_ok-enter.ensures.ok h.0 (subst (λ (k : Book). Happens (record { name = e; act = learn v p }) h.0 k.world c.in_ok-effects.effects) (sym same) h.1) in
-    (c.in_ok-event.ensures.ok.refusal, (h.0, subst (λ (k : Book). EntersNext (record { name = e; act = learn v p }) h.0 0 k (book_of c.enter.new.self)) same enters))
+    (c.in_ok-event.ensures.ok.refusal, (h.0, subst (λ (k : Book). EntersNext (record { name = e; act = learn v p }) h.0 c.args.seat k (book_of c.enter.new.self)) same enters))

@@ -8,7 +8,7 @@ use Rattle.event.specs.Events.{moved_foot}
 use Rattle.event.specs.Effects.{Brings, Happens}
 use Rattle.book.specs.BookView.{book_of}
 use Rattle.book.proofs.Admitting.{forward_does, room_for_forward}
-use Rattle.book.proofs.book.Book.forward.Goals as goal
+use Rattle.book.proofs.book.Book.forward_as.Goals as goal
 
 pub enter-requires-clause-possible : goal.enter-requires-clause-possible
 enter-requires-clause-possible c =

@@ -9,7 +9,7 @@ use Rattle.event.specs.Effects.{Brings, Happens}
 use Rattle.book.specs.Calls.{EntersNext, Numbers}
 use Rattle.book.specs.Refusals.{birth_refusal}
 use Rattle.book.proofs.Within.{room_for_birth}
-use Rattle.book.proofs.book.Book.birth.Goals as goal
+use Rattle.book.proofs.book.Book.birth_as.Goals as goal
 
 pub enter-requires-clause-possible : goal.enter-requires-clause-possible
 enter-requires-clause-possible c =
@@ -46,7 +46,7 @@ returns-clause-ok c =
       subst (λ (xs : List Name). birth_refusal b x xs p ≡ None) c.deref.ensures.value c.in_ok-event.ensures.ok.4,
       (
         n.vats,
-        subst (λ (y : Name). EntersNext (record { name = e; act = birth y names p }) f 0 b (book_of c.enter.new.self)) c.in_ok-share.ensures
+        subst (λ (y : Name). EntersNext (record { name = e; act = birth y names p }) f c.args.seat b (book_of c.enter.new.self)) c.in_ok-share.ensures
             (c.in_ok-enter.ensures.ok f (subst (λ (y : Name). Happens (record { name = e; act = birth y names p }) f w it) (sym c.in_ok-share.ensures) h)),
       ),
     )

@@ -8,7 +8,7 @@ use Rattle.book.specs.BookView.{book_of}
 use Rattle.event.specs.Effects.{Happens}
 use Rattle.book.specs.Calls.{EntersNext}
 use Rattle.book.proofs.Within.{room_for_ask}
-use Rattle.book.proofs.book.Book.ask.Goals as goal
+use Rattle.book.proofs.book.Book.ask_as.Goals as goal
 
 pub enter-requires-clause-possible : goal.enter-requires-clause-possible
 enter-requires-clause-possible c =
@@ -34,7 +34,7 @@ returns-clause-ok c =
       c.in_ok-event.ensures.ok.3,
       (
         c.in_ok-event.vat,
-        subst (λ (x : Name). EntersNext (record { name = e; act = ask x p }) f 0 (book_of c.args.self.now) (book_of c.enter.new.self)) c.in_ok-share.ensures
+        subst (λ (x : Name). EntersNext (record { name = e; act = ask x p }) f c.args.seat (book_of c.args.self.now) (book_of c.enter.new.self)) c.in_ok-share.ensures
             (c.in_ok-enter.ensures.ok f (subst (λ (x : Name). Happens (record { name = e; act = ask x p }) f w c.in_ok-effects.effects) (sym c.in_ok-share.ensures) h)),
       ),
     )

@@ -5,7 +5,7 @@ use Rattle.event.specs.Events.{moved_foot}
 use Rattle.event.specs.Effects.{Happens}
 use Rattle.book.specs.BookView.{book_of}
 use Rattle.book.proofs.Admitting.{arrival_does, room_for_arrival}
-use Rattle.book.proofs.book.Book.arrive.Goals as goal
+use Rattle.book.proofs.book.Book.arrive_as.Goals as goal
 
 pub enter-requires-clause-possible : goal.enter-requires-clause-possible
 enter-requires-clause-possible c =
