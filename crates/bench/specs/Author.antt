@@ -1,5 +1,5 @@
 -- What commands do, to a book and to the seat that they come through.
-use Rattle.std.specs.Prelude.{◌≡◌, ℕ, not, Option, Some, None}
+use Rattle.std.specs.Prelude.{◌≡◌, ℕ, false, not, Option, Some, None}
 use Rattle.ids.specs.declared.names.EventName.{EventName}
 use Rattle.ids.specs.declared.names.MsgId.{MsgId}
 use Rattle.ids.specs.declared.names.VatNo.{VatNo}
@@ -16,8 +16,9 @@ use Rattle.turn.specs.declared.ticket.Ran.{Ran}
 use Rattle.book.specs.Books.{Book}
 use Rattle.book.specs.Calls.{EntersNext, Lends, Undoes, Redoes, Exchanges}
 use Rattle.book.specs.Fault.{Tells}
-use Rattle.book.specs.Refusals.{birth_refusal, ask_refusal, arrival_refusal, forward_refusal, learn_refusal, undo_refusal, redo_refusal, exchange_refusal, refuse_where, no_ticket}
 use Rattle.book.specs.declared.fault.BookFault.{BookFault}
+use Rattle.book.specs.declared.fault.BookFault.TheVariants.{NoTicket}
+use Rattle.book.specs.Refusals.{Refusal, birth_refusal, ask_refusal, arrival_refusal, forward_refusal, learn_refusal, undo_refusal, redo_refusal, exchange_refusal, refuse_where, no_ticket}
 use Rattle.pact.specs.declared.Act as pact
 use Rattle.pact.specs.declared.Act.TheVariants.{Nothing, Opens, Closes}
 use Rattle.bench.specs.declared.command.Command.{Command}
@@ -48,22 +49,27 @@ Marks (command.Redo names) old now = Redoes names.items old now
 Marks (command.Exchange position) old now = Exchanges position old now
 Marks _ old now = ⊥
 
--- what a command does to a book, from a seat; it answers the name of a new event, where it enters one
-abbrev pub Obeys : Command → ℕ → Option EventName → Book → Book → Type 0
-Obeys c seat (Some e) old now = (act : Act) × IsEntered c old act × EntersAct e act seat old now
-Obeys c seat None old now = Marks c old now
+-- the first refusal of a command that holds, if one does
+abbrev pub command_refusal : Command → Book → Option Refusal
+command_refusal (command.Birth x earlier script) b = birth_refusal b x earlier.items (program_of script)
+command_refusal (command.Ask x program) b = ask_refusal b x (program_of program)
+command_refusal (command.Arrive m) b = arrival_refusal b m
+command_refusal (command.Forward m) b = forward_refusal b m
+command_refusal (command.Learn x p) b = learn_refusal b x p
+command_refusal (command.Abandon n) b = refuse_where (not (is_out n b.out)) no_ticket
+command_refusal (command.Undo names) b = undo_refusal b.journal names.items
+command_refusal (command.Redo names) b = redo_refusal b.journal names.items
+command_refusal (command.Exchange position) b = exchange_refusal b.journal position
 
--- a fault tells the first refusal of a command that holds, unless it is want of memory
-abbrev pub TellsCommand : Command → Book → BookFault → Type 0
-TellsCommand (command.Birth x earlier script) b fault = Tells fault (birth_refusal b x earlier.items (program_of script))
-TellsCommand (command.Ask x program) b fault = Tells fault (ask_refusal b x (program_of program))
-TellsCommand (command.Arrive m) b fault = Tells fault (arrival_refusal b m)
-TellsCommand (command.Forward m) b fault = Tells fault (forward_refusal b m)
-TellsCommand (command.Learn x p) b fault = Tells fault (learn_refusal b x p)
-TellsCommand (command.Abandon n) b fault = Tells fault (refuse_where (not (is_out n b.out)) no_ticket)
-TellsCommand (command.Undo names) b fault = Tells fault (undo_refusal b.journal names.items)
-TellsCommand (command.Redo names) b fault = Tells fault (redo_refusal b.journal names.items)
-TellsCommand (command.Exchange position) b fault = Tells fault (exchange_refusal b.journal position)
+-- a fault tells why a command is refused, unless it is want of memory, of which an abandoned ticket takes none
+abbrev pub Refuses : Command → Book → BookFault → Type 0
+Refuses (command.Abandon n) b fault = (fault ≡ NoTicket) × (is_out n b.out ≡ false)
+Refuses c b fault = Tells fault (command_refusal c b)
+
+-- what an accepted command does to a book, from a seat; it answers the name of a new event, where it enters one
+abbrev pub Obeys : Command → ℕ → Option EventName → Book → Book → Type 0
+Obeys c seat (Some e) old now = (command_refusal c old ≡ None) × ((act : Act) × IsEntered c old act × EntersAct e act seat old now)
+Obeys c seat None old now = (command_refusal c old ≡ None) × Marks c old now
 
 -- what a seat notes of a command that enters no event, or that is refused: an abandoned ticket is no longer open
 abbrev pub mark_of : Command → pact.Act

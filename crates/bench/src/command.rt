@@ -1,7 +1,7 @@
 // What authors ask for, and what that does to a book.
 ghost use Rattle.std.specs.Prelude.{◌≡◌, IfOk, IfErr, OnErr};
 ghost use Rattle.book.specs.BookView.{book_of};
-ghost use Rattle.bench.specs.Author.{Obeys, TellsCommand};
+ghost use Rattle.bench.specs.Author.{Obeys, Refuses};
 
 use book::book::Book;
 use book::fault::BookFault;
@@ -52,7 +52,7 @@ pub(crate) fn obey(
     seat: u64,
 ) -> Result<Option<EventName>, BookFault>
     ensures ok { IfOk result (λ o. Obeys command seat o (book_of book.old) (book_of book.new)) }
-    ensures err { IfErr result (λ fault. TellsCommand command (book_of book.old) fault) }
+    ensures err { IfErr result (λ fault. Refuses command (book_of book.old) fault) }
     ensures unchanged { OnErr result (book_of book.new ≡ book_of book.old) }
 {
     match command {

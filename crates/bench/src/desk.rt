@@ -9,11 +9,11 @@ ghost use Rattle.pact.specs.declared.Act.TheVariants.{Closes};
 ghost use Rattle.pact.specs.Agree.{blank, knower};
 ghost use Rattle.bench.specs.Entered.{entered_in, IsAmong};
 ghost use Rattle.bench.specs.Desk.{held, refused, Answers, AreBelow, Returns};
-ghost use Rattle.bench.specs.Author.{Obeys, Authored, TellsCommand, mark_of, turn_of, Picks, Picked};
+ghost use Rattle.bench.specs.Author.{Obeys, Authored, Refuses, mark_of, turn_of, Picks, Picked};
 
 use crate::command::{Command, obey};
 use crate::last::last_event;
-use crate::pick::{Pick, pick};
+use crate::pick::{Pick, pick_first};
 use crate::seat::{Opening, Seat};
 use book::book::Book;
 use book::fault::BookFault;
@@ -118,12 +118,11 @@ impl<L: Opening> Desk<L> {
     ) -> Result<Option<EventName>, BookFault>
         requires { cell.now.table.shared.table_id ≡ L.table }
         ensures ok { IfOk result (λ o. Obeys command seat.old.number o (book_of self.old.book) (book_of self.new.book) × Authored command seat.old o seat.new) }
-        ensures err { IfErr result (λ fault. TellsCommand command (book_of self.old.book) fault × (seat.new ≡ held seat.old (mark_of command)) × (book_of self.new.book ≡ book_of self.old.book)) }
+        ensures err { IfErr result (λ fault. Refuses command (book_of self.old.book) fault × (seat.new ≡ held seat.old (mark_of command)) × (book_of self.new.book ≡ book_of self.old.book)) }
     {
         let mark = command.mark();
-        let answer = obey(&mut self.book, command, seat.number());
-        match &answer {
-            Ok(Some(_)) => {
+        match obey(&mut self.book, command, seat.number()) {
+            Ok(Some(event)) => {
                 let entered = last_event(&self.book);
                 seat.note(
                     rt,
@@ -132,10 +131,17 @@ impl<L: Opening> Desk<L> {
                     &mut self.entries,
                     &Act::Enters(entered),
                 );
+                Ok(Some(event))
             }
-            Ok(None) | Err(_) => seat.mark(rt, cell, &mut self.keeper, &mark),
+            Ok(None) => {
+                seat.note(rt, cell, &mut self.keeper, &mut self.entries, &mark);
+                Ok(None)
+            }
+            Err(fault) => {
+                seat.note(rt, cell, &mut self.keeper, &mut self.entries, &mark);
+                Err(fault)
+            }
         }
-        answer
     }
 
     /// Picks the first that may be done, for a seat.
@@ -152,7 +158,7 @@ impl<L: Opening> Desk<L> {
         ensures ok { IfOk result (λ p. Picks self.old.budget seat.old.number p (book_of self.old.book) (book_of self.new.book) × Picked p seat.old seat.new) }
         ensures err { IfErr result (λ fault. (seat.new ≡ seat.old) × (book_of self.new.book ≡ book_of self.old.book)) }
     {
-        match pick(&mut self.book, self.budget, seat.number())? {
+        match pick_first(&mut self.book, self.budget, seat.number())? {
             Pick::Nothing => Ok(Pick::Nothing),
             Pick::Moved(event) => {
                 let moved = last_event(&self.book);
@@ -167,7 +173,13 @@ impl<L: Opening> Desk<L> {
             }
             Pick::Turn(ticket) => {
                 let number = ticket.out().event;
-                seat.mark(rt, cell, &mut self.keeper, &Act::Opens(number));
+                seat.note(
+                    rt,
+                    cell,
+                    &mut self.keeper,
+                    &mut self.entries,
+                    &Act::Opens(number),
+                );
                 Ok(Pick::Turn(ticket))
             }
         }
@@ -214,18 +226,18 @@ impl<L: Opening> Desk<L> {
     }
 
     /// A ticket is no longer out, nor open with the seat.
-    fn close_ticket<R: Wait>(
-        &mut self,
-        rt: &R,
-        cell: &Cell,
-        number: EventName,
-        seat: &mut Seat<L>,
-    )
+    fn close_ticket<R: Wait>(&mut self, rt: &R, cell: &Cell, number: EventName, seat: &mut Seat<L>)
         requires { cell.now.table.shared.table_id ≡ L.table }
         ensures { seat.new ≡ held seat.old (Closes number) }
     {
         let _ = self.book.abandon(number);
-        seat.mark(rt, cell, &mut self.keeper, &Act::Closes(number));
+        seat.note(
+            rt,
+            cell,
+            &mut self.keeper,
+            &mut self.entries,
+            &Act::Closes(number),
+        );
     }
 
     /// A seat comes back, whose list is just the entries with its number. Its part of the ledger joins the others.
@@ -235,7 +247,7 @@ impl<L: Opening> Desk<L> {
         ensures met { Answers seat.number seat.deeds (book_of self.old.book) }
         ensures share { (all.new.parts ≡ all.old.parts + 1) × (all.new.amount ≡ all.old.amount + length seat.deeds.events) }
     {
-        seat.show(rt, cell, &mut self.keeper);
+        seat.note(rt, cell, &mut self.keeper, &mut self.entries, &Act::Nothing);
         all.merge(seat.into_share());
     }
 

@@ -1,8 +1,8 @@
 // The event that a book entered last.
-ghost use Rattle.std.specs.Prelude.{◌≡◌, ℕ, ◌<◌, ◌+◌, length, Some, slice_get};
-ghost use Rattle.std.specs.Option.{option_map};
+ghost use Rattle.std.specs.Prelude.{◌≡◌, ◌<◌, List, [], ◌∷◌, ◌++◌, length};
 ghost use Rattle.worldcells.specs.EventView.{event_of};
 ghost use Rattle.book.specs.BookView.{book_of};
+ghost use Rattle.bench.specs.Entered.{Entered, entered_in};
 
 use book::book::Book;
 use std::snapshot::Snapshot;
@@ -11,7 +11,7 @@ use worldcells::event::Event;
 /// The event of the last entry, for proofs alone.
 pub(crate) fn last_event(book: &Book) -> Snapshot<Event>
     requires { 0 < length (book_of book.now).journal }
-    ensures { (n : ℕ) → length (book_of book.now).journal ≡ n + 1 → option_map (λ l. l.entry.event) (slice_get (book_of book.now).journal n) ≡ Some (event_of result.value) }
+    ensures { (before : List Entered) (e : Entered) → entered_in (book_of book.now).journal ≡ before ++ e ∷ [] → event_of result.value ≡ e.event }
 {
     let entries = book.journal();
     let last = &entries[entries.len() - 1];

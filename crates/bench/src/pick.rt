@@ -20,7 +20,7 @@ pub enum Pick {
 }
 
 /// Picks the first that may be done, for a seat. Fails for want of memory, or where the journal has no room or names are used up.
-pub(crate) fn pick(book: &mut Book, budget: u32, seat: u64) -> Result<Pick, BookFault>
+pub(crate) fn pick_first(book: &mut Book, budget: u32, seat: u64) -> Result<Pick, BookFault>
     ensures ok { IfOk result (λ p. Picks budget seat p (book_of book.old) (book_of book.new)) }
     ensures unchanged { OnErr result (book_of book.new ≡ book_of book.old) }
 {

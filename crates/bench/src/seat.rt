@@ -119,30 +119,7 @@ impl<L: Opening> Seat<L> {
         share
     }
 
-    /// Shows what it did, at its desk.
-    pub(crate) fn show<R: Wait>(&mut self, rt: &R, cell: &Cell, keeper: &mut Token)
-        requires cell { (cell.now.table.shared.table_id ≡ L.table) × (keeper.old.table_id ≡ L.table) }
-        requires view { IsKeeper (cell_view keeper.old) }
-        ensures agreed { (self.old.number ≡ L.before + 1 + self.old.place) × (slice_get (cell_view keeper.old).all self.old.place ≡ Some self.old.deeds) }
-        ensures keeper { (keeper.new.table_id ≡ L.table) × (cell_view keeper.new ≡ knower (slice_set (cell_view keeper.old).all self.old.place self.old.deeds)) }
-        ensures seat { self.new ≡ self.old }
-    {
-        note(rt, cell, keeper, &mut self.token, &Act::Nothing);
-    }
-
-    /// Notes an act that enters no event, at its desk.
-    pub(crate) fn mark<R: Wait>(&mut self, rt: &R, cell: &Cell, keeper: &mut Token, act: &Act)
-        requires cell { (cell.now.table.shared.table_id ≡ L.table) × (keeper.old.table_id ≡ L.table) }
-        requires view { IsKeeper (cell_view keeper.old) }
-        requires act { entered_by act.now ≡ 0 }
-        ensures agreed { (self.old.number ≡ L.before + 1 + self.old.place) × (slice_get (cell_view keeper.old).all self.old.place ≡ Some self.old.deeds) }
-        ensures keeper { (keeper.new.table_id ≡ L.table) × (cell_view keeper.new ≡ knower (slice_set (cell_view keeper.old).all self.old.place (after act.now self.old.deeds))) }
-        ensures seat { self.new ≡ held self.old act.now }
-    {
-        note(rt, cell, keeper, &mut self.token, act);
-    }
-
-    /// Notes an act, at its desk. It finds fewer events on its list than would not be counted.
+    /// Notes an act, at its desk. Seat and desk agreed on what the seat did before, so its list is no longer than a journal may be.
     pub(crate) fn note<R: Wait>(
         &mut self,
         rt: &R,
@@ -161,17 +138,12 @@ impl<L: Opening> Seat<L> {
         ensures total { entries.new.total ≡ entries.old.total + entered_by act.now }
     {
         note(rt, cell, keeper, &mut self.token, act);
-        match act {
-            Act::Enters(_) => {
-                entries.add(&mut self.share, 1);
-                self.tally += 1;
-            }
-            Act::Gives(_) => {
-                entries.add(&mut self.share, 1);
-                self.tally += 1;
-                self.turns += 1;
-            }
-            Act::Nothing | Act::Opens(_) | Act::Closes(_) => {}
+        if let Act::Enters(_) | Act::Gives(_) = act {
+            entries.add(&mut self.share, 1);
+            self.tally += 1;
+        }
+        if let Act::Gives(_) = act {
+            self.turns += 1;
         }
     }
 }

@@ -73,7 +73,7 @@ enum Next<L: Opening> {
 
 /// The ends of a worker's channels: its way to the committer, and the committer's way back to it.
 #[derive(Drop)]
-struct Ends<L: Opening> {
+struct Channels<L: Opening> {
     to: Sender<Busy<L>>,
     back: Sender<Free<L>>,
     mine: Receiver<Free<L>>,
@@ -316,10 +316,10 @@ impl<L: Opening + Send + Sync> Bench<L> {
 }
 
 /// The channels of one more worker; none where there is no memory for them.
-fn ends_of<L: Opening>(alloc: Global, to: &Sender<Busy<L>>) -> Option<Ends<L>> {
+fn channels_of<L: Opening>(alloc: Global, to: &Sender<Busy<L>>) -> Option<Channels<L>> {
     let (back, mine) = bounded::<Free<L>, Global>(alloc, 1).ok()?;
     let to = to.clone().ok()?;
-    Some(Ends { to, back, mine })
+    Some(Channels { to, back, mine })
 }
 
 /// Starts workers and gives what they send until they are gone. None where no worker could be started.
@@ -340,7 +340,7 @@ fn run_all<L: Opening + Send + Sync, G: Gate + Sync, R: Threads + Wait + Sync>(
     thread::scope(thread::scope_env(), rt, move |scope| -> Option<Pile<L>> {
         let mut pile = pile;
         for _ in 0..workers {
-            let Some(Ends { to, back, mine }) = ends_of(alloc, &to) else {
+            let Some(Channels { to, back, mine }) = channels_of(alloc, &to) else {
                 continue;
             };
             let worker = backs.len();

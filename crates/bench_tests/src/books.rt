@@ -130,13 +130,7 @@ pub(crate) fn passed_on(rt: &(impl Abort + AllocGlobal)) -> Book {
     turn(rt, &mut book, message(3), 4);
     birth(rt, &mut book, "alice", &["carol", "bob"], "", 5);
     turn(rt, &mut book, message(5), 6);
-    ask(
-        rt,
-        &mut book,
-        "alice",
-        "carol <- x(); bob <- y(carol)",
-        7,
-    );
+    ask(rt, &mut book, "alice", "carol <- x(); bob <- y(carol)", 7);
     turn(rt, &mut book, message(7), 8);
     arrive(rt, &mut book, message_of(8, 1), 9);
     turn(rt, &mut book, message_of(8, 1), 10);

@@ -143,11 +143,7 @@ fn events(rt: &(impl Abort + AllocGlobal), event: u64) -> Vec<EventName> {
 }
 
 /// The seats that are handed in at the end.
-fn both<L: Opening>(
-    rt: &(impl Abort + AllocGlobal),
-    one: Seat<L>,
-    two: Seat<L>,
-) -> Vec<Seat<L>> {
+fn both<L: Opening>(rt: &(impl Abort + AllocGlobal), one: Seat<L>, two: Seat<L>) -> Vec<Seat<L>> {
     let mut seats = Vec::new(rt.alloc());
     seats.push(one).expect(rt, "no memory");
     seats.push(two).expect(rt, "no memory");
@@ -178,10 +174,12 @@ fn strange_tickets<L: Opening, R: Wait + Abort + AllocGlobal>(
     // Abandoned, by another seat.
     let ran = run(rt, checkout(rt, &bench, &mut two, 8));
     author(rt, &bench, Command::Abandon(EventName(8)), &mut one, None);
-    assert!(rt; matches!(
-        bench.author(rt, Command::Abandon(EventName(8)), &mut one),
-        Err(BookFault::NoTicket)
-    ));
+    assert!(rt;
+        matches!(
+            bench.author(rt, Command::Abandon(EventName(8)), &mut one),
+            Err(BookFault::NoTicket)
+        )
+    );
     refuse_strange(rt, &bench, ran, &mut two).discard();
     let ran = run(rt, checkout(rt, &bench, &mut two, 9));
     give(rt, &bench, ran, &mut two, 9);
@@ -223,22 +221,58 @@ fn moving_world<L: Opening, R: Wait + Abort + AllocGlobal>(
         index: 0,
         home: VatNo(EventName(1)),
     };
-    author(rt, &bench, Command::Learn(name(rt, "alice"), opening), &mut author_seat, Some(17));
+    author(
+        rt,
+        &bench,
+        Command::Learn(name(rt, "alice"), opening),
+        &mut author_seat,
+        Some(17),
+    );
     give(rt, &bench, run(rt, ticket), &mut worker, 16);
     // An event of other vats is undone.
     author(rt, &bench, ask_alice(rt), &mut author_seat, Some(18));
     let ticket = checkout(rt, &bench, &mut worker, 19);
-    author(rt, &bench, Command::Undo(events(rt, 14)), &mut author_seat, None);
+    author(
+        rt,
+        &bench,
+        Command::Undo(events(rt, 14)),
+        &mut author_seat,
+        None,
+    );
     give(rt, &bench, run(rt, ticket), &mut worker, 19);
-    author(rt, &bench, Command::Redo(events(rt, 14)), &mut author_seat, None);
+    author(
+        rt,
+        &bench,
+        Command::Redo(events(rt, 14)),
+        &mut author_seat,
+        None,
+    );
     // The question itself is undone, and the ticket is stale; given again it is strange, also when the question is there again.
     author(rt, &bench, ask_alice(rt), &mut author_seat, Some(20));
     let ticket = checkout(rt, &bench, &mut worker, 21);
-    author(rt, &bench, Command::Undo(events(rt, 20)), &mut author_seat, None);
+    author(
+        rt,
+        &bench,
+        Command::Undo(events(rt, 20)),
+        &mut author_seat,
+        None,
+    );
     let ran = refuse_stale(rt, &bench, run(rt, ticket), &mut worker);
-    author(rt, &bench, Command::Redo(events(rt, 20)), &mut author_seat, None);
+    author(
+        rt,
+        &bench,
+        Command::Redo(events(rt, 20)),
+        &mut author_seat,
+        None,
+    );
     refuse_strange(rt, &bench, ran, &mut worker).discard();
-    give(rt, &bench, run(rt, checkout(rt, &bench, &mut worker, 22)), &mut worker, 22);
+    give(
+        rt,
+        &bench,
+        run(rt, checkout(rt, &bench, &mut worker, 22)),
+        &mut worker,
+        22,
+    );
     assert!(rt; worker.tally() == 3 && worker.turns() == 3);
     assert!(rt; author_seat.tally() == 4 && author_seat.turns() == 0);
     let (book, whole) = bench.close(rt, both(rt, worker, author_seat));

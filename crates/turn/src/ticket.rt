@@ -196,8 +196,9 @@ impl Ticket<Ran> {
     pub fn seal(self) -> Returned
         ensures { result ≡ self }
     {
-        let Ticket { stage: ran } = self;
-        Returned { ran }
+        Returned {
+            ran: self.into_parts(),
+        }
     }
 }
 
