@@ -311,3 +311,6 @@ counted_more t u b e old now h more grows = let l = grows.more in omega (arith, 
 
 pub counted_same : (t u b : ℕ) (old now : Book) → t + b ≡ length old.journal → u ≡ t → Rests old now → u + b ≡ length now.journal
 counted_same t u b old now h same rests = let l = rests.same_length in omega (arith, h, same, l)
+
+pub counted_none : (t : ℕ) (began : List Entered) (b : Book) → t ≡ 0 → entered_in b.journal ≡ began → t + length began ≡ length b.journal
+counted_none t began b none is = let a = ap length is in let l = length-map b.journal entry in omega (arith, none, a, l)

@@ -1,5 +1,5 @@
 -- What the calls of a book leave of its entries, as seats see them.
-use Rattle.std.proofs.Common.{◌≡◌, ℕ, zero, suc, ◌+◌, ◌-◌, ◌<◌, cond, List, [], ◌∷◌, ◌++◌, length, map, filter, get_or, Some, None, Option, Bool, true, false, refl, sym, ap, ◌∙◌, subst, arith, length-append, ◌==◌, IsPermutation}
+use Rattle.std.proofs.Common.{◌≡◌, ℕ, zero, suc, ◌+◌, ◌-◌, ◌<◌, ◌≤◌, cond, List, [], ◌∷◌, ◌++◌, length, map, filter, get_or, Some, None, Option, Bool, true, false, refl, sym, ap, ◌∙◌, subst, arith, length-append, ◌==◌, IsPermutation}
 use Rattle.std.specs.Prelude.{slice_get, option_map}
 use Rattle.std.proofs.lemmas.List.{map-append, length-map}
 use Rattle.std.proofs.lemmas.List.Sorted.{IsPermutation-refl, IsPermutation-cons, IsPermutation-middle}
@@ -16,7 +16,10 @@ use Rattle.journal.specs.declared.entry.Entry as code
 use Rattle.desk.specs.Desks.{Lent, without, is_out}
 use Rattle.turn.specs.declared.ticket.Ran.{Ran}
 use Rattle.turn.specs.declared.ticket.Out.{Out}
+use Rattle.undo.specs.CoreView.{items_of}
 use Rattle.book.specs.Books.{Book}
+use Rattle.book.specs.BookView.{book_of}
+use Rattle.book.specs.declared.book.Book as code-book
 use Rattle.book.specs.Calls.{Enters, EntersNext, Commits, Lends, Undoes, Redoes, Exchanges, undone, redone}
 use Rattle.book.specs.Refusals.{exchange_refusal}
 use Rattle.book.specs.declared.fault.BookFault.{BookFault}
@@ -193,3 +196,7 @@ last_entered es k x lines before e same at long is =
     let place : length before ≡ k = omega (arith, a, b, c, d, l, m, long) in
     let last : slice_get (entered_in lines) k ≡ Some e = ap (λ xs. slice_get xs k) is ∙ ap (λ j. slice_get (before ++ e ∷ []) j) (sym place) ∙ at_last before e in
     ap (λ o. (from_some o e).event) (sym found ∙ last)
+
+-- ---- a journal is no longer than it may be
+pub journal_within : (b : code-book.Book) → length (book_of b).journal ≤ 1048576
+journal_within b = let h = b.within in let l = length-map (items_of b.core) (line_of (items_of b.core)) in omega (arith, h, l)

@@ -21,8 +21,8 @@ use std::thread;
 use std::thread::{Builder, Threads};
 use turn::ticket::{Out, Ran, Returned, Ticket};
 
-/// The bytes of a worker's stack: an evaluation may nest a thousand levels deep, and each level as deep as a tree may be.
-pub const STACK: usize = 256 << 20;
+/// The bytes of a worker's stack, on which turns of a thousand levels are to fit, each as deep as a tree may be.
+pub const STACK: usize = 64 << 20;
 
 /// Called outside of the lock, round the run of each turn, with the turn's message.
 pub trait Gate {

@@ -94,6 +94,7 @@ const NAMES: [&str; 4] = ["a", "b", "c", "d"];
 
 /// As many vats as this, at most four, which have run their empty scripts, with one question of `1` to each. The questions are the last events.
 pub(crate) fn asked(rt: &(impl Abort + AllocGlobal), vats: u64) -> Book {
+    assert!(rt; vats <= 4);
     let mut book = Book::new(rt.alloc());
     for (place, vat) in (1..=vats).zip(NAMES) {
         birth(rt, &mut book, vat, &[], "", place);

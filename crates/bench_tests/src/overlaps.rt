@@ -59,6 +59,7 @@ impl<R: Clock> Gate for Reverse<'_, R> {
 
 /// The last entries are live turns of the questions, the last question's first.
 fn expect_reversed(rt: &impl Abort, book: &Book, vats: usize) {
+    assert!(rt; vats <= 4);
     let entries = book.journal();
     assert!(rt; entries.len() == 4 * vats);
     let mut question = 3 * vats as u64;
@@ -84,6 +85,7 @@ fn overlap<L: Opening + Send + Sync, R: Threads + Wait + Clock + Abort + AllocGl
     requires ledger { (blank.name ≡ L.name) × (blank.parts ≡ L.parts) × (L.parts ≡ L.seats) × (parts ≡ L.seats) }
     requires book { (begun.table ≡ L.table) × (entered_in (book_of begun.book).journal ≡ L.began) × (begun.before ≡ L.before) }
 {
+    assert!(rt; vats <= 4);
     let all = [
         AtomicBool::new(false),
         AtomicBool::new(false),
