@@ -11,7 +11,7 @@ TESTED = ROOT / "crates/vat_tests/src/examples.rt"
 def transcripts():
     """The transcripts of the tests, by the names of their examples."""
     text = TESTED.read_text()
-    found = re.findall(r'^const ([A-Z_]+): &str = r#"(.*?)"#;$', text, re.M | re.S)
+    found = re.findall(r'^const ([A-Z_]+): &str =\s+r#"(.*?)"#;$', text, re.M | re.S)
     return {name.lower(): body.split("\n") for name, body in found}
 
 

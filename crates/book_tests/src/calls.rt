@@ -1,8 +1,8 @@
 // Calls of a book that are not refused, and what is there behind them.
 
 use book::book::Book;
-use ereader::read;
 use deliveries::outcome::Ended;
+use ereader::read;
 use ids::names::{EventName, MsgId};
 use ids::text::Text;
 use journal::entry::Mark;

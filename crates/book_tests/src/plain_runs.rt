@@ -2,13 +2,13 @@
 
 use crate::calls::{BUDGET, message, name, program};
 use ids::names::{EventName, PromId, VatNo};
-use worldcells::event::{Action, Event};
-use worldcells::world::World;
 use post::published::Published;
 use std::process::Abort;
 use values::value::Value;
 use world::run::plain_run;
 use world::step::StepFault;
+use worldcells::event::{Action, Event};
+use worldcells::world::World;
 
 fn event(name: u64, action: Action) -> Event {
     Event {
@@ -34,17 +34,23 @@ fn answer(world: &World, asked: u64) -> Option<i64> {
         home: VatNo(EventName(1)),
     };
     match world.published(promise) {
-        Some(Published {
-            value: Value::Int(found),
-            ..
-        }) => Some(*found),
+        Some(
+            Published {
+                value: Value::Int(found),
+                ..
+            },
+        ) => Some(*found),
         _ => None,
     }
 }
 
 /// A birth and its turn, and a question and its turn at the vat that this event bore, in order.
 fn events(rt: &(impl Abort + AllocGlobal), born: u64) -> Vec<Event> {
-    let birth = Action::Birth(name(rt, "a"), Vec::new(rt.alloc()), program(rt, "var n := 20"));
+    let birth = Action::Birth(
+        name(rt, "a"),
+        Vec::new(rt.alloc()),
+        program(rt, "var n := 20"),
+    );
     let ask = Action::Ask(name(rt, "a"), program(rt, "n := n + 1"));
     vec![in rt.alloc();
         event(1, birth),

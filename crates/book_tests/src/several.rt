@@ -110,7 +110,9 @@ fn refused_moves(rt: HostRuntime) {
         index: 1,
     };
     assert!(rt; matches!(book.arrive(unknown), Err(BookFault::NoMessage(name)) if name == unknown));
-    assert!(rt; matches!(book.forward(unknown), Err(BookFault::NoMessage(name)) if name == unknown));
+    assert!(rt;
+        matches!(book.forward(unknown), Err(BookFault::NoMessage(name)) if name == unknown)
+    );
     assert!(rt; matches!(book.forward(message(6)), Err(BookFault::NotThere)));
     expect_entered(&rt, book.arrive(message(6)), 7);
     assert!(rt; matches!(book.arrive(message(6)), Err(BookFault::NotThere)));
@@ -123,7 +125,14 @@ fn a_message_goes_on(rt: HostRuntime) {
     let mut book = Book::new(rt.alloc());
     birth_behind(&rt, &mut book, "c", &[], "def _ { method six() { 6 } }", 1);
     turn(&rt, &mut book, 1, 2);
-    birth_behind(&rt, &mut book, "b", &["c"], "def _ { method it() { c } }", 3);
+    birth_behind(
+        &rt,
+        &mut book,
+        "b",
+        &["c"],
+        "def _ { method it() { c } }",
+        3,
+    );
     turn(&rt, &mut book, 3, 4);
     birth_behind(&rt, &mut book, "a", &["b"], "", 5);
     turn(&rt, &mut book, 5, 6);

@@ -8,10 +8,10 @@ ghost use Rattle.journal.specs.Items.{item_of, lasts_of, wrote_one_of, may_excha
 
 use ids::cells::CellKey;
 use ids::names::EventName;
+use std::alloc::{AllocError, Global};
 use worldcells::event::Event;
 use worldcells::record::CellRecord;
 use worldcells::world::World;
-use std::alloc::{AllocError, Global};
 
 /// Whether an event counts: an undone one is as if it had never been.
 #[derive(Clone, Copy, PartialEq, Eq)]

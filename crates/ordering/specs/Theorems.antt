@@ -64,7 +64,7 @@ JournalsKeepOrder = (next : ℕ) (rows : List (Row events)) (state : State event
 
 -- these events ran from nothing to this world, the newest first, and whatever deeds they ran by, their turns keep the order of messages
 pub record InOrder (es : List Event) (w : World) : Type 0 where
-  pub ran : ∥ (ps : List (Event × Deed)) × RanFromNothing es w ps ∥₁
+  pub ran : ∥ ((ps : List (Event × Deed)) × RanFromNothing es w ps) ∥₁
   pub kept : (ps : List (Event × Deed)) → RanFromNothing es w ps → KeepOrder ps
 
 -- each run of events with names of their own from the empty world is in order

@@ -6,9 +6,9 @@ ghost use Rattle.worldcells.specs.View.{seen_of_world, is_ready};
 ghost use Rattle.worldcells.specs.Theory.{cells, state_of_world, kept_of, kepts_of, all_pass};
 
 use cells::swaps::Swaps;
+use std::alloc::{AllocError, Global};
 use worldcells::record::CellRecord;
 use worldcells::world::World;
-use std::alloc::{AllocError, Global};
 
 /// Makes room for the cells of these records, and makes the states of their vats their own. What is seen stays. Fails only for
 /// want of memory.

@@ -17,11 +17,11 @@ use heap::state::VatState;
 use ids::cells::CellKey;
 use ids::names::VatNo;
 use journal::entry::{Entry, Mark, may_exchange, with_writers};
+use std::alloc::{AllocError, Global};
+use std::sync::Arc;
 use worldcells::event::Event;
 use worldcells::record::CellRecord;
 use worldcells::world::World;
-use std::alloc::{AllocError, Global};
-use std::sync::Arc;
 
 /// An event and its seat, before it has an entry.
 #[derive(Drop)]

@@ -2,7 +2,8 @@
 
 use crate::tables::expect_sessions;
 
-const MINT: &str = r#"> # A mint, whose purses hold money of its own. A purse takes money only from a purse of the same mint, and only what that
+const MINT: &str =
+    r#"> # A mint, whose purses hold money of its own. A purse takes money only from a purse of the same mint, and only what that
 > # has: it asks the other one to open, and what opens is known in the mint alone. It waits until the other one is known.
 > vat bank () 26
 > def mint(start) {
@@ -110,7 +111,8 @@ ok e53 value 18
 ok e54
 idle"#;
 
-const CARETAKER: &str = r#"> # A caretaker: Alice lends Bob what she has of Carol, and takes it back.
+const CARETAKER: &str =
+    r#"> # A caretaker: Alice lends Bob what she has of Carol, and takes it back.
 > vat carol () 1
 > def carol { to greet(name) { return "hello, " + name } }
 ok e1 e1.m0
@@ -190,7 +192,8 @@ idle
 23 e23 live turn e21.m0 causes e5 e10 e11 e12 e19 e21 e22
 24 e24 live learn bob e21.p0 causes e21 e23"#;
 
-const HANDOVER: &str = r#"> # A pipelined hand-over among three vats. Alice has Bob make something and tells Carol about it before it is there. What she
+const HANDOVER: &str =
+    r#"> # A pipelined hand-over among three vats. Alice has Bob make something and tells Carol about it before it is there. What she
 > # sent on it first is done first, though Carol's message comes by another way.
 > vat bob () 4
 > def maker {
@@ -273,7 +276,8 @@ idle
 21 e21 live learn alice e6.p2 causes e6 e8
 22 e22 live learn alice e8.p0 causes e14 e21"#;
 
-const RING: &str = r#"> # A ring: each of two promises is resolved to the other one. Neither is ever known, and what waits for them waits for ever;
+const RING: &str =
+    r#"> # A ring: each of two promises is resolved to the other one. Neither is ever known, and what waits for them waits for ever;
 > # nothing else does.
 > vat a () 2
 > def [p, resolver] := Ref.promise()

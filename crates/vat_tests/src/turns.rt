@@ -259,6 +259,18 @@ while (true) { } => turn budget spent
 z; def z := 1 => !undefined noun z
 "#;
 
+const REFERENCES: &str = r#"
+"abc" <- size() => <e4.p0>
+Ref.promise() => [<e4.p0>, <e4.o0>]
+def [p, r] := Ref.promise(); p + 1 => !not near
+def [p, r] := Ref.promise(); r.resolve(7); p + 1 => 8
+def [p, r] := Ref.promise(); r.resolve(1); r.resolve(2) => !already resolved
+def [p, r] := Ref.promise(); p == p => !not settled
+def [p, r] := Ref.promise(); [Ref.state(p), Ref.state(1), Ref.state(Ref.broken("x"))] => ["promise", "near", "broken"]
+Ref.broken("x") + 1 => !x
+when (1) -> { 2 } => <e4.p0>
+"#;
+
 /// The longest text, the longest list and the deepest list, and one more of each.
 const LIMITS: &str = r#"
 t.size() => 65535
@@ -291,6 +303,7 @@ const TURNS: &[(&str, &str)] = &[
         "var n := 0; def counter { to next() { n := n + 1; return n } to both(a, b) { return [a, b] } }",
         OBJECTS,
     ),
+    ("", REFERENCES),
     ("def x := 1; while (true) { }", "x => !undefined noun x"),
     (
         "def x := 1; def y := [x, 2]; throw(\"no\")",
