@@ -16,16 +16,16 @@ pub trait Opening: Ledger {
     ghost use Rattle.atomic_table.specs.Seated.{TableId};
     ghost use Rattle.bench.specs.Entered.{Entered};
 
-    /// The name of its cell.
+    // The name of its cell.
     ghost table: { TableId };
 
-    /// What was entered before, and from which seats.
+    // What was entered before, and from which seats.
     ghost began: { List Entered };
 
-    /// The greatest seat of an entry or of a ticket that was out.
+    // The greatest seat of an entry or of a ticket that was out.
     ghost before: { ℕ };
 
-    /// How many seats there can be: the ledger's parts.
+    // How many seats there can be: the parts of the ledger.
     ghost seats: { ℕ };
 }
 
