@@ -1,5 +1,6 @@
 -- What lies under the lock, and how the lists of the seats stand to it.
-use Rattle.std.specs.Prelude.{◌≡◌, ℕ, ◌+◌, ◌==◌, ◌<◌, Bool, true, false, List, [], ◌∷◌, ◌++◌, map, length, slice_index_or, All, IsPermutation}
+use Rattle.std.specs.Prelude.{◌≡◌, ℕ, ◌+◌, ◌==◌, ◌<◌, Bool, true, false, List, [], ◌∷◌, ◌++◌, map, length, slice_index_or, All, IsPermutation, refl}
+use Rattle.std.specs.Coded.{Coded, code_by, coded×, coded_ℕ}
 use Rattle.std.specs.List.{AllByRecursion, list_any}
 use Rattle.atomic_table.specs.Seated.{TableId}
 use Rattle.ids.specs.declared.names.EventName.{EventName}
@@ -11,6 +12,7 @@ use Rattle.book.specs.Books.{Book}
 use Rattle.book.specs.declared.fault.BookFault.{BookFault}
 use Rattle.book.specs.declared.fault.BookFault.TheVariants as fault
 use Rattle.pact.specs.declared.View.{View}
+use Rattle.pact.specs.contracts.Deeds as deeds
 use Rattle.pact.specs.declared.Deeds.{Deeds}
 use Rattle.pact.specs.declared.Act.{Act}
 use Rattle.pact.specs.declared.Act.TheVariants.{Nothing, Enters, Gives, Opens, Closes}
@@ -22,6 +24,10 @@ pub record Held : Type 0 where
   pub number : ℕ
   pub place : ℕ
   pub deeds : Deeds
+
+-- which is stored as the pairs of its fields
+abbrev pub held_code : Coded Held
+held_code = code_by (ℕ × (ℕ × Deeds)) (coded× coded_ℕ (coded× coded_ℕ deeds.the_row.coded)) (λ h. (h.number, (h.place, h.deeds))) (λ p. record { number = p.0; place = p.1.0; deeds = p.1.1 }) (λ _. refl)
 
 -- the events of deeds
 abbrev pub events_of : Deeds → List Event

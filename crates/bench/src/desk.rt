@@ -49,9 +49,11 @@ impl<L: Opening> Model for Desk<L> {
     ghost use Rattle.crossbeam_utils.specs.Seq.{cell_view};
     ghost use Rattle.book.specs.BookView.{book_of};
     ghost use Rattle.bench.specs.Desk.{IsDesk};
-    ghost use Rattle.bench.specs.DeskView.{Desked};
+    ghost use Rattle.bench.specs.DeskView.{Desked, desked_code};
 
     ghost Value = { Desked };
+
+    ghost coded = { desked_code };
 
     ghost view = { λ d. record { book = d.book; budget = d.budget; made = d.made } };
 

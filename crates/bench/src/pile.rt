@@ -18,9 +18,12 @@ pub struct Pile<L: Opening> {
 impl<L: Opening> Model for Pile<L> {
     ghost use Rattle.std.specs.Prelude.{◌≡◌, List, [], All, sum_by};
     ghost use Rattle.bench.specs.Entered.{turns_in};
-    ghost use Rattle.bench.specs.Desk.{Held, events_of};
+    ghost use Rattle.std.specs.Coded.{coded_list};
+    ghost use Rattle.bench.specs.Desk.{Held, held_code, events_of};
 
     ghost Value = { List Held };
+
+    ghost coded = { coded_list held_code };
 
     ghost view = { λ p. p.seats.items };
 

@@ -1,5 +1,5 @@
 //! A seat, which one thread holds.
-ghost use Rattle.std.specs.Prelude.{◌≡◌, ◌+◌, ◌^◌, ◌<◌, Some, length, slice_get, slice_set};
+ghost use Rattle.std.specs.Prelude.{◌≡◌, [], ◌+◌, ◌^◌, ◌<◌, Some, length, slice_get, slice_set};
 ghost use Rattle.crossbeam_utils.specs.Seq.{cell_view};
 ghost use Rattle.pact.specs.Agree.{blank, holder, knower, after, entered_by, IsKeeper};
 ghost use Rattle.bench.specs.Desk.{IsFit, events_of, held};
@@ -57,9 +57,11 @@ pub struct Seat<L: Opening> {
 impl<L: Opening> Model for Seat<L> {
     ghost use Rattle.std.specs.Prelude.{◌≡◌, ◌+◌, []};
     ghost use Rattle.crossbeam_utils.specs.Seq.{cell_view};
-    ghost use Rattle.bench.specs.Desk.{Held, IsSeat};
+    ghost use Rattle.bench.specs.Desk.{Held, held_code, IsSeat};
 
     ghost Value = { Held };
+
+    ghost coded = { held_code };
 
     ghost view = { λ s. record { number = s.number; place = (cell_view s.token).place; deeds = (cell_view s.token).deeds } };
 

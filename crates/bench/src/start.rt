@@ -27,9 +27,11 @@ impl Model for Begun {
     ghost use Rattle.book.specs.BookView.{book_of};
     ghost use Rattle.pact.specs.Agree.{knower};
     ghost use Rattle.bench.specs.Desk.{AreBelow};
-    ghost use Rattle.bench.specs.DeskView.{Start};
+    ghost use Rattle.bench.specs.DeskView.{Start, start_code};
 
     ghost Value = { Start };
+
+    ghost coded = { start_code };
 
     ghost view = { λ o. record { table = o.cell.table.shared.table_id; book = o.book; before = o.before } };
 

@@ -169,7 +169,12 @@ pub struct Returned {
 }
 
 impl Model for Returned {
+    ghost use Rattle.turn.specs.declared.ticket.Ran.{Ran};
+    ghost use Rattle.turn.specs.contracts.ticket.Ran as ran_row;
+
     ghost Value = { Ran };
+
+    ghost coded = { ran_row.the_row.coded };
 
     ghost view = { λ r. r.ran };
 }
