@@ -11,7 +11,9 @@ pub(crate) fn greatest_seat(entries: &[Entry]) -> u64
 {
     let mut greatest = 0;
     for entry in entries {
-        greatest = greatest.max(entry.seat);
+        if entry.seat > greatest {
+            greatest = entry.seat;
+        }
     }
     greatest
 }

@@ -56,7 +56,9 @@ impl Desk {
     {
         let mut greatest = 0;
         for lent in &self.out {
-            greatest = greatest.max(lent.seat);
+            if lent.seat > greatest {
+                greatest = lent.seat;
+            }
         }
         greatest
     }
