@@ -1,6 +1,6 @@
 -- What the calls of a book leave of its entries, as seats see them.
 use Rattle.std.proofs.Common.{◌≡◌, ℕ, zero, suc, ◌+◌, ◌-◌, ◌<◌, ◌≤◌, cond, List, [], ◌∷◌, ◌++◌, length, map, filter, get_or, Some, None, Option, Bool, true, false, refl, sym, ap, ◌∙◌, subst, arith, length-append, ◌==◌, IsPermutation}
-use Rattle.std.specs.Prelude.{slice_get, option_map}
+use Rattle.std.specs.Prelude.{slice_get, option_map, Result, Ok, Err, OnOk, OnErr, IfErr}
 use Rattle.std.proofs.lemmas.List.{map-append, length-map}
 use Rattle.std.proofs.lemmas.List.Sorted.{IsPermutation-refl, IsPermutation-cons, IsPermutation-middle}
 use Rattle.std.proofs.lemmas.Option.{slice_get-map, slice_get_read}
@@ -23,6 +23,7 @@ use Rattle.book.specs.declared.book.Book as code-book
 use Rattle.book.specs.Calls.{Enters, EntersNext, Commits, Lends, Undoes, Redoes, Exchanges, undone, redone}
 use Rattle.book.specs.Refusals.{exchange_refusal}
 use Rattle.book.specs.declared.fault.BookFault.{BookFault}
+use Rattle.book.specs.declared.fault.BookFault.TheVariants.{NoTicket}
 use Rattle.book.proofs.Tickets.{not_out}
 use Rattle.pact.specs.declared.View.{View}
 use Rattle.pact.specs.declared.Deeds.{Deeds}
@@ -200,3 +201,9 @@ last_entered es k x lines before e same at long is =
 -- ---- a journal is no longer than it may be
 pub journal_within : (b : code-book.Book) → length (book_of b).journal ≤ 1048576
 journal_within b = let h = b.within in let l = length-map (items_of b.core) (line_of (items_of b.core)) in omega (arith, h, l)
+
+-- ---- a ticket is abandoned, whether or not it was out
+pub abandoned : {T : Type 0} (r : Result T BookFault) (n : EventName) (old now : Book) → OnOk r (now ≡ record old { out = without n old.out }) → OnErr r (now ≡ old)
+    → IfErr r (λ f. (f ≡ NoTicket) × (is_out n old.out ≡ false)) → (now.journal ≡ old.journal) × (now.out ≡ without n old.out)
+abandoned (Ok x) n old now gone same err = (ap (λ b. b.journal) gone, ap (λ b. b.out) gone)
+abandoned (Err f) n old now gone same err = (ap (λ b. b.journal) same, ap (λ b. b.out) same ∙ sym (not_out n old.out err.1))

@@ -303,7 +303,9 @@ impl Book {
         ensures tickets { All (λ t. t.seat ≤ result) (book_of self.now).out }
         ensures least { (n : ℕ) → All (λ l. l.seat ≤ n) (book_of self.now).journal → All (λ t. t.seat ≤ n) (book_of self.now).out → result ≤ n }
     {
-        greatest_seat(self.core.entries()).max(self.desk.greatest_seat())
+        let entered = greatest_seat(self.core.entries());
+        let lent = self.desk.greatest_seat();
+        if entered < lent { lent } else { entered }
     }
 
     /// The name that the next event is given.

@@ -18,14 +18,14 @@ loop-lent-preserved c =
     let r = c.if-lent-greatest.greatest in
     let lt = c.loop-lent-test.true in
     elim c.if-lent-greatest.branch [
-    | then-lent-greatest w ↦ record {
-      above = above_more (λ t. t.seat) xs i g r none c.loop-lent.invariant.above lt (omega arith) (omega arith);
-      least = λ n all. let a = all i none lt in omega arith;
-    }
-    | else-lent-greatest w ↦ record {
-      above = above_more (λ t. t.seat) xs i g r none c.loop-lent.invariant.above lt (omega arith) (omega arith);
-      least = λ n all. let a = c.loop-lent.invariant.least n all in omega arith;
-    }
+      | then-lent-greatest w ↦ record {
+        above = above_more (λ t. t.seat) xs i g r none c.loop-lent.invariant.above lt (omega arith) (omega arith);
+        least = λ n all. let a = all i none lt in omega arith;
+      }
+      | else-lent-greatest w ↦ record {
+        above = above_more (λ t. t.seat) xs i g r none c.loop-lent.invariant.above lt (omega arith) (omega arith);
+        least = λ n all. let a = c.loop-lent.invariant.least n all in omega arith;
+      }
     ]
 
 pub returns-clause-above : goal.returns-clause-above
