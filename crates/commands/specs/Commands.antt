@@ -23,9 +23,11 @@ pub data Spelled : Type 0 where
   turn : (m : MsgId) → Spelled
   step : Spelled
   run : (steps : ℕ) → Spelled
+  work : (workers turns : ℕ) → Spelled
   enabled : Spelled
   show : Spelled
   journal : Spelled
+  log : (x : List ℕ) → Spelled
   cone : (e : EventName) → Spelled
   undo : (events : List EventName) → Spelled
   undo_cone : (e : EventName) → Spelled
@@ -38,6 +40,9 @@ is_vat_name w = is_name w && nat_le (length w) 64
 
 abbrev pub at_most : ℕ → ℕ → Option ℕ
 at_most limit n = cond (nat_le n limit) (Some n) None
+
+abbrev pub from_one_to : ℕ → ℕ → Option ℕ
+from_one_to limit n = cond (nat_le 1 n && nat_le n limit) (Some n) None
 
 abbrev pub is_empty : List ℕ → Bool
 is_empty w = length w == 0
@@ -98,9 +103,28 @@ learn_of words =
 abbrev pub run_of : List ℕ → Option Spelled
 run_of words = cond (is_empty (behind_word words)) (option_map run (option_and_then (at_most 1000000) (number_of (first_word words)))) None
 
+abbrev pub work_with : Option ℕ → Option ℕ → Option Spelled
+work_with None turns = None
+work_with (Some workers) None = None
+work_with (Some workers) (Some turns) = Some (work workers turns)
+
+-- work K N
+abbrev pub work_of : List ℕ → Option Spelled
+work_of words =
+    let turns = behind_word words in
+    cond (is_empty (behind_word turns)) (work_with (option_and_then (from_one_to 64) (number_of (first_word words))) (option_and_then (at_most 1000000) (number_of (first_word turns)))) None
+
 -- a command without words
 abbrev pub alone : Spelled → List ℕ → Option Spelled
 alone command words = cond (is_empty words) (Some command) None
+
+-- a word, if it may name a vat
+abbrev pub vat_named : List ℕ → Option (List ℕ)
+vat_named w = cond (is_vat_name w) (Some w) None
+
+-- log NAME
+abbrev pub log_of : List ℕ → Option Spelled
+log_of words = cond (is_empty (behind_word words)) (option_map log (vat_named (first_word words))) None
 
 -- a command of one event
 abbrev pub of_event : (EventName → Spelled) → List ℕ → Option Spelled
@@ -129,14 +153,16 @@ begun_by word words =
     (cond (bytes_eq word (codes "turn")) (formed (of_message turn words))
     (cond (bytes_eq word (codes "step")) (formed (alone step words))
     (cond (bytes_eq word (codes "run")) (formed (run_of words))
+    (cond (bytes_eq word (codes "work")) (formed (work_of words))
     (cond (bytes_eq word (codes "enabled")) (formed (alone enabled words))
     (cond (bytes_eq word (codes "show")) (formed (alone show words))
     (cond (bytes_eq word (codes "journal")) (formed (alone journal words))
+    (cond (bytes_eq word (codes "log")) (formed (log_of words))
     (cond (bytes_eq word (codes "cone")) (formed (of_event cone words))
     (cond (bytes_eq word (codes "undo")) (formed (of_events undo words))
     (cond (bytes_eq word (codes "undo-cone")) (formed (of_event undo_cone words))
     (cond (bytes_eq word (codes "redo")) (formed (of_events redo words))
-    (cond (bytes_eq word (codes "exchange")) (formed (exchange_of words)) (Err UnknownCommand))))))))))))))))
+    (cond (bytes_eq word (codes "exchange")) (formed (exchange_of words)) (Err UnknownCommand))))))))))))))))))
 
 -- a blank line or a comment is no command
 abbrev pub is_skipped : List ℕ → Bool
@@ -159,9 +185,11 @@ command_of (code.Learn name p) = learn name.now p
 command_of (code.Turn m) = turn m
 command_of code.Step = step
 command_of (code.Run steps) = run steps
+command_of (code.Work workers turns) = work workers turns
 command_of code.Enabled = enabled
 command_of code.Show = show
 command_of code.Journal = journal
+command_of (code.Log name) = log name.now
 command_of (code.Cone e) = cone e
 command_of (code.Undo events) = undo events.items
 command_of (code.UndoCone e) = undo_cone e

@@ -1,78 +1,64 @@
-//! Runs a text of commands on vats, and writes one reply for each.
+//! Runs commands on vats, and writes one reply for each, as it is read.
 #![tactic(auto)]
 
+mod edge;
 mod options;
 
-use options::{Options, Parsed, parse};
-use std::alloc::Global;
-use std::io::{Read, Write};
+use edge::answer_commands;
+use options::{Parsed, parse};
+use std::alloc::{AllocError, Global};
 use std::process::ExitCode;
 use std::rt::Runtime;
-use std::thread::{Builder, Threads};
+use std::thread::Builder;
 use std::{fs, io};
-use stepper::{Ended, Fault, Limits, STACK, Summary, replies, status};
+use stepper::{Ended, Fault, Limits, Nobody, STACK, status};
 
-/// What is read: a file, or standard input.
-fn input<R: Runtime + AllocGlobal>(rt: &R, file: Option<&str>) -> Result<Vec<u8>, Ended> {
+/// Answers the commands of a file, or of standard input, on standard output.
+fn answer<R: Runtime + AllocGlobal>(rt: &R, file: Option<String>, limits: Limits) -> Ended {
+    let output = io::writer(rt);
+    let mut crew = Nobody;
     match file {
-        Some(path) => fs::read(rt, path).map_err(|_| Ended::NoFile),
-        None => {
-            let mut bytes = Vec::new(rt.alloc());
-            match rt.reader().read_to_end(&mut bytes) {
-                Ok(_) => Ok(bytes),
-                Err(_) => Err(Ended::Ran(Err(Fault::Reader))),
-            }
-        }
-    }
-}
-
-/// The replies to all commands. It promises nothing, so neither does the closure that a thread is made with, which is
-/// proved the sooner.
-fn answers(alloc: Global, bytes: &[u8], limits: Limits) -> Result<(Vec<u8>, Summary), Fault> {
-    replies(alloc, bytes, limits)
-}
-
-/// The replies to all commands, made on a stack of their own.
-fn replies_of<R: Runtime + AllocGlobal + Threads>(
-    rt: &R,
-    bytes: Vec<u8>,
-    limits: Limits,
-) -> Result<(Vec<u8>, Summary), Fault> {
-    let alloc = rt.alloc();
-    let answering = move || answers(alloc, &bytes, limits);
-    match Builder::new().stack_size(STACK).spawn(rt, answering) {
-        Ok(thread) => thread.join(rt),
-        // The stack is memory too.
-        Err(_) => Err(Fault::Memory),
-    }
-}
-
-/// Answers all commands, and writes the replies at once.
-fn answer<R: Runtime + AllocGlobal + Threads>(rt: &R, options: &Options) -> Ended {
-    let bytes = match input(rt, options.file) {
-        Ok(bytes) => bytes,
-        Err(ended) => return ended,
-    };
-    match replies_of(rt, bytes, options.limits) {
-        Ok((written, summary)) => match io::writer(rt).write_all(&written) {
-            Ok(()) => Ended::Ran(Ok(summary)),
-            Err(_) => Ended::Ran(Err(Fault::Writer)),
+        Some(path) => match fs::open(rt, path.as_str()) {
+            Ok(input) => answer_commands(rt.alloc(), input, output, limits, &mut crew),
+            Err(_) => Ended::NoFile,
         },
-        Err(fault) => Ended::Ran(Err(fault)),
+        None => answer_commands(rt.alloc(), rt.reader(), output, limits, &mut crew),
     }
 }
 
-fn run<R: Runtime + AllocGlobal + Threads>(rt: &R) -> io::Result<Ended> {
+/// What the words of the command line ask for.
+#[derive(Drop)]
+enum Plan {
+    /// The commands of a file, or of standard input, are to be answered.
+    Answer {
+        file: Option<String>,
+        limits: Limits,
+    },
+    /// All is done.
+    Stop(Ended),
+}
+
+/// A text of one's own.
+fn owned(alloc: Global, text: Option<&str>) -> Result<Option<String>, AllocError> {
+    match text {
+        Some(text) => Ok(Some(String::from_str(alloc, text)?)),
+        None => Ok(None),
+    }
+}
+
+/// Reads the words, and prints the help or what is wrong with them.
+fn read_words<R: Runtime + AllocGlobal>(rt: &R) -> io::Result<Plan> {
     let words: Vec<String> = std::env::args(rt)?.collect(rt.alloc())?;
-    let ended = match parse(rt, words.as_slice())? {
+    match parse(rt, words.as_slice())? {
         Parsed::Options(options) => {
-            let ended = answer(rt, &options);
-            complain(rt, &ended, options.file)?;
-            ended
+            let file = owned(rt.alloc(), options.file)?;
+            Ok(Plan::Answer {
+                file,
+                limits: options.limits,
+            })
         }
-        Parsed::Stop(ended) => ended,
-    };
-    Ok(ended)
+        Parsed::Stop(ended) => Ok(Plan::Stop(ended)),
+    }
 }
 
 /// Says on standard error why a run did not come to its end.
@@ -85,9 +71,27 @@ fn complain(rt: &impl Eprint, ended: &Ended, file: Option<&str>) -> io::Result<(
 }
 
 fn main(rt: HostRuntime) -> ExitCode {
-    match run(&rt) {
-        Ok(ended) => ExitCode::from(status(&ended)),
+    let Ok(plan) = read_words(&rt) else {
         // Standard error is closed, or memory ran out before the first command was read.
+        return ExitCode::from(2);
+    };
+    let (file, limits) = match plan {
+        Plan::Answer { file, limits } => (file, limits),
+        Plan::Stop(ended) => return ExitCode::from(status(&ended)),
+    };
+    let Ok(name) = owned(rt.alloc(), file.as_deref()) else {
+        return ExitCode::from(2);
+    };
+    // The commands are answered on a stack of their own.
+    let own = rt;
+    let answering = move || answer(&own, file, limits);
+    let ended = match Builder::new().stack_size(STACK).spawn(&rt, answering) {
+        Ok(thread) => thread.join(&rt),
+        // The stack is memory too.
+        Err(_) => Ended::Ran(Err(Fault::Memory)),
+    };
+    match complain(&rt, &ended, name.as_deref()) {
+        Ok(()) => ExitCode::from(status(&ended)),
         Err(_) => ExitCode::from(2),
     }
 }

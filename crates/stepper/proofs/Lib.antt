@@ -1,5 +1,15 @@
 pub mod Answered
 pub mod Births
+pub mod Doing
+pub mod Entered
+pub mod Going
 pub mod Listings
 pub mod Names
+pub mod OneAnswer
+pub mod OneMove
+pub mod OneText
 pub mod Running
+pub mod SameBooks
+pub mod Scripting
+pub mod Story
+pub mod Whole

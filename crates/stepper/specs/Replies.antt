@@ -1,5 +1,5 @@
 -- The replies to a text of commands.
-use Rattle.std.specs.Prelude.{◌≡◌, ℕ, suc, ◌+◌, ◌<◌, List, [], ◌∷◌, ◌++◌, length, filter, Bool, true, false, ◌||◌, Option, Some, None, Result, Ok, Err, codes}
+use Rattle.std.specs.Prelude.{◌≡◌, ℕ, suc, ◌+◌, ◌<◌, ◌≤◌, List, [], ◌∷◌, ◌++◌, length, filter, count_by, IsSome, Bool, true, false, ◌||◌, Option, Some, None, Result, Ok, Err, codes}
 use Rattle.std.specs.Fmt.{decimal}
 use Rattle.ids.specs.Names.{event_text, message_text}
 use Rattle.ids.specs.Quoted.{quoted}
@@ -29,17 +29,21 @@ use Rattle.causality.specs.Selections.{chosen}
 use Rattle.book.specs.Refusals.{Refusal, no_vat, name_taken, no_message, not_there, not_ready, before, nothing_to_learn, full, stale, vat_out, no_ticket, no_event, no_position, not_live, still_live, not_closed, crossed, cause_missing, dependent, bad_budget, unchecked}
 use Rattle.book.specs.Refusals.{birth_refusal, ask_refusal, arrival_refusal, forward_refusal, learning_refusal, checkout_refusal, undo_refusal, redo_refusal, cone_refusal, exchange_refusal}
 use Rattle.book.specs.Learning.{LearnsNamed, RefusesNamed}
-use Rattle.book.specs.Books.{Book}
+use Rattle.book.specs.Books.{Book, blank}
 use Rattle.book.specs.Calls.{EntersNext, TurnsNext, Undoes, Redoes, Exchanges, StoodAt}
-use Rattle.commands.specs.Lines.{line_of, behind_line}
+use Rattle.commands.specs.Lines.{is_line_feed, line_end, line_of, behind_line}
 use Rattle.commands.specs.declared.numbers.PromiseName.{PromiseName}
 use Rattle.commands.specs.Commands as command
 use Rattle.commands.specs.Commands.{Spelled, spelled_by, fault_text}
 use Rattle.commands.specs.Scripts.{fault_of, script_of, behind_lines}
 use Rattle.stepper.specs.Show.{Shows}
+use Rattle.causewaylog.specs.Turns.{live_in}
+use Rattle.causewaylog.specs.Log.{log_text}
 use Rattle.stepper.specs.Listing.{journal_text, cone_text}
 use Rattle.stepper.specs.Steps.{ShowsEnabled}
 use Rattle.commands.specs.declared.command.LineFault.{LineFault}
+use Rattle.stepper.specs.Crew.{work_fault_text, Keeps, worked_text}
+use Rattle.stepper.specs.declared.crew.WorkFault.{WorkFault}
 
 -- no CODE NAME ARGS
 abbrev pub refused : List ℕ → List ℕ
@@ -117,6 +121,10 @@ redone_text count = codes "ok redone " ++ (decimal count ++ 10 ∷ [])
 abbrev pub exchanged_text : EventName → EventName → List ℕ
 exchanged_text e f = codes "ok exchanged " ++ (event_text e ++ (codes " " ++ (event_text f ++ 10 ∷ [])))
 
+-- a log, and the end of the line
+abbrev pub logged_text : List ℕ → List ℕ
+logged_text text = text ++ 10 ∷ []
+
 -- With a budget for each turn: something that may be done leads from a book to a reply, refused or not, and a book.
 -- Want of memory may refuse what needs it; the book then is as it was, but for a name that a turn may have drawn.
 pub data Moves (budget : ℕ) : Book → Step → List ℕ → Bool → Book → Type 0 where
@@ -166,6 +174,9 @@ pub data Answers (budget : ℕ) : Book → Spelled → List ℕ → Bool → Boo
   learn_accepted : {b d : Book} {x : List ℕ} {n : PromiseName} {e : EventName} → LearnsNamed x n.event n.index e b d → Answers budget b (command.learn x n) (done_text e) false d
   stepped : {b d : Book} {reply : List ℕ} {r more : Bool} → Steps budget b reply r d more → Answers budget b command.step reply r d
   runs : {b d : Book} {n : ℕ} {reply : List ℕ} {r : Bool} → Runs budget n b reply r d → Answers budget b (command.run n) reply r d
+  -- what workers enter, and in what order, is not said: but all from before is there still, also where not one could be started
+  worked : {b d : Book} {k n : ℕ} (turns : ℕ) → Keeps b d → Answers budget b (command.work k n) (worked_text turns) false d
+  work_refused : {b d : Book} {k n : ℕ} (fault : WorkFault) → Keeps b d → Answers budget b (command.work k n) (refused (work_fault_text fault)) true d
   enabled_without_memory : {b : Book} → Answers budget b command.enabled (refused (codes "B20 Memory")) true b
   enabled : {b : Book} {found : List Step} {text : List ℕ} → EnabledIn b found → ShowsEnabled b.world found text → Answers budget b command.enabled text false b
   ask_without_memory : {b : Book} {x text : List ℕ} → Answers budget b (command.ask x text) (refused (codes "B20 Memory")) true b
@@ -177,6 +188,8 @@ pub data Answers (budget : ℕ) : Book → Spelled → List ℕ → Bool → Boo
       → EntersNext (record { name = e; act = ask x program }) (ask_foot e x v program) 0 b d → Answers budget b (command.ask x text) (queued_text e) false d
   shown : {b : Book} {text : List ℕ} → Shows b.world text → Answers budget b command.show text false b
   listed : {b : Book} → Answers budget b command.journal (journal_text b.journal) false b
+  log_without_memory : {b : Book} {x : List ℕ} → Answers budget b (command.log x) (refused (codes "B20 Memory")) true b
+  logged : {b : Book} {x : List ℕ} → Answers budget b (command.log x) (logged_text (log_text x (live_in b.journal))) false b
   cone_without_memory : {b : Book} {e : EventName} → Answers budget b (command.cone e) (refused (codes "B20 Memory")) true b
   cone_refused : {b : Book} {e : EventName} {r : Refusal} → cone_refusal b.journal e ≡ Some r → Answers budget b (command.cone e) (refused (refusal_text r)) true b
   cone_found : {b : Book} {e : EventName} {names : List EventName} → cone_refusal b.journal e ≡ None → Cone b.journal e names → Answers budget b (command.cone e) (cone_text names) false b
@@ -231,3 +244,39 @@ pub data Replies (budget : ℕ) : Book → List ℕ → List ℕ → Bool → Bo
   no_more : {b : Book} → Replies budget b [] [] false b
   first_and_more : {b c d : Book} {input rest reply replies : List ℕ} {r s : Bool} → 0 < length input
       → FirstReply budget b (said input) (behind_line input) reply r c rest → Replies budget c rest replies s d → Replies budget b input (reply ++ replies) (r || s) d
+
+-- how many lines of a script follow a line that says this
+abbrev pub script_lines : Result (Option Spelled) LineFault → ℕ
+script_lines (Ok (Some (command.birth x earlier lines))) = lines
+script_lines _ = 0
+
+-- how many line feeds are among bytes
+abbrev pub line_feeds : List ℕ → ℕ
+line_feeds bytes = count_by is_line_feed bytes
+
+-- the first command of these bytes is whole: a line feed ends its line, and as many more follow as its script has lines
+pub record IsWhole (bytes : List ℕ) : Type 0 where
+  pub line : IsSome (line_end bytes)
+  pub script : script_lines (said bytes) ≤ line_feeds (behind_line bytes)
+
+-- The replies to the first commands of an input, one after another, each of which is whole; whether one is a refusal; the book then, and
+-- the input that is left.
+pub data RepliesBefore (budget : ℕ) : Book → List ℕ → List ℕ → Bool → Book → List ℕ → Type 0 where
+  none_yet : {b : Book} {input : List ℕ} → RepliesBefore budget b input [] false b input
+  whole_and_more : {b c d : Book} {input rest left reply replies : List ℕ} {r s : Bool} → IsWhole input
+      → FirstReply budget b (said input) (behind_line input) reply r c rest → RepliesBefore budget c rest replies s d left → RepliesBefore budget b input (reply ++ replies) (r || s) d left
+
+-- The replies to the commands that bytes hold, and to no part of another: each command is whole, or the input ends behind the bytes.
+pub data RepliesToAll (budget : ℕ) (bytes : List ℕ) (IsLast : Type 0) (replies : List ℕ) (refused : Bool) (d : Book) : Type 0 where
+  whole_ones : RepliesBefore budget blank bytes replies refused d [] → RepliesToAll budget bytes IsLast replies refused d
+  with_last : IsLast → Replies budget blank bytes replies refused d → RepliesToAll budget bytes IsLast replies refused d
+
+-- all bytes but the last
+abbrev pub without_last : List ℕ → List ℕ
+without_last [] = []
+without_last (b ∷ []) = []
+without_last (b ∷ c ∷ bs) = b ∷ without_last (c ∷ bs)
+
+-- these bytes are of one command: none is whole before the last of them
+abbrev pub IsOfOne : List ℕ → Type 0
+IsOfOne bytes = ¬ IsWhole (without_last bytes)

@@ -1,0 +1,53 @@
+use Rattle.std.proofs.Common.{◌∙◌, ap, sym, subst, arith}
+use Rattle.ids.specs.declared.names.EventName.{EventName}
+use Rattle.worldcells.specs.Events.{Event}
+use Rattle.turn.specs.declared.ticket.Ran.{Ran}
+use Rattle.book.specs.Calls.{Commits}
+use Rattle.bench.specs.Author.{turn_of}
+use Rattle.bench.specs.DeskView.{Desked}
+use Rattle.bench.proofs.Acts.{returned}
+use Rattle.book.specs.BookView.{book_of}
+use Rattle.desk.specs.Desks.{without}
+use Rattle.bench.proofs.Agrees.{desk_given, counted_more, few_events}
+use Rattle.bench.proofs.Moves.{grows, journal_within}
+use Rattle.bench.specs.Seats.{is_turn}
+use Rattle.bench.proofs.under_lock.Desk.give.Goals as goal
+
+pub last_event-given-requires : goal.last_event-given-requires
+last_event-given-requires g c =
+    let old = book_of c.self.inside.book in
+    let g' = grows _ _ _ old (book_of c.commit.new.self) c.in-Ok.ensures.ok.1.enters.enters in
+    let m = g'.more in omega (arith, m)
+
+pub note-requires-clause-fit : goal.note-requires-clause-fit
+note-requires-clause-fit g c =
+    let old = book_of c.self.inside.book in
+    let g' = grows _ _ _ old (book_of c.commit.new.self) c.in-Ok.ensures.ok.1.enters.enters in
+    ap (λ e. is_turn e.act) (c.last_event-given.ensures _ _ g'.journal)
+
+pub note-requires-clause-room : goal.note-requires-clause-room
+note-requires-clause-room g c = λ at. few_events _ _ _ _ _ (book_of c.self.inside.book) _ c.self.invariant.2 (journal_within c.self.inside.book) at
+
+pub invariant_of-self : goal.invariant_of-self
+invariant_of-self g c =
+    let i = c.self.invariant in
+    let n = c.note.ensures in
+    let ok = c.in-Ok.ensures.ok in
+    let old = book_of c.self.inside.book in
+    let now = book_of c.commit.new.self in
+    let g' = grows _ _ _ old now ok.1.enters.enters in
+    let event = c.last_event-given.ensures _ _ g'.journal in
+    let seat = sym (ap (λ (r : Ran). r.carried.seat) c.ran.ensures) ∙ c.if-ran-number.false ∙ c.number.ensures ∙ n.agreed.0 in
+    let out = ok.1.out ∙ ap (λ (m : EventName). without m old.out) (sym (ap (λ (e : Event). e.name) event)) in
+    (n.keeper.0, i.1, desk_given _ _ _ _ _ _ old now _ _ _ i.2 n.agreed.1 seat event g' _ out n.keeper.1, counted_more _ _ _ _ old now i.3 n.total g', i.4, i.5, i.6)
+
+pub returns-in-Ok-clause-ok : goal.returns-in-Ok-clause-ok
+returns-in-Ok-clause-ok g c =
+    let ok = c.in-Ok.ensures.ok in
+    let old = book_of c.self.inside.book in
+    let now = book_of c.commit.new.self in
+    let g' = grows _ _ _ old now ok.1.enters.enters in
+    let event = c.last_event-given.ensures _ _ g'.journal in
+    let seat = sym (ap (λ (r : Ran). r.carried.seat) c.ran.ensures) ∙ c.if-ran-number.false ∙ c.number.ensures in
+    let P : Desked → Type 0 = λ d. Commits c.args.ticket (book_of d.book) now in
+    (ok.0, seat, subst P c.self.view_is ok.1, returned (turn_of c.args.ticket) c.last_event-given.result.value c.args.seat.now c.note.new.self event c.note.ensures.seat)

@@ -1,0 +1,4 @@
+pub mod Seats
+pub mod Desk
+pub mod DeskView
+pub mod Author
