@@ -1,7 +1,12 @@
 // Sessions of births, questions and turns that are undone, redone and exchanged, with the replies that their authors are promised.
 
+use std::alloc::Global;
+use std::io;
+use std::io::Read;
 use std::process::Abort;
-use stepper::{Limits, replies};
+use stepper::{Fault, Limits, Summary, run};
+use streams::lines::Lines;
+use streams::outlet::Outlet;
 
 /// The budget of each turn.
 const BUDGET: u32 = 10_000;
@@ -11,13 +16,44 @@ fn add_line(rt: &impl Abort, line: &str, text: &mut String) {
     text.push('\n').expect(rt, "no memory");
 }
 
-/// Runs commands and compares the replies, and whether one is told to be a refusal.
-fn expect_replies(rt: &(impl Abort + AllocGlobal), commands: &str, wanted: &str) {
+/// A reader that gives one byte at a time.
+#[derive(Drop)]
+struct Single<'a>(&'a [u8]);
+
+impl Read for Single<'_> {
+    fn read(&mut self, buf: &mut [u8]) -> io::Result<usize> {
+        let count = self.0.len().min(buf.len()).min(1);
+        buf[..count].copy_from_slice(&self.0[..count]);
+        self.0 = &self.0[count..];
+        Ok(count)
+    }
+}
+
+/// The replies to commands, and what is known of the run.
+fn replies<R: Read + Drop>(alloc: Global, commands: R) -> Result<(Vec<u8>, Summary), Fault> {
     let limits = Limits {
         budget: BUDGET,
         workers: 8,
     };
-    match replies(rt.alloc(), commands.as_bytes(), limits) {
+    let mut source = Lines::new(alloc, commands)?;
+    let mut sink = Outlet::new(alloc, Vec::new(alloc));
+    let summary = run(alloc, &mut source, &mut sink, limits)?;
+    Ok((sink.into_writer(), summary))
+}
+
+/// Runs commands, read in one piece and one byte at a time, and compares the replies, and whether one is told to be a refusal.
+fn expect_replies(rt: &(impl Abort + AllocGlobal), commands: &str, wanted: &str) {
+    expect_of(rt, commands.as_bytes(), commands, wanted);
+    expect_of(rt, Single(commands.as_bytes()), commands, wanted);
+}
+
+fn expect_of<R: Read + Drop>(
+    rt: &(impl Abort + AllocGlobal),
+    input: R,
+    commands: &str,
+    wanted: &str,
+) {
+    match replies(rt.alloc(), input) {
         Ok((written, summary)) => {
             let replied = str::from_utf8(&written).unwrap_or("bytes that are no text");
             if replied != wanted {

@@ -175,7 +175,3 @@ lines_are_told input lines others no_line h = none_told [] others refl h
 lines_are_told input lines others (one_more {line = line} {rest = rest} {lines = next} some first later) h =
     let is = told_line input line rest first in
     more_told input line rest next others some is.0 is.1 (λ more k. lines_are_told rest next more later k) h
-
--- what is cut off is such a line
-pub as_cut : (input line rest : List ℕ) → line ≡ line_of input → rest ≡ behind_line input → BeginsWithLine input line rest
-as_cut input line rest e f = subst (λ (l : List ℕ). BeginsWithLine input l rest) (sym e) (subst (λ (r : List ℕ). BeginsWithLine input (line_of input) r) (sym f) (cut_is_line input))

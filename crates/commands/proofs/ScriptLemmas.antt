@@ -1,5 +1,5 @@
 -- On the lines of a script.
-use Rattle.std.proofs.Common.{◌≡◌, ℕ, zero, suc, ◌+◌, ◌-◌, List, [], ◌∷◌, ◌++◌, length, map, Bool, true, false, ◌||◌, cond, Option, Some, None, Result, Ok, Err, refl, sym, ap, ◌∙◌, arith, append_assoc, length-append, ◌<◌, nat_eq}
+use Rattle.std.proofs.Common.{◌≡◌, ℕ, zero, suc, ◌+◌, ◌-◌, List, [], ◌∷◌, ◌++◌, length, map, Bool, true, false, ◌||◌, cond, Option, Some, None, Result, Ok, Err, refl, sym, ap, ◌∙◌, arith, append_assoc, append-nil, length-append, ◌<◌, nat_eq}
 use Rattle.std.specs.Prelude.{IfOk}
 use Rattle.std.specs.Borrow.{Bor}
 use Rattle.commands.specs.ScriptView.{fault_at}
@@ -139,7 +139,21 @@ pub added : (r : Result (Bor (List ℕ)) LineFault) (line more text separator : 
 added (Ok t) line more text separator n e h = h ∙ ap (λ l. text ++ (separator ++ l)) e
 added (Err f) line more text separator n e h = absurd (cc)
 
--- nothing is behind an empty rest
-pub nothing_behind : (n k : ℕ) (rest : List ℕ) → is_empty rest ≡ true → rest ≡ behind_lines (n - k) rest
-nothing_behind n k [] h = sym (behind_none (n - k))
-nothing_behind n k (b ∷ bs) h = absurd (grind (arith, h))
+unless_by : (fault : Option LineFault) (text whole : List ℕ) → (fault ≡ None → text ≡ whole) → unless fault whole ≡ unless fault text
+unless_by None text whole h = ap (λ t. Ok t) (sym (h refl))
+unless_by (Some f) text whole h = refl
+
+none_left : (n : ℕ) → n - n ≡ 0
+none_left n = omega arith
+
+no_more_starts : (n : ℕ) (rest : List ℕ) → starts (n - n) rest ≡ []
+no_more_starts n rest = ap (λ m. starts m rest) (none_left n)
+
+-- all lines were taken
+pub finished : (n : ℕ) (input rest : List ℕ) (fault : Option LineFault) (text : List ℕ) → Taken n input n rest fault text → script_of n input ≡ unless fault text
+finished n input rest fault text t =
+    let whole : starts n input ≡ t.before = t.all ∙ ap (λ l. t.before ++ l) (no_more_starts n rest) ∙ append-nil t.before in
+    ap (λ (l : List (List ℕ)). cond (list_any is_empty l) (Err Truncated) (unless (first_fault l) (join_with_byte 10 (map line_of l)))) whole
+    ∙ ap (λ b. cond b (Err Truncated) (unless (first_fault t.before) (join_with_byte 10 (map line_of t.before)))) t.none_empty
+    ∙ ap (λ f. unless f (join_with_byte 10 (map line_of t.before))) t.faulty
+    ∙ unless_by fault text (join_with_byte 10 (map line_of t.before)) t.joined

@@ -2,7 +2,6 @@
 #![tactic(auto)]
 
 pub mod command;
-pub mod lines;
 pub mod numbers;
 pub mod script;
 pub mod theorems;

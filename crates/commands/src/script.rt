@@ -1,18 +1,10 @@
 // The script lines of a vat.
-ghost use Rattle.std.specs.Prelude.{◌≡◌, ◌≤◌, ◌++◌, length, [], ◌∷◌, IfOk, OnOk, cond, Some, None, string_bytes};
-ghost use Rattle.commands.specs.Scripts.{fault_in, or_fault, script_of, behind_lines, unless};
+ghost use Rattle.std.specs.Prelude.{◌≡◌, ◌++◌, [], ◌∷◌, IfOk, OnOk, cond, None, string_bytes};
+ghost use Rattle.commands.specs.Scripts.{fault_in, or_fault, unless};
 ghost use Rattle.commands.specs.ScriptView.{fault_at, script_text};
 
 use crate::command::LineFault;
-use crate::lines::cut_line;
 use std::alloc::{AllocError, Global};
-
-/// The script that the lines which follow spell, and what is behind them.
-#[derive(Drop)]
-pub struct Script<'a> {
-    pub text: Result<String, LineFault>,
-    pub rest: &'a [u8],
-}
 
 /// A line as a text.
 pub fn text_of(line: &[u8], is_long: bool) -> Result<&str, LineFault>
@@ -30,14 +22,24 @@ pub fn text_of(line: &[u8], is_long: bool) -> Result<&str, LineFault>
 
 /// The lines of a script so far: joined, and the first fault among them.
 #[derive(Drop)]
-struct Joined {
-    text: String,
-    fault: Option<LineFault>,
+pub struct Joined {
+    pub text: String,
+    pub fault: Option<LineFault>,
 }
 
 impl Joined {
+    pub fn new(alloc: Global) -> Joined
+        ensures text { string_bytes result.text ≡ [] }
+        ensures fault { result.fault ≡ None }
+    {
+        Joined {
+            text: String::new(alloc),
+            fault: None,
+        }
+    }
+
     /// Adds a line; a line feed stands before each but the first.
-    fn add(&mut self, line: Result<&str, LineFault>, is_first: bool) -> Result<(), AllocError>
+    pub fn add(&mut self, line: Result<&str, LineFault>, is_first: bool) -> Result<(), AllocError>
         ensures fault { OnOk result (self.new.fault ≡ or_fault self.old.fault (fault_at line.entry)) }
         ensures text { OnOk result (IfOk line.entry (λ text. string_bytes self.new.text ≡ string_bytes self.old.text ++ (cond is_first [] (10 ∷ []) ++ text.now))) }
     {
@@ -53,7 +55,8 @@ impl Joined {
         Ok(())
     }
 
-    fn finish(self) -> Result<String, LineFault>
+    /// The script, or the first fault.
+    pub fn finish(self) -> Result<String, LineFault>
         ensures { script_text result ≡ unless self.fault (string_bytes self.text) }
     {
         match self.fault {
@@ -61,32 +64,4 @@ impl Joined {
             None => Ok(self.text),
         }
     }
-}
-
-/// Takes so many lines, whatever is wrong with them, and joins them by line feeds.
-pub fn take_script<'a>(alloc: Global, input: &'a [u8], lines: u32) -> Result<Script<'a>, AllocError>
-    ensures text { IfOk result (λ script. script_text script.text ≡ script_of lines input.now) }
-    ensures rest { IfOk result (λ script. script.rest.now ≡ behind_lines lines input.now) }
-    ensures shorter { IfOk result (λ script. length script.rest.now ≤ length input.now) }
-{
-    let mut rest = input;
-    let mut joined = Joined {
-        text: String::new(alloc),
-        fault: None,
-    };
-    'lines: for taken in 0..lines {
-        if rest.is_empty() {
-            return Ok(Script {
-                text: Err(LineFault::Truncated),
-                rest,
-            });
-        }
-        let cut = cut_line(rest);
-        rest = cut.rest;
-        joined.add(text_of(cut.line, cut.is_long), taken == 0)?;
-    }
-    Ok(Script {
-        text: joined.finish(),
-        rest,
-    })
 }

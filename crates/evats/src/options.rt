@@ -1,4 +1,8 @@
 // The words of the command line.
+ghost use Rattle.std.specs.Prelude.{◌≡◌, codes};
+ghost use Rattle.std.specs.Option.{option_map};
+ghost use Rattle.clap.specs.Words.{found_of, one_text, first_value};
+ghost use Rattle.evats.specs.Options.{IsNumber};
 
 use clap::{Arg, ArgMatches, Command, Error, value_parser};
 use std::alloc::{AllocError, Global};
@@ -23,18 +27,11 @@ pub enum Parsed<'a> {
 }
 
 /// An option that is a number from 1 on.
-fn numbered<'a>(
-    alloc: Global,
-    name: &'a str,
-    most: i64,
-    otherwise: &'a str,
-    help: &'a str,
-) -> Arg<'a> {
+fn numbered<'a>(alloc: Global, name: &'a str, most: i64, help: &'a str) -> Arg<'a> {
     Arg::new(alloc, name)
         .long(name)
         .value_name("N")
         .value_parser(value_parser!(u32).range(1..=most))
-        .default_value(otherwise)
         .help(help)
 }
 
@@ -49,15 +46,13 @@ fn command<'a>(alloc: Global) -> Result<Command<'a>, AllocError> {
         alloc,
         "budget",
         1_000_000,
-        "10000",
-        "The most steps of a turn, 1 to 1,000,000",
+        "The most steps of a turn, 1 to 1,000,000; 10,000 if not given",
     );
     let workers = numbered(
         alloc,
         "workers",
         64,
-        "8",
-        "The most workers that a command may start, 1 to 64",
+        "The most workers that a command may start, 1 to 64; 8 if not given",
     );
     Command::new(alloc, "evats")
         .about("Runs programs of communicating event-loop vats: one reply for each command")
@@ -66,12 +61,20 @@ fn command<'a>(alloc: Global) -> Result<Command<'a>, AllocError> {
         .arg(file(alloc))
 }
 
-fn number(matches: &ArgMatches, name: &str, otherwise: u32) -> u32 {
+/// The number of an option, or another one where none was given.
+fn number(matches: &ArgMatches, name: &str, otherwise: u32) -> u32
+    ensures { IsNumber otherwise (one_text (found_of matches.now) name.now) result }
+{
     matches.get_one::<u32>(name).unwrap_or(otherwise)
 }
 
 impl<'a> Options<'a> {
-    fn from_matches(matches: &ArgMatches<'a>) -> Self {
+    /// The options that words were matched to: 10,000 steps and 8 workers where they say no other numbers.
+    fn from_matches(matches: &ArgMatches<'a>) -> Self
+        ensures budget { IsNumber 10000 (one_text (found_of matches.now) (codes "budget")) result.limits.budget }
+        ensures workers { IsNumber 8 (one_text (found_of matches.now) (codes "workers")) result.limits.workers }
+        ensures file { option_map (λ s. s.now) result.file ≡ first_value (found_of matches.now) (codes "file") }
+    {
         Options {
             limits: Limits {
                 budget: number(matches, "budget", 10_000),

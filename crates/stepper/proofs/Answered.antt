@@ -34,7 +34,7 @@ use Rattle.book.specs.declared.fault.BookFault.{BookFault}
 use Rattle.book.specs.declared.fault.BookFault.TheVariants as fault
 use Rattle.scopes.specs.Check as check
 use Rattle.stepper.specs.declared.engine.Engine.{Engine}
-use Rattle.stepper.specs.Engine.{Happens, HappensAt}
+use Rattle.stepper.specs.Engine.{Happens}
 use Rattle.commands.specs.Commands as commands
 use Rattle.commands.specs.Commands.{Spelled, spelled_by, fault_text}
 use Rattle.commands.specs.Scripts.{script_of, behind_lines, fault_of}
@@ -270,13 +270,6 @@ born_at budget b d c x earlier lines input rest reply refusal script e f g h =
 pub answered_at : (budget : ℕ) (b d : Book) (c a : Spelled) (input reply : List ℕ) (refusal : Bool) → c ≡ a → Answers budget b a reply refusal d → FirstReply budget b (Ok (Some c)) input reply refusal d input
 answered_at budget b d c a input reply refusal e h = subst (λ z. FirstReply budget b (Ok (Some z)) input reply refusal d input) (sym e) (answered h)
 
--- where what answered a command succeeded, it is answered
-pub answered_alone : {A E : Type 0} {old new now : Engine} (c a : Spelled) (input : List ℕ) (r : Result A E) {s : Result A E} {x : A} → c ≡ a → s ≡ r → s ≡ Ok x → now ≡ new → OnOk r (Happens old new (λ b r s d. Answers old.budget b a r s d))
-    → HappensAt old now input (λ b r s d i. FirstReply old.budget b (Ok (Some c)) input r s d i)
-answered_alone {old = old} c a input (Ok y) spelled is was same h =
-    subst (λ now. HappensAt old now input (λ b r s d i. FirstReply old.budget b (Ok (Some c)) input r s d i)) (sym same) (happens_as (λ b r s d k. answered_at old.budget b d c a input r s spelled k) h)
-answered_alone c a input (Err e) spelled is was same h = absurd (cc)
-
 -- the script is refused
 pub refused_at : (b : Book) (x : List ℕ) (earlier : List (List ℕ)) (f : LineFault) (script : Result (List ℕ) LineFault) → script ≡ Err f → AnswersBirth b x earlier script (refused (fault_text f)) true b
 refused_at b x earlier f script e = subst (λ z. AnswersBirth b x earlier z (refused (fault_text f)) true b) (sym e) script_refused
@@ -286,48 +279,6 @@ pub if_ok : {A E : Type 0} {P Q : A → Type 0} (r : Result A E) → ((x : A) �
 if_ok (Ok x) f h = f x h
 if_ok (Err e) f h = tt
 
--- a line is said in other words
-pub said_as : {budget : ℕ} {b d : Book} {x y : Result (Option Spelled) LineFault} {input reply rest : List ℕ} {refusal : Bool} → x ≡ y → FirstReply budget b x input reply refusal d rest → FirstReply budget b y input reply refusal d rest
-said_as {budget = budget} {b = b} {d = d} {input = input} {reply = reply} {rest = rest} {refusal = refusal} e h = subst (λ z. FirstReply budget b z input reply refusal d rest) e h
-
--- a line is said in other words, before other input
-pub said_at : {budget : ℕ} {b d : Book} {x y : Result (Option Spelled) LineFault} {input later reply rest : List ℕ} {refusal : Bool} → x ≡ y → input ≡ later → FirstReply budget b x input reply refusal d rest → FirstReply budget b y later reply refusal d rest
-said_at {budget = budget} {b = b} {d = d} {y = y} {reply = reply} {rest = rest} {refusal = refusal} e f h = subst (λ z. FirstReply budget b y z reply refusal d rest) f (said_as e h)
-
--- a line that is a text says what it spells
-pub said_text : (input line : List ℕ) → fault_of input ≡ None → line ≡ line_of input → spelled_by line ≡ said input
-said_text input line none e = ap spelled_by e ∙ sym (ap (λ f. said_by f (line_of input)) none)
-
--- a line that is no text says why
-pub said_fault : (input : List ℕ) (f : LineFault) → fault_of input ≡ Some f → Err f ≡ said input
-said_fault input f e = sym (ap (λ g. said_by g (line_of input)) e)
-
--- nothing happens
-pub nothing_happens : (e : Engine) (budget : ℕ) (input : List ℕ) → Happens e e (λ b r s d. FirstReply budget b (Ok None) input r s d input)
-nothing_happens e budget input = record { reply = []; refusal = false; allowed = skipped; adds = record { text = sym (append-nil (string_bytes e.written.text)); refused = or_false e.written.refused }; budget = refl }
-
 pub or_or : (a b c : Bool) → a || (b || c) ≡ (a || b) || c
 or_or true b c = refl
 or_or false b c = refl
-
--- one reply, and then those to the rest
-pub replies_more : (budget : ℕ) (b c d : Book) (input rest reply replies earlier : List ℕ) (r s t u : Bool) (first : Book) (all : List ℕ) → 0 < length input
-    → FirstReply budget b (said input) (behind_line input) reply r c rest
-    → ((more : List ℕ) (v : Bool) → Replies budget b input more v d → Replies budget first all (earlier ++ more) (t || v) d)
-    → Replies budget c rest replies s d → (now : List ℕ) → now ≡ earlier ++ reply → u ≡ (t || r) → Replies budget first all (now ++ replies) (u || s) d
-replies_more budget b c d input rest reply replies earlier r s t u first all l f h k now e g =
-    subst (λ (z : List ℕ). Replies budget first all z (u || s) d) (sym (append_assoc earlier reply replies) ∙ ap (λ z. z ++ replies) (sym e))
-    (subst (λ (z : Bool). Replies budget first all (earlier ++ (reply ++ replies)) z d) (or_or t r s ∙ ap (λ z. z || s) (sym g)) (h (reply ++ replies) (r || s) (first_and_more l f k)))
-
--- before the first line nothing is replied
-pub replies_begin : (budget : ℕ) (b d : Book) (input replies text : List ℕ) (r s : Bool) → b ≡ blank → text ≡ [] → s ≡ false → Replies budget b input replies r d → Replies budget blank input (text ++ replies) (s || r) d
-replies_begin budget b d input replies text r s e f g h =
-    subst (λ (z : Bool). Replies budget blank input (text ++ replies) (z || r) d) (sym g)
-    (subst (λ (z : List ℕ). Replies budget blank input (z ++ replies) r d) (sym f) (subst (λ (z : Book). Replies budget z input replies r d) e h))
-
--- behind the last line nothing is left
-pub replies_end : (budget : ℕ) (b first : Book) (rest all text bytes : List ℕ) (s : Bool) → length rest ≡ 0 → bytes ≡ text
-    → ((more : List ℕ) (v : Bool) → Replies budget b rest more v b → Replies budget first all (text ++ more) (s || v) b) → Replies budget first all bytes s b
-replies_end budget b first [] all text bytes s l e h =
-    subst (λ (z : List ℕ). Replies budget first all z s b) (append-nil text ∙ sym e) (subst (λ (z : Bool). Replies budget first all (text ++ []) z b) (sym (or_false s)) (h [] false no_more))
-replies_end budget b first (x ∷ xs) all text bytes s l e h = absurd (omega (arith, l))

@@ -1,5 +1,12 @@
 pub mod Answered
 pub mod Births
+pub mod Doing
+pub mod Entered
+pub mod Going
 pub mod Listings
 pub mod Names
+pub mod OneAnswer
 pub mod Running
+pub mod Scripting
+pub mod Story
+pub mod Whole

@@ -15,10 +15,6 @@ pub record Happens (old new : Engine) (Allowed : books.Book → List ℕ → Boo
   pub adds : Adds old.written new.written reply refusal
   pub budget : new.budget ≡ old.budget
 
--- the same, and this is left of the input
-abbrev pub HappensAt : Engine → Engine → List ℕ → (books.Book → List ℕ → Bool → books.Book → List ℕ → Type 0) → Type 0
-HappensAt old new rest Allowed = Happens old new (λ b r s d. Allowed b r s d rest)
-
 -- something was done, or was refused
 abbrev pub Moved : Engine → Engine → Step → Bool → Type 0
 Moved old new step done = Happens old new (λ b r s d. (s ≡ not done) × Moves old.budget b step r s d)

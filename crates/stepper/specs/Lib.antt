@@ -1,10 +1,13 @@
 pub mod Ended
 pub mod Engine
 pub mod Fault
+pub mod Laws
 pub mod Listing
 pub mod ListingView
 pub mod Steps
 pub mod Replies
+pub mod Runs
 pub mod Show
 pub mod ShowView
+pub mod Taking
 pub mod Written

@@ -1,5 +1,5 @@
 -- The replies to a text of commands.
-use Rattle.std.specs.Prelude.{◌≡◌, ℕ, suc, ◌+◌, ◌<◌, List, [], ◌∷◌, ◌++◌, length, filter, Bool, true, false, ◌||◌, Option, Some, None, Result, Ok, Err, codes}
+use Rattle.std.specs.Prelude.{◌≡◌, ℕ, suc, ◌+◌, ◌<◌, ◌≤◌, List, [], ◌∷◌, ◌++◌, length, filter, count_by, IsSome, Bool, true, false, ◌||◌, Option, Some, None, Result, Ok, Err, codes}
 use Rattle.std.specs.Fmt.{decimal}
 use Rattle.ids.specs.Names.{event_text, message_text}
 use Rattle.ids.specs.Quoted.{quoted}
@@ -29,9 +29,9 @@ use Rattle.causality.specs.Selections.{chosen}
 use Rattle.book.specs.Refusals.{Refusal, no_vat, name_taken, no_message, not_there, not_ready, before, nothing_to_learn, full, stale, vat_out, no_ticket, no_event, no_position, not_live, still_live, not_closed, crossed, cause_missing, dependent, bad_budget, unchecked}
 use Rattle.book.specs.Refusals.{birth_refusal, ask_refusal, arrival_refusal, forward_refusal, learning_refusal, checkout_refusal, undo_refusal, redo_refusal, cone_refusal, exchange_refusal}
 use Rattle.book.specs.Learning.{LearnsNamed, RefusesNamed}
-use Rattle.book.specs.Books.{Book}
+use Rattle.book.specs.Books.{Book, blank}
 use Rattle.book.specs.Calls.{EntersNext, TurnsNext, Undoes, Redoes, Exchanges, StoodAt}
-use Rattle.commands.specs.Lines.{line_of, behind_line}
+use Rattle.commands.specs.Lines.{is_line_feed, line_end, line_of, behind_line}
 use Rattle.commands.specs.declared.numbers.PromiseName.{PromiseName}
 use Rattle.commands.specs.Commands as command
 use Rattle.commands.specs.Commands.{Spelled, spelled_by, fault_text}
@@ -231,3 +231,39 @@ pub data Replies (budget : ℕ) : Book → List ℕ → List ℕ → Bool → Bo
   no_more : {b : Book} → Replies budget b [] [] false b
   first_and_more : {b c d : Book} {input rest reply replies : List ℕ} {r s : Bool} → 0 < length input
       → FirstReply budget b (said input) (behind_line input) reply r c rest → Replies budget c rest replies s d → Replies budget b input (reply ++ replies) (r || s) d
+
+-- how many lines of a script follow a line that says this
+abbrev pub script_lines : Result (Option Spelled) LineFault → ℕ
+script_lines (Ok (Some (command.birth x earlier lines))) = lines
+script_lines _ = 0
+
+-- how many line feeds are among bytes
+abbrev pub line_feeds : List ℕ → ℕ
+line_feeds bytes = count_by is_line_feed bytes
+
+-- the first command of these bytes is whole: a line feed ends its line, and as many more follow as its script has lines
+pub record IsWhole (bytes : List ℕ) : Type 0 where
+  pub line : IsSome (line_end bytes)
+  pub script : script_lines (said bytes) ≤ line_feeds (behind_line bytes)
+
+-- The replies to the first commands of an input, one after another, each of which is whole; whether one is a refusal; the book then, and
+-- the input that is left.
+pub data RepliesBefore (budget : ℕ) : Book → List ℕ → List ℕ → Bool → Book → List ℕ → Type 0 where
+  none_yet : {b : Book} {input : List ℕ} → RepliesBefore budget b input [] false b input
+  whole_and_more : {b c d : Book} {input rest left reply replies : List ℕ} {r s : Bool} → IsWhole input
+      → FirstReply budget b (said input) (behind_line input) reply r c rest → RepliesBefore budget c rest replies s d left → RepliesBefore budget b input (reply ++ replies) (r || s) d left
+
+-- The replies to the commands that bytes hold, and to no part of another: each command is whole, or the input ends behind the bytes.
+pub data RepliesToAll (budget : ℕ) (bytes : List ℕ) (IsLast : Type 0) (replies : List ℕ) (refused : Bool) (d : Book) : Type 0 where
+  whole_ones : RepliesBefore budget blank bytes replies refused d [] → RepliesToAll budget bytes IsLast replies refused d
+  with_last : IsLast → Replies budget blank bytes replies refused d → RepliesToAll budget bytes IsLast replies refused d
+
+-- all bytes but the last
+abbrev pub without_last : List ℕ → List ℕ
+without_last [] = []
+without_last (b ∷ []) = []
+without_last (b ∷ c ∷ bs) = b ∷ without_last (c ∷ bs)
+
+-- these bytes are of one command: none is whole before the last of them
+abbrev pub IsOfOne : List ℕ → Type 0
+IsOfOne bytes = ¬ IsWhole (without_last bytes)

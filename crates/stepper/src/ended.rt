@@ -2,7 +2,8 @@
 ghost use Rattle.std.specs.Prelude.{◌≡◌};
 ghost use Rattle.stepper.specs.Ended.{status_of};
 
-use crate::engine::{Fault, Summary};
+use crate::engine::Summary;
+use crate::fault::Fault;
 
 /// How a run of the program ends.
 #[derive(Clone, Copy)]

@@ -1,32 +1,38 @@
 // Commands answered one after another.
-ghost use Rattle.std.specs.Prelude.{◌≡◌, ◌<◌, ◌≤◌, ℕ, List, map, length, OnOk, IfOk, IfErr, Ok, Some};
+ghost use Rattle.std.specs.Prelude.{◌≡◌, ◌≢◌, ℕ, List, [], map, OnOk, IfOk, IfErr, MatchResult, Ok, Some, false};
 ghost use Rattle.kernele.specs.View.{program_of};
 ghost use Rattle.ereader.specs.Texts.{ReadAs};
-ghost use Rattle.book.specs.Books.{Book as BookModel, blank};
+ghost use Rattle.book.specs.Books.{blank};
+ghost use Rattle.book.specs.BookView.{book_of};
 ghost use Rattle.commands.specs.Commands as commands;
 ghost use Rattle.commands.specs.Commands.{command_of, reading_of};
-ghost use Rattle.commands.specs.Lines.{behind_line};
-ghost use Rattle.stepper.specs.Fault.{fault_text};
-ghost use Rattle.stepper.specs.declared.engine.Fault.TheVariants.{Memory};
 ghost use Rattle.commands.specs.ScriptView.{script_text};
-ghost use Rattle.stepper.specs.Replies.{Answers, AnswersBirth, FirstReply, Moves, Replies, Steps, said};
+ghost use Rattle.streams.specs.Lines.{is_ended, IsSound};
+ghost use Rattle.streams.specs.Pieces.{Reads, IsOneLine};
+ghost use Rattle.streams.specs.Outlet.{waiting};
+ghost use Rattle.stepper.specs.Replies.{Answers, AnswersBirth, Moves, Steps, script_lines};
+ghost use Rattle.stepper.specs.Taking.{Does, StopsWithin, AnswersLine, StopsLine};
+ghost use Rattle.stepper.specs.Runs.{RunsToEnd, RunsTo};
+ghost use Rattle.stepper.specs.declared.fault.Fault.TheVariants.{Writer};
 
+use crate::fault::Fault;
+use crate::input::{next_line, take_script};
 use crate::reply::Written;
 use agenda::agenda::Step;
 use book::book::{Book, Turned};
 use book::fault::BookFault;
 use commands::PromiseName;
 use commands::command::{Command, LineFault, command_of};
-use commands::lines::cut_line;
-use commands::script::{take_script, text_of};
+use commands::script::text_of;
 use ereader::read;
 use ids::names::{EventName, MsgId, PromId, VatNo};
 use ids::text::Text;
 use kernele::tree::Program;
 use std::alloc::{AllocError, Global};
-use std::fmt;
-use std::fmt::{Debug, Display, Formatter, Write};
-use thiserror::Error;
+use std::io::{Read, Write};
+use streams::line::Line;
+use streams::lines::Lines;
+use streams::outlet::Outlet;
 
 /// The bytes of the stack on which commands are to be answered: a text may nest thousands of levels deep, and the calls
 /// that read it nest with it.
@@ -48,43 +54,6 @@ pub struct Summary {
     pub refused: bool,
 }
 
-/// Why a run did not come to its end.
-#[derive(Clone, Copy, Error)]
-pub enum Fault {
-    /// The input could not be read.
-    Reader,
-    /// The replies could not be written.
-    Writer,
-    /// Memory ran out for a reply or for a command's text.
-    Memory,
-}
-
-impl Display for Fault {
-    ghost output = { λ fault. Some (fault_text fault) };
-
-    fn fmt<W: Write>(&self, f: &mut Formatter<W>) -> fmt::Result {
-        f.write_str(match self {
-            Fault::Reader => "reading failed",
-            Fault::Writer => "writing failed",
-            Fault::Memory => "out of memory",
-        })
-    }
-}
-
-impl Debug for Fault {
-    fn fmt<W: Write>(&self, f: &mut Formatter<W>) -> fmt::Result {
-        Display::fmt(self, f)
-    }
-}
-
-impl From<AllocError> for Fault {
-    ghost from_gives = { λ _ f. f ≡ Memory };
-
-    fn from(_error: AllocError) -> Self {
-        Fault::Memory
-    }
-}
-
 /// The book, and the replies so far.
 #[derive(Drop)]
 struct Engine {
@@ -96,7 +65,7 @@ struct Engine {
 }
 
 impl Engine {
-    ghost use Rattle.stepper.specs.Engine.{Happens, HappensAt, Moved};
+    ghost use Rattle.stepper.specs.Engine.{Happens, Moved};
 
     fn ask_program(&mut self, name: &str, program: Program) -> Result<(), AllocError>
         ensures { (text : List ℕ) → ReadAs text (Ok (program_of program)) → OnOk result (Happens self.old self.new (λ b r s d. Answers self.old.budget b (commands.ask name.now text) r s d)) }
@@ -333,10 +302,15 @@ impl Engine {
         }
     }
 
-    /// Answers a command, and gives what is left of the input behind it.
-    fn answer<'a>(&mut self, command: Command, input: &'a [u8]) -> Result<&'a [u8], AllocError>
-        ensures shorter { IfOk result (λ rest. length rest.now ≤ length input.now) }
-        ensures reply { IfOk result (λ rest. HappensAt self.old self.new rest.now (λ b r s d i. FirstReply self.old.budget b (Ok (Some (command_of command.entry))) input.now r s d i)) }
+    /// Answers a command, whose script is taken from the lines behind it.
+    fn answer<R: Read, W: Write>(
+        &mut self,
+        command: Command,
+        source: &mut Lines<R>,
+        sink: &mut Outlet<W>,
+    ) -> Result<(), Fault>
+        requires { IsSound R.remaining source.old }
+        ensures { MatchResult result (λ _. Does R.remaining W.contents self.old self.new source.old source.new sink.old sink.new (Ok (Some (command_of command.entry)))) (StopsWithin R.remaining W.contents source.old source.new sink.old sink.new (script_lines (Ok (Some (command_of command.entry))))) }
     {
         match command {
             Command::Birth {
@@ -344,9 +318,8 @@ impl Engine {
                 earlier,
                 lines,
             } => {
-                let script = take_script(self.alloc, input, lines)?;
-                self.birth(name, &earlier, &script.text)?;
-                return Ok(script.rest);
+                let script = take_script(self.alloc, lines, source, sink)?;
+                return Ok(self.birth(name, &earlier, &script)?);
             }
             Command::Ask { name, text } => self.ask(name, text),
             Command::Arrive(message) => self.obey(Step::Arrive(message)),
@@ -364,44 +337,75 @@ impl Engine {
             Command::Redo(events) => self.redo(&events),
             Command::Exchange(position) => self.exchange(position),
         }?;
-        Ok(input)
+        Ok(())
     }
 
-    /// Answers what a line says, and gives what is left of the input behind it.
-    fn answer_said<'a>(
+    /// Answers what a line says.
+    fn answer_said<R: Read, W: Write>(
         &mut self,
         says: Result<Option<Command>, LineFault>,
-        input: &'a [u8],
-    ) -> Result<&'a [u8], AllocError>
-        ensures shorter { IfOk result (λ rest. length rest.now ≤ length input.now) }
-        ensures reply { IfOk result (λ rest. HappensAt self.old self.new rest.now (λ b r s d i. FirstReply self.old.budget b (reading_of says.entry) input.now r s d i)) }
+        source: &mut Lines<R>,
+        sink: &mut Outlet<W>,
+    ) -> Result<(), Fault>
+        requires { IsSound R.remaining source.old }
+        ensures { MatchResult result (λ _. Does R.remaining W.contents self.old self.new source.old source.new sink.old sink.new (reading_of says.entry)) (StopsWithin R.remaining W.contents source.old source.new sink.old sink.new (script_lines (reading_of says.entry))) }
     {
         match says {
             Ok(spelled) => match spelled {
-                Some(command) => self.answer(command, input),
-                None => Ok(input),
+                Some(command) => self.answer(command, source, sink),
+                None => Ok(()),
             },
             Err(fault) => {
                 self.written.refuse_line(fault)?;
-                Ok(input)
+                Ok(())
             }
         }
     }
 
-    /// Answers the first line of an input, and gives what is left of it.
-    fn answer_first<'a>(&mut self, input: &'a [u8]) -> Result<&'a [u8], AllocError>
-        requires { 0 < length input.now }
-        ensures reply { IfOk result (λ rest. HappensAt self.old self.new rest.now (λ b r s d i. FirstReply self.old.budget b (said input.now) (behind_line input.now) r s d i)) }
-        ensures shorter { IfOk result (λ rest. length rest.now < length input.now) }
+    /// Answers the command that a line begins: its reply stands alone in `written` then.
+    fn answer_line<R: Read, W: Write>(
+        &mut self,
+        line: &Line,
+        source: &mut Lines<R>,
+        sink: &mut Outlet<W>,
+    ) -> Result<(), Fault>
+        requires { IsSound R.remaining source.old }
+        ensures { (bytes : List ℕ) → Reads line.now bytes → IsOneLine bytes (is_ended source.old) → MatchResult result
+            (λ _. AnswersLine R.remaining W.contents self.old self.new source.old source.new sink.old sink.new bytes)
+            (StopsLine R.remaining W.contents source.old source.new sink.old sink.new bytes) }
     {
-        let cut = cut_line(input);
-        match text_of(cut.line, cut.is_long) {
+        self.written.text.clear();
+        match text_of(line.text.as_slice(), line.is_long) {
             Ok(text) => {
                 let says = command_of(self.alloc, text)?;
-                self.answer_said(says, cut.rest)
+                self.answer_said(says, source, sink)
             }
-            Err(fault) => self.answer_said(Err(fault), cut.rest),
+            Err(fault) => self.answer_said(Err(fault), source, sink),
         }
+    }
+
+    /// Answers all commands.
+    fn answer_all<R: Read, W: Write>(
+        &mut self,
+        source: &mut Lines<R>,
+        sink: &mut Outlet<W>,
+    ) -> Result<(), Fault>
+        requires blank { book_of self.old.book ≡ blank }
+        requires none_refused { self.old.written.refused ≡ false }
+        requires sound { IsSound R.remaining source.old }
+        ensures { MatchResult result
+            (λ _. RunsToEnd R.remaining W.contents self.old.budget source.old source.new sink.old sink.new self.new.written.refused)
+            (RunsTo R.remaining W.contents self.old.budget source.old source.new sink.old sink.new) }
+    {
+        'commands: for _ in 0..u64::MAX {
+            match next_line(source, sink)? {
+                Some(line) => self.answer_line(&line, source, sink)?,
+                None => return Ok(()),
+            }
+            sink.give(self.written.text.as_bytes())?;
+        }
+        // More commands came than can be counted.
+        Err(Fault::Memory)
     }
 }
 
@@ -416,13 +420,21 @@ fn texts(alloc: Global, names: &[&str]) -> Result<Vec<Text>, AllocError>
     Ok(texts)
 }
 
-/// The replies to a text of commands.
+/// Answers the commands of a source one after another: each before it reads past the block that holds it.
 ///
 /// # Errors
-/// `Memory` where there is no memory for the replies or for a command's text.
-pub fn replies(alloc: Global, input: &[u8], limits: Limits) -> Result<(Vec<u8>, Summary), Fault>
-    ensures ok { IfOk result (λ r. (b : BookModel) × Replies limits.budget blank input.now r.0.items r.1.refused b) }
-    ensures err { IfErr result (λ f. f ≡ Memory) }
+/// `Reader` where a read failed: the commands that were read whole are answered. `Writer` where a write failed: a beginning of
+/// the replies went out. `Memory` where there was none for a line or a reply: just the commands before it are answered.
+pub fn run<R: Read, W: Write>(
+    alloc: Global,
+    source: &mut Lines<R>,
+    sink: &mut Outlet<W>,
+    limits: Limits,
+) -> Result<Summary, Fault>
+    requires { IsSound R.remaining source.old }
+    ensures ok { IfOk result (λ summary. RunsToEnd R.remaining W.contents limits.budget source.old source.new sink.old sink.new summary.refused) }
+    ensures err { IfErr result (RunsTo R.remaining W.contents limits.budget source.old source.new sink.old sink.new) }
+    ensures all_out { waiting sink.new ≡ [] }
 {
     let mut engine = Engine {
         alloc,
@@ -430,10 +442,22 @@ pub fn replies(alloc: Global, input: &[u8], limits: Limits) -> Result<(Vec<u8>, 
         book: Book::new(alloc),
         written: Written::new(alloc),
     };
-    let mut rest = input;
-    'lines: while !rest.is_empty() {
-        rest = engine.answer_first(rest)?;
+    match engine.answer_all(source, sink) {
+        Ok(()) => {
+            sink.send()?;
+            Ok(Summary {
+                refused: engine.written.refused,
+            })
+        }
+        Err(Fault::Reader) => {
+            sink.send()?;
+            Err(Fault::Reader)
+        }
+        // Nothing waits any more.
+        Err(Fault::Writer) => Err(Fault::Writer),
+        Err(Fault::Memory) => {
+            sink.send()?;
+            Err(Fault::Memory)
+        }
     }
-    let Written { text, refused } = engine.written;
-    Ok((text.into_bytes(), Summary { refused }))
 }

@@ -4,9 +4,13 @@
 mod enabled;
 mod ended;
 mod engine;
+mod fault;
+mod input;
 mod listing;
 mod reply;
 mod show;
+pub mod theorems;
 
 pub use ended::{Ended, status};
-pub use engine::{Fault, Limits, STACK, Summary, replies};
+pub use engine::{Limits, STACK, Summary, run};
+pub use fault::Fault;

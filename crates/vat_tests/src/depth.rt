@@ -1,11 +1,11 @@
 // What nests deepest: texts on a stack as large as that on which the program answers commands, evaluation on a smaller one, as a
 // thread of many would have it; and budgets at their ends.
 
-use crate::tables::{expect, expect_text, limits, nested, session_of};
+use crate::tables::{expect, expect_text, limits, nested, replies, session_of};
 use std::process::Abort;
 use std::rt::Runtime;
 use std::thread::{Builder, Threads};
-use stepper::{STACK, replies};
+use stepper::STACK;
 
 /// The stack of a thread that only runs turns, in bytes: level 1,000 fits it.
 const STACK_OF_TURNS: usize = 16 << 20;

@@ -1,8 +1,13 @@
 // Tables of texts and of what is wanted of them. A line of a table is a text, ` => `, and its answer. Memory is ample, so
 // where it runs out a test fails.
 
+use std::alloc::Global;
+use std::io;
+use std::io::Read;
 use std::process::Abort;
-use stepper::{Limits, replies};
+use stepper::{Fault, Limits, Summary, run};
+use streams::lines::Lines;
+use streams::outlet::Outlet;
 
 pub(crate) const BUDGET: u32 = 10_000;
 
@@ -41,16 +46,52 @@ pub(crate) fn row<'a>(rt: &impl Abort, line: &'a str) -> Option<(&'a str, &'a st
     row
 }
 
-/// Runs commands and compares the replies, and whether one is told to be a refusal.
-pub(crate) fn expect(rt: &(impl Abort + AllocGlobal), budget: u32, commands: &[u8], wanted: &str) {
+/// A reader that gives one byte at a time.
+#[derive(Drop)]
+struct Single<'a>(&'a [u8]);
+
+impl Read for Single<'_> {
+    fn read(&mut self, buf: &mut [u8]) -> io::Result<usize> {
+        let count = self.0.len().min(buf.len()).min(1);
+        buf[..count].copy_from_slice(&self.0[..count]);
+        self.0 = &self.0[count..];
+        Ok(count)
+    }
+}
+
+/// The replies to commands, and what is known of the run.
+pub(crate) fn replies<R: Read + Drop>(
+    alloc: Global,
+    commands: R,
+    limits: Limits,
+) -> Result<(Vec<u8>, Summary), Fault> {
+    let mut source = Lines::new(alloc, commands)?;
+    let mut sink = Outlet::new(alloc, Vec::new(alloc));
+    let summary = run(alloc, &mut source, &mut sink, limits)?;
+    Ok((sink.into_writer(), summary))
+}
+
+fn expect_of<R: Read + Drop>(
+    rt: &(impl Abort + AllocGlobal),
+    budget: u32,
+    commands: R,
+    of: &str,
+    wanted: &str,
+) {
     match replies(rt.alloc(), commands, limits(budget)) {
         Ok((written, summary)) => {
-            expect_text(rt, shown(commands), shown(&written), wanted);
+            expect_text(rt, of, shown(&written), wanted);
             let refused = wanted.lines().any(|reply| reply.starts_with("no "));
             assert!(rt; summary.refused == refused);
         }
         Err(_) => assert!(rt; false),
     }
+}
+
+/// Runs commands, read in one piece and one byte at a time, and compares the replies, and whether one is told to be a refusal.
+pub(crate) fn expect(rt: &(impl Abort + AllocGlobal), budget: u32, commands: &[u8], wanted: &str) {
+    expect_of(rt, budget, commands, shown(commands), wanted);
+    expect_of(rt, budget, Single(commands), shown(commands), wanted);
 }
 
 /// Commands, and the replies that are wanted of them.

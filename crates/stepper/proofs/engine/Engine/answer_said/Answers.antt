@@ -1,19 +1,28 @@
-use Rattle.std.proofs.Common.{true, refl, sym, ap, ◌∙◌, Ok}
+use Rattle.std.proofs.Common.{refl, sym, ap, subst, ◌∙◌, Ok}
+use Rattle.std.specs.Prelude.{MatchResult}
+use Rattle.std.proofs.lemmas.Result.{err_from_is_err_and}
 use Rattle.commands.specs.Commands.{reading_of}
-use Rattle.stepper.specs.Replies.{no_command}
-use Rattle.stepper.proofs.Answered.{happens_as, if_ok, said_as, nothing_happens}
+use Rattle.stepper.specs.Replies.{script_lines}
+use Rattle.stepper.specs.Taking.{Does, StopsWithin}
+use Rattle.stepper.proofs.Doing.{does_nothing, does_refuse, out_here}
 use Rattle.stepper.proofs.engine.Engine.answer_said.Goals as goal
 
-pub returns-in-Some-clause-reply : goal.returns-in-Some-clause-reply
-returns-in-Some-clause-reply c =
+pub returns-in-Some : goal.returns-in-Some
+returns-in-Some g c =
+    let remaining = g.R.Read.remaining in
+    let contents = g.W.Write.contents in
     let e = ap reading_of (c.in-Ok.is ∙ ap (λ o. Ok o) c.in-Some.is) in
-    if_ok c.answer.result (λ rest h. happens_as (λ b r s d k. said_as (sym e) k) h) c.answer.ensures.reply
+    subst (λ z. MatchResult c.answer.result (λ _. Does remaining contents c.args.self.now c.answer.new.self c.args.source.now c.answer.new.source c.args.sink.now c.answer.new.sink z)
+    (StopsWithin remaining contents c.args.source.now c.answer.new.source c.args.sink.now c.answer.new.sink (script_lines z))) (sym e) c.answer.ensures
 
-pub returns-in-None-clause-reply : goal.returns-in-None-clause-reply
-returns-in-None-clause-reply c =
-    let e = ap reading_of (c.in-Ok.is ∙ ap (λ o. Ok o) c.in-None.is) in
-    happens_as (λ b r s d k. said_as (sym e) k) (nothing_happens c.args.self.now c.args.self.now.budget c.args.input.now)
+pub returns-in-None : goal.returns-in-None
+returns-in-None g c = does_nothing g.R.Read.remaining g.W.Write.contents c.args.source.now c.args.sink.now c.requires c.args.self.now (ap reading_of (c.in-Ok.is ∙ ap (λ o. Ok o) c.in-None.is))
 
-pub returns-in_ok-refuse_line-in-Err-clause-reply : goal.returns-in_ok-refuse_line-in-Err-clause-reply
-returns-in_ok-refuse_line-in-Err-clause-reply c =
-    record { reply = _; refusal = true; allowed = said_as (sym (ap reading_of c.in-Err.is)) no_command; adds = c.in_ok-refuse_line-in-Err.ensures; budget = refl }
+pub returns-in_ok-refuse_line-in-Err : goal.returns-in_ok-refuse_line-in-Err
+returns-in_ok-refuse_line-in-Err g c =
+    does_refuse g.R.Read.remaining g.W.Write.contents c.args.source.now c.args.sink.now c.requires c.in-Err.fault (ap reading_of c.in-Err.is) refl refl c.in_ok-refuse_line-in-Err.ensures
+
+pub returns-in_err-refuse_line-in-Err : goal.returns-in_err-refuse_line-in-Err
+returns-in_err-refuse_line-in-Err g c =
+    let p = err_from_is_err_and c.from_residual.result c.from_residual.ensures.1 in
+    rw (p.1, p.2) (out_here g.R.Read.remaining g.W.Write.contents c.args.source.now c.args.sink.now c.requires _)

@@ -1,0 +1,14 @@
+-- How a run over a reader and a writer ends.
+use Rattle.std.proofs.Common.{◌≡◌, ℕ, List, Option, Result, Ok, Err}
+use Rattle.std.specs.Prelude.{IfOk, IfErr}
+use Rattle.streams.specs.declared.lines.Lines.{Lines}
+use Rattle.streams.specs.declared.outlet.Outlet.{Outlet}
+use Rattle.stepper.specs.Runs.{RunsToEnd, RunsTo}
+use Rattle.stepper.specs.declared.engine.Summary.{Summary}
+use Rattle.stepper.specs.declared.fault.Fault.{Fault}
+use Rattle.evats.specs.Edge.{RunsAs}
+
+pub runs_as : {R W : Type 0} (remaining : R → Option (List ℕ)) (contents : W → Option (List ℕ)) (budget : ℕ) (source later : Lines R) (sink after : Outlet W) (r : Result Summary Fault)
+    → IfOk r (λ summary. RunsToEnd remaining contents budget source later sink after summary.refused) → IfErr r (RunsTo remaining contents budget source later sink after) → RunsAs remaining contents budget source later sink after r
+runs_as remaining contents budget source later sink after (Ok summary) ends fails = ends
+runs_as remaining contents budget source later sink after (Err fault) ends fails = fails

@@ -1,0 +1,26 @@
+// The engine over a reader and a writer.
+ghost use Rattle.evats.specs.Edge.{EndsAs};
+
+use std::alloc::Global;
+use std::io::{Read, Write};
+use stepper::{Ended, Fault, Limits, run};
+use streams::lines::Lines;
+use streams::outlet::Outlet;
+
+/// Answers the commands of a reader on a writer.
+pub(crate) fn answer_commands<I: Read + Drop, O: Write + Drop>(
+    alloc: Global,
+    input: I,
+    output: O,
+    limits: Limits,
+) -> Ended
+    ensures { EndsAs I.remaining O.contents limits.budget input output result }
+{
+    match Lines::new(alloc, input) {
+        Ok(mut source) => {
+            let mut sink = Outlet::new(alloc, output);
+            Ended::Ran(run(alloc, &mut source, &mut sink, limits))
+        }
+        Err(_) => Ended::Ran(Err(Fault::Memory)),
+    }
+}

@@ -1,0 +1,143 @@
+-- What is entered in a book is told by the event alone.
+use Rattle.std.proofs.Common.{◌≡◌, ℕ, Bool, true, List, [], ◌∷◌, ◌++◌, Some, map, refl, sym, ap, subst, ◌∙◌}
+use Rattle.std.specs.Prelude.{◌&&◌, is_some, reverse, codes}
+use Rattle.std.specs.List.{list_any, filter}
+use Rattle.std.proofs.Props.{props}
+use Rattle.std.proofs.Math.Logic.{∥∥₁_elim}
+use Rattle.history.specs.Subject.{after, new, touches}
+use Rattle.history.specs.Journal.{Entry, causes_of, name_of}
+use Rattle.history.proofs.Core.{runs_are_one}
+use Rattle.history.proofs.Writing.{after_alike}
+use Rattle.ids.specs.Names.{event_text}
+use Rattle.ids.specs.declared.cells.CellKey.{CellKey}
+use Rattle.ids.specs.declared.names.EventName.{EventName}
+use Rattle.ids.specs.declared.names.VatNo.{VatNo}
+use Rattle.ids.specs.declared.names.MsgId.{MsgId}
+use Rattle.post.specs.Messages.{Message}
+use Rattle.deliveries.specs.Turn.{Delivers, Told}
+use Rattle.deliveries.proofs.Turns.{delivery_same}
+use Rattle.worldcells.specs.Events.{Event, Act, turn}
+use Rattle.worldcells.specs.World.{World, vat_state}
+use Rattle.event.specs.Events.{Foot, Does, events, Turn, Turns, turn_foot}
+use Rattle.event.specs.Walks.{found_by}
+use Rattle.event.specs.Runs.{PlainRun}
+use Rattle.event.proofs.Law.{events_laws}
+use Rattle.journal.specs.Lines.{plain, Line, entries_in}
+use Rattle.book.specs.Books.{Book}
+use Rattle.book.specs.Calls.{Tells, Enters, EntersNext, TurnsNext}
+use Rattle.book.proofs.Sets.{World-set}
+use Rattle.stepper.specs.Replies.{told_text, turned_text}
+use Rattle.stepper.specs.Laws.{SameLine, SameLines, SameBook}
+
+bools : IsSet Bool
+bools = hlevel props
+
+texts : IsSet (List ℕ)
+texts = hlevel props
+
+vats : IsSet VatNo
+vats = hlevel props
+
+-- ---- what is the same as itself
+
+one_line : (l : Line) → SameLine l l
+one_line l = record { event = refl; seat = refl; live = refl; causes = refl; touched = λ k. refl; written = λ k. refl }
+
+these_lines : (ls : List Line) → SameLines ls ls
+these_lines [] = tt
+these_lines (l ∷ ls) = (one_line l, these_lines ls)
+
+pub same_lines : (ls ms : List Line) → ms ≡ ls → SameLines ls ms
+same_lines ls ms e = subst (SameLines ls) (sym e) (these_lines ls)
+
+pub same_book : (b : Book) → SameBook b b
+same_book b = record { world = refl; next = refl; out = refl; journal = same_lines b.journal b.journal refl }
+
+lines_more : (ls : List Line) (l m : Line) → SameLine l m → SameLines (ls ++ l ∷ []) (ls ++ m ∷ [])
+lines_more [] l m h = (h, tt)
+lines_more (x ∷ xs) l m h = (one_line x, lines_more xs l m h)
+
+-- ---- one event in one world
+
+module _ {e : Event} {f g : Foot} {w : World} (h : ∥ Does e w f ∥₁) (k : ∥ Does e w g ∥₁) where
+  after_once : after events f w ≡ after events g w
+  after_once = ∥∥₁_elim h (World-set _ _) (λ a. ∥∥₁_elim k (World-set _ _) (λ b. after_alike events f g w (events_laws.once e w f g a b)))
+
+  touched_once : (c : CellKey) → touches events f c ≡ touches events g c
+  touched_once c = ∥∥₁_elim h (bools _ _) (λ a. ∥∥₁_elim k (bools _ _) (λ b. (events_laws.once e w f g a b).touch c))
+
+  written_once : (c : CellKey) → is_some (new events f c) ≡ is_some (new events g c)
+  written_once c = ∥∥₁_elim h (bools _ _) (λ a. ∥∥₁_elim k (bools _ _) (λ b. ap is_some ((events_laws.once e w f g a b).write c)))
+
+-- the causes go by the cells that are touched
+causes_once : (l m : Line) (es : List (Entry plain)) → ((k : CellKey) → touches plain m.entry.foot k ≡ touches plain l.entry.foot k) → causes_of plain m.entry.foot es ≡ causes_of plain l.entry.foot es
+causes_once l m es h = λ i. map (name_of plain) (filter (λ (a : Entry plain). a.live && list_any (λ p. h p.0 i) a.foot.writes) es)
+
+line_once : {e : Event} {f g : Foot} {w : World} {seat : ℕ} {ls : List Line} {l m : Line} → ∥ Does e w f ∥₁ → ∥ Does e w g ∥₁ → Tells e f seat ls l → Tells e g seat ls m → SameLine l m
+line_once {ls = ls} {l = l} {m = m} a b h k =
+    let touched : (c : CellKey) → touches plain m.entry.foot c ≡ touches plain l.entry.foot c = λ c. k.touched c ∙ sym (touched_once a b c) ∙ sym (h.touched c) in
+    record {
+      event = k.event ∙ sym h.event;
+      seat = k.same_seat ∙ sym h.same_seat;
+      live = k.live ∙ sym h.live;
+      causes = k.causes ∙ ap reverse (causes_once l m (entries_in ls) touched) ∙ sym h.causes;
+      touched = touched;
+      written = λ c. k.written c ∙ sym (written_once a b c) ∙ sym (h.written c);
+    }
+
+pub enters_once : {e : Event} {f g : Foot} {seat : ℕ} {b c d : Book} → Enters e f seat b c → Enters e g seat b d → d.next ≡ c.next → d.out ≡ c.out → SameBook c d
+enters_once {b = b} {c = c} {d = d} h k next out = record {
+  world = k.step ∙ sym (after_once h.does k.does) ∙ sym h.step;
+  next = next;
+  out = out;
+  journal = subst (λ (z : List Line). SameLines z d.journal) (sym h.entered)
+      (subst (λ (z : List Line). SameLines (b.journal ++ h.line ∷ []) z) (sym k.entered) (lines_more b.journal h.line k.line (line_once h.does k.does h.tells k.tells)));
+}
+
+pub one_name : (x y : EventName) (n : ℕ) → x.0 ≡ n → y.0 ≡ n → x ≡ y
+one_name x y n h k = λ i. record { 0 = (h ∙ sym k) i }
+
+-- an event that is entered next has one name, and leaves one book
+pub entered_once : {x y : EventName} {a : Act} {f g : Foot} {b c d : Book} → EntersNext (record { name = x; act = a }) f 0 b c → EntersNext (record { name = y; act = a }) g 0 b d → (x ≡ y) × SameBook c d
+entered_once {x = x} {y = y} {a = a} {g = g} {b = b} {d = d} h k =
+    let same : x ≡ y = one_name x y b.next h.named k.named in
+    let also : EntersNext (record { name = x; act = a }) g 0 b d = subst (λ (z : EventName). EntersNext (record { name = z; act = a }) g 0 b d) (sym same) k in
+    (same, enters_once h.enters also.enters (k.drawn ∙ sym h.drawn) (k.same_out ∙ sym h.same_out))
+
+-- ---- turns
+
+one_message : {e : EventName} {w : World} {m : MsgId} {n : ℕ} (t u : Turn) → Turns e w m n t → Turns e w m n u → u.message ≡ t.message
+one_message t u p q = let a = p.waiting in let b = q.waiting in cc
+
+one_vat : {e : EventName} {w : World} {m : MsgId} {n : ℕ} (t u : Turn) → Turns e w m n t → Turns e w m n u → u.vat ≡ t.vat
+one_vat t u p q = let a = p.waiting in let b = q.waiting in let c = p.there in let d = q.there in cc
+
+-- a turn of a message tells one thing
+told_once : {e : EventName} {w : World} {m : MsgId} {n : ℕ} (t u : Turn) → Turns e w m n t → Turns e w m n u → told_text u.outcome.told ≡ told_text t.outcome.told
+told_once {e = e} {w = w} {n = n} t u p q =
+    let here : Delivers t.message (found_by w t.message.delivery) e u.vat (vat_state w u.vat) n u.outcome
+    = subst (λ (g : Message). Delivers g (found_by w g.delivery) e u.vat (vat_state w u.vat) n u.outcome) (one_message t u p q) q.delivers.0 in
+    let also : Delivers t.message (found_by w t.message.delivery) e t.vat (vat_state w t.vat) n u.outcome
+    = subst (λ (v : VatNo). Delivers t.message (found_by w t.message.delivery) e v (vat_state w v) n u.outcome) (one_vat t u p q) here in
+    ap (λ o. told_text o.told) (delivery_same also p.delivers.0)
+
+turned_so : (x y : EventName) (o p : Told) → y ≡ x → told_text p ≡ told_text o → turned_text y p ≡ turned_text x o
+turned_so x y o p e words = ap (λ (z : EventName). codes "ok " ++ (event_text z ++ (codes " " ++ (told_text p ++ 10 ∷ [])))) e ∙ ap (λ (z : List ℕ). codes "ok " ++ (event_text x ++ (codes " " ++ (z ++ 10 ∷ [])))) words
+
+pub turned_once : {m : MsgId} {budget : ℕ} {b c d : Book} {x y : EventName} {t u : Turn} → TurnsNext x m budget t b c → TurnsNext y m budget u b d
+    → (turned_text y u.outcome.told ≡ turned_text x t.outcome.told) × SameBook c d
+turned_once {m = m} {budget = budget} {b = b} {d = d} {x = x} {y = y} {t = t} {u = u} h k =
+    let same : x ≡ y = one_name x y b.next h.named k.named in
+    let also : TurnsNext x m budget u b d = subst (λ (z : EventName). TurnsNext z m budget u b d) (sym same) k in
+    let words : told_text u.outcome.told ≡ told_text t.outcome.told = ∥∥₁_elim h.enters.turns (texts _ _) (λ p. ∥∥₁_elim also.enters.turns (texts _ _) (λ q. told_once t u p q)) in
+    let vat : u.vat ≡ t.vat = ∥∥₁_elim h.enters.turns (vats _ _) (λ p. ∥∥₁_elim also.enters.turns (vats _ _) (λ q. one_vat t u p q)) in (
+      turned_so x y t.outcome.told u.outcome.told (sym same) words,
+      enters_once h.enters.enters
+          (subst (λ (v : VatNo). Enters (record { name = x; act = turn v m budget }) (turn_foot x b.world m u also.enters.cells also.enters.left) 0 b d) vat also.enters.enters)
+          (k.drawn ∙ sym h.drawn) (k.same_out ∙ sym h.same_out),
+    )
+
+-- ---- plain runs
+
+pub one_run : (es : List Event) {w v : World} → PlainRun es w → PlainRun es v → v ≡ w
+one_run es h k = ∥∥₁_elim h (World-set _ _) (λ a. ∥∥₁_elim k (World-set _ _) (λ b. runs_are_one events events_laws b a))

@@ -1,0 +1,68 @@
+-- What holds of replies: each is a function of the book and the command, but for want of memory and the place of `L5`.
+use Rattle.std.specs.Prelude.{◌≡◌, ℕ, List, [], ◌∷◌, Bool, is_some, Result, codes}
+use Rattle.history.specs.Subject.{touches, new}
+use Rattle.ids.specs.declared.cells.CellKey.{CellKey}
+use Rattle.ereader.specs.Shown as reading
+use Rattle.ereader.specs.declared.fault.ReadFault.TheVariants as read_fault
+use Rattle.journal.specs.Lines.{plain, Line}
+use Rattle.book.specs.Books.{Book}
+use Rattle.commands.specs.Commands as command
+use Rattle.commands.specs.Commands.{Spelled}
+use Rattle.commands.specs.declared.command.LineFault.{LineFault}
+use Rattle.stepper.specs.Replies.{refused, Answers, AnswersBirth}
+
+-- two lines of a journal tell the same: one event from one seat, live or undone, with the same causes, which touched and wrote the same cells
+pub record SameLine (l m : Line) : Type 0 where
+  pub event : m.entry.event ≡ l.entry.event
+  pub seat : m.seat ≡ l.seat
+  pub live : m.entry.live ≡ l.entry.live
+  pub causes : m.entry.causes ≡ l.entry.causes
+  pub touched : (k : CellKey) → touches plain m.entry.foot k ≡ touches plain l.entry.foot k
+  pub written : (k : CellKey) → is_some (new plain m.entry.foot k) ≡ is_some (new plain l.entry.foot k)
+
+abbrev pub SameLines : List Line → List Line → Type 0
+SameLines [] [] = Unit {0}
+SameLines (l ∷ ls) (m ∷ ms) = SameLine l m × SameLines ls ms
+SameLines _ _ = ⊥
+
+-- two books are the same: one world, one name that comes next, the same tickets out, and journals that tell the same line by line
+pub record SameBook (b d : Book) : Type 0 where
+  pub world : d.world ≡ b.world
+  pub next : d.next ≡ b.next
+  pub out : d.out ≡ b.out
+  pub journal : SameLines b.journal d.journal
+
+-- memory ran out for a text, or for the book
+pub data IsForWant : List ℕ → Type 0 where
+  book_without_memory : IsForWant (refused (codes "B20 Memory"))
+  text_without_memory : IsForWant (refused (codes "L7 Memory"))
+
+-- two replies are one, but for the place at which a text is unexpected
+pub data SameReply : List ℕ → List ℕ → Type 0 where
+  one_reply : {r : List ℕ} → SameReply r r
+  other_place : (i j : ℕ) → SameReply (refused (reading.shown (read_fault.Unexpected i))) (refused (reading.shown (read_fault.Unexpected j)))
+
+-- two answers are one: the reply, whether it is a refusal, and the book
+pub record SameAnswer (r : List ℕ) (q : Bool) (b : Book) (s : List ℕ) (p : Bool) (d : Book) : Type 0 where
+  pub reply : SameReply r s
+  pub refusal : p ≡ q
+  pub book : SameBook b d
+
+-- the commands of which this is said here: all but those that show the world or run many steps, and the learning of a promise that is named without
+-- its home
+abbrev pub IsTold : Spelled → Type 0
+IsTold (command.learn x n) = ⊥
+IsTold command.enabled = ⊥
+IsTold command.show = ⊥
+IsTold (command.run n) = ⊥
+IsTold _ = Unit {0}
+
+-- a command has one answer at most, where memory does not run out
+abbrev pub OneAnswer : Type 0
+OneAnswer = (budget : ℕ) (b : Book) (c : Spelled) (r s : List ℕ) (q p : Bool) (d e : Book) → IsTold c → Answers budget b c r q d → Answers budget b c s p e
+    → ¬ IsForWant r → ¬ IsForWant s → SameAnswer r q d s p e
+
+-- so has a new vat
+abbrev pub OneBirth : Type 0
+OneBirth = (b : Book) (x : List ℕ) (earlier : List (List ℕ)) (script : Result (List ℕ) LineFault) (r s : List ℕ) (q p : Bool) (d e : Book) → AnswersBirth b x earlier script r q d
+    → AnswersBirth b x earlier script s p e → ¬ IsForWant r → ¬ IsForWant s → SameAnswer r q d s p e

@@ -1,0 +1,125 @@
+-- What is taken of a source and given to a sink for one command, line by line.
+use Rattle.std.specs.Prelude.{◌≡◌, ℕ, ◌<◌, ◌≤◌, List, [], ◌∷◌, ◌++◌, Bool, true, false, ◌||◌, string_bytes, Option, Result, Ok, Err}
+use Rattle.std.specs.Io.KnownBytes.{Consumes}
+use Rattle.book.specs.Books.{Book}
+use Rattle.book.specs.BookView.{book_of}
+use Rattle.commands.specs.Commands.{Spelled}
+use Rattle.commands.specs.Lines.{behind_line}
+use Rattle.commands.specs.Scripts.{script_of, behind_lines}
+use Rattle.commands.specs.declared.command.LineFault.{LineFault}
+use Rattle.streams.specs.Counted.{IsOneMore}
+use Rattle.streams.specs.Lines.{held, reads_failed, is_ended, unread, IsSound, FailsWithin, RunsOut}
+use Rattle.streams.specs.Outlet.{Gives, IsCutShort}
+use Rattle.streams.specs.declared.lines.Lines.{Lines}
+use Rattle.streams.specs.declared.outlet.Outlet.{Outlet}
+use Rattle.stepper.specs.Replies.{said, FirstReply, IsWhole, IsOfOne, script_lines, line_feeds, without_last}
+use Rattle.stepper.specs.Engine.{Happens}
+use Rattle.stepper.specs.declared.engine.Engine.{Engine}
+use Rattle.stepper.specs.declared.fault.Fault.{Fault}
+use Rattle.stepper.specs.declared.fault.Fault.TheVariants.{Reader, Writer, Memory}
+
+-- what a line says is answered, with the lines of its script behind it: where the input did not end with them, the answer is the same
+-- whatever follows
+pub record Follows (budget : ℕ) (says : Result (Option Spelled) LineFault) (script : List ℕ) (ended : Bool) (b : Book) (reply : List ℕ) (refusal : Bool) (d : Book) : Type 0 where
+  pub here : FirstReply budget b says script reply refusal d []
+  pub lines : ended ≡ false → script_lines says ≤ line_feeds script
+  pub before : ended ≡ false → (more : List ℕ) → FirstReply budget b says (script ++ more) reply refusal d more
+
+-- bytes of so many lines: none, or fewer line feeds stand before the last
+pub data IsOfLines (lines : ℕ) : List ℕ → Type 0 where
+  no_bytes : IsOfLines lines []
+  some_bytes : {b : ℕ} {bs : List ℕ} → line_feeds (without_last (b ∷ bs)) < lines → IsOfLines lines (b ∷ bs)
+
+module _ {R W : Type 0} (remaining : R → Option (List ℕ)) (contents : W → Option (List ℕ)) where
+  -- what a fault says where the next line was to be taken
+  abbrev pub StopsAtLine : Lines R → Lines R → Outlet W → Outlet W → Fault → Type 0
+  StopsAtLine source later sink after Reader = FailsWithin remaining source later × Gives contents sink after []
+  StopsAtLine source later sink after Writer = IsCutShort contents sink after []
+  StopsAtLine source later sink after Memory = RunsOut remaining source later × Gives contents sink after []
+
+  -- the lines of a script are taken
+  pub record TakesScript (lines : ℕ) (source later : Lines R) (sink after : Outlet W) (script : Result (List ℕ) LineFault) : Type 0 where
+    pub bytes : List ℕ
+    pub taken : Consumes (unread remaining source) (unread remaining later) bytes
+    pub sound : IsSound remaining later
+    pub none_failed : reads_failed later ≡ reads_failed source
+    pub gives : Gives contents sink after []
+    pub stays : is_ended source ≡ true → (bytes ≡ []) × (is_ended later ≡ true)
+    pub text : script ≡ script_of lines bytes
+    pub left : behind_lines lines bytes ≡ []
+    pub no_more : IsOfLines lines bytes
+    pub whole : is_ended later ≡ false → lines ≤ line_feeds bytes
+    pub before : is_ended later ≡ false → (more : List ℕ) → (script ≡ script_of lines (bytes ++ more)) × (more ≡ behind_lines lines (bytes ++ more))
+
+  -- what a line says is answered
+  pub record Does (old new : Engine) (source later : Lines R) (sink after : Outlet W) (says : Result (Option Spelled) LineFault) : Type 0 where
+    pub bytes : List ℕ
+    pub taken : Consumes (unread remaining source) (unread remaining later) bytes
+    pub sound : IsSound remaining later
+    pub none_failed : reads_failed later ≡ reads_failed source
+    pub stays : is_ended source ≡ true → (bytes ≡ []) × (is_ended later ≡ true)
+    pub gives : Gives contents sink after []
+    pub happens : Happens old new (Follows old.budget says bytes (is_ended later))
+
+  -- a read failed before so many lines were taken: what was read of them was taken
+  pub record FailsBefore (lines : ℕ) (source later : Lines R) (sink after : Outlet W) : Type 0 where
+    pub bytes : List ℕ
+    pub taken : Consumes (unread remaining source) (unread remaining later) bytes
+    pub none_held : held later ≡ []
+    pub few : line_feeds bytes < lines
+    pub not_ended : is_ended source ≡ false
+    pub one_failed : IsOneMore (reads_failed source) (reads_failed later)
+    pub gives : Gives contents sink after []
+
+  -- memory ran out for so many lines, or for the reply to them: no more was taken than they are
+  pub record RunsOutBefore (lines : ℕ) (source later : Lines R) (sink after : Outlet W) : Type 0 where
+    pub bytes : List ℕ
+    pub taken : Consumes (unread remaining source) (unread remaining later) bytes
+    pub no_more : IsOfLines lines bytes
+    pub stays : is_ended source ≡ true → bytes ≡ []
+    pub none_failed : reads_failed later ≡ reads_failed source
+    pub gives : Gives contents sink after []
+
+  -- what a fault says where so many lines were to be taken, and answered
+  abbrev pub StopsWithin : Lines R → Lines R → Outlet W → Outlet W → ℕ → Fault → Type 0
+  StopsWithin source later sink after lines Reader = FailsBefore lines source later sink after
+  StopsWithin source later sink after lines Writer = IsCutShort contents sink after []
+  StopsWithin source later sink after lines Memory = RunsOutBefore lines source later sink after
+
+  -- the command that a line begins is answered: its line and the lines of its script were taken
+  pub record AnswersLine (old new : Engine) (source later : Lines R) (sink after : Outlet W) (line : List ℕ) : Type 0 where
+    pub bytes : List ℕ
+    pub taken : Consumes (unread remaining source) (unread remaining later) bytes
+    pub sound : IsSound remaining later
+    pub none_failed : reads_failed later ≡ reads_failed source
+    pub gives : Gives contents sink after []
+    pub refusal : Bool
+    pub here : FirstReply old.budget (book_of old.book) (said (line ++ bytes)) (behind_line (line ++ bytes)) (string_bytes new.written.text) refusal (book_of new.book) []
+    pub whole : is_ended later ≡ false → (more : List ℕ) → IsWhole ((line ++ bytes) ++ more)
+    pub before : is_ended later ≡ false → (more : List ℕ)
+        → FirstReply old.budget (book_of old.book) (said ((line ++ bytes) ++ more)) (behind_line ((line ++ bytes) ++ more)) (string_bytes new.written.text) refusal (book_of new.book) more
+    pub refused : new.written.refused ≡ (old.written.refused || refusal)
+    pub budget : new.budget ≡ old.budget
+
+  -- a read failed before the command that a line begins was whole
+  pub record FailsBehind (source later : Lines R) (sink after : Outlet W) (line : List ℕ) : Type 0 where
+    pub bytes : List ℕ
+    pub taken : Consumes (unread remaining source) (unread remaining later) bytes
+    pub none_held : held later ≡ []
+    pub none_whole : ¬ IsWhole (line ++ bytes)
+    pub one_failed : IsOneMore (reads_failed source) (reads_failed later)
+    pub gives : Gives contents sink after []
+
+  -- memory ran out for the command that a line begins: no more was taken than its line and its script
+  pub record RunsOutBehind (source later : Lines R) (sink after : Outlet W) (line : List ℕ) : Type 0 where
+    pub bytes : List ℕ
+    pub taken : Consumes (unread remaining source) (unread remaining later) bytes
+    pub of_one : IsOfOne (line ++ bytes)
+    pub none_failed : reads_failed later ≡ reads_failed source
+    pub gives : Gives contents sink after []
+
+  -- what a fault says behind a line
+  abbrev pub StopsLine : Lines R → Lines R → Outlet W → Outlet W → List ℕ → Fault → Type 0
+  StopsLine source later sink after line Reader = FailsBehind source later sink after line
+  StopsLine source later sink after line Writer = IsCutShort contents sink after []
+  StopsLine source later sink after line Memory = RunsOutBehind source later sink after line
