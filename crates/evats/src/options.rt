@@ -2,13 +2,43 @@
 ghost use Rattle.std.specs.Prelude.{◌≡◌, codes};
 ghost use Rattle.std.specs.Option.{option_map};
 ghost use Rattle.clap.specs.Words.{found_of, one_text, first_value};
-ghost use Rattle.evats.specs.Options.{IsNumber};
+ghost use Rattle.evats.specs.Options.{IsNumber, IsFileOf};
 
 use clap::{Arg, ArgMatches, Command, Error, value_parser};
 use std::alloc::{AllocError, Global};
 use std::io;
 use std::rt::Runtime;
 use stepper::{Ended, Limits};
+
+/// What `--version` tells.
+const VERSION: &str = "0.1.0";
+
+/// What stands below the options in the help.
+const COMMANDS: &str = "\
+Commands, one a line:
+  vat NAME (EARLIER..) N    a vat, whose script is the next N lines, with the nouns of earlier vats
+  ask NAME PROGRAM          a question to a vat
+  enabled                   what may be done now
+  step                      does the first that may be done
+  run N                     up to N steps
+  arrive M                  the message M arrives at the vat of its target
+  forward M                 the message M goes on to where its target lives now
+  turn M                    the turn of the message M
+  learn NAME P              a vat learns what came of the promise P
+  show                      the world
+  journal                   all events with their causes
+  cone E                    the event E with all its consequences
+  undo E..                  takes events back that have no consequences but each other
+  undo-cone E               takes an event back with all its consequences
+  redo E..                  does events again where they stood
+  exchange P                lets the entry at position P and the next one change places
+
+For example:
+  vat a () 1
+  def greet(name) { return \"hello \" + name }
+  turn e1.m0
+  ask a greet(\"world\")
+  turn e3.m0";
 
 /// The options of a run.
 #[derive(Drop)]
@@ -36,9 +66,9 @@ fn numbered<'a>(alloc: Global, name: &'a str, most: i64, help: &'a str) -> Arg<'
 }
 
 fn file<'a>(alloc: Global) -> Arg<'a> {
-    Arg::new(alloc, "file")
-        .value_name("FILE")
-        .help("The commands; without FILE standard input is read")
+    Arg::new(alloc, "file").value_name("FILE").help(
+        "The commands; without FILE, or where it is -, standard input is read",
+    )
 }
 
 fn command<'a>(alloc: Global) -> Result<Command<'a>, AllocError> {
@@ -55,7 +85,9 @@ fn command<'a>(alloc: Global) -> Result<Command<'a>, AllocError> {
         "The most workers that a command may start, 1 to 64; 8 if not given",
     );
     Command::new(alloc, "evats")
+        .version(VERSION)
         .about("Runs programs of communicating event-loop vats: one reply for each command")
+        .after_help(COMMANDS)
         .arg(budget)?
         .arg(workers)?
         .arg(file(alloc))
@@ -68,19 +100,29 @@ fn number(matches: &ArgMatches, name: &str, otherwise: u32) -> u32
     matches.get_one::<u32>(name).unwrap_or(otherwise)
 }
 
+/// The file that a word names; `-` is standard input.
+fn named_file(word: Option<&str>) -> Option<&str>
+    ensures { IsFileOf (option_map (λ s. s.now) word) (option_map (λ s. s.now) result) }
+{
+    match word {
+        Some(path) if path != "-" => Some(path),
+        _ => None,
+    }
+}
+
 impl<'a> Options<'a> {
     /// The options that words were matched to: 10,000 steps and 8 workers where they say no other numbers.
     fn from_matches(matches: &ArgMatches<'a>) -> Self
         ensures budget { IsNumber 10000 (one_text (found_of matches.now) (codes "budget")) result.limits.budget }
         ensures workers { IsNumber 8 (one_text (found_of matches.now) (codes "workers")) result.limits.workers }
-        ensures file { option_map (λ s. s.now) result.file ≡ first_value (found_of matches.now) (codes "file") }
+        ensures file { IsFileOf (first_value (found_of matches.now) (codes "file")) (option_map (λ s. s.now) result.file) }
     {
         Options {
             limits: Limits {
                 budget: number(matches, "budget", 10_000),
                 workers: number(matches, "workers", 8),
             },
-            file: matches.get_str("file"),
+            file: named_file(matches.get_str("file")),
         }
     }
 }
