@@ -20,6 +20,7 @@ use Rattle.event.specs.Forwarding.{onward_of, delivery_onward}
 use Rattle.event.specs.Ready.{lost, place_of}
 use Rattle.event.specs.Walks.{board_walk}
 use Rattle.event.specs.declared.ready.Unready.{Unready}
+use Rattle.event.proofs.Noted.{quietly}
 use Rattle.agenda.specs.Agendas.{can_learn, is_open, open_view}
 use Rattle.book.specs.Books.{Book}
 use Rattle.book.specs.Calls.{AdmitsArrival, AdmitsForward, CanLearn}
@@ -185,4 +186,4 @@ room_for_learning b v p ok = neither (refuse_where (not (can_learn b.world v p))
 
 -- a vat that learns what it can learn
 pub learnt_happens : (w : World) (v : VatNo) (p : PromId) (e : EventName) (q : Published) (it : Effects) → CanLearn w v p q → BringsLearnt e w v p q it → (f : Foot) × Happens (record { name = e; act = learn v p }) f w it
-learnt_happens w v p e q it can brings = (learn_foot v p brings.cells brings.left, record { does = ∣ learns can.unresolved can.resolved brings.leaves ∣₁; brings = brings.brings })
+learnt_happens w v p e q it can brings = (learn_foot v p brings.cells brings.left, record { does = ∣ quietly (learns can.unresolved can.resolved brings.leaves) refl it.notes.items brings.quiet ∣₁; brings = brings.brings })

@@ -14,7 +14,7 @@ use Rattle.history.proofs.Lists.{all_map, all_mapped, all_reversed}
 use Rattle.ids.specs.declared.names.EventName.{EventName}
 use Rattle.worldcells.specs.World.{World}
 use Rattle.worldcells.specs.Theory.{cells}
-use Rattle.event.specs.Events.{Does, events}
+use Rattle.event.specs.Events.{DoesNoted, noted_events}
 use Rattle.journal.specs.Items.{Item, swap_item}
 use Rattle.journal.specs.Lines.{plain, Line, entries_in, lines_of}
 use Rattle.journal.specs.Standing.{ItemsStand}
@@ -42,14 +42,14 @@ not_mapped f None e = refl
 not_mapped f (Some a) e = cc
 
 -- rows that stand make a journal, and so does a core that stands
-pub journal_of : {next : ℕ} {rows : List (Row events)} (core : Core) → CoreStands Does (empty events) next rows core → IsJournal (items_of core)
+pub journal_of : {next : ℕ} {rows : List (Row noted_events)} (core : Core) → CoreStands DoesNoted (empty noted_events) next rows core → IsJournal (items_of core)
 journal_of {next = next} {rows = rows} core h = ∣ (next, rows, state_of core, h) ∣₁
 
 pub stands_journal : (core : Core) (next : ℕ) (out : List Lent) → Stands core next out → IsJournal (items_of core)
 stands_journal core next out h = ∥∥₁_elim h ∥∥₁_prop (λ k. journal_of core k.stands)
 
 -- the rows of the events of a set
-abbrev pub of_rows : List EventName → Entry events → Bool
+abbrev pub of_rows : List EventName → Entry noted_events → Bool
 of_rows names e = is_in (numbers names) e.event.name.0
 
 -- the places that the program counts are those of the rows
@@ -57,9 +57,9 @@ places_same : (n : ℕ) (names : List EventName) (lines : List Line) → places_
 places_same n names [] = refl
 places_same n names (l ∷ lines) = ap (λ ps. cond (chosen names l) (n ∷ ps) ps) (places_same (n + 1) names lines)
 
-pub places_are : {start : World} {next : ℕ} {rows : List (Row events)} {items : List Item} {state : State cells} → ItemsStand Does start next rows items state → (names : List EventName)
-    → places_from 0 names (lines_of items) ≡ places Does (of_rows names) rows
-places_are {items = items} h names = sym (places_same 0 names (lines_of items)) ∙ places_told Does h (is_in (numbers names))
+pub places_are : {start : World} {next : ℕ} {rows : List (Row noted_events)} {items : List Item} {state : State cells} → ItemsStand DoesNoted start next rows items state → (names : List EventName)
+    → places_from 0 names (lines_of items) ≡ places DoesNoted (of_rows names) rows
+places_are {items = items} h names = sym (places_same 0 names (lines_of items)) ∙ places_told DoesNoted h (is_in (numbers names))
 
 -- there are as many as lines of the set
 pub places_count : (n : ℕ) (names : List EventName) (lines : List Line) → length (places_from n names lines) ≡ length (filter (chosen names) lines)

@@ -14,7 +14,7 @@ use Rattle.ids.specs.declared.cells.CellKey.TheVariants as key
 use Rattle.heap.specs.Found.{Found as FoundCells, touched_in}
 use Rattle.heap.specs.State.{State}
 use Rattle.heap.specs.View.{state_of as heap_state_of}
-use Rattle.worldcells.specs.Events.{Event, turn}
+use Rattle.worldcells.specs.Events.{Noted, turn}
 use Rattle.post.specs.MessageView.{message_of}
 use Rattle.worldcells.specs.Theory.{cells, kepts_of}
 use Rattle.post.specs.Messages.{Message, Place, at_vat}
@@ -23,7 +23,7 @@ use Rattle.worldcells.specs.World.{message_of as world_message}
 use Rattle.deliveries.specs.Turn.{Found}
 use Rattle.deliveries.specs.Outcomes.{outcome_on, written_by}
 use Rattle.erules.specs.OutboxView.{outbox_of}
-use Rattle.event.specs.Events.{Does, Foot, AreNew, DeliversOn, Turn, Turns, turns, turn_foot, letters_from, events}
+use Rattle.event.specs.Events.{DoesNoted, Foot, AreNew, DeliversOn, Turn, Turns, turns, turn_foot, letters_from, noted_events}
 use Rattle.event.specs.Effects.{BringsTurn}
 use Rattle.event.specs.Ready.{early, lost}
 use Rattle.event.specs.declared.effects.Effects.{Effects}
@@ -98,8 +98,8 @@ module _ (old now : Core) (next : ℕ) (out : List Lent) (r : Ran) (it : Effects
   abbrev w : World
   w = contents cells (state_of old)
 
-  abbrev e : Event
-  e = record { name = r.carried.event; act = turn r.carried.vat r.carried.name r.carried.budget }
+  abbrev e : Noted
+  e = record { name = r.carried.event; act = turn r.carried.vat r.carried.name r.carried.budget; notes = (outbox_of r.outcome.out).notes }
 
   module _ (brings : BringsTurn r.carried.event w r.carried.name (turn_in w r) it) (is : shown now ≡ entered e r.carried.seat it.touched.items (kepts_of it.records.items) (shown old))
       (known : IsKnown (book_with old next out) r.carried) (fresh : IsFresh (book_with old next out) r) (h : Stands old next out) where
@@ -109,14 +109,14 @@ module _ (old now : Core) (next : ℕ) (out : List Lent) (r : Ran) (it : Effects
     its_turn : ∥ Turns r.carried.event w r.carried.name r.carried.budget (turn_in w r) ∥₁
     its_turn = run_turns (book_with old next out) r fresh (sent_new old next out h r known)
 
-    does : ∥ Does e w f ∥₁
-    does = ∥∥₁_map its_turn (λ t. turns t brings.leaves)
+    does : ∥ DoesNoted e w f ∥₁
+    does = ∥∥₁_map its_turn (λ t. (turns t brings.leaves, refl))
 
     drawn : r.carried.event.0 < next
     drawn = ∥∥₁_elim h (hlevel props) (λ k. all_out _ out (lent_of r.carried) k.drawn known.out)
 
-    free : (k : Kept old next out) → Free events r.carried.event.0 (entries_of k.rows)
-    free k = all_out (λ t. Free events t.number.0 (entries_of k.rows)) out (lent_of r.carried) k.free known.out
+    free : (k : Kept old next out) → Free noted_events r.carried.event.0 (entries_of k.rows)
+    free k = all_out (λ t. Free noted_events t.number.0 (entries_of k.rows)) out (lent_of r.carried) k.free known.out
 
     pub committed_turn : (others : List Lent) → EntersTurn r.carried.event r.carried.name r.carried.budget r.carried.seat (turn_in w r) (book_with old next out) (book_with now next others)
     committed_turn others = record {

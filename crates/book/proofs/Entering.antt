@@ -11,11 +11,15 @@ use Rattle.history.proofs.Lists.{all_map, all_both}
 use Rattle.history.proofs.Naming.{causes_named, causes_below, free_causes, free_from}
 use Rattle.ids.specs.CellKeys.{same_key}
 use Rattle.ids.specs.declared.cells.CellKey.{CellKey}
-use Rattle.worldcells.specs.Events.{Event}
+use Rattle.erules.specs.OutboxView.{note_of}
+use Rattle.erules.specs.declared.outbox.Note.{Note}
+use Rattle.worldcells.specs.Events.{Event, Noted, with_notes}
 use Rattle.worldcells.specs.Theory.{cells}
-use Rattle.event.specs.Events.{Foot, Does, events}
-use Rattle.event.specs.Effects.{Brings}
-use Rattle.event.proofs.Law.{events_laws}
+use Rattle.worldcells.specs.World.{World}
+use Rattle.event.specs.Events.{Foot, DoesNoted, noted_events}
+use Rattle.event.specs.Effects.{Brings, Happens}
+use Rattle.event.specs.declared.effects.Effects.{Effects}
+use Rattle.event.proofs.Law.{noted_laws}
 use Rattle.journal.specs.Items.{Item, swap_item, entered}
 use Rattle.journal.specs.Lines.{plain, bare, lines_of}
 use Rattle.journal.specs.Standing.{ItemsStand}
@@ -39,7 +43,7 @@ book_with core next out = record { world = contents cells (state_of core); journ
 pub kept_same : (old new : Core) (next : ℕ) (out : List Lent) → shown new ≡ shown old → Kept old next out → Kept new next out
 kept_same old new next out is k = record {
   rows = k.rows;
-  stands = subst (λ (j : List Item × State cells). ItemsStand Does (empty events) next k.rows j.0 j.1) (sym is) k.stands;
+  stands = subst (λ (j : List Item × State cells). ItemsStand DoesNoted (empty noted_events) next k.rows j.0 j.1) (sym is) k.stands;
   free = k.free;
   drawn = k.drawn;
   apart = k.apart;
@@ -53,7 +57,7 @@ pub book_same : (old new : Core) (next : ℕ) (out : List Lent) → shown new �
 book_same old new next out is = ap (λ (j : List Item × State cells). record { world = contents cells j.1; journal = lines_of j.0; next = next; out = out }) is
 
 -- an event that is entered with these cells and this record
-module _ (old now : Core) (next later : ℕ) (out : List Lent) (e : Event) (seat : ℕ) (touched : List CellKey) (kept : Record cells) (f : Foot)
+module _ (old now : Core) (next later : ℕ) (out : List Lent) (e : Noted) (seat : ℕ) (touched : List CellKey) (kept : Record cells) (f : Foot)
     (brings : Brings e.name f touched kept) (is : shown now ≡ entered e seat touched kept (shown old)) (le : next ≤ later) (lt : e.name.0 < later) where
   -- the item that is added
   abbrev item : Item
@@ -62,34 +66,34 @@ module _ (old now : Core) (next later : ℕ) (out : List Lent) (e : Event) (seat
   items : items_of now ≡ items_of old ++ item ∷ []
   items = ap (λ (j : List Item × State cells). j.0) is
 
-  touches_all : HasCells events f (map (λ k. (k, (state_of old k).1)) touched)
+  touches_all : HasCells noted_events f (map (λ k. (k, (state_of old k).1)) touched)
   touches_all k = any-map (λ (c : CellKey). (c, (state_of old c).1)) (λ p. same_key k p.0) touched ∙ brings.touch k
 
   -- the row of the event among these
-  abbrev row : List (Row events) → Row events
-  row rows = (new_entry events e f (causes_of events f (entries_of rows)) (map (λ k. (k, (state_of old k).1)) touched), swap_record events kept (state_of old))
+  abbrev row : List (Row noted_events) → Row noted_events
+  row rows = (new_entry noted_events e f (causes_of noted_events f (entries_of rows)) (map (λ k. (k, (state_of old k).1)) touched), swap_record noted_events kept (state_of old))
 
-  module _ (rows : List (Row events)) (h : CoreStands Does (empty events) next rows old) (d : Does e (contents cells (state_of old)) f) (free : Free events e.name.0 (entries_of rows)) where
-    pub entered_stands : CoreStands Does (empty events) later (row rows ∷ rows) now
-    entered_stands = (enters Does events_laws (empty events) next later rows old now e seat touched kept f (causes_of events f (entries_of rows)) h d free le lt
-        (causes_named events f h.stands.named)
-        (all_map _ _ (causes_of events f (entries_of rows)) (λ n m. omega (arith, m, le)) (causes_below events f h.stands.named))
-        (free_causes events e.name.0 f (entries_of rows) free) touches_all brings.write is).0
+  module _ (rows : List (Row noted_events)) (h : CoreStands DoesNoted (empty noted_events) next rows old) (d : DoesNoted e (contents cells (state_of old)) f) (free : Free noted_events e.name.0 (entries_of rows)) where
+    pub entered_stands : CoreStands DoesNoted (empty noted_events) later (row rows ∷ rows) now
+    entered_stands = (enters DoesNoted noted_laws (empty noted_events) next later rows old now e seat touched kept f (causes_of noted_events f (entries_of rows)) h d free le lt
+        (causes_named noted_events f h.stands.named)
+        (all_map _ _ (causes_of noted_events f (entries_of rows)) (λ n m. omega (arith, m, le)) (causes_below noted_events f h.stands.named))
+        (free_causes noted_events e.name.0 f (entries_of rows) free) touches_all brings.write is).0
 
-    stands_with : ItemsStand Does (empty events) later (row rows ∷ rows) (items_of old ++ item ∷ []) (state_of now)
-    stands_with = subst (λ its. ItemsStand Does (empty events) later (row rows ∷ rows) its (state_of now)) items entered_stands
+    stands_with : ItemsStand DoesNoted (empty noted_events) later (row rows ∷ rows) (items_of old ++ item ∷ []) (state_of now)
+    stands_with = subst (λ its. ItemsStand DoesNoted (empty noted_events) later (row rows ∷ rows) its (state_of now)) items entered_stands
 
     pub entered_lines : lines_of (items_of now) ≡ lines_of (items_of old) ++ next_line (lines_of (items_of old)) item ∷ []
-    entered_lines = ap lines_of items ∙ lines_appended Does events_laws (row rows) item h stands_with refl
+    entered_lines = ap lines_of items ∙ lines_appended DoesNoted noted_laws (row rows) item h stands_with refl
 
-    touch_told : (k : CellKey) → touches plain (bare item).foot k ≡ touches events f k
-    touch_told k = told_touches Does events_laws f (map (λ k. (k, (state_of old k).1)) touched) (swap_record events kept (state_of old)) touches_all (stands_with.stands.follows.fit.0) k
+    touch_told : (k : CellKey) → touches plain (bare item).foot k ≡ touches noted_events f k
+    touch_told k = told_touches DoesNoted noted_laws f (map (λ k. (k, (state_of old k).1)) touched) (swap_record noted_events kept (state_of old)) touches_all (stands_with.stands.follows.fit.0) k
 
-    new_told : (k : CellKey) → is_some (new plain (bare item).foot k) ≡ is_some (new events f k)
-    new_told k = told_new Does events_laws f (map (λ k. (k, (state_of old k).1)) touched) (swap_record events kept (state_of old)) (stands_with.stands.follows.fit.0) k
+    new_told : (k : CellKey) → is_some (new plain (bare item).foot k) ≡ is_some (new noted_events f k)
+    new_told k = told_new DoesNoted noted_laws f (map (λ k. (k, (state_of old k).1)) touched) (swap_record noted_events kept (state_of old)) (stands_with.stands.follows.fit.0) k
 
   -- THE LEMMA: the event is entered in the book, wherever its name is free
-  module _ (h : Stands old next out) (does : ∥ Does e (contents cells (state_of old)) f ∥₁) (free : (k : Kept old next out) → Free events e.name.0 (entries_of k.rows)) where
+  module _ (h : Stands old next out) (does : ∥ DoesNoted e (contents cells (state_of old)) f ∥₁) (free : (k : Kept old next out) → Free noted_events e.name.0 (entries_of k.rows)) where
     tells : Tells e f seat (lines_of (items_of old)) (next_line (lines_of (items_of old)) item)
     tells = record {
       event = refl;
@@ -103,41 +107,45 @@ module _ (old now : Core) (next later : ℕ) (out : List Lent) (e : Event) (seat
     pub book_enters : (last : ℕ) (others : List Lent) → Enters e f seat (book_with old next out) (book_with now last others)
     book_enters last others = record {
       does = does;
-      step = ap (λ (j : List Item × State cells). contents cells j.1) is ∙ contents_after events events_laws e.name.0 f kept (state_of old) brings.write;
+      step = ap (λ (j : List Item × State cells). contents cells j.1) is ∙ contents_after noted_events noted_laws e.name.0 f kept (state_of old) brings.write;
       line = next_line (lines_of (items_of old)) item;
       tells = tells;
       entered = ∥∥₁_elim h (Lines-set _ _) (λ q. ∥∥₁_elim does (Lines-set _ _) (λ d. entered_lines q.rows q.stands d (free q)));
     }
 
-    pub book_stands : (others : List Lent) → ((k : Kept old next out) (d : Does e (contents cells (state_of old)) f) → Kept now later others) → Stands now later others
+    pub book_stands : (others : List Lent) → ((k : Kept old next out) (d : DoesNoted e (contents cells (state_of old)) f) → Kept now later others) → Stands now later others
     book_stands others keeps = ∥∥₁_elim h ∥∥₁_prop (λ q. ∥∥₁_elim does ∥∥₁_prop (λ d. ∣ keeps q d ∣₁))
 
   -- what is kept after it, of other names that are free
-  pub kept_entered : (k : Kept old next out) → Does e (contents cells (state_of old)) f → Free events e.name.0 (entries_of k.rows) → (others : List Lent)
-      → AllByRecursion (λ t. Free events t.number.0 (entries_of k.rows)) others → AllByRecursion (λ t. e.name.0 ≢ t.number.0) others → AllByRecursion (λ t. t.number.0 < later) others → Apart others → Kept now later others
+  pub kept_entered : (k : Kept old next out) → DoesNoted e (contents cells (state_of old)) f → Free noted_events e.name.0 (entries_of k.rows) → (others : List Lent)
+      → AllByRecursion (λ t. Free noted_events t.number.0 (entries_of k.rows)) others → AllByRecursion (λ t. e.name.0 ≢ t.number.0) others → AllByRecursion (λ t. t.number.0 < later) others → Apart others → Kept now later others
   kept_entered k d free others still differ drawn apart = record {
     rows = row k.rows ∷ k.rows;
     stands = entered_stands k.rows k.stands d free;
-    free = all_both _ _ _ others (λ t q ne. ((ne, free_causes events t.number.0 f (entries_of k.rows) q), q)) still differ;
+    free = all_both _ _ _ others (λ t q ne. ((ne, free_causes noted_events t.number.0 f (entries_of k.rows) q), q)) still differ;
     drawn = drawn;
     apart = apart;
   }
 
--- an event is entered under the next name
+-- what happens without notes
+pub quiet_does : {e : Event} {f : Foot} {w : World} {it : Effects} → Happens e f w it → it.notes.items ≡ [] → ∥ DoesNoted (with_notes e []) w f ∥₁
+quiet_does {e = e} {f = f} {w = w} h quiet = subst (λ (ns : List Note). ∥ DoesNoted (with_notes e (map note_of ns)) w f ∥₁) quiet h.does
+
+-- an event is entered under the next name, without notes
 module _ (old now : Core) (next : ℕ) (out : List Lent) (e : Event) (touched : List CellKey) (kept : Record cells) (f : Foot)
-    (brings : Brings e.name f touched kept) (is : shown now ≡ entered e 0 touched kept (shown old)) (name : e.name.0 ≡ next) (h : Stands old next out) (does : ∥ Does e (contents cells (state_of old)) f ∥₁) where
+    (brings : Brings e.name f touched kept) (is : shown now ≡ entered (with_notes e []) 0 touched kept (shown old)) (name : e.name.0 ≡ next) (h : Stands old next out) (does : ∥ DoesNoted (with_notes e []) (contents cells (state_of old)) f ∥₁) where
   drawn_lt : e.name.0 < next + 1
   drawn_lt = omega (arith, name)
 
   next_le : next ≤ next + 1
   next_le = omega arith
 
-  next_free : (k : Kept old next out) → Free events e.name.0 (entries_of k.rows)
-  next_free k = free_from events e.name.0 next (entries_of k.rows) k.stands.stands.named.below (omega (arith, name))
+  next_free : (k : Kept old next out) → Free noted_events e.name.0 (entries_of k.rows)
+  next_free k = free_from noted_events e.name.0 next (entries_of k.rows) k.stands.stands.named.below (omega (arith, name))
 
   pub next_stands : Stands now (next + 1) out
-  next_stands = book_stands old now next (next + 1) out e 0 touched kept f brings is next_le drawn_lt h does next_free out (λ k d.
-      kept_entered old now next (next + 1) out e 0 touched kept f brings is next_le drawn_lt k d (next_free k) out k.free
+  next_stands = book_stands old now next (next + 1) out (with_notes e []) 0 touched kept f brings is next_le drawn_lt h does next_free out (λ k d.
+      kept_entered old now next (next + 1) out (with_notes e []) 0 touched kept f brings is next_le drawn_lt k d (next_free k) out k.free
       (all_map _ _ out (λ t lt same. omega (arith, lt, same, name)) k.drawn) (all_map _ _ out (λ t lt. omega (arith, lt)) k.drawn) k.apart)
 
   pub next_enters : EntersNext e f 0 (book_with old next out) (book_with now (next + 1) out)
@@ -145,5 +153,5 @@ module _ (old now : Core) (next : ℕ) (out : List Lent) (e : Event) (touched : 
     named = name;
     drawn = refl;
     same_out = refl;
-    enters = book_enters old now next (next + 1) out e 0 touched kept f brings is next_le drawn_lt h does next_free (next + 1) out;
+    enters = book_enters old now next (next + 1) out (with_notes e []) 0 touched kept f brings is next_le drawn_lt h does next_free (next + 1) out;
   }

@@ -12,8 +12,8 @@ use Rattle.history.specs.Chains.{HasCells}
 use Rattle.history.proofs.Lists.{all_map, all_mapped, all_swap}
 use Rattle.ids.specs.declared.names.EventName.{EventName}
 use Rattle.worldcells.specs.Theory.{cells}
-use Rattle.event.specs.Events.{Does, events}
-use Rattle.event.proofs.Law.{events_laws}
+use Rattle.event.specs.Events.{DoesNoted, noted_events}
+use Rattle.event.proofs.Law.{noted_laws}
 use Rattle.journal.specs.Items.{Item, item_of, wrote_one_of, may_exchange, neighbours, exchanged}
 use Rattle.journal.specs.Lines.{plain, Line, line_of, lines_of, in_order}
 use Rattle.journal.specs.Standing.{ItemsStand, told, row_told}
@@ -100,29 +100,29 @@ module _ (old new : Core) (next : ℕ) (out : List Lent) (n : ℕ) (there : n + 
   items : items_of new ≡ exchanged n (items_of old)
   items = ap (λ (j : List Item × State cells). j.0) is
 
-  module _ (rows : List (Row events)) (h : CoreStands Does (empty events) next rows old) where
+  module _ (rows : List (Row noted_events)) (h : CoreStands DoesNoted (empty noted_events) next rows old) where
     as_many : length rows ≡ length (items_of old)
-    as_many = sym (length-map rows (row_told Does)) ∙ ap length h.shows ∙ length-reverse (map told (items_of old)) ∙ length-map (items_of old) told
+    as_many = sym (length-map rows (row_told DoesNoted)) ∙ ap length h.shows ∙ length-reverse (map told (items_of old)) ∙ length-map (items_of old) told
 
     around : Between n rows
     around = between (length rows - (n + 2)) n rows (let e = as_many in omega arith)
 
-    abbrev after : List (Row events)
+    abbrev after : List (Row noted_events)
     after = around.xs ++ around.b ∷ around.a ∷ around.ys
 
-    before : CoreStands Does (empty events) next (around.xs ++ around.a ∷ around.b ∷ around.ys) old
-    before = subst (λ rs. CoreStands Does (empty events) next rs old) around.is h
+    before : CoreStands DoesNoted (empty noted_events) next (around.xs ++ around.a ∷ around.b ∷ around.ys) old
+    before = subst (λ rs. CoreStands DoesNoted (empty noted_events) next rs old) around.is h
 
-    stood : CoreStands Does (empty events) next after new
-    stood = exchanges Does events_laws (empty events) next around.xs around.ys around.a around.b old new n before around.behind may is
+    stood : CoreStands DoesNoted (empty noted_events) next after new
+    stood = exchanges DoesNoted noted_laws (empty noted_events) next around.xs around.ys around.a around.b old new n before around.behind may is
 
     lines : lines_of (items_of new) ≡ map (in_order (exchanged n (lines_of (items_of old)))) (exchanged n (lines_of (items_of old)))
-    lines = ap lines_of items ∙ lines_exchanged Does events_laws around.xs around.a around.b around.ys n before
-        (subst (λ its. ItemsStand Does (empty events) next after its (state_of new)) items stood) around.behind
+    lines = ap lines_of items ∙ lines_exchanged DoesNoted noted_laws around.xs around.a around.b around.ys n before
+        (subst (λ its. ItemsStand DoesNoted (empty noted_events) next after its (state_of new)) items stood) around.behind
 
-    still_free : (m : ℕ) → Free events m (entries_of rows) → Free events m (entries_of after)
-    still_free m free = all_mapped (λ (p : Row events). p.0) _ after
-        (all_swap _ around.xs around.a around.b around.ys (all_unmapped (λ (p : Row events). p.0) _ _ (subst (λ rs. Free events m (entries_of rs)) around.is free)))
+    still_free : (m : ℕ) → Free noted_events m (entries_of rows) → Free noted_events m (entries_of after)
+    still_free m free = all_mapped (λ (p : Row noted_events). p.0) _ after
+        (all_swap _ around.xs around.a around.b around.ys (all_unmapped (λ (p : Row noted_events). p.0) _ _ (subst (λ rs. Free noted_events m (entries_of rs)) around.is free)))
 
   kept : Kept old next out → Kept new next out
   kept k = record {

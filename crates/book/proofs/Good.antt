@@ -12,11 +12,11 @@ use Rattle.history.specs.Records.{Row, Fits, contents, entries_of}
 use Rattle.history.proofs.Changes.{good_runs}
 use Rattle.history.proofs.Lists.{all_map, all_both, all_of, all_mapped, all_reversed}
 use Rattle.history.proofs.Naming.{named_reversed}
-use Rattle.worldcells.specs.Events.{Event}
+use Rattle.worldcells.specs.Events.{Noted}
 use Rattle.worldcells.specs.World.{World}
 use Rattle.worldcells.specs.Theory.{cells}
-use Rattle.event.specs.Events.{Does, events}
-use Rattle.event.proofs.Law.{events_laws}
+use Rattle.event.specs.Events.{DoesNoted, noted_events}
+use Rattle.event.proofs.Law.{noted_laws}
 use Rattle.journal.specs.Items.{Item}
 use Rattle.journal.specs.Lines.{plain, Line, entries_in, is_cause, causes_in, line_of, lines_of}
 use Rattle.journal.proofs.Reversed.{map-map, map-reverse, all_unmapped}
@@ -82,17 +82,17 @@ causes_told items =
     all_map _ _ (causes_in items i) (λ n h. names_told items n ∙ h) (among_all (λ (a : Item). a.event.name.0) (is_cause items i) items)))))
 
 -- an event of a run, with the cells of its entry, if it is live
-run_step : (b : Bool) (e : Entry events) (a : Entry plain) (es : List (Entry events)) (lines : List (Entry plain)) → a.event ≡ e.event → HasFoot a e.foot
-    → ((w : World) → Runs events (empty events) es w → RunsWithCells lines w) → (w : World) → Runs events (empty events) (cond b (e ∷ es) es) w → RunsWithCells (cond b (a ∷ lines) lines) w
-run_step true e a es lines same foot rest w (runs_more {w = v} r d) = with_cells.runs_more (rest v r) (subst (λ (x : Event). Does x v e.foot) (sym same) d) foot
+run_step : (b : Bool) (e : Entry noted_events) (a : Entry plain) (es : List (Entry noted_events)) (lines : List (Entry plain)) → a.event ≡ e.event → HasFoot a e.foot
+    → ((w : World) → Runs noted_events (empty noted_events) es w → RunsWithCells lines w) → (w : World) → Runs noted_events (empty noted_events) (cond b (e ∷ es) es) w → RunsWithCells (cond b (a ∷ lines) lines) w
+run_step true e a es lines same foot rest w (runs_more {w = v} r d) = with_cells.runs_more (rest v r) (subst (λ (x : Noted). DoesNoted x v e.foot) (sym same) d) foot
 run_step false e a es lines same foot rest w r = rest w r
 
-runs_told : (all : List (Entry events)) (rows : List (Row events)) → Chained events (entries_of rows) → AllByRecursion (λ p. Fits events p.0.foot p.1) rows
-    → (w : World) → Runs events (empty events) (filter (live_set events) (entries_of rows)) w → RunsWithCells (filter (live_set plain) (map (told_entry Does all) rows)) w
+runs_told : (all : List (Entry noted_events)) (rows : List (Row noted_events)) → Chained noted_events (entries_of rows) → AllByRecursion (λ p. Fits noted_events p.0.foot p.1) rows
+    → (w : World) → Runs noted_events (empty noted_events) (filter (live_set noted_events) (entries_of rows)) w → RunsWithCells (filter (live_set plain) (map (told_entry DoesNoted all) rows)) w
 runs_told all [] chained fit w runs_none = with_cells.runs_none
 runs_told all (p ∷ rows) (traced, chained) (fits, fit) w r =
-    run_step p.0.live p.0 (told_entry Does all p) (filter (live_set events) (entries_of rows)) (filter (live_set plain) (map (told_entry Does all) rows)) refl
-    (record { touched = told_touches Does events_laws p.0.foot p.0.lasts p.1 traced.cells fits; written = told_new Does events_laws p.0.foot p.0.lasts p.1 fits })
+    run_step p.0.live p.0 (told_entry DoesNoted all p) (filter (live_set noted_events) (entries_of rows)) (filter (live_set plain) (map (told_entry DoesNoted all) rows)) refl
+    (record { touched = told_touches DoesNoted noted_laws p.0.foot p.0.lasts p.1 traced.cells fits; written = told_new DoesNoted noted_laws p.0.foot p.0.lasts p.1 fits })
     (runs_told all rows chained fit) w r
 
 less_prop : (m n : ℕ) → IsProp (m < n)
@@ -110,12 +110,12 @@ stands_good core next out h within =
     record {
       distinct = lines.distinct;
       drawn = ∥∥₁_elim h (drawn_prop next (entries_in (lines_of items))) (λ k.
-          subst (AllByRecursion (λ e. name_of plain e < next)) (sym (entries_told Does events_laws k.stands))
-          (all_mapped (told_entry Does (entries_of k.rows)) _ k.rows (all_map (λ (p : Row events). (name_of events p.0 < next) × AllByRecursion (λ n. n < next) p.0.causes) _ k.rows (λ p below. below.0) (all_unmapped (λ (p : Row events). p.0) _ k.rows k.stands.stands.named.below))));
+          subst (AllByRecursion (λ e. name_of plain e < next)) (sym (entries_told DoesNoted noted_laws k.stands))
+          (all_mapped (told_entry DoesNoted (entries_of k.rows)) _ k.rows (all_map (λ (p : Row noted_events). (name_of noted_events p.0 < next) × AllByRecursion (λ n. n < next) p.0.causes) _ k.rows (λ p below. below.0) (all_unmapped (λ (p : Row noted_events). p.0) _ k.rows k.stands.stands.named.below))));
       older = causes_older (entries_in (lines_of items)) (causes_told items) lines.ordered lines.own;
       sound = lines.sound;
       footprints = ∥∥₁_map h (λ k.
-          subst (λ es. RunsWithCells (filter (live_set plain) es) (contents cells (state_of core))) (sym (entries_told Does events_laws k.stands))
-          (runs_told (entries_of k.rows) k.rows k.stands.stands.chained k.stands.stands.follows.fit (contents cells (state_of core)) (good_runs events events_laws k.stands.stands.good)));
+          subst (λ es. RunsWithCells (filter (live_set plain) es) (contents cells (state_of core))) (sym (entries_told DoesNoted noted_laws k.stands))
+          (runs_told (entries_of k.rows) k.rows k.stands.stands.chained k.stands.stands.follows.fit (contents cells (state_of core)) (good_runs noted_events noted_laws k.stands.stands.good)));
       within = subst (λ n. n ≤ MOST_ENTRIES) (sym (length-map items (line_of items))) within;
     }

@@ -11,14 +11,14 @@ use Rattle.ids.specs.CellKeys.{same_key}
 use Rattle.ids.proofs.CellKeys.{same_self}
 use Rattle.ids.specs.declared.names.EventName.{EventName}
 use Rattle.ids.specs.declared.cells.CellKey.{CellKey}
-use Rattle.worldcells.specs.Events.{Event}
+use Rattle.worldcells.specs.Events as world
 use Rattle.worldcells.specs.Theory.{cells, state_of_world}
 use Rattle.worldcells.specs.View.{world_of}
 use Rattle.worldcells.specs.World.{World, Content}
 use Rattle.worldcells.specs.declared.world.World as code
-use Rattle.event.specs.Events.{Foot, events}
+use Rattle.event.specs.Events.{Foot, events, noted_events}
 use Rattle.event.specs.Effects.{Brings}
-use Rattle.event.proofs.Law.{events_laws}
+use Rattle.event.proofs.Law.{noted_laws}
 use Rattle.std.specs.Prelude.{Result, IfOk}
 use Rattle.ids.specs.declared.names.VatNo.{VatNo}
 use Rattle.ids.specs.declared.names.PromId.{PromId}
@@ -80,9 +80,9 @@ left_alike touched e f kept w brings k h =
     let none = none_true (list_any (same_key k) f.reads) (list_any (same_key k) (map (λ p. p.0) f.writes)) (sym (list_any-append (same_key k) f.reads (map (λ p. p.0) f.writes)) ∙ sym (brings.touch k) ∙ h) in
     sym (unwritten f.writes w k (not_written k f.writes none.1))
 
-module _ (old now : Core) (e : Event) (seat : ℕ) (touched : List CellKey) (kept : Record cells) (f : Foot) (brings : Brings e.name f touched kept) (is : shown now ≡ entered e seat touched kept (shown old)) where
+module _ (old now : Core) (e : world.Noted) (seat : ℕ) (touched : List CellKey) (kept : Record cells) (f : Foot) (brings : Brings e.name f touched kept) (is : shown now ≡ entered e seat touched kept (shown old)) where
   stepped : contents cells (state_of now) ≡ after events f (contents cells (state_of old))
-  stepped = ap (λ (j : List Item × State cells). contents cells j.1) is ∙ contents_after events events_laws e.name.0 f kept (state_of old) brings.write
+  stepped = ap (λ (j : List Item × State cells). contents cells j.1) is ∙ contents_after noted_events noted_laws e.name.0 f kept (state_of old) brings.write
 
   pub entered_alike : AlikeBut touched (contents cells (state_of old)) (contents cells (state_of now))
   entered_alike = subst (AlikeBut touched (contents cells (state_of old))) (sym stepped) (left_alike touched e.name f kept (contents cells (state_of old)) brings)

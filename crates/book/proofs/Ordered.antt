@@ -3,6 +3,7 @@ use Rattle.std.proofs.Common.{List, map, refl}
 use Rattle.std.proofs.Math.Logic.{∥∥₁_map}
 use Rattle.history.specs.Subject.{Run, run_none, run_more}
 use Rattle.history.specs.Journal.{Entry, live_set}
+use Rattle.worldcells.specs.Events.{event_in}
 use Rattle.worldcells.specs.World.{World, empty}
 use Rattle.event.specs.Events.{events}
 use Rattle.journal.specs.Lines.{plain, entries_in}
@@ -11,9 +12,9 @@ use Rattle.ordering.proofs.Runs.{runs_in_order, own_names}
 use Rattle.book.specs.Books.{Book}
 use Rattle.book.specs.Good.{RunsWithCells, runs_none, runs_more, IsGood, live_events}
 
-run_of : {es : List (Entry plain)} {w : World} → RunsWithCells es w → Run events empty (map (λ a. a.event) es) w
+run_of : {es : List (Entry plain)} {w : World} → RunsWithCells es w → Run events empty (map (λ a. event_in a.event) es) w
 run_of runs_none = run_none
-run_of (runs_more r does foot) = run_more (run_of r) does
+run_of (runs_more r does foot) = run_more (run_of r) does.0
 
 pub good_in_order : (b : Book) → IsGood b → InOrder (live_events b) b.world
-good_in_order b g = runs_in_order (live_events b) b.world (∥∥₁_map g.footprints (λ r. run_of r)) (own_names plain (λ e. e) (λ e. refl) (live_set plain) (entries_in b.journal) g.distinct)
+good_in_order b g = runs_in_order (live_events b) b.world (∥∥₁_map g.footprints (λ r. run_of r)) (own_names plain event_in (λ e. refl) (live_set plain) (entries_in b.journal) g.distinct)

@@ -11,8 +11,8 @@ use Rattle.history.proofs.Marks.{free_marked}
 use Rattle.history.proofs.Standing.{entries_redone}
 use Rattle.ids.specs.declared.names.EventName.{EventName}
 use Rattle.worldcells.specs.Theory.{cells}
-use Rattle.event.specs.Events.{Does, events}
-use Rattle.event.proofs.Law.{events_laws}
+use Rattle.event.specs.Events.{DoesNoted, noted_events}
+use Rattle.event.proofs.Law.{noted_laws}
 use Rattle.journal.specs.Items.{Item, swap_item}
 use Rattle.journal.specs.Lines.{plain, Line, lines_of}
 use Rattle.journal.proofs.Lifting.{SameMembers, named_members, live_members, both_members, sound_of_lines, dead_of_lines}
@@ -45,35 +45,35 @@ no_lack names lines ok =
 
 module _ (old new : Core) (next : ℕ) (out : List Lent) (names : List EventName) (ps : List ℕ) (ok : redo_refusal (lines_of (items_of old)) names ≡ None)
     (at : ps ≡ places_from 0 names (lines_of (items_of old))) (is : shown new ≡ walk (swap_item true) ps (shown old)) where
-  module _ (rows : List (Row events)) (h : CoreStands Does (empty events) next rows old) where
-    members : SameMembers Does (among names) (of_rows names) rows
-    members = named_members Does (is_in (numbers names)) rows
+  module _ (rows : List (Row noted_events)) (h : CoreStands DoesNoted (empty noted_events) next rows old) where
+    members : SameMembers DoesNoted (among names) (of_rows names) rows
+    members = named_members DoesNoted (is_in (numbers names)) rows
 
-    members_both : SameMembers Does (both (live_set plain) (among names)) (both (live_set events) (of_rows names)) rows
-    members_both = both_members Does (live_set plain) (among names) (live_set events) (of_rows names) rows (live_members Does rows) members
+    members_both : SameMembers DoesNoted (both (live_set plain) (among names)) (both (live_set noted_events) (of_rows names)) rows
+    members_both = both_members DoesNoted (live_set plain) (among names) (live_set noted_events) (of_rows names) rows (live_members DoesNoted rows) members
 
-    sound : Sound events (both (live_set events) (of_rows names)) (entries_of rows)
-    sound = sound_of_lines Does events_laws h (both (live_set plain) (among names)) (both (live_set events) (of_rows names)) members_both
+    sound : Sound noted_events (both (live_set noted_events) (of_rows names)) (entries_of rows)
+    sound = sound_of_lines DoesNoted noted_laws h (both (live_set plain) (among names)) (both (live_set noted_events) (of_rows names)) members_both
         (sound_of_lacks names (lines_of (items_of old)) (journal_tells (items_of old) (journal_of old h)) (no_lack names (lines_of (items_of old)) ok))
 
     dead : AllByRecursion (λ e. of_rows names e ≡ true → e.live ≡ false) (entries_of rows)
-    dead = dead_of_lines Does events_laws h (among names) (of_rows names) members
+    dead = dead_of_lines DoesNoted noted_laws h (among names) (of_rows names) members
         (all_entries (λ e. among names e ≡ true → e.live ≡ false) (lines_of (items_of old)) (dead_set names (lines_of (items_of old)) ok))
 
-    abbrev after : List (Row events)
-    after = redo_rows events (of_rows names) rows (state_of old)
+    abbrev after : List (Row noted_events)
+    after = redo_rows noted_events (of_rows names) rows (state_of old)
 
-    stood : CoreStands Does (empty events) next after new
-    stood = (redoes Does events_laws (empty events) next (of_rows names) rows old new ps h (at ∙ places_are h names) dead sound is).0
+    stood : CoreStands DoesNoted (empty noted_events) next after new
+    stood = (redoes DoesNoted noted_laws (empty noted_events) next (of_rows names) rows old new ps h (at ∙ places_are h names) dead sound is).0
 
     seats : map (λ i. i.seat) (items_of new) ≡ map (λ i. i.seat) (items_of old)
     seats = ap (λ (j : List Item × State cells). map (λ (i : Item). i.seat) j.0) is ∙ walk_seats true ps (shown old)
 
     lines : lines_of (items_of new) ≡ redone_in names (lines_of (items_of old))
-    lines = lines_redone Does events_laws h (both (live_set plain) (among names)) (of_rows names) stood members_both seats
+    lines = lines_redone DoesNoted noted_laws h (both (live_set plain) (among names)) (of_rows names) stood members_both seats
 
-    still_free : (n : ℕ) → Free events n (entries_of rows) → Free events n (entries_of after)
-    still_free n free = subst (Free events n) (sym (entries_redone events (of_rows names) rows (state_of old))) (free_marked events (both (live_set events) (of_rows names)) n (entries_of rows) free)
+    still_free : (n : ℕ) → Free noted_events n (entries_of rows) → Free noted_events n (entries_of after)
+    still_free n free = subst (Free noted_events n) (sym (entries_redone noted_events (of_rows names) rows (state_of old))) (free_marked noted_events (both (live_set noted_events) (of_rows names)) n (entries_of rows) free)
 
     run : PlainRun (live_events (redone_in names (lines_of (items_of old)))) (contents cells (state_of new))
     run = subst (λ es. PlainRun es (contents cells (state_of new))) (ap live_events lines) (plain_run stood)

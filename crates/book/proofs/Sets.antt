@@ -8,7 +8,8 @@ use Rattle.values.specs.Data.{Vals, Vals-set}
 use Rattle.heap.specs.Sets.{vals, binds, objects, views}
 use Rattle.heap.specs.State.{Nouns}
 use Rattle.post.specs.Delivery.{Call, Call-set, Handler, Handler-set, When, When-set, Delivery, Delivery-set}
-use Rattle.worldcells.specs.Events.{Act, Event}
+use Rattle.erules.specs.Outbox.{Note}
+use Rattle.worldcells.specs.Events.{Act, Noted}
 use Rattle.post.specs.Messages.{Vat, Vat-set, Place, Place-set, Message, Message-set, Published, Published-set}
 use Rattle.worldcells.specs.World.{Content, Content-set, World}
 use Rattle.journal.specs.Lines.{Line}
@@ -67,8 +68,14 @@ World-set = hlevel (props, contents)
 acts : IsSet Act
 acts = hlevel (props, trees)
 
-events : IsSet Event
-events = hlevel (props, acts)
+notes : IsSet Note
+notes = hlevel (props, names)
+
+note_lists : IsSet (List Note)
+note_lists = hlevel (props, notes)
+
+events : IsSet Noted
+events = hlevel (props, acts, note_lists)
 
 keys : IsSet CellKey
 keys = hlevel props

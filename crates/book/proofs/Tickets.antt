@@ -10,7 +10,7 @@ use Rattle.history.specs.Records.{entries_of}
 use Rattle.history.proofs.Lists.{all_map, all_both, all_append}
 use Rattle.history.proofs.Naming.{free_from}
 use Rattle.ids.specs.declared.names.EventName.{EventName}
-use Rattle.event.specs.Events.{events}
+use Rattle.event.specs.Events.{noted_events}
 use Rattle.desk.specs.Desks.{Lent, is_out, without, lent_at}
 use Rattle.undo.specs.declared.undoing.Core.{Core}
 use Rattle.book.specs.Standing.{Apart, Kept, Stands}
@@ -124,7 +124,7 @@ module _ (core : Core) (next : ℕ) (out : List Lent) where
         chained = k.stands.stands.chained;
       };
     };
-    free = all_append _ out (t ∷ []) k.free (free_from events t.number.0 next (entries_of k.rows) k.stands.stands.named.below (omega (arith, is)), tt);
+    free = all_append _ out (t ∷ []) k.free (free_from noted_events t.number.0 next (entries_of k.rows) k.stands.stands.named.below (omega (arith, is)), tt);
     drawn = all_append _ out (t ∷ []) (all_map _ _ out (λ u lt. omega (arith, lt)) k.drawn) (omega (arith, is), tt);
     apart = apart_lent t out (all_map _ _ out (λ u lt. omega (arith, lt, is)) k.drawn) k.apart;
   }

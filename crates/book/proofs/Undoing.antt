@@ -11,9 +11,10 @@ use Rattle.history.proofs.Lists.{all_map}
 use Rattle.history.proofs.Marks.{free_marked}
 use Rattle.history.proofs.Standing.{entries_undone}
 use Rattle.ids.specs.declared.names.EventName.{EventName}
+use Rattle.worldcells.specs.Events.{event_in}
 use Rattle.worldcells.specs.Theory.{cells}
-use Rattle.event.specs.Events.{Does, events}
-use Rattle.event.proofs.Law.{events_laws}
+use Rattle.event.specs.Events.{DoesNoted, noted_events}
+use Rattle.event.proofs.Law.{noted_laws}
 use Rattle.journal.specs.Items.{Item, swap_item}
 use Rattle.journal.specs.Lines.{plain, Line, lines_of}
 use Rattle.journal.proofs.Lifting.{SameMembers, named_members, live_members, without_members, closed_of_lines, part_of_lines}
@@ -34,9 +35,9 @@ use Rattle.book.proofs.Sets.{Lines-set}
 use Rattle.book.proofs.Choosing.{neither, not_mapped, of_rows, places_are, chosen_live, all_entries, walk_seats}
 use Rattle.book.proofs.Running.{plain_run}
 
-one_event : (b : Bool) (l m : Line) (ls ms : List Line) → l.entry.event ≡ m.entry.event → map (λ x. x.entry.event) ls ≡ map (λ x. x.entry.event) ms
-    → map (λ x. x.entry.event) (cond b (l ∷ ls) ls) ≡ map (λ x. x.entry.event) (cond b (m ∷ ms) ms)
-one_event true l m ls ms e h = λ i. e i ∷ h i
+one_event : (b : Bool) (l m : Line) (ls ms : List Line) → l.entry.event ≡ m.entry.event → map (λ x. event_in x.entry.event) ls ≡ map (λ x. event_in x.entry.event) ms
+    → map (λ x. event_in x.entry.event) (cond b (l ∷ ls) ls) ≡ map (λ x. event_in x.entry.event) (cond b (m ∷ ms) ms)
+one_event true l m ls ms e h = λ i. event_in (e i) ∷ h i
 one_event false l m ls ms e h = h
 
 -- what an undo leaves live is the rest
@@ -55,33 +56,33 @@ no_gap names lines ok = not_mapped (gap_refusal not_closed) _ (neither (undone_r
 
 module _ (old new : Core) (next : ℕ) (out : List Lent) (names : List EventName) (ps : List ℕ) (ok : undo_refusal (lines_of (items_of old)) names ≡ None)
     (at : ps ≡ places_from 0 names (lines_of (items_of old))) (is : shown new ≡ walk (swap_item false) (reverse ps) (shown old)) where
-  module _ (rows : List (Row events)) (h : CoreStands Does (empty events) next rows old) where
-    members : SameMembers Does (among names) (of_rows names) rows
-    members = named_members Does (is_in (numbers names)) rows
+  module _ (rows : List (Row noted_events)) (h : CoreStands DoesNoted (empty noted_events) next rows old) where
+    members : SameMembers DoesNoted (among names) (of_rows names) rows
+    members = named_members DoesNoted (is_in (numbers names)) rows
 
-    closed : Closed events (live_set events) (of_rows names) (entries_of rows)
-    closed = closed_of_lines Does events_laws h (live_set plain) (among names) (live_set events) (of_rows names) (live_members Does rows) members
+    closed : Closed noted_events (live_set noted_events) (of_rows names) (entries_of rows)
+    closed = closed_of_lines DoesNoted noted_laws h (live_set plain) (among names) (live_set noted_events) (of_rows names) (live_members DoesNoted rows) members
         (closed_of_gaps names (lines_of (items_of old)) (no_gap names (lines_of (items_of old)) ok))
 
-    part : Part (of_rows names) (live_set events) (entries_of rows)
-    part = part_of_lines Does events_laws h (live_set plain) (among names) (live_set events) (of_rows names) (live_members Does rows) members
+    part : Part (of_rows names) (live_set noted_events) (entries_of rows)
+    part = part_of_lines DoesNoted noted_laws h (live_set plain) (among names) (live_set noted_events) (of_rows names) (live_members DoesNoted rows) members
         (all_entries (λ e. among names e ≡ true → e.live ≡ true) (lines_of (items_of old)) (live_set_of names (lines_of (items_of old)) ok))
 
-    abbrev after : List (Row events)
-    after = undo_rows events (of_rows names) rows (state_of old)
+    abbrev after : List (Row noted_events)
+    after = undo_rows noted_events (of_rows names) rows (state_of old)
 
-    stood : CoreStands Does (empty events) next after new
-    stood = (undoes Does events_laws (empty events) next (of_rows names) rows old new ps h (at ∙ places_are h names) closed part is).0
+    stood : CoreStands DoesNoted (empty noted_events) next after new
+    stood = (undoes DoesNoted noted_laws (empty noted_events) next (of_rows names) rows old new ps h (at ∙ places_are h names) closed part is).0
 
     seats : map (λ i. i.seat) (items_of new) ≡ map (λ i. i.seat) (items_of old)
     seats = ap (λ (j : List Item × State cells). map (λ (i : Item). i.seat) j.0) is ∙ walk_seats false (reverse ps) (shown old)
 
     lines : lines_of (items_of new) ≡ undone_in names (lines_of (items_of old))
-    lines = lines_undone Does events_laws h (without (live_set plain) (among names)) (of_rows names) stood
-        (without_members Does (live_set plain) (among names) (live_set events) (of_rows names) rows (live_members Does rows) members) seats
+    lines = lines_undone DoesNoted noted_laws h (without (live_set plain) (among names)) (of_rows names) stood
+        (without_members DoesNoted (live_set plain) (among names) (live_set noted_events) (of_rows names) rows (live_members DoesNoted rows) members) seats
 
-    still_free : (n : ℕ) → Free events n (entries_of rows) → Free events n (entries_of after)
-    still_free n free = subst (Free events n) (sym (entries_undone events (of_rows names) rows (state_of old))) (free_marked events (without (live_set events) (of_rows names)) n (entries_of rows) free)
+    still_free : (n : ℕ) → Free noted_events n (entries_of rows) → Free noted_events n (entries_of after)
+    still_free n free = subst (Free noted_events n) (sym (entries_undone noted_events (of_rows names) rows (state_of old))) (free_marked noted_events (without (live_set noted_events) (of_rows names)) n (entries_of rows) free)
 
     run : PlainRun (rest_of names (lines_of (items_of old))) (contents cells (state_of new))
     run = subst (λ es. PlainRun es (contents cells (state_of new))) (ap live_events lines ∙ rest_left names (lines_of (items_of old))) (plain_run stood)

@@ -7,7 +7,6 @@ use Rattle.history.specs.Subject.{Run, run_none, run_more, empty, written}
 use Rattle.history.specs.Journal.{Entry, Free, live_set}
 use Rattle.history.specs.Records.{contents, entries_of}
 use Rattle.history.proofs.Lists.{all_map, all_mapped, all_append}
-use Rattle.history.proofs.Standing.{standing_run}
 use Rattle.ids.specs.CellKeys.{same_key}
 use Rattle.ids.proofs.CellKeys.{same_exact}
 use Rattle.ids.specs.declared.names.EventName.{EventName}
@@ -19,11 +18,11 @@ use Rattle.ids.specs.declared.cells.CellKey.TheVariants as key
 use Rattle.heap.specs.State as heap
 use Rattle.heap.specs.State.{Cell, top, slot_cell, object_cell, view_cell, fence_cell}
 use Rattle.post.specs.Messages.{Message, Published}
-use Rattle.worldcells.specs.Events.{Event}
+use Rattle.worldcells.specs.Events.{Event, event_in}
 use Rattle.worldcells.specs.Theory.{cells}
 use Rattle.worldcells.specs.World.{World, Content, message_in, message_of, cell_key}
-use Rattle.event.specs.Events.{Foot, Does, births, asks, arrives, forwards, learns, turns, events, letters_from, on_the_board, counted, in_world, made_by, AreNew}
-use Rattle.event.proofs.Law.{events_laws}
+use Rattle.event.specs.Events.{Foot, Does, births, asks, arrives, forwards, learns, turns, events, noted_events, letters_from, on_the_board, counted, in_world, made_by, AreNew}
+use Rattle.event.proofs.Noted.{live_run}
 use Rattle.undo.specs.CoreView.{state_of}
 use Rattle.undo.specs.declared.undoing.Core.{Core}
 use Rattle.desk.specs.Desks.{Lent}
@@ -107,8 +106,8 @@ module _ (m : MsgId) where
       unwritten f.writes v (key.Msg m) (not_made v none e f d ne) ∙ none
 
 -- a name that is free is that of no live event
-free_of_live : (n : ℕ) (es : List (Entry events)) → Free events n es → AllByRecursion (λ (e : Event). e.name.0 ≡ n → ⊥) (map (λ (e : Entry events). e.event) (filter (live_set events) es))
-free_of_live n es h = all_mapped (λ (e : Entry events). e.event) (λ (e : Event). e.name.0 ≡ n → ⊥) (filter (live_set events) es) (all_filter (λ (e : Entry events). e.event.name.0 ≡ n → ⊥) (live_set events) es (all_map _ _ es (λ e q. q.0) h))
+free_of_live : (n : ℕ) (es : List (Entry noted_events)) → Free noted_events n es → AllByRecursion (λ (e : Event). e.name.0 ≡ n → ⊥) (map (λ (e : Entry noted_events). event_in e.event) (filter (live_set noted_events) es))
+free_of_live n es h = all_mapped (λ (e : Entry noted_events). event_in e.event) (λ (e : Event). e.name.0 ≡ n → ⊥) (filter (live_set noted_events) es) (all_filter (λ (e : Entry noted_events). e.event.name.0 ≡ n → ⊥) (live_set noted_events) es (all_map _ _ es (λ e q. q.0) h))
 
 Contents-set : IsSet (Option Content)
 Contents-set = hlevel (props, sets.contents)
@@ -117,8 +116,8 @@ module _ (core : Core) (next : ℕ) (out : List Lent) (h : Stands core next out)
   -- nothing is named by a ticket that is out
   pub no_message : (i : ℕ) → contents cells (state_of core) (key.Msg (record { event = t.number; index = i })) ≡ None
   no_message i = ∥∥₁_elim h (Contents-set _ _) (λ k.
-      not_named (record { event = t.number; index = i }) _ _ (standing_run events events_laws k.stands.stands)
-      (free_of_live t.number.0 (entries_of k.rows) (all_out (λ u. Free events u.number.0 (entries_of k.rows)) out t k.free is)))
+      not_named (record { event = t.number; index = i }) _ _ (live_run k.stands.stands)
+      (free_of_live t.number.0 (entries_of k.rows) (all_out (λ u. Free noted_events u.number.0 (entries_of k.rows)) out t k.free is)))
 
   -- so what its turn sends is new
   pub letters_new : (i : ℕ) (letters : List (MsgId × Message)) → AreNew (contents cells (state_of core)) (letters_from t.number i letters)

@@ -5,7 +5,7 @@ use Rattle.std.proofs.lemmas.Bool.{ltb-false}
 use Rattle.std.proofs.lemmas.List.{length-append, length-map}
 use Rattle.history.specs.Records.{State, Record}
 use Rattle.ids.specs.declared.cells.CellKey.{CellKey}
-use Rattle.worldcells.specs.Events.{Event}
+use Rattle.worldcells.specs.Events.{Noted}
 use Rattle.worldcells.specs.Theory.{cells}
 use Rattle.post.specs.Messages.{Vat}
 use Rattle.worldcells.specs.World.{vat_named}
@@ -60,7 +60,7 @@ pub one_more : (b : Book) → journal_full b ≡ None → Within (length b.journ
 one_more b e = let few : length b.journal ≤ 1048575 = ltb-false 1048575 (length b.journal) (not_refused (nat_lt 1048575 (length b.journal)) full e) in omega (arith, few)
 
 -- an entry more
-pub within_entered : (old new : Core) (e : Event) (seat : ℕ) (touched : List CellKey) (kept : Record cells) → shown new ≡ entered e seat touched kept (shown old) → Within (length (lines_of (items_of old)) + 1)
+pub within_entered : (old new : Core) (e : Noted) (seat : ℕ) (touched : List CellKey) (kept : Record cells) → shown new ≡ entered e seat touched kept (shown old) → Within (length (lines_of (items_of old)) + 1)
     → Within (length (items_of new))
 within_entered old new e seat touched kept is h =
     let more : length (items_of new) ≡ length (items_of old) + 1 = ap (λ (j : List Item × State cells). length j.0) is ∙ length-append (items_of old) _ in

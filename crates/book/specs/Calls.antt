@@ -15,14 +15,14 @@ use Rattle.heap.specs.State as heap
 use Rattle.heap.specs.State.{Cell, pending, view_cell}
 use Rattle.heap.specs.View.{state_of}
 use Rattle.heap.specs.Found.{Found}
-use Rattle.worldcells.specs.Events.{Event, turn}
+use Rattle.worldcells.specs.Events.{Event, turn, Noted, event_in, with_notes}
 use Rattle.post.specs.MessageView.{message_of}
 use Rattle.post.specs.declared.message.Message as code-message
 use Rattle.worldcells.specs.World as world
 use Rattle.post.specs.Messages.{Vat, Message, Published, at_vat, flying, waits_at, arrived}
 use Rattle.worldcells.specs.World.{message, published_as, vat_state}
 use Rattle.kernele.specs.Tree.{Name}
-use Rattle.event.specs.Events.{AreNamed, Foot, Does, events, Turn, Turns, TurnLeaves, turn_foot}
+use Rattle.event.specs.Events.{AreNamed, Foot, DoesNoted, events, Turn, Turns, TurnLeaves, turn_foot}
 use Rattle.event.specs.Forwarding.{onward_of}
 use Rattle.event.specs.Ready.{leads_there, first_undone}
 use Rattle.event.specs.Walks.{awaited, found_by}
@@ -41,9 +41,9 @@ use Rattle.desk.specs.Desks.{Lent, without}
 use Rattle.book.specs.Books.{Book}
 use Rattle.book.specs.Refusals.{Refusal, no_ticket, stale, full, journal_full, arrival_refusal, forward_refusal, learning_refusal, undo_refusal, checkout_refusal}
 
--- the line of a new event from a seat: it is live, it has the cells that its footprint touches and writes, and as its causes the live
--- events before it that wrote a cell that it touches, the oldest first
-pub record Tells (e : Event) (f : Foot) (seat : ℕ) (lines : List Line) (l : Line) : Type 0 where
+-- the line of a new event from a seat: it has the event's notes, it is live, it has the cells that its footprint touches and writes, and as
+-- its causes the live events before it that wrote a cell that it touches, the oldest first
+pub record Tells (e : Noted) (f : Foot) (seat : ℕ) (lines : List Line) (l : Line) : Type 0 where
   pub event : l.entry.event ≡ e
   pub same_seat : l.seat ≡ seat
   pub live : l.entry.live ≡ true
@@ -51,20 +51,20 @@ pub record Tells (e : Event) (f : Foot) (seat : ℕ) (lines : List Line) (l : Li
   pub written : (k : CellKey) → is_some (new plain l.entry.foot k) ≡ is_some (new events f k)
   pub causes : l.entry.causes ≡ reverse (causes_of plain l.entry.foot (entries_in lines))
 
--- an event that is possible is entered: the world goes one step, and the journal has one more line at its end
-pub record Enters (e : Event) (f : Foot) (seat : ℕ) (old now : Book) : Type 0 where
-  pub does : ∥ Does e old.world f ∥₁
+-- an event that is possible, and makes these notes, is entered: the world goes one step, and the journal has one more line at its end
+pub record Enters (e : Noted) (f : Foot) (seat : ℕ) (old now : Book) : Type 0 where
+  pub does : ∥ DoesNoted e old.world f ∥₁
   pub step : now.world ≡ after events f old.world
   pub line : Line
   pub tells : Tells e f seat old.journal line
   pub entered : now.journal ≡ old.journal ++ line ∷ []
 
--- the same with the name that comes next
+-- the same with the name that comes next, and without notes
 pub record EntersNext (e : Event) (f : Foot) (seat : ℕ) (old now : Book) : Type 0 where
   pub named : e.name.0 ≡ old.next
   pub drawn : now.next ≡ old.next + 1
   pub same_out : now.out ≡ old.out
-  pub enters : Enters e f seat old now
+  pub enters : Enters (with_notes e []) f seat old now
 
 -- what the book notes of a ticket
 abbrev pub lent_of : Task → Lent
@@ -161,13 +161,13 @@ pub data RefusesCommit (b : Book) (r : Ran) : Refusal → Type 0 where
   changed : IsKnown b r.carried → (IsFresh b r → ⊥) → RefusesCommit b r stale
   no_room : IsKnown b r.carried → IsFresh b r → journal_full b ≡ Some full → RefusesCommit b r full
 
--- an event is the turn of a message: this is the turn, with the cells that it touched and what it left
+-- an event is the turn of a message: this is the turn, with its notes, the cells that it touched and what it left
 pub record EntersTurn (e : EventName) (m : MsgId) (budget seat : ℕ) (t : Turn) (old now : Book) : Type 0 where
   pub turns : ∥ Turns e old.world m budget t ∥₁
   pub cells : List Cell
   pub left : List (Cell × heap.Content)
   pub leaves : TurnLeaves t cells left
-  pub enters : Enters (record { name = e; act = turn t.vat m budget }) (turn_foot e old.world m t cells left) seat old now
+  pub enters : Enters (record { name = e; act = turn t.vat m budget; notes = t.outcome.out.notes }) (turn_foot e old.world m t cells left) seat old now
 
 -- the turn that a ticket was run for
 abbrev pub turn_in : world.World → Ran → Turn
@@ -205,11 +205,11 @@ redone_in names lines = map (redone names) lines
 
 -- the events of the live lines
 abbrev pub live_events : List Line → List Event
-live_events lines = map (λ l. l.entry.event) (filter is_live lines)
+live_events lines = map (λ l. event_in l.entry.event) (filter is_live lines)
 
 -- the events of the live lines outside a set
 abbrev pub rest_of : List EventName → List Line → List Event
-rest_of names lines = map (λ l. l.entry.event) (filter (λ l. is_live l && not (chosen names l)) lines)
+rest_of names lines = map (λ l. event_in l.entry.event) (filter (λ l. is_live l && not (chosen names l)) lines)
 
 -- an undo leaves the plain run of the rest
 pub record Undoes (names : List EventName) (old now : Book) : Type 0 where

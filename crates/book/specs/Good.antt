@@ -4,9 +4,9 @@ use Rattle.std.specs.List.{AllByRecursion}
 use Rattle.history.specs.Subject.{after, new, touches}
 use Rattle.history.specs.Journal.{Entry, name_of, is_in, live_set, Distinct, Sound}
 use Rattle.ids.specs.declared.cells.CellKey.{CellKey}
-use Rattle.worldcells.specs.Events.{Event}
+use Rattle.worldcells.specs.Events.{Event, event_in}
 use Rattle.worldcells.specs.World.{World, empty}
-use Rattle.event.specs.Events.{Foot, Does, events}
+use Rattle.event.specs.Events.{Foot, DoesNoted, events}
 use Rattle.journal.specs.Lines.{plain, entries_in}
 use Rattle.book.specs.Books.{Book}
 use Rattle.book.specs.declared.book.TheConstants.{MOST_ENTRIES}
@@ -22,13 +22,14 @@ pub record HasFoot (e : Entry plain) (f : Foot) : Type 0 where
   pub written : (k : CellKey) → is_some (new plain e.foot k) ≡ is_some (new events f k)
 
 -- entries, the newest first, are those of a run from the empty world to this one: each event is possible where it comes, and its entry has the
--- cells that it touches and writes there
+-- notes that it makes there, and the cells that it touches and writes
 pub data RunsWithCells : List (Entry plain) → World → Type 0 where
   runs_none : RunsWithCells [] empty
-  runs_more : {e : Entry plain} {es : List (Entry plain)} {w : World} {f : Foot} → RunsWithCells es w → Does e.event w f → HasFoot e f → RunsWithCells (e ∷ es) (after events f w)
+  runs_more : {e : Entry plain} {es : List (Entry plain)} {w : World} {f : Foot} → RunsWithCells es w → DoesNoted e.event w f → HasFoot e f → RunsWithCells (e ∷ es) (after events f w)
 
 -- names are apart and were drawn, causes are older entries, the live ones have their causes among the live ones, and no others, the live ones are
--- a run to the world, each with the cells that it touched and wrote there, and there is no more than a journal may have
+-- a run to the world, each with the notes that it made there and the cells that it touched and wrote, and there is no more than a journal may
+-- have
 pub record IsGood (b : Book) : Type 0 where
   pub distinct : Distinct plain (entries_in b.journal)
   pub drawn : AllByRecursion (λ e. name_of plain e < b.next) (entries_in b.journal)
@@ -39,4 +40,4 @@ pub record IsGood (b : Book) : Type 0 where
 
 -- the live events, the newest first
 abbrev pub live_events : Book → List Event
-live_events b = map (λ e. e.event) (filter (live_set plain) (entries_in b.journal))
+live_events b = map (λ e. event_in e.event) (filter (live_set plain) (entries_in b.journal))

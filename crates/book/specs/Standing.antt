@@ -4,7 +4,7 @@ use Rattle.std.specs.List.{AllByRecursion}
 use Rattle.history.specs.Journal.{Free}
 use Rattle.history.specs.Records.{Row, entries_of}
 use Rattle.worldcells.specs.World.{empty}
-use Rattle.event.specs.Events.{Does, events}
+use Rattle.event.specs.Events.{DoesNoted, noted_events}
 use Rattle.desk.specs.Desks.{Lent}
 use Rattle.undo.specs.Standing.{CoreStands}
 use Rattle.undo.specs.declared.undoing.Core.{Core}
@@ -16,9 +16,9 @@ Apart (t ∷ out) = AllByRecursion (λ u. u.number.0 ≢ t.number.0) out × Apar
 
 -- rows stand with the core, from the empty world; the numbers of tickets that are out were drawn, and no row has them or names them as causes
 pub record Kept (core : Core) (next : ℕ) (out : List Lent) : Type 0 where
-  pub rows : List (Row events)
-  pub stands : CoreStands Does empty next rows core
-  pub free : AllByRecursion (λ t. Free events t.number.0 (entries_of rows)) out
+  pub rows : List (Row noted_events)
+  pub stands : CoreStands DoesNoted empty next rows core
+  pub free : AllByRecursion (λ t. Free noted_events t.number.0 (entries_of rows)) out
   pub drawn : AllByRecursion (λ t. t.number.0 < next) out
   pub apart : Apart out
 

@@ -1,5 +1,5 @@
 // The book: the world, the journal that made it, the names that are not drawn yet, and the tickets that are out.
-ghost use Rattle.std.specs.Prelude.{◌≡◌, ◌≢◌, ◌≤◌, ◌+◌, ◌↔◌, List, Option, None, Some, true, false, IsTrue, IfOk, IfErr, IfSome, OnOk, OnErr, length, filter, map, not};
+ghost use Rattle.std.specs.Prelude.{◌≡◌, ◌≢◌, ◌≤◌, ◌+◌, ◌↔◌, [], List, Option, None, Some, true, false, IsTrue, IfOk, IfErr, IfSome, OnOk, OnErr, length, filter, map, not};
 ghost use Rattle.std.specs.Option.{option_map, ForSome};
 ghost use Rattle.history.specs.Records.{contents};
 ghost use Rattle.history.specs.Chains.{last_writer};
@@ -307,18 +307,24 @@ impl Book {
         Ok(EventName(self.next))
     }
 
-    /// Enters an event that is possible under the next name, or changes nothing.
+    /// Enters an event that is possible and makes no notes under the next name, or changes nothing.
     fn enter(&mut self, event: Event, effects: Effects) -> Result<(), AllocError>
         requires named { event.name.0 ≡ self.old.next }
         requires in_range { self.old.next ≤ 4294967295 }
         requires room { full_refusal (book_of self.old) ≡ None }
         requires possible { (f : Foot) × Happens (event_of event) f (book_of self.old).world effects }
+        requires quiet { effects.notes.items ≡ [] }
         ensures ok { OnOk result ((f : Foot) → Happens (event_of event) f (book_of self.old).world effects → EntersNext (event_of event) f 0 (book_of self.old) (book_of self.new)) }
         ensures unchanged { OnErr result (book_of self.new ≡ book_of self.old) }
     {
-        let Effects { touched, records } = effects;
+        let Effects {
+            touched,
+            records,
+            notes,
+        } = effects;
         let deed = Deed {
             event,
+            notes,
             seat: NO_SEAT,
         };
         self.core
@@ -783,7 +789,11 @@ impl Book {
         let way = self.check_fresh(ran)?;
         self.check_room()?;
         let out = &ran.carried;
-        let Effects { touched, records } = turn_effects(
+        let Effects {
+            touched,
+            records,
+            notes,
+        } = turn_effects(
             self.alloc,
             self.core.world(),
             out.event,
@@ -803,6 +813,7 @@ impl Book {
         };
         let deed = Deed {
             event,
+            notes,
             seat: out.seat,
         };
         self.core

@@ -6,6 +6,8 @@ mod books;
 #[cfg(test)]
 mod calls;
 #[cfg(test)]
+mod logs;
+#[cfg(test)]
 mod plain_runs;
 #[cfg(test)]
 mod sessions;

@@ -67,7 +67,7 @@ fn expect_of<R: Read + Drop>(
 }
 
 /// Runs a session. Its transcript is in parts: what stands behind `> ` is a command or a line of a script, other lines are replies.
-fn expect_session(rt: &(impl Abort + AllocGlobal), parts: &[&str]) {
+pub(crate) fn expect_session(rt: &(impl Abort + AllocGlobal), parts: &[&str]) {
     let mut commands = String::new(rt.alloc());
     let mut wanted = String::new(rt.alloc());
     for part in parts {

@@ -23,8 +23,8 @@ use Rattle.journal.specs.declared.entry.Entry as code
 use Rattle.journal.specs.declared.entry.Touched.{Touched}
 use Rattle.journal.proofs.Reversed.{map-map}
 use Rattle.journal.proofs.Touching.{any-map}
-use Rattle.event.specs.Events.{Does}
-use Rattle.event.proofs.Law.{events_laws}
+use Rattle.event.specs.Events.{DoesNoted}
+use Rattle.event.proofs.Law.{noted_laws}
 use Rattle.causality.specs.Journals.{IsJournal}
 use Rattle.causality.specs.Selections.{numbers}
 use Rattle.causality.specs.Causes.{place_among, Places, Indexes, place_of, number_of, has_place, passes_at, writer_of, reached_at, number_at}
@@ -85,7 +85,7 @@ module _ (items : List Item) (index : NameIndex) (indexed : Indexes index (lines
     pub reached_more : (old new : List ℕ) → ((q : ℕ) → list_any (is_at (nat_cmp q)) new ≡ cond (is_at (nat_cmp here) q) true (list_any (is_at (nat_cmp q)) old))
         → (q : ℕ) → (has_place new q || reached_at items k (named_place items (place_of index w)) q) ≡ (has_place old q || reached_at items k (named_place items (Some here)) q)
     reached_more old new updates q = ∥∥₁_elim journal (Bool-set _ _) (λ j.
-        let f : Follows items = follows Does events_laws j.3 in
+        let f : Follows items = follows DoesNoted noted_laws j.3 in
         ap₂ (λ a b. a || b) (added q) (ap (λ ns. passes_at (λ a. is_in ns (number a)) items q) (reached_place k w ∙ ap (reached items k) writer))
         ∙ turned (here == q) (has_place old q) _
         ∙ ap (λ b. has_place old q || b)
@@ -107,7 +107,7 @@ module _ (items : List Item) (index : NameIndex) (indexed : Indexes index (lines
 
     -- and the writer before it is older
     pub older_place : (p : ℕ) → place_of index w ≡ Some p → p < here
-    older_place p found = ltb-true p here (∥∥₁_elim journal (Bool-set _ _) (λ j. lt-ltb p here (by (follows Does events_laws j.3) w writer found)))
+    older_place p found = ltb-true p here (∥∥₁_elim journal (Bool-set _ _) (λ j. lt-ltb p here (by (follows DoesNoted noted_laws j.3) w writer found)))
       where
         by : Follows items → (v : Option EventName) → number_of v ≡ writer_of i k → place_of index v ≡ Some p → p < here
         by f None is g = cc

@@ -12,8 +12,8 @@ use Rattle.history.proofs.Lists.{all_map, all_both, all_mapped}
 use Rattle.ids.specs.declared.cells.CellKey.{CellKey}
 use Rattle.worldcells.specs.Theory.{cells}
 use Rattle.worldcells.specs.World.{empty}
-use Rattle.event.specs.Events.{Does, events}
-use Rattle.event.proofs.Law.{events_laws}
+use Rattle.event.specs.Events.{DoesNoted, noted_events}
+use Rattle.event.proofs.Law.{noted_laws}
 use Rattle.journal.specs.Items.{Item}
 use Rattle.journal.specs.Lines.{plain, Line, lines_of, entries_in, PlainJournal}
 use Rattle.journal.specs.Standing.{ItemsStand}
@@ -30,53 +30,53 @@ pub record Tells (lines : List Line) : Type 0 where
   pub chained : Chained plain (entries_in lines)
 
 -- what rows tell of last writers is what is so among the rows
-module _ (older : List (Entry events)) where
-  abbrev told : Row events → Entry plain
-  told = told_entry Does older
+module _ (older : List (Entry noted_events)) where
+  abbrev told : Row noted_events → Entry plain
+  told = told_entry DoesNoted older
 
-  abbrev Fit : List (Row events) → Type 0
-  Fit rows = AllByRecursion (λ p. Fits events p.0.foot p.1) rows
+  abbrev Fit : List (Row noted_events) → Type 0
+  Fit rows = AllByRecursion (λ p. Fits noted_events p.0.foot p.1) rows
 
-  wrote_told : (k : CellKey) (p : Row events) → Fits events p.0.foot p.1 → wrote plain k (told p) ≡ wrote events k p.0
-  wrote_told k p f = told_new Does events_laws p.0.foot p.0.lasts p.1 f k
+  wrote_told : (k : CellKey) (p : Row noted_events) → Fits noted_events p.0.foot p.1 → wrote plain k (told p) ≡ wrote noted_events k p.0
+  wrote_told k p f = told_new DoesNoted noted_laws p.0.foot p.0.lasts p.1 f k
 
-  last_told : (k : CellKey) (t : Entry plain → Bool) (r : Entry events → Bool) (rows : List (Row events)) → SameSet plain events told (λ p. p.0) t r rows → Fit rows
-      → last_writer plain k t (map told rows) ≡ last_writer events k r (entries_of rows)
+  last_told : (k : CellKey) (t : Entry plain → Bool) (r : Entry noted_events → Bool) (rows : List (Row noted_events)) → SameSet plain noted_events told (λ p. p.0) t r rows → Fit rows
+      → last_writer plain k t (map told rows) ≡ last_writer noted_events k r (entries_of rows)
   last_told k t r [] h f = refl
   last_told k t r (p ∷ rows) (h, hs) (f, fs) = λ i. cond (h i && wrote_told k p f i) (Some (p.0.event.name.0)) (last_told k t r rows hs fs i)
 
-  linked_told : (k : CellKey) (t : Entry plain → Bool) (r : Entry events → Bool) (rows : List (Row events)) → SameSet plain events told (λ p. p.0) t r rows → SameCauses plain events told (λ p. p.0) rows → Fit rows
-      → Linked events k r (entries_of rows) → Linked plain k t (map told rows)
+  linked_told : (k : CellKey) (t : Entry plain → Bool) (r : Entry noted_events → Bool) (rows : List (Row noted_events)) → SameSet plain noted_events told (λ p. p.0) t r rows → SameCauses plain noted_events told (λ p. p.0) rows → Fit rows
+      → Linked noted_events k r (entries_of rows) → Linked plain k t (map told rows)
   linked_told k t r [] h causes f m = tt
   linked_told k t r (p ∷ rows) (h, hs) causes (f, fs) (m, ms) = (
     λ member w. all_mapped told _ rows
         (all_both _ _ _ rows (λ q both old. ap₂ (λ a b. a && b) both.0 (wrote_told k q both.1.1) ∙ old ∙ sym (ap₂ (λ a b. a && b) both.1.0 (wrote_told k q both.1.1)))
         (all_zip _ _ rows causes.0.1 (all_zip _ _ rows hs fs))
-        (all_unmapped (λ (q : Row events). q.0) _ rows (m (sym h ∙ member) (sym (wrote_told k p f) ∙ w)))),
+        (all_unmapped (λ (q : Row noted_events). q.0) _ rows (m (sym h ∙ member) (sym (wrote_told k p f) ∙ w)))),
     linked_told k t r rows hs (fewer_pairs _ p rows causes) fs ms,
   )
 
-  chained_told : (rows : List (Row events)) → SameCauses plain events told (λ p. p.0) rows → SameMeets plain events told (λ p. p.0) rows → Fit rows → Chained events (entries_of rows) → Chained plain (map told rows)
+  chained_told : (rows : List (Row noted_events)) → SameCauses plain noted_events told (λ p. p.0) rows → SameMeets plain noted_events told (λ p. p.0) rows → Fit rows → Chained noted_events (entries_of rows) → Chained plain (map told rows)
   chained_told [] causes met f h = tt
   chained_told (p ∷ rows) causes met (f, fs) (h, hs) = (
     record {
       cells = λ k. h.cells k ∙ sym (touched k);
-      lasts = all_map _ _ p.0.lasts (λ x q. q ∙ sym (last_told x.0 (caused plain (told p)) (caused events p.0) rows causes.0.1 fs)) h.lasts;
+      lasts = all_map _ _ p.0.lasts (λ x q. q ∙ sym (last_told x.0 (caused plain (told p)) (caused noted_events p.0) rows causes.0.1 fs)) h.lasts;
       met = all_mapped told _ rows (all_both _ _ _ rows (λ q both old named. both.1 ∙ old (sym both.0 ∙ named))
-          (all_zip _ _ rows causes.0.1 met.0.1) (all_unmapped (λ (q : Row events). q.0) _ rows h.met));
-      linked = λ k is. linked_told k (caused plain (told p)) (caused events p.0) rows causes.0.1 (fewer_pairs _ p rows causes) fs (h.linked k (sym (touched k) ∙ is));
+          (all_zip _ _ rows causes.0.1 met.0.1) (all_unmapped (λ (q : Row noted_events). q.0) _ rows h.met));
+      linked = λ k is. linked_told k (caused plain (told p)) (caused noted_events p.0) rows causes.0.1 (fewer_pairs _ p rows causes) fs (h.linked k (sym (touched k) ∙ is));
     },
     chained_told rows (fewer_pairs _ p rows causes) (fewer_pairs _ p rows met) fs hs,
   )
     where
-      touched : (k : CellKey) → touches plain (told p).foot k ≡ touches events p.0.foot k
-      touched k = told_touches Does events_laws p.0.foot p.0.lasts p.1 h.cells f k
+      touched : (k : CellKey) → touches plain (told p).foot k ≡ touches noted_events p.0.foot k
+      touched k = told_touches DoesNoted noted_laws p.0.foot p.0.lasts p.1 h.cells f k
 
-tells : (next : ℕ) (rows : List (Row events)) (state : State cells) (items : List Item) → ItemsStand Does empty next rows items state → Tells (lines_of items)
+tells : (next : ℕ) (rows : List (Row noted_events)) (state : State cells) (items : List Item) → ItemsStand DoesNoted empty next rows items state → Tells (lines_of items)
 tells next rows state items h = record {
-  lines_are = lines_plain Does events_laws h;
-  chained = subst (Chained plain) (sym (entries_told Does events_laws h))
-      (chained_told (entries_of rows) rows (same_causes Does events_laws h) (same_meets Does events_laws h) h.stands.follows.fit h.stands.chained);
+  lines_are = lines_plain DoesNoted noted_laws h;
+  chained = subst (Chained plain) (sym (entries_told DoesNoted noted_laws h))
+      (chained_told (entries_of rows) rows (same_causes DoesNoted noted_laws h) (same_meets DoesNoted noted_laws h) h.stands.follows.fit h.stands.chained);
 }
 
 -- that they tell it is a proposition

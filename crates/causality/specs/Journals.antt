@@ -5,8 +5,8 @@ use Rattle.worldcells.specs.World.{empty}
 use Rattle.worldcells.specs.Theory.{cells}
 use Rattle.journal.specs.Items.{Item}
 use Rattle.journal.specs.Standing.{ItemsStand}
-use Rattle.event.specs.Events.{Does, events}
+use Rattle.event.specs.Events.{DoesNoted, noted_events}
 
 -- these are the items of a journal
 abbrev pub IsJournal : List Item → Type 0
-IsJournal items = ∥ ((next : ℕ) × (rows : List (Row events)) × (state : State cells) × ItemsStand Does empty next rows items state) ∥₁
+IsJournal items = ∥ ((next : ℕ) × (rows : List (Row noted_events)) × (state : State cells) × ItemsStand DoesNoted empty next rows items state) ∥₁

@@ -9,9 +9,9 @@ use Rattle.commands.specs.declared.command.LineFault.{LineFault}
 use Rattle.commands.specs.declared.numbers.PromiseName.{PromiseName}
 use Rattle.commands.specs.Words.{is_blank, is_bare, ends_blank, without_blanks, first_word, behind_word, words_in}
 use Rattle.commands.specs.Numbers.{number_of, message_named, promise_named, event_named, events_named, one_or_more}
-use Rattle.commands.specs.Commands.{Spelled, birth, ask, arrive, forward, learn, turn, step, run, enabled, show, journal, cone, undo, undo_cone, redo, exchange, is_vat_name, are_vats, at_most, is_empty, of_message, of_event, of_events, learn_of, run_of, alone, exchange_of, ask_of, birth_of, formed, begun_by, is_skipped, spelled_by}
+use Rattle.commands.specs.Commands.{Spelled, birth, ask, arrive, forward, learn, turn, step, run, enabled, show, journal, log, cone, undo, undo_cone, redo, exchange, is_vat_name, vat_named, log_of, are_vats, at_most, is_empty, of_message, of_event, of_events, learn_of, run_of, alone, exchange_of, ask_of, birth_of, formed, begun_by, is_skipped, spelled_by}
 use Rattle.commands.specs.Inputs.{HasWords}
-use Rattle.commands.specs.Spells.{Spells, BeginsWithWord, BeginsCommand, spells_birth, spells_ask, spells_arrive, spells_forward, spells_turn, spells_learn, spells_run, spells_step, spells_enabled, spells_show, spells_journal, spells_cone, spells_undo_cone, spells_undo, spells_redo, spells_exchange, LinesSpellCommands}
+use Rattle.commands.specs.Spells.{Spells, BeginsWithWord, BeginsCommand, spells_birth, spells_ask, spells_arrive, spells_forward, spells_turn, spells_learn, spells_run, spells_step, spells_enabled, spells_show, spells_journal, spells_log, spells_cone, spells_undo_cone, spells_undo, spells_redo, spells_exchange, LinesSpellCommands}
 use Rattle.commands.proofs.Wording.{behind, blanks_gone, words_behind_blanks, words_cut}
 use Rattle.commands.proofs.WordTexts.{words_are_told}
 use Rattle.commands.proofs.WordCuts.{told_word, cut_word, told_command, cut_command, same_skipped}
@@ -141,6 +141,7 @@ spelled line command (spells_step has) = spelled_alone step line (codes "step") 
 spelled line command (spells_enabled has) = spelled_alone enabled line (codes "enabled") refl (λ rest. refl) has
 spelled line command (spells_show has) = spelled_alone show line (codes "show") refl (λ rest. refl) has
 spelled line command (spells_journal has) = spelled_alone journal line (codes "journal") refl (λ rest. refl) has
+spelled line command (spells_log {x = x} has name) = spelled_one vat_named log line (codes "log") x x refl (λ rest. refl) has (ap (λ (t : Bool). let o : Option (List ℕ) = cond t (Some x) None in o) name)
 spelled line command (spells_cone {w = w} {e = e} has n) = spelled_one event_named cone line (codes "cone") w e refl (λ rest. refl) has n
 spelled line command (spells_undo_cone {w = w} {e = e} has n) = spelled_one event_named undo_cone line (codes "undo-cone") w e refl (λ rest. refl) has n
 spelled line command (spells_undo {w = w} {ws = ws} {events = events} has n) = spelled_events undo line (codes "undo") w ws events refl (λ rest. refl) has n
@@ -245,6 +246,15 @@ run_rule line w n has h =
     let few = few_is 1000000 is.0 n is.2 in
     subst (λ (m : ℕ). Spells line (run m)) few.1 (spells_run has is.1 few.0)
 
+named_is : (b : Bool) (w x : List ℕ) → ◌≡◌ {A = Option (List ℕ)} (cond b (Some w) None) (Some x) → (b ≡ true) × (w ≡ x)
+named_is true w x h = (refl, cc h)
+named_is false w x h = absurd (cc h)
+
+log_rule : (line w x : List ℕ) → HasWords line (codes "log" ∷ w ∷ []) → vat_named w ≡ Some x → Spells line (log x)
+log_rule line w x has h =
+    let is = named_is (is_vat_name w) w x h in
+    subst (λ (y : List ℕ). Spells line (log y)) is.1 (spells_log has is.0)
+
 -- what is read of a command is one of these
 formed_is : (o : Option Spelled) (c : Spelled) → ◌≡◌ {A = Reading} (formed o) (Ok (Some c)) → o ≡ Some c
 formed_is None c h = absurd (cc h)
@@ -274,11 +284,12 @@ found line c some e =
     branch (bytes_eq w (codes "enabled")) (alone enabled r) _ c e8 (λ t h. alone_back enabled line (codes "enabled") c (λ k. spells_enabled k) (has (codes "enabled") t) h) (λ e9.
     branch (bytes_eq w (codes "show")) (alone show r) _ c e9 (λ t h. alone_back show line (codes "show") c (λ k. spells_show k) (has (codes "show") t) h) (λ e10.
     branch (bytes_eq w (codes "journal")) (alone journal r) _ c e10 (λ t h. alone_back journal line (codes "journal") c (λ k. spells_journal k) (has (codes "journal") t) h) (λ e11.
-    branch (bytes_eq w (codes "cone")) (of_event cone r) _ c e11 (λ t h. one_back event_named cone line (codes "cone") c (λ v x k n. spells_cone k n) (has (codes "cone") t) refl h) (λ e12.
-    branch (bytes_eq w (codes "undo")) (of_events undo r) _ c e12 (λ t h. events_back undo line (codes "undo") c (λ es v us k n. spells_undo k n) (has (codes "undo") t) h) (λ e13.
-    branch (bytes_eq w (codes "undo-cone")) (of_event undo_cone r) _ c e13 (λ t h. one_back event_named undo_cone line (codes "undo-cone") c (λ v x k n. spells_undo_cone k n) (has (codes "undo-cone") t) refl h) (λ e14.
-    branch (bytes_eq w (codes "redo")) (of_events redo r) _ c e14 (λ t h. events_back redo line (codes "redo") c (λ es v us k n. spells_redo k n) (has (codes "redo") t) h) (λ e15.
-    branch (bytes_eq w (codes "exchange")) (exchange_of r) _ c e15 (λ t h. one_back number_of exchange line (codes "exchange") c (λ v x k n. spells_exchange k n) (has (codes "exchange") t) refl h) (λ e16. absurd (cc e16)))))))))))))))))
+    branch (bytes_eq w (codes "log")) (log_of r) _ c e11 (λ t h. one_back vat_named log line (codes "log") c (λ v x k n. log_rule line v x k n) (has (codes "log") t) refl h) (λ e12.
+    branch (bytes_eq w (codes "cone")) (of_event cone r) _ c e12 (λ t h. one_back event_named cone line (codes "cone") c (λ v x k n. spells_cone k n) (has (codes "cone") t) refl h) (λ e13.
+    branch (bytes_eq w (codes "undo")) (of_events undo r) _ c e13 (λ t h. events_back undo line (codes "undo") c (λ es v us k n. spells_undo k n) (has (codes "undo") t) h) (λ e14.
+    branch (bytes_eq w (codes "undo-cone")) (of_event undo_cone r) _ c e14 (λ t h. one_back event_named undo_cone line (codes "undo-cone") c (λ v x k n. spells_undo_cone k n) (has (codes "undo-cone") t) refl h) (λ e15.
+    branch (bytes_eq w (codes "redo")) (of_events redo r) _ c e15 (λ t h. events_back redo line (codes "redo") c (λ es v us k n. spells_redo k n) (has (codes "redo") t) h) (λ e16.
+    branch (bytes_eq w (codes "exchange")) (exchange_of r) _ c e16 (λ t h. one_back number_of exchange line (codes "exchange") c (λ v x k n. spells_exchange k n) (has (codes "exchange") t) refl h) (λ e17. absurd (cc e17))))))))))))))))))
 
 -- a line that is skipped is read as no command
 text_some : (text : List ℕ) → is_skipped text ≡ false → (length text == 0) ≡ false

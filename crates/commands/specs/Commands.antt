@@ -26,6 +26,7 @@ pub data Spelled : Type 0 where
   enabled : Spelled
   show : Spelled
   journal : Spelled
+  log : (x : List ℕ) → Spelled
   cone : (e : EventName) → Spelled
   undo : (events : List EventName) → Spelled
   undo_cone : (e : EventName) → Spelled
@@ -102,6 +103,14 @@ run_of words = cond (is_empty (behind_word words)) (option_map run (option_and_t
 abbrev pub alone : Spelled → List ℕ → Option Spelled
 alone command words = cond (is_empty words) (Some command) None
 
+-- a word, if it may name a vat
+abbrev pub vat_named : List ℕ → Option (List ℕ)
+vat_named w = cond (is_vat_name w) (Some w) None
+
+-- log NAME
+abbrev pub log_of : List ℕ → Option Spelled
+log_of words = cond (is_empty (behind_word words)) (option_map log (vat_named (first_word words))) None
+
 -- a command of one event
 abbrev pub of_event : (EventName → Spelled) → List ℕ → Option Spelled
 of_event command words = cond (is_empty (behind_word words)) (option_map command (event_named (first_word words))) None
@@ -132,11 +141,12 @@ begun_by word words =
     (cond (bytes_eq word (codes "enabled")) (formed (alone enabled words))
     (cond (bytes_eq word (codes "show")) (formed (alone show words))
     (cond (bytes_eq word (codes "journal")) (formed (alone journal words))
+    (cond (bytes_eq word (codes "log")) (formed (log_of words))
     (cond (bytes_eq word (codes "cone")) (formed (of_event cone words))
     (cond (bytes_eq word (codes "undo")) (formed (of_events undo words))
     (cond (bytes_eq word (codes "undo-cone")) (formed (of_event undo_cone words))
     (cond (bytes_eq word (codes "redo")) (formed (of_events redo words))
-    (cond (bytes_eq word (codes "exchange")) (formed (exchange_of words)) (Err UnknownCommand))))))))))))))))
+    (cond (bytes_eq word (codes "exchange")) (formed (exchange_of words)) (Err UnknownCommand)))))))))))))))))
 
 -- a blank line or a comment is no command
 abbrev pub is_skipped : List ℕ → Bool
@@ -162,6 +172,7 @@ command_of (code.Run steps) = run steps
 command_of code.Enabled = enabled
 command_of code.Show = show
 command_of code.Journal = journal
+command_of (code.Log name) = log name.now
 command_of (code.Cone e) = cone e
 command_of (code.Undo events) = undo events.items
 command_of (code.UndoCone e) = undo_cone e

@@ -6,7 +6,7 @@ use Rattle.commands.specs.Words.{is_blank, is_bare, ends_blank}
 use Rattle.commands.specs.Inputs.{IsWord, HasWords}
 use Rattle.commands.specs.Numbers.{number_of, message_named, promise_named, event_named, events_named}
 use Rattle.commands.specs.declared.numbers.PromiseName.{PromiseName}
-use Rattle.commands.specs.Commands.{Spelled, birth, ask, arrive, forward, learn, turn, step, run, enabled, show, journal, cone, undo, undo_cone, redo, exchange, is_vat_name, are_vats, spelled_by}
+use Rattle.commands.specs.Commands.{Spelled, birth, ask, arrive, forward, learn, turn, step, run, enabled, show, journal, log, cone, undo, undo_cone, redo, exchange, is_vat_name, are_vats, spelled_by}
 
 -- blanks alone
 abbrev pub AreBlanks : List ℕ → Type 0
@@ -38,6 +38,8 @@ pub data Spells : List ℕ → Spelled → Type 0 where
   -- learn NAME P
   spells_learn : {line x w : List ℕ} {p : PromiseName}
       → HasWords line (codes "learn" ∷ x ∷ w ∷ []) → is_vat_name x ≡ true → promise_named w ≡ Some p → Spells line (learn x p)
+  -- log NAME
+  spells_log : {line x : List ℕ} → HasWords line (codes "log" ∷ x ∷ []) → is_vat_name x ≡ true → Spells line (log x)
   -- run K
   spells_run : {line w : List ℕ} {n : ℕ} → HasWords line (codes "run" ∷ w ∷ []) → number_of w ≡ Some n → n ≤ 1000000 → Spells line (run n)
   -- those that stand alone

@@ -4,7 +4,7 @@ ghost use Rattle.std.specs.Option.{option_map, option_and_then};
 ghost use Rattle.commands.specs.Numbers.{number_of};
 ghost use Rattle.ids.specs.declared.names.EventName.{EventName};
 ghost use Rattle.ids.specs.declared.names.MsgId.{MsgId};
-ghost use Rattle.commands.specs.Commands.{Spelled, is_vat_name, at_most, is_among, are_vats, earlier_of, lines_of, birth_of, ask_of, arrive, forward, learn_of, turn, step, run_of, enabled, show, journal, cone, undo, undo_cone, redo, exchange, exchange_of, alone, of_message, of_event, of_events, is_skipped, begun_by, spelled_by, command_of, reading_of, fault_text};
+ghost use Rattle.commands.specs.Commands.{Spelled, is_vat_name, at_most, is_among, are_vats, earlier_of, lines_of, birth_of, ask_of, arrive, forward, learn_of, turn, step, run_of, enabled, show, journal, log_of, cone, undo, undo_cone, redo, exchange, exchange_of, alone, of_message, of_event, of_events, is_skipped, begun_by, spelled_by, command_of, reading_of, fault_text};
 
 use crate::numbers::{
     PromiseName, behind_tag, event_named, events_named, message_named, number, promise_named,
@@ -56,6 +56,8 @@ pub enum Command<'a> {
     Enabled,
     Show,
     Journal,
+    /// The log of a vat's turns is to be written.
+    Log(&'a str),
     Cone(EventName),
     Undo(Vec<EventName>),
     /// An event is undone with its cone.
@@ -281,6 +283,16 @@ fn journal(words: &str) -> Option<Command<'_>>
     words.is_empty().then_some(Command::Journal)
 }
 
+fn log(words: &str) -> Option<Command<'_>>
+    ensures { option_map command_of result ≡ log_of words.now }
+{
+    let (name, end) = cut_word(words);
+    if !end.is_empty() {
+        return None;
+    }
+    is_vat_name(name).then_some(Command::Log(name))
+}
+
 /// One event's name, with nothing behind it.
 fn one_event(words: &str) -> Option<EventName>
     ensures { (command : EventName → Spelled) → option_map command result ≡ of_event command words.now }
@@ -360,6 +372,7 @@ fn begun_by<'a>(alloc: Global, word: &str, words: &'a str) -> Result<Said<'a>, A
         "enabled" => enabled(words),
         "show" => show(words),
         "journal" => journal(words),
+        "log" => log(words),
         "cone" => cone(words),
         "undo" => undo(alloc, words)?,
         "undo-cone" => undo_cone(words),

@@ -24,12 +24,12 @@ use Rattle.sends.specs.Playing.{views_in}
 use Rattle.erules.specs.Laws.{AgreeOn, with_cells}
 use Rattle.post.specs.Delivery.{Call, Delivery, opening, asked, sent, waiting}
 use Rattle.post.specs.Messages.{Vat, Place, flying, done, waits_at, arrived, Message, Published}
-use Rattle.worldcells.specs.Events.{Act, forward, learn, turn, Event}
+use Rattle.worldcells.specs.Events.{Act, forward, learn, turn, Event, event_in, with_notes}
 use Rattle.worldcells.specs.World.{Content, message, World, vat_in, message_in, published_in, cell_content, lives_in, cell_key, published_as, vat_state}
 use Rattle.deliveries.specs.Touched.{delivery_touched, delivery_written}
 use Rattle.deliveries.specs.Turn.{Found}
 use Rattle.deliveries.proofs.Turns.{delivery_same, delivery_framed, SameCells, delivery_cells}
-use Rattle.event.specs.Events.{Foot, AreNamed, birth_foot, ask_foot, moved_foot, goes_on, Leaves, in_world, learning, untouched, learnt, learn_foot, is_lost, DeliversOn, Turn, Turns, TurnLeaves, letters_from, on_the_board, counted, made_by, turn_reads, turn_foot, Does, births, asks, arrives, forwards, learns, turns, events}
+use Rattle.event.specs.Events.{Foot, AreNamed, birth_foot, ask_foot, moved_foot, goes_on, Leaves, in_world, learning, untouched, learnt, learn_foot, is_lost, DeliversOn, Turn, Turns, TurnLeaves, letters_from, on_the_board, counted, made_by, turn_reads, turn_foot, Does, births, asks, arrives, forwards, learns, turns, notes_of, DoesNoted, events, noted_events}
 use Rattle.event.specs.Ready.{first_undone}
 use Rattle.event.specs.Walks.{board_walk, looked_up, awaited, found_by, delivery_walk, may_end, ends_there, is_known}
 use Rattle.event.proofs.Listing.{all_front, all_rest, keys_alike, at_cell, any_write, behind_writes, found_alike, found_before}
@@ -125,14 +125,16 @@ learnt_alike v p b cells left w u h a =
     (left_alike (learnt w v p b).touched (learnt w v p b).written (learnt w v p b).state (learnt u v p b).state cells left h (λ c is. same.kept c (agree c (within c is)))))
 
 law_of_learning : (e : EventName) (v : VatNo) (p : PromId) (b : Published) (cells : List Cell) (left : List (Cell × heap.Content)) (w u : World) → vat_state w v (view_cell p) ≡ Some (heap.viewed heap.pending) → published_as w p ≡ Some b
-    → Leaves (learnt w v p b).touched (learnt w v p b).written (learnt w v p b).state cells left → Agree events (learn_foot v p cells left) w u → Does (record { name = e; act = learn v p }) u (learn_foot v p cells left)
+    → Leaves (learnt w v p b).touched (learnt w v p b).written (learnt w v p b).state cells left → Agree events (learn_foot v p cells left) w u → DoesNoted (record { name = e; act = learn v p; notes = [] }) u (learn_foot v p cells left)
 law_of_learning e v p b cells left w u waits is h a =
     let Q = λ (k : CellKey). u k ≡ w k in
-    let here = all_front Q (map (cell_key v) cells) _ a.1 in
-    learns
-    (vat_alike v cells w u here (view_cell p) (h.touched (view_cell p) ∙ learning_viewed (vat_state w v) p b) ∙ waits)
-    (ap published_in a.0 ∙ is)
-    (learnt_alike v p b cells left w u h here)
+    let here = all_front Q (map (cell_key v) cells) _ a.1 in (
+      learns
+          (vat_alike v cells w u here (view_cell p) (h.touched (view_cell p) ∙ learning_viewed (vat_state w v) p b) ∙ waits)
+          (ap published_in a.0 ∙ is)
+          (learnt_alike v p b cells left w u h here),
+      refl,
+    )
 
 -- ---- turns
 
@@ -157,9 +159,9 @@ mapped_rest f P (x ∷ xs) ys h = mapped_rest f P xs ys h.1
 written_there : (written : Cells) (s u : State) (c : Cell) → written c ≡ true → with_cells written s u c ≡ s c
 written_there written s u c w = ap (λ b. cond b (s c) (u c)) w
 
--- a turn is possible, and has the same footprint, in each world that agrees on the cells that it touches
+-- a turn is possible, has the same footprint, and makes the same notes, in each world that agrees on the cells that it touches
 law_of_turns : (e : EventName) (m : MsgId) (n : ℕ) (t : Turn) (cells : List Cell) (left : List (Cell × heap.Content)) (w v : World)
-    → Turns e w m n t → TurnLeaves t cells left → Agree events (turn_foot e w m t cells left) w v → Does (record { name = e; act = turn t.vat m n }) v (turn_foot e w m t cells left)
+    → Turns e w m n t → TurnLeaves t cells left → Agree events (turn_foot e w m t cells left) w v → DoesNoted (record { name = e; act = turn t.vat m n; notes = t.outcome.out.notes }) v (turn_foot e w m t cells left)
 law_of_turns e m n t cells left w v h g a =
     let Q = λ (k : CellKey). v k ≡ w k in
     let d = t.message.delivery in
@@ -190,34 +192,36 @@ law_of_turns e m n t cells left w v h g a =
       reads = (map key.Board (looked i) ++ (map key.Msg (order i) ++ map (λ b. key.Board b.0) t.outcome.out.publications)) ++ map (cell_key t.vat) cells;
       writes = in_world t.vat left ++ (letters ++ (on_the_board (counts i) ++ (key.Msg m, message (record t.message { place = done e })) ∷ []));
     } in
-    subst (Does (record { name = e; act = turn t.vat m n }) v) foot
-    (turns {t = ahead}
-    (record {
-      waiting = last.0 ∙ h.waiting;
-      there = h.there;
-      leads = leads_alike w v t.vat d board (all_map _ _ (viewed_by s d) (λ p is. ap resolution_in (agree (view_cell p) is)) (delivery_viewed r)) ∙ h.leads;
-      in_order = ap (first_undone v) order ∙ undone_alike w v (awaited w t.message) (all_front Q messages _ others) ∙ h.in_order;
-      delivers = subst (λ (f : Found). DeliversOn t.message f e t.vat u n ahead.outcome t.touched t.written) (sym (found_by_alike w v d board)) (framed.0, framed.1 ∙ h.delivers.1, framed.2 ∙ h.delivers.2);
-      fresh = new_alike w v letters (mapped_front (λ p. p.0) Q letters _ made) h.fresh;
-    })
-    (left_alike t.touched (λ c. not (is_lost t.outcome.told) && t.written c) t.outcome.state after cells left g there))
+    subst (DoesNoted (record { name = e; act = turn t.vat m n; notes = t.outcome.out.notes }) v) foot (
+      turns {t = ahead}
+          (record {
+            waiting = last.0 ∙ h.waiting;
+            there = h.there;
+            leads = leads_alike w v t.vat d board (all_map _ _ (viewed_by s d) (λ p is. ap resolution_in (agree (view_cell p) is)) (delivery_viewed r)) ∙ h.leads;
+            in_order = ap (first_undone v) order ∙ undone_alike w v (awaited w t.message) (all_front Q messages _ others) ∙ h.in_order;
+            delivers = subst (λ (f : Found). DeliversOn t.message f e t.vat u n ahead.outcome t.touched t.written) (sym (found_by_alike w v d board)) (framed.0, framed.1 ∙ h.delivers.1, framed.2 ∙ h.delivers.2);
+            fresh = new_alike w v letters (mapped_front (λ p. p.0) Q letters _ made) h.fresh;
+          })
+          (left_alike t.touched (λ c. not (is_lost t.outcome.told) && t.written c) t.outcome.state after cells left g there),
+      refl,
+    )
 
 -- ---- all events
 
--- an event depends on no cell but those that it touches
-law : (e : Event) (w : World) (f : Foot) (v : World) → Does e w f → Agree events f w v → Does e v f
+-- an event depends on no cell but those that it touches, and makes the same notes
+law : (e : Event) (w : World) (f : Foot) (v : World) (d : Does e w f) → Agree events f w v → DoesNoted (with_notes e (notes_of d)) v f
 law e w f v (births {x = x} {earlier = xs} vats h n) a =
     let Q = λ (k : CellKey). v k ≡ w k in
-    births vats ((all_rest Q (map key.Name xs) _ a).0 ∙ h) (named_alike w v xs vats (all_front Q (map key.Name xs) _ a) n)
-law e w f v (asks h) a = asks (ap vat_in a.0 ∙ h)
-law e w f v (arrives h g) a = arrives (ap message_in a.0 ∙ h) g
+    (births vats ((all_rest Q (map key.Name xs) _ a).0 ∙ h) (named_alike w v xs vats (all_front Q (map key.Name xs) _ a) n), refl)
+law e w f v (asks h) a = (asks (ap vat_in a.0 ∙ h), refl)
+law e w f v (arrives h g) a = (arrives (ap message_in a.0 ∙ h) g, refl)
 law e w f v (forwards {e = n} {m = m} {g = g} {c = c} {v = here} {u = u} h at is to) a =
     let Q = λ (k : CellKey). v k ≡ w k in
     let through = (board_walk w c.target).through in
     let board = same_board w v through (all_front Q (map key.Board through) _ a) in
     let walk = board_alike w v c.target board in
-    subst (Does (record { name = n; act = forward m }) v) (ap (λ (x : Walk). moved_foot (map key.Board x.through) m (record g { place = flying u })) walk)
-    (forwards (ap message_in (all_rest Q (map key.Board through) _ a).0 ∙ h) at is (ap (λ (x : Walk). goes_on here x.end) walk ∙ to))
+    subst (DoesNoted (record { name = n; act = forward m; notes = [] }) v) (ap (λ (x : Walk). moved_foot (map key.Board x.through) m (record g { place = flying u })) walk)
+    (forwards (ap message_in (all_rest Q (map key.Board through) _ a).0 ∙ h) at is (ap (λ (x : Walk). goes_on here x.end) walk ∙ to), refl)
 law e w f v (learns {e = n} {v = here} {p = p} {b = b} {cells = cells} {left = left} h is l) a = law_of_learning n here p b cells left w v h is l a
 law e w f v (turns {e = n} {m = m} {budget = b} {t = t} {cells = cells} {left = left} h g) a = law_of_turns n m b t cells left w v h g a
 
@@ -262,7 +266,7 @@ learnt_feet w v p b cells others left more h g =
     (vat_feet v (key.Board p ∷ []) [] (learnt w v p b).touched (learnt w v p b).written (learnt w v p b).state cells others left more h g))
 
 -- whether an act is a turn; the message that it delivers, and its budget, or other ones where it is none
-abbrev is_turn : Act → Bool
+abbrev pub is_turn : Act → Bool
 is_turn (turn v m n) = true
 is_turn _ = false
 
@@ -328,6 +332,36 @@ once e w f g (learns {v = v} {p = p} {b = b} {cells = cells} {left = left} h is 
     learnt_feet w v p b cells others left more l (subst (λ (x : Published). Leaves (learnt w v p x).touched (learnt w v p x).written (learnt w v p x).state others more) one i)
 once e w f g (turns {e = n} {m = m} {budget = b} {t = t} {cells = cells} {left = left} h i) d = turn_once n w m b t cells left h i e g d refl
 
--- the events of a book can be undone
+-- and makes the same notes
+turn_notes : (e : EventName) (w : World) (m : MsgId) (n : ℕ) (t : Turn) → Turns e w m n t → (d : Event) (g : Foot) (c : Does d w g) → d ≡ record { name = e; act = turn t.vat m n } → notes_of c ≡ t.outcome.out.notes
+turn_notes e w m n t h d g (births us k r) is = absurd (false≢true (ap (λ (x : Event). is_turn x.act) is))
+turn_notes e w m n t h d g (asks k) is = absurd (false≢true (ap (λ (x : Event). is_turn x.act) is))
+turn_notes e w m n t h d g (arrives k r) is = absurd (false≢true (ap (λ (x : Event). is_turn x.act) is))
+turn_notes e w m n t h d g (forwards k r l o) is = absurd (false≢true (ap (λ (x : Event). is_turn x.act) is))
+turn_notes e w m n t h d g (learns k r l) is = absurd (false≢true (ap (λ (x : Event). is_turn x.act) is))
+turn_notes e w m n t h d g (turns {e = a} {m = k} {budget = b} {t = u} q j) is =
+    let at_event : Turns e w k b u = subst (λ (x : EventName). Turns x w k b u) (ap (λ (x : Event). x.name) is) q in
+    let at_message : Turns e w m b u = subst (λ (x : MsgId). Turns e w x b u) (ap (λ (x : Event). delivered_or k x.act) is) at_event in
+    let same : t ≡ u = one_turn e w m n t u h (subst (λ (x : ℕ). Turns e w m x u) (ap (λ (x : Event). budget_or b x.act) is) at_message) in
+    ap (λ (x : Turn). x.outcome.out.notes) (sym same)
+
+pub notes_once : (e : Event) (w : World) (f g : Foot) (d : Does e w f) (c : Does e w g) → notes_of d ≡ notes_of c
+notes_once e w f g (births vats h a) (births us k b) = refl
+notes_once e w f g (asks h) (asks k) = refl
+notes_once e w f g (arrives h i) (arrives k j) = refl
+notes_once e w f g (forwards h at is to) (forwards k there also goes) = refl
+notes_once e w f g (learns h is l) (learns k also i) = refl
+notes_once e w f g (turns {e = n} {m = m} {budget = b} {t = t} h i) c = sym (turn_notes n w m b t h e g c refl)
+
+-- events alone can be run and undone
 pub events_laws : Laws events
-events_laws = record { same_exact = same_exact; same_self = same_self; law = λ e f w v. law e w f v; once = once }
+events_laws = record { same_exact = same_exact; same_self = same_self; law = λ e f w v h a. (law e w f v h a).0; once = once }
+
+-- the events of a book can be undone, with their notes
+pub noted_laws : Laws noted_events
+noted_laws = record {
+  same_exact = same_exact;
+  same_self = same_self;
+  law = λ n f w v h a. let k = law (event_in n) w f v h.0 a in (k.0, k.1 ∙ h.1);
+  once = λ n w f g h k. let same = once (event_in n) w f g h.0 k.0 in record { touch = same.touch; write = same.write };
+}

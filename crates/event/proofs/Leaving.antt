@@ -28,14 +28,14 @@ use Rattle.heap.specs.declared.reach.Footprint.{Footprint}
 use Rattle.refs.specs.Walks.{same_promise}
 use Rattle.post.specs.Messages.{done, Message, Published}
 use Rattle.erules.specs.Outbox.{is_published}
-use Rattle.erules.specs.OutboxView.{outbox_of}
+use Rattle.erules.specs.OutboxView.{note_of, outbox_of}
 use Rattle.erules.specs.PublicationsView.{EachOnce as EachPublishedOnce}
 use Rattle.worldcells.specs.World.{Content, message, World, cell_key, published_as, vat_state}
 use Rattle.worldcells.specs.Theory.{cells, kepts_of}
 use Rattle.deliveries.specs.Turn.{Told, told, lost}
 use Rattle.deliveries.specs.Outcomes.{kept, told_of, outcome_on}
 use Rattle.deliveries.specs.declared.outcome.Outcome as code
-use Rattle.event.specs.Events.{events, Foot, AreNew, Leaves, TurnLeaves, is_lost, turn_foot, turn_reads, learn_foot, learnt, in_world, letters_from, on_the_board, counted, made_by}
+use Rattle.event.specs.Events.{noted_events, Foot, AreNew, Leaves, TurnLeaves, is_lost, turn_foot, turn_reads, learn_foot, learnt, in_world, letters_from, on_the_board, counted, made_by}
 use Rattle.event.specs.Effects.{Brings, BringsLearnt, BringsTurn, turn_of}
 use Rattle.event.specs.Entries.{Entry, EachOnce, entries_of, cells_in, keys_in, left_in, left_unless, left_of, writes_at, kept_left}
 use Rattle.event.specs.Learning.{Learns}
@@ -336,8 +336,9 @@ module _ (e : EventName) (w : World) (m : MsgId) (g : Message) (v : VatNo) (o : 
 
   -- the cells that were touched, and a record of those that were written
   pub turn_brings : (it : Effects) → it.touched.items ≡ turn_reads w (turn_of g v o u) ++ (keys_in v (entries_of o.footprint) ++ (map (λ p. p.0) (letters_from e 0 (outbox_of o.out).letters) ++ key.Msg m ∷ []))
-      → kepts_of it.records.items ≡ kept_left e v left ++ record_of cells e.0 made → BringsTurn e w m (turn_of g v o u) it
-  turn_brings it touched records = record {
+      → kepts_of it.records.items ≡ kept_left e v left ++ record_of cells e.0 made → map note_of it.notes.items ≡ (outbox_of o.out).notes → BringsTurn e w m (turn_of g v o u) it
+  turn_brings it touched records noted = record {
+    noted = noted;
     cells = cells_in (entries_of o.footprint);
     left = left;
     leaves = leaves g v o u h;
@@ -347,7 +348,7 @@ module _ (e : EventName) (w : World) (m : MsgId) (g : Message) (v : VatNo) (o : 
           (λ none. made_keys (same_key k) (letters_from e 0 (outbox_of o.out).letters) (on_the_board (counted w (outbox_of o.out).publications)) ((key.Msg m, message (record g { place = done e })) ∷ []) (counted_within w (same_key k) (outbox_of o.out).publications (last_part _ _ (map (λ b. key.Board b.0) (outbox_of o.out).publications) (same_key k) none)));
       write =
           let f = turn_foot e w m (turn_of g v o u) (cells_in (entries_of o.footprint)) left in
-          let W : Record cells → Type 0 = Writes events e.0 f in
+          let W : Record cells → Type 0 = Writes noted_events e.0 f in
           let x = writes_recorded cells cells_lawful e.0 f (subst (Apart cells) recorded (apart_unless (is_lost (told_of o.ended)))) in
           subst W (sym (records ∙ recorded)) (record { cells = x.cells; apart = x.apart });
     };
@@ -355,10 +356,11 @@ module _ (e : EventName) (w : World) (m : MsgId) (g : Message) (v : VatNo) (o : 
 
 -- so of what a vat learns
 pub learning_brings : (e : EventName) (w : World) (v : VatNo) (p : PromId) (b : Published) (r : Footprint) (it : Effects) → EachOnce r → Learns (vat_state w v) p b r
-    → it.touched.items ≡ key.Board p ∷ keys_in v (entries_of r) → kepts_of it.records.items ≡ kept_left e v (left_in (entries_of r)) → BringsLearnt e w v p b it
-learning_brings e w v p b r it h l touched records =
+    → it.touched.items ≡ key.Board p ∷ keys_in v (entries_of r) → kepts_of it.records.items ≡ kept_left e v (left_in (entries_of r)) → it.notes.items ≡ [] → BringsLearnt e w v p b it
+learning_brings e w v p b r it h l touched records quiet =
     let left = left_in (entries_of r) in
     record {
+      quiet = quiet;
       cells = cells_in (entries_of r);
       left = left;
       leaves = leaves_learnt w v p b r h l;
@@ -368,7 +370,7 @@ learning_brings e w v p b r it h l touched records =
             ∙ ap (λ xs. list_any (same_key k) (key.Board p ∷ (map (cell_key v) (cells_in (entries_of r)) ++ map (λ p. p.0) xs))) (append-nil (in_world v left));
         write =
             let f = learn_foot v p (cells_in (entries_of r)) left in
-            let W : Record cells → Type 0 = Writes events e.0 f in
+            let W : Record cells → Type 0 = Writes noted_events e.0 f in
             let apart = kept_apart e v [] (λ c. refl) tt (entries_of r) (each_once r h) in
             let x = writes_recorded cells cells_lawful e.0 f (subst (Apart cells) (append-nil (kept_left e v left)) apart) in
             subst W (sym records) (record { cells = x.cells; apart = x.apart });
@@ -381,7 +383,7 @@ brings_once e reads ps touched kept h t k = record {
   touch = λ c. ap (list_any (same_key c)) t;
   write =
       let f : Foot = record { reads = reads; writes = ps } in
-      let W : Record cells → Type 0 = Writes events e.0 f in
+      let W : Record cells → Type 0 = Writes noted_events e.0 f in
       let x = writes_recorded cells cells_lawful e.0 f (once_apart e.0 ps h) in
       subst W (sym k) (record { cells = x.cells; apart = x.apart });
 }

@@ -15,3 +15,4 @@ pub mod Finite
 pub mod Readiness
 pub mod Adding
 pub mod Bringing
+pub mod Noted

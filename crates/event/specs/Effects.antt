@@ -1,5 +1,5 @@
 -- What the program works out of an event before it is entered.
-use Rattle.std.specs.Prelude.{◌≡◌, List, [], ◌∷◌}
+use Rattle.std.specs.Prelude.{◌≡◌, List, [], ◌∷◌, map}
 use Rattle.std.specs.List.{list_any}
 use Rattle.history.specs.Subject.{touches}
 use Rattle.history.specs.Records.{Record, Writes}
@@ -13,24 +13,26 @@ use Rattle.kernele.specs.Tree.{Name}
 use Rattle.heap.specs.State as heap
 use Rattle.heap.specs.State.{Cell}
 use Rattle.heap.specs.Found.{touched_in}
-use Rattle.worldcells.specs.Events.{Event}
+use Rattle.erules.specs.OutboxView.{note_of}
+use Rattle.worldcells.specs.Events.{Event, with_notes}
 use Rattle.post.specs.Messages.{Message, Published}
 use Rattle.post.specs.declared.earlier.Earlier.{Earlier}
 use Rattle.worldcells.specs.World.{World}
 use Rattle.worldcells.specs.Theory.{cells, kepts_of}
-use Rattle.event.specs.Events.{Foot, Does, events, Turn, TurnLeaves, Leaves, first_promise, turn_foot, learnt, learn_foot}
+use Rattle.event.specs.Events.{Foot, DoesNoted, noted_events, Turn, TurnLeaves, Leaves, first_promise, turn_foot, learnt, learn_foot}
 use Rattle.deliveries.specs.Outcomes.{outcome_on, written_by}
 use Rattle.deliveries.specs.declared.outcome.Outcome as code
 use Rattle.event.specs.declared.effects.Effects.{Effects}
 
 -- these are the cells that an event of this name and footprint touches, and a record of what it writes
 pub record Brings (e : EventName) (f : Foot) (touched : List CellKey) (kept : Record cells) : Type 0 where
-  pub touch : (k : CellKey) → list_any (same_key k) touched ≡ touches events f k
-  pub write : Writes events e.0 f kept
+  pub touch : (k : CellKey) → list_any (same_key k) touched ≡ touches noted_events f k
+  pub write : Writes noted_events e.0 f kept
 
--- what was worked out of an event that is possible: its footprint, as cells that it touches and records of what it writes
+-- what was worked out of an event that is possible: its footprint, as cells that it touches and records of what it writes, and the notes
+-- that it makes
 pub record Happens (e : Event) (f : Foot) (w : World) (it : Effects) : Type 0 where
-  pub does : ∥ Does e w f ∥₁
+  pub does : ∥ DoesNoted (with_notes e (map note_of it.notes.items)) w f ∥₁
   pub brings : Brings e.name f it.touched.items (kepts_of it.records.items)
 
 -- the turn of a message at a vat in this state, which had this outcome
@@ -42,16 +44,18 @@ abbrev pub known_by : List Name → List VatNo → List Earlier
 known_by (x ∷ xs) (v ∷ vs) = record { name = x; opening = first_promise v.0 v } ∷ known_by xs vs
 known_by _ _ = []
 
--- these are the cells that a turn touches, and what it writes
+-- these are the cells that a turn touches, what it writes, and its notes
 pub record BringsTurn (e : EventName) (w : World) (m : MsgId) (t : Turn) (it : Effects) : Type 0 where
   pub cells : List Cell
   pub left : List (Cell × heap.Content)
   pub leaves : TurnLeaves t cells left
   pub brings : Brings e (turn_foot e w m t cells left) it.touched.items (kepts_of it.records.items)
+  pub noted : map note_of it.notes.items ≡ t.outcome.out.notes
 
--- these are the cells that a vat touches which learns what a promise was published as, and what it writes
+-- these are the cells that a vat touches which learns what a promise was published as, and what it writes; it makes no notes
 pub record BringsLearnt (e : EventName) (w : World) (v : VatNo) (p : PromId) (b : Published) (it : Effects) : Type 0 where
   pub cells : List Cell
   pub left : List (Cell × heap.Content)
   pub leaves : Leaves (learnt w v p b).touched (learnt w v p b).written (learnt w v p b).state cells left
   pub brings : Brings e (learn_foot v p cells left) it.touched.items (kepts_of it.records.items)
+  pub quiet : it.notes.items ≡ []

@@ -6,6 +6,7 @@ use Rattle.ids.specs.declared.names.EventName.{EventName}
 use Rattle.ids.specs.declared.names.VatNo.{VatNo}
 use Rattle.ids.specs.declared.names.MsgId.{MsgId}
 use Rattle.ids.specs.declared.names.PromId.{PromId}
+use Rattle.ids.specs.CellKeys.{same_key}
 use Rattle.ids.specs.declared.cells.CellKey.{CellKey}
 use Rattle.ids.specs.declared.cells.CellKey.TheVariants as key
 use Rattle.cells.specs.Doing.{Under, and_then, play}
@@ -18,10 +19,11 @@ use Rattle.post.specs.Delivery.{Call, opening, asked, sent}
 use Rattle.post.specs.Messages.{Vat, at_vat, flying, done, waits_at, arrived, Message, Published}
 use Rattle.post.specs.declared.earlier.Earlier.{Earlier}
 use Rattle.sends.specs.Vats.{Vat as Doing, Nothing, references, entered, coming_in}
-use Rattle.worldcells.specs.Events.{birth, ask, arrive, forward, learn, turn, Event}
-use Rattle.worldcells.specs.Theory.{subject}
+use Rattle.worldcells.specs.Events.{birth, ask, arrive, forward, learn, turn, Event, event_in}
+use Rattle.worldcells.specs.Theory.{Rule, subject}
 use Rattle.worldcells.specs.World.{Content, vat, message, published, content_of, World, vat_named, message_of, published_as, same_vat, cell_key, vat_state}
 use Rattle.event.specs.Ready.{leads_there, first_undone}
+use Rattle.erules.specs.Outbox.{Note}
 use Rattle.deliveries.specs.Touched.{delivery_touched, delivery_written}
 use Rattle.deliveries.specs.Turn.{Found, Told, told, lost, Outcome, Delivers}
 use Rattle.event.specs.Walks.{board_walk, looked_up, awaited, found_by}
@@ -200,6 +202,23 @@ pub data Does : Event → World → Foot → Type 0 where
   turns : {e : EventName} {w : World} {m : MsgId} {budget : ℕ} {t : Turn} {cells : List Cell} {left : List (Cell × heap.Content)} → Turns e w m budget t → TurnLeaves t cells left
       → Does (record { name = e; act = turn t.vat m budget }) w (turn_foot e w m t cells left)
 
--- the events of a book, as the theory of undo sees them
+-- the notes that it makes: those of a turn
+abbrev pub notes_of : {e : Event} {w : World} {f : Foot} → Does e w f → List Note
+notes_of (births vats h i) = []
+notes_of (asks h) = []
+notes_of (arrives h i) = []
+notes_of (forwards h i j k) = []
+notes_of (learns h i j) = []
+notes_of (turns {t = t} h i) = t.outcome.out.notes
+
+-- an event is possible in a world, has this footprint there, and makes its notes
+abbrev pub DoesNoted : Rule
+DoesNoted n w f = (d : Does (event_in n) w f) × (notes_of d ≡ n.notes)
+
+-- events alone, one after another: what a plain run is of
 abbrev pub events : Subject
-events = subject Does
+events = record { Key = CellKey; Content = Content; Event = Event; same = same_key; name = λ e. e.name.0; Does = Does }
+
+-- the events of a journal with their notes, as the theory of undo sees them
+abbrev pub noted_events : Subject
+noted_events = subject DoesNoted

@@ -6,12 +6,16 @@ use Rattle.ids.specs.declared.names.MsgId.{MsgId}
 use Rattle.ids.specs.declared.cells.CellKey.TheVariants as key
 use Rattle.worldcells.specs.Events.{turn, Event}
 use Rattle.worldcells.specs.World.{World}
-use Rattle.event.specs.Events.{Foot, Does}
+use Rattle.event.specs.Events.{Foot, Does, notes_of}
 use Rattle.event.specs.Ready.{IsReady}
 
 -- an event can happen in a world
 abbrev pub CanHappen : Event → World → Type 0
 CanHappen e w = (f : Foot) × Does e w f
+
+-- an event makes the same notes in one world, in whatever order its footprint lists its cells
+abbrev pub NotesAreOnce : Type 0
+NotesAreOnce = (e : Event) (w : World) (f g : Foot) (d : Does e w f) (c : Does e w g) → notes_of d ≡ notes_of c
 
 -- there is no message of an event in a world
 abbrev pub HasNoMessage : EventName → World → Type 0

@@ -24,10 +24,12 @@ use crate::left::{record_cells, touch_cells};
 use crate::making::{
     message_record, record_letters, record_publications, touch_letters, touch_publications,
 };
+use crate::noting::share_notes;
 use crate::ready::Way;
 use cells::store::Record;
 use deliveries::outcome::{Ended, Outcome};
 use eorder::fence::Fence;
+use erules::outbox::Note;
 use heap::reach::Footprint;
 use ids::cells::CellKey;
 use ids::names::{EventName, MsgId, PromId, VatNo};
@@ -44,11 +46,12 @@ use std::sync::Arc;
 use worldcells::record::CellRecord;
 use worldcells::world::World;
 
-/// The cells that an event touches, and a record of each cell that it writes, with what it writes there.
+/// The cells that an event touches, a record of each cell that it writes, with what it writes there, and its notes for the log.
 #[derive(Drop)]
 pub struct Effects {
     pub touched: Vec<CellKey>,
     pub records: Vec<CellRecord>,
+    pub notes: Vec<Note>,
 }
 
 /// The message that an event makes first.
@@ -172,7 +175,8 @@ pub fn birth_effects(
     vats: &[VatNo],
     script: &Program,
 ) -> Result<Effects, AllocError>
-    ensures { IfOk result (λ it. (found : List posts.Vat) → map (λ v. v.number) found ≡ vats.now → Brings event (birth_foot event name.now (earlier.now) found (program_of script.now)) it.touched.items (kepts_of it.records.items)) }
+    ensures brings { IfOk result (λ it. (found : List posts.Vat) → map (λ v. v.number) found ≡ vats.now → Brings event (birth_foot event name.now (earlier.now) found (program_of script.now)) it.touched.items (kepts_of it.records.items)) }
+    ensures quiet { IfOk result (λ it. it.notes.items ≡ []) }
 {
     let first = first_message(event);
     let message = opening(alloc, event, known_as(alloc, earlier, vats)?, script)?;
@@ -185,6 +189,7 @@ pub fn birth_effects(
             name_record(alloc, event, name, earlier, script)?,
             message_record(event, first, message),
         ]?,
+        notes: Vec::new(alloc),
     })
 }
 
@@ -196,13 +201,15 @@ pub fn ask_effects(
     vat: VatNo,
     program: &Program,
 ) -> Result<Effects, AllocError>
-    ensures { IfOk result (λ it. Brings event (ask_foot event name.now vat (program_of program.now)) it.touched.items (kepts_of it.records.items)) }
+    ensures brings { IfOk result (λ it. Brings event (ask_foot event name.now vat (program_of program.now)) it.touched.items (kepts_of it.records.items)) }
+    ensures quiet { IfOk result (λ it. it.notes.items ≡ []) }
 {
     let first = first_message(event);
     let message = asked(alloc, event, vat, program)?;
     Ok(Effects {
         touched: vec![in alloc; CellKey::Name(name.share()?), CellKey::Msg(first)]?,
         records: vec![in alloc; message_record(event, first, message)]?,
+        notes: Vec::new(alloc),
     })
 }
 
@@ -215,7 +222,8 @@ pub fn move_effects(
     message: Message,
     through: &[PromId],
 ) -> Result<Effects, AllocError>
-    ensures { IfOk result (λ it. Brings event (moved_foot (map key.Board through.now) name (message_of message)) it.touched.items (kepts_of it.records.items)) }
+    ensures brings { IfOk result (λ it. Brings event (moved_foot (map key.Board through.now) name (message_of message)) it.touched.items (kepts_of it.records.items)) }
+    ensures quiet { IfOk result (λ it. it.notes.items ≡ []) }
 {
     let mut touched = Vec::new(alloc);
     touch_board(&mut touched, through)?;
@@ -223,6 +231,7 @@ pub fn move_effects(
     Ok(Effects {
         touched,
         records: vec![in alloc; message_record(event, name, message)]?,
+        notes: Vec::new(alloc),
     })
 }
 
@@ -241,7 +250,12 @@ pub fn learn_effects(
     touch_cells(&mut touched, vat, footprint)?;
     let mut records = Vec::new(alloc);
     record_cells(&mut records, event, vat, footprint)?;
-    Ok(Effects { touched, records })
+    let notes = Vec::new(alloc);
+    Ok(Effects {
+        touched,
+        records,
+        notes,
+    })
 }
 
 /// Touches the publications of promises.
@@ -341,5 +355,6 @@ pub fn turn_effects(
     Ok(Effects {
         touched: turn_touched(alloc, event, name, way, vat, outcome)?,
         records: turn_records(alloc, world, event, name, message, vat, outcome)?,
+        notes: share_notes(alloc, outcome.out.notes.as_slice())?,
     })
 }

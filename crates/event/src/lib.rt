@@ -8,6 +8,7 @@ pub mod found;
 pub mod learning;
 mod left;
 mod making;
+mod noting;
 pub mod ready;
 pub mod theorems;
 pub mod walks;

@@ -1,11 +1,14 @@
 // What holds of events.
 ghost use Rattle.history.specs.Subject.{Laws};
-ghost use Rattle.event.specs.Events.{events};
-ghost use Rattle.event.specs.Laws.{ReadyMessagesHaveTurns};
+ghost use Rattle.event.specs.Events.{events, noted_events};
+ghost use Rattle.event.specs.Laws.{NotesAreOnce, ReadyMessagesHaveTurns};
 
-/// Events of each kind depend on no cell but those that they touch, and do one thing in one world.
+/// Events of each kind depend on no cell but those that they touch, and do one thing in one world. So do events with their notes, which
+/// are the same wherever those cells are.
 pub fn events_obey_the_law()
-    ensures { Laws events }
+    ensures alone { Laws events }
+    ensures noted { Laws noted_events }
+    ensures once { NotesAreOnce }
 {}
 
 /// A turn can happen in a world exactly where its message is ready: where it is at a vat, leads there, and what

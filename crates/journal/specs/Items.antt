@@ -5,7 +5,8 @@ use Rattle.history.specs.Records.{State, Record, swap_state, swap_record}
 use Rattle.ids.specs.CellKeys.{same_key}
 use Rattle.ids.specs.declared.names.EventName.{EventName}
 use Rattle.ids.specs.declared.cells.CellKey.{CellKey}
-use Rattle.worldcells.specs.Events.{Event}
+use Rattle.erules.specs.OutboxView.{note_of}
+use Rattle.worldcells.specs.Events.{Noted, with_notes}
 use Rattle.worldcells.specs.EventView.{event_of}
 use Rattle.worldcells.specs.Theory.{cells, kepts_of}
 use Rattle.journal.specs.declared.entry.Mark.{Mark}
@@ -13,10 +14,10 @@ use Rattle.journal.specs.declared.entry.Mark.TheVariants as mark
 use Rattle.journal.specs.declared.entry.Touched.{Touched}
 use Rattle.journal.specs.declared.entry.Entry.{Entry}
 
--- an event, its seat, whether it is live, the cells that it touched with their last writers of then, and a record of those that it
--- wrote
+-- an event with its notes, its seat, whether it is live, the cells that it touched with their last writers of then, and a record of those
+-- that it wrote
 pub record Item : Type 0 where
-  pub event : Event
+  pub event : Noted
   pub seat : ℕ
   pub live : Bool
   pub lasts : List (CellKey × Option ℕ)
@@ -33,14 +34,14 @@ abbrev pub lasts_of : List Touched → List (CellKey × Option ℕ)
 lasts_of touched = map last_of touched
 
 abbrev pub item_of : Entry → Item
-item_of e = record { event = event_of e.event; seat = e.seat; live = is_live e.mark; lasts = lasts_of e.touched.items; kept = kepts_of e.records.items }
+item_of e = record { event = with_notes (event_of e.event) (map note_of e.notes.items); seat = e.seat; live = is_live e.mark; lasts = lasts_of e.touched.items; kept = kepts_of e.records.items }
 
 -- the item with its record exchanged with the state and marked so, and the state
 abbrev pub swap_item : Bool → Item → State cells → Item × State cells
 swap_item live i w = (record { event = i.event; seat = i.seat; live = live; lasts = i.lasts; kept = swap_record cells i.kept w }, swap_state cells i.kept w)
 
 -- the items and the state after an event in this seat, which touched these cells, wrote what its record has
-abbrev pub entered : Event → ℕ → List CellKey → Record cells → List Item × State cells → List Item × State cells
+abbrev pub entered : Noted → ℕ → List CellKey → Record cells → List Item × State cells → List Item × State cells
 entered e seat touched kept j =
     let r = swap_item true (record { event = e; seat = seat; live = true; lasts = map (λ k. (k, (j.1 k).1)) touched; kept = kept }) j.1 in
     (j.0 ++ r.0 ∷ [], r.1)

@@ -6,12 +6,12 @@ use Rattle.history.specs.Journal.{Entry, is_in, caused, live_set, Distinct, Orde
 use Rattle.history.specs.Chains.{chain}
 use Rattle.ids.specs.CellKeys.{same_key}
 use Rattle.ids.specs.declared.cells.CellKey.{CellKey}
-use Rattle.worldcells.specs.Events.{Event}
+use Rattle.worldcells.specs.Events.{Noted}
 use Rattle.journal.specs.Items.{Item}
 
--- events with the cells that they touched and wrote, and without what they wrote there
+-- events with their notes and the cells that they touched and wrote, and without what they wrote there
 abbrev pub plain : Subject
-plain = record { Key = CellKey; Content = Unit {0}; Event = Event; same = same_key; name = λ e. e.name.0; Does = λ e w f. ⊥ }
+plain = record { Key = CellKey; Content = Unit {0}; Event = Noted; same = same_key; name = λ e. e.name.0; Does = λ e w f. ⊥ }
 
 -- an entry as the theory of undo has it, and the seat that it was made from
 pub record Line : Type 0 where

@@ -3,14 +3,14 @@ use Rattle.std.specs.Prelude.{◌≡◌, ℕ, Bool, List, Option, map, reverse}
 use Rattle.history.specs.Records.{State, Record, Row}
 use Rattle.history.specs.Stands.{Stands}
 use Rattle.ids.specs.declared.cells.CellKey.{CellKey}
-use Rattle.worldcells.specs.Events.{Event}
+use Rattle.worldcells.specs.Events.{Noted}
 use Rattle.worldcells.specs.World.{World}
 use Rattle.worldcells.specs.Theory.{Rule, subject, cells}
 use Rattle.journal.specs.Items.{Item}
 
 -- what the theory has of an item: all but its seat
 pub record Told : Type 0 where
-  pub event : Event
+  pub event : Noted
   pub live : Bool
   pub lasts : List (CellKey × Option ℕ)
   pub kept : Record cells

@@ -6,6 +6,7 @@ ghost use Rattle.worldcells.specs.Records.{record_of};
 ghost use Rattle.worldcells.specs.Theory.{state_of_world};
 ghost use Rattle.journal.specs.Items.{item_of, lasts_of, wrote_one_of, may_exchange};
 
+use erules::outbox::Note;
 use ids::cells::CellKey;
 use ids::names::EventName;
 use std::alloc::{AllocError, Global};
@@ -27,10 +28,11 @@ pub struct Touched {
     pub writer: Option<EventName>,
 }
 
-/// An event, with the cells that it touched, and a record of each cell that it wrote: what was there before it, while it is
-/// live, and what it wrote, while it is undone.
+/// An event, with its notes for the log, the cells that it touched, and a record of each cell that it wrote: what was there before
+/// it, while it is live, and what it wrote, while it is undone.
 pub struct Entry {
     pub event: Event,
+    pub notes: Vec<Note>,
     pub seat: u64,
     pub mark: Mark,
     pub touched: Vec<Touched>,
@@ -42,6 +44,7 @@ impl Drop for Entry {
     fn drop(self) {
         let Entry {
             event: _,
+            notes: _,
             seat: _,
             mark: _,
             touched: _,

@@ -15,19 +15,18 @@ use Rattle.eorder.specs.Journals.{AllDo}
 use Rattle.eorder.specs.Order.{Settled}
 use Rattle.eorder.specs.Places.{same_message}
 use Rattle.eorder.specs.Worlds.{seen, Ran, deeds_of}
-use Rattle.eorder.proofs.Journals.{live_entries_ran}
 use Rattle.eorder.proofs.Places.{message_equal}
 use Rattle.eorder.proofs.Worlds.{events_keep}
 use Rattle.heap.specs.State as heap
 use Rattle.heap.specs.State.{Cell}
 use Rattle.post.specs.Messages.{Message, flying, done}
-use Rattle.worldcells.specs.Events.{Event}
+use Rattle.worldcells.specs.Events.{Event, event_in}
 use Rattle.worldcells.specs.World.{Content, message, World, empty, message_in, message_of}
-use Rattle.event.specs.Events.{events, Foot, in_world, letters_from, on_the_board, counted, first_message, Does, births, asks, arrives, forwards, learns, turns}
+use Rattle.event.specs.Events.{events, noted_events, Foot, in_world, letters_from, on_the_board, counted, first_message, Does, births, asks, arrives, forwards, learns, turns}
 use Rattle.event.specs.Laws.{HasNoMessage}
-use Rattle.event.proofs.Law.{events_laws}
+use Rattle.event.proofs.Noted.{live_run}
 use Rattle.ordering.specs.Deeds.{Do, do_birth, do_ask, do_arrive, do_forward, do_learn, do_turn, doing, happening}
-use Rattle.ordering.specs.Theorems.{HasTurn, HasTurnBefore, HaveOwnNames, book, RanFromNothing, KeepOrder, RunsAreDeeds, RunsKeepOrder, RunsAreInOrder, JournalsKeepOrder}
+use Rattle.ordering.specs.Theorems.{HasTurn, HasTurnBefore, HaveOwnNames, book, RanFromNothing, KeepOrder, RunsAreDeeds, RunsKeepOrder, RunsAreInOrder, JournalsKeepOrder, live_events}
 use Rattle.ordering.proofs.Steps.{step_law}
 use Rattle.ordering.proofs.Written.{Writes, Passes, passed, all_pass, not_message, board_passes_messages}
 
@@ -187,5 +186,5 @@ module _ (s : Subject) (told : s.Event → Event) (names : (e : s.Event) → s.n
 
 pub journals_keep_order : JournalsKeepOrder
 journals_keep_order next rows state h =
-    let x = live_entries_ran events doing events_laws all_do empty next rows state h in
-    (x.0, x.1, keeps x.0 (contents events state) x.1.ran (subst HaveOwnNames (sym x.1.events) (own_names events (λ e. e) (λ e. refl) (live_set events) (entries_of rows) h.named.distinct)))
+    let x = runs_do (live_run h) in
+    (x.0, x.1, runs_keep_order (live_events rows) (contents noted_events state) x.0 x.1 (own_names noted_events event_in (λ e. refl) (live_set noted_events) (entries_of rows) h.named.distinct))

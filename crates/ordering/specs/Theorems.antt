@@ -1,17 +1,18 @@
 -- That turns keep the order of messages.
-use Rattle.std.specs.Prelude.{◌≡◌, ◌⊎◌, ℕ, List, [], ◌∷◌, map}
+use Rattle.std.specs.Prelude.{◌≡◌, ◌⊎◌, ℕ, List, [], ◌∷◌, map, filter}
 use Rattle.std.specs.List.{AllByRecursion}
 use Rattle.history.specs.Subject.{Run}
-use Rattle.history.specs.Records.{Row, State}
+use Rattle.history.specs.Journal.{live_set}
+use Rattle.history.specs.Records.{Row, State, contents, entries_of}
 use Rattle.history.specs.Stands.{Stands}
 use Rattle.ids.specs.declared.names.MsgId.{MsgId}
 use Rattle.eorder.specs.Deeds.{Deed}
-use Rattle.eorder.specs.Journals.{worlds_of, LiveRun}
+use Rattle.eorder.specs.Journals.{worlds_of}
 use Rattle.eorder.specs.Order.{Before}
 use Rattle.eorder.specs.Worlds.{Worlds, seen, Ran, history}
-use Rattle.worldcells.specs.Events.{Act, turn, Event}
+use Rattle.worldcells.specs.Events.{Act, turn, Event, event_in}
 use Rattle.worldcells.specs.World.{World, empty}
-use Rattle.event.specs.Events.{events}
+use Rattle.event.specs.Events.{events, noted_events}
 use Rattle.ordering.specs.Deeds.{doing}
 
 -- no two events have one name
@@ -58,9 +59,14 @@ RunsAreDeeds = (es : List Event) (w : World) → Run events empty es w → (ps :
 abbrev pub RunsKeepOrder : Type 0
 RunsKeepOrder = (es : List Event) (w : World) (ps : List (Event × Deed)) → RanFromNothing es w ps → HaveOwnNames es → KeepOrder ps
 
--- so do the live entries of a journal, also after an undo, a redo or an exchange
+-- the events of the live entries of a journal
+abbrev pub live_events : List (Row noted_events) → List Event
+live_events rows = map (λ e. event_in e.event) (filter (live_set noted_events) (entries_of rows))
+
+-- so do those of a journal that stands, also after an undo, a redo or an exchange
 abbrev pub JournalsKeepOrder : Type 0
-JournalsKeepOrder = (next : ℕ) (rows : List (Row events)) (state : State events) → Stands events empty next rows state → (ps : List (Event × Deed)) × LiveRun events doing empty rows state ps × KeepOrder ps
+JournalsKeepOrder = (next : ℕ) (rows : List (Row noted_events)) (state : State noted_events) → Stands noted_events empty next rows state
+    → (ps : List (Event × Deed)) × RanFromNothing (live_events rows) (contents noted_events state) ps × KeepOrder ps
 
 -- these events ran from nothing to this world, the newest first, and whatever deeds they ran by, their turns keep the order of messages
 pub record InOrder (es : List Event) (w : World) : Type 0 where

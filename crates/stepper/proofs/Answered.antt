@@ -39,7 +39,9 @@ use Rattle.commands.specs.Commands as commands
 use Rattle.commands.specs.Commands.{Spelled, spelled_by, fault_text}
 use Rattle.commands.specs.Scripts.{script_of, behind_lines, fault_of}
 use Rattle.commands.specs.declared.command.LineFault.{LineFault}
-use Rattle.stepper.specs.Replies.{refused, refusal_text, Answers, ask_without_memory, asked_without_memory, asked_unread, ask_refused, Moves, move_without_memory, arrival_refused, arrives, forwarding_refused, forwards, turn_without_memory_named, turn_refused, turns, learning_refused, learns, learn_without_memory, learn_refused, learn_accepted, EnabledIn, enabled, enabled_without_memory, done_text, count_of, undone_text, redone_text, listed, cone_found, undo_cone_found, cone_without_memory, cone_refused, undo_without_memory, undo_refused, undo_accepted, undo_cone_without_memory, undo_cone_refused, redo_without_memory, redo_refused, redo_accepted, exchange_without_memory, exchange_refused, exchange_accepted, exchanged_text, AnswersBirth, birth_without_memory, script_without_memory, script_unread, birth_refused, birth_accepted, ask_accepted, queued_text, turned_text, FirstReply, born, answered, skipped, script_refused, said, said_by, Replies, first_and_more, no_more}
+use Rattle.stepper.specs.Replies.{refused, refusal_text, Answers, ask_without_memory, asked_without_memory, asked_unread, ask_refused, Moves, move_without_memory, arrival_refused, arrives, forwarding_refused, forwards, turn_without_memory_named, turn_refused, turns, learning_refused, learns, learn_without_memory, learn_refused, learn_accepted, EnabledIn, enabled, enabled_without_memory, done_text, count_of, undone_text, redone_text, listed, logged, logged_text, cone_found, undo_cone_found, cone_without_memory, cone_refused, undo_without_memory, undo_refused, undo_accepted, undo_cone_without_memory, undo_cone_refused, redo_without_memory, redo_refused, redo_accepted, exchange_without_memory, exchange_refused, exchange_accepted, exchanged_text, AnswersBirth, birth_without_memory, script_without_memory, script_unread, birth_refused, birth_accepted, ask_accepted, queued_text, turned_text, FirstReply, born, answered, skipped, script_refused, said, said_by, Replies, first_and_more, no_more}
+use Rattle.causewaylog.specs.Turns.{live_in}
+use Rattle.causewaylog.specs.Log.{log_text}
 use Rattle.stepper.specs.Listing.{journal_text, cone_text}
 use Rattle.stepper.specs.Steps.{ShowsEnabled}
 use Rattle.worldcells.specs.World.{World}
@@ -189,6 +191,10 @@ module _ (budget : ℕ) (b : Book) where
   -- the journal as it is
   pub all_listed : {lines : List Line} → lines ≡ b.journal → Answers budget b commands.journal (journal_text lines) false b
   all_listed same = subst (λ ls. Answers budget b commands.journal (journal_text ls) false b) (sym same) listed
+
+  -- the log of a vat
+  pub vat_logged : {x log text : List ℕ} → text ≡ log → log ≡ log_text x (live_in b.journal) → Answers budget b (commands.log x) (logged_text text) false b
+  vat_logged {x = x} same is = subst (λ t. Answers budget b (commands.log x) (logged_text t) false b) (sym (same ∙ is)) logged
 
   -- all that may be done, as the world shows it
   pub all_enabled : {d : Book} {w : World} {steps found : List Step} {text : List ℕ} → d ≡ b → w ≡ d.world → steps ≡ found → EnabledIn b found → ShowsEnabled w steps text

@@ -8,7 +8,7 @@ use Rattle.ids.specs.declared.names.EventName.{EventName}
 use Rattle.ids.specs.declared.names.PromId.{PromId}
 use Rattle.ids.specs.declared.names.VatNo.{VatNo}
 use Rattle.kernele.specs.Tree.{Name}
-use Rattle.worldcells.specs.Events.{Act, birth, ask, arrive, forward, learn, turn, Event}
+use Rattle.worldcells.specs.Events.{Act, birth, ask, arrive, forward, learn, turn, Event, event_in}
 use Rattle.journal.specs.Lines.{Line}
 use Rattle.causality.specs.Selections.{name_of}
 
@@ -23,7 +23,7 @@ born_as v e other = born_by v e.name e.act other
 -- the name with which a vat was born, also by a birth that is undone; before these lines it was this
 abbrev pub born_among : List Line → VatNo → Option Name → Option Name
 born_among [] v known = known
-born_among (l ∷ ls) v known = born_among ls v (born_as v l.entry.event known)
+born_among (l ∷ ls) v known = born_among ls v (born_as v (event_in l.entry.event) known)
 
 abbrev pub born : List Line → VatNo → Option Name
 born lines v = born_among lines v None

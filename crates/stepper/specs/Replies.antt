@@ -37,6 +37,8 @@ use Rattle.commands.specs.Commands as command
 use Rattle.commands.specs.Commands.{Spelled, spelled_by, fault_text}
 use Rattle.commands.specs.Scripts.{fault_of, script_of, behind_lines}
 use Rattle.stepper.specs.Show.{Shows}
+use Rattle.causewaylog.specs.Turns.{live_in}
+use Rattle.causewaylog.specs.Log.{log_text}
 use Rattle.stepper.specs.Listing.{journal_text, cone_text}
 use Rattle.stepper.specs.Steps.{ShowsEnabled}
 use Rattle.commands.specs.declared.command.LineFault.{LineFault}
@@ -117,6 +119,10 @@ redone_text count = codes "ok redone " ++ (decimal count ++ 10 ∷ [])
 abbrev pub exchanged_text : EventName → EventName → List ℕ
 exchanged_text e f = codes "ok exchanged " ++ (event_text e ++ (codes " " ++ (event_text f ++ 10 ∷ [])))
 
+-- a log, and the end of the line
+abbrev pub logged_text : List ℕ → List ℕ
+logged_text text = text ++ 10 ∷ []
+
 -- With a budget for each turn: something that may be done leads from a book to a reply, refused or not, and a book.
 -- Want of memory may refuse what needs it; the book then is as it was, but for a name that a turn may have drawn.
 pub data Moves (budget : ℕ) : Book → Step → List ℕ → Bool → Book → Type 0 where
@@ -177,6 +183,8 @@ pub data Answers (budget : ℕ) : Book → Spelled → List ℕ → Bool → Boo
       → EntersNext (record { name = e; act = ask x program }) (ask_foot e x v program) 0 b d → Answers budget b (command.ask x text) (queued_text e) false d
   shown : {b : Book} {text : List ℕ} → Shows b.world text → Answers budget b command.show text false b
   listed : {b : Book} → Answers budget b command.journal (journal_text b.journal) false b
+  log_without_memory : {b : Book} {x : List ℕ} → Answers budget b (command.log x) (refused (codes "B20 Memory")) true b
+  logged : {b : Book} {x : List ℕ} → Answers budget b (command.log x) (logged_text (log_text x (live_in b.journal))) false b
   cone_without_memory : {b : Book} {e : EventName} → Answers budget b (command.cone e) (refused (codes "B20 Memory")) true b
   cone_refused : {b : Book} {e : EventName} {r : Refusal} → cone_refusal b.journal e ≡ Some r → Answers budget b (command.cone e) (refused (refusal_text r)) true b
   cone_found : {b : Book} {e : EventName} {names : List EventName} → cone_refusal b.journal e ≡ None → Cone b.journal e names → Answers budget b (command.cone e) (cone_text names) false b

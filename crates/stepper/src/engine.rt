@@ -21,6 +21,7 @@ use crate::reply::Written;
 use agenda::agenda::Step;
 use book::book::{Book, Turned};
 use book::fault::BookFault;
+use causewaylog::log::log_of;
 use commands::PromiseName;
 use commands::command::{Command, LineFault, command_of};
 use commands::script::text_of;
@@ -211,6 +212,16 @@ impl Engine {
         self.written.journal(self.alloc, self.book.journal())
     }
 
+    /// The log of the turns of the vat of this name.
+    fn log(&mut self, name: &str) -> Result<(), AllocError>
+        ensures { OnOk result (Happens self.old self.new (λ b r s d. Answers self.old.budget b (commands.log name.now) r s d)) }
+    {
+        match log_of(self.alloc, &self.book, name) {
+            Ok(text) => self.written.log(text.as_str()),
+            Err(_) => self.written.refuse_call(&BookFault::Memory),
+        }
+    }
+
     fn cone(&mut self, event: EventName) -> Result<(), AllocError>
         ensures { OnOk result (Happens self.old self.new (λ b r s d. Answers self.old.budget b (commands.cone event) r s d)) }
     {
@@ -331,6 +342,7 @@ impl Engine {
             Command::Enabled => self.enabled(),
             Command::Show => self.show(),
             Command::Journal => self.journal(),
+            Command::Log(name) => self.log(name),
             Command::Cone(event) => self.cone(event),
             Command::Undo(events) => self.undo(&events),
             Command::UndoCone(event) => self.undo_cone(event),

@@ -5,7 +5,7 @@ ghost use Rattle.book.specs.Fault as book_fault;
 ghost use Rattle.worldcells.specs.View.{world_of};
 ghost use Rattle.deliveries.specs.Outcomes.{told_of};
 ghost use Rattle.commands.specs.Commands.{fault_text};
-ghost use Rattle.stepper.specs.Replies.{refused, queued_text, done_text, idle_text, turned_text, told_text, undone_text, redone_text, exchanged_text};
+ghost use Rattle.stepper.specs.Replies.{refused, queued_text, done_text, idle_text, turned_text, told_text, undone_text, redone_text, exchanged_text, logged_text};
 ghost use Rattle.stepper.specs.Listing.{journal_text, cone_text};
 ghost use Rattle.journal.specs.Items.{item_of};
 ghost use Rattle.journal.specs.Lines.{lines_of};
@@ -144,6 +144,14 @@ impl Written {
         ensures { OnOk result (Adds self.old self.new (journal_text (lines_of (map item_of entries.now))) false) }
     {
         write_journal(alloc, entries, &mut self.text)
+    }
+
+    /// The log of a vat is written.
+    pub(crate) fn log(&mut self, text: &str) -> Result<(), AllocError>
+        ensures { OnOk result (Adds self.old self.new (logged_text text.now) false) }
+    {
+        let out = &mut self.text;
+        write!(out, "{text}\n")
     }
 
     /// The events of a cone are named.

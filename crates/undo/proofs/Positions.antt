@@ -7,7 +7,7 @@ use Rattle.std.proofs.lemmas.List.Folds.{list_all-append}
 use Rattle.history.specs.Walks.{step_at, walk}
 use Rattle.history.specs.Records.{State, Record}
 use Rattle.ids.specs.declared.cells.CellKey.{CellKey}
-use Rattle.worldcells.specs.Events.{Event}
+use Rattle.worldcells.specs.Events.{Noted}
 use Rattle.worldcells.specs.Theory.{cells, all_pass}
 use Rattle.journal.specs.Items.{Item, item_of, keys_at, pass, key_count, records_at, swap_item, entered}
 use Rattle.journal.specs.declared.entry.Entry.{Entry}
@@ -106,7 +106,7 @@ step_last : {B S : Type 0} (one : B → S → B × S) (xs : List B) (x : B) (w :
 step_last one xs x w = rw (slice_seam xs x, set-append_seam xs x [] (one x w).0) refl
 
 -- an entry that is pushed and exchanged at the end
-pub entered_is : (es : List Entry) (e : Entry) (event : Event) (seat : ℕ) (touched : List CellKey) (kept : Record cells) (w : State cells) (n : ℕ) → n ≡ length es
+pub entered_is : (es : List Entry) (e : Entry) (event : Noted) (seat : ℕ) (touched : List CellKey) (kept : Record cells) (w : State cells) (n : ℕ) → n ≡ length es
     → item_of e ≡ record { event = event; seat = seat; live = true; lasts = map (λ k. (k, (w k).1)) touched; kept = kept }
     → step_at (swap_item true) n (map item_of (es ++ e ∷ []), w) ≡ entered event seat touched kept (map item_of es, w)
 entered_is es e event seat touched kept w n at is =

@@ -7,7 +7,7 @@ use Rattle.history.specs.Records.{Record, Row, contents, entries_of, swap_record
 use Rattle.history.specs.Chains.{HasCells}
 use Rattle.history.specs.Walks.{spots, walk}
 use Rattle.ids.specs.declared.cells.CellKey.{CellKey}
-use Rattle.worldcells.specs.Events.{Event}
+use Rattle.worldcells.specs.Events.{Noted}
 use Rattle.worldcells.specs.World.{World}
 use Rattle.worldcells.specs.Theory.{Rule, subject, cells}
 use Rattle.journal.specs.Standing.{ItemsStand}
@@ -29,7 +29,7 @@ Begins does = (next : ℕ) (core : Core) → items_of core ≡ [] → ((k : Cell
 
 -- an event that is possible and whose name is free is entered with the cells that it touches and a record of what it writes, and has its causes
 abbrev pub Enters : Rule → Type 0
-Enters does = (start : World) (next later : ℕ) (rows : List (Row (subject does))) (old new : Core) (e : Event) (seat : ℕ) (touched : List CellKey) (kept : Record cells) (f : Foot (subject does)) (ns : List ℕ) →
+Enters does = (start : World) (next later : ℕ) (rows : List (Row (subject does))) (old new : Core) (e : Noted) (seat : ℕ) (touched : List CellKey) (kept : Record cells) (f : Foot (subject does)) (ns : List ℕ) →
     CoreStands does start next rows old → does e (contents cells (state_of old)) f → Free (subject does) e.name.0 (entries_of rows) → next ≤ later → e.name.0 < later →
     NamesCauses (subject does) ns f (entries_of rows) → AllByRecursion (λ n. n < later) ns → is_in ns e.name.0 ≡ false →
     HasCells (subject does) f (map (λ k. (k, (state_of old k).1)) touched) → Writes (subject does) e.name.0 f kept →

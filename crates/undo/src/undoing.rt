@@ -5,6 +5,8 @@ ghost use Rattle.heap.specs.View as heap;
 ghost use Rattle.history.specs.Records.{contents};
 ghost use Rattle.history.specs.Walks.{step_at, walk};
 ghost use Rattle.ids.specs.declared.cells.CellKey.{CellKey};
+ghost use Rattle.erules.specs.OutboxView.{note_of};
+ghost use Rattle.worldcells.specs.Events.{with_notes};
 ghost use Rattle.worldcells.specs.EventView.{event_of};
 ghost use Rattle.worldcells.specs.View.{is_ready};
 ghost use Rattle.worldcells.specs.World.{vat_state};
@@ -13,6 +15,7 @@ ghost use Rattle.journal.specs.Items.{item_of, is_live, swap_item, entered, keys
 
 use crate::records::{make_rooms, swap_records};
 use cells::swaps::Swaps;
+use erules::outbox::Note;
 use heap::state::VatState;
 use ids::cells::CellKey;
 use ids::names::VatNo;
@@ -23,10 +26,11 @@ use worldcells::event::Event;
 use worldcells::record::CellRecord;
 use worldcells::world::World;
 
-/// An event and its seat, before it has an entry.
+/// An event with its notes and its seat, before it has an entry.
 #[derive(Drop)]
 pub struct Deed {
     pub event: Event,
+    pub notes: Vec<Note>,
     pub seat: u64,
 }
 
@@ -172,7 +176,7 @@ impl Core {
         records: Vec<CellRecord>,
         swaps: &mut Swaps,
     ) -> Result<(), AllocError>
-        ensures ok { OnOk result (shown self.new ≡ entered (event_of deed.event) deed.seat touched.now (kepts_of records.items) (shown self.old)) }
+        ensures ok { OnOk result (shown self.new ≡ entered (with_notes (event_of deed.event) (map note_of deed.notes.items)) deed.seat touched.now (kepts_of records.items) (shown self.old)) }
         ensures counted { OnOk result (swaps.new % 2 ^ 64 ≡ (swaps.old + length records.items) % 2 ^ 64) }
         ensures err { OnErr result (shown self.new ≡ shown self.old) }
         ensures none { OnErr result (swaps.new ≡ swaps.old) }
@@ -182,6 +186,7 @@ impl Core {
         let position = self.entries.len();
         self.entries.push(Entry {
             event: deed.event,
+            notes: deed.notes,
             seat: deed.seat,
             mark: Mark::Live,
             touched,

@@ -23,6 +23,7 @@ use Rattle.event.specs.ReadyView.{IsWay}
 use Rattle.event.specs.Walks.{board_walk, found_by}
 use Rattle.event.specs.declared.effects.Effects.{Effects}
 use Rattle.event.specs.declared.ready.Way.{Way}
+use Rattle.event.proofs.Noted.{quietly}
 use Rattle.turn.specs.declared.ticket.Ran.{Ran}
 use Rattle.world.specs.Steps.{Learnable, Ready, RunsAt, TellsStep}
 use Rattle.world.specs.declared.step.StepFault.{StepFault}
@@ -71,7 +72,7 @@ module _ (e : EventName) (m : MsgId) (w : World) (g h : Message) (v u : VatNo) (
 -- ---- what a vat learns
 
 pub learns_happen : (e : EventName) (w : World) (v : VatNo) (p : PromId) (b : Published) (it : Effects) → Learnable w v p b → (l : BringsLearnt e w v p b it) → Happens (record { name = e; act = learn v p }) (learn_foot v p l.cells l.left) w it
-learns_happen e w v p b it h l = record { does = ∣ learns h.unresolved h.resolved l.leaves ∣₁; brings = l.brings }
+learns_happen e w v p b it h l = record { does = ∣ quietly (learns h.unresolved h.resolved l.leaves) refl it.notes.items l.quiet ∣₁; brings = l.brings }
 
 -- ---- the turn that was run of a message that is ready
 
@@ -101,7 +102,7 @@ module _ (e : EventName) (w : World) (m : MsgId) (n : ℕ) (g : code-message.Mes
 
   -- what it brings happens
   pub turn_happens : (it : Effects) → AreNew w (letters_from e 0 turned.outcome.out.letters) → (b : BringsTurn e w m turned it) → Happens (record { name = e; act = turn v m n }) (turn_foot e w m turned b.cells b.left) w it
-  turn_happens it fresh b = record { does = ∥∥₁_map (is_turn fresh) (λ t. turns t b.leaves); brings = b.brings }
+  turn_happens it fresh b = record { does = ∥∥₁_map (is_turn fresh) (λ t. (turns t b.leaves, sym b.noted)); brings = b.brings }
 
   -- so do the effects of a turn that sends what is new in this world, as it is after the turn was run
   pub turn_done : (u : World) → u ≡ w → (way : Way) → IsWay w v (message_of g) way → AreNew u (letters_from e 0 turned.outcome.out.letters) → (it : Effects)

@@ -362,6 +362,7 @@ pub fn step(alloc: Global, world: &mut World, event: &Event) -> Result<(), StepF
     let Effects {
         touched: _,
         mut records,
+        notes: _,
     } = effects_of(alloc, world, event)?;
     make_rooms(alloc, world, &records)?;
     swap_records(world, &mut records, &mut Swaps::none());

@@ -7,20 +7,20 @@ use Rattle.cells.specs.Seen.{Seen}
 use Rattle.ids.specs.CellKeys.{same_key}
 use Rattle.ids.specs.declared.names.EventName.{EventName}
 use Rattle.ids.specs.declared.cells.CellKey.{CellKey}
-use Rattle.worldcells.specs.Events.{Event}
+use Rattle.worldcells.specs.Events.{Noted}
 use Rattle.worldcells.specs.World.{Content, World}
 use Rattle.worldcells.specs.Records.{record_of}
 use Rattle.worldcells.specs.View.{seen_of_world}
 use Rattle.worldcells.specs.declared.record.CellRecord.{CellRecord}
 use Rattle.worldcells.specs.declared.world.World as code
 
--- that an event is possible in a world, and what it reads and writes there
+-- that an event is possible in a world, what it reads and writes there, and which notes it makes
 abbrev pub Rule : Type 1
-Rule = Event → World → Footprint CellKey Content → Type 0
+Rule = Noted → World → Footprint CellKey Content → Type 0
 
--- events that go by a rule, as what can be undone
+-- events with their notes that go by a rule, as what can be undone
 abbrev pub subject : Rule → Subject
-subject does = record { Key = CellKey; Content = Content; Event = Event; same = same_key; name = λ e. e.name.0; Does = does }
+subject does = record { Key = CellKey; Content = Content; Event = Noted; same = same_key; name = λ e. e.name.0; Does = does }
 
 -- the cells alone, whatever events do
 abbrev pub cells : Subject

@@ -8,8 +8,8 @@ use Rattle.event.specs.Events.{opening_message}
 use Rattle.event.proofs.Bringing.{birth_brings, earlier_same}
 use Rattle.event.proofs.effects.birth_effects.Goals as goal
 
-pub returns : goal.returns
-returns c =
+pub returns-clause-brings : goal.returns-clause-brings
+returns-clause-brings c =
     λ found numbers.
     birth_brings c.args.event c.args.name.now c.args.earlier.now found (program_of c.args.script.now) c.in_ok-touched.touched.items c.push.new.self.items c.push-2.new.self.items (kepts_of c.in_ok-vec.field-0.items)
     (kept_of c.in_ok-name_record.field-0) (kept_of c.message_record.result) (message_of c.in_ok-message.message)

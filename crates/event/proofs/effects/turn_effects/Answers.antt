@@ -18,3 +18,4 @@ returns c =
     (c.in_ok-turn_touched.ensures.touched
     ∙ ap₂ (λ ps ms. (map key.Board ps ++ (map key.Msg ms ++ map (λ b. key.Board b.0) (publications_of o.out.publications))) ++ rest) way.through way.awaited)
     (c.in_ok-turn_records.ensures u)
+    c.in_ok-share_notes.ensures

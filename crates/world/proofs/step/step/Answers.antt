@@ -1,11 +1,12 @@
 use Rattle.std.proofs.Common.{◌≡◌, ap, ◌∙◌}
+use Rattle.std.proofs.Math.Logic.{∥∥₁_map}
 use Rattle.history.specs.Records.{contents, swap_state}
 use Rattle.history.proofs.Exchanges.{contents_after}
 use Rattle.worldcells.specs.EventView.{event_of}
 use Rattle.worldcells.specs.Theory.{cells, kepts_of, numbered, state_of_world}
 use Rattle.worldcells.specs.View.{seen_of_world}
-use Rattle.event.specs.Events.{events}
-use Rattle.event.proofs.Law.{events_laws}
+use Rattle.event.specs.Events.{noted_events}
+use Rattle.event.proofs.Law.{noted_laws}
 use Rattle.undo.proofs.Positions.{on_err}
 use Rattle.world.proofs.step.step.Goals as goal
 
@@ -22,7 +23,7 @@ returns-clause-ok c =
     let state : state_of_world c.make_rooms.new.world ≡ state_of_world c.args.world.now = λ i k. numbered ((c.make_rooms.ensures.seen ∙ c.effects_of.ensures.seen) i k) in
     record {
       foot = h.0;
-      does = h.1.does;
+      does = ∥∥₁_map h.1.does (λ d. d.0);
       step = ap (contents cells) (c.swap_records.ensures.state ∙ ap (λ l. swap_state cells (kepts_of l) (state_of_world c.make_rooms.new.world)) c.deref_mut.ensures.value ∙ ap (swap_state cells kept) state)
-          ∙ contents_after events events_laws (event_of c.args.event.now).name.0 h.0 kept (state_of_world c.args.world.now) h.1.brings.write;
+          ∙ contents_after noted_events noted_laws (event_of c.args.event.now).name.0 h.0 kept (state_of_world c.args.world.now) h.1.brings.write;
     }

@@ -1,4 +1,4 @@
-use Rattle.std.proofs.Common.{sym, subst}
+use Rattle.std.proofs.Common.{refl, sym, subst}
 use Rattle.kernele.specs.View.{program_of}
 use Rattle.kernele.specs.Tree.{Name}
 use Rattle.worldcells.specs.Events.{ask}
@@ -6,6 +6,7 @@ use Rattle.ids.specs.declared.names.VatNo.{VatNo}
 use Rattle.event.specs.Events.{Does, ask_foot, asks}
 use Rattle.book.specs.BookView.{book_of}
 use Rattle.event.specs.Effects.{Happens}
+use Rattle.event.proofs.Noted.{quietly}
 use Rattle.book.specs.Calls.{EntersNext}
 use Rattle.book.proofs.Within.{room_for_ask}
 use Rattle.book.proofs.book.Book.ask.Goals as goal
@@ -16,7 +17,8 @@ enter-requires-clause-possible c =
     let p = program_of c.args.program in
     let w = (book_of c.args.self.now).world in
     let f = ask_foot e c.args.name.now c.in_ok-event.vat p in
-    (f, subst (λ (x : Name). Happens (record { name = e; act = ask x p }) f w c.in_ok-effects.effects) (sym c.in_ok-share.ensures) (record { does = ∣ subst (λ (v : VatNo). Does (record { name = e; act = ask c.args.name.now p }) w (ask_foot e c.args.name.now v p)) c.in_ok-event.ensures.ok.2.2 (asks c.in_ok-event.ensures.ok.2.1) ∣₁; brings = c.in_ok-effects.ensures }))
+    let does : Does (record { name = e; act = ask c.args.name.now p }) w f = subst (λ (v : VatNo). Does (record { name = e; act = ask c.args.name.now p }) w (ask_foot e c.args.name.now v p)) c.in_ok-event.ensures.ok.2.2 (asks c.in_ok-event.ensures.ok.2.1) in
+    (f, subst (λ (x : Name). Happens (record { name = e; act = ask x p }) f w c.in_ok-effects.effects) (sym c.in_ok-share.ensures) (record { does = ∣ quietly does refl c.in_ok-effects.effects.notes.items c.in_ok-effects.ensures.quiet ∣₁; brings = c.in_ok-effects.ensures.brings }))
 
 pub enter-requires-clause-room : goal.enter-requires-clause-room
 enter-requires-clause-room c =
@@ -30,7 +32,8 @@ returns-clause-ok c =
     let p = program_of c.args.program in
     let w = (book_of c.args.self.now).world in
     let f = ask_foot e c.args.name.now c.in_ok-event.vat p in
-    let h : Happens (record { name = e; act = ask c.args.name.now p }) f w c.in_ok-effects.effects = record { does = ∣ subst (λ (v : VatNo). Does (record { name = e; act = ask c.args.name.now p }) w (ask_foot e c.args.name.now v p)) c.in_ok-event.ensures.ok.2.2 (asks c.in_ok-event.ensures.ok.2.1) ∣₁; brings = c.in_ok-effects.ensures } in (
+    let does : Does (record { name = e; act = ask c.args.name.now p }) w f = subst (λ (v : VatNo). Does (record { name = e; act = ask c.args.name.now p }) w (ask_foot e c.args.name.now v p)) c.in_ok-event.ensures.ok.2.2 (asks c.in_ok-event.ensures.ok.2.1) in
+    let h : Happens (record { name = e; act = ask c.args.name.now p }) f w c.in_ok-effects.effects = record { does = ∣ quietly does refl c.in_ok-effects.effects.notes.items c.in_ok-effects.ensures.quiet ∣₁; brings = c.in_ok-effects.ensures.brings } in (
       c.in_ok-event.ensures.ok.3,
       (
         c.in_ok-event.vat,

@@ -1,4 +1,4 @@
-use Rattle.std.proofs.Common.{◌≡◌, ◌∙◌, List, None, sym, subst}
+use Rattle.std.proofs.Common.{◌≡◌, ◌∙◌, List, None, refl, sym, subst}
 use Rattle.kernele.specs.View.{program_of}
 use Rattle.kernele.specs.Tree.{Name}
 use Rattle.worldcells.specs.Events.{birth}
@@ -6,6 +6,7 @@ use Rattle.worldcells.specs.Theory.{kepts_of}
 use Rattle.event.specs.Events.{birth_foot, births}
 use Rattle.book.specs.BookView.{book_of}
 use Rattle.event.specs.Effects.{Brings, Happens}
+use Rattle.event.proofs.Noted.{quietly}
 use Rattle.book.specs.Calls.{EntersNext, Numbers}
 use Rattle.book.specs.Refusals.{birth_refusal}
 use Rattle.book.proofs.Within.{room_for_birth}
@@ -22,8 +23,8 @@ enter-requires-clause-possible c =
     let f = birth_foot e x names n.vats p in
     let it = c.in_ok-effects.effects in
     let brings : Brings e f it.touched.items (kepts_of it.records.items) =
-    subst (λ (xs : List Name). Brings e (birth_foot e x xs n.vats p) it.touched.items (kepts_of it.records.items)) c.deref-2.ensures.value (c.in_ok-effects.ensures n.vats (n.numbered ∙ sym c.deref-3.ensures.value)) in
-    (f, subst (λ (y : Name). Happens (record { name = e; act = birth y names p }) f w it) (sym c.in_ok-share.ensures) (record { does = ∣ births n.vats c.in_ok-event.ensures.ok.2 n.named ∣₁; brings = brings }))
+    subst (λ (xs : List Name). Brings e (birth_foot e x xs n.vats p) it.touched.items (kepts_of it.records.items)) c.deref-2.ensures.value (c.in_ok-effects.ensures.brings n.vats (n.numbered ∙ sym c.deref-3.ensures.value)) in
+    (f, subst (λ (y : Name). Happens (record { name = e; act = birth y names p }) f w it) (sym c.in_ok-share.ensures) (record { does = ∣ quietly (births n.vats c.in_ok-event.ensures.ok.2 n.named) refl it.notes.items c.in_ok-effects.ensures.quiet ∣₁; brings = brings }))
 
 pub enter-requires-clause-room : goal.enter-requires-clause-room
 enter-requires-clause-room c =
@@ -41,8 +42,8 @@ returns-clause-ok c =
     let f = birth_foot e x names n.vats p in
     let it = c.in_ok-effects.effects in
     let brings : Brings e f it.touched.items (kepts_of it.records.items) =
-    subst (λ (xs : List Name). Brings e (birth_foot e x xs n.vats p) it.touched.items (kepts_of it.records.items)) c.deref-2.ensures.value (c.in_ok-effects.ensures n.vats (n.numbered ∙ sym c.deref-3.ensures.value)) in
-    let h : Happens (record { name = e; act = birth x names p }) f w it = record { does = ∣ births n.vats c.in_ok-event.ensures.ok.2 n.named ∣₁; brings = brings } in (
+    subst (λ (xs : List Name). Brings e (birth_foot e x xs n.vats p) it.touched.items (kepts_of it.records.items)) c.deref-2.ensures.value (c.in_ok-effects.ensures.brings n.vats (n.numbered ∙ sym c.deref-3.ensures.value)) in
+    let h : Happens (record { name = e; act = birth x names p }) f w it = record { does = ∣ quietly (births n.vats c.in_ok-event.ensures.ok.2 n.named) refl it.notes.items c.in_ok-effects.ensures.quiet ∣₁; brings = brings } in (
       subst (λ (xs : List Name). birth_refusal b x xs p ≡ None) c.deref.ensures.value c.in_ok-event.ensures.ok.4,
       (
         n.vats,

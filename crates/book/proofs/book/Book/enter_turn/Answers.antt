@@ -1,4 +1,4 @@
-use Rattle.std.proofs.Common.{rules, ◌≡◌, ◌∙◌, List, Option, refl, ap, sym, subst}
+use Rattle.std.proofs.Common.{rules, ◌≡◌, ◌∙◌, List, Option, map, refl, ap, sym, subst}
 use Rattle.ids.specs.declared.cells.CellKey.{CellKey}
 use Rattle.agenda.specs.Agendas.{AlikeBut}
 use Rattle.agenda.specs.declared.agenda.Agenda.{Agenda}
@@ -6,7 +6,10 @@ use Rattle.std.proofs.lemmas.Result.{err_from_is_err_and}
 use Rattle.history.specs.Records.{contents}
 use Rattle.desk.specs.DeskView.{out_of}
 use Rattle.journal.specs.Items.{entered}
-use Rattle.worldcells.specs.Events.{Event, turn}
+use Rattle.erules.specs.Outbox.{Note}
+use Rattle.erules.specs.OutboxView.{note_of, outbox_of}
+use Rattle.worldcells.specs.Events as world
+use Rattle.worldcells.specs.Events.{Event, turn, with_notes}
 use Rattle.worldcells.specs.Theory.{cells, kepts_of}
 use Rattle.worldcells.specs.View.{world_of}
 use Rattle.event.specs.Events.{turn_foot}
@@ -56,20 +59,24 @@ invariant_of-self-2 c =
     let b = c.args.self.now in
     let r = c.args.ran.now in
     let e : Event = record { name = r.carried.event; act = turn r.carried.vat r.carried.name r.carried.budget } in
-    let entered_as : shown c.enter.new.self ≡ entered e r.carried.seat c.deref.result.now (kepts_of c.in_ok-touched.records.items) (shown b.core) = search rules in
-    let is : shown c.enter.new.self ≡ entered e r.carried.seat c.in_ok-touched.field-0.touched.items (kepts_of c.in_ok-touched.field-0.records.items) (shown b.core) =
-    entered_as ∙ ap (λ touched. entered e r.carried.seat touched (kepts_of c.in_ok-touched.records.items) (shown b.core)) c.deref.ensures.value
-    ∙ ap (λ records. entered e r.carried.seat c.in_ok-touched.field-0.touched.items (kepts_of records.items) (shown b.core)) (sym c.in_ok-touched.records-is) in
+    let n : world.Noted = with_notes e (outbox_of r.outcome.out).notes in
     let same : world_of c.world.result.now ≡ (book_of b).world = ap (contents cells) c.world.ensures in
     let brings = brought (book_of b) (world_of c.world.result.now) same r c.in_ok-way.way c.in_ok-touched.field-0 c.in_ok-touched.ensures c.in_ok-way.ensures.ok (sent_new b.core b.next (out_of b.desk) b.stands r c.in_ok-check_known.ensures.ok) c.in_ok-way.ensures.way in
+    let it = c.in_ok-touched.field-0 in
+    let entered_as : shown c.enter.new.self ≡ entered (with_notes e (map note_of c.in_ok-touched.notes.items)) r.carried.seat c.deref.result.now (kepts_of c.in_ok-touched.records.items) (shown b.core) = search rules in
+    let is : shown c.enter.new.self ≡ entered n r.carried.seat it.touched.items (kepts_of it.records.items) (shown b.core) =
+    entered_as ∙ ap (λ touched. entered (with_notes e (map note_of c.in_ok-touched.notes.items)) r.carried.seat touched (kepts_of c.in_ok-touched.records.items) (shown b.core)) c.deref.ensures.value
+    ∙ ap (λ records. entered (with_notes e (map note_of c.in_ok-touched.notes.items)) r.carried.seat it.touched.items (kepts_of records.items) (shown b.core)) (sym c.in_ok-touched.records-is)
+    ∙ ap (λ notes. entered (with_notes e (map note_of notes.items)) r.carried.seat it.touched.items (kepts_of it.records.items) (shown b.core)) (sym c.in_ok-touched.notes-is)
+    ∙ ap (λ (notes : List Note). entered (with_notes e notes) r.carried.seat it.touched.items (kepts_of it.records.items) (shown b.core)) brings.noted in
     record {
       in_range = b.in_range;
       stands = subst (Stands c.enter.new.self b.next) (sym c.remove.ensures.rest)
           (committed_stands b.core c.enter.new.self b.next (out_of b.desk) r c.in_ok-touched.field-0 brings is c.in_ok-check_known.ensures.ok c.in_ok-way.ensures.ok b.stands);
-      within = within_entered b.core c.enter.new.self e r.carried.seat c.in_ok-touched.field-0.touched.items (kepts_of c.in_ok-touched.field-0.records.items) is (one_more (book_of b) c.in_ok-check_room.ensures.ok);
+      within = within_entered b.core c.enter.new.self n r.carried.seat c.in_ok-touched.field-0.touched.items (kepts_of c.in_ok-touched.field-0.records.items) is (one_more (book_of b) c.in_ok-check_room.ensures.ok);
       noted = noted_next b.core c.enter.new.self c.take.result c.noted.result c.world-2.result.now c.deref-2.result.now c.world-2.ensures c.noted.ensures
           (subst (λ (touched : List CellKey). AlikeBut touched (contents cells (state_of b.core)) (contents cells (state_of c.enter.new.self))) (sym c.deref-2.ensures.value)
-          (entered_alike b.core c.enter.new.self e r.carried.seat c.in_ok-touched.field-0.touched.items (kepts_of c.in_ok-touched.field-0.records.items)
+          (entered_alike b.core c.enter.new.self n r.carried.seat c.in_ok-touched.field-0.touched.items (kepts_of c.in_ok-touched.field-0.records.items)
           (turn_foot r.carried.event (book_of b).world r.carried.name (turn_in (book_of b).world r) brings.cells brings.left) brings.brings is))
           (subst (λ (agenda : Option Agenda). Noted agenda (state_of b.core)) (sym c.take.ensures.value) b.noted);
     }
@@ -79,12 +86,16 @@ returns-clause-ok c =
     let b = c.args.self.now in
     let r = c.args.ran.now in
     let e : Event = record { name = r.carried.event; act = turn r.carried.vat r.carried.name r.carried.budget } in
-    let entered_as : shown c.enter.new.self ≡ entered e r.carried.seat c.deref.result.now (kepts_of c.in_ok-touched.records.items) (shown b.core) = search rules in
-    let is : shown c.enter.new.self ≡ entered e r.carried.seat c.in_ok-touched.field-0.touched.items (kepts_of c.in_ok-touched.field-0.records.items) (shown b.core) =
-    entered_as ∙ ap (λ touched. entered e r.carried.seat touched (kepts_of c.in_ok-touched.records.items) (shown b.core)) c.deref.ensures.value
-    ∙ ap (λ records. entered e r.carried.seat c.in_ok-touched.field-0.touched.items (kepts_of records.items) (shown b.core)) (sym c.in_ok-touched.records-is) in
+    let n : world.Noted = with_notes e (outbox_of r.outcome.out).notes in
     let same : world_of c.world.result.now ≡ (book_of b).world = ap (contents cells) c.world.ensures in
     let brings = brought (book_of b) (world_of c.world.result.now) same r c.in_ok-way.way c.in_ok-touched.field-0 c.in_ok-touched.ensures c.in_ok-way.ensures.ok (sent_new b.core b.next (out_of b.desk) b.stands r c.in_ok-check_known.ensures.ok) c.in_ok-way.ensures.way in
+    let it = c.in_ok-touched.field-0 in
+    let entered_as : shown c.enter.new.self ≡ entered (with_notes e (map note_of c.in_ok-touched.notes.items)) r.carried.seat c.deref.result.now (kepts_of c.in_ok-touched.records.items) (shown b.core) = search rules in
+    let is : shown c.enter.new.self ≡ entered n r.carried.seat it.touched.items (kepts_of it.records.items) (shown b.core) =
+    entered_as ∙ ap (λ touched. entered (with_notes e (map note_of c.in_ok-touched.notes.items)) r.carried.seat touched (kepts_of c.in_ok-touched.records.items) (shown b.core)) c.deref.ensures.value
+    ∙ ap (λ records. entered (with_notes e (map note_of c.in_ok-touched.notes.items)) r.carried.seat it.touched.items (kepts_of records.items) (shown b.core)) (sym c.in_ok-touched.records-is)
+    ∙ ap (λ notes. entered (with_notes e (map note_of notes.items)) r.carried.seat it.touched.items (kepts_of it.records.items) (shown b.core)) (sym c.in_ok-touched.notes-is)
+    ∙ ap (λ (notes : List Note). entered (with_notes e notes) r.carried.seat it.touched.items (kepts_of it.records.items) (shown b.core)) brings.noted in
     record {
       known = c.in_ok-check_known.ensures.ok;
       fresh = c.in_ok-way.ensures.ok;

@@ -4,7 +4,7 @@ use Rattle.post.specs.MessageView.{published_of}
 use Rattle.worldcells.specs.Events.{learn}
 use Rattle.worldcells.specs.World.{vat_state}
 use Rattle.event.specs.Learning.{Learns}
-use Rattle.event.specs.Effects.{Happens}
+use Rattle.event.specs.Effects.{BringsLearnt, Happens}
 use Rattle.desk.specs.DeskView.{out_of}
 use Rattle.book.specs.Books.{Book}
 use Rattle.book.specs.BookView.{book_of}
@@ -37,6 +37,16 @@ enter-requires-clause-possible c =
     let learns : Learns (vat_state b.world v) p q c.in_ok-footprint.footprint = subst (λ (u : State). Learns u p q c.in_ok-footprint.footprint) c.in_ok-state.ensures.shared c.in_ok-footprint.ensures in
     let h = learnt_happens b.world v p e q c.in_ok-effects.effects c.in_ok-event.ensures.ok.can (c.in_ok-effects.ensures b.world q learns) in
     (h.0, subst (λ (k : Book). Happens (record { name = e; act = learn v p }) h.0 k.world c.in_ok-effects.effects) (sym same) h.1)
+
+pub enter-requires-clause-quiet : goal.enter-requires-clause-quiet
+enter-requires-clause-quiet c =
+    let b = book_of c.args.self.now in
+    let v = c.args.vat in
+    let p = c.args.promise in
+    let q = published_of c.in_ok-event.published in
+    let learns : Learns (vat_state b.world v) p q c.in_ok-footprint.footprint = subst (λ (u : State). Learns u p q c.in_ok-footprint.footprint) c.in_ok-state.ensures.shared c.in_ok-footprint.ensures in
+    let brings : BringsLearnt c.in_ok-event.event b.world v p q c.in_ok-effects.effects = c.in_ok-effects.ensures b.world q learns in
+    brings.quiet
 
 pub returns-clause-ok : goal.returns-clause-ok
 returns-clause-ok c =

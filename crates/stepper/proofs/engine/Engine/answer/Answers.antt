@@ -7,7 +7,7 @@ use Rattle.stepper.specs.Taking.{StopsWithin}
 use Rattle.stepper.proofs.Answered.{on_ok, happens_as}
 use Rattle.stepper.proofs.Doing.{does_alone, does_born, out_here, out_born}
 use Rattle.stepper.proofs.engine.Engine.answer.Goals as goal
-use Rattle.stepper.proofs.engine.Engine.answer.Goals.{in-Ask, in-Arrive, in-Forward, in-Learn, in-Turn, in-Step, in-Run, in-Enabled, in-Show, in-Journal, in-Cone, in-Undo, in-UndoCone, in-Redo, in-Exchange}
+use Rattle.stepper.proofs.engine.Engine.answer.Goals.{in-Ask, in-Arrive, in-Forward, in-Learn, in-Turn, in-Step, in-Run, in-Enabled, in-Show, in-Journal, in-Log, in-Cone, in-Undo, in-UndoCone, in-Redo, in-Exchange}
 
 pub returns-in-Birth : goal.returns-in-Birth
 returns-in-Birth g c =
@@ -31,6 +31,7 @@ returns g c =
       | in-Enabled w ↦ does_alone remaining contents source sink c.requires _ _ w.enabled.result (ap command_of w.in-Enabled.is) refl w.branch'-is c.in_ok-exchange.was w.self-is w.enabled.ensures
       | in-Show w ↦ does_alone remaining contents source sink c.requires _ _ w.show.result (ap command_of w.in-Show.is) refl w.branch'-is c.in_ok-exchange.was w.self-is w.show.ensures
       | in-Journal w ↦ does_alone remaining contents source sink c.requires _ _ w.journal.result (ap command_of w.in-Journal.is) refl w.branch'-is c.in_ok-exchange.was w.self-is w.journal.ensures
+      | in-Log w ↦ does_alone remaining contents source sink c.requires _ _ w.log.result (ap command_of w.in-Log.is) refl w.branch'-is c.in_ok-exchange.was w.self-is w.log.ensures
       | in-Cone w ↦ does_alone remaining contents source sink c.requires _ _ w.cone.result (ap command_of w.in-Cone.is) refl w.branch'-is c.in_ok-exchange.was w.self-is w.cone.ensures
       | in-Undo w ↦ does_alone remaining contents source sink c.requires _ _ w.undo.result (ap command_of w.in-Undo.is ∙ ap undo (sym w.deref-in-Undo.ensures.value)) refl w.branch'-is c.in_ok-exchange.was w.self-is w.undo.ensures
       | in-UndoCone w ↦ does_alone remaining contents source sink c.requires _ _ w.undo_cone.result (ap command_of w.in-UndoCone.is) refl w.branch'-is c.in_ok-exchange.was w.self-is w.undo_cone.ensures

@@ -2,6 +2,8 @@ use Rattle.std.proofs.Common.{◌≡◌, ◌+◌, ◌%◌, ◌^◌, true, List, 
 use Rattle.std.proofs.lemmas.List.{length-map}
 use Rattle.history.specs.Walks.{step_at}
 use Rattle.history.specs.Records.{State}
+use Rattle.erules.specs.OutboxView.{note_of}
+use Rattle.worldcells.specs.Events.{Noted, with_notes}
 use Rattle.worldcells.specs.EventView.{event_of}
 use Rattle.worldcells.specs.View.{is_ready}
 use Rattle.worldcells.specs.Theory.{cells, numbered, state_of_world, kept_of, kepts_of, all_pass}
@@ -31,7 +33,7 @@ returns-in_err-push-clause-err c =
 pub swap_entry-requires : goal.swap_entry-requires
 swap_entry-requires c =
     let xs = c.args.self.now.entries.items in
-    let e : Entry = record { event = c.args.deed.event; seat = c.args.deed.seat; mark = mark.Live; touched = c.in_ok-touched.touched; records = c.args.records } in
+    let e : Entry = record { event = c.args.deed.event; notes = c.args.deed.notes; seat = c.args.deed.seat; mark = mark.Live; touched = c.in_ok-touched.touched; records = c.args.records } in
     let room = is_ready c.make_rooms.new.world in
     let n : c.len-position.result ≡ length xs = omega arith in
     let here : all_pass room (item_of e).kept ≡ true = ap (λ l. all_pass room (kepts_of l)) (sym c.deref.ensures.value) ∙ c.in_ok-make_rooms.ensures.ok in
@@ -40,19 +42,20 @@ swap_entry-requires c =
 pub returns-clause-ok : goal.returns-clause-ok
 returns-clause-ok c =
     let xs = c.args.self.now.entries.items in
-    let e : Entry = record { event = c.args.deed.event; seat = c.args.deed.seat; mark = mark.Live; touched = c.in_ok-touched.touched; records = c.args.records } in
+    let e : Entry = record { event = c.args.deed.event; notes = c.args.deed.notes; seat = c.args.deed.seat; mark = mark.Live; touched = c.in_ok-touched.touched; records = c.args.records } in
     let n : c.len-position.result ≡ length xs = omega arith in
     let w = state_of c.args.self.now in
+    let event : Noted = with_notes (event_of c.args.deed.event) (map note_of c.args.deed.notes.items) in
     let lasts = c.in_ok-touched.ensures ∙ ap (λ (f : State cells). map (λ k. (k, (f k).1)) c.args.touched.now) (λ j k. numbered (c.make_rooms.ensures.seen j k)) in
     c.swap_entry.ensures.shown
     ∙ ap₂ (λ l v. step_at (swap_item true) c.len-position.result (map item_of l, v)) c.in_ok-push.ensures.items (λ j k. numbered (c.make_rooms.ensures.seen j k))
-    ∙ entered_is xs e (event_of c.args.deed.event) c.args.deed.seat c.args.touched.now (kepts_of c.args.records.items) w c.len-position.result n
-    (λ j. record { event = event_of c.args.deed.event; seat = c.args.deed.seat; live = true; lasts = lasts j; kept = kepts_of c.args.records.items })
+    ∙ entered_is xs e event c.args.deed.seat c.args.touched.now (kepts_of c.args.records.items) w c.len-position.result n
+    (λ j. record { event = event; seat = c.args.deed.seat; live = true; lasts = lasts j; kept = kepts_of c.args.records.items })
 
 pub returns-clause-counted : goal.returns-clause-counted
 returns-clause-counted c =
     let xs = c.args.self.now.entries.items in
-    let e : Entry = record { event = c.args.deed.event; seat = c.args.deed.seat; mark = mark.Live; touched = c.in_ok-touched.touched; records = c.args.records } in
+    let e : Entry = record { event = c.args.deed.event; notes = c.args.deed.notes; seat = c.args.deed.seat; mark = mark.Live; touched = c.in_ok-touched.touched; records = c.args.records } in
     let n : c.len-position.result ≡ length xs = omega arith in
     c.swap_entry.ensures.counted
     ∙ ap (λ k. (c.args.swaps.now + k) % 2 ^ 64) (ap₂ (λ l p. records_at (map item_of l) (p ∷ [])) c.in_ok-push.ensures.items n ∙ count_last xs e ∙ length-map c.args.records.items kept_of)

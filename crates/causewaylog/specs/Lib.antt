@@ -1,0 +1,4 @@
+pub mod Turns
+pub mod Live
+pub mod Facts
+pub mod Log

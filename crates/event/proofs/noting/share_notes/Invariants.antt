@@ -1,0 +1,6 @@
+use Rattle.std.proofs.Common.{◌≡◌, map, take}
+use Rattle.erules.specs.OutboxView.{note_of}
+use Rattle.event.proofs.noting.share_notes.Given as goal
+
+abbrev pub invariant-loop-note : goal.invariant-loop-note
+invariant-loop-note l = map note_of l.all.items ≡ map note_of (take l.note-index l.notes)
