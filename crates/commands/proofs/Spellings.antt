@@ -9,9 +9,9 @@ use Rattle.commands.specs.declared.command.LineFault.{LineFault}
 use Rattle.commands.specs.declared.numbers.PromiseName.{PromiseName}
 use Rattle.commands.specs.Words.{is_blank, is_bare, ends_blank, without_blanks, first_word, behind_word, words_in}
 use Rattle.commands.specs.Numbers.{number_of, message_named, promise_named, event_named, events_named, one_or_more}
-use Rattle.commands.specs.Commands.{Spelled, birth, ask, arrive, forward, learn, turn, step, run, enabled, show, journal, log, cone, undo, undo_cone, redo, exchange, is_vat_name, vat_named, log_of, are_vats, at_most, is_empty, of_message, of_event, of_events, learn_of, run_of, alone, exchange_of, ask_of, birth_of, formed, begun_by, is_skipped, spelled_by}
+use Rattle.commands.specs.Commands.{Spelled, birth, ask, arrive, forward, learn, turn, step, run, work, enabled, show, journal, log, cone, undo, undo_cone, redo, exchange, is_vat_name, vat_named, log_of, are_vats, at_most, is_empty, of_message, of_event, of_events, learn_of, run_of, from_one_to, work_with, work_of, alone, exchange_of, ask_of, birth_of, formed, begun_by, is_skipped, spelled_by}
 use Rattle.commands.specs.Inputs.{HasWords}
-use Rattle.commands.specs.Spells.{Spells, BeginsWithWord, BeginsCommand, spells_birth, spells_ask, spells_arrive, spells_forward, spells_turn, spells_learn, spells_run, spells_step, spells_enabled, spells_show, spells_journal, spells_log, spells_cone, spells_undo_cone, spells_undo, spells_redo, spells_exchange, LinesSpellCommands}
+use Rattle.commands.specs.Spells.{Spells, BeginsWithWord, BeginsCommand, spells_birth, spells_ask, spells_arrive, spells_forward, spells_turn, spells_learn, spells_run, spells_work, spells_step, spells_enabled, spells_show, spells_journal, spells_log, spells_cone, spells_undo_cone, spells_undo, spells_redo, spells_exchange, LinesSpellCommands}
 use Rattle.commands.proofs.Wording.{behind, blanks_gone, words_behind_blanks, words_cut}
 use Rattle.commands.proofs.WordTexts.{words_are_told}
 use Rattle.commands.proofs.WordCuts.{told_word, cut_word, told_command, cut_command, same_skipped}
@@ -107,6 +107,32 @@ spelled_learn line x w p has name n =
     ∙ ap (λ (t : Bool). formed (cond (t && true) (option_map (learn x) (promise_named w)) None)) name
     ∙ ap (λ (o : Option PromiseName). formed (option_map (learn x) o)) n
 
+-- a number of workers, and one of turns
+abbrev workers_in : List ℕ → Option ℕ
+workers_in w = option_and_then (from_one_to 64) (number_of w)
+
+abbrev turns_in : List ℕ → Option ℕ
+turns_in w = option_and_then (at_most 1000000) (number_of w)
+
+number_from_one : (limit : ℕ) (o : Option ℕ) (n : ℕ) → o ≡ Some n → 1 ≤ n → n ≤ limit → option_and_then (from_one_to limit) o ≡ Some n
+number_from_one limit o n e h k =
+    let one : nat_le 1 n ≡ true = grind (arith, h) in
+    let few : nat_le n limit ≡ true = grind (arith, k) in
+    ap (option_and_then (from_one_to limit)) e ∙ ap (λ t. cond (t && nat_le n limit) (Some n) None) one ∙ ap (λ t. cond t (Some n) None) few
+
+spelled_work : (line u v : List ℕ) (k n : ℕ) → HasWords line (codes "work" ∷ u ∷ v ∷ []) → workers_in u ≡ Some k → turns_in v ≡ Some n → spelled_by line ≡ Ok (Some (work k n))
+spelled_work line u v k n has workers turns =
+    let both = begun_words line (codes "work") (u ∷ v ∷ []) refl has in
+    let rest : List ℕ = rest_of line in
+    let first = first_of_words rest u (v ∷ []) (behind_bare (without_blanks line)) both.1 in
+    let last = one_word (behind_word rest) v (behind_bare rest) first.1 in
+    both.0
+    ∙ ap (λ (r : List ℕ). formed (cond (is_empty r) (work_with (workers_in (first_word rest)) (turns_in (first_word (behind_word rest)))) None)) last.1
+    ∙ ap (λ (y : List ℕ). formed (work_with (workers_in (first_word rest)) (turns_in y))) last.0
+    ∙ ap (λ (y : List ℕ). formed (work_with (workers_in y) (turns_in v))) (sym first.0)
+    ∙ ap (λ (o : Option ℕ). formed (work_with o (turns_in v))) workers
+    ∙ ap (λ (o : Option ℕ). formed (work_with (Some k) o)) turns
+
 spelled_ask : (line x more text : List ℕ) → BeginsCommand line (codes "ask") more → BeginsWithWord more x text → is_vat_name x ≡ true → spelled_by line ≡ Ok (Some (ask x text))
 spelled_ask line x more text begins named name =
     let both = told_command line (codes "ask") more begins in
@@ -137,6 +163,8 @@ spelled line command (spells_turn {w = w} {m = m} has n) = spelled_one message_n
 spelled line command (spells_learn {x = x} {w = w} {p = p} has name n) = spelled_learn line x w p has name n
 spelled line command (spells_run {w = w} {n = n} has e few) =
     spelled_one (λ u. option_and_then (at_most 1000000) (number_of u)) run line (codes "run") w n refl (λ rest. refl) has (number_within 1000000 (number_of w) n e few)
+spelled line command (spells_work {u = u} {v = v} {k = k} {n = n} has e some few i less) =
+    spelled_work line u v k n has (number_from_one 64 (number_of u) k e some few) (number_within 1000000 (number_of v) n i less)
 spelled line command (spells_step has) = spelled_alone step line (codes "step") refl (λ rest. refl) has
 spelled line command (spells_enabled has) = spelled_alone enabled line (codes "enabled") refl (λ rest. refl) has
 spelled line command (spells_show has) = spelled_alone show line (codes "show") refl (λ rest. refl) has
@@ -246,6 +274,39 @@ run_rule line w n has h =
     let few = few_is 1000000 is.0 n is.2 in
     subst (λ (m : ℕ). Spells line (run m)) few.1 (spells_run has is.1 few.0)
 
+number_some : (text : List ℕ) (n : ℕ) → number_of (first_word text) ≡ Some n → (length text == 0) ≡ false
+number_some [] n h = absurd (cc h)
+number_some (b ∷ bs) n h = some_byte b bs
+
+from_one_is : (limit n m : ℕ) → from_one_to limit n ≡ Some m → (1 ≤ n) × (n ≤ limit) × (n ≡ m)
+from_one_is limit n m h =
+    let all = chosen (nat_le 1 n && nat_le n limit) (Some n) m h in
+    let both = and_true (nat_le 1 n) (nat_le n limit) all.0 in
+    (grind (arith, both.0), grind (arith, both.1), cc all.1)
+
+worked_is : (o p : Option ℕ) (c : Spelled) → work_with o p ≡ Some c → (k : ℕ) × (n : ℕ) × (o ≡ Some k) × (p ≡ Some n) × (work k n ≡ c)
+worked_is None p c h = absurd (cc h)
+worked_is (Some k) None c h = absurd (cc h)
+worked_is (Some k) (Some n) c h = (k, n, refl, refl, cc h)
+
+work_back : (line : List ℕ) (c : Spelled) → HasWords line (codes "work" ∷ words_in (rest_of line)) → work_of (rest_of line) ≡ Some c → Spells line c
+work_back line c has h =
+    let rest : List ℕ = rest_of line in
+    let turns : List ℕ = behind_word rest in
+    let both = chosen (is_empty (behind_word turns)) (work_with (workers_in (first_word rest)) (turns_in (first_word turns))) c h in
+    let is = worked_is (workers_in (first_word rest)) (turns_in (first_word turns)) c both.1 in
+    let workers = then_is (from_one_to 64) (number_of (first_word rest)) is.0 is.2 in
+    let number = then_is (at_most 1000000) (number_of (first_word turns)) is.1 is.3 in
+    let some = from_one_is 64 workers.0 is.0 workers.2 in
+    let few = few_is 1000000 number.0 is.1 number.2 in
+    let last : words_in turns ≡ first_word turns ∷ [] =
+    words_cut turns (behind_bare rest) (number_some turns number.0 number.1) ∙ ap (λ (r : List ℕ). first_word turns ∷ words_in r) (nothing_is (behind_word turns) both.0) in
+    let all : words_in rest ≡ first_word rest ∷ first_word turns ∷ [] =
+    words_cut rest (behind_bare (without_blanks line)) (number_some rest workers.0 workers.1) ∙ ap (λ (ws : List (List ℕ)). first_word rest ∷ ws) last in
+    let rule : Spells line (work workers.0 number.0) =
+    spells_work (subst (λ (ws : List (List ℕ)). HasWords line (codes "work" ∷ ws)) all has) workers.1 some.0 some.1 number.1 few.0 in
+    subst (Spells line) (ap (λ (k : ℕ). work k number.0) some.2 ∙ ap (work is.0) few.1 ∙ is.4) rule
+
 named_is : (b : Bool) (w x : List ℕ) → ◌≡◌ {A = Option (List ℕ)} (cond b (Some w) None) (Some x) → (b ≡ true) × (w ≡ x)
 named_is true w x h = (refl, cc h)
 named_is false w x h = absurd (cc h)
@@ -281,15 +342,16 @@ found line c some e =
     branch (bytes_eq w (codes "turn")) (of_message turn r) _ c e5 (λ t h. one_back message_named turn line (codes "turn") c (λ v x k n. spells_turn k n) (has (codes "turn") t) refl h) (λ e6.
     branch (bytes_eq w (codes "step")) (alone step r) _ c e6 (λ t h. alone_back step line (codes "step") c (λ k. spells_step k) (has (codes "step") t) h) (λ e7.
     branch (bytes_eq w (codes "run")) (run_of r) _ c e7 (λ t h. one_back (λ u. option_and_then (at_most 1000000) (number_of u)) run line (codes "run") c (λ v x k n. run_rule line v x k n) (has (codes "run") t) refl h) (λ e8.
-    branch (bytes_eq w (codes "enabled")) (alone enabled r) _ c e8 (λ t h. alone_back enabled line (codes "enabled") c (λ k. spells_enabled k) (has (codes "enabled") t) h) (λ e9.
-    branch (bytes_eq w (codes "show")) (alone show r) _ c e9 (λ t h. alone_back show line (codes "show") c (λ k. spells_show k) (has (codes "show") t) h) (λ e10.
-    branch (bytes_eq w (codes "journal")) (alone journal r) _ c e10 (λ t h. alone_back journal line (codes "journal") c (λ k. spells_journal k) (has (codes "journal") t) h) (λ e11.
-    branch (bytes_eq w (codes "log")) (log_of r) _ c e11 (λ t h. one_back vat_named log line (codes "log") c (λ v x k n. log_rule line v x k n) (has (codes "log") t) refl h) (λ e12.
-    branch (bytes_eq w (codes "cone")) (of_event cone r) _ c e12 (λ t h. one_back event_named cone line (codes "cone") c (λ v x k n. spells_cone k n) (has (codes "cone") t) refl h) (λ e13.
-    branch (bytes_eq w (codes "undo")) (of_events undo r) _ c e13 (λ t h. events_back undo line (codes "undo") c (λ es v us k n. spells_undo k n) (has (codes "undo") t) h) (λ e14.
-    branch (bytes_eq w (codes "undo-cone")) (of_event undo_cone r) _ c e14 (λ t h. one_back event_named undo_cone line (codes "undo-cone") c (λ v x k n. spells_undo_cone k n) (has (codes "undo-cone") t) refl h) (λ e15.
-    branch (bytes_eq w (codes "redo")) (of_events redo r) _ c e15 (λ t h. events_back redo line (codes "redo") c (λ es v us k n. spells_redo k n) (has (codes "redo") t) h) (λ e16.
-    branch (bytes_eq w (codes "exchange")) (exchange_of r) _ c e16 (λ t h. one_back number_of exchange line (codes "exchange") c (λ v x k n. spells_exchange k n) (has (codes "exchange") t) refl h) (λ e17. absurd (cc e17))))))))))))))))))
+    branch (bytes_eq w (codes "work")) (work_of r) _ c e8 (λ t h. work_back line c (has (codes "work") t) h) (λ e9.
+    branch (bytes_eq w (codes "enabled")) (alone enabled r) _ c e9 (λ t h. alone_back enabled line (codes "enabled") c (λ k. spells_enabled k) (has (codes "enabled") t) h) (λ e10.
+    branch (bytes_eq w (codes "show")) (alone show r) _ c e10 (λ t h. alone_back show line (codes "show") c (λ k. spells_show k) (has (codes "show") t) h) (λ e11.
+    branch (bytes_eq w (codes "journal")) (alone journal r) _ c e11 (λ t h. alone_back journal line (codes "journal") c (λ k. spells_journal k) (has (codes "journal") t) h) (λ e12.
+    branch (bytes_eq w (codes "log")) (log_of r) _ c e12 (λ t h. one_back vat_named log line (codes "log") c (λ v x k n. log_rule line v x k n) (has (codes "log") t) refl h) (λ e13.
+    branch (bytes_eq w (codes "cone")) (of_event cone r) _ c e13 (λ t h. one_back event_named cone line (codes "cone") c (λ v x k n. spells_cone k n) (has (codes "cone") t) refl h) (λ e14.
+    branch (bytes_eq w (codes "undo")) (of_events undo r) _ c e14 (λ t h. events_back undo line (codes "undo") c (λ es v us k n. spells_undo k n) (has (codes "undo") t) h) (λ e15.
+    branch (bytes_eq w (codes "undo-cone")) (of_event undo_cone r) _ c e15 (λ t h. one_back event_named undo_cone line (codes "undo-cone") c (λ v x k n. spells_undo_cone k n) (has (codes "undo-cone") t) refl h) (λ e16.
+    branch (bytes_eq w (codes "redo")) (of_events redo r) _ c e16 (λ t h. events_back redo line (codes "redo") c (λ es v us k n. spells_redo k n) (has (codes "redo") t) h) (λ e17.
+    branch (bytes_eq w (codes "exchange")) (exchange_of r) _ c e17 (λ t h. one_back number_of exchange line (codes "exchange") c (λ v x k n. spells_exchange k n) (has (codes "exchange") t) refl h) (λ e18. absurd (cc e18)))))))))))))))))))
 
 -- a line that is skipped is read as no command
 text_some : (text : List ℕ) → is_skipped text ≡ false → (length text == 0) ≡ false

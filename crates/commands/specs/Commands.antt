@@ -23,6 +23,7 @@ pub data Spelled : Type 0 where
   turn : (m : MsgId) → Spelled
   step : Spelled
   run : (steps : ℕ) → Spelled
+  work : (workers turns : ℕ) → Spelled
   enabled : Spelled
   show : Spelled
   journal : Spelled
@@ -39,6 +40,9 @@ is_vat_name w = is_name w && nat_le (length w) 64
 
 abbrev pub at_most : ℕ → ℕ → Option ℕ
 at_most limit n = cond (nat_le n limit) (Some n) None
+
+abbrev pub from_one_to : ℕ → ℕ → Option ℕ
+from_one_to limit n = cond (nat_le 1 n && nat_le n limit) (Some n) None
 
 abbrev pub is_empty : List ℕ → Bool
 is_empty w = length w == 0
@@ -99,6 +103,17 @@ learn_of words =
 abbrev pub run_of : List ℕ → Option Spelled
 run_of words = cond (is_empty (behind_word words)) (option_map run (option_and_then (at_most 1000000) (number_of (first_word words)))) None
 
+abbrev pub work_with : Option ℕ → Option ℕ → Option Spelled
+work_with None turns = None
+work_with (Some workers) None = None
+work_with (Some workers) (Some turns) = Some (work workers turns)
+
+-- work K N
+abbrev pub work_of : List ℕ → Option Spelled
+work_of words =
+    let turns = behind_word words in
+    cond (is_empty (behind_word turns)) (work_with (option_and_then (from_one_to 64) (number_of (first_word words))) (option_and_then (at_most 1000000) (number_of (first_word turns)))) None
+
 -- a command without words
 abbrev pub alone : Spelled → List ℕ → Option Spelled
 alone command words = cond (is_empty words) (Some command) None
@@ -138,6 +153,7 @@ begun_by word words =
     (cond (bytes_eq word (codes "turn")) (formed (of_message turn words))
     (cond (bytes_eq word (codes "step")) (formed (alone step words))
     (cond (bytes_eq word (codes "run")) (formed (run_of words))
+    (cond (bytes_eq word (codes "work")) (formed (work_of words))
     (cond (bytes_eq word (codes "enabled")) (formed (alone enabled words))
     (cond (bytes_eq word (codes "show")) (formed (alone show words))
     (cond (bytes_eq word (codes "journal")) (formed (alone journal words))
@@ -146,7 +162,7 @@ begun_by word words =
     (cond (bytes_eq word (codes "undo")) (formed (of_events undo words))
     (cond (bytes_eq word (codes "undo-cone")) (formed (of_event undo_cone words))
     (cond (bytes_eq word (codes "redo")) (formed (of_events redo words))
-    (cond (bytes_eq word (codes "exchange")) (formed (exchange_of words)) (Err UnknownCommand)))))))))))))))))
+    (cond (bytes_eq word (codes "exchange")) (formed (exchange_of words)) (Err UnknownCommand))))))))))))))))))
 
 -- a blank line or a comment is no command
 abbrev pub is_skipped : List ℕ → Bool
@@ -169,6 +185,7 @@ command_of (code.Learn name p) = learn name.now p
 command_of (code.Turn m) = turn m
 command_of code.Step = step
 command_of (code.Run steps) = run steps
+command_of (code.Work workers turns) = work workers turns
 command_of code.Enabled = enabled
 command_of code.Show = show
 command_of code.Journal = journal

@@ -6,7 +6,7 @@ use Rattle.commands.specs.Words.{is_blank, is_bare, ends_blank}
 use Rattle.commands.specs.Inputs.{IsWord, HasWords}
 use Rattle.commands.specs.Numbers.{number_of, message_named, promise_named, event_named, events_named}
 use Rattle.commands.specs.declared.numbers.PromiseName.{PromiseName}
-use Rattle.commands.specs.Commands.{Spelled, birth, ask, arrive, forward, learn, turn, step, run, enabled, show, journal, log, cone, undo, undo_cone, redo, exchange, is_vat_name, are_vats, spelled_by}
+use Rattle.commands.specs.Commands.{Spelled, birth, ask, arrive, forward, learn, turn, step, run, work, enabled, show, journal, log, cone, undo, undo_cone, redo, exchange, is_vat_name, are_vats, spelled_by}
 
 -- blanks alone
 abbrev pub AreBlanks : List ℕ → Type 0
@@ -42,6 +42,9 @@ pub data Spells : List ℕ → Spelled → Type 0 where
   spells_log : {line x : List ℕ} → HasWords line (codes "log" ∷ x ∷ []) → is_vat_name x ≡ true → Spells line (log x)
   -- run K
   spells_run : {line w : List ℕ} {n : ℕ} → HasWords line (codes "run" ∷ w ∷ []) → number_of w ≡ Some n → n ≤ 1000000 → Spells line (run n)
+  -- work K N
+  spells_work : {line u v : List ℕ} {k n : ℕ} → HasWords line (codes "work" ∷ u ∷ v ∷ []) → number_of u ≡ Some k → 1 ≤ k → k ≤ 64
+      → number_of v ≡ Some n → n ≤ 1000000 → Spells line (work k n)
   -- those that stand alone
   spells_step : {line : List ℕ} → HasWords line (codes "step" ∷ []) → Spells line step
   spells_enabled : {line : List ℕ} → HasWords line (codes "enabled" ∷ []) → Spells line enabled

@@ -4,7 +4,7 @@ ghost use Rattle.std.specs.Option.{option_map, option_and_then};
 ghost use Rattle.commands.specs.Numbers.{number_of};
 ghost use Rattle.ids.specs.declared.names.EventName.{EventName};
 ghost use Rattle.ids.specs.declared.names.MsgId.{MsgId};
-ghost use Rattle.commands.specs.Commands.{Spelled, is_vat_name, at_most, is_among, are_vats, earlier_of, lines_of, birth_of, ask_of, arrive, forward, learn_of, turn, step, run_of, enabled, show, journal, log_of, cone, undo, undo_cone, redo, exchange, exchange_of, alone, of_message, of_event, of_events, is_skipped, begun_by, spelled_by, command_of, reading_of, fault_text};
+ghost use Rattle.commands.specs.Commands.{Spelled, is_vat_name, at_most, from_one_to, is_among, are_vats, earlier_of, lines_of, birth_of, ask_of, arrive, forward, learn_of, turn, step, run_of, work_of, enabled, show, journal, log_of, cone, undo, undo_cone, redo, exchange, exchange_of, alone, of_message, of_event, of_events, is_skipped, begun_by, spelled_by, command_of, reading_of, fault_text};
 
 use crate::numbers::{
     PromiseName, behind_tag, event_named, events_named, message_named, number, promise_named,
@@ -25,6 +25,11 @@ const LONGEST_NAME: usize = 64;
 
 /// The most steps that may be commanded at once.
 const MOST_STEPS: u32 = 1_000_000;
+
+/// The most workers that may be commanded at once, and the most turns of theirs.
+const MOST_WORKERS: u32 = 64;
+
+const MOST_TURNS: u32 = 1_000_000;
 
 /// A command.
 #[derive(Drop)]
@@ -52,6 +57,11 @@ pub enum Command<'a> {
     Step,
     /// So many steps, one after another.
     Run(u32),
+    /// So many workers are to do what may be done, until so many turns were taken.
+    Work {
+        workers: u32,
+        turns: u32,
+    },
     /// All that may happen is to be listed.
     Enabled,
     Show,
@@ -265,6 +275,35 @@ fn run(words: &str) -> Option<Command<'_>>
     Some(Command::Run(step_count(count)?))
 }
 
+/// A number of workers: one at least.
+fn worker_count(word: &str) -> Option<u32>
+    ensures { result ≡ option_and_then (from_one_to 64) (number_of word.now) }
+{
+    let count = number(word)?;
+    (count >= 1 && count <= MOST_WORKERS).then_some(count)
+}
+
+/// A number of turns.
+fn turn_count(word: &str) -> Option<u32>
+    ensures { result ≡ option_and_then (at_most 1000000) (number_of word.now) }
+{
+    let count = number(word)?;
+    (count <= MOST_TURNS).then_some(count)
+}
+
+fn work(words: &str) -> Option<Command<'_>>
+    ensures { option_map command_of result ≡ work_of words.now }
+{
+    let (workers, behind) = cut_word(words);
+    let (turns, end) = cut_word(behind);
+    if !end.is_empty() {
+        return None;
+    }
+    let workers = worker_count(workers)?;
+    let turns = turn_count(turns)?;
+    Some(Command::Work { workers, turns })
+}
+
 fn enabled(words: &str) -> Option<Command<'_>>
     ensures { option_map command_of result ≡ alone enabled words.now }
 {
@@ -369,6 +408,7 @@ fn begun_by<'a>(alloc: Global, word: &str, words: &'a str) -> Result<Said<'a>, A
         "turn" => turn(words),
         "step" => step(words),
         "run" => run(words),
+        "work" => work(words),
         "enabled" => enabled(words),
         "show" => show(words),
         "journal" => journal(words),
