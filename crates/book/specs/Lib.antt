@@ -1,8 +1,9 @@
-pub mod Books
-pub mod Refusals
-pub mod Calls
-pub mod Fault
-pub mod Standing
 pub mod BookView
+pub mod Books
+pub mod Calls
+pub mod Entered
+pub mod Fault
 pub mod Good
 pub mod Learning
+pub mod Refusals
+pub mod Standing

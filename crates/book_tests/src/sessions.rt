@@ -4,7 +4,7 @@ use std::alloc::Global;
 use std::io;
 use std::io::Read;
 use std::process::Abort;
-use stepper::{Fault, Limits, Summary, run};
+use stepper::{Fault, Limits, Nobody, Summary, run};
 use streams::lines::Lines;
 use streams::outlet::Outlet;
 
@@ -37,7 +37,7 @@ fn replies<R: Read + Drop>(alloc: Global, commands: R) -> Result<(Vec<u8>, Summa
     };
     let mut source = Lines::new(alloc, commands)?;
     let mut sink = Outlet::new(alloc, Vec::new(alloc));
-    let summary = run(alloc, &mut source, &mut sink, limits)?;
+    let summary = run(alloc, &mut source, &mut sink, limits, &mut Nobody)?;
     Ok((sink.into_writer(), summary))
 }
 

@@ -3,7 +3,7 @@
 use std::io;
 use std::io::{Error, ErrorKind, Read, Write};
 use std::process::Abort;
-use stepper::{Fault, Limits, Summary, run};
+use stepper::{Fault, Limits, Nobody, Summary, run};
 use streams::lines::Lines;
 use streams::outlet::Outlet;
 
@@ -100,7 +100,7 @@ pub(crate) fn told(rt: &(impl Abort + AllocGlobal), input: Drip<'_>, output: Tap
     };
     let mut source = Lines::new(alloc, input).expect(rt, "no memory");
     let mut sink = Outlet::new(alloc, output);
-    let ended = ending_of(run(alloc, &mut source, &mut sink, limits));
+    let ended = ending_of(run(alloc, &mut source, &mut sink, limits, &mut Nobody));
     let reads = source.failures();
     let writes = sink.failures();
     let taken = sink.into_writer().taken;

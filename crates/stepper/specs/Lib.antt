@@ -1,13 +1,14 @@
+pub mod Crew
 pub mod Ended
 pub mod Engine
 pub mod Fault
 pub mod Laws
 pub mod Listing
 pub mod ListingView
-pub mod Steps
 pub mod Replies
 pub mod Runs
 pub mod Show
 pub mod ShowView
+pub mod Steps
 pub mod Taking
 pub mod Written

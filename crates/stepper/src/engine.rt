@@ -15,6 +15,7 @@ ghost use Rattle.stepper.specs.Taking.{Does, StopsWithin, AnswersLine, StopsLine
 ghost use Rattle.stepper.specs.Runs.{RunsToEnd, RunsTo};
 ghost use Rattle.stepper.specs.declared.fault.Fault.TheVariants.{Writer};
 
+use crate::crew::{Crew, Order};
 use crate::fault::Fault;
 use crate::input::{next_line, take_script};
 use crate::reply::Written;
@@ -31,6 +32,7 @@ use ids::text::Text;
 use kernele::tree::Program;
 use std::alloc::{AllocError, Global};
 use std::io::{Read, Write};
+use std::mem;
 use streams::line::Line;
 use streams::lines::Lines;
 use streams::outlet::Outlet;
@@ -44,7 +46,7 @@ pub const STACK: usize = 256 << 20;
 pub struct Limits {
     /// The most steps of a turn, from 1 to 1,000,000.
     pub budget: u32,
-    /// The most workers, from 1 to 64. No command of this version starts one.
+    /// The most workers that a command may start, from 1 to 64.
     pub workers: u32,
 }
 
@@ -61,6 +63,8 @@ struct Engine {
     alloc: Global,
     /// The most steps of a turn.
     budget: u32,
+    /// The most workers.
+    workers: u32,
     book: Book,
     written: Written,
 }
@@ -191,6 +195,24 @@ impl Engine {
         Ok(())
     }
 
+    /// Hands the book to the crew, and takes it back.
+    fn work<C: Crew>(&mut self, crew: &mut C, workers: u32, turns: u32) -> Result<(), AllocError>
+        ensures { OnOk result (Happens self.old self.new (λ b r s d. Answers self.old.budget b (commands.work workers turns) r s d)) }
+    {
+        let order = Order {
+            budget: self.budget,
+            workers: workers.min(self.workers),
+            turns,
+        };
+        let book = mem::replace(&mut self.book, Book::new(self.alloc));
+        let (book, answer) = crew.work(self.alloc, book, order);
+        self.book = book;
+        match answer {
+            Ok(turns) => self.written.worked(turns),
+            Err(fault) => self.written.refuse_work(fault),
+        }
+    }
+
     fn enabled(&mut self) -> Result<(), AllocError>
         ensures { OnOk result (Happens self.old self.new (λ b r s d. Answers self.old.budget b commands.enabled r s d)) }
     {
@@ -314,11 +336,12 @@ impl Engine {
     }
 
     /// Answers a command, whose script is taken from the lines behind it.
-    fn answer<R: Read, W: Write>(
+    fn answer<R: Read, W: Write, C: Crew>(
         &mut self,
         command: Command,
         source: &mut Lines<R>,
         sink: &mut Outlet<W>,
+        crew: &mut C,
     ) -> Result<(), Fault>
         requires { IsSound R.remaining source.old }
         ensures { MatchResult result (λ _. Does R.remaining W.contents self.old self.new source.old source.new sink.old sink.new (Ok (Some (command_of command.entry)))) (StopsWithin R.remaining W.contents source.old source.new sink.old sink.new (script_lines (Ok (Some (command_of command.entry))))) }
@@ -339,6 +362,7 @@ impl Engine {
             Command::Turn(message) => self.obey(Step::Turn(message)),
             Command::Step => self.step(),
             Command::Run(most) => self.run(most),
+            Command::Work { workers, turns } => self.work(crew, workers, turns),
             Command::Enabled => self.enabled(),
             Command::Show => self.show(),
             Command::Journal => self.journal(),
@@ -353,18 +377,19 @@ impl Engine {
     }
 
     /// Answers what a line says.
-    fn answer_said<R: Read, W: Write>(
+    fn answer_said<R: Read, W: Write, C: Crew>(
         &mut self,
         says: Result<Option<Command>, LineFault>,
         source: &mut Lines<R>,
         sink: &mut Outlet<W>,
+        crew: &mut C,
     ) -> Result<(), Fault>
         requires { IsSound R.remaining source.old }
         ensures { MatchResult result (λ _. Does R.remaining W.contents self.old self.new source.old source.new sink.old sink.new (reading_of says.entry)) (StopsWithin R.remaining W.contents source.old source.new sink.old sink.new (script_lines (reading_of says.entry))) }
     {
         match says {
             Ok(spelled) => match spelled {
-                Some(command) => self.answer(command, source, sink),
+                Some(command) => self.answer(command, source, sink, crew),
                 None => Ok(()),
             },
             Err(fault) => {
@@ -375,11 +400,12 @@ impl Engine {
     }
 
     /// Answers the command that a line begins: its reply stands alone in `written` then.
-    fn answer_line<R: Read, W: Write>(
+    fn answer_line<R: Read, W: Write, C: Crew>(
         &mut self,
         line: &Line,
         source: &mut Lines<R>,
         sink: &mut Outlet<W>,
+        crew: &mut C,
     ) -> Result<(), Fault>
         requires { IsSound R.remaining source.old }
         ensures { (bytes : List ℕ) → Reads line.now bytes → IsOneLine bytes (is_ended source.old) → MatchResult result
@@ -390,17 +416,18 @@ impl Engine {
         match text_of(line.text.as_slice(), line.is_long) {
             Ok(text) => {
                 let says = command_of(self.alloc, text)?;
-                self.answer_said(says, source, sink)
+                self.answer_said(says, source, sink, crew)
             }
-            Err(fault) => self.answer_said(Err(fault), source, sink),
+            Err(fault) => self.answer_said(Err(fault), source, sink, crew),
         }
     }
 
     /// Answers all commands.
-    fn answer_all<R: Read, W: Write>(
+    fn answer_all<R: Read, W: Write, C: Crew>(
         &mut self,
         source: &mut Lines<R>,
         sink: &mut Outlet<W>,
+        crew: &mut C,
     ) -> Result<(), Fault>
         requires blank { book_of self.old.book ≡ blank }
         requires none_refused { self.old.written.refused ≡ false }
@@ -411,7 +438,7 @@ impl Engine {
     {
         'commands: for _ in 0..u64::MAX {
             match next_line(source, sink)? {
-                Some(line) => self.answer_line(&line, source, sink)?,
+                Some(line) => self.answer_line(&line, source, sink, crew)?,
                 None => return Ok(()),
             }
             sink.give(self.written.text.as_bytes())?;
@@ -432,16 +459,18 @@ fn texts(alloc: Global, names: &[&str]) -> Result<Vec<Text>, AllocError>
     Ok(texts)
 }
 
-/// Answers the commands of a source one after another: each before it reads past the block that holds it.
+/// Answers the commands of a source one after another: each before it reads past the block that holds it. Only for `work` it hands the book to
+/// the crew.
 ///
 /// # Errors
 /// `Reader` where a read failed: the commands that were read whole are answered. `Writer` where a write failed: a beginning of
 /// the replies went out. `Memory` where there was none for a line or a reply: just the commands before it are answered.
-pub fn run<R: Read, W: Write>(
+pub fn run<R: Read, W: Write, C: Crew>(
     alloc: Global,
     source: &mut Lines<R>,
     sink: &mut Outlet<W>,
     limits: Limits,
+    crew: &mut C,
 ) -> Result<Summary, Fault>
     requires { IsSound R.remaining source.old }
     ensures ok { IfOk result (λ summary. RunsToEnd R.remaining W.contents limits.budget source.old source.new sink.old sink.new summary.refused) }
@@ -451,10 +480,11 @@ pub fn run<R: Read, W: Write>(
     let mut engine = Engine {
         alloc,
         budget: limits.budget,
+        workers: limits.workers,
         book: Book::new(alloc),
         written: Written::new(alloc),
     };
-    match engine.answer_all(source, sink) {
+    match engine.answer_all(source, sink, crew) {
         Ok(()) => {
             sink.send()?;
             Ok(Summary {

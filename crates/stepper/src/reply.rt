@@ -7,12 +7,14 @@ ghost use Rattle.deliveries.specs.Outcomes.{told_of};
 ghost use Rattle.commands.specs.Commands.{fault_text};
 ghost use Rattle.stepper.specs.Replies.{refused, queued_text, done_text, idle_text, turned_text, told_text, undone_text, redone_text, exchanged_text, logged_text};
 ghost use Rattle.stepper.specs.Listing.{journal_text, cone_text};
+ghost use Rattle.stepper.specs.Crew.{worked_text, work_fault_text};
 ghost use Rattle.journal.specs.Items.{item_of};
 ghost use Rattle.journal.specs.Lines.{lines_of};
 ghost use Rattle.causality.specs.Journals.{IsJournal};
 ghost use Rattle.stepper.specs.Show.{Shows};
 ghost use Rattle.stepper.specs.Steps.{ShowsEnabled};
 
+use crate::crew::WorkFault;
 use crate::enabled::write_enabled;
 use crate::listing::{write_cone, write_journal};
 use crate::show::write_world;
@@ -154,6 +156,14 @@ impl Written {
         write!(out, "{text}\n")
     }
 
+    /// Workers took turns, of which so many were entered.
+    pub(crate) fn worked(&mut self, turns: u64) -> Result<(), AllocError>
+        ensures { OnOk result (Adds self.old self.new (worked_text turns) false) }
+    {
+        let out = &mut self.text;
+        write!(out, "ok work {turns}\n")
+    }
+
     /// The events of a cone are named.
     pub(crate) fn cone(&mut self, events: &[EventName]) -> Result<(), AllocError>
         ensures { OnOk result (Adds self.old self.new (cone_text events.now) false) }
@@ -203,6 +213,14 @@ impl Written {
 
     pub(crate) fn refuse_call(&mut self, fault: &BookFault) -> Result<(), AllocError>
         ensures { OnOk result (Adds self.old self.new (refused (book_fault.fault_text fault.now)) true) }
+    {
+        self.refused = true;
+        let out = &mut self.text;
+        write!(out, "no {fault}\n")
+    }
+
+    pub(crate) fn refuse_work(&mut self, fault: WorkFault) -> Result<(), AllocError>
+        ensures { OnOk result (Adds self.old self.new (refused (work_fault_text fault)) true) }
     {
         self.refused = true;
         let out = &mut self.text;

@@ -5,7 +5,7 @@ use std::alloc::Global;
 use std::io;
 use std::io::Read;
 use std::process::Abort;
-use stepper::{Fault, Limits, Summary, run};
+use stepper::{Fault, Limits, Nobody, Summary, run};
 use streams::lines::Lines;
 use streams::outlet::Outlet;
 
@@ -67,7 +67,7 @@ pub(crate) fn replies<R: Read + Drop>(
 ) -> Result<(Vec<u8>, Summary), Fault> {
     let mut source = Lines::new(alloc, commands)?;
     let mut sink = Outlet::new(alloc, Vec::new(alloc));
-    let summary = run(alloc, &mut source, &mut sink, limits)?;
+    let summary = run(alloc, &mut source, &mut sink, limits, &mut Nobody)?;
     Ok((sink.into_writer(), summary))
 }
 

@@ -7,7 +7,7 @@ use Rattle.stepper.specs.Taking.{StopsWithin}
 use Rattle.stepper.proofs.Answered.{on_ok, happens_as}
 use Rattle.stepper.proofs.Doing.{does_alone, does_born, out_here, out_born}
 use Rattle.stepper.proofs.engine.Engine.answer.Goals as goal
-use Rattle.stepper.proofs.engine.Engine.answer.Goals.{in-Ask, in-Arrive, in-Forward, in-Learn, in-Turn, in-Step, in-Run, in-Enabled, in-Show, in-Journal, in-Log, in-Cone, in-Undo, in-UndoCone, in-Redo, in-Exchange}
+use Rattle.stepper.proofs.engine.Engine.answer.Goals.{in-Ask, in-Arrive, in-Forward, in-Learn, in-Turn, in-Step, in-Run, in-Work, in-Enabled, in-Show, in-Journal, in-Log, in-Cone, in-Undo, in-UndoCone, in-Redo, in-Exchange}
 
 pub returns-in-Birth : goal.returns-in-Birth
 returns-in-Birth g c =
@@ -28,6 +28,7 @@ returns g c =
       | in-Turn w ↦ does_alone remaining contents source sink c.requires _ _ w.obey-in-Turn.result (ap command_of w.in-Turn.is) refl w.branch'-is c.in_ok-exchange.was w.self-is (on_ok w.obey-in-Turn.result (happens_as (λ b r s d k. turn_moves k)) w.obey-in-Turn.ensures)
       | in-Step w ↦ does_alone remaining contents source sink c.requires _ _ w.step.result (ap command_of w.in-Step.is) refl w.branch'-is c.in_ok-exchange.was w.self-is w.step.ensures
       | in-Run w ↦ does_alone remaining contents source sink c.requires _ _ w.run.result (ap command_of w.in-Run.is) refl w.branch'-is c.in_ok-exchange.was w.self-is w.run.ensures
+      | in-Work w ↦ does_alone remaining contents source sink c.requires _ _ w.work.result (ap command_of w.in-Work.is) refl w.branch'-is c.in_ok-exchange.was w.self-is w.work.ensures
       | in-Enabled w ↦ does_alone remaining contents source sink c.requires _ _ w.enabled.result (ap command_of w.in-Enabled.is) refl w.branch'-is c.in_ok-exchange.was w.self-is w.enabled.ensures
       | in-Show w ↦ does_alone remaining contents source sink c.requires _ _ w.show.result (ap command_of w.in-Show.is) refl w.branch'-is c.in_ok-exchange.was w.self-is w.show.ensures
       | in-Journal w ↦ does_alone remaining contents source sink c.requires _ _ w.journal.result (ap command_of w.in-Journal.is) refl w.branch'-is c.in_ok-exchange.was w.self-is w.journal.ensures

@@ -1,0 +1,68 @@
+//! Who does what may be done in a book, for the command `work`.
+ghost use Rattle.std.specs.Prelude.{Some};
+ghost use Rattle.stepper.specs.Crew.{work_fault_text};
+
+use book::book::Book;
+use std::alloc::Global;
+use std::fmt;
+use std::fmt::{Debug, Display, Formatter, Write};
+use thiserror::Error;
+
+/// Why no work was done.
+#[derive(Clone, Copy, Error)]
+pub enum WorkFault {
+    /// No worker could be started.
+    NoWorker,
+    /// Turns may not have so many steps.
+    BadBudget,
+    Memory,
+}
+
+impl Display for WorkFault {
+    ghost output = { λ fault. Some (work_fault_text fault) };
+
+    fn fmt<W: Write>(&self, f: &mut Formatter<W>) -> fmt::Result {
+        f.write_str(match self {
+            WorkFault::NoWorker => "S7 NoWorker",
+            WorkFault::BadBudget => "B19 BadBudget",
+            WorkFault::Memory => "B20 Memory",
+        })
+    }
+}
+
+impl Debug for WorkFault {
+    fn fmt<W: Write>(&self, f: &mut Formatter<W>) -> fmt::Result {
+        Display::fmt(self, f)
+    }
+}
+
+/// What the command `work` asks for.
+#[derive(Clone, Copy)]
+pub struct Order {
+    /// The most steps of a turn.
+    pub budget: u32,
+    /// How many workers are to be started.
+    pub workers: u32,
+    /// The most turns that they may take.
+    pub turns: u32,
+}
+
+/// Takes the book for `work`, and gives it back. It alone may wait.
+pub trait Crew {
+    ghost use Rattle.book.specs.BookView.{book_of};
+    ghost use Rattle.book.specs.Entered.{entered_in, IsAmong};
+
+    /// Has workers do what may be done in a book, until so many turns were taken or nothing may be done. Answers the book, with how many
+    /// of their turns were entered.
+    fn work(&mut self, alloc: Global, book: Book, order: Order) -> (Book, Result<u64, WorkFault>)
+        ensures { IsAmong (entered_in (book_of book).journal) (entered_in (book_of result.0).journal) };
+}
+
+/// A crew of nobody: no worker can be started.
+pub struct Nobody;
+
+impl Crew for Nobody {
+    fn work(&mut self, _alloc: Global, book: Book, _order: Order) -> (Book, Result<u64, WorkFault>) {
+        (book, Err(WorkFault::NoWorker))
+    }
+}
