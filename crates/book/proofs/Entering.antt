@@ -132,8 +132,8 @@ pub quiet_does : {e : Event} {f : Foot} {w : World} {it : Effects} → Happens e
 quiet_does {e = e} {f = f} {w = w} h quiet = subst (λ (ns : List Note). ∥ DoesNoted (with_notes e (map note_of ns)) w f ∥₁) quiet h.does
 
 -- an event is entered under the next name, without notes
-module _ (old now : Core) (next : ℕ) (out : List Lent) (e : Event) (touched : List CellKey) (kept : Record cells) (f : Foot)
-    (brings : Brings e.name f touched kept) (is : shown now ≡ entered (with_notes e []) 0 touched kept (shown old)) (name : e.name.0 ≡ next) (h : Stands old next out) (does : ∥ DoesNoted (with_notes e []) (contents cells (state_of old)) f ∥₁) where
+module _ (old now : Core) (next : ℕ) (out : List Lent) (e : Event) (seat : ℕ) (touched : List CellKey) (kept : Record cells) (f : Foot)
+    (brings : Brings e.name f touched kept) (is : shown now ≡ entered (with_notes e []) seat touched kept (shown old)) (name : e.name.0 ≡ next) (h : Stands old next out) (does : ∥ DoesNoted (with_notes e []) (contents cells (state_of old)) f ∥₁) where
   drawn_lt : e.name.0 < next + 1
   drawn_lt = omega (arith, name)
 
@@ -144,14 +144,14 @@ module _ (old now : Core) (next : ℕ) (out : List Lent) (e : Event) (touched : 
   next_free k = free_from noted_events e.name.0 next (entries_of k.rows) k.stands.stands.named.below (omega (arith, name))
 
   pub next_stands : Stands now (next + 1) out
-  next_stands = book_stands old now next (next + 1) out (with_notes e []) 0 touched kept f brings is next_le drawn_lt h does next_free out (λ k d.
-      kept_entered old now next (next + 1) out (with_notes e []) 0 touched kept f brings is next_le drawn_lt k d (next_free k) out k.free
+  next_stands = book_stands old now next (next + 1) out (with_notes e []) seat touched kept f brings is next_le drawn_lt h does next_free out (λ k d.
+      kept_entered old now next (next + 1) out (with_notes e []) seat touched kept f brings is next_le drawn_lt k d (next_free k) out k.free
       (all_map _ _ out (λ t lt same. omega (arith, lt, same, name)) k.drawn) (all_map _ _ out (λ t lt. omega (arith, lt)) k.drawn) k.apart)
 
-  pub next_enters : EntersNext e f 0 (book_with old next out) (book_with now (next + 1) out)
+  pub next_enters : EntersNext e f seat (book_with old next out) (book_with now (next + 1) out)
   next_enters = record {
     named = name;
     drawn = refl;
     same_out = refl;
-    enters = book_enters old now next (next + 1) out (with_notes e []) 0 touched kept f brings is next_le drawn_lt h does next_free (next + 1) out;
+    enters = book_enters old now next (next + 1) out (with_notes e []) seat touched kept f brings is next_le drawn_lt h does next_free (next + 1) out;
   }

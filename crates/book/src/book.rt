@@ -1,5 +1,5 @@
 // The book: the world, the journal that made it, the names that are not drawn yet, and the tickets that are out.
-ghost use Rattle.std.specs.Prelude.{◌≡◌, ◌≢◌, ◌≤◌, ◌+◌, ◌↔◌, [], List, Option, None, Some, true, false, IsTrue, IfOk, IfErr, IfSome, OnOk, OnErr, length, filter, map, not};
+ghost use Rattle.std.specs.Prelude.{◌≡◌, ℕ, ◌≢◌, ◌≤◌, ◌+◌, ◌↔◌, [], All, List, Option, None, Some, true, false, IsTrue, IfOk, IfErr, IfSome, OnOk, OnErr, length, filter, map, not};
 ghost use Rattle.std.specs.Option.{option_map, ForSome};
 ghost use Rattle.history.specs.Records.{contents};
 ghost use Rattle.history.specs.Chains.{last_writer};
@@ -46,6 +46,7 @@ ghost use Rattle.book.specs.declared.book.TheConstants.{MOST_ENTRIES};
 ghost use Rattle.book.specs.declared.fault.BookFault.TheVariants.{NoTicket, Stale, Full, Memory};
 
 use crate::fault::BookFault;
+use crate::seats::greatest_seat;
 use crate::selecting::{check_cone, check_exchange, check_redo, check_undo};
 use agenda::agenda::{Agenda, Step};
 use causality::cone::cone;
@@ -89,7 +90,7 @@ pub const MOST_ENTRIES: usize = 1_048_576;
 const MOST_STEPS: u32 = 1_000_000;
 
 /// The seat of events that are entered from none.
-const NO_SEAT: u64 = 0;
+pub(crate) const NO_SEAT: u64 = 0;
 
 /// A turn that was run: its event's name, and how it ended.
 #[derive(Drop)]
@@ -296,6 +297,17 @@ impl Book {
         self.core.entries()
     }
 
+    /// The greatest seat of an entry or of a ticket that is out; 0 where there is none.
+    pub fn greatest_seat(&self) -> u64
+        ensures entries { All (λ l. l.seat ≤ result) (book_of self.now).journal }
+        ensures tickets { All (λ t. t.seat ≤ result) (book_of self.now).out }
+        ensures least { (n : ℕ) → All (λ l. l.seat ≤ n) (book_of self.now).journal → All (λ t. t.seat ≤ n) (book_of self.now).out → result ≤ n }
+    {
+        let entered = greatest_seat(self.core.entries());
+        let lent = self.desk.greatest_seat();
+        if entered < lent { lent } else { entered }
+    }
+
     /// The name that the next event is given.
     fn next_event(&self) -> Result<EventName, BookFault>
         ensures ok { IfOk result (λ e. (e.0 ≡ self.now.next) × (self.now.next ≤ 4294967295) × (full_refusal (book_of self.now) ≡ None)) }
@@ -307,14 +319,14 @@ impl Book {
         Ok(EventName(self.next))
     }
 
-    /// Enters an event that is possible and makes no notes under the next name, or changes nothing.
-    fn enter(&mut self, event: Event, effects: Effects) -> Result<(), AllocError>
+    /// Enters an event that is possible and makes no notes under the next name, from a seat, or changes nothing.
+    fn enter(&mut self, event: Event, seat: u64, effects: Effects) -> Result<(), AllocError>
         requires named { event.name.0 ≡ self.old.next }
         requires in_range { self.old.next ≤ 4294967295 }
         requires room { full_refusal (book_of self.old) ≡ None }
         requires possible { (f : Foot) × Happens (event_of event) f (book_of self.old).world effects }
         requires quiet { effects.notes.items ≡ [] }
-        ensures ok { OnOk result ((f : Foot) → Happens (event_of event) f (book_of self.old).world effects → EntersNext (event_of event) f 0 (book_of self.old) (book_of self.new)) }
+        ensures ok { OnOk result ((f : Foot) → Happens (event_of event) f (book_of self.old).world effects → EntersNext (event_of event) f seat (book_of self.old) (book_of self.new)) }
         ensures unchanged { OnErr result (book_of self.new ≡ book_of self.old) }
     {
         let Effects {
@@ -322,11 +334,7 @@ impl Book {
             records,
             notes,
         } = effects;
-        let deed = Deed {
-            event,
-            notes,
-            seat: NO_SEAT,
-        };
+        let deed = Deed { event, notes, seat };
         self.core
             .enter(self.alloc, deed, &touched, records, &mut Swaps::none())?;
         self.next += 1;
@@ -387,18 +395,19 @@ impl Book {
         Ok(numbers)
     }
 
-    /// A new vat, with its script as its opening message.
+    /// A new vat, with its script as its opening message, from a seat.
     ///
     /// # Errors
     /// `NameTaken`, a fault of the check, `Full`, `Memory`, tried in this order.
-    pub fn birth(
+    pub fn birth_as(
         &mut self,
         name: &Text,
         earlier: Vec<Text>,
         script: Program,
+        seat: u64,
     ) -> Result<EventName, BookFault>
         ensures ok { IfOk result (λ e. (birth_refusal (book_of self.old) name.now earlier.items (program_of script) ≡ None)
-            × ((vats : List VatModel) × EntersNext (record { name = e; act = birth name.now earlier.items (program_of script) }) (birth_foot e name.now earlier.items vats (program_of script)) 0 (book_of self.old) (book_of self.new))) }
+            × ((vats : List VatModel) × EntersNext (record { name = e; act = birth name.now earlier.items (program_of script) }) (birth_foot e name.now earlier.items vats (program_of script)) seat (book_of self.old) (book_of self.new))) }
         ensures err { IfErr result (λ fault. Tells fault (birth_refusal (book_of self.old) name.now earlier.items (program_of script))) }
         ensures unchanged { OnErr result (book_of self.new ≡ book_of self.old) }
     {
@@ -410,6 +419,7 @@ impl Book {
                 name: event,
                 action,
             },
+            seat,
             effects,
         )?;
         Ok(event)
@@ -429,12 +439,17 @@ impl Book {
         Ok((event, vat.number))
     }
 
-    /// A program that is asked of a vat: a message that waits for the vat's opening.
+    /// A program that is asked of a vat, from a seat: a message that waits for the vat's opening.
     ///
     /// # Errors
     /// `NoVat`, a fault of the check, `Full`, `Memory`, tried in this order.
-    pub fn ask(&mut self, name: &Text, program: Program) -> Result<EventName, BookFault>
-        ensures ok { IfOk result (λ e. (ask_refusal (book_of self.old) name.now (program_of program) ≡ None) × ((v : VatNo) × EntersNext (record { name = e; act = ask name.now (program_of program) }) (ask_foot e name.now v (program_of program)) 0 (book_of self.old) (book_of self.new))) }
+    pub fn ask_as(
+        &mut self,
+        name: &Text,
+        program: Program,
+        seat: u64,
+    ) -> Result<EventName, BookFault>
+        ensures ok { IfOk result (λ e. (ask_refusal (book_of self.old) name.now (program_of program) ≡ None) × ((v : VatNo) × EntersNext (record { name = e; act = ask name.now (program_of program) }) (ask_foot e name.now v (program_of program)) seat (book_of self.old) (book_of self.new))) }
         ensures err { IfErr result (λ fault. Tells fault (ask_refusal (book_of self.old) name.now (program_of program))) }
         ensures unchanged { OnErr result (book_of self.new ≡ book_of self.old) }
     {
@@ -446,6 +461,7 @@ impl Book {
                 name: event,
                 action,
             },
+            seat,
             effects,
         )?;
         Ok(event)
@@ -467,12 +483,12 @@ impl Book {
         Ok((event, arrived))
     }
 
-    /// A message arrives at the vat to which it is on its way.
+    /// A message arrives at the vat to which it is on its way, from a seat.
     ///
     /// # Errors
     /// `NoMessage`, `NotThere`, `Full`, `Memory`, tried in this order.
-    pub fn arrive(&mut self, name: MsgId) -> Result<EventName, BookFault>
-        ensures ok { IfOk result (λ e. (arrival_refusal (book_of self.old) name ≡ None) × ((f : Foot) × EntersNext (record { name = e; act = arrive name }) f 0 (book_of self.old) (book_of self.new))) }
+    pub fn arrive_as(&mut self, name: MsgId, seat: u64) -> Result<EventName, BookFault>
+        ensures ok { IfOk result (λ e. (arrival_refusal (book_of self.old) name ≡ None) × ((f : Foot) × EntersNext (record { name = e; act = arrive name }) f seat (book_of self.old) (book_of self.new))) }
         ensures err { IfErr result (λ fault. Tells fault (arrival_refusal (book_of self.old) name)) }
         ensures unchanged { OnErr result (book_of self.new ≡ book_of self.old) }
     {
@@ -483,6 +499,7 @@ impl Book {
                 name: event,
                 action: Action::Arrive(name),
             },
+            seat,
             effects,
         )?;
         Ok(event)
@@ -509,12 +526,12 @@ impl Book {
         Ok((event, forwarded, through))
     }
 
-    /// A message goes on to the vat to which its target leads.
+    /// A message goes on to the vat to which its target leads, from a seat.
     ///
     /// # Errors
     /// `NoMessage`, `NotThere`, `NotReady`, `Full`, `Memory`, tried in this order.
-    pub fn forward(&mut self, name: MsgId) -> Result<EventName, BookFault>
-        ensures ok { IfOk result (λ e. (forward_refusal (book_of self.old) name ≡ None) × ((f : Foot) × EntersNext (record { name = e; act = forward name }) f 0 (book_of self.old) (book_of self.new))) }
+    pub fn forward_as(&mut self, name: MsgId, seat: u64) -> Result<EventName, BookFault>
+        ensures ok { IfOk result (λ e. (forward_refusal (book_of self.old) name ≡ None) × ((f : Foot) × EntersNext (record { name = e; act = forward name }) f seat (book_of self.old) (book_of self.new))) }
         ensures err { IfErr result (λ fault. Tells fault (forward_refusal (book_of self.old) name)) }
         ensures unchanged { OnErr result (book_of self.new ≡ book_of self.old) }
     {
@@ -525,17 +542,23 @@ impl Book {
                 name: event,
                 action: Action::Forward(name),
             },
+            seat,
             effects,
         )?;
         Ok(event)
     }
 
-    /// The vat of this name learns what a promise was published as that is open in its view.
+    /// The vat of this name learns what a promise was published as that is open in its view, from a seat.
     ///
     /// # Errors
     /// `NoVat`, `NothingToLearn`, `Full`, `Memory`, tried in this order.
-    pub fn learn(&mut self, name: &Text, promise: PromId) -> Result<EventName, BookFault>
-        ensures ok { IfOk result (λ e. (learn_refusal (book_of self.old) name.now promise ≡ None) × ((v : VatModel) × (f : Foot) × (vat_named (book_of self.old).world name.now ≡ Some v) × EntersNext (record { name = e; act = learn v.number promise }) f 0 (book_of self.old) (book_of self.new))) }
+    pub fn learn_as(
+        &mut self,
+        name: &Text,
+        promise: PromId,
+        seat: u64,
+    ) -> Result<EventName, BookFault>
+        ensures ok { IfOk result (λ e. (learn_refusal (book_of self.old) name.now promise ≡ None) × ((v : VatModel) × (f : Foot) × (vat_named (book_of self.old).world name.now ≡ Some v) × EntersNext (record { name = e; act = learn v.number promise }) f seat (book_of self.old) (book_of self.new))) }
         ensures err { IfErr result (λ fault. Tells fault (learn_refusal (book_of self.old) name.now promise)) }
         ensures unchanged { OnErr result (book_of self.new ≡ book_of self.old) }
     {
@@ -543,13 +566,13 @@ impl Book {
             Some(vat) => vat.number,
             None => return Err(BookFault::NoVat(name.share()?)),
         };
-        self.learn_at(vat, promise)
+        self.learn_at_as(vat, promise, seat)
     }
 
-    /// The same by the event and the number of the promise, which do without its home.
+    /// The same, from no seat, by the event and the number of the promise, which do without its home.
     ///
     /// # Errors
-    /// As `learn`.
+    /// As `learn_as`.
     pub fn learn_named(
         &mut self,
         name: &Text,
@@ -565,14 +588,19 @@ impl Book {
             None => return Err(BookFault::NoVat(name.share()?)),
         };
         match self.known_as(vat, event, index)? {
-            Some(promise) => self.learn_at(vat, promise),
+            Some(promise) => self.learn_at_as(vat, promise, NO_SEAT),
             None => Err(BookFault::NothingToLearn),
         }
     }
 
-    /// The same by the vat's number.
-    pub fn learn_at(&mut self, vat: VatNo, promise: PromId) -> Result<EventName, BookFault>
-        ensures ok { IfOk result (λ e. (learning_refusal (book_of self.old) vat promise ≡ None) × ((f : Foot) × EntersNext (record { name = e; act = learn vat promise }) f 0 (book_of self.old) (book_of self.new))) }
+    /// The same, from a seat, by the vat's number.
+    pub fn learn_at_as(
+        &mut self,
+        vat: VatNo,
+        promise: PromId,
+        seat: u64,
+    ) -> Result<EventName, BookFault>
+        ensures ok { IfOk result (λ e. (learning_refusal (book_of self.old) vat promise ≡ None) × ((f : Foot) × EntersNext (record { name = e; act = learn vat promise }) f seat (book_of self.old) (book_of self.new))) }
         ensures err { IfErr result (λ fault. Tells fault (learning_refusal (book_of self.old) vat promise)) }
         ensures unchanged { OnErr result (book_of self.new ≡ book_of self.old) }
     {
@@ -585,6 +613,7 @@ impl Book {
                 name: event,
                 action: Action::Learn(vat, promise),
             },
+            seat,
             effects,
         )?;
         Ok(event)

@@ -3,5 +3,7 @@
 
 pub mod book;
 pub mod fault;
+mod seatless;
+mod seats;
 mod selecting;
 pub mod theorems;

@@ -1,5 +1,5 @@
 // The desk that tickets are lent from and come back to.
-ghost use Rattle.std.specs.Prelude.{◌≡◌, ◌++◌, [], ◌∷◌, not, OnOk, OnErr};
+ghost use Rattle.std.specs.Prelude.{◌≡◌, ℕ, ◌≤◌, All, ◌++◌, [], ◌∷◌, not, OnOk, OnErr};
 ghost use Rattle.std.specs.Option.{option_map};
 ghost use Rattle.desk.specs.Desks.{is_out, has_vat, lent_at, without};
 ghost use Rattle.desk.specs.DeskView.{lent_of};
@@ -47,6 +47,20 @@ impl Desk {
         ensures { option_map lent_of result ≡ lent_at number (out_of self.now) }
     {
         self.out.iter().find(|lent| lent.number == number).copied()
+    }
+
+    /// The greatest seat that a ticket is lent to; 0 where none is.
+    pub fn greatest_seat(&self) -> u64
+        ensures above { All (λ t. t.seat ≤ result) (out_of self.now) }
+        ensures least { (n : ℕ) → All (λ t. t.seat ≤ n) (out_of self.now) → result ≤ n }
+    {
+        let mut greatest = 0;
+        for lent in &self.out {
+            if lent.seat > greatest {
+                greatest = lent.seat;
+            }
+        }
+        greatest
     }
 
     /// Notes a ticket that is lent. Fails only for want of memory, and then nothing changes.

@@ -3,23 +3,24 @@ ghost use Rattle.evats.specs.Edge.{EndsAs};
 
 use std::alloc::Global;
 use std::io::{Read, Write};
-use stepper::{Ended, Fault, Limits, run};
+use stepper::{Crew, Ended, Fault, Limits, run};
 use streams::lines::Lines;
 use streams::outlet::Outlet;
 
-/// Answers the commands of a reader on a writer.
-pub(crate) fn answer_commands<I: Read + Drop, O: Write + Drop>(
+/// Answers the commands of a reader on a writer, with a crew for `work`.
+pub(crate) fn answer_commands<I: Read + Drop, O: Write + Drop, C: Crew>(
     alloc: Global,
     input: I,
     output: O,
     limits: Limits,
+    crew: &mut C,
 ) -> Ended
     ensures { EndsAs I.remaining O.contents limits.budget input output result }
 {
     match Lines::new(alloc, input) {
         Ok(mut source) => {
             let mut sink = Outlet::new(alloc, output);
-            Ended::Ran(run(alloc, &mut source, &mut sink, limits))
+            Ended::Ran(run(alloc, &mut source, &mut sink, limits, crew))
         }
         Err(_) => Ended::Ran(Err(Fault::Memory)),
     }

@@ -1,31 +1,39 @@
 //! Runs commands on vats, and writes one reply for each, as it is read.
 #![tactic(auto)]
 
+mod crew;
 mod edge;
 mod options;
 
+use crew::Threaded;
 use edge::answer_commands;
 use options::{Options, Parsed, parse};
 use std::process::ExitCode;
 use std::rt::Runtime;
+use std::sync::Wait;
 use std::thread::{Builder, Threads};
 use std::{fs, io};
 use stepper::{Ended, Fault, Limits, STACK, status};
 
 /// Answers the commands of a file, or of standard input, on standard output.
-fn answer<R: Runtime + AllocGlobal>(rt: &R, file: Option<String>, limits: Limits) -> Ended {
+fn answer<R: Runtime + AllocGlobal + Threads + Wait + Copy + Sync>(
+    rt: &R,
+    file: Option<String>,
+    limits: Limits,
+) -> Ended {
     let output = io::writer(rt);
+    let mut crew = Threaded { rt: *rt };
     match file {
         Some(path) => match fs::open(rt, path.as_str()) {
-            Ok(input) => answer_commands(rt.alloc(), input, output, limits),
+            Ok(input) => answer_commands(rt.alloc(), input, output, limits, &mut crew),
             Err(_) => Ended::NoFile,
         },
-        None => answer_commands(rt.alloc(), rt.reader(), output, limits),
+        None => answer_commands(rt.alloc(), rt.reader(), output, limits, &mut crew),
     }
 }
 
 /// Answers all commands on a stack of their own.
-fn answer_apart<R: Runtime + AllocGlobal + Threads + Copy + Send + 'static>(
+fn answer_apart<R: Runtime + AllocGlobal + Threads + Wait + Copy + Send + Sync + 'static>(
     rt: &R,
     file: Option<String>,
     limits: Limits,
@@ -40,7 +48,7 @@ fn answer_apart<R: Runtime + AllocGlobal + Threads + Copy + Send + 'static>(
 }
 
 /// Answers the commands that the options name, and says on standard error why that did not come to its end.
-fn answer_options<R: Runtime + AllocGlobal + Threads + Copy + Send + 'static>(
+fn answer_options<R: Runtime + AllocGlobal + Threads + Wait + Copy + Send + Sync + 'static>(
     rt: &R,
     options: &Options,
 ) -> io::Result<Ended> {
@@ -53,7 +61,7 @@ fn answer_options<R: Runtime + AllocGlobal + Threads + Copy + Send + 'static>(
     Ok(ended)
 }
 
-fn answer_words<R: Runtime + AllocGlobal + Threads + Copy + Send + 'static>(
+fn answer_words<R: Runtime + AllocGlobal + Threads + Wait + Copy + Send + Sync + 'static>(
     rt: &R,
 ) -> io::Result<Ended> {
     let words: Vec<String> = std::env::args(rt)?.collect(rt.alloc())?;

@@ -62,7 +62,12 @@ pub trait Crew {
 pub struct Nobody;
 
 impl Crew for Nobody {
-    fn work(&mut self, _alloc: Global, book: Book, _order: Order) -> (Book, Result<u64, WorkFault>) {
+    fn work(
+        &mut self,
+        _alloc: Global,
+        book: Book,
+        _order: Order,
+    ) -> (Book, Result<u64, WorkFault>) {
         (book, Err(WorkFault::NoWorker))
     }
 }

@@ -161,6 +161,52 @@ impl Ticket<Ran> {
     }
 }
 
+/// A ticket of a turn that was run, sealed for its way to whoever enters the turn. Unlike a ticket it may be dropped: its number is then out
+/// until it is abandoned.
+#[derive(Drop)]
+pub struct Returned {
+    ran: Ran,
+}
+
+impl Model for Returned {
+    ghost use Rattle.turn.specs.declared.ticket.Ran.{Ran};
+    ghost use Rattle.turn.specs.contracts.ticket.Ran as ran_row;
+
+    ghost Value = { Ran };
+
+    ghost coded = { ran_row.the_row.coded };
+
+    ghost view = { λ r. r.ran };
+}
+
+impl Returned {
+    /// The number of the ticket: the event that its turn will be.
+    pub fn number(&self) -> EventName
+        ensures { result ≡ self.now.carried.event }
+    {
+        self.ran.carried.event
+    }
+
+    /// The same ticket. It takes no memory.
+    pub fn unseal(self) -> Ticket<Ran>
+        ensures { result ≡ self }
+    {
+        let Returned { ran } = self;
+        Ticket { stage: ran }
+    }
+}
+
+impl Ticket<Ran> {
+    /// The same ticket, sealed. It takes no memory.
+    pub fn seal(self) -> Returned
+        ensures { result ≡ self }
+    {
+        Returned {
+            ran: self.into_parts(),
+        }
+    }
+}
+
 impl<S: Drop> Ticket<S> {
     /// Spends the ticket, and nothing else happens.
     pub fn discard(self) {

@@ -25,22 +25,22 @@ invariant_of-self-2-clause-stands c =
     let old = c.args.self.now.core in
     let e = event_of c.args.event in
     let kept = kepts_of c.args.effects.records.items in
-    let is : shown c.enter.new.self ≡ entered (with_notes e []) 0 c.args.effects.touched.items kept (shown old) =
-    c.in_ok-enter.ensures.ok ∙ ap (λ t. entered (with_notes e (map note_of c.args.effects.notes.items)) 0 t kept (shown old)) c.deref.ensures.value
-    ∙ ap (λ (ns : List Note). entered (with_notes e (map note_of ns)) 0 c.args.effects.touched.items kept (shown old)) c.requires.quiet in
+    let is : shown c.enter.new.self ≡ entered (with_notes e []) c.args.seat c.args.effects.touched.items kept (shown old) =
+    c.in_ok-enter.ensures.ok ∙ ap (λ t. entered (with_notes e (map note_of c.args.effects.notes.items)) c.args.seat t kept (shown old)) c.deref.ensures.value
+    ∙ ap (λ (ns : List Note). entered (with_notes e (map note_of ns)) c.args.seat c.args.effects.touched.items kept (shown old)) c.requires.quiet in
     let h = c.requires.possible in
-    next_stands old c.enter.new.self c.args.self.now.next (out_of c.args.self.now.desk) e c.args.effects.touched.items kept h.0 h.1.brings is c.requires.named c.args.self.now.stands (quiet_does h.1 c.requires.quiet)
+    next_stands old c.enter.new.self c.args.self.now.next (out_of c.args.self.now.desk) e c.args.seat c.args.effects.touched.items kept h.0 h.1.brings is c.requires.named c.args.self.now.stands (quiet_does h.1 c.requires.quiet)
 
 pub invariant_of-self-2-clause-noted : goal.invariant_of-self-2-clause-noted
 invariant_of-self-2-clause-noted c =
     let old = c.args.self.now.core in
     let e = event_of c.args.event in
     let kept = kepts_of c.args.effects.records.items in
-    let is : shown c.enter.new.self ≡ entered (with_notes e []) 0 c.args.effects.touched.items kept (shown old) =
-    c.in_ok-enter.ensures.ok ∙ ap (λ t. entered (with_notes e (map note_of c.args.effects.notes.items)) 0 t kept (shown old)) c.deref.ensures.value
-    ∙ ap (λ (ns : List Note). entered (with_notes e (map note_of ns)) 0 c.args.effects.touched.items kept (shown old)) c.requires.quiet in
+    let is : shown c.enter.new.self ≡ entered (with_notes e []) c.args.seat c.args.effects.touched.items kept (shown old) =
+    c.in_ok-enter.ensures.ok ∙ ap (λ t. entered (with_notes e (map note_of c.args.effects.notes.items)) c.args.seat t kept (shown old)) c.deref.ensures.value
+    ∙ ap (λ (ns : List Note). entered (with_notes e (map note_of ns)) c.args.seat c.args.effects.touched.items kept (shown old)) c.requires.quiet in
     let h = c.requires.possible in
-    let alike = entered_alike old c.enter.new.self (with_notes e []) 0 c.args.effects.touched.items kept h.0 h.1.brings is in
+    let alike = entered_alike old c.enter.new.self (with_notes e []) c.args.seat c.args.effects.touched.items kept h.0 h.1.brings is in
     noted_next old c.enter.new.self c.take.result c.noted.result c.world.result.now c.deref-2.result.now c.world.ensures c.noted.ensures
     (subst (λ (touched : List CellKey). AlikeBut touched (contents cells (state_of old)) (contents cells (state_of c.enter.new.self))) (sym c.deref-2.ensures.value) alike)
     (subst (λ (agenda : Option Agenda). Noted agenda (state_of old)) (sym c.take.ensures.value) c.args.self.now.noted)
@@ -50,17 +50,17 @@ invariant_of-self-2-clause-within c =
     let old = c.args.self.now.core in
     let e = event_of c.args.event in
     let kept = kepts_of c.args.effects.records.items in
-    let is : shown c.enter.new.self ≡ entered (with_notes e []) 0 c.args.effects.touched.items kept (shown old) =
-    c.in_ok-enter.ensures.ok ∙ ap (λ t. entered (with_notes e (map note_of c.args.effects.notes.items)) 0 t kept (shown old)) c.deref.ensures.value
-    ∙ ap (λ (ns : List Note). entered (with_notes e (map note_of ns)) 0 c.args.effects.touched.items kept (shown old)) c.requires.quiet in
-    within_entered old c.enter.new.self (with_notes e []) 0 c.args.effects.touched.items kept is (one_more (book_of c.args.self.now) (room_for_names (book_of c.args.self.now) c.requires.room))
+    let is : shown c.enter.new.self ≡ entered (with_notes e []) c.args.seat c.args.effects.touched.items kept (shown old) =
+    c.in_ok-enter.ensures.ok ∙ ap (λ t. entered (with_notes e (map note_of c.args.effects.notes.items)) c.args.seat t kept (shown old)) c.deref.ensures.value
+    ∙ ap (λ (ns : List Note). entered (with_notes e (map note_of ns)) c.args.seat c.args.effects.touched.items kept (shown old)) c.requires.quiet in
+    within_entered old c.enter.new.self (with_notes e []) c.args.seat c.args.effects.touched.items kept is (one_more (book_of c.args.self.now) (room_for_names (book_of c.args.self.now) c.requires.room))
 
 pub returns-clause-ok : goal.returns-clause-ok
 returns-clause-ok c = λ f h.
     let old = c.args.self.now.core in
     let e = event_of c.args.event in
     let kept = kepts_of c.args.effects.records.items in
-    let is : shown c.enter.new.self ≡ entered (with_notes e []) 0 c.args.effects.touched.items kept (shown old) =
-    c.in_ok-enter.ensures.ok ∙ ap (λ t. entered (with_notes e (map note_of c.args.effects.notes.items)) 0 t kept (shown old)) c.deref.ensures.value
-    ∙ ap (λ (ns : List Note). entered (with_notes e (map note_of ns)) 0 c.args.effects.touched.items kept (shown old)) c.requires.quiet in
-    next_enters old c.enter.new.self c.args.self.now.next (out_of c.args.self.now.desk) e c.args.effects.touched.items kept f h.brings is c.requires.named c.args.self.now.stands (quiet_does h c.requires.quiet)
+    let is : shown c.enter.new.self ≡ entered (with_notes e []) c.args.seat c.args.effects.touched.items kept (shown old) =
+    c.in_ok-enter.ensures.ok ∙ ap (λ t. entered (with_notes e (map note_of c.args.effects.notes.items)) c.args.seat t kept (shown old)) c.deref.ensures.value
+    ∙ ap (λ (ns : List Note). entered (with_notes e (map note_of ns)) c.args.seat c.args.effects.touched.items kept (shown old)) c.requires.quiet in
+    next_enters old c.enter.new.self c.args.self.now.next (out_of c.args.self.now.desk) e c.args.seat c.args.effects.touched.items kept f h.brings is c.requires.named c.args.self.now.stands (quiet_does h c.requires.quiet)

@@ -1,0 +1,210 @@
+-- What the calls of a book leave of its entries, as seats see them.
+use Rattle.std.proofs.Common.{◌≡◌, ℕ, zero, suc, ◌+◌, ◌-◌, ◌<◌, ◌≤◌, cond, List, [], ◌∷◌, ◌++◌, length, map, filter, get_or, Some, None, Option, Bool, true, false, refl, sym, ap, ◌∙◌, subst, arith, length-append, ◌==◌, IsPermutation}
+use Rattle.std.specs.Prelude.{slice_get, option_map, Result, Ok, Err, OnOk, OnErr, IfErr}
+use Rattle.std.proofs.lemmas.List.{map-append, length-map}
+use Rattle.std.proofs.lemmas.List.Sorted.{IsPermutation-refl, IsPermutation-cons, IsPermutation-middle}
+use Rattle.std.proofs.lemmas.Option.{slice_get-map, slice_get_read}
+use Rattle.ids.specs.declared.names.EventName.{EventName}
+use Rattle.worldcells.specs.Events.{Act, Event, birth, ask, arrive, forward, learn, turn}
+use Rattle.worldcells.specs.EventView.{event_of}
+use Rattle.event.specs.Events.{Foot}
+use Rattle.agenda.specs.declared.agenda.Step.{Step}
+use Rattle.agenda.specs.declared.agenda.Step.TheVariants as step
+use Rattle.journal.specs.Items.{Item, item_of, exchanged}
+use Rattle.journal.specs.Lines.{Line, line_of, lines_of, in_order}
+use Rattle.journal.specs.declared.entry.Entry as code
+use Rattle.desk.specs.Desks.{Lent, without, is_out}
+use Rattle.turn.specs.declared.ticket.Ran.{Ran}
+use Rattle.turn.specs.declared.ticket.Out.{Out}
+use Rattle.undo.specs.CoreView.{items_of}
+use Rattle.book.specs.Books.{Book}
+use Rattle.book.specs.BookView.{book_of}
+use Rattle.book.specs.declared.book.Book as code-book
+use Rattle.book.specs.Calls.{Enters, EntersNext, Commits, Lends, Undoes, Redoes, Exchanges, undone, redone}
+use Rattle.book.specs.Refusals.{exchange_refusal}
+use Rattle.book.specs.declared.fault.BookFault.{BookFault}
+use Rattle.book.specs.declared.fault.BookFault.TheVariants.{NoTicket}
+use Rattle.book.proofs.Tickets.{not_out}
+use Rattle.pact.specs.declared.View.{View}
+use Rattle.pact.specs.declared.Deeds.{Deeds}
+use Rattle.pact.specs.Agree.{after, knower}
+use Rattle.std.specs.Prelude.{slice_set}
+use Rattle.bench.specs.declared.command.Command.{Command}
+use Rattle.bench.specs.declared.command.Command.TheVariants as command
+use Rattle.book.specs.Entered.{Entered, entered_in}
+use Rattle.bench.specs.Seats.{events_by, is_turn}
+use Rattle.bench.specs.Desk.{IsDesk}
+use Rattle.bench.specs.Author.{IsEntered, IsActOf, IsStep, EntersAct, Marks, EntersNone, Refuses, command_refusal, mark_of}
+use Rattle.bench.proofs.Agrees.{entry, Grows, grown, Rests, rests_same, desk_rested, desk_closed}
+
+-- ---- an event is entered
+pub grows : (e : Event) (f : Foot) (seat : ℕ) (old now : Book) → Enters e f seat old now → Grows (record { seat = seat; event = e }) old now
+grows e f seat old now h = grown old now h.line (record { seat = seat; event = e }) h.entered (λ i. record { seat = h.tells.same_seat i; event = h.tells.event i })
+
+pub grows_act : (e : EventName) (act : Act) (seat : ℕ) (old now : Book) → EntersAct e act seat old now → Grows (record { seat = seat; event = record { name = e; act = act } }) old now
+grows_act e act seat old now h = grows (record { name = e; act = act }) h.foot seat old now h.enters.enters
+
+-- of which events the acts are
+pub act_of_command : (c : Command) (b : Book) (act : Act) → IsEntered c b act → IsActOf c act
+act_of_command (command.Birth x earlier script) b act h = h
+act_of_command (command.Ask x program) b act h = h
+act_of_command (command.Arrive m) b act h = h
+act_of_command (command.Forward m) b act h = h
+act_of_command (command.Learn x p) b act h = (h.0.number, h.2)
+act_of_command _ b act h = absurd h
+
+pub command_no_turn : (c : Command) (act : Act) → IsActOf c act → is_turn act ≡ false
+command_no_turn (command.Birth x earlier script) act h = ap is_turn h
+command_no_turn (command.Ask x program) act h = ap is_turn h
+command_no_turn (command.Arrive m) act h = ap is_turn h
+command_no_turn (command.Forward m) act h = ap is_turn h
+command_no_turn (command.Learn x p) act h = ap is_turn h.1
+command_no_turn _ act h = absurd h
+
+pub step_no_turn : (s : Step) (act : Act) → IsStep s act → is_turn act ≡ false
+step_no_turn (step.Arrive m) act h = ap is_turn h
+step_no_turn (step.Forward m) act h = ap is_turn h
+step_no_turn (step.Learn v p) act h = ap is_turn h
+step_no_turn (step.Turn m) act h = absurd h
+
+-- ---- no event is entered
+rests_alike : (old now : Book) → entered_in now.journal ≡ entered_in old.journal → Rests old now
+rests_alike old now is = record {
+  each = λ s. subst (λ (xs : List Entered). IsPermutation (events_by s xs) (events_by s (entered_in old.journal))) (sym is) (IsPermutation-refl (events_by s (entered_in old.journal)));
+  all = subst (λ (xs : List Entered). IsPermutation xs (entered_in old.journal)) (sym is) (IsPermutation-refl (entered_in old.journal));
+  same_length = sym (length-map now.journal entry) ∙ ap length is ∙ length-map old.journal entry;
+}
+
+alike : (f : Line → Line) → ((l : Line) → entry (f l) ≡ entry l) → (lines : List Line) → entered_in (map f lines) ≡ entered_in lines
+alike f same [] = refl
+alike f same (l ∷ ls) = λ i. same l i ∷ alike f same ls i
+
+rests_undone : (names : List EventName) (old now : Book) → Undoes names old now → Rests old now
+rests_undone names old now h = rests_alike old now (ap entered_in h.marked ∙ alike (undone names) (λ l. refl) old.journal)
+
+rests_redone : (names : List EventName) (old now : Book) → Redoes names old now → Rests old now
+rests_redone names old now h = rests_alike old now (ap entered_in h.marked ∙ alike (redone names) (λ l. refl) old.journal)
+
+-- neighbours change places
+front : (x y : Entered) (xs : List Entered) (b c : Bool)
+    → IsPermutation (map (λ e. e.event) (cond b (x ∷ cond c (y ∷ xs) xs) (cond c (y ∷ xs) xs))) (map (λ e. e.event) (cond c (y ∷ cond b (x ∷ xs) xs) (cond b (x ∷ xs) xs)))
+front x y xs true true = IsPermutation-middle (x.event ∷ []) y.event (map (λ e. e.event) xs)
+front x y xs true false = IsPermutation-refl (x.event ∷ map (λ e. e.event) xs)
+front x y xs false true = IsPermutation-refl (y.event ∷ map (λ e. e.event) xs)
+front x y xs false false = IsPermutation-refl (map (λ e. e.event) xs)
+
+behind : (x : Entered) (xs ys : List Entered) (b : Bool) → IsPermutation (map (λ e. e.event) xs) (map (λ e. e.event) ys) → IsPermutation (map (λ e. e.event) (cond b (x ∷ xs) xs)) (map (λ e. e.event) (cond b (x ∷ ys) ys))
+behind x xs ys true h = IsPermutation-cons x.event (map (λ e. e.event) xs) (map (λ e. e.event) ys) h
+behind x xs ys false h = h
+
+exchanged_each : (s n : ℕ) (xs : List Entered) → IsPermutation (events_by s (exchanged n xs)) (events_by s xs)
+exchanged_each s n [] = IsPermutation-refl []
+exchanged_each s n (b ∷ []) = IsPermutation-refl (events_by s (b ∷ []))
+exchanged_each s zero (b ∷ a ∷ xs) = front a b (filter (λ e. e.seat == s) xs) (a.seat == s) (b.seat == s)
+exchanged_each s (suc n) (b ∷ a ∷ xs) = behind b (filter (λ e. e.seat == s) (exchanged n (a ∷ xs))) (filter (λ e. e.seat == s) (a ∷ xs)) (b.seat == s) (exchanged_each s n (a ∷ xs))
+
+exchanged_all : (n : ℕ) (xs : List Entered) → IsPermutation (exchanged n xs) xs
+exchanged_all n [] = IsPermutation-refl []
+exchanged_all n (b ∷ []) = IsPermutation-refl (b ∷ [])
+exchanged_all zero (b ∷ a ∷ xs) = IsPermutation-middle (a ∷ []) b xs
+exchanged_all (suc n) (b ∷ a ∷ xs) = IsPermutation-cons b (exchanged n (a ∷ xs)) (a ∷ xs) (exchanged_all n (a ∷ xs))
+
+exchanged_entries : (n : ℕ) (lines : List Line) → entered_in (exchanged n lines) ≡ exchanged n (entered_in lines)
+exchanged_entries n [] = refl
+exchanged_entries n (b ∷ []) = refl
+exchanged_entries zero (b ∷ a ∷ ls) = refl
+exchanged_entries (suc n) (b ∷ a ∷ ls) = ap (λ xs. entry b ∷ xs) (exchanged_entries n (a ∷ ls))
+
+exchanged_length : (n : ℕ) (xs : List Line) → length (exchanged n xs) ≡ length xs
+exchanged_length n [] = refl
+exchanged_length n (b ∷ []) = refl
+exchanged_length zero (b ∷ a ∷ xs) = refl
+exchanged_length (suc n) (b ∷ a ∷ xs) = ap suc (exchanged_length n (a ∷ xs))
+
+rests_moved : (n : ℕ) (old now : Book) → now.journal ≡ map (in_order (exchanged n old.journal)) (exchanged n old.journal) → Rests old now
+rests_moved n old now is =
+    let moved = exchanged n old.journal in
+    let same : entered_in now.journal ≡ exchanged n (entered_in old.journal) = ap entered_in is ∙ alike (in_order moved) (λ l. refl) moved ∙ exchanged_entries n old.journal in record {
+      each = λ s. subst (λ (xs : List Entered). IsPermutation (events_by s xs) (events_by s (entered_in old.journal))) (sym same) (exchanged_each s n (entered_in old.journal));
+      all = subst (λ (xs : List Entered). IsPermutation xs (entered_in old.journal)) (sym same) (exchanged_all n (entered_in old.journal));
+      same_length = ap length is ∙ length-map moved (in_order moved) ∙ exchanged_length n old.journal;
+    }
+
+rests_exchanged : (position : ℕ) (old now : Book) → exchange_refusal old.journal position ≡ None → Exchanges position old now → Rests old now
+rests_exchanged zero old now accepted h = absurd (cc)
+rests_exchanged (suc n) old now accepted h = rests_moved n old now (h.places n (omega arith))
+
+-- ---- what lies under the lock, after a command that enters no event, or one that is refused
+pub marked : (c : Command) (first made place : ℕ) (began : List Entered) (v w : View) (old now : Book) (d : Deeds)
+    → IsDesk first made began v old → slice_get v.all place ≡ Some d → command_refusal c old ≡ None → Marks c old now → w ≡ knower (slice_set v.all place (after (mark_of c) d))
+    → IsDesk first made began w now × Rests old now
+marked (command.Abandon n) first made place began v w old now d h at accepted m is =
+    let rests = rests_same old now (ap (λ b. b.journal) m) in
+    (desk_closed first made place began v w old now d h at rests n (ap (λ b. b.out) m) is, rests)
+marked (command.Undo names) first made place began v w old now d h at accepted m is =
+    let rests = rests_undone names.items old now m in
+    (desk_rested first made place began v w old now d h at rests m.same_out is, rests)
+marked (command.Redo names) first made place began v w old now d h at accepted m is =
+    let rests = rests_redone names.items old now m in
+    (desk_rested first made place began v w old now d h at rests m.same_out is, rests)
+marked (command.Exchange position) first made place began v w old now d h at accepted m is =
+    let rests = rests_exchanged position old now accepted m in
+    (desk_rested first made place began v w old now d h at rests m.same_out is, rests)
+marked _ first made place began v w old now d h at accepted m is = absurd m
+
+pub refused_marked : (c : Command) (fault : BookFault) (first made place : ℕ) (began : List Entered) (v w : View) (old now : Book) (d : Deeds)
+    → IsDesk first made began v old → slice_get v.all place ≡ Some d → Refuses c old fault → now ≡ old → w ≡ knower (slice_set v.all place (after (mark_of c) d))
+    → IsDesk first made began w now × Rests old now
+refused_marked (command.Abandon n) fault first made place began v w old now d h at refused same is =
+    let rests = rests_same old now (ap (λ b. b.journal) same) in
+    (desk_closed first made place began v w old now d h at rests n (ap (λ b. b.out) same ∙ sym (not_out n old.out refused.1)) is, rests)
+refused_marked (command.Birth x earlier script) fault first made place began v w old now d h at refused same is = let rests = rests_same old now (ap (λ b. b.journal) same) in (desk_rested first made place began v w old now d h at rests (ap (λ b. b.out) same) is, rests)
+refused_marked (command.Ask x program) fault first made place began v w old now d h at refused same is = let rests = rests_same old now (ap (λ b. b.journal) same) in (desk_rested first made place began v w old now d h at rests (ap (λ b. b.out) same) is, rests)
+refused_marked (command.Arrive m) fault first made place began v w old now d h at refused same is = let rests = rests_same old now (ap (λ b. b.journal) same) in (desk_rested first made place began v w old now d h at rests (ap (λ b. b.out) same) is, rests)
+refused_marked (command.Forward m) fault first made place began v w old now d h at refused same is = let rests = rests_same old now (ap (λ b. b.journal) same) in (desk_rested first made place began v w old now d h at rests (ap (λ b. b.out) same) is, rests)
+refused_marked (command.Learn x p) fault first made place began v w old now d h at refused same is = let rests = rests_same old now (ap (λ b. b.journal) same) in (desk_rested first made place began v w old now d h at rests (ap (λ b. b.out) same) is, rests)
+refused_marked (command.Undo names) fault first made place began v w old now d h at refused same is = let rests = rests_same old now (ap (λ b. b.journal) same) in (desk_rested first made place began v w old now d h at rests (ap (λ b. b.out) same) is, rests)
+refused_marked (command.Redo names) fault first made place began v w old now d h at refused same is = let rests = rests_same old now (ap (λ b. b.journal) same) in (desk_rested first made place began v w old now d h at rests (ap (λ b. b.out) same) is, rests)
+refused_marked (command.Exchange position) fault first made place began v w old now d h at refused same is = let rests = rests_same old now (ap (λ b. b.journal) same) in (desk_rested first made place began v w old now d h at rests (ap (λ b. b.out) same) is, rests)
+
+pub none_entered : (c : Command) (old now : Book) → Marks c old now → EntersNone c
+none_entered (command.Abandon n) old now m = tt
+none_entered (command.Undo names) old now m = tt
+none_entered (command.Redo names) old now m = tt
+none_entered (command.Exchange position) old now m = tt
+none_entered _ old now m = absurd m
+
+-- ---- the event of the last entry
+abbrev from_some : {A : Type 0} → Option A → A → A
+from_some (Some x) d = x
+from_some None d = d
+
+at_last : {A : Type 0} (xs : List A) (x : A) → slice_get (xs ++ x ∷ []) (length xs) ≡ Some x
+at_last [] x = refl
+at_last (y ∷ ys) x = at_last ys x
+
+pub last_entered : (es : List code.Entry) (k : ℕ) (x : code.Entry) (lines : List Line) (before : List Entered) (e : Entered)
+    → lines_of (map item_of es) ≡ lines → slice_get es k ≡ Some x → length es ≡ k + 1 → entered_in lines ≡ before ++ e ∷ [] → event_of x.event ≡ e.event
+last_entered es k x lines before e same at long is =
+    let items = map item_of es in
+    let found : slice_get (entered_in lines) k ≡ Some (entry (line_of items (item_of x))) =
+    ap (λ ls. slice_get (entered_in ls) k) (sym same) ∙ slice_get-map entry (lines_of items) k ∙ ap (option_map entry) (slice_get-map (line_of items) items k ∙ ap (option_map (line_of items)) (slice_get-map item_of es k ∙ ap (option_map item_of) at)) in
+    let a = length-map lines entry in
+    let b = ap length same in
+    let c = length-map items (line_of items) in
+    let d = length-map es item_of in
+    let l = ap length is in
+    let m = length-append before (e ∷ []) in
+    let place : length before ≡ k = omega (arith, a, b, c, d, l, m, long) in
+    let last : slice_get (entered_in lines) k ≡ Some e = ap (λ xs. slice_get xs k) is ∙ ap (λ j. slice_get (before ++ e ∷ []) j) (sym place) ∙ at_last before e in
+    ap (λ o. (from_some o e).event) (sym found ∙ last)
+
+-- ---- a journal is no longer than it may be
+pub journal_within : (b : code-book.Book) → length (book_of b).journal ≤ 1048576
+journal_within b = let h = b.within in let l = length-map (items_of b.core) (line_of (items_of b.core)) in omega (arith, h, l)
+
+-- ---- a ticket is abandoned, whether or not it was out
+pub abandoned : {T : Type 0} (r : Result T BookFault) (n : EventName) (old now : Book) → OnOk r (now ≡ record old { out = without n old.out }) → OnErr r (now ≡ old)
+    → IfErr r (λ f. (f ≡ NoTicket) × (is_out n old.out ≡ false)) → (now.journal ≡ old.journal) × (now.out ≡ without n old.out)
+abandoned (Ok x) n old now gone same err = (ap (λ b. b.journal) gone, ap (λ b. b.out) gone)
+abandoned (Err f) n old now gone same err = (ap (λ b. b.journal) same, ap (λ b. b.out) same ∙ sym (not_out n old.out err.1))

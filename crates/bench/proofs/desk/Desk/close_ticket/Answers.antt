@@ -1,0 +1,18 @@
+use Rattle.std.proofs.Common.{◌∙◌, rules}
+use Rattle.book.specs.BookView.{book_of}
+use Rattle.bench.proofs.Agrees.{rests_same, desk_closed, counted_same, few_events}
+use Rattle.bench.proofs.Moves.{abandoned, journal_within}
+use Rattle.bench.proofs.desk.Desk.close_ticket.Goals as goal
+
+pub note-requires-clause-room : goal.note-requires-clause-room
+note-requires-clause-room g c = λ at. few_events _ _ _ _ _ (book_of c.self.inside.book) _ c.self.invariant.2 (journal_within c.self.inside.book) at
+
+pub invariant_of-self : goal.invariant_of-self
+invariant_of-self g c =
+    let i = c.self.invariant in
+    let n = c.note.ensures in
+    let old = book_of c.self.inside.book in
+    let now = book_of c.abandon.new.self in
+    let a = abandoned c.abandon.result c.args.number old now c.abandon.ensures.gone c.abandon.ensures.unchanged c.abandon.ensures.err in
+    let rests = rests_same old now a.0 in
+    (n.keeper.0, i.1, desk_closed _ _ _ _ _ _ old now _ i.2 n.agreed.1 rests c.args.number a.1 n.keeper.1, counted_same _ _ _ old now i.3 (search rules) rests, i.4, i.5, i.6)

@@ -1,0 +1,126 @@
+-- What commands do, to a book and to the seat that they come through.
+use Rattle.std.specs.Prelude.{◌≡◌, ℕ, false, not, Option, Some, None}
+use Rattle.ids.specs.declared.names.EventName.{EventName}
+use Rattle.ids.specs.declared.names.MsgId.{MsgId}
+use Rattle.ids.specs.declared.names.VatNo.{VatNo}
+use Rattle.kernele.specs.View.{program_of}
+use Rattle.worldcells.specs.Events.{Act, birth, ask, arrive, forward, learn, turn, Event}
+use Rattle.worldcells.specs.World.{vat_named}
+use Rattle.post.specs.Messages.{Vat}
+use Rattle.event.specs.Events.{Foot}
+use Rattle.agenda.specs.Enabled.{First}
+use Rattle.agenda.specs.declared.agenda.Step.{Step}
+use Rattle.agenda.specs.declared.agenda.Step.TheVariants as step
+use Rattle.desk.specs.Desks.{has_vat, is_out, without}
+use Rattle.turn.specs.declared.ticket.Ran.{Ran}
+use Rattle.book.specs.Books.{Book}
+use Rattle.book.specs.Calls.{EntersNext, Lends, Undoes, Redoes, Exchanges}
+use Rattle.book.specs.Fault.{Tells}
+use Rattle.book.specs.declared.fault.BookFault.{BookFault}
+use Rattle.book.specs.declared.fault.BookFault.TheVariants.{NoTicket}
+use Rattle.book.specs.Refusals.{Refusal, birth_refusal, ask_refusal, arrival_refusal, forward_refusal, learn_refusal, undo_refusal, redo_refusal, exchange_refusal, refuse_where, no_ticket}
+use Rattle.pact.specs.declared.Act as pact
+use Rattle.pact.specs.declared.Act.TheVariants.{Nothing, Opens, Closes}
+use Rattle.bench.specs.declared.command.Command.{Command}
+use Rattle.bench.specs.declared.command.Command.TheVariants as command
+use Rattle.bench.specs.declared.pick.Pick.{Pick}
+use Rattle.bench.specs.declared.pick.Pick.TheVariants as pick
+use Rattle.bench.specs.Desk.{Held, held, Adds}
+
+-- an event of this act is entered from a seat, under the name that comes next
+pub record EntersAct (e : EventName) (act : Act) (seat : ℕ) (old now : Book) : Type 0 where
+  pub foot : Foot
+  pub enters : EntersNext (record { name = e; act = act }) foot seat old now
+
+-- a command enters an event of this act; what is learnt, by the vat of that name
+abbrev pub IsEntered : Command → Book → Act → Type 0
+IsEntered (command.Birth x earlier script) b act = act ≡ birth x earlier.items (program_of script)
+IsEntered (command.Ask x program) b act = act ≡ ask x (program_of program)
+IsEntered (command.Arrive m) b act = act ≡ arrive m
+IsEntered (command.Forward m) b act = act ≡ forward m
+IsEntered (command.Learn x p) b act = (v : Vat) × (vat_named b.world x ≡ Some v) × (act ≡ learn v.number p)
+IsEntered _ b act = ⊥
+
+-- a command that enters none lets a ticket go, or marks entries or moves them
+abbrev pub Marks : Command → Book → Book → Type 0
+Marks (command.Abandon n) old now = now ≡ record old { out = without n old.out }
+Marks (command.Undo names) old now = Undoes names.items old now
+Marks (command.Redo names) old now = Redoes names.items old now
+Marks (command.Exchange position) old now = Exchanges position old now
+Marks _ old now = ⊥
+
+-- the first refusal of a command that holds, if one does
+abbrev pub command_refusal : Command → Book → Option Refusal
+command_refusal (command.Birth x earlier script) b = birth_refusal b x earlier.items (program_of script)
+command_refusal (command.Ask x program) b = ask_refusal b x (program_of program)
+command_refusal (command.Arrive m) b = arrival_refusal b m
+command_refusal (command.Forward m) b = forward_refusal b m
+command_refusal (command.Learn x p) b = learn_refusal b x p
+command_refusal (command.Abandon n) b = refuse_where (not (is_out n b.out)) no_ticket
+command_refusal (command.Undo names) b = undo_refusal b.journal names.items
+command_refusal (command.Redo names) b = redo_refusal b.journal names.items
+command_refusal (command.Exchange position) b = exchange_refusal b.journal position
+
+-- a fault tells why a command is refused, unless it is want of memory, of which an abandoned ticket takes none
+abbrev pub Refuses : Command → Book → BookFault → Type 0
+Refuses (command.Abandon n) b fault = (fault ≡ NoTicket) × (is_out n b.out ≡ false)
+Refuses c b fault = Tells fault (command_refusal c b)
+
+-- what an accepted command does to a book, from a seat; it answers the name of a new event, where it enters one
+abbrev pub Obeys : Command → ℕ → Option EventName → Book → Book → Type 0
+Obeys c seat (Some e) old now = (command_refusal c old ≡ None) × ((act : Act) × IsEntered c old act × EntersAct e act seat old now)
+Obeys c seat None old now = (command_refusal c old ≡ None) × Marks c old now
+
+-- what a seat notes of a command that enters no event, or that is refused: an abandoned ticket is no longer open
+abbrev pub mark_of : Command → pact.Act
+mark_of (command.Abandon n) = Closes n
+mark_of _ = Nothing
+
+-- the act of the event that a command enters
+abbrev pub IsActOf : Command → Act → Type 0
+IsActOf (command.Birth x earlier script) act = act ≡ birth x earlier.items (program_of script)
+IsActOf (command.Ask x program) act = act ≡ ask x (program_of program)
+IsActOf (command.Arrive m) act = act ≡ arrive m
+IsActOf (command.Forward m) act = act ≡ forward m
+IsActOf (command.Learn x p) act = (v : VatNo) × (act ≡ learn v p)
+IsActOf _ act = ⊥
+
+-- commands that enter none
+abbrev pub EntersNone : Command → Type 0
+EntersNone (command.Abandon n) = Unit {0}
+EntersNone (command.Undo names) = Unit {0}
+EntersNone (command.Redo names) = Unit {0}
+EntersNone (command.Exchange position) = Unit {0}
+EntersNone _ = ⊥
+
+-- what an accepted command does to its seat: its event is added to the list; or there is none, and an abandoned ticket is no longer open
+abbrev pub Authored : Command → Held → Option EventName → Held → Type 0
+Authored c old (Some e) now = (act : Act) × IsActOf c act × Adds (record { name = e; act = act }) old now
+Authored c old None now = EntersNone c × (now ≡ held old (mark_of c))
+
+-- a step is an event of this act
+abbrev pub IsStep : Step → Act → Type 0
+IsStep (step.Arrive m) act = act ≡ arrive m
+IsStep (step.Forward m) act = act ≡ forward m
+IsStep (step.Learn v p) act = act ≡ learn v p
+IsStep (step.Turn m) act = ⊥
+
+-- the first that may be done in a book
+abbrev pub FirstIn : Book → Option Step → Type 0
+FirstIn b = First b.world (λ v. has_vat v b.out)
+
+-- what is picked for a seat: nothing may be done; or the first that may be done is done at once; or it is a turn, whose ticket is lent
+abbrev pub Picks : ℕ → ℕ → Pick → Book → Book → Type 0
+Picks budget seat pick.Nothing old now = FirstIn old None × (now ≡ old)
+Picks budget seat (pick.Moved e) old now = (s : Step) × (act : Act) × FirstIn old (Some s) × IsStep s act × EntersAct e act seat old now
+Picks budget seat (pick.Turn t) old now = (m : MsgId) × FirstIn old (Some (step.Turn m)) × Lends m budget seat t old now
+
+-- what that does to the seat: an arrival, a forwarding or what a vat learns is added, or the ticket is open
+abbrev pub Picked : Pick → Held → Held → Type 0
+Picked pick.Nothing old now = now ≡ old
+Picked (pick.Moved e) old now = (s : Step) × (act : Act) × IsStep s act × Adds (record { name = e; act = act }) old now
+Picked (pick.Turn t) old now = (t.seat ≡ old.number) × (now ≡ held old (Opens t.event))
+
+-- the event that a ticket's turn becomes
+abbrev pub turn_of : Ran → Event
+turn_of r = record { name = r.carried.event; act = turn r.carried.vat r.carried.name r.carried.budget }

@@ -1,0 +1,5 @@
+pub mod Seats
+pub mod Desk
+pub mod DeskView
+pub mod Author
+pub mod Fault

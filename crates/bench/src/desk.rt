@@ -1,0 +1,288 @@
+//! What lies under the lock: the book, and what is known of the seats.
+ghost use Rattle.std.specs.Prelude.{◌≡◌, ◌≢◌, ◌<◌, ◌≤◌, ◌+◌, ◌↔◌, [], All, IsTrue, IfOk, IfErr, IfSome, Err, true, length, sum_by, vec_len};
+ghost use Rattle.crossbeam_utils.specs.Seq.{cell_view};
+ghost use Rattle.book.specs.BookView.{book_of};
+ghost use Rattle.book.specs.Calls.{Commits};
+ghost use Rattle.book.specs.Fault.{TellsCommit};
+ghost use Rattle.book.specs.declared.fault.BookFault.TheVariants.{NoTicket};
+ghost use Rattle.pact.specs.declared.Act.TheVariants.{Closes};
+ghost use Rattle.pact.specs.Agree.{blank, knower};
+ghost use Rattle.book.specs.Entered.{entered_in, IsAmong};
+ghost use Rattle.bench.specs.Desk.{held, refused, Answers, AreBelow, Returns};
+ghost use Rattle.bench.specs.Author.{Obeys, Authored, Refuses, mark_of, turn_of, Picks, Picked};
+
+use crate::command::{Command, obey};
+use crate::last::last_event;
+use crate::pick::{Pick, pick_first};
+use crate::seat::{Opening, Seat};
+use book::book::Book;
+use book::fault::BookFault;
+use ids::names::EventName;
+use pact::{Act, Cell, Token, add};
+use std::marker::{Model, PhantomData};
+use std::sync::Wait;
+use std::sync::ledger::{Blank, Book as Entries, Share};
+use turn::ticket::{Ran, Ticket};
+
+/// The greatest number that a seat may have.
+const LAST_SEAT: u64 = 4_294_967_295;
+
+/// The book, with the token that knows what each seat did, and the ledger of what was entered.
+#[derive(Drop)]
+pub struct Desk<L: Opening> {
+    book: Book,
+    /// The most steps of a turn.
+    budget: u32,
+    keeper: Token,
+    entries: Entries<L>,
+    /// The parts of the ledger of seats that are still to be made, and how many these are.
+    rest: Share<L>,
+    left: u64,
+    made: u64,
+    /// The greatest seat from before.
+    before: u64,
+    of: PhantomData<L>,
+}
+
+impl<L: Opening> Model for Desk<L> {
+    ghost use Rattle.std.specs.Prelude.{◌≡◌, ◌+◌, length};
+    ghost use Rattle.crossbeam_utils.specs.Seq.{cell_view};
+    ghost use Rattle.book.specs.BookView.{book_of};
+    ghost use Rattle.bench.specs.Desk.{IsDesk};
+    ghost use Rattle.bench.specs.DeskView.{Desked, desked_code};
+
+    ghost Value = { Desked };
+
+    ghost coded = { desked_code };
+
+    ghost view = { λ d. record { book = d.book; budget = d.budget; made = d.made } };
+
+    ghost invariant = { λ d. (d.keeper.table_id ≡ L.table) × (d.before ≡ L.before) × IsDesk (L.before + 1) d.made L.began (cell_view d.keeper) (book_of d.book) × (d.entries.total + length L.began ≡ length (book_of d.book).journal) × (d.rest.parts + d.made ≡ L.seats) × (d.rest.amount ≡ 0) × (d.left ≡ d.rest.parts) };
+}
+
+impl<L: Opening> Desk<L> {
+    /// No seat is made yet. The ledger has a part for each that there may be.
+    pub fn new(
+        book: Book,
+        budget: u32,
+        keeper: Token,
+        before: u64,
+        blank: Blank,
+        parts: u64,
+    ) -> Desk<L>
+        requires ledger { (blank.name ≡ L.name) × (blank.parts ≡ L.parts) × (L.parts ≡ L.seats) × (parts ≡ L.seats) }
+        requires keeper { (keeper.table_id ≡ L.table) × (cell_view keeper ≡ knower []) }
+        requires began { (entered_in (book_of book).journal ≡ L.began) × (before ≡ L.before) }
+        requires below { AreBelow (L.before + 1) (book_of book) }
+        ensures { (result.book ≡ book) × (result.budget ≡ budget) × (result.made ≡ 0) }
+    {
+        let (entries, rest) = blank.open::<L>();
+        Desk {
+            book,
+            budget,
+            keeper,
+            entries,
+            rest,
+            left: parts,
+            made: 0,
+            before,
+            of: PhantomData,
+        }
+    }
+
+    /// A new seat, with the next number; none where numbers or the parts of the ledger are used up.
+    pub fn seat<R: Wait>(&mut self, rt: &R, cell: &Cell) -> Option<Seat<L>>
+        requires { cell.now.table.shared.table_id ≡ L.table }
+        ensures book { self.new.book ≡ self.old.book }
+        ensures seat { IfSome result (λ s. (s.number ≡ L.before + 1 + self.old.made) × (s.deeds ≡ blank) × (self.new.made ≡ self.old.made + 1)) }
+    {
+        if self.left == 0 || self.before >= LAST_SEAT || self.made >= LAST_SEAT - self.before {
+            return None;
+        }
+        let number = self.before + 1 + self.made;
+        let share = self.rest.split_off(1, 0);
+        self.left -= 1;
+        let token = add(rt, cell, &mut self.keeper);
+        self.made += 1;
+        Some(Seat::new(number, token, share))
+    }
+
+    /// Does a command, for a seat. Answers the name of a new event, where it enters one.
+    ///
+    /// # Errors
+    /// Those of the call of the book. A number that is abandoned is no longer open with the seat then either.
+    pub fn author<R: Wait>(
+        &mut self,
+        rt: &R,
+        cell: &Cell,
+        command: Command,
+        seat: &mut Seat<L>,
+    ) -> Result<Option<EventName>, BookFault>
+        requires { cell.now.table.shared.table_id ≡ L.table }
+        ensures ok { IfOk result (λ o. Obeys command seat.old.number o (book_of self.old.book) (book_of self.new.book) × Authored command seat.old o seat.new) }
+        ensures err { IfErr result (λ fault. Refuses command (book_of self.old.book) fault × (seat.new ≡ held seat.old (mark_of command)) × (book_of self.new.book ≡ book_of self.old.book)) }
+    {
+        let mark = command.mark();
+        match obey(&mut self.book, command, seat.number()) {
+            Ok(Some(event)) => {
+                let entered = last_event(&self.book);
+                seat.note(
+                    rt,
+                    cell,
+                    &mut self.keeper,
+                    &mut self.entries,
+                    &Act::Enters(entered),
+                );
+                Ok(Some(event))
+            }
+            Ok(None) => {
+                seat.note(rt, cell, &mut self.keeper, &mut self.entries, &mark);
+                Ok(None)
+            }
+            Err(fault) => {
+                seat.note(rt, cell, &mut self.keeper, &mut self.entries, &mark);
+                Err(fault)
+            }
+        }
+    }
+
+    /// Picks the first that may be done, for a seat.
+    ///
+    /// # Errors
+    /// `Full`, `Memory`.
+    pub fn checkout<R: Wait>(
+        &mut self,
+        rt: &R,
+        cell: &Cell,
+        seat: &mut Seat<L>,
+    ) -> Result<Pick, BookFault>
+        requires { cell.now.table.shared.table_id ≡ L.table }
+        ensures ok { IfOk result (λ p. Picks self.old.budget seat.old.number p (book_of self.old.book) (book_of self.new.book) × Picked p seat.old seat.new) }
+        ensures err { IfErr result (λ fault. (seat.new ≡ seat.old) × (book_of self.new.book ≡ book_of self.old.book)) }
+    {
+        match pick_first(&mut self.book, self.budget, seat.number())? {
+            Pick::Nothing => Ok(Pick::Nothing),
+            Pick::Moved(event) => {
+                let moved = last_event(&self.book);
+                seat.note(
+                    rt,
+                    cell,
+                    &mut self.keeper,
+                    &mut self.entries,
+                    &Act::Enters(moved),
+                );
+                Ok(Pick::Moved(event))
+            }
+            Pick::Turn(ticket) => {
+                let number = ticket.out().event;
+                seat.note(
+                    rt,
+                    cell,
+                    &mut self.keeper,
+                    &mut self.entries,
+                    &Act::Opens(number),
+                );
+                Ok(Pick::Turn(ticket))
+            }
+        }
+    }
+
+    /// Enters the turn of a ticket that was run, with the seat that checked it out. A stale ticket is abandoned.
+    ///
+    /// # Errors
+    /// `NoTicket`, with another seat too, `Stale`, `Full`, `Memory`, tried in this order. The ticket comes back.
+    pub fn give<R: Wait>(
+        &mut self,
+        rt: &R,
+        cell: &Cell,
+        ticket: Ticket<Ran>,
+        seat: &mut Seat<L>,
+    ) -> Result<EventName, (Ticket<Ran>, BookFault)>
+        requires { cell.now.table.shared.table_id ≡ L.table }
+        ensures ok { IfOk result (λ e. (e ≡ ticket.carried.event) × (ticket.carried.seat ≡ seat.old.number) × Commits ticket (book_of self.old.book) (book_of self.new.book) × Returns (turn_of ticket) seat.old seat.new) }
+        ensures err { IfErr result (λ r. (r.0 ≡ ticket) × (seat.new ≡ refused r.1 ticket.carried.event seat.old) × (ticket.carried.seat ≡ seat.old.number → TellsCommit r.1 (book_of self.old.book) ticket)) }
+        ensures strange { ticket.carried.seat ≢ seat.old.number → (result ≡ Err (ticket, NoTicket)) × (book_of self.new.book ≡ book_of self.old.book) }
+    {
+        if ticket.ran().carried.seat != seat.number() {
+            return Err((ticket, BookFault::NoTicket));
+        }
+        match self.book.commit(ticket) {
+            Ok(event) => {
+                let given = last_event(&self.book);
+                seat.note(
+                    rt,
+                    cell,
+                    &mut self.keeper,
+                    &mut self.entries,
+                    &Act::Gives(given),
+                );
+                Ok(event)
+            }
+            Err((ticket, BookFault::Stale)) => {
+                let number = ticket.ran().carried.event;
+                self.close_ticket(rt, cell, number, seat);
+                Err((ticket, BookFault::Stale))
+            }
+            Err(refused) => Err(refused),
+        }
+    }
+
+    /// A ticket is no longer out, nor open with the seat.
+    fn close_ticket<R: Wait>(&mut self, rt: &R, cell: &Cell, number: EventName, seat: &mut Seat<L>)
+        requires { cell.now.table.shared.table_id ≡ L.table }
+        ensures { seat.new ≡ held seat.old (Closes number) }
+    {
+        let _ = self.book.abandon(number);
+        seat.note(
+            rt,
+            cell,
+            &mut self.keeper,
+            &mut self.entries,
+            &Act::Closes(number),
+        );
+    }
+
+    /// A seat comes back, whose list is just the entries with its number. Its part of the ledger joins the others.
+    fn take_back<R: Wait>(&mut self, rt: &R, cell: &Cell, mut seat: Seat<L>, all: &mut Share<L>)
+        requires { cell.now.table.shared.table_id ≡ L.table }
+        ensures same { self.new ≡ self.old }
+        ensures met { Answers seat.number seat.deeds (book_of self.old.book) }
+        ensures share { (all.new.parts ≡ all.old.parts + 1) × (all.new.amount ≡ all.old.amount + length seat.deeds.events) }
+    {
+        seat.note(rt, cell, &mut self.keeper, &mut self.entries, &Act::Nothing);
+        all.merge(seat.into_share());
+    }
+
+    /// Ends the work. Of each seat that is handed in, the entries with its number are just its list, each once, and its tickets out are open.
+    pub fn close<R: Wait>(self, rt: &R, cell: &Cell, seats: Vec<Seat<L>>) -> (Book, bool)
+        requires cell { cell.now.table.shared.table_id ≡ L.table }
+        requires ledger { L.parts ≡ L.seats }
+        ensures book { result.0 ≡ self.book }
+        ensures seats { All (λ s. Answers s.number s.deeds (book_of self.book)) seats.items }
+        ensures still { IsAmong L.began (entered_in (book_of self.book).journal) }
+        ensures whole { IsTrue result.1 ↔ (vec_len seats ≡ self.made) }
+        ensures all { result.1 ≡ true → sum_by (λ s. length s.deeds.events) seats.items + length L.began ≡ length (book_of self.book).journal }
+    {
+        let mut desk = self;
+        let count = seats.len() as u64;
+        let mut all = desk.rest.empty();
+        for seat in seats {
+            desk.take_back(rt, cell, seat, &mut all);
+        }
+        let whole = count == desk.made;
+        let Desk {
+            book,
+            budget: _,
+            keeper: _,
+            mut entries,
+            rest,
+            left: _,
+            made: _,
+            before: _,
+            of: _,
+        } = desk;
+        all.merge(rest);
+        entries.audit(&mut all);
+        (book, whole)
+    }
+}

@@ -1,0 +1,78 @@
+//! A book with the cell of a Bench that no type stands for yet.
+ghost use Rattle.std.specs.Prelude.{◌≡◌, ◌≤◌, ◌<◌, ◌+◌, IfOk, IfErr};
+ghost use Rattle.book.specs.BookView.{book_of};
+ghost use Rattle.book.specs.Entered.{entered_in};
+ghost use Rattle.bench.specs.Desk.{AreBelow};
+
+use crate::desk::Desk;
+use crate::seat::Opening;
+use book::book::Book;
+use pact::{Cell, Token, begin};
+use std::alloc::{AllocError, Global};
+use std::marker::Model;
+use std::sync::ledger::Blank;
+
+/// What a Bench begins with: a book, a new cell, and the greatest seat of the book's entries and of its tickets that are out.
+#[derive(Drop)]
+pub struct Begun {
+    cell: Cell,
+    keeper: Token,
+    book: Book,
+    before: u64,
+}
+
+impl Model for Begun {
+    ghost use Rattle.std.specs.Prelude.{◌≡◌, ◌+◌, []};
+    ghost use Rattle.crossbeam_utils.specs.Seq.{cell_view};
+    ghost use Rattle.book.specs.BookView.{book_of};
+    ghost use Rattle.pact.specs.Agree.{knower};
+    ghost use Rattle.bench.specs.Desk.{AreBelow};
+    ghost use Rattle.bench.specs.DeskView.{Start, start_code};
+
+    ghost Value = { Start };
+
+    ghost coded = { start_code };
+
+    ghost view = { λ o. record { table = o.cell.table.shared.table_id; book = o.book; before = o.before } };
+
+    ghost invariant = { λ o. (o.keeper.table_id ≡ o.cell.table.shared.table_id) × (cell_view o.keeper ≡ knower []) × AreBelow (o.before + 1) (book_of o.book) };
+}
+
+impl Begun {
+    /// Fails only for want of memory, and then the book comes back.
+    pub fn new(alloc: Global, book: Book) -> Result<Begun, (Book, AllocError)>
+        ensures ok { IfOk result (λ o. (o.book ≡ book) × AreBelow (o.before + 1) (book_of book)) }
+        ensures err { IfErr result (λ e. e.0 ≡ book) }
+    {
+        let before = book.greatest_seat();
+        match begin(alloc) {
+            Ok((cell, keeper)) => Ok(Begun {
+                cell,
+                keeper,
+                book,
+                before,
+            }),
+            Err(error) => Err((book, error)),
+        }
+    }
+
+    /// The cell, and the desk that is to lie under the lock.
+    pub(crate) fn into_desk<L: Opening>(
+        self,
+        budget: u32,
+        blank: Blank,
+        parts: u64,
+    ) -> (Cell, Desk<L>)
+        requires ledger { (blank.name ≡ L.name) × (blank.parts ≡ L.parts) × (L.parts ≡ L.seats) × (parts ≡ L.seats) }
+        requires book { (self.table ≡ L.table) × (entered_in (book_of self.book).journal ≡ L.began) × (self.before ≡ L.before) }
+        ensures { result.0.table.shared.table_id ≡ L.table }
+    {
+        let Begun {
+            cell,
+            keeper,
+            book,
+            before,
+        } = self;
+        (cell, Desk::new(book, budget, keeper, before, blank, parts))
+    }
+}

@@ -1,0 +1,53 @@
+use Rattle.std.proofs.Common.{◌≡◌, ◌∙◌, List, None, refl, sym, subst}
+use Rattle.kernele.specs.View.{program_of}
+use Rattle.kernele.specs.Tree.{Name}
+use Rattle.worldcells.specs.Events.{birth}
+use Rattle.worldcells.specs.Theory.{kepts_of}
+use Rattle.event.specs.Events.{birth_foot, births}
+use Rattle.book.specs.BookView.{book_of}
+use Rattle.event.specs.Effects.{Brings, Happens}
+use Rattle.event.proofs.Noted.{quietly}
+use Rattle.book.specs.Calls.{EntersNext, Numbers}
+use Rattle.book.specs.Refusals.{birth_refusal}
+use Rattle.book.proofs.Within.{room_for_birth}
+use Rattle.book.proofs.book.Book.birth_as.Goals as goal
+
+pub enter-requires-clause-possible : goal.enter-requires-clause-possible
+enter-requires-clause-possible c =
+    let e = c.in_ok-event.event in
+    let x = c.args.name.now in
+    let p = program_of c.args.script in
+    let w = (book_of c.args.self.now).world in
+    let names = c.args.earlier.items in
+    let n : Numbers w names c.in_ok-event.vats.items = subst (λ (xs : List Name). Numbers w xs c.in_ok-event.vats.items) c.deref.ensures.value c.in_ok-event.ensures.ok.3 in
+    let f = birth_foot e x names n.vats p in
+    let it = c.in_ok-effects.effects in
+    let brings : Brings e f it.touched.items (kepts_of it.records.items) =
+    subst (λ (xs : List Name). Brings e (birth_foot e x xs n.vats p) it.touched.items (kepts_of it.records.items)) c.deref-2.ensures.value (c.in_ok-effects.ensures.brings n.vats (n.numbered ∙ sym c.deref-3.ensures.value)) in
+    (f, subst (λ (y : Name). Happens (record { name = e; act = birth y names p }) f w it) (sym c.in_ok-share.ensures) (record { does = ∣ quietly (births n.vats c.in_ok-event.ensures.ok.2 n.named) refl it.notes.items c.in_ok-effects.ensures.quiet ∣₁; brings = brings }))
+
+pub enter-requires-clause-room : goal.enter-requires-clause-room
+enter-requires-clause-room c =
+    room_for_birth (book_of c.args.self.now) c.args.name.now c.deref.result.now (program_of c.args.script) c.in_ok-event.ensures.ok.4
+
+pub returns-clause-ok : goal.returns-clause-ok
+returns-clause-ok c =
+    let e = c.in_ok-event.event in
+    let x = c.args.name.now in
+    let p = program_of c.args.script in
+    let b = book_of c.args.self.now in
+    let w = b.world in
+    let names = c.args.earlier.items in
+    let n : Numbers w names c.in_ok-event.vats.items = subst (λ (xs : List Name). Numbers w xs c.in_ok-event.vats.items) c.deref.ensures.value c.in_ok-event.ensures.ok.3 in
+    let f = birth_foot e x names n.vats p in
+    let it = c.in_ok-effects.effects in
+    let brings : Brings e f it.touched.items (kepts_of it.records.items) =
+    subst (λ (xs : List Name). Brings e (birth_foot e x xs n.vats p) it.touched.items (kepts_of it.records.items)) c.deref-2.ensures.value (c.in_ok-effects.ensures.brings n.vats (n.numbered ∙ sym c.deref-3.ensures.value)) in
+    let h : Happens (record { name = e; act = birth x names p }) f w it = record { does = ∣ quietly (births n.vats c.in_ok-event.ensures.ok.2 n.named) refl it.notes.items c.in_ok-effects.ensures.quiet ∣₁; brings = brings } in (
+      subst (λ (xs : List Name). birth_refusal b x xs p ≡ None) c.deref.ensures.value c.in_ok-event.ensures.ok.4,
+      (
+        n.vats,
+        subst (λ (y : Name). EntersNext (record { name = e; act = birth y names p }) f c.args.seat b (book_of c.enter.new.self)) c.in_ok-share.ensures
+            (c.in_ok-enter.ensures.ok f (subst (λ (y : Name). Happens (record { name = e; act = birth y names p }) f w it) (sym c.in_ok-share.ensures) h)),
+      ),
+    )

@@ -1,0 +1,99 @@
+// Events that are entered from no seat.
+ghost use Rattle.std.specs.Prelude.{◌≡◌, List, None, Some, IfOk, IfErr, OnErr};
+ghost use Rattle.ids.specs.declared.names.VatNo.{VatNo};
+ghost use Rattle.kernele.specs.View.{program_of};
+ghost use Rattle.worldcells.specs.Events.{birth, ask, arrive, forward, learn};
+ghost use Rattle.worldcells.specs.World.{vat_named};
+ghost use Rattle.post.specs.Messages.{Vat as VatModel};
+ghost use Rattle.event.specs.Events.{Foot, birth_foot, ask_foot};
+ghost use Rattle.book.specs.Refusals.{birth_refusal, ask_refusal, arrival_refusal, forward_refusal, learn_refusal, learning_refusal};
+ghost use Rattle.book.specs.Calls.{EntersNext};
+ghost use Rattle.book.specs.Fault.{Tells};
+
+use crate::book::{Book, NO_SEAT};
+use crate::fault::BookFault;
+use ids::names::{EventName, MsgId, PromId, VatNo};
+use ids::text::Text;
+use kernele::tree::Program;
+
+impl Book {
+    ghost use Rattle.book.specs.BookView.{book_of};
+
+    /// As `birth_as`, from no seat.
+    ///
+    /// # Errors
+    /// As `birth_as`.
+    pub fn birth(
+        &mut self,
+        name: &Text,
+        earlier: Vec<Text>,
+        script: Program,
+    ) -> Result<EventName, BookFault>
+        ensures ok { IfOk result (λ e. (birth_refusal (book_of self.old) name.now earlier.items (program_of script) ≡ None)
+            × ((vats : List VatModel) × EntersNext (record { name = e; act = birth name.now earlier.items (program_of script) }) (birth_foot e name.now earlier.items vats (program_of script)) 0 (book_of self.old) (book_of self.new))) }
+        ensures err { IfErr result (λ fault. Tells fault (birth_refusal (book_of self.old) name.now earlier.items (program_of script))) }
+        ensures unchanged { OnErr result (book_of self.new ≡ book_of self.old) }
+    {
+        self.birth_as(name, earlier, script, NO_SEAT)
+    }
+
+    /// As `ask_as`, from no seat.
+    ///
+    /// # Errors
+    /// As `ask_as`.
+    pub fn ask(&mut self, name: &Text, program: Program) -> Result<EventName, BookFault>
+        ensures ok { IfOk result (λ e. (ask_refusal (book_of self.old) name.now (program_of program) ≡ None) × ((v : VatNo) × EntersNext (record { name = e; act = ask name.now (program_of program) }) (ask_foot e name.now v (program_of program)) 0 (book_of self.old) (book_of self.new))) }
+        ensures err { IfErr result (λ fault. Tells fault (ask_refusal (book_of self.old) name.now (program_of program))) }
+        ensures unchanged { OnErr result (book_of self.new ≡ book_of self.old) }
+    {
+        self.ask_as(name, program, NO_SEAT)
+    }
+
+    /// As `arrive_as`, from no seat.
+    ///
+    /// # Errors
+    /// As `arrive_as`.
+    pub fn arrive(&mut self, name: MsgId) -> Result<EventName, BookFault>
+        ensures ok { IfOk result (λ e. (arrival_refusal (book_of self.old) name ≡ None) × ((f : Foot) × EntersNext (record { name = e; act = arrive name }) f 0 (book_of self.old) (book_of self.new))) }
+        ensures err { IfErr result (λ fault. Tells fault (arrival_refusal (book_of self.old) name)) }
+        ensures unchanged { OnErr result (book_of self.new ≡ book_of self.old) }
+    {
+        self.arrive_as(name, NO_SEAT)
+    }
+
+    /// As `forward_as`, from no seat.
+    ///
+    /// # Errors
+    /// As `forward_as`.
+    pub fn forward(&mut self, name: MsgId) -> Result<EventName, BookFault>
+        ensures ok { IfOk result (λ e. (forward_refusal (book_of self.old) name ≡ None) × ((f : Foot) × EntersNext (record { name = e; act = forward name }) f 0 (book_of self.old) (book_of self.new))) }
+        ensures err { IfErr result (λ fault. Tells fault (forward_refusal (book_of self.old) name)) }
+        ensures unchanged { OnErr result (book_of self.new ≡ book_of self.old) }
+    {
+        self.forward_as(name, NO_SEAT)
+    }
+
+    /// As `learn_as`, from no seat.
+    ///
+    /// # Errors
+    /// As `learn_as`.
+    pub fn learn(&mut self, name: &Text, promise: PromId) -> Result<EventName, BookFault>
+        ensures ok { IfOk result (λ e. (learn_refusal (book_of self.old) name.now promise ≡ None) × ((v : VatModel) × (f : Foot) × (vat_named (book_of self.old).world name.now ≡ Some v) × EntersNext (record { name = e; act = learn v.number promise }) f 0 (book_of self.old) (book_of self.new))) }
+        ensures err { IfErr result (λ fault. Tells fault (learn_refusal (book_of self.old) name.now promise)) }
+        ensures unchanged { OnErr result (book_of self.new ≡ book_of self.old) }
+    {
+        self.learn_as(name, promise, NO_SEAT)
+    }
+
+    /// As `learn_at_as`, from no seat.
+    ///
+    /// # Errors
+    /// As `learn_at_as`.
+    pub fn learn_at(&mut self, vat: VatNo, promise: PromId) -> Result<EventName, BookFault>
+        ensures ok { IfOk result (λ e. (learning_refusal (book_of self.old) vat promise ≡ None) × ((f : Foot) × EntersNext (record { name = e; act = learn vat promise }) f 0 (book_of self.old) (book_of self.new))) }
+        ensures err { IfErr result (λ fault. Tells fault (learning_refusal (book_of self.old) vat promise)) }
+        ensures unchanged { OnErr result (book_of self.new ≡ book_of self.old) }
+    {
+        self.learn_at_as(vat, promise, NO_SEAT)
+    }
+}
