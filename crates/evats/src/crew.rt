@@ -12,6 +12,7 @@ use stepper::{Crew, Order, WorkFault};
 const MOST_STEPS: u32 = 1_000_000;
 
 /// A crew of threads, which share the book by a Bench.
+#[derive(Drop)]
 pub(crate) struct Threaded<R> {
     pub rt: R,
 }
