@@ -1,7 +1,7 @@
-use Rattle.std.proofs.Common.{[], ◌∷◌, ◌++◌, map, ap₂, ◌∙◌}
+use Rattle.std.proofs.Common.{[], ◌∷◌, ◌++◌, map, ap, ap₂, ◌∙◌}
 use Rattle.ids.specs.declared.cells.CellKey.TheVariants as key
 use Rattle.post.specs.MessageView.{message_of}
-use Rattle.erules.specs.OutboxView.{letter_of}
+use Rattle.erules.specs.OutboxView.{letter_of, note_of}
 use Rattle.erules.specs.PublicationsView.{publications_of}
 use Rattle.worldcells.specs.View.{world_of}
 use Rattle.event.specs.Entries.{entries_of, keys_in}
@@ -18,4 +18,4 @@ returns c =
     (c.in_ok-turn_touched.ensures.touched
     ∙ ap₂ (λ ps ms. (map key.Board ps ++ (map key.Msg ms ++ map (λ b. key.Board b.0) (publications_of o.out.publications))) ++ rest) way.through way.awaited)
     (c.in_ok-turn_records.ensures u)
-    c.in_ok-share_notes.ensures
+    (c.in_ok-share_notes.ensures ∙ ap (map note_of) c.as_slice.ensures.value)
