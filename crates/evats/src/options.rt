@@ -21,12 +21,14 @@ Commands, one a line:
   enabled                   what may be done now
   step                      does the first that may be done
   run N                     up to N steps
+  work K N                  K workers, up to N turns
   arrive M                  the message M arrives at the vat of its target
   forward M                 the message M goes on to where its target lives now
   turn M                    the turn of the message M
   learn NAME P              a vat learns what came of the promise P
   show                      the world
   journal                   all events with their causes
+  log NAME                  what the turns of a vat got and sent, as JSON
   cone E                    the event E with all its consequences
   undo E..                  takes events back that have no consequences but each other
   undo-cone E               takes an event back with all its consequences
