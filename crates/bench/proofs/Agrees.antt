@@ -10,6 +10,7 @@ use Rattle.std.proofs.lemmas.Option.{slice_get_within, get_or_from_slice_get}
 use Rattle.std.proofs.lemmas.Bool.{ne_eqb}
 use Rattle.std.proofs.lemmas.Bool.Decides.{eqb_tells}
 use Rattle.ids.specs.declared.names.EventName.{EventName}
+use Rattle.worldcells.specs.Events as events
 use Rattle.worldcells.specs.Events.{Event}
 use Rattle.worldcells.specs.EventView.{event_of}
 use Rattle.worldcells.specs.declared.event.Event as code
@@ -35,7 +36,7 @@ perm_as xs xs' ys ys' e f h = let P : List A × List A → Type 0 = λ p. IsPerm
 
 -- ---- entries
 abbrev pub entry : Line → Entered
-entry l = record { seat = l.seat; event = l.entry.event }
+entry l = record { seat = l.seat; event = events.event_in l.entry.event }
 
 abbrev event_in : Entered → Event
 event_in e = e.event

@@ -5,7 +5,7 @@ use Rattle.std.proofs.lemmas.List.{map-append, length-map}
 use Rattle.std.proofs.lemmas.List.Sorted.{IsPermutation-refl, IsPermutation-cons, IsPermutation-middle}
 use Rattle.std.proofs.lemmas.Option.{slice_get-map, slice_get_read}
 use Rattle.ids.specs.declared.names.EventName.{EventName}
-use Rattle.worldcells.specs.Events.{Act, Event, birth, ask, arrive, forward, learn, turn}
+use Rattle.worldcells.specs.Events.{Act, Event, Noted, event_in, with_notes, birth, ask, arrive, forward, learn, turn}
 use Rattle.worldcells.specs.EventView.{event_of}
 use Rattle.event.specs.Events.{Foot}
 use Rattle.agenda.specs.declared.agenda.Step.{Step}
@@ -38,11 +38,11 @@ use Rattle.bench.specs.Author.{IsEntered, IsActOf, IsStep, EntersAct, Marks, Ent
 use Rattle.bench.proofs.Agrees.{entry, Grows, grown, Rests, rests_same, desk_rested, desk_closed}
 
 -- ---- an event is entered
-pub grows : (e : Event) (f : Foot) (seat : ℕ) (old now : Book) → Enters e f seat old now → Grows (record { seat = seat; event = e }) old now
-grows e f seat old now h = grown old now h.line (record { seat = seat; event = e }) h.entered (λ i. record { seat = h.tells.same_seat i; event = h.tells.event i })
+pub grows : (e : Noted) (f : Foot) (seat : ℕ) (old now : Book) → Enters e f seat old now → Grows (record { seat = seat; event = event_in e }) old now
+grows e f seat old now h = grown old now h.line (record { seat = seat; event = event_in e }) h.entered (λ i. record { seat = h.tells.same_seat i; event = event_in (h.tells.event i) })
 
 pub grows_act : (e : EventName) (act : Act) (seat : ℕ) (old now : Book) → EntersAct e act seat old now → Grows (record { seat = seat; event = record { name = e; act = act } }) old now
-grows_act e act seat old now h = grows (record { name = e; act = act }) h.foot seat old now h.enters.enters
+grows_act e act seat old now h = grows (with_notes (record { name = e; act = act }) []) h.foot seat old now h.enters.enters
 
 -- of which events the acts are
 pub act_of_command : (c : Command) (b : Book) (act : Act) → IsEntered c b act → IsActOf c act
