@@ -15,16 +15,16 @@ use Rattle.event.proofs.Law.{is_turn, noted_laws}
 
 -- an event that is no turn makes no notes
 quiet_notes : {e : Event} {w : World} {f : Foot} (d : Does e w f) → is_turn e.act ≡ false → notes_of d ≡ []
-quiet_notes (births vats free named) no = refl
-quiet_notes (asks named) no = refl
-quiet_notes (arrives there moved) no = refl
-quiet_notes (forwards there waiting is onward) no = refl
-quiet_notes (learns unresolved resolved leaves) no = refl
-quiet_notes (turns possible leaves) no = absurd (false≢true (sym no))
+quiet_notes (births vats free named) quiet = refl
+quiet_notes (asks named) quiet = refl
+quiet_notes (arrives there moved) quiet = refl
+quiet_notes (forwards there waiting is onward) quiet = refl
+quiet_notes (learns unresolved resolved leaves) quiet = refl
+quiet_notes (turns possible leaves) quiet = absurd (false≢true (sym quiet))
 
 -- so it is possible with no notes
 pub quietly : {e : Event} {w : World} {f : Foot} → Does e w f → is_turn e.act ≡ false → (notes : List code-note.Note) → notes ≡ [] → DoesNoted (with_notes e (map note_of notes)) w f
-quietly d no notes none = (d, quiet_notes d no ∙ sym (ap (map note_of) none))
+quietly d quiet notes none = (d, quiet_notes d quiet ∙ sym (ap (map note_of) none))
 
 -- a run of events with their notes is one of the events alone
 pub plain_of : {es : List Noted} {w : World} → Run noted_events empty es w → Run events empty (map event_in es) w
