@@ -14,7 +14,6 @@ ghost use Rattle.bench.specs.Desk.{held, refused, Answers, Returns};
 ghost use Rattle.bench.specs.Author.{Authored, mark_of, turn_of, Picked};
 
 pub mod command;
-pub mod desk;
 pub mod fault;
 mod last;
 pub mod once;
@@ -22,13 +21,14 @@ pub mod pick;
 pub mod pile;
 pub mod seat;
 pub mod start;
+pub mod under_lock;
 pub mod work;
 
 use crate::command::Command;
-use crate::desk::Desk;
 use crate::pick::Pick;
 use crate::seat::{Opening, Seat};
 use crate::start::Begun;
+use crate::under_lock::Desk;
 use book::book::Book;
 use book::fault::BookFault;
 use ids::names::EventName;

@@ -4,8 +4,8 @@ ghost use Rattle.book.specs.BookView.{book_of};
 ghost use Rattle.book.specs.Entered.{entered_in};
 ghost use Rattle.bench.specs.Desk.{AreBelow};
 
-use crate::desk::Desk;
 use crate::seat::Opening;
+use crate::under_lock::Desk;
 use book::book::Book;
 use pact::{Cell, Token, begin};
 use std::alloc::{AllocError, Global};

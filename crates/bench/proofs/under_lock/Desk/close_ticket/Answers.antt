@@ -2,7 +2,7 @@ use Rattle.std.proofs.Common.{◌∙◌, rules}
 use Rattle.book.specs.BookView.{book_of}
 use Rattle.bench.proofs.Agrees.{rests_same, desk_closed, counted_same, few_events}
 use Rattle.bench.proofs.Moves.{abandoned, journal_within}
-use Rattle.bench.proofs.desk.Desk.close_ticket.Goals as goal
+use Rattle.bench.proofs.under_lock.Desk.close_ticket.Goals as goal
 
 pub note-requires-clause-room : goal.note-requires-clause-room
 note-requires-clause-room g c = λ at. few_events _ _ _ _ _ (book_of c.self.inside.book) _ c.self.invariant.2 (journal_within c.self.inside.book) at

@@ -1,7 +1,7 @@
 use Rattle.std.proofs.Common.{rules}
 use Rattle.book.specs.BookView.{book_of}
 use Rattle.bench.proofs.Agrees.{no_desk, counted_none}
-use Rattle.bench.proofs.desk.Desk.new.Goals as goal
+use Rattle.bench.proofs.under_lock.Desk.new.Goals as goal
 
 pub invariant_of-result : goal.invariant_of-result
 invariant_of-result g c =

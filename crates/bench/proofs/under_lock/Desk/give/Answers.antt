@@ -4,7 +4,7 @@ use Rattle.desk.specs.Desks.{without}
 use Rattle.bench.proofs.Agrees.{desk_given, counted_more, few_events}
 use Rattle.bench.proofs.Moves.{grows, journal_within}
 use Rattle.bench.specs.Seats.{is_turn}
-use Rattle.bench.proofs.desk.Desk.give.Goals as goal
+use Rattle.bench.proofs.under_lock.Desk.give.Goals as goal
 
 pub last_event-requires : goal.last_event-requires
 last_event-requires g c =

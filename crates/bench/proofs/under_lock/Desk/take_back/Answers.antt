@@ -2,7 +2,7 @@ use Rattle.std.proofs.Common.{◌∙◌, ap, refl, subst, sym, rules}
 use Rattle.book.specs.BookView.{book_of}
 use Rattle.bench.proofs.Agrees.{rests_same, desk_rested, counted_same, few_events, met}
 use Rattle.bench.proofs.Moves.{journal_within}
-use Rattle.bench.proofs.desk.Desk.take_back.Goals as goal
+use Rattle.bench.proofs.under_lock.Desk.take_back.Goals as goal
 
 pub note-requires-clause-room : goal.note-requires-clause-room
 note-requires-clause-room g c = λ at. few_events _ _ _ _ _ (book_of c.self.inside.book) _ c.self.invariant.2 (journal_within c.self.inside.book) at

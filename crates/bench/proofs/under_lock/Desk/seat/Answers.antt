@@ -1,7 +1,7 @@
 use Rattle.std.proofs.Common.{◌∙◌, rules}
 use Rattle.book.specs.BookView.{book_of}
 use Rattle.bench.proofs.Agrees.{one_more}
-use Rattle.bench.proofs.desk.Desk.seat.Goals as goal
+use Rattle.bench.proofs.under_lock.Desk.seat.Goals as goal
 
 pub invariant_of-self : goal.invariant_of-self
 invariant_of-self g c =
