@@ -1,7 +1,7 @@
 // Seats and tickets, call by call.
 ghost use Rattle.std.specs.Prelude.{◌≡◌};
 ghost use Rattle.book.specs.BookView.{book_of};
-ghost use Rattle.bench.specs.Entered.{entered_in};
+ghost use Rattle.book.specs.Entered.{entered_in};
 
 use crate::books::{BUDGET, asked, begun, message, name, passed_on, program};
 use bench::Bench;

@@ -1,7 +1,7 @@
 // Turns that workers run at the same time.
 ghost use Rattle.std.specs.Prelude.{◌≡◌};
 ghost use Rattle.book.specs.BookView.{book_of};
-ghost use Rattle.bench.specs.Entered.{entered_in};
+ghost use Rattle.book.specs.Entered.{entered_in};
 
 use crate::books::{BUDGET, asked, begun, birth};
 use bench::Bench;

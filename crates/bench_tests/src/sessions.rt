@@ -1,7 +1,7 @@
 // A run to its end, by one seat.
 ghost use Rattle.std.specs.Prelude.{◌≡◌};
 ghost use Rattle.book.specs.BookView.{book_of};
-ghost use Rattle.bench.specs.Entered.{entered_in};
+ghost use Rattle.book.specs.Entered.{entered_in};
 
 use crate::books::{BUDGET, begun, name, program, vat};
 use crate::by_calls::{author, give, run, seat};

@@ -1,5 +1,5 @@
 use Rattle.book.specs.BookView.{book_of}
-use Rattle.bench.specs.Entered.{entered_in}
+use Rattle.book.specs.Entered.{entered_in}
 use Rattle.bench_tests.proofs.by_calls.moving_world_now.Given as goal
 
 abbrev pub ghosts-moving_world-L-Ledger : goal.ghosts-moving_world-L-Ledger

@@ -1,5 +1,5 @@
 use Rattle.book.specs.BookView.{book_of}
-use Rattle.bench.specs.Entered.{entered_in}
+use Rattle.book.specs.Entered.{entered_in}
 use Rattle.bench_tests.proofs.by_calls.strange_tickets_now.Given as goal
 
 abbrev pub ghosts-strange_tickets-L-Ledger : goal.ghosts-strange_tickets-L-Ledger

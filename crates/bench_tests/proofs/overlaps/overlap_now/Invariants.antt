@@ -1,5 +1,5 @@
 use Rattle.book.specs.BookView.{book_of}
-use Rattle.bench.specs.Entered.{entered_in}
+use Rattle.book.specs.Entered.{entered_in}
 use Rattle.bench_tests.proofs.overlaps.overlap_now.Given as goal
 
 abbrev pub ghosts-overlap-L-Ledger : goal.ghosts-overlap-L-Ledger

@@ -1,5 +1,5 @@
 use Rattle.book.specs.BookView.{book_of}
-use Rattle.bench.specs.Entered.{entered_in}
+use Rattle.book.specs.Entered.{entered_in}
 use Rattle.bench_tests.proofs.sessions.pipelined_now.Given as goal
 
 abbrev pub ghosts-pipelined-L-Ledger : goal.ghosts-pipelined-L-Ledger
