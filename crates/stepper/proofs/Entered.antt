@@ -1,11 +1,9 @@
--- What is entered in a book is told by the event alone.
-use Rattle.std.proofs.Common.{◌≡◌, ℕ, Bool, true, List, [], ◌∷◌, ◌++◌, Some, map, refl, sym, ap, subst, ◌∙◌}
-use Rattle.std.specs.Prelude.{◌&&◌, is_some, reverse, codes}
-use Rattle.std.specs.List.{list_any, filter}
+-- What is entered in a book is told by the event alone, also in books that are the same.
+use Rattle.std.proofs.Common.{◌≡◌, ℕ, ◌+◌, Bool, List, [], ◌∷◌, ◌++◌, refl, sym, ap, subst, ◌∙◌}
+use Rattle.std.specs.Prelude.{is_some, reverse, codes}
 use Rattle.std.proofs.Props.{props}
 use Rattle.std.proofs.Math.Logic.{∥∥₁_elim}
 use Rattle.history.specs.Subject.{after, new, touches}
-use Rattle.history.specs.Journal.{Entry, causes_of, name_of}
 use Rattle.history.proofs.Core.{runs_are_one}
 use Rattle.history.proofs.Writing.{after_alike}
 use Rattle.ids.specs.Names.{event_text}
@@ -22,12 +20,13 @@ use Rattle.event.specs.Events.{Foot, Does, events, Turn, Turns, turn_foot}
 use Rattle.event.specs.Walks.{found_by}
 use Rattle.event.specs.Runs.{PlainRun}
 use Rattle.event.proofs.Law.{events_laws}
-use Rattle.journal.specs.Lines.{plain, Line, entries_in}
+use Rattle.journal.specs.Lines.{plain, Line}
 use Rattle.book.specs.Books.{Book}
-use Rattle.book.specs.Calls.{Tells, Enters, EntersNext, TurnsNext}
+use Rattle.book.specs.Calls.{Tells, Enters, EntersNext, EntersTurn, TurnsNext}
 use Rattle.book.proofs.Sets.{World-set}
 use Rattle.stepper.specs.Replies.{told_text, turned_text}
 use Rattle.stepper.specs.Laws.{SameLine, SameLines, SameBook}
+use Rattle.stepper.proofs.SameBooks.{lines_more, same_causes}
 
 bools : IsSet Bool
 bools = hlevel props
@@ -53,10 +52,6 @@ same_lines ls ms e = subst (SameLines ls) (sym e) (these_lines ls)
 pub same_book : (b : Book) → SameBook b b
 same_book b = record { world = refl; next = refl; out = refl; journal = same_lines b.journal b.journal refl }
 
-lines_more : (ls : List Line) (l m : Line) → SameLine l m → SameLines (ls ++ l ∷ []) (ls ++ m ∷ [])
-lines_more [] l m h = (h, tt)
-lines_more (x ∷ xs) l m h = (one_line x, lines_more xs l m h)
-
 -- ---- one event in one world
 
 module _ {e : Event} {f g : Foot} {w : World} (h : ∥ Does e w f ∥₁) (k : ∥ Does e w g ∥₁) where
@@ -69,40 +64,38 @@ module _ {e : Event} {f g : Foot} {w : World} (h : ∥ Does e w f ∥₁) (k : �
   written_once : (c : CellKey) → is_some (new events f c) ≡ is_some (new events g c)
   written_once c = ∥∥₁_elim h (bools _ _) (λ a. ∥∥₁_elim k (bools _ _) (λ b. ap is_some ((events_laws.once e w f g a b).write c)))
 
--- the causes go by the cells that are touched
-causes_once : (l m : Line) (es : List (Entry plain)) → ((k : CellKey) → touches plain m.entry.foot k ≡ touches plain l.entry.foot k) → causes_of plain m.entry.foot es ≡ causes_of plain l.entry.foot es
-causes_once l m es h = λ i. map (name_of plain) (filter (λ (a : Entry plain). a.live && list_any (λ p. h p.0 i) a.foot.writes) es)
-
-line_once : {e : Event} {f g : Foot} {w : World} {seat : ℕ} {ls : List Line} {l m : Line} → ∥ Does e w f ∥₁ → ∥ Does e w g ∥₁ → Tells e f seat ls l → Tells e g seat ls m → SameLine l m
-line_once {ls = ls} {l = l} {m = m} a b h k =
+line_once : {e : Event} {f g : Foot} {w : World} {seat : ℕ} {ls ms : List Line} {l m : Line} → SameLines ls ms → ∥ Does e w f ∥₁ → ∥ Does e w g ∥₁ → Tells e f seat ls l → Tells e g seat ms m → SameLine l m
+line_once {ls = ls} {ms = ms} {l = l} {m = m} same a b h k =
     let touched : (c : CellKey) → touches plain m.entry.foot c ≡ touches plain l.entry.foot c = λ c. k.touched c ∙ sym (touched_once a b c) ∙ sym (h.touched c) in
     record {
       event = k.event ∙ sym h.event;
       seat = k.same_seat ∙ sym h.same_seat;
       live = k.live ∙ sym h.live;
-      causes = k.causes ∙ ap reverse (causes_once l m (entries_in ls) touched) ∙ sym h.causes;
+      causes = k.causes ∙ ap reverse (same_causes l.entry.foot m.entry.foot touched ls ms same) ∙ sym h.causes;
       touched = touched;
       written = λ c. k.written c ∙ sym (written_once a b c) ∙ sym (h.written c);
     }
 
-pub enters_once : {e : Event} {f g : Foot} {seat : ℕ} {b c d : Book} → Enters e f seat b c → Enters e g seat b d → d.next ≡ c.next → d.out ≡ c.out → SameBook c d
-enters_once {b = b} {c = c} {d = d} h k next out = record {
-  world = k.step ∙ sym (after_once h.does k.does) ∙ sym h.step;
-  next = next;
-  out = out;
-  journal = subst (λ (z : List Line). SameLines z d.journal) (sym h.entered)
-      (subst (λ (z : List Line). SameLines (b.journal ++ h.line ∷ []) z) (sym k.entered) (lines_more b.journal h.line k.line (line_once h.does k.does h.tells k.tells)));
-}
+pub enters_once : {e : Event} {f g : Foot} {seat : ℕ} {a b c d : Book} → SameBook a b → Enters e f seat a c → Enters e g seat b d → d.next ≡ c.next → d.out ≡ c.out → SameBook c d
+enters_once {e = e} {f = f} {g = g} {a = a} {b = b} {c = c} {d = d} same h k next out =
+    let does : ∥ Does e a.world g ∥₁ = subst (λ (w : World). ∥ Does e w g ∥₁) same.world k.does in
+    record {
+      world = k.step ∙ ap (λ (w : World). after events g w) same.world ∙ sym (after_once h.does does) ∙ sym h.step;
+      next = next;
+      out = out;
+      journal = subst (λ (z : List Line). SameLines z d.journal) (sym h.entered)
+          (subst (λ (z : List Line). SameLines (a.journal ++ h.line ∷ []) z) (sym k.entered) (lines_more a.journal b.journal h.line k.line same.journal (line_once same.journal h.does does h.tells k.tells)));
+    }
 
 pub one_name : (x y : EventName) (n : ℕ) → x.0 ≡ n → y.0 ≡ n → x ≡ y
 one_name x y n h k = λ i. record { 0 = (h ∙ sym k) i }
 
 -- an event that is entered next has one name, and leaves one book
-pub entered_once : {x y : EventName} {a : Act} {f g : Foot} {b c d : Book} → EntersNext (record { name = x; act = a }) f 0 b c → EntersNext (record { name = y; act = a }) g 0 b d → (x ≡ y) × SameBook c d
-entered_once {x = x} {y = y} {a = a} {g = g} {b = b} {d = d} h k =
-    let same : x ≡ y = one_name x y b.next h.named k.named in
-    let also : EntersNext (record { name = x; act = a }) g 0 b d = subst (λ (z : EventName). EntersNext (record { name = z; act = a }) g 0 b d) (sym same) k in
-    (same, enters_once h.enters also.enters (k.drawn ∙ sym h.drawn) (k.same_out ∙ sym h.same_out))
+pub entered_once : {x y : EventName} {act : Act} {f g : Foot} {a b c d : Book} → SameBook a b → EntersNext (record { name = x; act = act }) f 0 a c → EntersNext (record { name = y; act = act }) g 0 b d → (x ≡ y) × SameBook c d
+entered_once {x = x} {y = y} {act = act} {g = g} {a = a} {b = b} {d = d} same h k =
+    let one : x ≡ y = one_name x y a.next h.named (k.named ∙ same.next) in
+    let also : Enters (record { name = x; act = act }) g 0 b d = subst (λ (z : EventName). Enters (record { name = z; act = act }) g 0 b d) (sym one) k.enters in
+    (one, enters_once same h.enters also (k.drawn ∙ ap (λ n. n + 1) same.next ∙ sym h.drawn) (k.same_out ∙ same.out ∙ sym h.same_out))
 
 -- ---- turns
 
@@ -124,17 +117,18 @@ told_once {e = e} {w = w} {n = n} t u p q =
 turned_so : (x y : EventName) (o p : Told) → y ≡ x → told_text p ≡ told_text o → turned_text y p ≡ turned_text x o
 turned_so x y o p e words = ap (λ (z : EventName). codes "ok " ++ (event_text z ++ (codes " " ++ (told_text p ++ 10 ∷ [])))) e ∙ ap (λ (z : List ℕ). codes "ok " ++ (event_text x ++ (codes " " ++ (z ++ 10 ∷ [])))) words
 
-pub turned_once : {m : MsgId} {budget : ℕ} {b c d : Book} {x y : EventName} {t u : Turn} → TurnsNext x m budget t b c → TurnsNext y m budget u b d
+pub turned_once : {m : MsgId} {budget : ℕ} {a b c d : Book} {x y : EventName} {t u : Turn} → SameBook a b → TurnsNext x m budget t a c → TurnsNext y m budget u b d
     → (turned_text y u.outcome.told ≡ turned_text x t.outcome.told) × SameBook c d
-turned_once {m = m} {budget = budget} {b = b} {d = d} {x = x} {y = y} {t = t} {u = u} h k =
-    let same : x ≡ y = one_name x y b.next h.named k.named in
-    let also : TurnsNext x m budget u b d = subst (λ (z : EventName). TurnsNext z m budget u b d) (sym same) k in
-    let words : told_text u.outcome.told ≡ told_text t.outcome.told = ∥∥₁_elim h.enters.turns (texts _ _) (λ p. ∥∥₁_elim also.enters.turns (texts _ _) (λ q. told_once t u p q)) in
-    let vat : u.vat ≡ t.vat = ∥∥₁_elim h.enters.turns (vats _ _) (λ p. ∥∥₁_elim also.enters.turns (vats _ _) (λ q. one_vat t u p q)) in (
-      turned_so x y t.outcome.told u.outcome.told (sym same) words,
-      enters_once h.enters.enters
-          (subst (λ (v : VatNo). Enters (record { name = x; act = turn v m budget }) (turn_foot x b.world m u also.enters.cells also.enters.left) 0 b d) vat also.enters.enters)
-          (k.drawn ∙ sym h.drawn) (k.same_out ∙ sym h.same_out),
+turned_once {m = m} {budget = budget} {a = a} {b = b} {d = d} {x = x} {y = y} {t = t} {u = u} same h k =
+    let one : x ≡ y = one_name x y a.next h.named (k.named ∙ same.next) in
+    let also : EntersTurn x m budget 0 u b d = subst (λ (z : EventName). EntersTurn z m budget 0 u b d) (sym one) k.enters in
+    let turns : ∥ Turns x a.world m budget u ∥₁ = subst (λ (w : World). ∥ Turns x w m budget u ∥₁) same.world also.turns in
+    let words : told_text u.outcome.told ≡ told_text t.outcome.told = ∥∥₁_elim h.enters.turns (texts _ _) (λ p. ∥∥₁_elim turns (texts _ _) (λ q. told_once t u p q)) in
+    let vat : u.vat ≡ t.vat = ∥∥₁_elim h.enters.turns (vats _ _) (λ p. ∥∥₁_elim turns (vats _ _) (λ q. one_vat t u p q)) in (
+      turned_so x y t.outcome.told u.outcome.told (sym one) words,
+      enters_once same h.enters.enters
+          (subst (λ (v : VatNo). Enters (record { name = x; act = turn v m budget }) (turn_foot x b.world m u also.cells also.left) 0 b d) vat also.enters)
+          (k.drawn ∙ ap (λ n. n + 1) same.next ∙ sym h.drawn) (k.same_out ∙ same.out ∙ sym h.same_out),
     )
 
 -- ---- plain runs

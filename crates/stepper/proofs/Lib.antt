@@ -6,7 +6,10 @@ pub mod Going
 pub mod Listings
 pub mod Names
 pub mod OneAnswer
+pub mod OneMove
+pub mod OneText
 pub mod Running
+pub mod SameBooks
 pub mod Scripting
 pub mod Story
 pub mod Whole

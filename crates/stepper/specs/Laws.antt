@@ -1,15 +1,24 @@
--- What holds of replies: each is a function of the book and the command, but for want of memory and the place of `L5`.
-use Rattle.std.specs.Prelude.{◌≡◌, ℕ, List, [], ◌∷◌, Bool, is_some, Result, codes}
+-- What holds of replies: each is a function of the book and the command, but for want of memory and the place of `L5`; where a reply names vats,
+-- or a promise is named without its home, one name of a vat and one home are taken for granted.
+use Rattle.std.specs.Prelude.{◌≡◌, ℕ, true, List, [], ◌∷◌, ◌++◌, Bool, Some, is_some, Result, codes}
 use Rattle.history.specs.Subject.{touches, new}
 use Rattle.ids.specs.declared.cells.CellKey.{CellKey}
+use Rattle.ids.specs.declared.cells.CellKey.TheVariants as key
+use Rattle.ids.specs.declared.names.PromId.{PromId}
+use Rattle.ids.specs.declared.names.VatNo.{VatNo}
+use Rattle.kernele.specs.Tree.{Name}
 use Rattle.ereader.specs.Shown as reading
 use Rattle.ereader.specs.declared.fault.ReadFault.TheVariants as read_fault
+use Rattle.worldcells.specs.World.{World}
+use Rattle.agenda.specs.Agendas.{can_learn}
 use Rattle.journal.specs.Lines.{plain, Line}
 use Rattle.book.specs.Books.{Book}
+use Rattle.book.specs.Learning.{IsNumbered}
 use Rattle.commands.specs.Commands as command
 use Rattle.commands.specs.Commands.{Spelled}
 use Rattle.commands.specs.declared.command.LineFault.{LineFault}
 use Rattle.stepper.specs.Replies.{refused, Answers, AnswersBirth}
+use Rattle.stepper.specs.Show.{number_in}
 
 -- two lines of a journal tell the same: one event from one seat, live or undone, with the same causes, which touched and wrote the same cells
 pub record SameLine (l m : Line) : Type 0 where
@@ -37,6 +46,14 @@ pub data IsForWant : List ℕ → Type 0 where
   book_without_memory : IsForWant (refused (codes "B20 Memory"))
   text_without_memory : IsForWant (refused (codes "L7 Memory"))
 
+-- A reply ends for want of memory. Of a run only the last step can be refused, and what the steps before it told stands before; of another
+-- command this is the whole reply.
+pub record EndsForWant (reply : List ℕ) : Type 0 where
+  pub before : List ℕ
+  pub last : List ℕ
+  pub want : IsForWant last
+  pub whole : reply ≡ before ++ last
+
 -- two replies are one, but for the place at which a text is unexpected
 pub data SameReply : List ℕ → List ℕ → Type 0 where
   one_reply : {r : List ℕ} → SameReply r r
@@ -48,21 +65,28 @@ pub record SameAnswer (r : List ℕ) (q : Bool) (b : Book) (s : List ℕ) (p : B
   pub refusal : p ≡ q
   pub book : SameBook b d
 
--- the commands of which this is said here: all but those that show the world or run many steps, and the learning of a promise that is named without
--- its home
-abbrev pub IsTold : Spelled → Type 0
-IsTold (command.learn x n) = ⊥
-IsTold command.enabled = ⊥
-IsTold command.show = ⊥
-IsTold (command.run n) = ⊥
-IsTold _ = Unit {0}
+-- no two names stand for one vat
+abbrev pub NamesVatsOnce : World → Type 0
+NamesVatsOnce w = (x y : Name) (v : VatNo) → number_in (w (key.Name x)) ≡ Some v → number_in (w (key.Name y)) ≡ Some v → y ≡ x
+
+-- no vat can learn of two promises of one event and number, which only their homes would tell apart
+abbrev pub HasOneHome : World → Type 0
+HasOneHome w = (v : VatNo) (p q : PromId) → can_learn w v p ≡ true → can_learn w v q ≡ true → IsNumbered p.event p.index q → q ≡ p
+
+-- The names that an answer goes by are one in the world: those that stand for vats, where it names vats, and the promise, where a command names it
+-- without its home. Other answers take nothing for granted.
+abbrev pub IsNamedOnce : Spelled → World → Type 0
+IsNamedOnce (command.learn x n) w = HasOneHome w
+IsNamedOnce command.enabled w = NamesVatsOnce w
+IsNamedOnce command.show w = NamesVatsOnce w
+IsNamedOnce _ w = Unit {0}
 
 -- a command has one answer at most, where memory does not run out
 abbrev pub OneAnswer : Type 0
-OneAnswer = (budget : ℕ) (b : Book) (c : Spelled) (r s : List ℕ) (q p : Bool) (d e : Book) → IsTold c → Answers budget b c r q d → Answers budget b c s p e
-    → ¬ IsForWant r → ¬ IsForWant s → SameAnswer r q d s p e
+OneAnswer = (budget : ℕ) (b : Book) (c : Spelled) (r s : List ℕ) (q p : Bool) (d e : Book) → IsNamedOnce c b.world → Answers budget b c r q d → Answers budget b c s p e
+    → ¬ EndsForWant r → ¬ EndsForWant s → SameAnswer r q d s p e
 
 -- so has a new vat
 abbrev pub OneBirth : Type 0
 OneBirth = (b : Book) (x : List ℕ) (earlier : List (List ℕ)) (script : Result (List ℕ) LineFault) (r s : List ℕ) (q p : Bool) (d e : Book) → AnswersBirth b x earlier script r q d
-    → AnswersBirth b x earlier script s p e → ¬ IsForWant r → ¬ IsForWant s → SameAnswer r q d s p e
+    → AnswersBirth b x earlier script s p e → ¬ EndsForWant r → ¬ EndsForWant s → SameAnswer r q d s p e
