@@ -34,9 +34,9 @@ use Rattle.commands.specs.Commands as command
 use Rattle.commands.specs.Commands.{Spelled}
 use Rattle.commands.specs.declared.command.LineFault.{LineFault}
 use Rattle.commands.specs.declared.numbers.PromiseName.{PromiseName}
-use Rattle.stepper.specs.Replies.{refused, refusal_text, done_text, queued_text, exchanged_text, Answers, arrive_moves, forward_moves, turn_moves, learn_without_memory, learn_refused, learn_accepted, stepped, runs, enabled_without_memory, enabled, ask_without_memory, asked_without_memory, asked_unread, ask_refused, ask_accepted, shown, listed, cone_without_memory, cone_refused, cone_found, undo_without_memory, undo_refused, undo_accepted, undo_cone_without_memory, undo_cone_refused, undo_cone_found, redo_without_memory, redo_refused, redo_accepted, exchange_without_memory, exchange_refused, exchange_accepted, AnswersBirth, birth_without_memory, script_without_memory, script_refused, script_unread, birth_refused, birth_accepted}
+use Rattle.stepper.specs.Replies.{refused, refusal_text, done_text, queued_text, exchanged_text, Answers, arrive_moves, forward_moves, turn_moves, learn_without_memory, learn_refused, learn_accepted, stepped, runs, enabled_without_memory, enabled, ask_without_memory, asked_without_memory, asked_unread, ask_refused, ask_accepted, shown, listed, log_without_memory, logged, worked, work_refused, cone_without_memory, cone_refused, cone_found, undo_without_memory, undo_refused, undo_accepted, undo_cone_without_memory, undo_cone_refused, undo_cone_found, redo_without_memory, redo_refused, redo_accepted, exchange_without_memory, exchange_refused, exchange_accepted, AnswersBirth, birth_without_memory, script_without_memory, script_refused, script_unread, birth_refused, birth_accepted}
 use Rattle.stepper.specs.Listing.{cone_text}
-use Rattle.stepper.specs.Laws.{SameBook, IsForWant, book_without_memory, text_without_memory, EndsForWant, SameReply, one_reply, other_place, SameAnswer, HasOneHome, IsNamedOnce, OneAnswer, OneBirth}
+use Rattle.stepper.specs.Laws.{SameBook, IsForWant, book_without_memory, text_without_memory, EndsForWant, SameReply, one_reply, other_place, SameAnswer, HasOneHome, IsDetermined, OneAnswer, OneBirth}
 use Rattle.stepper.proofs.Entered.{same_book, same_lines, entered_once, one_run}
 use Rattle.stepper.proofs.OneMove.{answered, not_both, had_memory, one_move, one_step, runs_once}
 use Rattle.stepper.proofs.OneText.{enabled_once, shows_once, shows_enabled_once}
@@ -215,7 +215,7 @@ one_learning once (learn_accepted h) (learn_accepted k) n m = learnt_once once h
 ends : {r : List ℕ} → ¬ EndsForWant r → ¬ IsForWant r
 ends {r = r} n want = n (record { before = []; last = r; want = want; whole = refl })
 
-answer_but : {budget : ℕ} {b d e : Book} {c : Spelled} {r t : List ℕ} {q p : Bool} → IsNamedOnce c b.world → Answers budget b c r q d → Answers budget b c t p e → ¬ EndsForWant r → ¬ EndsForWant t → ¬ IsForWant r → ¬ IsForWant t
+answer_but : {budget : ℕ} {b d e : Book} {c : Spelled} {r t : List ℕ} {q p : Bool} → IsDetermined c b.world → Answers budget b c r q d → Answers budget b c t p e → ¬ EndsForWant r → ¬ EndsForWant t → ¬ IsForWant r → ¬ IsForWant t
     → SameAnswer r q d t p e
 answer_but {b = b} once (arrive_moves h) (arrive_moves k) y z n m = answered (one_move (same_book b) h k (had_memory y) (had_memory z))
 answer_but {b = b} once (forward_moves h) (forward_moves k) y z n m = answered (one_move (same_book b) h k (had_memory y) (had_memory z))
@@ -235,6 +235,11 @@ answer_but once (ask_refused h f) k y z n m = one_ask (ask_refused h f) k n m
 answer_but once (ask_accepted h f x) k y z n m = one_ask (ask_accepted h f x) k n m
 answer_but {b = b} once (shown h) (shown k) y z n m = answer_once (shows_once once h k) (same_book b)
 answer_but {b = b} once listed listed y z n m = answer_once refl (same_book b)
+answer_but once log_without_memory k y z n m = absurd (n book_without_memory)
+answer_but once logged log_without_memory y z n m = absurd (m book_without_memory)
+answer_but {b = b} once logged logged y z n m = answer_once refl (same_book b)
+answer_but once (worked h) k y z n m = absurd once
+answer_but once (work_refused h) k y z n m = absurd once
 answer_but once cone_without_memory k y z n m = absurd (n book_without_memory)
 answer_but once (cone_refused h) cone_without_memory y z n m = absurd (m book_without_memory)
 answer_but once (cone_found h x) cone_without_memory y z n m = absurd (m book_without_memory)

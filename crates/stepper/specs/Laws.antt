@@ -1,5 +1,5 @@
--- What holds of replies: each is a function of the book and the command, but for want of memory and the place of `L5`; where a reply names vats,
--- or a promise is named without its home, one name of a vat and one home are taken for granted.
+-- What holds of replies: each is a function of the book and the command, but for want of memory, the place of `L5` and the work of threads; where a
+-- reply names vats, or a promise is named without its home, one name of a vat and one home are taken for granted.
 use Rattle.std.specs.Prelude.{◌≡◌, ℕ, true, List, [], ◌∷◌, ◌++◌, Bool, Some, is_some, Result, codes}
 use Rattle.history.specs.Subject.{touches, new}
 use Rattle.ids.specs.declared.cells.CellKey.{CellKey}
@@ -73,17 +73,18 @@ NamesVatsOnce w = (x y : Name) (v : VatNo) → number_in (w (key.Name x)) ≡ So
 abbrev pub HasOneHome : World → Type 0
 HasOneHome w = (v : VatNo) (p q : PromId) → can_learn w v p ≡ true → can_learn w v q ≡ true → IsNumbered p.event p.index q → q ≡ p
 
--- The names that an answer goes by are one in the world: those that stand for vats, where it names vats, and the promise, where a command names it
--- without its home. Other answers take nothing for granted.
-abbrev pub IsNamedOnce : Spelled → World → Type 0
-IsNamedOnce (command.learn x n) w = HasOneHome w
-IsNamedOnce command.enabled w = NamesVatsOnce w
-IsNamedOnce command.show w = NamesVatsOnce w
-IsNamedOnce _ w = Unit {0}
+-- What an answer takes for granted to be one: that the names it goes by are one in the world, those that stand for vats, where it names vats, and
+-- the promise, where a command names it without its home. What workers do is never one. Other answers take nothing for granted.
+abbrev pub IsDetermined : Spelled → World → Type 0
+IsDetermined (command.learn x n) w = HasOneHome w
+IsDetermined (command.work k n) w = ⊥
+IsDetermined command.enabled w = NamesVatsOnce w
+IsDetermined command.show w = NamesVatsOnce w
+IsDetermined _ w = Unit {0}
 
 -- a command has one answer at most, where memory does not run out
 abbrev pub OneAnswer : Type 0
-OneAnswer = (budget : ℕ) (b : Book) (c : Spelled) (r s : List ℕ) (q p : Bool) (d e : Book) → IsNamedOnce c b.world → Answers budget b c r q d → Answers budget b c s p e
+OneAnswer = (budget : ℕ) (b : Book) (c : Spelled) (r s : List ℕ) (q p : Bool) (d e : Book) → IsDetermined c b.world → Answers budget b c r q d → Answers budget b c s p e
     → ¬ EndsForWant r → ¬ EndsForWant s → SameAnswer r q d s p e
 
 -- so has a new vat
