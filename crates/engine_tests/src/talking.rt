@@ -5,7 +5,7 @@ use std::cell::Cell;
 use std::io;
 use std::io::{Error, ErrorKind, Read, Write};
 use std::process::Abort;
-use stepper::{Limits, run};
+use stepper::{Limits, Nobody, run};
 use streams::lines::Lines;
 use streams::outlet::Outlet;
 
@@ -67,7 +67,7 @@ fn replies_come_before_the_next_read(rt: HostRuntime) {
             budget: 10_000,
             workers: 8,
         };
-        let ended = run(alloc, &mut source, &mut sink, limits);
+        let ended = run(alloc, &mut source, &mut sink, limits, &mut Nobody);
         assert!(rt; ended.is_ok());
     }
 }
