@@ -59,6 +59,7 @@ pub trait Crew {
 }
 
 /// A crew of nobody: no worker can be started.
+#[derive(Clone, Copy)]
 pub struct Nobody;
 
 impl Crew for Nobody {
