@@ -9,4 +9,4 @@ use Rattle.causewaylog.proofs.log.add_turn.Given as goal
 abbrev pub invariant-loop-index : goal.invariant-loop-index
 invariant-loop-index l =
     map view l.records.items ++ records_from l.loop_name l.turn (l.index + 1) (map note_fact (map note_of (drop l.index l.notes)))
-    ≡ map view l.fn.records.items ++ records_from l.loop_name l.turn 0 (facts_of (record { got = l.message; notes = map note_of l.notes }))
+    ≡ map view l.fn.records.items ++ records_from l.loop_name l.turn 0 (facts_of (record { got = l.fn.message; notes = map note_of l.notes }))
