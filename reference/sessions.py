@@ -175,6 +175,8 @@ class SeveralVats(RandomSession):
     """Sessions of vats that know each other. What is enabled is done in random order; so promises are learnt early or late,
     and messages are forwarded, arrive and are run across one another."""
     NAMES = ["ann", "bob", "cat", "dan", "eve"]
+    # How often the newest message has its turn at once, beside what is usual.
+    prompt = 1
 
     def __init__(self, seed, has_logs=False):
         super().__init__(seed, [30, *BUDGETS[3:], *BUDGETS[4:]])
@@ -190,7 +192,7 @@ class SeveralVats(RandomSession):
             earlier.append(self.random.choice(self.NAMES))
         script = self.spoilt(0.03, Talk(self.random, [], earlier).script())
         self.give("\n".join([f"vat {name} ({' '.join(earlier)}) {script.count(chr(10)) + 1}", script]))
-        if self.replies[-1].startswith("ok") and self.chance(0.92):
+        if self.replies[-1].startswith("ok") and self.chance(0.92 * self.prompt):
             self.give(f"turn e{self.book.next - 1}.m0")
 
     def ask(self):
@@ -203,7 +205,7 @@ class SeveralVats(RandomSession):
         others = [it for it in names if it in self.NAMES]
         program = Talk(self.random, [it for it in names if it not in others], others).program()
         self.ask_text(name, self.spoilt(0.03, program))
-        if self.replies[-1].startswith("ok") and self.chance(0.7):
+        if self.replies[-1].startswith("ok") and self.chance(0.7 * self.prompt):
             self.give(f"turn e{self.book.next - 1}.m0")
 
     def act(self, without=(), learning=1):
