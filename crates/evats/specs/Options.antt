@@ -1,6 +1,6 @@
 -- The options of a run.
 use Rattle.std.specs.Prelude.{◌≡◌, ◌≢◌, ◌<◌, ◌^◌, ℕ, List, Option, Some, None, codes}
-use Rattle.core.specs.Str.Parse.{IsNumeral, digits_value, without_leading_plus}
+use Rattle.std.specs.Str.Parse.{IsNumeral, digits_value, without_leading_plus}
 
 -- a text spells this number of 32 bits, in decimal digits
 pub record Spells (text : List ℕ) (n : ℕ) : Type 0 where

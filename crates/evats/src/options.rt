@@ -104,11 +104,11 @@ fn number(matches: &ArgMatches, name: &str, otherwise: u32) -> u32
 
 /// The file that a word names; `-` is standard input.
 fn named_file(word: Option<&str>) -> Option<&str>
-    ensures { IsFileOf (option_map (λ s. s.now) word) (option_map (λ s. s.now) result) }
+    ensures { IsFileOf (option_map (λ s. s.now) word.entry) (option_map (λ s. s.now) result) }
 {
     match word {
-        Some(path) if path != "-" => Some(path),
-        _ => None,
+        Some(path) => { if path == "-" { None } else { Some(path) } }
+        None => None,
     }
 }
 
