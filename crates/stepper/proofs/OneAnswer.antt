@@ -238,8 +238,8 @@ answer_but {b = b} once listed listed y z n m = answer_once refl (same_book b)
 answer_but once log_without_memory k y z n m = absurd (n book_without_memory)
 answer_but once logged log_without_memory y z n m = absurd (m book_without_memory)
 answer_but {b = b} once logged logged y z n m = answer_once refl (same_book b)
-answer_but once (worked h) k y z n m = absurd once
-answer_but once (work_refused h) k y z n m = absurd once
+answer_but once (worked turns h) k y z n m = absurd once
+answer_but once (work_refused fault h) k y z n m = absurd once
 answer_but once cone_without_memory k y z n m = absurd (n book_without_memory)
 answer_but once (cone_refused h) cone_without_memory y z n m = absurd (m book_without_memory)
 answer_but once (cone_found h x) cone_without_memory y z n m = absurd (m book_without_memory)

@@ -175,8 +175,8 @@ pub data Answers (budget : ℕ) : Book → Spelled → List ℕ → Bool → Boo
   stepped : {b d : Book} {reply : List ℕ} {r more : Bool} → Steps budget b reply r d more → Answers budget b command.step reply r d
   runs : {b d : Book} {n : ℕ} {reply : List ℕ} {r : Bool} → Runs budget n b reply r d → Answers budget b (command.run n) reply r d
   -- what workers enter, and in what order, is not said: but all from before is there still, also where not one could be started
-  worked : {b d : Book} {k n turns : ℕ} → Keeps b d → Answers budget b (command.work k n) (worked_text turns) false d
-  work_refused : {b d : Book} {k n : ℕ} {fault : WorkFault} → Keeps b d → Answers budget b (command.work k n) (refused (work_fault_text fault)) true d
+  worked : {b d : Book} {k n : ℕ} (turns : ℕ) → Keeps b d → Answers budget b (command.work k n) (worked_text turns) false d
+  work_refused : {b d : Book} {k n : ℕ} (fault : WorkFault) → Keeps b d → Answers budget b (command.work k n) (refused (work_fault_text fault)) true d
   enabled_without_memory : {b : Book} → Answers budget b command.enabled (refused (codes "B20 Memory")) true b
   enabled : {b : Book} {found : List Step} {text : List ℕ} → EnabledIn b found → ShowsEnabled b.world found text → Answers budget b command.enabled text false b
   ask_without_memory : {b : Book} {x text : List ℕ} → Answers budget b (command.ask x text) (refused (codes "B20 Memory")) true b
