@@ -32,7 +32,7 @@ pub same_test : (a b : ℕ) → a ≡ b → (a == b) ≡ true
 same_test a b e = ⊎_elim (λ h. h.0) (λ h. absurd (h.1 e)) (eqb_tells a b)
 
 perm_as : {A : Type 0} (xs xs' ys ys' : List A) → xs ≡ xs' → ys ≡ ys' → IsPermutation xs ys → IsPermutation xs' ys'
-perm_as xs xs' ys ys' e f h = let P : List A × List A → Type 0 = λ p. IsPermutation p.0 p.1 in subst P (λ i. (e i, f i)) h
+perm_as {A = A} xs xs' ys ys' e f h = let P : List A × List A → Type 0 = λ p. IsPermutation p.0 p.1 in subst P (λ i. (e i, f i)) h
 
 -- ---- entries
 abbrev pub entry : Line → Entered

@@ -1,4 +1,11 @@
-use Rattle.std.proofs.Common.{◌∙◌, ap, sym, arith}
+use Rattle.std.proofs.Common.{◌∙◌, ap, sym, subst, arith}
+use Rattle.ids.specs.declared.names.EventName.{EventName}
+use Rattle.worldcells.specs.Events.{Event}
+use Rattle.turn.specs.declared.ticket.Ran.{Ran}
+use Rattle.book.specs.Calls.{Commits}
+use Rattle.bench.specs.Author.{turn_of}
+use Rattle.bench.specs.DeskView.{Desked}
+use Rattle.bench.proofs.Acts.{returned}
 use Rattle.book.specs.BookView.{book_of}
 use Rattle.desk.specs.Desks.{without}
 use Rattle.bench.proofs.Agrees.{desk_given, counted_more, few_events}
@@ -6,8 +13,8 @@ use Rattle.bench.proofs.Moves.{grows, journal_within}
 use Rattle.bench.specs.Seats.{is_turn}
 use Rattle.bench.proofs.under_lock.Desk.give.Goals as goal
 
-pub last_event-requires : goal.last_event-requires
-last_event-requires g c =
+pub last_event-given-requires : goal.last_event-given-requires
+last_event-given-requires g c =
     let old = book_of c.self.inside.book in
     let g' = grows _ _ _ old (book_of c.commit.new.self) c.in-Ok.ensures.ok.1.enters.enters in
     let m = g'.more in omega (arith, m)
@@ -30,6 +37,17 @@ invariant_of-self g c =
     let now = book_of c.commit.new.self in
     let g' = grows _ _ _ old now ok.1.enters.enters in
     let event = c.last_event-given.ensures _ _ g'.journal in
-    let seat = c.if-ticket-number.false ∙ c.number.ensures ∙ n.agreed.0 in
-    let out = ok.1.out ∙ ap (λ m. without m old.out) (sym (ap (λ e. e.name) event)) in
+    let seat = sym (ap (λ (r : Ran). r.carried.seat) c.ran.ensures) ∙ c.if-ran-number.false ∙ c.number.ensures ∙ n.agreed.0 in
+    let out = ok.1.out ∙ ap (λ (m : EventName). without m old.out) (sym (ap (λ (e : Event). e.name) event)) in
     (n.keeper.0, i.1, desk_given _ _ _ _ _ _ old now _ _ _ i.2 n.agreed.1 seat event g' _ out n.keeper.1, counted_more _ _ _ _ old now i.3 n.total g', i.4, i.5, i.6)
+
+pub returns-in-Ok-clause-ok : goal.returns-in-Ok-clause-ok
+returns-in-Ok-clause-ok g c =
+    let ok = c.in-Ok.ensures.ok in
+    let old = book_of c.self.inside.book in
+    let now = book_of c.commit.new.self in
+    let g' = grows _ _ _ old now ok.1.enters.enters in
+    let event = c.last_event-given.ensures _ _ g'.journal in
+    let seat = sym (ap (λ (r : Ran). r.carried.seat) c.ran.ensures) ∙ c.if-ran-number.false ∙ c.number.ensures in
+    let P : Desked → Type 0 = λ d. Commits c.args.ticket (book_of d.book) now in
+    (ok.0, seat, subst P c.self.view_is ok.1, returned (turn_of c.args.ticket) c.last_event-given.result.value c.args.seat.now c.note.new.self event c.note.ensures.seat)

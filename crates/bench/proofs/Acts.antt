@@ -1,0 +1,75 @@
+-- What a command or a step that is picked does to a book, as its seat sees it.
+use Rattle.std.proofs.Common.{◌≡◌, ℕ, ◌+◌, Some, [], ◌∷◌, ◌++◌, false, refl, ap, ◌∙◌}
+use Rattle.ids.specs.declared.names.EventName.{EventName}
+use Rattle.worldcells.specs.Events.{Act, Event}
+use Rattle.worldcells.specs.EventView.{event_of}
+use Rattle.worldcells.specs.declared.event.Event as code
+use Rattle.agenda.specs.declared.agenda.Step.{Step}
+use Rattle.book.specs.Books.{Book}
+use Rattle.pact.specs.Agree.{strike, entered_by}
+use Rattle.bench.specs.declared.command.Command.{Command}
+use Rattle.bench.specs.declared.command.Command.TheVariants as command
+use Rattle.bench.specs.declared.pick.Pick.TheVariants as pick
+use Rattle.bench.specs.Seats.{is_turn}
+use Rattle.bench.specs.Desk.{Held, Adds, Returns}
+use Rattle.bench.specs.Author.{IsActOf, IsStep, Obeys, Picks, mark_of}
+use Rattle.bench.proofs.Agrees.{Grows}
+use Rattle.bench.proofs.Moves.{grows_act, act_of_command, command_no_turn, step_no_turn}
+
+-- a command entered an event
+pub record Entering (c : Command) (e : EventName) (seat : ℕ) (old now : Book) : Type 0 where
+  pub act : Act
+  pub of_command : IsActOf c act
+  pub no_turn : is_turn act ≡ false
+  pub grows : Grows (record { seat = seat; event = record { name = e; act = act } }) old now
+  pub same_out : now.out ≡ old.out
+
+pub entering : (c : Command) (e : EventName) (seat : ℕ) (old now : Book) → Obeys c seat (Some e) old now → Entering c e seat old now
+entering c e seat old now h =
+    let act = h.1.0 in
+    let enters = h.1.2 in
+    let of_command = act_of_command c old act h.1.1 in record {
+      act = act;
+      of_command = of_command;
+      no_turn = command_no_turn c act of_command;
+      grows = grows_act e act seat old now enters;
+      same_out = enters.enters.same_out;
+    }
+
+-- a step was done at once
+pub record Moving (e : EventName) (seat : ℕ) (old now : Book) : Type 0 where
+  pub step : Step
+  pub act : Act
+  pub is : IsStep step act
+  pub no_turn : is_turn act ≡ false
+  pub grows : Grows (record { seat = seat; event = record { name = e; act = act } }) old now
+  pub same_out : now.out ≡ old.out
+
+pub moving : (budget seat : ℕ) (e : EventName) (old now : Book) → Picks budget seat (pick.Moved e) old now → Moving e seat old now
+moving budget seat e old now h = record {
+  step = h.0;
+  act = h.1;
+  is = h.3;
+  no_turn = step_no_turn h.0 h.1 h.3;
+  grows = grows_act e h.1 seat old now h.4;
+  same_out = h.4.enters.same_out;
+}
+
+-- what is marked enters nothing
+pub mark_enters_none : (c : Command) → entered_by (mark_of c) ≡ 0
+mark_enters_none (command.Abandon n) = refl
+mark_enters_none (command.Birth x earlier script) = refl
+mark_enters_none (command.Ask x program) = refl
+mark_enters_none (command.Arrive m) = refl
+mark_enters_none (command.Forward m) = refl
+mark_enters_none (command.Learn x p) = refl
+mark_enters_none (command.Undo names) = refl
+mark_enters_none (command.Redo names) = refl
+mark_enters_none (command.Exchange position) = refl
+
+-- a seat whose event is added, and of whose tickets one is struck out
+abbrev with_event : Held → code.Event → EventName → Held
+with_event h added n = record { number = h.number; place = h.place; deeds = record { events = h.deeds.events ++ added ∷ []; tickets = strike n h.deeds.tickets } }
+
+pub returned : (e : Event) (added : code.Event) (old now : Held) → event_of added ≡ e → now ≡ with_event old added added.name → Returns e old now
+returned e added old now event is = record { added = added; event = event; seat = is ∙ ap (λ (n : EventName). with_event old added n) (ap (λ (x : Event). x.name) event) }
