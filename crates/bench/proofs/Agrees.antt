@@ -1,9 +1,10 @@
 -- What an act of one seat leaves true of all.
-use Rattle.std.proofs.Common.{◌≡◌, ◌≢◌, ℕ, zero, suc, ◌+◌, ◌*◌, ◌^◌, ◌<◌, ◌≤◌, ◌==◌, ◌||◌, cond, not, List, [], ◌∷◌, ◌++◌, length, map, filter, set, get_or, Some, Bool, true, false, refl, sym, ap, ◌∙◌, subst, ⊎_elim, arith, length-append, All, append-nil, append_assoc, get_or-set_same, get_or-set_other, IsPermutation}
+use Rattle.std.proofs.Common.{◌≡◌, ◌≢◌, ℕ, zero, suc, ◌+◌, ◌*◌, ◌^◌, ◌<◌, ◌≤◌, ◌==◌, ◌||◌, cond, not, List, [], ◌∷◌, ◌++◌, length, map, filter, set, get_or, Some, Bool, true, false, refl, sym, ap, ◌∙◌, subst, ⊎_elim, arith, length-append, All, append-nil, append_assoc, get_or-set_same, get_or-set_other, IsPermutation, sum_by}
 use Rattle.std.specs.Prelude.{slice_get}
 use Rattle.std.specs.List.{AllByRecursion, list_any}
 use Rattle.std.proofs.lemmas.List.{map-append, length-map}
-use Rattle.std.proofs.lemmas.List.Elements.{filter-append}
+use Rattle.std.proofs.lemmas.List.Elements.{filter-append, All-append}
+use Rattle.std.proofs.lemmas.List.Sums.{sum_by-append}
 use Rattle.std.proofs.lemmas.List.Folds.{list_any-append}
 use Rattle.std.proofs.lemmas.List.Sorted.{IsPermutation-refl, IsPermutation-cons, IsPermutation-middle, IsPermutation-append, IsPermutation-append_left, IsPermutation-trans, length_permutation}
 use Rattle.std.proofs.lemmas.Option.{slice_get_within, get_or_from_slice_get}
@@ -26,7 +27,7 @@ use Rattle.pact.specs.declared.Act.TheVariants.{Nothing, Enters, Gives, Opens, C
 use Rattle.pact.specs.Agree.{blank, after, strike, knower}
 use Rattle.book.specs.Entered.{Entered, entered_in, IsAmong}
 use Rattle.bench.specs.Seats.{events_by}
-use Rattle.bench.specs.Desk.{events_of, is_among, AreOpen, Answers, Agrees, IsDesk}
+use Rattle.bench.specs.Desk.{Held, events_of, is_among, AreOpen, Answers, Agrees, IsDesk}
 
 pub same_test : (a b : ℕ) → a ≡ b → (a == b) ≡ true
 same_test a b e = ⊎_elim (λ h. h.0) (λ h. absurd (h.1 e)) (eqb_tells a b)
@@ -316,3 +317,21 @@ counted_same t u b old now h same rests = let l = rests.same_length in omega (ar
 
 pub counted_none : (t : ℕ) (began : List Entered) (b : Book) → t ≡ 0 → entered_in b.journal ≡ began → t + length began ≡ length b.journal
 counted_none t began b none is = let a = ap length is in let l = length-map b.journal entry in omega (arith, none, a, l)
+
+-- ---- seats that were handed in
+all_one : {A : Type 0} (P : A → Type 0) (x : A) → P x → All P (x ∷ [])
+all_one P x h zero d lt = h
+all_one P x h (suc k) d lt = absurd (omega (arith, lt))
+
+pub handed_in : (b : Book) (seats : List Held) (s : Held) → All (λ (x : Held). Answers x.number x.deeds b) seats → Answers s.number s.deeds b → All (λ (x : Held). Answers x.number x.deeds b) (seats ++ s ∷ [])
+handed_in b seats s all one = All-append (λ (x : Held). Answers x.number x.deeds b) seats (s ∷ []) all (all_one (λ (x : Held). Answers x.number x.deeds b) s one)
+
+pub parts_in : (seats : List Held) (s : Held) (p q : ℕ) → p ≡ length seats → q ≡ p + 1 → q ≡ length (seats ++ s ∷ [])
+parts_in seats s p q is more = let l = length-append seats (s ∷ []) in omega (arith, is, more, l)
+
+pub amount_in : (seats : List Held) (s : Held) (a b : ℕ) → a ≡ sum_by (λ (x : Held). length x.deeds.events) seats → b ≡ a + length s.deeds.events → b ≡ sum_by (λ (x : Held). length x.deeds.events) (seats ++ s ∷ [])
+amount_in seats s a b is more = let l = sum_by-append (λ (x : Held). length x.deeds.events) seats (s ∷ []) in omega (arith, is, more, l)
+
+-- ---- nothing was entered
+pub among_same : (xs : List Entered) → IsAmong xs xs
+among_same xs = ([], perm_as xs xs xs (xs ++ []) refl (sym (append-nil xs)) (IsPermutation-refl xs))
