@@ -1,47 +1,52 @@
 // An author who waits for each reply.
 
 use crate::fakes::{ORDER, SUM, Talk};
-use std::cell::Cell;
+use std::alloc::Global;
 use std::io;
 use std::io::{Error, ErrorKind, Read, Write};
 use std::process::Abort;
+use std::sync::Arc;
+use std::sync::atomic::{AtomicU64, Ordering};
 use stepper::{Limits, Nobody, run};
 use streams::lines::Lines;
 use streams::outlet::Outlet;
 
 /// Gives a command only where all earlier ones were answered, and fails otherwise.
 #[derive(Drop)]
-struct Author<'a> {
+struct Author {
     talk: Talk,
-    wanted: usize,
-    heard: &'a Cell<usize>,
+    /// How many commands were given.
+    given: usize,
+    /// How many bytes answer them.
+    wanted: u64,
+    heard: Arc<AtomicU64, Global>,
 }
 
-impl Read for Author<'_> {
+impl Read for Author {
     fn read(&mut self, buf: &mut [u8]) -> io::Result<usize> {
-        if self.heard.get() != self.wanted {
+        if self.heard.load(Ordering::SeqCst) != self.wanted {
             return Err(Error::from(ErrorKind::Other));
         }
-        let Some(((command, reply), rest)) = self.talk.split_first() else {
+        let Some((command, reply)) = self.talk.get(self.given) else {
             return Ok(0);
         };
         let count = command.len().min(buf.len());
         buf[..count].copy_from_slice(&command.as_bytes()[..count]);
-        self.wanted = self.wanted.wrapping_add(reply.len());
-        self.talk = rest;
+        self.wanted = self.wanted.wrapping_add(reply.len() as u64);
+        self.given = self.given.wrapping_add(1);
         Ok(count)
     }
 }
 
 /// Counts the bytes of the replies.
 #[derive(Drop)]
-struct Ear<'a> {
-    heard: &'a Cell<usize>,
+struct Ear {
+    heard: Arc<AtomicU64, Global>,
 }
 
-impl Write for Ear<'_> {
+impl Write for Ear {
     fn write(&mut self, bytes: &[u8]) -> io::Result<usize> {
-        self.heard.set(self.heard.get().wrapping_add(bytes.len()));
+        self.heard.fetch_add(bytes.len() as u64, Ordering::SeqCst);
         Ok(bytes.len())
     }
 
@@ -55,14 +60,15 @@ impl Write for Ear<'_> {
 fn replies_come_before_the_next_read(rt: HostRuntime) {
     let alloc = rt.alloc();
     for talk in [SUM, ORDER] {
-        let heard = Cell::new(0);
+        let heard = Arc::new(alloc, AtomicU64::new(0)).expect(&rt, "no memory");
         let author = Author {
             talk,
+            given: 0,
             wanted: 0,
-            heard: &heard,
+            heard: Arc::try_clone(&heard).expect(&rt, "no memory"),
         };
         let mut source = Lines::new(alloc, author).expect(&rt, "no memory");
-        let mut sink = Outlet::new(alloc, Ear { heard: &heard });
+        let mut sink = Outlet::new(alloc, Ear { heard });
         let limits = Limits {
             budget: 10_000,
             workers: 8,
