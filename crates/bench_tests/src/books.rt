@@ -92,6 +92,14 @@ pub(crate) fn arrive(rt: &impl Abort, book: &mut Book, message: MsgId, event: u6
 /// The names of vats that are born one after another.
 const NAMES: [&str; 4] = ["a", "b", "c", "d"];
 
+/// One question of `1` to each of as many vats as this, at most four.
+fn ask_each(rt: &(impl Abort + AllocGlobal), book: &mut Book, vats: u64) {
+    assert!(rt; vats <= 4);
+    for (place, vat) in (1..=vats).zip(NAMES) {
+        ask(rt, book, vat, "1", 2 * vats + place);
+    }
+}
+
 /// As many vats as this, at most four, which have run their empty scripts, with one question of `1` to each. The questions are the last events.
 pub(crate) fn asked(rt: &(impl Abort + AllocGlobal), vats: u64) -> Book {
     assert!(rt; vats <= 4);
@@ -102,9 +110,7 @@ pub(crate) fn asked(rt: &(impl Abort + AllocGlobal), vats: u64) -> Book {
     for place in 1..=vats {
         turn(rt, &mut book, message(place), vats + place);
     }
-    for (place, vat) in (1..=vats).zip(NAMES) {
-        ask(rt, &mut book, vat, "1", 2 * vats + place);
-    }
+    ask_each(rt, &mut book, vats);
     book
 }
 
