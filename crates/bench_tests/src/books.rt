@@ -94,9 +94,13 @@ const NAMES: [&str; 4] = ["a", "b", "c", "d"];
 
 /// One question of `1` to each of as many vats as this, at most four.
 fn ask_each(rt: &(impl Abort + AllocGlobal), book: &mut Book, vats: u64) {
-    assert!(rt; vats <= 4);
-    for (place, vat) in (1..=vats).zip(NAMES) {
-        ask(rt, book, vat, "1", 2 * vats + place);
+    let mut place = 0u64;
+    for vat in NAMES {
+        place = place.wrapping_add(1);
+        if place <= vats {
+            let event = vats.wrapping_mul(2).wrapping_add(place);
+            ask(rt, book, vat, "1", event);
+        }
     }
 }
 
