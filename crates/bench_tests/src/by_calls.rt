@@ -289,6 +289,15 @@ fn tickets_while_the_world_moves(rt: HostRuntime) {
     moving_world_now(&rt)
 }
 
+/// The ticket of a turn of another book, which was run.
+fn foreign_ticket(rt: &(impl Abort + AllocGlobal), seat: u64) -> Ticket<Ran> {
+    let mut other = asked(rt, 2);
+    match other.checkout(message(5), BUDGET, seat) {
+        Ok(ticket) => run(rt, ticket),
+        Err(fault) => panic!(rt; "checkout: {fault}"),
+    }
+}
+
 /// A ticket of another book is strange.
 fn other_books<L: Opening, R: Wait + Abort + AllocGlobal>(
     rt: &R,
@@ -301,14 +310,8 @@ fn other_books<L: Opening, R: Wait + Abort + AllocGlobal>(
 {
     let bench = Bench::<L>::new(begun, BUDGET, blank, parts);
     let mut mine = seat(rt, &bench);
-    let mut other = asked(rt, 2);
-    match other.checkout(message(5), BUDGET, mine.number()) {
-        Ok(ticket) => {
-            let ran = run(rt, ticket);
-            refuse_strange(rt, &bench, ran, &mut mine).discard();
-        }
-        Err(fault) => panic!(rt; "checkout: {fault}"),
-    }
+    let ran = foreign_ticket(rt, mine.number());
+    refuse_strange(rt, &bench, ran, &mut mine).discard();
     assert!(rt; mine.tally() == 0);
 }
 
