@@ -1,3 +1,4 @@
 pub mod Acts
 pub mod Agrees
+pub mod Alone
 pub mod Moves

@@ -1,7 +1,8 @@
 //! A book that several threads share, each with a seat.
 //!
 //! The book is the value of a lock. What a seat did is known to its holder, whatever the others do: the entries with its number are just the
-//! events of its list, each once. Turns are run outside of the lock and come back in any order.
+//! events of its list, each once. Turns are run outside of the lock and come back in any order; `work` has them run by workers, and the thread
+//! that called it alone gives them.
 #![tactic(auto)]
 
 ghost use Rattle.std.specs.Prelude.{◌≡◌, ◌≢◌, ◌<◌, ◌≤◌, ◌+◌, All, Err, IfOk, IfErr, IfSome, true, length, sum_by};
@@ -13,11 +14,15 @@ ghost use Rattle.bench.specs.Desk.{held, refused, Answers, Returns};
 ghost use Rattle.bench.specs.Author.{Authored, mark_of, turn_of, Picked};
 
 pub mod command;
+pub mod fault;
 mod last;
+pub mod once;
 pub mod pick;
+pub mod pile;
 pub mod seat;
 pub mod start;
 pub mod under_lock;
+pub mod work;
 
 use crate::command::Command;
 use crate::pick::Pick;
@@ -28,6 +33,7 @@ use book::book::Book;
 use book::fault::BookFault;
 use ids::names::EventName;
 use pact::Cell;
+use std::sync::atomic::{AtomicU64, Ordering};
 use std::sync::ledger::Blank;
 use std::sync::{Mutex, Wait};
 use turn::ticket::{Ran, Ticket};
@@ -71,6 +77,27 @@ impl<L: Opening> Bench<L> {
         ensures err { IfErr result (λ fault. seat.new ≡ seat.old) }
     {
         self.desk.lock(rt).checkout(rt, &self.cell, seat)
+    }
+
+    /// As `checkout`, where turns are left to check out. The count of these is read and lowered under the same lock.
+    pub(crate) fn checkout_one<R: Wait>(
+        &self,
+        rt: &R,
+        left: &AtomicU64,
+        seat: &mut Seat<L>,
+    ) -> Result<Pick, BookFault>
+        ensures ok { IfOk result (λ p. Picked p seat.old seat.new) }
+        ensures err { IfErr result (λ fault. seat.new ≡ seat.old) }
+    {
+        let mut desk = self.desk.lock(rt);
+        if left.load(Ordering::SeqCst) == 0 {
+            return Ok(Pick::Nothing);
+        }
+        let answer = desk.checkout(rt, &self.cell, seat);
+        if matches!(&answer, Ok(Pick::Turn(_))) {
+            left.fetch_sub(1, Ordering::SeqCst);
+        }
+        answer
     }
 
     /// Enters the turn of a ticket that was run, with the seat that checked it out. A stale ticket is abandoned.

@@ -56,6 +56,7 @@ module _ (b : Book) (x : Name) where
           promise = p;
           numbered = (known.0, known.1);
           accepted = ok;
+          is_first = λ q n can. known.3 q n.0 n.1 can;
           foot = f;
           enters = enters;
         }

@@ -21,3 +21,4 @@ pub mod Freshness
 pub mod Committing
 pub mod Good
 pub mod Ordered
+pub mod Births

@@ -1,11 +1,13 @@
 -- What holds of every book, for those who read its journal.
-use Rattle.std.specs.Prelude.{◌≡◌, ◌<◌, ◌≤◌, true, List, [], ◌∷◌, map, filter, is_some, length}
+use Rattle.std.specs.Prelude.{◌≡◌, ◌<◌, ◌≤◌, true, List, [], ◌∷◌, map, filter, Some, is_some, length}
 use Rattle.std.specs.List.{AllByRecursion}
 use Rattle.history.specs.Subject.{after, new, touches}
 use Rattle.history.specs.Journal.{Entry, name_of, is_in, live_set, Distinct, Sound}
 use Rattle.ids.specs.declared.cells.CellKey.{CellKey}
+use Rattle.kernele.specs.Tree.{Name}
+use Rattle.post.specs.Messages.{Vat}
 use Rattle.worldcells.specs.Events.{Event, event_in}
-use Rattle.worldcells.specs.World.{World, empty}
+use Rattle.worldcells.specs.World.{World, empty, vat_named}
 use Rattle.event.specs.Events.{Foot, DoesNoted, events}
 use Rattle.journal.specs.Lines.{plain, entries_in}
 use Rattle.book.specs.Books.{Book}
@@ -41,3 +43,7 @@ pub record IsGood (b : Book) : Type 0 where
 -- the live events, the newest first
 abbrev pub live_events : Book → List Event
 live_events b = map (λ e. event_in e.event) (filter (live_set plain) (entries_in b.journal))
+
+-- no two names stand for one vat
+abbrev pub NamesVatsOnce : World → Type 0
+NamesVatsOnce w = (x y : Name) (u v : Vat) → vat_named w x ≡ Some u → vat_named w y ≡ Some v → v.number ≡ u.number → y ≡ x

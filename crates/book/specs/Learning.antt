@@ -1,5 +1,7 @@
 -- What a vat learns of a promise that is named without its home.
-use Rattle.std.specs.Prelude.{◌≡◌, ℕ, true, Option, Some, None}
+use Rattle.std.specs.Prelude.{◌≡◌, ℕ, true, false, Option, Some, None}
+use Rattle.std.specs.Ordering.{is_gt}
+use Rattle.ids.specs.Cells.{promise_cmp}
 use Rattle.ids.specs.declared.names.EventName.{EventName}
 use Rattle.ids.specs.declared.names.PromId.{PromId}
 use Rattle.kernele.specs.Tree.{Name}
@@ -18,13 +20,14 @@ use Rattle.book.specs.declared.fault.BookFault.{BookFault}
 abbrev pub IsNumbered : EventName → ℕ → PromId → Type 0
 IsNumbered event index p = (p.event ≡ event) × (p.index ≡ index)
 
--- the vat of a name learns of a promise of this event and number, as the event that comes next
+-- the vat of a name learns of the first promise of this event and number that it can learn of, as the event that comes next
 pub record LearnsNamed (x : Name) (event : EventName) (index : ℕ) (e : EventName) (old now : Book) : Type 0 where
   pub vat : Vat
   pub named : vat_named old.world x ≡ Some vat
   pub promise : PromId
   pub numbered : IsNumbered event index promise
   pub accepted : learning_refusal old vat.number promise ≡ None
+  pub is_first : (q : PromId) → IsNumbered event index q → can_learn old.world vat.number q ≡ true → is_gt (promise_cmp promise q) ≡ false
   pub foot : Foot
   pub enters : EntersNext (record { name = e; act = learn vat.number promise }) foot 0 old now
 

@@ -1,6 +1,6 @@
 // What holds of books.
 ghost use Rattle.book.specs.Calls.{RedoNextGivesBack};
-ghost use Rattle.book.specs.Good.{IsGood, live_events};
+ghost use Rattle.book.specs.Good.{IsGood, NamesVatsOnce, live_events};
 ghost use Rattle.book.specs.BookView.{book_of};
 ghost use Rattle.ordering.specs.Theorems.{InOrder};
 
@@ -21,4 +21,9 @@ pub fn journals_are_good(book: &Book)
 /// that comes before another one in it had its turn before that one.
 pub fn turns_are_in_order(book: &Book)
     ensures { InOrder (live_events (book_of book.now)) (book_of book.now).world }
+{}
+
+/// No two names stand for one vat in the world of a book.
+pub fn vats_have_one_name(book: &Book)
+    ensures { NamesVatsOnce (book_of book.now).world }
 {}

@@ -21,6 +21,7 @@ Commands, one a line:
   enabled                   what may be done now
   step                      does the first that may be done
   run N                     up to N steps
+  work K N                  K workers, up to N turns
   arrive M                  the message M arrives at the vat of its target
   forward M                 the message M goes on to where its target lives now
   turn M                    the turn of the message M

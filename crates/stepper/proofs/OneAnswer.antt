@@ -2,9 +2,15 @@
 use Rattle.std.proofs.Common.{◌≡◌, ℕ, suc, zero, ◌+◌, Bool, true, false, List, [], ◌∷◌, Option, Some, None, Result, Ok, Err, map, refl, sym, ap, subst, ◌∙◌, cond, add-one}
 use Rattle.std.specs.Prelude.{not}
 use Rattle.std.specs.List.{AllByRecursion, filter}
+use Rattle.std.specs.Ordering.{is_gt, ordering_reverse}
+use Rattle.std.specs.declared.cmp.Ordering.{Ordering}
+use Rattle.std.specs.declared.cmp.Ordering.TheVariants.{Less, Equal, Greater}
+use Rattle.std.proofs.lemmas.Bool.{false≢true}
+use Rattle.ids.specs.Cells.{promise_cmp}
 use Rattle.ids.specs.declared.names.EventName.{EventName}
 use Rattle.ids.specs.declared.names.VatNo.{VatNo}
 use Rattle.ids.specs.declared.names.PromId.{PromId}
+use Rattle.ids.proofs.Keys.{exact_promises}
 use Rattle.kernele.specs.Tree.{Name, Trees}
 use Rattle.etoken.specs.declared.token.Placed.{Placed}
 use Rattle.etoken.specs.declared.fault.TokenFault.{TokenFault}
@@ -22,6 +28,7 @@ use Rattle.worldcells.specs.Events.{ask, birth, learn}
 use Rattle.worldcells.specs.World.{vat_named}
 use Rattle.event.specs.Events.{ask_foot, birth_foot}
 use Rattle.agenda.specs.Agendas.{can_learn}
+use Rattle.agenda.proofs.Orders.{promise_total}
 use Rattle.journal.specs.Lines.{Line}
 use Rattle.journal.proofs.Touching.{same_truth}
 use Rattle.causality.specs.Selections.{name_of, chosen}
@@ -29,6 +36,8 @@ use Rattle.causality.specs.Exact.{Cone}
 use Rattle.book.specs.Refusals.{Refusal, nothing_to_learn, first, refuse_where, full_refusal, ask_refusal, birth_refusal, exchange_refusal, learning_refusal, learn_refusal_by, learn_refusal}
 use Rattle.book.specs.Learning.{IsNumbered, LearnsNamed, RefusesNamed, nothing_named, not_entered}
 use Rattle.book.specs.Books.{Book}
+use Rattle.book.specs.Good.{NamesVatsOnce}
+use Rattle.book.proofs.Births.{names_vats_once}
 use Rattle.book.specs.Calls.{EntersNext, Exchanges, StoodAt, rest_of, live_events, redone_in}
 use Rattle.commands.specs.Commands as command
 use Rattle.commands.specs.Commands.{Spelled}
@@ -36,7 +45,7 @@ use Rattle.commands.specs.declared.command.LineFault.{LineFault}
 use Rattle.commands.specs.declared.numbers.PromiseName.{PromiseName}
 use Rattle.stepper.specs.Replies.{refused, refusal_text, done_text, queued_text, exchanged_text, Answers, arrive_moves, forward_moves, turn_moves, learn_without_memory, learn_refused, learn_accepted, stepped, runs, enabled_without_memory, enabled, ask_without_memory, asked_without_memory, asked_unread, ask_refused, ask_accepted, shown, listed, log_without_memory, logged, worked, work_refused, cone_without_memory, cone_refused, cone_found, undo_without_memory, undo_refused, undo_accepted, undo_cone_without_memory, undo_cone_refused, undo_cone_found, redo_without_memory, redo_refused, redo_accepted, exchange_without_memory, exchange_refused, exchange_accepted, AnswersBirth, birth_without_memory, script_without_memory, script_refused, script_unread, birth_refused, birth_accepted}
 use Rattle.stepper.specs.Listing.{cone_text}
-use Rattle.stepper.specs.Laws.{SameBook, IsForWant, book_without_memory, text_without_memory, EndsForWant, SameReply, one_reply, other_place, SameAnswer, HasOneHome, IsDetermined, OneAnswer, OneBirth}
+use Rattle.stepper.specs.Laws.{SameBook, IsForWant, book_without_memory, text_without_memory, EndsForWant, SameReply, one_reply, other_place, SameAnswer, IsTold, OneAnswer, OneBirth}
 use Rattle.stepper.proofs.Entered.{same_book, same_lines, entered_once, one_run}
 use Rattle.stepper.proofs.OneMove.{answered, not_both, had_memory, one_move, one_step, runs_once}
 use Rattle.stepper.proofs.OneText.{enabled_once, shows_once, shows_enabled_once}
@@ -154,19 +163,6 @@ one_ask (ask_accepted h f y) (ask_accepted k g z) n m = asked_once (read_once h 
 
 -- ---- what is learnt of a promise that is named without its home
 
--- a vat of one name, and of the promises of one number that it can learn the only one
-module _ (b : Book) (x : Name) {event : EventName} {index : ℕ} (once : HasOneHome b.world) {v u : Vat} (p q : PromId) (named : vat_named b.world x ≡ Some v) (also : vat_named b.world x ≡ Some u)
-    (is : IsNumbered event index p) (too : IsNumbered event index q) where
-  one_learner : u ≡ v
-  one_learner = cc
-
-  one_home : can_learn b.world v.number p ≡ true → can_learn b.world u.number q ≡ true → q ≡ p
-  one_home h k = once v.number p q h (subst (λ (z : Vat). can_learn b.world z.number q ≡ true) one_learner k) (too.0 ∙ sym is.0, too.1 ∙ sym is.1)
-
-  -- what is said of the one is said of the other
-  learning_once : can_learn b.world v.number p ≡ true → can_learn b.world u.number q ≡ true → learning_refusal b u.number q ≡ learning_refusal b v.number p
-  learning_once h k = λ i. learning_refusal b (one_learner i).number (one_home h k i)
-
 refused_unless : (c : Bool) (r : Refusal) (o : Option Refusal) → first (refuse_where (not c) r) o ≡ None → c ≡ true
 refused_unless true r o h = refl
 refused_unless false r o h = cc
@@ -175,39 +171,58 @@ refused_unless false r o h = cc
 accepted_learns : (b : Book) (v : VatNo) (p : PromId) → learning_refusal b v p ≡ None → can_learn b.world v p ≡ true
 accepted_learns b v p h = refused_unless (can_learn b.world v p) nothing_to_learn (full_refusal b) h
 
+-- what can be learnt is refused for want of room alone
+learnt_but_room : (b : Book) (v : VatNo) (p : PromId) → can_learn b.world v p ≡ true → learning_refusal b v p ≡ full_refusal b
+learnt_but_room b v p h = ap (λ c. first (refuse_where (not c) nothing_to_learn) (full_refusal b)) h
+
 -- a refusal of a vat's name, where there is such a vat
 by_vat : (b : Book) (x : Name) {v : Vat} (p : PromId) → vat_named b.world x ≡ Some v → learn_refusal b x p ≡ learning_refusal b v.number p
 by_vat b x p named = ap (λ o. learn_refusal_by o b x p) named
 
-learnt_once : {b d e : Book} {x : Name} {event : EventName} {index : ℕ} {m n : EventName} → HasOneHome b.world → LearnsNamed x event index m b d → LearnsNamed x event index n b e → SameAnswer (done_text m) false d (done_text n) false e
-learnt_once {b = b} {e = e} {x = x} {n = n} once h k =
-    let vat : k.vat ≡ h.vat = one_learner b x once h.promise k.promise h.named k.named h.numbered k.numbered in
-    let same : k.promise ≡ h.promise = one_home b x once h.promise k.promise h.named k.named h.numbered k.numbered (accepted_learns b _ _ h.accepted) (accepted_learns b _ _ k.accepted) in
+-- two promises neither of which is behind the other are one
+neither_behind : (o p : Ordering) → p ≡ ordering_reverse o → is_gt o ≡ false → is_gt p ≡ false → o ≡ Equal
+neither_behind Less p e h k = absurd (false≢true (sym k ∙ ap is_gt e))
+neither_behind Equal p e h k = refl
+neither_behind Greater p e h k = absurd (false≢true (sym h))
+
+both_first : (p q : PromId) → is_gt (promise_cmp p q) ≡ false → is_gt (promise_cmp q p) ≡ false → q ≡ p
+both_first p q h k = sym (exact_promises p q (neither_behind (promise_cmp p q) (promise_cmp q p) (promise_total.antisymm q p) h k))
+
+one_vat : {o : Option Vat} {v u : Vat} → o ≡ Some v → o ≡ Some u → u ≡ v
+one_vat h k = cc
+
+learnt_once : {b d e : Book} {x : Name} {event : EventName} {index : ℕ} {m n : EventName} → LearnsNamed x event index m b d → LearnsNamed x event index n b e → SameAnswer (done_text m) false d (done_text n) false e
+learnt_once {b = b} {e = e} {n = n} h k =
+    let vat : k.vat ≡ h.vat = one_vat h.named k.named in
+    let able : can_learn b.world h.vat.number k.promise ≡ true = subst (λ (z : Vat). can_learn b.world z.number k.promise ≡ true) vat (accepted_learns b k.vat.number k.promise k.accepted) in
+    let other : can_learn b.world k.vat.number h.promise ≡ true = subst (λ (z : Vat). can_learn b.world z.number h.promise ≡ true) (sym vat) (accepted_learns b h.vat.number h.promise h.accepted) in
+    let same : k.promise ≡ h.promise = both_first h.promise k.promise (h.is_first k.promise k.numbered able) (k.is_first h.promise h.numbered other) in
     let also : EntersNext (record { name = n; act = learn h.vat.number h.promise }) k.foot 0 b e
     = subst (λ (z : Vat × PromId). EntersNext (record { name = n; act = learn z.0.number z.1 }) k.foot 0 b e) (λ i. (vat i, same i)) k.enters in
     let one = entered_once (same_book b) h.enters also in answer_once (ap done_text (sym one.0)) one.1
 
 -- why nothing is learnt is one
-unlearnt_once : {b : Book} {x : Name} {event : EventName} {index : ℕ} {r s : Refusal} → HasOneHome b.world → RefusesNamed b x event index r → RefusesNamed b x event index s → s ≡ r
-unlearnt_once {event = event} {index = index} once (nothing_named h) (nothing_named k) =
+unlearnt_once : {b : Book} {x : Name} {event : EventName} {index : ℕ} {r s : Refusal} → RefusesNamed b x event index r → RefusesNamed b x event index s → s ≡ r
+unlearnt_once {event = event} {index = index} (nothing_named h) (nothing_named k) =
     let p : PromId = record { event = event; index = index; home = record { 0 = event } } in let f = h p (refl, refl) in let g = k p (refl, refl) in cc
-unlearnt_once {b = b} {x = x} once (nothing_named h) (not_entered v p named is can k) = let f = h p is in let e = by_vat b x p named in cc
-unlearnt_once {b = b} {x = x} once (not_entered v p named is can h) (nothing_named k) = let g = k p is in let e = by_vat b x p named in cc
-unlearnt_once {b = b} {x = x} once (not_entered v p named is can h) (not_entered u q also too able k) = let e = learning_once b x once p q named also is too can able in cc
+unlearnt_once {b = b} {x = x} (nothing_named h) (not_entered v p named is can k) = let f = h p is in let e = by_vat b x p named in cc
+unlearnt_once {b = b} {x = x} (not_entered v p named is can h) (nothing_named k) = let g = k p is in let e = by_vat b x p named in cc
+unlearnt_once {b = b} (not_entered v p named is can h) (not_entered u q also too able k) = let e = learnt_but_room b v.number p can in let f = learnt_but_room b u.number q able in cc
 
 -- what is learnt is not refused
-learnt_or_not : {A : Type 0} {b d : Book} {x : Name} {event : EventName} {index : ℕ} {n : EventName} {r : Refusal} → HasOneHome b.world → LearnsNamed x event index n b d → RefusesNamed b x event index r → A
-learnt_or_not {b = b} {x = x} once h (nothing_named k) = not_both (sym (by_vat b x h.promise h.named) ∙ k h.promise h.numbered) h.accepted
-learnt_or_not {b = b} {x = x} once h (not_entered v p named is can k) = not_both (sym (learning_once b x once h.promise p h.named named h.numbered is (accepted_learns b _ _ h.accepted) can) ∙ k) h.accepted
+learnt_or_not : {A : Type 0} {b d : Book} {x : Name} {event : EventName} {index : ℕ} {n : EventName} {r : Refusal} → LearnsNamed x event index n b d → RefusesNamed b x event index r → A
+learnt_or_not {b = b} {x = x} h (nothing_named k) = not_both (sym (by_vat b x h.promise h.named) ∙ k h.promise h.numbered) h.accepted
+learnt_or_not {b = b} h (not_entered v p named is can k) =
+    not_both (sym (learnt_but_room b v.number p can) ∙ k) (sym (learnt_but_room b h.vat.number h.promise (accepted_learns b h.vat.number h.promise h.accepted)) ∙ h.accepted)
 
-one_learning : {budget : ℕ} {b d e : Book} {x : List ℕ} {n : PromiseName} {r t : List ℕ} {q p : Bool} → HasOneHome b.world → Answers budget b (command.learn x n) r q d → Answers budget b (command.learn x n) t p e
+one_learning : {budget : ℕ} {b d e : Book} {x : List ℕ} {n : PromiseName} {r t : List ℕ} {q p : Bool} → Answers budget b (command.learn x n) r q d → Answers budget b (command.learn x n) t p e
     → ¬ IsForWant r → ¬ IsForWant t → SameAnswer r q d t p e
-one_learning once learn_without_memory k n m = absurd (n book_without_memory)
-one_learning once h learn_without_memory n m = absurd (m book_without_memory)
-one_learning {b = b} once (learn_refused h) (learn_refused k) n m = answer_once (ap (λ z. refused (refusal_text z)) (unlearnt_once once h k)) (same_book b)
-one_learning once (learn_refused h) (learn_accepted k) n m = learnt_or_not once k h
-one_learning once (learn_accepted h) (learn_refused k) n m = learnt_or_not once h k
-one_learning once (learn_accepted h) (learn_accepted k) n m = learnt_once once h k
+one_learning learn_without_memory k n m = absurd (n book_without_memory)
+one_learning h learn_without_memory n m = absurd (m book_without_memory)
+one_learning {b = b} (learn_refused h) (learn_refused k) n m = answer_once (ap (λ z. refused (refusal_text z)) (unlearnt_once h k)) (same_book b)
+one_learning (learn_refused h) (learn_accepted k) n m = learnt_or_not k h
+one_learning (learn_accepted h) (learn_refused k) n m = learnt_or_not h k
+one_learning (learn_accepted h) (learn_accepted k) n m = learnt_once h k
 
 -- ---- the two laws
 
@@ -215,62 +230,62 @@ one_learning once (learn_accepted h) (learn_accepted k) n m = learnt_once once h
 ends : {r : List ℕ} → ¬ EndsForWant r → ¬ IsForWant r
 ends {r = r} n want = n (record { before = []; last = r; want = want; whole = refl })
 
-answer_but : {budget : ℕ} {b d e : Book} {c : Spelled} {r t : List ℕ} {q p : Bool} → IsDetermined c b.world → Answers budget b c r q d → Answers budget b c t p e → ¬ EndsForWant r → ¬ EndsForWant t → ¬ IsForWant r → ¬ IsForWant t
+answer_but : {budget : ℕ} {b d e : Book} {c : Spelled} {r t : List ℕ} {q p : Bool} → NamesVatsOnce b.world → IsTold c → Answers budget b c r q d → Answers budget b c t p e → ¬ EndsForWant r → ¬ EndsForWant t → ¬ IsForWant r → ¬ IsForWant t
     → SameAnswer r q d t p e
-answer_but {b = b} once (arrive_moves h) (arrive_moves k) y z n m = answered (one_move (same_book b) h k (had_memory y) (had_memory z))
-answer_but {b = b} once (forward_moves h) (forward_moves k) y z n m = answered (one_move (same_book b) h k (had_memory y) (had_memory z))
-answer_but {b = b} once (turn_moves h) (turn_moves k) y z n m = answered (one_move (same_book b) h k (had_memory y) (had_memory z))
-answer_but once learn_without_memory k y z n m = one_learning once learn_without_memory k n m
-answer_but once (learn_refused h) k y z n m = one_learning once (learn_refused h) k n m
-answer_but once (learn_accepted h) k y z n m = one_learning once (learn_accepted h) k n m
-answer_but {b = b} once (stepped h) (stepped k) y z n m = answered (one_step (same_book b) h k (had_memory y) (had_memory z)).0
-answer_but {b = b} once (runs h) (runs k) y z n m = answered (runs_once (same_book b) h k y z)
-answer_but once enabled_without_memory k y z n m = absurd (n book_without_memory)
-answer_but once (enabled h x) enabled_without_memory y z n m = absurd (m book_without_memory)
-answer_but {b = b} once (enabled h x) (enabled k w) y z n m = answer_once (shows_enabled_once once (enabled_once h k) x w) (same_book b)
-answer_but once ask_without_memory k y z n m = one_ask ask_without_memory k n m
-answer_but once asked_without_memory k y z n m = one_ask asked_without_memory k n m
-answer_but once (asked_unread h) k y z n m = one_ask (asked_unread h) k n m
-answer_but once (ask_refused h f) k y z n m = one_ask (ask_refused h f) k n m
-answer_but once (ask_accepted h f x) k y z n m = one_ask (ask_accepted h f x) k n m
-answer_but {b = b} once (shown h) (shown k) y z n m = answer_once (shows_once once h k) (same_book b)
-answer_but {b = b} once listed listed y z n m = answer_once refl (same_book b)
-answer_but once log_without_memory k y z n m = absurd (n book_without_memory)
-answer_but once logged log_without_memory y z n m = absurd (m book_without_memory)
-answer_but {b = b} once logged logged y z n m = answer_once refl (same_book b)
-answer_but once (worked turns h) k y z n m = absurd once
-answer_but once (work_refused fault h) k y z n m = absurd once
-answer_but once cone_without_memory k y z n m = absurd (n book_without_memory)
-answer_but once (cone_refused h) cone_without_memory y z n m = absurd (m book_without_memory)
-answer_but once (cone_found h x) cone_without_memory y z n m = absurd (m book_without_memory)
-answer_but once (cone_refused h) (cone_refused k) y z n m = refused_once h k
-answer_but once (cone_refused h) (cone_found k x) y z n m = not_both h k
-answer_but once (cone_found h x) (cone_refused k) y z n m = not_both k h
-answer_but {b = b} once (cone_found h x) (cone_found k w) y z n m = answer_once (ap cone_text (cone_once x w)) (same_book b)
-answer_but once undo_without_memory k y z n m = one_undo undo_without_memory k n m
-answer_but once (undo_refused h) k y z n m = one_undo (undo_refused h) k n m
-answer_but once (undo_accepted h x) k y z n m = one_undo (undo_accepted h x) k n m
-answer_but once undo_cone_without_memory k y z n m = absurd (n book_without_memory)
-answer_but once (undo_cone_refused h) undo_cone_without_memory y z n m = absurd (m book_without_memory)
-answer_but once (undo_cone_found h x u) undo_cone_without_memory y z n m = absurd (m book_without_memory)
-answer_but once (undo_cone_refused h) (undo_cone_refused k) y z n m = refused_once h k
-answer_but once (undo_cone_refused h) (undo_cone_found k x u) y z n m = not_both h k
-answer_but once (undo_cone_found h x u) (undo_cone_refused k) y z n m = not_both k h
-answer_but {budget = budget} {b = b} {e = e} {t = t} {p = p} once (undo_cone_found h x u) (undo_cone_found k v w) y z n m =
+answer_but {b = b} once told (arrive_moves h) (arrive_moves k) y z n m = answered (one_move (same_book b) h k (had_memory y) (had_memory z))
+answer_but {b = b} once told (forward_moves h) (forward_moves k) y z n m = answered (one_move (same_book b) h k (had_memory y) (had_memory z))
+answer_but {b = b} once told (turn_moves h) (turn_moves k) y z n m = answered (one_move (same_book b) h k (had_memory y) (had_memory z))
+answer_but once told learn_without_memory k y z n m = one_learning learn_without_memory k n m
+answer_but once told (learn_refused h) k y z n m = one_learning (learn_refused h) k n m
+answer_but once told (learn_accepted h) k y z n m = one_learning (learn_accepted h) k n m
+answer_but {b = b} once told (stepped h) (stepped k) y z n m = answered (one_step (same_book b) h k (had_memory y) (had_memory z)).0
+answer_but {b = b} once told (runs h) (runs k) y z n m = answered (runs_once (same_book b) h k y z)
+answer_but once told enabled_without_memory k y z n m = absurd (n book_without_memory)
+answer_but once told (enabled h x) enabled_without_memory y z n m = absurd (m book_without_memory)
+answer_but {b = b} once told (enabled h x) (enabled k w) y z n m = answer_once (shows_enabled_once once (enabled_once h k) x w) (same_book b)
+answer_but once told ask_without_memory k y z n m = one_ask ask_without_memory k n m
+answer_but once told asked_without_memory k y z n m = one_ask asked_without_memory k n m
+answer_but once told (asked_unread h) k y z n m = one_ask (asked_unread h) k n m
+answer_but once told (ask_refused h f) k y z n m = one_ask (ask_refused h f) k n m
+answer_but once told (ask_accepted h f x) k y z n m = one_ask (ask_accepted h f x) k n m
+answer_but {b = b} once told (shown h) (shown k) y z n m = answer_once (shows_once once h k) (same_book b)
+answer_but {b = b} once told listed listed y z n m = answer_once refl (same_book b)
+answer_but once told log_without_memory k y z n m = absurd (n book_without_memory)
+answer_but once told logged log_without_memory y z n m = absurd (m book_without_memory)
+answer_but {b = b} once told logged logged y z n m = answer_once refl (same_book b)
+answer_but once told (worked turns h) k y z n m = absurd told
+answer_but once told (work_refused fault h) k y z n m = absurd told
+answer_but once told cone_without_memory k y z n m = absurd (n book_without_memory)
+answer_but once told (cone_refused h) cone_without_memory y z n m = absurd (m book_without_memory)
+answer_but once told (cone_found h x) cone_without_memory y z n m = absurd (m book_without_memory)
+answer_but once told (cone_refused h) (cone_refused k) y z n m = refused_once h k
+answer_but once told (cone_refused h) (cone_found k x) y z n m = not_both h k
+answer_but once told (cone_found h x) (cone_refused k) y z n m = not_both k h
+answer_but {b = b} once told (cone_found h x) (cone_found k w) y z n m = answer_once (ap cone_text (cone_once x w)) (same_book b)
+answer_but once told undo_without_memory k y z n m = one_undo undo_without_memory k n m
+answer_but once told (undo_refused h) k y z n m = one_undo (undo_refused h) k n m
+answer_but once told (undo_accepted h x) k y z n m = one_undo (undo_accepted h x) k n m
+answer_but once told undo_cone_without_memory k y z n m = absurd (n book_without_memory)
+answer_but once told (undo_cone_refused h) undo_cone_without_memory y z n m = absurd (m book_without_memory)
+answer_but once told (undo_cone_found h x u) undo_cone_without_memory y z n m = absurd (m book_without_memory)
+answer_but once told (undo_cone_refused h) (undo_cone_refused k) y z n m = refused_once h k
+answer_but once told (undo_cone_refused h) (undo_cone_found k x u) y z n m = not_both h k
+answer_but once told (undo_cone_found h x u) (undo_cone_refused k) y z n m = not_both k h
+answer_but {budget = budget} {b = b} {e = e} {t = t} {p = p} once told (undo_cone_found h x u) (undo_cone_found k v w) y z n m =
     one_undo u (subst (λ (es : List EventName). Answers budget b (command.undo es) t p e) (cone_once x v) w) n m
-answer_but once redo_without_memory k y z n m = one_redo redo_without_memory k n m
-answer_but once (redo_refused h) k y z n m = one_redo (redo_refused h) k n m
-answer_but once (redo_accepted h x) k y z n m = one_redo (redo_accepted h x) k n m
-answer_but once exchange_without_memory k y z n m = absurd (n book_without_memory)
-answer_but once (exchange_refused h) exchange_without_memory y z n m = absurd (m book_without_memory)
-answer_but once (exchange_accepted h x u) exchange_without_memory y z n m = absurd (m book_without_memory)
-answer_but once (exchange_refused h) (exchange_refused k) y z n m = refused_once h k
-answer_but once (exchange_refused h) (exchange_accepted k x u) y z n m = not_both h k
-answer_but once (exchange_accepted h x u) (exchange_refused k) y z n m = not_both k h
-answer_but once (exchange_accepted {position = position} h x u) (exchange_accepted k v w) y z n m = exchanged_once position h x v u w
+answer_but once told redo_without_memory k y z n m = one_redo redo_without_memory k n m
+answer_but once told (redo_refused h) k y z n m = one_redo (redo_refused h) k n m
+answer_but once told (redo_accepted h x) k y z n m = one_redo (redo_accepted h x) k n m
+answer_but once told exchange_without_memory k y z n m = absurd (n book_without_memory)
+answer_but once told (exchange_refused h) exchange_without_memory y z n m = absurd (m book_without_memory)
+answer_but once told (exchange_accepted h x u) exchange_without_memory y z n m = absurd (m book_without_memory)
+answer_but once told (exchange_refused h) (exchange_refused k) y z n m = refused_once h k
+answer_but once told (exchange_refused h) (exchange_accepted k x u) y z n m = not_both h k
+answer_but once told (exchange_accepted h x u) (exchange_refused k) y z n m = not_both k h
+answer_but once told (exchange_accepted {position = position} h x u) (exchange_accepted k v w) y z n m = exchanged_once position h x v u w
 
 pub one_answer : OneAnswer
-one_answer budget b c r s q p d e once h k n m = answer_but once h k n m (ends n) (ends m)
+one_answer budget b c r s q p d e good told h k n m = answer_but (names_vats_once b good) told h k n m (ends n) (ends m)
 
 born_once : {b d e : Book} {x : List ℕ} {earlier : List (List ℕ)} {ts us : Trees} {n m : EventName} (vs ws : List Vat) → us ≡ ts → EntersNext (record { name = n; act = birth x earlier ts }) (birth_foot n x earlier vs ts) 0 b d
     → EntersNext (record { name = m; act = birth x earlier us }) (birth_foot m x earlier ws us) 0 b e → SameAnswer (queued_text n) false d (queued_text m) false e

@@ -18,20 +18,22 @@ use Rattle.ids.specs.Cells.{vat_cmp, slot_cmp, object_cmp}
 use Rattle.ids.specs.declared.names.ObjId.{ObjId}
 use Rattle.ids.specs.declared.names.SlotId.{SlotId}
 use Rattle.ids.specs.declared.names.VatNo.{VatNo}
+use Rattle.ids.specs.declared.cells.CellKey.TheVariants as key
 use Rattle.ids.specs.contracts.reference.ReferenceOrd.TheImpl as reference_order
 use Rattle.ids.specs.contracts.reference.ReferenceOrd.TheImpl.Laws.{total-law, matches_eq-law}
 use Rattle.ids.specs.KeyLaws.{exact_reference}
 use Rattle.ids.proofs.Keys.{exact_vats, exact_messages, exact_promises, exact_slots, exact_objects}
 use Rattle.kernele.specs.Tree.{Name}
 use Rattle.heap.specs.State.{State}
-use Rattle.worldcells.specs.World.{Content, World}
+use Rattle.post.specs.Messages.{Vat}
+use Rattle.worldcells.specs.World.{Content, vat, bound, held, made, viewed, fenced, message, published, vat_in, World}
+use Rattle.book.specs.Good.{NamesVatsOnce}
 use Rattle.agenda.specs.Enabled.{Out, Rises, Enabled, step_cmp}
 use Rattle.agenda.specs.declared.agenda.Step.{Step}
 use Rattle.agenda.proofs.Orders.{vat_total, message_total, promise_total}
 use Rattle.agenda.proofs.Rising.{in_none, in_head, in_tail, in_cases}
 use Rattle.stepper.specs.Show.{Lists, noun_lines, slot_lines, object_lines, view_lines, fence_lines, StateLines, vat_line, VatLines, vat_lines_none, vat_lines_more, number_in, name_of, ByBirth, message_lines, board_lines, Shows}
 use Rattle.stepper.specs.Steps.{enabled_text, ShowsEnabled}
-use Rattle.stepper.specs.Laws.{NamesVatsOnce}
 use Rattle.stepper.proofs.OneMove.{step_reversed}
 
 -- ---- all that may be done
@@ -98,6 +100,25 @@ exact_references r t h = exact_reference r t (matches_eq-law r t ∙ ap is_eq h)
 
 -- ---- vats by birth
 
+-- a number is that of a vat
+vat_of_number : (o : Option Content) (v : VatNo) → number_in o ≡ Some v → (u : Vat) × (vat_in o ≡ Some u) × (u.number ≡ v)
+vat_of_number None v h = absurd (cc)
+vat_of_number (Some (vat x)) v h = (x, refl, (cc))
+vat_of_number (Some (bound b)) v h = absurd (cc)
+vat_of_number (Some (held a)) v h = absurd (cc)
+vat_of_number (Some (made o)) v h = absurd (cc)
+vat_of_number (Some (viewed k)) v h = absurd (cc)
+vat_of_number (Some (fenced f)) v h = absurd (cc)
+vat_of_number (Some (message g)) v h = absurd (cc)
+vat_of_number (Some (published a)) v h = absurd (cc)
+
+-- so no two names have one number
+one_number : {w : World} → NamesVatsOnce w → (x y : Name) (v : VatNo) → number_in (w (key.Name x)) ≡ Some v → number_in (w (key.Name y)) ≡ Some v → y ≡ x
+one_number {w = w} once x y v h k =
+    let a = vat_of_number (w (key.Name x)) v h in
+    let b = vat_of_number (w (key.Name y)) v k in
+    once x y a.0 b.0 a.1 b.1 (b.2 ∙ sym a.2)
+
 module _ {at : Name → Option Content} (once : (x y : Name) (v : VatNo) → number_in (at x) ≡ Some v → number_in (at y) ≡ Some v → y ≡ x) (vs ws : List (VatNo × Name)) (h : ByBirth at vs) (k : ByBirth at ws) where
   one_name : (v : VatNo) (o p : Option Name) → name_of vs v ≡ o → name_of ws v ≡ p → p ≡ o
   one_name v None None e f = refl
@@ -125,7 +146,7 @@ vat_lines_once (vat_lines_more {v = v} {x = x} a h) (vat_lines_more b k) = λ i.
 
 pub shows_once : {w : World} {text other : List ℕ} → NamesVatsOnce w → Shows w text → Shows w other → other ≡ text
 shows_once {w = w} once h k =
-    let vats : k.vats ≡ h.vats = births_once once h.vats k.vats h.vats_listed k.vats_listed in
+    let vats : k.vats ≡ h.vats = births_once (one_number once) h.vats k.vats h.vats_listed k.vats_listed in
     let messages = lists_once message_total exact_messages h.messages_listed k.messages_listed in
     let board = lists_once promise_total exact_promises h.board_listed k.board_listed in
     let lines : k.lines ≡ h.lines = vat_lines_once h.vat_lines (subst (λ (vs : List (VatNo × Name)). VatLines w vs k.lines) vats k.vat_lines) in
@@ -133,5 +154,5 @@ shows_once {w = w} once h k =
 
 pub shows_enabled_once : {w : World} {ss ts : List Step} {text other : List ℕ} → NamesVatsOnce w → ts ≡ ss → ShowsEnabled w ss text → ShowsEnabled w ts other → other ≡ text
 shows_enabled_once once same h k =
-    let vats : k.vats ≡ h.vats = births_once once h.vats k.vats h.vats_listed k.vats_listed in
+    let vats : k.vats ≡ h.vats = births_once (one_number once) h.vats k.vats h.vats_listed k.vats_listed in
     k.whole ∙ (λ i. enabled_text (vats i) (same i)) ∙ sym h.whole

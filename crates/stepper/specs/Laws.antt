@@ -1,24 +1,16 @@
--- What holds of replies: each is a function of the book and the command, but for want of memory, the place of `L5` and the work of threads; where a
--- reply names vats, or a promise is named without its home, one name of a vat and one home are taken for granted.
+-- What holds of replies: each is a function of the book and the command, but for want of memory, the place of `L5` and the work of threads.
 use Rattle.std.specs.Prelude.{◌≡◌, ℕ, true, List, [], ◌∷◌, ◌++◌, Bool, Some, is_some, Result, codes}
 use Rattle.history.specs.Subject.{touches, new}
 use Rattle.ids.specs.declared.cells.CellKey.{CellKey}
-use Rattle.ids.specs.declared.cells.CellKey.TheVariants as key
-use Rattle.ids.specs.declared.names.PromId.{PromId}
-use Rattle.ids.specs.declared.names.VatNo.{VatNo}
-use Rattle.kernele.specs.Tree.{Name}
 use Rattle.ereader.specs.Shown as reading
 use Rattle.ereader.specs.declared.fault.ReadFault.TheVariants as read_fault
-use Rattle.worldcells.specs.World.{World}
-use Rattle.agenda.specs.Agendas.{can_learn}
 use Rattle.journal.specs.Lines.{plain, Line}
 use Rattle.book.specs.Books.{Book}
-use Rattle.book.specs.Learning.{IsNumbered}
+use Rattle.book.specs.Good.{IsGood}
 use Rattle.commands.specs.Commands as command
 use Rattle.commands.specs.Commands.{Spelled}
 use Rattle.commands.specs.declared.command.LineFault.{LineFault}
 use Rattle.stepper.specs.Replies.{refused, Answers, AnswersBirth}
-use Rattle.stepper.specs.Show.{number_in}
 
 -- two lines of a journal tell the same: one event from one seat, live or undone, with the same causes, which touched and wrote the same cells
 pub record SameLine (l m : Line) : Type 0 where
@@ -65,26 +57,14 @@ pub record SameAnswer (r : List ℕ) (q : Bool) (b : Book) (s : List ℕ) (p : B
   pub refusal : p ≡ q
   pub book : SameBook b d
 
--- no two names stand for one vat
-abbrev pub NamesVatsOnce : World → Type 0
-NamesVatsOnce w = (x y : Name) (v : VatNo) → number_in (w (key.Name x)) ≡ Some v → number_in (w (key.Name y)) ≡ Some v → y ≡ x
+-- commands whose answer is a function of the book: what workers do is never one
+abbrev pub IsTold : Spelled → Type 0
+IsTold (command.work k n) = ⊥
+IsTold _ = Unit {0}
 
--- no vat can learn of two promises of one event and number, which only their homes would tell apart
-abbrev pub HasOneHome : World → Type 0
-HasOneHome w = (v : VatNo) (p q : PromId) → can_learn w v p ≡ true → can_learn w v q ≡ true → IsNumbered p.event p.index q → q ≡ p
-
--- What an answer takes for granted to be one: that the names it goes by are one in the world, those that stand for vats, where it names vats, and
--- the promise, where a command names it without its home. What workers do is never one. Other answers take nothing for granted.
-abbrev pub IsDetermined : Spelled → World → Type 0
-IsDetermined (command.learn x n) w = HasOneHome w
-IsDetermined (command.work k n) w = ⊥
-IsDetermined command.enabled w = NamesVatsOnce w
-IsDetermined command.show w = NamesVatsOnce w
-IsDetermined _ w = Unit {0}
-
--- a command has one answer at most, where memory does not run out
+-- a command has one answer at most in a good book, where memory does not run out
 abbrev pub OneAnswer : Type 0
-OneAnswer = (budget : ℕ) (b : Book) (c : Spelled) (r s : List ℕ) (q p : Bool) (d e : Book) → IsDetermined c b.world → Answers budget b c r q d → Answers budget b c s p e
+OneAnswer = (budget : ℕ) (b : Book) (c : Spelled) (r s : List ℕ) (q p : Bool) (d e : Book) → IsGood b → IsTold c → Answers budget b c r q d → Answers budget b c s p e
     → ¬ EndsForWant r → ¬ EndsForWant s → SameAnswer r q d s p e
 
 -- so has a new vat

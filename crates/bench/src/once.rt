@@ -1,0 +1,73 @@
+//! Work on a book that nobody else has.
+ghost use Rattle.std.specs.Prelude.{◌≡◌, ◌<◌, ◌≤◌};
+ghost use Rattle.book.specs.BookView.{book_of};
+ghost use Rattle.book.specs.Entered.{entered_in, IsAmong};
+
+use crate::Bench;
+use crate::fault::BenchFault;
+use crate::seat::Opening;
+use crate::start::Begun;
+use crate::work::{Gate, Worked};
+use book::book::Book;
+use std::alloc::Global;
+use std::marker::Brand;
+use std::sync::Wait;
+use std::sync::ledger::Blank;
+use std::thread::Threads;
+
+/// Has workers do what may be done in a book, as `Bench::work` says, and gives the book back. Answers how many turns they entered.
+///
+/// # Errors
+/// As `Bench::work`; `Memory` also where there is none for the Bench.
+pub fn work_once<G: Gate + Sync, R: Threads + Wait + Sync>(
+    rt: &R,
+    alloc: Global,
+    book: Book,
+    budget: u32,
+    workers: usize,
+    turns: u64,
+    gate: &G,
+) -> (Book, Result<u64, BenchFault>)
+    requires { (0 < budget) × (budget ≤ 1000000) }
+    ensures { IsAmong (entered_in (book_of book).journal) (entered_in (book_of result.0).journal) }
+{
+    let parts = workers as u64;
+    match Begun::new(alloc, book) {
+        Ok(begun) => work_on::<Brand, G, R>(
+            rt,
+            alloc,
+            begun,
+            budget,
+            Blank::new(parts),
+            parts,
+            workers,
+            turns,
+            gate,
+        ),
+        Err((book, _)) => (book, Err(BenchFault::Memory)),
+    }
+}
+
+/// The same at a Bench of its own.
+fn work_on<L: Opening + Send + Sync, G: Gate + Sync, R: Threads + Wait + Sync>(
+    rt: &R,
+    alloc: Global,
+    begun: Begun,
+    budget: u32,
+    blank: Blank,
+    parts: u64,
+    workers: usize,
+    turns: u64,
+    gate: &G,
+) -> (Book, Result<u64, BenchFault>)
+    requires budget { (0 < budget) × (budget ≤ 1000000) }
+    requires ledger { (blank.name ≡ L.name) × (blank.parts ≡ L.parts) × (L.parts ≡ L.seats) × (parts ≡ L.seats) }
+    requires book { (begun.table ≡ L.table) × (entered_in (book_of begun.book).journal ≡ L.began) × (begun.before ≡ L.before) }
+    ensures { IsAmong (entered_in (book_of begun.book).journal) (entered_in (book_of result.0).journal) }
+{
+    let bench = Bench::<L>::new(begun, budget, blank, parts);
+    match bench.work(rt, alloc, workers, turns, gate) {
+        Ok(Worked { seats, turns }) => (bench.close(rt, seats).0, Ok(turns)),
+        Err(fault) => (bench.close(rt, Vec::new(alloc)).0, Err(fault)),
+    }
+}
