@@ -22,3 +22,4 @@ pub mod Committing
 pub mod Good
 pub mod Ordered
 pub mod Births
+pub mod Words

@@ -1,12 +1,11 @@
--- Refusals of the book, in words, and what they stand for.
-use Rattle.std.specs.Prelude.{◌≡◌, ◌⊎◌, ◌+◌, ℕ, List, ◌++◌, codes, Option, Some}
+-- The faults of the book: the refusals that they tell, and both in words.
+use Rattle.std.specs.Prelude.{◌≡◌, ◌⊎◌, ◌+◌, ℕ, List, ◌++◌, codes, Option, Some, None}
 use Rattle.std.specs.Fmt.{decimal}
 use Rattle.ids.specs.Names.{event_text, message_text}
 use Rattle.ids.specs.declared.names.EventName.{EventName}
 use Rattle.ids.specs.declared.names.MsgId.{MsgId}
 use Rattle.event.specs.declared.ready.Delay.{Delay}
 use Rattle.event.specs.declared.ready.Delay.TheVariants as delay
-use Rattle.scopes.specs.Check as check
 use Rattle.scopes.specs.Scope as scope
 use Rattle.scopes.specs.declared.checking.CheckFault.{CheckFault}
 use Rattle.scopes.specs.declared.checking.CheckFault.TheVariants as check-fault
@@ -19,67 +18,92 @@ use Rattle.book.specs.Calls.{IsFresh, LeadsAsBefore, RefusesCommit}
 use Rattle.book.specs.declared.fault.BookFault.{BookFault}
 use Rattle.book.specs.declared.fault.BookFault.TheVariants as fault
 
+-- ---- refusals in words
+
 -- two events behind a word
 abbrev pub pair_text : List ℕ → EventName → EventName → List ℕ
 pair_text words e f = words ++ (event_text e ++ (codes " " ++ event_text f))
 
-abbrev pub fault_text : BookFault → List ℕ
-fault_text (fault.NoVat x) = codes "B1 NoVat " ++ x
-fault_text (fault.NameTaken x) = codes "B2 NameTaken " ++ x
-fault_text (fault.NoMessage m) = codes "B3 NoMessage " ++ message_text m
-fault_text fault.NotThere = codes "B4 NotThere"
-fault_text fault.NotReady = codes "B5 NotReady"
-fault_text (fault.Before m) = codes "B6 Before " ++ message_text m
-fault_text fault.NothingToLearn = codes "B7 NothingToLearn"
-fault_text fault.Full = codes "B8 Full"
-fault_text fault.Stale = codes "B9 Stale"
-fault_text fault.VatOut = codes "B10 VatOut"
-fault_text fault.NoTicket = codes "B11 NoTicket"
-fault_text (fault.NoEvent e) = codes "B12 NoEvent " ++ event_text e
-fault_text (fault.NoPosition position) = codes "B12 NoEvent " ++ decimal position
-fault_text (fault.NotLive e) = codes "B13 NotLive " ++ event_text e
-fault_text (fault.IsLive e) = codes "B14 IsLive " ++ event_text e
-fault_text (fault.NotClosed e f) = pair_text (codes "B15 NotClosed ") e f
-fault_text (fault.Crossed e f) = pair_text (codes "B16 Crossed ") e f
-fault_text (fault.CauseMissing e f) = pair_text (codes "B17 CauseMissing ") e f
-fault_text (fault.Dependent e f) = pair_text (codes "B18 Dependent ") e f
-fault_text fault.BadBudget = codes "B19 BadBudget"
-fault_text (fault.Check f) = check.fault_text f
-fault_text fault.Memory = codes "B20 Memory"
+abbrev pub check_text : scope.Refusal → List ℕ
+check_text (scope.unbound x) = codes "K1 Unbound " ++ x
+check_text (scope.assign_to_def x) = codes "K2 AssignToDef " ++ x
+check_text (scope.duplicate_name x) = codes "K3 DuplicateName " ++ x
+check_text scope.too_deep = codes "K4 TooDeep"
+check_text scope.too_long = codes "K5 TooLong"
 
--- a fault of the check tells this refusal; want of memory tells none
-abbrev pub check_tells : CheckFault → Option Refusal → Type 0
-check_tells (check-fault.Unbound x) refusal = refusal ≡ Some (unchecked (scope.unbound x))
-check_tells (check-fault.DuplicateName x) refusal = refusal ≡ Some (unchecked (scope.duplicate_name x))
-check_tells (check-fault.AssignToDef x) refusal = refusal ≡ Some (unchecked (scope.assign_to_def x))
-check_tells check-fault.TooDeep refusal = refusal ≡ Some (unchecked scope.too_deep)
-check_tells check-fault.TooLong refusal = refusal ≡ Some (unchecked scope.too_long)
-check_tells check-fault.Memory refusal = Unit {0}
+abbrev pub refusal_text : Refusal → List ℕ
+refusal_text (no_vat x) = codes "B1 NoVat " ++ x
+refusal_text (name_taken x) = codes "B2 NameTaken " ++ x
+refusal_text (no_message m) = codes "B3 NoMessage " ++ message_text m
+refusal_text not_there = codes "B4 NotThere"
+refusal_text not_ready = codes "B5 NotReady"
+refusal_text (before m) = codes "B6 Before " ++ message_text m
+refusal_text nothing_to_learn = codes "B7 NothingToLearn"
+refusal_text full = codes "B8 Full"
+refusal_text stale = codes "B9 Stale"
+refusal_text vat_out = codes "B10 VatOut"
+refusal_text no_ticket = codes "B11 NoTicket"
+refusal_text (no_event e) = codes "B12 NoEvent " ++ event_text e
+refusal_text (no_position position) = codes "B12 NoEvent " ++ decimal position
+refusal_text (not_live e) = codes "B13 NotLive " ++ event_text e
+refusal_text (still_live e) = codes "B14 IsLive " ++ event_text e
+refusal_text (not_closed e f) = pair_text (codes "B15 NotClosed ") e f
+refusal_text (crossed e f) = pair_text (codes "B16 Crossed ") e f
+refusal_text (cause_missing e f) = pair_text (codes "B17 CauseMissing ") e f
+refusal_text (dependent e f) = pair_text (codes "B18 Dependent ") e f
+refusal_text bad_budget = codes "B19 BadBudget"
+refusal_text (unchecked fault) = check_text fault
+
+-- ---- what a fault tells
+
+-- the refusal that a fault of the check tells; want of memory tells none
+abbrev pub told_by_check : CheckFault → Option Refusal
+told_by_check (check-fault.Unbound x) = Some (unchecked (scope.unbound x))
+told_by_check (check-fault.DuplicateName x) = Some (unchecked (scope.duplicate_name x))
+told_by_check (check-fault.AssignToDef x) = Some (unchecked (scope.assign_to_def x))
+told_by_check check-fault.TooDeep = Some (unchecked scope.too_deep)
+told_by_check check-fault.TooLong = Some (unchecked scope.too_long)
+told_by_check check-fault.Memory = None
+
+abbrev pub told_by : BookFault → Option Refusal
+told_by (fault.NoVat x) = Some (no_vat x)
+told_by (fault.NameTaken x) = Some (name_taken x)
+told_by (fault.NoMessage m) = Some (no_message m)
+told_by fault.NotThere = Some not_there
+told_by fault.NotReady = Some not_ready
+told_by (fault.Before m) = Some (before m)
+told_by fault.NothingToLearn = Some nothing_to_learn
+told_by fault.Full = Some full
+told_by fault.Stale = Some stale
+told_by fault.VatOut = Some vat_out
+told_by fault.NoTicket = Some no_ticket
+told_by (fault.NoEvent e) = Some (no_event e)
+told_by (fault.NoPosition position) = Some (no_position position)
+told_by (fault.NotLive e) = Some (not_live e)
+told_by (fault.IsLive e) = Some (still_live e)
+told_by (fault.NotClosed e f) = Some (not_closed e f)
+told_by (fault.Crossed e f) = Some (crossed e f)
+told_by (fault.CauseMissing e f) = Some (cause_missing e f)
+told_by (fault.Dependent e f) = Some (dependent e f)
+told_by fault.BadBudget = Some bad_budget
+told_by (fault.Check f) = told_by_check f
+told_by fault.Memory = None
+
+-- a fault in words: the refusal that it tells, or want of memory
+abbrev pub words_of : Option Refusal → List ℕ
+words_of (Some refusal) = refusal_text refusal
+words_of None = codes "B20 Memory"
+
+abbrev pub fault_text : BookFault → List ℕ
+fault_text f = words_of (told_by f)
 
 -- a fault is the first refusal that holds, unless it is want of memory
+abbrev pub TellsThat : Option Refusal → Option Refusal → Type 0
+TellsThat (Some told) refusal = refusal ≡ Some told
+TellsThat None refusal = Unit {0}
+
 abbrev pub Tells : BookFault → Option Refusal → Type 0
-Tells (fault.NoVat x) refusal = refusal ≡ Some (no_vat x)
-Tells (fault.NameTaken x) refusal = refusal ≡ Some (name_taken x)
-Tells (fault.NoMessage m) refusal = refusal ≡ Some (no_message m)
-Tells fault.NotThere refusal = refusal ≡ Some not_there
-Tells fault.NotReady refusal = refusal ≡ Some not_ready
-Tells (fault.Before m) refusal = refusal ≡ Some (before m)
-Tells fault.NothingToLearn refusal = refusal ≡ Some nothing_to_learn
-Tells fault.Full refusal = refusal ≡ Some full
-Tells fault.Stale refusal = refusal ≡ Some stale
-Tells fault.VatOut refusal = refusal ≡ Some vat_out
-Tells fault.NoTicket refusal = refusal ≡ Some no_ticket
-Tells (fault.NoEvent e) refusal = refusal ≡ Some (no_event e)
-Tells (fault.NoPosition position) refusal = refusal ≡ Some (no_position position)
-Tells (fault.NotLive e) refusal = refusal ≡ Some (not_live e)
-Tells (fault.IsLive e) refusal = refusal ≡ Some (still_live e)
-Tells (fault.NotClosed e f) refusal = refusal ≡ Some (not_closed e f)
-Tells (fault.Crossed e f) refusal = refusal ≡ Some (crossed e f)
-Tells (fault.CauseMissing e f) refusal = refusal ≡ Some (cause_missing e f)
-Tells (fault.Dependent e f) refusal = refusal ≡ Some (dependent e f)
-Tells fault.BadBudget refusal = refusal ≡ Some bad_budget
-Tells (fault.Check f) refusal = check_tells f refusal
-Tells fault.Memory refusal = Unit {0}
+Tells f refusal = TellsThat (told_by f) refusal
 
 -- what is not known of a message tells this refusal; want of memory tells none
 abbrev pub delay_tells : MsgId → Delay → Option Refusal → Type 0

@@ -82,6 +82,7 @@ fn write_pair<W: Write>(
 impl Display for BookFault {
     ghost output = { λ fault. Some (fault_text fault) };
 
+    #[tactic(auto, using(crate::proofs::Words::check_words))]
     fn fmt<W: Write>(&self, f: &mut Formatter<W>) -> fmt::Result {
         match self {
             BookFault::NoVat(name) => write_about(f, "B1 NoVat ", name),

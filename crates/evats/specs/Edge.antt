@@ -33,5 +33,5 @@ module _ {R W : Type 0} (remaining : R → Option (List ℕ)) (contents : W → 
   -- the commands of a reader are answered on a writer, and nothing waits to be written then; without memory for the first block nothing is read
   pub data EndsAs (input : R) (output : W) : Ended → Type 0 where
     no_block : EndsAs input output (Ran (Err Memory))
-    ran : {source later : Lines R} {sink after : Outlet W} {r : Result Summary Fault} → IsUnread input source → IsUnwritten output sink
+    ran : (source later : Lines R) (sink after : Outlet W) {r : Result Summary Fault} → IsUnread input source → IsUnwritten output sink
         → RunsAs source later sink after r → waiting after ≡ [] → EndsAs input output (Ran r)

@@ -13,8 +13,8 @@ const MOST_STEPS: u32 = 1_000_000;
 
 /// A crew of threads, which share the book by a Bench.
 #[derive(Drop)]
-pub(crate) struct Threaded<R> {
-    pub rt: R,
+pub(crate) struct Threaded<'a, R> {
+    pub rt: &'a R,
 }
 
 fn told(fault: BenchFault) -> WorkFault {
@@ -24,7 +24,7 @@ fn told(fault: BenchFault) -> WorkFault {
     }
 }
 
-impl<R: Threads + Wait + Sync> Crew for Threaded<R> {
+impl<R: Threads + Wait + Sync> Crew for Threaded<'_, R> {
     fn work(&mut self, alloc: Global, book: Book, order: Order) -> (Book, Result<u64, WorkFault>) {
         let Order {
             budget,
@@ -35,7 +35,7 @@ impl<R: Threads + Wait + Sync> Crew for Threaded<R> {
             return (book, Err(WorkFault::BadBudget));
         }
         let (book, done) = work_once(
-            &self.rt,
+            self.rt,
             alloc,
             book,
             budget,

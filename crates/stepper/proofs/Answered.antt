@@ -2,9 +2,6 @@
 use Rattle.std.proofs.Common.{◌≡◌, inl, inr, ℕ, ◌+◌, List, Option, Some, None, Result, Ok, Err, true, false, ◌||◌, refl, subst, sym, ap, ◌∙◌, [], ◌++◌, append_assoc, append-nil, ◌<◌, length, ◌∷◌, arith}
 use Rattle.std.specs.Prelude.{codes, OnOk, IfOk, Bool, string_bytes}
 use Rattle.kernele.specs.Tree.{Trees}
-use Rattle.scopes.specs.Scope as scope
-use Rattle.scopes.specs.declared.checking.CheckFault.{CheckFault}
-use Rattle.scopes.specs.declared.checking.CheckFault.TheVariants as check_fault
 use Rattle.ereader.specs.Texts.{ReadAs}
 use Rattle.ereader.specs.Texts as texts
 use Rattle.ereader.specs.Shown as reading
@@ -18,7 +15,7 @@ use Rattle.agenda.specs.declared.agenda.Step.{Step}
 use Rattle.agenda.specs.declared.agenda.Step.TheVariants as step
 use Rattle.journal.specs.Lines.{Line}
 use Rattle.causality.specs.Exact.{Cone}
-use Rattle.book.specs.Refusals.{Refusal, no_vat, name_taken, no_message, not_there, not_ready, before, nothing_to_learn, full, stale, vat_out, no_ticket, no_event, no_position, not_live, still_live, not_closed, crossed, cause_missing, dependent, bad_budget, unchecked}
+use Rattle.book.specs.Refusals.{Refusal}
 use Rattle.book.specs.Refusals.{birth_refusal, ask_refusal, arrival_refusal, forward_refusal, learning_refusal, checkout_refusal, undo_refusal, redo_refusal, cone_refusal, exchange_refusal}
 use Rattle.book.specs.Books.{Book, blank}
 use Rattle.book.specs.Calls.{EntersNext, TurnsNext, Undoes, Redoes, Exchanges, StoodAt}
@@ -29,17 +26,16 @@ use Rattle.commands.specs.declared.numbers.PromiseName.{PromiseName}
 use Rattle.book.specs.Learning.{LearnsNamed, TellsNamed}
 use Rattle.ids.specs.declared.names.VatNo.{VatNo}
 use Rattle.book.specs.Fault as book
-use Rattle.book.specs.Fault.{Tells, check_tells, Unturned}
+use Rattle.book.specs.Fault.{refusal_text, told_by, words_of, TellsThat, Tells, Unturned}
 use Rattle.book.specs.declared.fault.BookFault.{BookFault}
 use Rattle.book.specs.declared.fault.BookFault.TheVariants as fault
-use Rattle.scopes.specs.Check as check
 use Rattle.stepper.specs.declared.engine.Engine.{Engine}
 use Rattle.stepper.specs.Engine.{Happens}
 use Rattle.commands.specs.Commands as commands
 use Rattle.commands.specs.Commands.{Spelled, spelled_by, fault_text}
 use Rattle.commands.specs.Scripts.{script_of, behind_lines, fault_of}
 use Rattle.commands.specs.declared.command.LineFault.{LineFault}
-use Rattle.stepper.specs.Replies.{refused, refusal_text, Answers, ask_without_memory, asked_without_memory, asked_unread, ask_refused, Moves, move_without_memory, arrival_refused, arrives, forwarding_refused, forwards, turn_without_memory_named, turn_refused, turns, learning_refused, learns, learn_without_memory, learn_refused, learn_accepted, EnabledIn, enabled, enabled_without_memory, done_text, count_of, undone_text, redone_text, listed, logged, logged_text, cone_found, undo_cone_found, cone_without_memory, cone_refused, undo_without_memory, undo_refused, undo_accepted, undo_cone_without_memory, undo_cone_refused, redo_without_memory, redo_refused, redo_accepted, exchange_without_memory, exchange_refused, exchange_accepted, exchanged_text, AnswersBirth, birth_without_memory, script_without_memory, script_unread, birth_refused, birth_accepted, ask_accepted, queued_text, turned_text, FirstReply, born, answered, skipped, script_refused, said, said_by, Replies, first_and_more, no_more}
+use Rattle.stepper.specs.Replies.{refused, Answers, ask_without_memory, asked_without_memory, asked_unread, ask_refused, Moves, move_without_memory, arrival_refused, arrives, forwarding_refused, forwards, turn_without_memory_named, turn_refused, turns, learning_refused, learns, learn_without_memory, learn_refused, learn_accepted, EnabledIn, enabled, enabled_without_memory, done_text, count_of, undone_text, redone_text, listed, logged, logged_text, cone_found, undo_cone_found, cone_without_memory, cone_refused, undo_without_memory, undo_refused, undo_accepted, undo_cone_without_memory, undo_cone_refused, redo_without_memory, redo_refused, redo_accepted, exchange_without_memory, exchange_refused, exchange_accepted, exchanged_text, AnswersBirth, birth_without_memory, script_without_memory, script_unread, birth_refused, birth_accepted, ask_accepted, queued_text, turned_text, FirstReply, born, answered, skipped, script_refused, said, said_by, Replies, first_and_more, no_more}
 use Rattle.causewaylog.specs.Turns.{live_in}
 use Rattle.causewaylog.specs.Log.{log_text}
 use Rattle.stepper.specs.Listing.{journal_text, cone_text}
@@ -52,38 +48,13 @@ pub on_ok : {A E P Q : Type 0} (r : Result A E) → (P → Q) → OnOk r P → O
 on_ok (Ok x) f p = f p
 on_ok (Err e) f p = tt
 
-check_told : (f : CheckFault) (o : Option Refusal) (T : List ℕ → Type 0) → check_tells f o → ((r : Refusal) → o ≡ Some r → T (refusal_text r)) → T (codes "B20 Memory") → T (check.fault_text f)
-check_told (check_fault.Unbound x) o T h g m = g (unchecked (scope.unbound x)) h
-check_told (check_fault.AssignToDef x) o T h g m = g (unchecked (scope.assign_to_def x)) h
-check_told (check_fault.DuplicateName x) o T h g m = g (unchecked (scope.duplicate_name x)) h
-check_told check_fault.TooDeep o T h g m = g (unchecked scope.too_deep) h
-check_told check_fault.TooLong o T h g m = g (unchecked scope.too_long) h
-check_told check_fault.Memory o T h g m = m
-
 -- a fault of the book is written as the refusal that it tells, or as want of memory
+told_so : (is o : Option Refusal) (T : List ℕ → Type 0) → TellsThat is o → ((r : Refusal) → o ≡ Some r → T (refusal_text r)) → T (codes "B20 Memory") → T (words_of is)
+told_so (Some r) o T h g m = g r h
+told_so None o T h g m = m
+
 pub told : (f : BookFault) (o : Option Refusal) (T : List ℕ → Type 0) → Tells f o → ((r : Refusal) → o ≡ Some r → T (refusal_text r)) → T (codes "B20 Memory") → T (book.fault_text f)
-told (fault.NoVat x) o T h g m = g (no_vat x) h
-told (fault.NameTaken x) o T h g m = g (name_taken x) h
-told (fault.NoMessage x) o T h g m = g (no_message x) h
-told fault.NotThere o T h g m = g not_there h
-told fault.NotReady o T h g m = g not_ready h
-told fault.NothingToLearn o T h g m = g nothing_to_learn h
-told (fault.Before x) o T h g m = g (before x) h
-told fault.Full o T h g m = g full h
-told (fault.NoEvent e) o T h g m = g (no_event e) h
-told (fault.NotLive e) o T h g m = g (not_live e) h
-told (fault.IsLive e) o T h g m = g (still_live e) h
-told (fault.NotClosed e f) o T h g m = g (not_closed e f) h
-told (fault.NoPosition position) o T h g m = g (no_position position) h
-told (fault.Crossed e f) o T h g m = g (crossed e f) h
-told (fault.CauseMissing e f) o T h g m = g (cause_missing e f) h
-told (fault.Dependent e f) o T h g m = g (dependent e f) h
-told fault.Stale o T h g m = g stale h
-told fault.VatOut o T h g m = g vat_out h
-told fault.NoTicket o T h g m = g no_ticket h
-told fault.BadBudget o T h g m = g bad_budget h
-told (fault.Check f) o T h g m = check_told f o T h g m
-told fault.Memory o T h g m = m
+told f o T h g m = told_so (told_by f) o T h g m
 
 -- a fault of reading is written as the text's refusal, or as want of memory
 pub unread : (f : ReadFault) (text : List ℕ) (T : List ℕ → Type 0) → texts.Answers text (Err f) → (ReadAs text (Err f) → T (reading.shown f)) → T (codes "L7 Memory") → T (reading.shown f)

@@ -12,9 +12,10 @@ use Rattle.ids.specs.declared.names.MsgId.{MsgId}
 use Rattle.agenda.specs.Enabled.{message_in, learn_in, step_cmp, step_cmp_by}
 use Rattle.agenda.specs.declared.agenda.Step.{Step}
 use Rattle.agenda.proofs.Orders.{vat_total, message_total, promise_total}
+use Rattle.book.specs.Fault.{refusal_text}
 use Rattle.book.specs.Refusals.{Refusal}
 use Rattle.book.specs.Books.{Book}
-use Rattle.stepper.specs.Replies.{refused, refusal_text, done_text, FirstIn, Moves, move_without_memory, arrival_refused, arrives, forwarding_refused, forwards, turn_without_memory_named, turn_refused, turns, learning_refused, learns, Steps, step_done, step_refused, step_idle, step_without_memory, Runs, runs_out, runs_on, runs_last}
+use Rattle.stepper.specs.Replies.{refused, done_text, FirstIn, Moves, move_without_memory, arrival_refused, arrives, forwarding_refused, forwards, turn_without_memory_named, turn_refused, turns, learning_refused, learns, Steps, step_done, step_refused, step_idle, step_without_memory, Runs, runs_out, runs_on, runs_last}
 use Rattle.stepper.specs.Laws.{SameBook, IsForWant, book_without_memory, EndsForWant, SameReply, one_reply, SameAnswer}
 use Rattle.stepper.proofs.SameBooks.{same_arrival, same_forward, same_learning, same_checkout, same_first}
 use Rattle.stepper.proofs.Entered.{entered_once, turned_once}

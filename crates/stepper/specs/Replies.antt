@@ -8,7 +8,6 @@ use Rattle.ids.specs.declared.names.MsgId.{MsgId}
 use Rattle.ids.specs.declared.names.PromId.{PromId}
 use Rattle.ids.specs.declared.names.VatNo.{VatNo}
 use Rattle.kernele.specs.Tree.{Trees}
-use Rattle.scopes.specs.Scope as scope
 use Rattle.values.specs.Shown as values
 use Rattle.erules.specs.Outcomes.{reason}
 use Rattle.deliveries.specs.Turn.{Told, told, lost}
@@ -26,7 +25,8 @@ use Rattle.desk.specs.Desks.{has_vat}
 use Rattle.journal.specs.Lines.{Line}
 use Rattle.causality.specs.Exact.{Cone}
 use Rattle.causality.specs.Selections.{chosen}
-use Rattle.book.specs.Refusals.{Refusal, no_vat, name_taken, no_message, not_there, not_ready, before, nothing_to_learn, full, stale, vat_out, no_ticket, no_event, no_position, not_live, still_live, not_closed, crossed, cause_missing, dependent, bad_budget, unchecked}
+use Rattle.book.specs.Fault.{refusal_text}
+use Rattle.book.specs.Refusals.{Refusal}
 use Rattle.book.specs.Refusals.{birth_refusal, ask_refusal, arrival_refusal, forward_refusal, learning_refusal, checkout_refusal, undo_refusal, redo_refusal, cone_refusal, exchange_refusal}
 use Rattle.book.specs.Learning.{LearnsNamed, RefusesNamed}
 use Rattle.book.specs.Books.{Book, blank}
@@ -48,40 +48,6 @@ use Rattle.stepper.specs.declared.crew.WorkFault.{WorkFault}
 -- no CODE NAME ARGS
 abbrev pub refused : List ℕ → List ℕ
 refused words = codes "no " ++ (words ++ 10 ∷ [])
-
-abbrev pub check_text : scope.Refusal → List ℕ
-check_text (scope.unbound x) = codes "K1 Unbound " ++ x
-check_text (scope.assign_to_def x) = codes "K2 AssignToDef " ++ x
-check_text (scope.duplicate_name x) = codes "K3 DuplicateName " ++ x
-check_text scope.too_deep = codes "K4 TooDeep"
-check_text scope.too_long = codes "K5 TooLong"
-
--- two events, a space between them
-abbrev pub pair_text : EventName → EventName → List ℕ
-pair_text e f = event_text e ++ (codes " " ++ event_text f)
-
-abbrev pub refusal_text : Refusal → List ℕ
-refusal_text (no_vat x) = codes "B1 NoVat " ++ x
-refusal_text (name_taken x) = codes "B2 NameTaken " ++ x
-refusal_text (no_message m) = codes "B3 NoMessage " ++ message_text m
-refusal_text not_there = codes "B4 NotThere"
-refusal_text not_ready = codes "B5 NotReady"
-refusal_text (before m) = codes "B6 Before " ++ message_text m
-refusal_text nothing_to_learn = codes "B7 NothingToLearn"
-refusal_text full = codes "B8 Full"
-refusal_text stale = codes "B9 Stale"
-refusal_text vat_out = codes "B10 VatOut"
-refusal_text no_ticket = codes "B11 NoTicket"
-refusal_text (no_event e) = codes "B12 NoEvent " ++ event_text e
-refusal_text (no_position position) = codes "B12 NoEvent " ++ decimal position
-refusal_text (not_live e) = codes "B13 NotLive " ++ event_text e
-refusal_text (still_live e) = codes "B14 IsLive " ++ event_text e
-refusal_text (not_closed e f) = codes "B15 NotClosed " ++ pair_text e f
-refusal_text (crossed e f) = codes "B16 Crossed " ++ pair_text e f
-refusal_text (cause_missing e f) = codes "B17 CauseMissing " ++ pair_text e f
-refusal_text (dependent e f) = codes "B18 Dependent " ++ pair_text e f
-refusal_text bad_budget = codes "B19 BadBudget"
-refusal_text (unchecked fault) = check_text fault
 
 -- ok EVENT MESSAGE
 abbrev pub queued_text : EventName → List ℕ
