@@ -2,3 +2,4 @@ pub mod Acts
 pub mod Agrees
 pub mod Alone
 pub mod Moves
+pub mod crossing

@@ -1,5 +1,5 @@
 -- Names of vats are written by births alone, so where events have names of their own, no two names stand for one vat.
-use Rattle.std.proofs.Common.{◌≡◌, ◌⊎◌, ℕ, ◌+◌, Bool, true, false, cond, List, [], ◌∷◌, ◌++◌, Option, Some, None, inl, inr, refl, sym, ap, ◌∙◌, subst, append-nil}
+use Rattle.std.proofs.Common.{◌≡◌, ◌⊎◌, ℕ, ◌+◌, Bool, true, false, cond, List, [], ◌∷◌, ◌++◌, Option, Some, inl, inr, refl, sym, ap, ◌∙◌, subst, append-nil}
 use Rattle.std.proofs.Math.Logic.{∥∥₁_elim}
 use Rattle.std.proofs.Props.{props}
 use Rattle.std.specs.List.{AllByRecursion}
@@ -20,7 +20,7 @@ use Rattle.scopes.specs.Scope.{own_names_in}
 use Rattle.post.specs.Messages.{Vat, done, Message, Published}
 use Rattle.worldcells.specs.Events.{Act, birth, ask, arrive, forward, learn, turn, Event, event_in}
 use Rattle.worldcells.specs.World.{Content, vat, message, World, empty, vat_in, vat_named, cell_key}
-use Rattle.event.specs.Events.{events, in_world, letters_from, on_the_board, counted, Turn, made_by, Does, births, asks, arrives, forwards, learns, turns}
+use Rattle.event.specs.Events.{events, in_world, letters_from, on_the_board, counted, Turn, made_by, births, asks, arrives, forwards, learns, turns}
 use Rattle.journal.specs.Lines.{plain, entries_in}
 use Rattle.ordering.specs.Theorems.{HaveOwnNames}
 use Rattle.ordering.proofs.Runs.{own_names}
@@ -30,14 +30,14 @@ use Rattle.book.specs.Good.{IsGood, NamesVatsOnce, live_events}
 use Rattle.book.proofs.Ordered.{run_of}
 
 -- a birth under this name; the birth of the vat of this number; one of these events is that
-Under : Name → Act → Type 0
+abbrev Under : Name → Act → Type 0
 Under x (birth y earlier script) = y ≡ x
 Under x _ = ⊥
 
-IsBirth : Name → VatNo → Event → Type 0
+abbrev IsBirth : Name → VatNo → Event → Type 0
 IsBirth x v e = (e.name ≡ v.0) × Under x e.act
 
-Born : List Event → Name → VatNo → Type 0
+abbrev Born : List Event → Name → VatNo → Type 0
 Born [] x v = ⊥
 Born (e ∷ es) x v = IsBirth x v e ⊎ Born es x v
 
@@ -74,18 +74,18 @@ turn_passes e w m t left x =
 
 -- ---- each name is that of a birth
 
-birth_case : (q : Bool) {es : List Event} (e : EventName) (x y : Name) (earlier : List Name) (script : Trees) (n u : Vat) (o : Option Content) → n.number.0 ≡ e → same_key (key.Name y) (key.Name x) ≡ q
+birth_case : (q : Bool) (es : List Event) (e : EventName) (x y : Name) (earlier : List Name) (script : Trees) (n u : Vat) (o : Option Content) → n.number.0 ≡ e → same_key (key.Name y) (key.Name x) ≡ q
     → (vat_in o ≡ Some u → Born es x u.number) → vat_in (cond q (Some (vat n)) o) ≡ Some u → Born (record { name = e; act = birth y earlier script } ∷ es) x u.number
-birth_case true e x y earlier script n u o its same before is =
+birth_case true es e x y earlier script n u o its same before is =
     let one : n ≡ u = cc in
     let name : key.Name y ≡ key.Name x = key_exact (key.Name y) (key.Name x) same in
     inl (sym its ∙ ap (λ (v : Vat). v.number.0) one, (cc))
-birth_case false e x y earlier script n u o its same before is = inr (before is)
+birth_case false es e x y earlier script n u o its same before is = inr (before is)
 
 born : {es : List Event} {w : World} → Run events empty es w → (x : Name) (u : Vat) → vat_named w x ≡ Some u → Born es x u.number
 born run_none x u is = absurd (cc)
 born (run_more {w = w} r (births {e = e} {x = y} {earlier = earlier} vats {script = script} h i)) x u is =
-    birth_case (same_key (key.Name y) (key.Name x)) e x y earlier script (record { number = record { 0 = e }; earlier = earlier; tops = own_names_in script }) u (w (key.Name x)) refl refl (born r x u) is
+    birth_case (same_key (key.Name y) (key.Name x)) _ e x y earlier script (record { number = record { 0 = e }; earlier = earlier; tops = own_names_in script }) u (w (key.Name x)) refl refl (born r x u) is
 born (run_more r (asks h)) x u is = inr (born r x u is)
 born (run_more r (arrives h i)) x u is = inr (born r x u is)
 born (run_more r (forwards h i j k)) x u is = inr (born r x u is)

@@ -12,7 +12,7 @@ use Rattle.ordering.proofs.Runs.{runs_in_order, own_names}
 use Rattle.book.specs.Books.{Book}
 use Rattle.book.specs.Good.{RunsWithCells, runs_none, runs_more, IsGood, live_events}
 
-run_of : {es : List (Entry plain)} {w : World} → RunsWithCells es w → Run events empty (map (λ a. event_in a.event) es) w
+pub run_of : {es : List (Entry plain)} {w : World} → RunsWithCells es w → Run events empty (map (λ a. event_in a.event) es) w
 run_of runs_none = run_none
 run_of (runs_more r does foot) = run_more (run_of r) does.0
 
