@@ -8,8 +8,8 @@ use Rattle.etoken.specs.declared.token.Sign.TheVariants as sign
 use Rattle.kernele.specs.declared.tree.Pattern.{Pattern}
 use Rattle.kernele.specs.Tree.{Name, Tree, null_tree, define, define_list, variable, assign, call, list_tree, hide, if_tree, while_tree, for_tree, try_tree, throw_tree, object_tree, escape_tree, send, when_tree, when_catch_tree, break_ref, state_ref, Trees, none, and_then, Methods}
 use Rattle.esigns.specs.declared.operator.Link.TheVariants as link
-use Rattle.esigns.specs.declared.operator.Bracket.{Bracket}
-use Rattle.esigns.specs.declared.operator.Bracket.TheVariants as bracket
+use Rattle.etoken.specs.declared.breaks.Bracket.{Bracket}
+use Rattle.etoken.specs.declared.breaks.Bracket.TheVariants as bracket
 use Rattle.esigns.specs.Signs.{product_operator, sum_operator, comparison_operator, and_operator, or_operator, link_of}
 use Rattle.eforms.specs.Forms.{joined, prefix_verb, snoc, alone, return_tree, function_tree, block_of}
 use Rattle.enodes.specs.Nodes.{given, MethodTree, method_tree, Place, definition, definitions}

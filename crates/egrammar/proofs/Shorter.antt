@@ -2,7 +2,7 @@
 use Rattle.std.proofs.Common.{◌≡◌, ℕ, ◌<◌, ◌≤◌, List, length, true, Some, refl, arith}
 use Rattle.etoken.specs.declared.token.Token.{Token}
 use Rattle.kernele.specs.Tree.{Tree, Trees}
-use Rattle.esigns.specs.declared.operator.Bracket.{Bracket}
+use Rattle.etoken.specs.declared.breaks.Bracket.{Bracket}
 use Rattle.enodes.specs.Nodes.{MethodTree}
 use Rattle.egrammar.specs.Reading.{is_at_word, is_method_word, is_to_word, within_at, expr_at, args_at, block_at, method_at, unary_at, product_at, sum_at, comparison_at, conjunction_at, disjunction_at}
 use Rattle.egrammar.proofs.Sound.{sound_args, sound_expr, sound_block, sound_unary, sound_product, sound_sum, sound_comparison, sound_conjunction, sound_disjunction, sound_method_word, sound_expression, sound_conditional}

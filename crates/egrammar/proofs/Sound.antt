@@ -14,8 +14,8 @@ use Rattle.kernele.specs.Tree.{Name, Tree, null_tree, define, define_list, varia
 use Rattle.esigns.specs.declared.operator.Operator.{Operator}
 use Rattle.esigns.specs.declared.operator.Link.{Link}
 use Rattle.esigns.specs.declared.operator.Link.TheVariants as link
-use Rattle.esigns.specs.declared.operator.Bracket.{Bracket}
-use Rattle.esigns.specs.declared.operator.Bracket.TheVariants as bracket
+use Rattle.etoken.specs.declared.breaks.Bracket.{Bracket}
+use Rattle.etoken.specs.declared.breaks.Bracket.TheVariants as bracket
 use Rattle.esigns.specs.Signs.{product_operator, sum_operator, comparison_operator, and_operator, or_operator, prefix_operator, link_of, closer}
 use Rattle.eforms.specs.Forms.{joined, prefix_verb, snoc, alone, return_tree, returning, function_tree, literal_of, linked, ref_word_of}
 use Rattle.eforms.specs.declared.words.RefWord.{RefWord}

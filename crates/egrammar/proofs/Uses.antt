@@ -11,8 +11,8 @@ use Rattle.kernele.specs.declared.tree.Pattern.{Pattern}
 use Rattle.kernele.specs.Tree.{Tree, Trees, Methods}
 use Rattle.esigns.specs.declared.operator.Operator.{Operator}
 use Rattle.esigns.specs.declared.operator.Prefix.{Prefix}
-use Rattle.esigns.specs.declared.operator.Bracket.{Bracket}
-use Rattle.esigns.specs.declared.operator.Bracket.TheVariants as bracket
+use Rattle.etoken.specs.declared.breaks.Bracket.{Bracket}
+use Rattle.etoken.specs.declared.breaks.Bracket.TheVariants as bracket
 use Rattle.enodes.specs.Nodes.{MethodTree}
 use Rattle.esigns.specs.Signs.{product_operator, sum_operator, comparison_operator, and_operator, or_operator, prefix_operator, link_of}
 use Rattle.egrammar.specs.Grammar.{Pat, pat_name, pat_ignore, Pats, pats_one, pats_and, PatList, pat_list_none, pat_list_some, Semicolons, semicolons_none, semicolons_more, Expr, expr_define, expr_define_list, expr_variable, expr_assign, expr_return, expr_return_null, expr_disjunction, Disjunction, disjunction_conjunction, disjunction_more, Conjunction, conjunction_comparison, conjunction_more, Comparison, comparison_sum, comparison_two, Sum, sum_product, sum_more, Product, product_unary, product_more, Unary, unary_postfix, unary_prefix, Postfix, postfix_primary, postfix_method, postfix_run, postfix_get, postfix_send, postfix_send_run, Primary, primary_int, primary_text, primary_true, primary_false, primary_null, primary_name, primary_list, primary_group, primary_hide, primary_if, primary_while, primary_for, primary_try, primary_throw, primary_escape, primary_object, primary_function, primary_when, primary_when_catch, primary_promise, primary_broken, primary_state, Method, method_to, method_plain, MethodList, methods_none, methods_and, Conditional, conditional_alone, conditional_else, conditional_else_if, Condition, condition, Braced, braced, Args, args_none, args_some, Items, items_one, items_and, Sequence, sequence_one, sequence_and, Block, block_empty, block_items}

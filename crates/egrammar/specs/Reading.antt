@@ -11,8 +11,8 @@ use Rattle.kernele.specs.declared.tree.Pattern.TheVariants as pattern
 use Rattle.kernele.specs.Tree.{Name, Tree, null_tree, int_tree, text_tree, noun, call, list_tree, hide, if_tree, while_tree, for_tree, try_tree, throw_tree, object_tree, escape_tree, when_tree, when_catch_tree, new_promise, break_ref, state_ref, Trees, none, and_then, Methods, no_methods}
 use Rattle.esigns.specs.declared.operator.Operator.{Operator}
 use Rattle.esigns.specs.declared.operator.Link.{Link}
-use Rattle.esigns.specs.declared.operator.Bracket.{Bracket}
-use Rattle.esigns.specs.declared.operator.Bracket.TheVariants as bracket
+use Rattle.etoken.specs.declared.breaks.Bracket.{Bracket}
+use Rattle.etoken.specs.declared.breaks.Bracket.TheVariants as bracket
 use Rattle.esigns.specs.Signs.{product_operator, sum_operator, comparison_operator, and_operator, or_operator, prefix_operator, link_of, is_send, verb_of, closer}
 use Rattle.eforms.specs.Forms.{joined, prefix_verb, linked, snoc, alone, return_tree, function_tree, literal_of, ref_word_of, block_of}
 use Rattle.eforms.specs.declared.words.RefWord.{RefWord}

@@ -6,7 +6,7 @@ use Rattle.etoken.specs.declared.token.Token.{Token}
 use Rattle.etoken.specs.declared.token.Sign as signs
 use Rattle.kernele.specs.declared.tree.Expr.{Expr}
 use Rattle.kernele.specs.Tree.{Name, Tree, Trees}
-use Rattle.esigns.specs.declared.operator.Bracket.{Bracket}
+use Rattle.etoken.specs.declared.breaks.Bracket.{Bracket}
 use Rattle.esigns.specs.declared.operator.Link.{Link}
 use Rattle.esigns.specs.declared.operator.Operator.{Operator}
 use Rattle.esigns.specs.Signs.{link_of, closer}

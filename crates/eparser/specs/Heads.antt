@@ -6,7 +6,7 @@ use Rattle.etoken.specs.declared.token.Reserved.TheVariants as word
 use Rattle.kernele.specs.declared.tree.Pattern.{Pattern}
 use Rattle.kernele.specs.Tree.{Tree, Trees, call, none, while_tree, for_tree, try_tree, escape_tree}
 use Rattle.kernele.specs.View.{tree_of, trees_of}
-use Rattle.esigns.specs.declared.operator.Bracket.TheVariants as bracket
+use Rattle.etoken.specs.declared.breaks.Bracket.TheVariants as bracket
 use Rattle.esigns.specs.declared.operator.Prefix.{Prefix}
 use Rattle.eforms.specs.Forms.{block_of, prefix_verb}
 use Rattle.enodes.specs.Nodes.{given, MethodTree, method_tree}

@@ -11,7 +11,7 @@ use crate::made;
 use crate::reader::Reader;
 use eforms::words::RefWord;
 use enodes::nodes;
-use esigns::operator::Bracket;
+use etoken::breaks::Bracket;
 use esigns::stop::Stop;
 use etoken::token::Reserved;
 use kernele::tree::{Expr, Pattern};

@@ -7,7 +7,7 @@ ghost use Rattle.eparser.specs.View.{Gives, GivesMethodHead, GivesPatterns};
 use crate::head::MethodHead;
 use crate::made;
 use crate::reader::Reader;
-use esigns::operator::Bracket;
+use etoken::breaks::Bracket;
 use esigns::stop::Stop;
 use kernele::tree::{Expr, Pattern};
 

@@ -8,7 +8,7 @@ use crate::made;
 use crate::reader::Reader;
 use eforms::words;
 use enodes::nodes;
-use esigns::operator::Bracket;
+use etoken::breaks::Bracket;
 use esigns::stop::Stop;
 use etoken::token::{Sign, Token};
 use kernele::tree::Expr;

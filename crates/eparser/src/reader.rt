@@ -6,7 +6,7 @@ ghost use Rattle.eparser.specs.View.{left_of, Advances, IsNoLonger, GivesPlain, 
 
 use eforms::words::RefWord;
 use enodes::target::Target;
-use esigns::operator::Bracket;
+use etoken::breaks::Bracket;
 use esigns::stop::Stop;
 use etoken::token::{Placed, Sign, Token};
 use ids::text::Text;

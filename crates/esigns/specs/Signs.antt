@@ -10,8 +10,8 @@ use Rattle.esigns.specs.declared.operator.Prefix.{Prefix}
 use Rattle.esigns.specs.declared.operator.Prefix.TheVariants as prefix
 use Rattle.esigns.specs.declared.operator.Link.{Link}
 use Rattle.esigns.specs.declared.operator.Link.TheVariants as link
-use Rattle.esigns.specs.declared.operator.Bracket.{Bracket}
-use Rattle.esigns.specs.declared.operator.Bracket.TheVariants as bracket
+use Rattle.etoken.specs.declared.breaks.Bracket.{Bracket}
+use Rattle.etoken.specs.declared.breaks.Bracket.TheVariants as bracket
 
 -- the operators of a product
 abbrev pub product_operator : signs.Sign → Option Operator

@@ -2,6 +2,7 @@
 ghost use Rattle.std.specs.Prelude.{◌≡◌, IfOk};
 ghost use Rattle.esigns.specs.Signs.{closer, is_send, link_of, operator_of, prefix_operator, verb_of};
 
+use etoken::breaks::Bracket;
 use etoken::token::Sign;
 use ids::text::Text;
 use std::alloc::{AllocError, Global};
@@ -150,12 +151,4 @@ impl Link {
             Link::Index => Bracket::Square,
         }
     }
-}
-
-/// A kind of bracket.
-#[derive(Clone, Copy)]
-pub enum Bracket {
-    Round,
-    Square,
-    Curly,
 }

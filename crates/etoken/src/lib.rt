@@ -1,7 +1,7 @@
 //! The tokens of a text.
 #![tactic(auto)]
 
-mod breaks;
+pub mod breaks;
 mod bytes;
 pub mod fault;
 mod lexer;

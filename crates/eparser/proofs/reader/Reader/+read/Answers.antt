@@ -1,7 +1,7 @@
 use Rattle.std.proofs.Common.{rules, arith, length, sym, ap, ◌∙◌}
 use Rattle.std.proofs.lemmas.Result.{err_from_is_err_and}
 use Rattle.kernele.specs.Tree.{and_then, none}
-use Rattle.esigns.specs.declared.operator.Bracket.TheVariants as bracket
+use Rattle.etoken.specs.declared.breaks.Bracket.TheVariants as bracket
 use Rattle.egrammar.proofs.Turns.{turns_here, turns_begin}
 use Rattle.egrammar.proofs.Shorter.{shorter_expression, shorter_expr, shorter_args, shorter_block, shorter_method}
 use Rattle.eforms.proofs.Views.{trees_push}
