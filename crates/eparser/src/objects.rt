@@ -7,8 +7,8 @@ ghost use Rattle.eparser.specs.View.{Gives, GivesMethodHead, GivesPatterns};
 use crate::head::MethodHead;
 use crate::made;
 use crate::reader::Reader;
-use etoken::breaks::Bracket;
 use esigns::stop::Stop;
+use etoken::breaks::Bracket;
 use kernele::tree::{Expr, Pattern};
 
 impl<'a> Reader<'a> {

@@ -8,8 +8,8 @@ ghost use Rattle.eparser.specs.Heads.{behind};
 ghost use Rattle.eparser.specs.View.{left_of, word_in};
 
 use crate::reader::Reader;
-use etoken::breaks::Bracket;
 use esigns::operator::{Level, Link, Operator, Prefix};
+use etoken::breaks::Bracket;
 use etoken::token::{Placed, Reserved, Sign, Token};
 
 /// The sign that the first token is.

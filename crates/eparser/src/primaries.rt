@@ -8,8 +8,8 @@ use crate::made;
 use crate::reader::Reader;
 use eforms::words;
 use enodes::nodes;
-use etoken::breaks::Bracket;
 use esigns::stop::Stop;
+use etoken::breaks::Bracket;
 use etoken::token::{Sign, Token};
 use kernele::tree::Expr;
 

@@ -6,8 +6,8 @@ ghost use Rattle.eparser.specs.View.{left_of, Advances, IsNoLonger, GivesPlain, 
 
 use eforms::words::RefWord;
 use enodes::target::Target;
-use etoken::breaks::Bracket;
 use esigns::stop::Stop;
+use etoken::breaks::Bracket;
 use etoken::token::{Placed, Sign, Token};
 use ids::text::Text;
 use kernele::tree::Pattern;
