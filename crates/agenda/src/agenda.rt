@@ -329,8 +329,8 @@ fn is_waiting(world: &World, name: MsgId) -> bool
     }
 }
 
-/// Whether a promise is open in a vat's view.
-fn is_open(world: &World, vat: VatNo, promise: PromId) -> bool
+/// Whether a promise is open in a vat's view: it has come into the vat, and nothing was learnt of it.
+pub fn is_open(world: &World, vat: VatNo, promise: PromId) -> bool
     ensures { result ≡ open_view (world_of world.now) promise vat }
 {
     match world.home(vat) {

@@ -11,8 +11,6 @@ ghost use Rattle.scopes.specs.Check.{scopes_of};
 ghost use Rattle.scopes.specs.Scope.{checked_program};
 ghost use Rattle.scopes.specs.declared.naming.TopName.{TopName};
 ghost use Rattle.heap.specs.Found.{Found};
-ghost use Rattle.heap.specs.State.{view_cell, viewed};
-ghost use Rattle.heap.specs.View.{view_of, state_of as state_in_cells};
 ghost use Rattle.worldcells.specs.Events.{birth, ask, arrive, forward, learn};
 ghost use Rattle.worldcells.specs.EventView.{event_of};
 ghost use Rattle.post.specs.MessageView.{place_of, message_of, published_of, vat_of};
@@ -22,7 +20,7 @@ ghost use Rattle.post.specs.Messages.{Vat as VatModel, at_vat};
 ghost use Rattle.worldcells.specs.World.{World as WorldModel, vat, vat_named, vat_state};
 ghost use Rattle.event.specs.Events.{Foot, Turn, birth_foot, ask_foot};
 ghost use Rattle.event.specs.ReadyView.{IsWay};
-ghost use Rattle.agenda.specs.Agendas.{AlikeBut, KnownAs, can_learn, is_open as is_open_of, open_view};
+ghost use Rattle.agenda.specs.Agendas.{AlikeBut, KnownAs, can_learn, open_view};
 ghost use Rattle.agenda.specs.AgendaView.{NotedIn};
 ghost use Rattle.agenda.specs.Enabled.{Enabled, First};
 ghost use Rattle.event.specs.Effects.{Happens};
@@ -48,7 +46,7 @@ ghost use Rattle.book.specs.declared.fault.BookFault.TheVariants.{NoTicket, Stal
 use crate::fault::BookFault;
 use crate::seats::greatest_seat;
 use crate::selecting::{check_cone, check_exchange, check_redo, check_undo};
-use agenda::agenda::{Agenda, Step};
+use agenda::agenda::{Agenda, Step, is_open};
 use causality::cone::cone;
 use causality::names::NameSet;
 use causality::selection::positions;
@@ -64,7 +62,7 @@ use event::found::is_found;
 use event::learning::learn;
 use event::ready::{Delay, Unready, Way, check_ready, message_at_vat};
 use heap::reach::Footprint;
-use heap::state::{VatState, View};
+use heap::state::VatState;
 use ids::cells::CellKey;
 use ids::names::{EventName, MsgId, PromId, VatNo};
 use ids::text::Text;
@@ -162,36 +160,6 @@ fn is_found_at(alloc: Global, footprint: &Footprint, world: &World, vat: VatNo) 
     match world.home(vat) {
         Some(state) => is_found(footprint, state),
         None => is_found(footprint, &VatState::new(alloc)),
-    }
-}
-
-/// Whether a promise is open in the view of a vat, if it has a state.
-fn is_open(world: &World, vat: VatNo, promise: PromId) -> bool
-    ensures { result ≡ open_view (world_of world.now) promise vat }
-{
-    match world.home(vat) {
-        Some(state) => is_open_in(state, promise),
-        None => false,
-    }
-}
-
-/// Whether a promise is open in the view of this state.
-fn is_open_in(state: &VatState, promise: PromId) -> bool
-    ensures { result ≡ is_open_of (state_in_cells state.now (view_cell promise)) }
-{
-    match state.views.get(&promise) {
-        Some(view) => is_open_view(view),
-        None => false,
-    }
-}
-
-/// Whether nothing was learnt of a promise.
-fn is_open_view(view: &View) -> bool
-    ensures { result ≡ is_open_of (Some (viewed (view_of view.now))) }
-{
-    match view {
-        View::Open => true,
-        View::Resolved(_) => false,
     }
 }
 
