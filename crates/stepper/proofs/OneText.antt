@@ -113,8 +113,8 @@ vat_of_number (Some (message g)) v h = absurd (cc)
 vat_of_number (Some (published a)) v h = absurd (cc)
 
 -- so no two names have one number
-one_number : {w : World} → NamesVatsOnce w → (x y : Name) (v : VatNo) → number_in (w (key.Name x)) ≡ Some v → number_in (w (key.Name y)) ≡ Some v → y ≡ x
-one_number {w = w} once x y v h k =
+one_number : (w : World) → NamesVatsOnce w → (x y : Name) (v : VatNo) → number_in (w (key.Name x)) ≡ Some v → number_in (w (key.Name y)) ≡ Some v → y ≡ x
+one_number w once x y v h k =
     let a = vat_of_number (w (key.Name x)) v h in
     let b = vat_of_number (w (key.Name y)) v k in
     once x y a.0 b.0 a.1 b.1 (b.2 ∙ sym a.2)
@@ -146,13 +146,13 @@ vat_lines_once (vat_lines_more {v = v} {x = x} a h) (vat_lines_more b k) = λ i.
 
 pub shows_once : {w : World} {text other : List ℕ} → NamesVatsOnce w → Shows w text → Shows w other → other ≡ text
 shows_once {w = w} once h k =
-    let vats : k.vats ≡ h.vats = births_once (one_number once) h.vats k.vats h.vats_listed k.vats_listed in
+    let vats : k.vats ≡ h.vats = births_once (one_number w once) h.vats k.vats h.vats_listed k.vats_listed in
     let messages = lists_once message_total exact_messages h.messages_listed k.messages_listed in
     let board = lists_once promise_total exact_promises h.board_listed k.board_listed in
     let lines : k.lines ≡ h.lines = vat_lines_once h.vat_lines (subst (λ (vs : List (VatNo × Name)). VatLines w vs k.lines) vats k.vat_lines) in
     k.whole ∙ (λ i. lines i ++ (message_lines (vats i) (messages i) ++ board_lines (board i))) ∙ sym h.whole
 
 pub shows_enabled_once : {w : World} {ss ts : List Step} {text other : List ℕ} → NamesVatsOnce w → ts ≡ ss → ShowsEnabled w ss text → ShowsEnabled w ts other → other ≡ text
-shows_enabled_once once same h k =
-    let vats : k.vats ≡ h.vats = births_once (one_number once) h.vats k.vats h.vats_listed k.vats_listed in
+shows_enabled_once {w = w} once same h k =
+    let vats : k.vats ≡ h.vats = births_once (one_number w once) h.vats k.vats h.vats_listed k.vats_listed in
     k.whole ∙ (λ i. enabled_text (vats i) (same i)) ∙ sym h.whole
