@@ -1,5 +1,5 @@
 -- What a command or a step that is picked does to a book, as its seat sees it.
-use Rattle.std.proofs.Common.{◌≡◌, ℕ, ◌+◌, Some, [], ◌∷◌, ◌++◌, false, refl, ap, ◌∙◌}
+use Rattle.std.proofs.Common.{◌≡◌, ℕ, Some, [], ◌∷◌, ◌++◌, false, refl, ap, ◌∙◌}
 use Rattle.ids.specs.declared.names.EventName.{EventName}
 use Rattle.worldcells.specs.Events.{Act, Event}
 use Rattle.worldcells.specs.EventView.{event_of}
@@ -11,7 +11,7 @@ use Rattle.bench.specs.declared.command.Command.{Command}
 use Rattle.bench.specs.declared.command.Command.TheVariants as command
 use Rattle.bench.specs.declared.pick.Pick.TheVariants as pick
 use Rattle.bench.specs.Seats.{is_turn}
-use Rattle.bench.specs.Desk.{Held, Adds, Returns}
+use Rattle.bench.specs.Desk.{Held, Returns}
 use Rattle.bench.specs.Author.{IsActOf, IsStep, Obeys, Picks, mark_of}
 use Rattle.bench.proofs.Agrees.{Grows}
 use Rattle.bench.proofs.Moves.{grows_act, act_of_command, command_no_turn, step_no_turn}

@@ -1,12 +1,11 @@
 -- What an act of one seat leaves true of all.
-use Rattle.std.proofs.Common.{◌≡◌, ◌≢◌, ℕ, zero, suc, ◌+◌, ◌*◌, ◌^◌, ◌<◌, ◌≤◌, ◌==◌, ◌||◌, cond, not, List, [], ◌∷◌, ◌++◌, length, map, filter, set, get_or, Some, Bool, true, false, refl, sym, ap, ◌∙◌, subst, ⊎_elim, arith, length-append, All, append-nil, append_assoc, get_or-set_same, get_or-set_other, IsPermutation, sum_by}
+use Rattle.std.proofs.Common.{◌≡◌, ◌≢◌, ℕ, zero, suc, ◌+◌, ◌^◌, ◌<◌, ◌≤◌, ◌==◌, ◌||◌, cond, not, List, [], ◌∷◌, ◌++◌, length, map, filter, set, get_or, Some, Bool, true, false, refl, sym, ap, ◌∙◌, subst, ⊎_elim, arith, length-append, All, append-nil, append_assoc, get_or-set_same, get_or-set_other, IsPermutation, sum_by}
 use Rattle.std.specs.Prelude.{slice_get}
-use Rattle.std.specs.List.{AllByRecursion, list_any}
 use Rattle.std.proofs.lemmas.List.{map-append, length-map}
 use Rattle.std.proofs.lemmas.List.Elements.{filter-append, All-append}
 use Rattle.std.proofs.lemmas.List.Sums.{sum_by-append}
 use Rattle.std.proofs.lemmas.List.Folds.{list_any-append}
-use Rattle.std.proofs.lemmas.List.Sorted.{IsPermutation-refl, IsPermutation-cons, IsPermutation-middle, IsPermutation-append, IsPermutation-append_left, IsPermutation-trans, length_permutation}
+use Rattle.std.proofs.lemmas.List.Sorted.{IsPermutation-refl, IsPermutation-append_left, IsPermutation-trans, length_permutation}
 use Rattle.std.proofs.lemmas.Option.{slice_get_within, get_or_from_slice_get}
 use Rattle.std.proofs.lemmas.Bool.{ne_eqb}
 use Rattle.std.proofs.lemmas.Bool.Decides.{eqb_tells}
@@ -22,8 +21,7 @@ use Rattle.book.specs.Books.{Book}
 use Rattle.book.proofs.Tickets.{all_filter, without_differ}
 use Rattle.pact.specs.declared.View.{View}
 use Rattle.pact.specs.declared.Deeds.{Deeds}
-use Rattle.pact.specs.declared.Act.{Act}
-use Rattle.pact.specs.declared.Act.TheVariants.{Nothing, Enters, Gives, Opens, Closes}
+use Rattle.pact.specs.declared.Act.TheVariants.{Opens, Closes}
 use Rattle.pact.specs.Agree.{blank, after, strike, knower}
 use Rattle.book.specs.Entered.{Entered, entered_in, IsAmong}
 use Rattle.bench.specs.Seats.{events_by}

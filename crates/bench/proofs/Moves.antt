@@ -1,26 +1,24 @@
 -- What the calls of a book leave of its entries, as seats see them.
-use Rattle.std.proofs.Common.{◌≡◌, ℕ, zero, suc, ◌+◌, ◌-◌, ◌<◌, ◌≤◌, cond, List, [], ◌∷◌, ◌++◌, length, map, filter, get_or, Some, None, Option, Bool, true, false, refl, sym, ap, ◌∙◌, subst, arith, length-append, ◌==◌, IsPermutation}
+use Rattle.std.proofs.Common.{◌≡◌, ℕ, zero, suc, ◌+◌, ◌≤◌, cond, List, [], ◌∷◌, ◌++◌, length, map, filter, Some, None, Option, Bool, true, false, refl, sym, ap, ◌∙◌, subst, arith, length-append, ◌==◌, IsPermutation}
 use Rattle.std.specs.Prelude.{slice_get, option_map, Result, Ok, Err, OnOk, OnErr, IfErr}
-use Rattle.std.proofs.lemmas.List.{map-append, length-map}
+use Rattle.std.proofs.lemmas.List.{length-map}
 use Rattle.std.proofs.lemmas.List.Sorted.{IsPermutation-refl, IsPermutation-cons, IsPermutation-middle}
-use Rattle.std.proofs.lemmas.Option.{slice_get-map, slice_get_read}
+use Rattle.std.proofs.lemmas.Option.{slice_get-map}
 use Rattle.ids.specs.declared.names.EventName.{EventName}
-use Rattle.worldcells.specs.Events.{Act, Event, Noted, event_in, with_notes, birth, ask, arrive, forward, learn, turn}
+use Rattle.worldcells.specs.Events.{Act, Noted, event_in, with_notes}
 use Rattle.worldcells.specs.EventView.{event_of}
 use Rattle.event.specs.Events.{Foot}
 use Rattle.agenda.specs.declared.agenda.Step.{Step}
 use Rattle.agenda.specs.declared.agenda.Step.TheVariants as step
-use Rattle.journal.specs.Items.{Item, item_of, exchanged}
+use Rattle.journal.specs.Items.{item_of, exchanged}
 use Rattle.journal.specs.Lines.{Line, line_of, lines_of, in_order}
 use Rattle.journal.specs.declared.entry.Entry as code
-use Rattle.desk.specs.Desks.{Lent, without, is_out}
-use Rattle.turn.specs.declared.ticket.Ran.{Ran}
-use Rattle.turn.specs.declared.ticket.Out.{Out}
+use Rattle.desk.specs.Desks.{without, is_out}
 use Rattle.undo.specs.CoreView.{items_of}
 use Rattle.book.specs.Books.{Book}
 use Rattle.book.specs.BookView.{book_of}
 use Rattle.book.specs.declared.book.Book as code-book
-use Rattle.book.specs.Calls.{Enters, EntersNext, Commits, Lends, Undoes, Redoes, Exchanges, undone, redone}
+use Rattle.book.specs.Calls.{Enters, Undoes, Redoes, Exchanges, undone, redone}
 use Rattle.book.specs.Refusals.{exchange_refusal}
 use Rattle.book.specs.declared.fault.BookFault.{BookFault}
 use Rattle.book.specs.declared.fault.BookFault.TheVariants.{NoTicket}

@@ -7,3 +7,4 @@ pub mod More
 pub mod Turns
 pub mod Worlds
 pub mod Books
+pub mod Shared

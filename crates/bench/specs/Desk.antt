@@ -2,7 +2,6 @@
 use Rattle.std.specs.Prelude.{◌≡◌, ℕ, ◌+◌, ◌==◌, ◌<◌, Bool, true, false, List, [], ◌∷◌, ◌++◌, map, length, slice_index_or, All, IsPermutation, refl}
 use Rattle.std.specs.Coded.{Coded, code_by, coded×, coded_ℕ}
 use Rattle.std.specs.List.{AllByRecursion, list_any}
-use Rattle.atomic_table.specs.Seated.{TableId}
 use Rattle.ids.specs.declared.names.EventName.{EventName}
 use Rattle.worldcells.specs.Events.{Event}
 use Rattle.worldcells.specs.EventView.{event_of}

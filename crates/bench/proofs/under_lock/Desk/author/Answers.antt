@@ -1,4 +1,4 @@
-use Rattle.std.proofs.Common.{◌≡◌, ℕ, ◌+◌, ◌∙◌, ap, arith, subst, Option, Some, None}
+use Rattle.std.proofs.Common.{◌≡◌, ℕ, ◌∙◌, ap, arith, subst, Option, Some, None}
 use Rattle.std.specs.Prelude.{slice_set}
 use Rattle.crossbeam_utils.specs.Seq.{cell_view}
 use Rattle.ids.specs.declared.names.EventName.{EventName}

@@ -1,4 +1,4 @@
-use Rattle.std.proofs.Common.{◌∙◌, rules}
+use Rattle.std.proofs.Common.{rules}
 use Rattle.book.specs.BookView.{book_of}
 use Rattle.bench.proofs.Agrees.{rests_same, desk_closed, counted_same, few_events}
 use Rattle.bench.proofs.Moves.{abandoned, journal_within}

@@ -1,0 +1,59 @@
+-- What workers share, a Bench, and what they hand over, a seat with a turn that was run, may cross.
+use mathlib.Core.List.{List, [], ◌∷◌}
+use Prim.Native.Nat.{ℕ}
+use denote.Ref.{NamedLft}
+use denote.RattleType.{RattleType}
+use denote.Struct.Field.{shr_ref_field, u64-field}
+use denote.Struct.Tuple.{TupleAt, field_at, type_at}
+use denote.Param.{param}
+use denote.Param.Send.{IsSend, IsSync, param_sync, shr_send, plain_send, recorded_send, struct_send, sendable}
+use denote.Struct.Declared.{shape}
+use Rattle.std.proofs.Crossing.{crosses, frees as anywhere}
+use Rattle.std.proofs.alloc.Global.TheSendSync as heaps
+use Rattle.std.specs.contracts.alloc.Global as heap
+use Rattle.std.specs.contracts.impls.GlobalAllocator.TheImpl.{ghosts}
+use Rattle.std.specs.contracts.sync.atomic.AtomicU64 as count
+use Rattle.std.proofs.sync.atomic.AtomicU64.TheSendSync as counts
+use Rattle.std.proofs.marker.PhantomData.TheSendSync as phantoms
+use Rattle.std.proofs.sync.Mutex.TheSendSync as locks
+use Rattle.std.proofs.sync.ledger.Book.TheSendSync as ledgers
+use Rattle.std.proofs.sync.ledger.Share.TheSendSync as shares
+use Rattle.std.specs.declared.sync.ledger.Ledger.{Ghosts as Parts}
+use Rattle.atomic_table.proofs.shared.Seat.TheSendSync as tokens
+use Rattle.crossbeam_utils.proofs.atomic.seq_cell.Wide.TheSendSync as cells
+use Rattle.crossbeam_channel.specs.contracts.channel.Sender as sender
+use Rattle.crossbeam_channel.specs.contracts.channel.Receiver as receiver
+use Rattle.crossbeam_channel.proofs.channel.Sender.TheSendSync as senders
+use Rattle.crossbeam_channel.proofs.channel.Receiver.TheSendSync as receivers
+use Rattle.bench.specs.declared.seat.Opening.{Ghosts}
+use Rattle.bench.specs.contracts.under_lock.Desk as desk
+use Rattle.bench.specs.contracts.work.Busy as busy
+use Rattle.bench.specs.contracts.work.Free as free
+use Rattle.bench.proofs.work.Free.TheSendSync as frees
+use Rattle.bench.specs.contracts.Bench as bench
+use Rattle.bench.proofs.seat.Seat.TheSendSync as seats
+use Rattle.bench.proofs.crossing.Books.{book_crosses, returned_crosses}
+
+module _ (L : RattleType) (g : Ghosts L.Denot) (parts : Parts L.Denot) where
+  pub busy_send : IsSend (busy.the_row L g parts)
+  busy_send = search (seats.the_send, returned_crosses, sendable, crosses) depth 40
+
+  pub desk_send : IsSend (desk.the_row L g parts)
+  desk_send = search (book_crosses, tokens.the_send, ledgers.the_send, shares.the_send, phantoms.the_field_send, sendable, crosses) depth 40
+
+  pub bench_sync : IsSync (bench.the_row L g parts)
+  bench_sync = search (desk_send, locks.the_sync, cells.the_field_sync, sendable, crosses) depth 40
+
+  -- what a worker holds: the runtime, the Bench, the gate, the count of turns that are left, its number, its way to the committer, and the way
+  -- back
+  abbrev pub held : (runtime gate : RattleType) (a b c d : NamedLft) → List RattleType
+  held runtime gate a b c d =
+      (shr_ref_field a (param 2 runtime) tt).row ∷ (shr_ref_field b (bench.the_row L g parts) tt).row ∷ (shr_ref_field c (param 1 gate) tt).row ∷ (shr_ref_field d count.the_row tt).row ∷ u64-field.row
+      ∷ sender.the_row (busy.the_row L g parts) heap.the_row ghosts ∷ receiver.the_row (free.the_row L g parts) heap.the_row ghosts ∷ []
+
+  pub worker_send : (runtime gate : RattleType) (a b c d : NamedLft) (name : List ℕ) → IsSync runtime → IsSync gate → IsSend (TupleAt name (held runtime gate a b c d))
+  worker_send runtime gate a b c d name r s =
+      let rows : List RattleType = held runtime gate a b c d in
+      recorded_send (field_at name rows).row _ _ (type_at name rows).to_one (struct_send (shape (type_at name rows))
+      (shr_send _ _ (param 2 runtime) (param_sync 2 runtime r), (shr_send _ _ (bench.the_row L g parts) bench_sync, (shr_send _ _ (param 1 gate) (param_sync 1 gate s), (shr_send _ _ count.the_row counts.the_sync,
+      (plain_send _ _ _ _ _, (senders.the_send (busy.the_row L g parts) heap.the_row ghosts busy_send heaps.the_send heaps.the_sync anywhere, (receivers.the_send (free.the_row L g parts) heap.the_row ghosts (frees.the_send L g parts) heaps.the_send heaps.the_sync anywhere, tt))))))))
