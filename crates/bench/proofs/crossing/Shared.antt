@@ -54,6 +54,18 @@ module _ (L : RattleType) (g : Ghosts L.Denot) (parts : Parts L.Denot) where
   pub worker_send : (runtime gate : RattleType) (a b c d : NamedLft) (name : List ℕ) → IsSync runtime → IsSync gate → IsSend (TupleAt name (held runtime gate a b c d))
   worker_send runtime gate a b c d name r s =
       let rows : List RattleType = held runtime gate a b c d in
-      recorded_send (field_at name rows).row _ _ (type_at name rows).to_one (struct_send (shape (type_at name rows))
-      (shr_send _ _ (param 2 runtime) (param_sync 2 runtime r), (shr_send _ _ (bench.the_row L g parts) bench_sync, (shr_send _ _ (param 1 gate) (param_sync 1 gate s), (shr_send _ _ count.the_row counts.the_sync,
-      (plain_send _ _ _ _ _, (senders.the_send (busy.the_row L g parts) heap.the_row ghosts busy_send heaps.the_send heaps.the_sync anywhere, (receivers.the_send (free.the_row L g parts) heap.the_row ghosts (frees.the_send L g parts) heaps.the_send heaps.the_sync anywhere, tt))))))))
+      let there = senders.the_send (busy.the_row L g parts) heap.the_row ghosts busy_send heaps.the_send heaps.the_sync anywhere in
+      let back = receivers.the_send (free.the_row L g parts) heap.the_row ghosts (frees.the_send L g parts) heaps.the_send heaps.the_sync anywhere in
+      recorded_send (field_at name rows).row _ _ (type_at name rows).to_one (struct_send (shape (type_at name rows)) (
+        shr_send _ _ (param 2 runtime) (param_sync 2 runtime r),
+        (
+          shr_send _ _ (bench.the_row L g parts) bench_sync,
+          (
+            shr_send _ _ (param 1 gate) (param_sync 1 gate s),
+            (
+              shr_send _ _ count.the_row counts.the_sync,
+              (plain_send _ _ _ _ _, (there, (back, tt))),
+            ),
+          ),
+        ),
+      ))
