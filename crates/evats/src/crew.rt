@@ -25,6 +25,10 @@ fn told(fault: BenchFault) -> WorkFault {
 }
 
 impl<R: Threads + Wait + Sync> Crew for Threaded<'_, R> {
+    ghost use denote.Param.Send.{IsSync};
+
+    ghost ready = { IsSync R.row };
+
     fn work(&mut self, alloc: Global, book: Book, order: Order) -> (Book, Result<u64, WorkFault>) {
         let Order {
             budget,

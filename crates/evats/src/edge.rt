@@ -15,6 +15,7 @@ pub(crate) fn answer_commands<I: Read + Drop, O: Write + Drop, C: Crew>(
     limits: Limits,
     crew: &mut C,
 ) -> Ended
+    requires { C.ready }
     ensures { EndsAs I.remaining O.contents limits.budget input output result }
 {
     match Lines::new(alloc, input) {

@@ -52,9 +52,13 @@ pub trait Crew {
     ghost use Rattle.book.specs.BookView.{book_of};
     ghost use Rattle.book.specs.Entered.{entered_in, IsAmong};
 
+    /// What it takes for workers to start, which whoever has the crew shows: of threads, that they may share what starts them.
+    ghost ready: { Type 0 } = { Unit {0} };
+
     /// Has workers do what may be done in a book, until so many turns were taken or nothing may be done. Answers the book, with how many
     /// of their turns were entered.
     fn work(&mut self, alloc: Global, book: Book, order: Order) -> (Book, Result<u64, WorkFault>)
+        requires { Self.ready }
         ensures { IsAmong (entered_in (book_of book).journal) (entered_in (book_of result.0).journal) };
 }
 

@@ -197,6 +197,7 @@ impl Engine {
 
     /// Hands the book to the crew, and takes it back.
     fn work<C: Crew>(&mut self, crew: &mut C, workers: u32, turns: u32) -> Result<(), AllocError>
+        requires crew { C.ready }
         ensures { OnOk result (Happens self.old self.new (λ b r s d. Answers self.old.budget b (commands.work workers turns) r s d)) }
     {
         let order = Order {
@@ -343,7 +344,8 @@ impl Engine {
         sink: &mut Outlet<W>,
         crew: &mut C,
     ) -> Result<(), Fault>
-        requires { IsSound R.remaining source.old }
+        requires sound { IsSound R.remaining source.old }
+        requires crew { C.ready }
         ensures { MatchResult result (λ _. Does R.remaining W.contents self.old self.new source.old source.new sink.old sink.new (Ok (Some (command_of command.entry)))) (StopsWithin R.remaining W.contents source.old source.new sink.old sink.new (script_lines (Ok (Some (command_of command.entry))))) }
     {
         match command {
@@ -384,7 +386,8 @@ impl Engine {
         sink: &mut Outlet<W>,
         crew: &mut C,
     ) -> Result<(), Fault>
-        requires { IsSound R.remaining source.old }
+        requires sound { IsSound R.remaining source.old }
+        requires crew { C.ready }
         ensures { MatchResult result (λ _. Does R.remaining W.contents self.old self.new source.old source.new sink.old sink.new (reading_of says.entry)) (StopsWithin R.remaining W.contents source.old source.new sink.old sink.new (script_lines (reading_of says.entry))) }
     {
         match says {
@@ -407,7 +410,8 @@ impl Engine {
         sink: &mut Outlet<W>,
         crew: &mut C,
     ) -> Result<(), Fault>
-        requires { IsSound R.remaining source.old }
+        requires sound { IsSound R.remaining source.old }
+        requires crew { C.ready }
         ensures { (bytes : List ℕ) → Reads line.now bytes → IsOneLine bytes (is_ended source.old) → MatchResult result
             (λ _. AnswersLine R.remaining W.contents self.old self.new source.old source.new sink.old sink.new bytes)
             (StopsLine R.remaining W.contents source.old source.new sink.old sink.new bytes) }
@@ -432,6 +436,7 @@ impl Engine {
         requires blank { book_of self.old.book ≡ blank }
         requires none_refused { self.old.written.refused ≡ false }
         requires sound { IsSound R.remaining source.old }
+        requires crew { C.ready }
         ensures { MatchResult result
             (λ _. RunsToEnd R.remaining W.contents self.old.budget source.old source.new sink.old sink.new self.new.written.refused)
             (RunsTo R.remaining W.contents self.old.budget source.old source.new sink.old sink.new) }
@@ -472,7 +477,8 @@ pub fn run<R: Read, W: Write, C: Crew>(
     limits: Limits,
     crew: &mut C,
 ) -> Result<Summary, Fault>
-    requires { IsSound R.remaining source.old }
+    requires sound { IsSound R.remaining source.old }
+    requires crew { C.ready }
     ensures ok { IfOk result (λ summary. RunsToEnd R.remaining W.contents limits.budget source.old source.new sink.old sink.new summary.refused) }
     ensures err { IfErr result (RunsTo R.remaining W.contents limits.budget source.old source.new sink.old sink.new) }
     ensures all_out { waiting sink.new ≡ [] }

@@ -16,13 +16,13 @@ returns-in-Some g c =
     (StopsWithin remaining contents c.args.source.now c.answer.new.source c.args.sink.now c.answer.new.sink (script_lines z))) (sym e) c.answer.ensures
 
 pub returns-in-None : goal.returns-in-None
-returns-in-None g c = does_nothing g.R.Read.remaining g.W.Write.contents c.args.source.now c.args.sink.now c.requires c.args.self.now (ap reading_of (c.in-Ok.is ∙ ap (λ o. Ok o) c.in-None.is))
+returns-in-None g c = does_nothing g.R.Read.remaining g.W.Write.contents c.args.source.now c.args.sink.now c.requires.sound c.args.self.now (ap reading_of (c.in-Ok.is ∙ ap (λ o. Ok o) c.in-None.is))
 
 pub returns-in_ok-refuse_line-in-Err : goal.returns-in_ok-refuse_line-in-Err
 returns-in_ok-refuse_line-in-Err g c =
-    does_refuse g.R.Read.remaining g.W.Write.contents c.args.source.now c.args.sink.now c.requires c.in-Err.fault (ap reading_of c.in-Err.is) refl refl c.in_ok-refuse_line-in-Err.ensures
+    does_refuse g.R.Read.remaining g.W.Write.contents c.args.source.now c.args.sink.now c.requires.sound c.in-Err.fault (ap reading_of c.in-Err.is) refl refl c.in_ok-refuse_line-in-Err.ensures
 
 pub returns-in_err-refuse_line-in-Err : goal.returns-in_err-refuse_line-in-Err
 returns-in_err-refuse_line-in-Err g c =
     let p = err_from_is_err_and c.from_residual.result c.from_residual.ensures.1 in
-    rw (p.1, p.2) (out_here g.R.Read.remaining g.W.Write.contents c.args.source.now c.args.sink.now c.requires _)
+    rw (p.1, p.2) (out_here g.R.Read.remaining g.W.Write.contents c.args.source.now c.args.sink.now c.requires.sound _)
