@@ -19,7 +19,7 @@ returns-in_err-says-in-Ok g c = λ bytes reads one.
     let source = c.args.source.now in
     let sink = c.args.sink.now in
     let p = err_from_is_err_and c.from_residual.result c.from_residual.ensures.1 in
-    rw (p.1, p.2) (stops_line remaining contents source source sink sink c.args.line.now bytes (said_in c.args.line.now) Memory reads one refl (out_here remaining contents source sink c.requires _))
+    rw (p.1, p.2) (stops_line remaining contents source source sink sink c.args.line.now bytes (said_in c.args.line.now) Memory reads one refl (out_here remaining contents source sink c.requires.sound _))
 
 pub returns-in-Err : goal.returns-in-Err
 returns-in-Err g c =
