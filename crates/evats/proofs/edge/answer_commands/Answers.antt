@@ -4,8 +4,8 @@ use Rattle.evats.specs.Edge.{no_block, ran}
 use Rattle.evats.proofs.Edges.{runs_as}
 use Rattle.evats.proofs.edge.answer_commands.Goals as goal
 
-pub run-requires-sound : goal.run-requires-sound
-run-requires-sound g c = λ e. not_both _ _ c.in-Ok.ensures.open e
+pub run-requires-clause-sound : goal.run-requires-clause-sound
+run-requires-clause-sound g c = λ e. not_both _ _ c.in-Ok.ensures.open e
 
 pub returns-in-Ok : goal.returns-in-Ok
 returns-in-Ok g c =
