@@ -5,7 +5,6 @@ use Rattle.journal.proofs.entry.Mark.TheSendSync as marks
 use Rattle.journal.proofs.entry.Touched.TheSendSync as toucheds
 use Rattle.agenda.proofs.agenda.Agenda.TheSendSync as agendas
 use Rattle.desk.proofs.desk.Desk.TheSendSync as desks
-use Rattle.desk.proofs.desk.Lent.TheSendSync as lents
 use Rattle.indexmap.proofs.map.IndexMap.TheSendSync as tables
 
 pub ruleset note_crosses = (notes.the_send, notes.the_sync, notes.the_field_send, notes.the_field_sync)
@@ -19,7 +18,5 @@ pub ruleset touched_crosses = (toucheds.the_send, toucheds.the_sync, toucheds.th
 pub ruleset agenda_crosses = (agendas.the_send, agendas.the_sync, agendas.the_field_send, agendas.the_field_sync)
 
 pub ruleset desk_crosses = (desks.the_send, desks.the_sync, desks.the_field_send, desks.the_field_sync)
-
-pub ruleset lent_crosses = (lents.the_send, lents.the_sync, lents.the_field_send, lents.the_field_sync)
 
 pub ruleset table_crosses = (tables.the_send, tables.the_sync)
