@@ -122,8 +122,8 @@ class RandomSession(Session):
 
 
 class OneVat(RandomSession):
-    """Sessions of vats that stand alone, in the language without references."""
-    has_references = False
+    """Sessions of vats that stand alone, whose programs have no sends, whens and promises. The whole language is read: a text
+    that is spoilt may have one."""
 
     def __init__(self, seed):
         # A few uses of the shared script, each of them often, and a budget in which its opening turn ends.
