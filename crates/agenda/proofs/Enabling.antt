@@ -12,7 +12,7 @@ use Rattle.ids.specs.declared.names.MsgId.{MsgId}
 use Rattle.worldcells.specs.World.{World}
 use Rattle.agenda.specs.AgendaView.{known_cmp, NotedIn}
 use Rattle.agenda.specs.Enabled.{Out, MayDo, may_arrive, may_forward, may_turn, may_learn, message_in, learn_in, step_cmp_by, step_cmp, Rises, Enabled, First}
-use Rattle.agenda.specs.Found.{message_step, learn_step, message_steps, learn_steps, steps_of, first_in}
+use Rattle.agenda.specs.Found.{message_step, learn_step, message_steps, learn_steps, first_in}
 use Rattle.agenda.specs.declared.agenda.Known.{Known}
 use Rattle.agenda.specs.declared.agenda.Agenda.{Agenda}
 use Rattle.agenda.specs.declared.agenda.Step.{Step}
@@ -20,6 +20,10 @@ use Rattle.agenda.specs.declared.agenda.Step.TheVariants as step
 use Rattle.agenda.proofs.Orders.{message_total, known_total, exact_known}
 use Rattle.agenda.proofs.Stepping.{found_may, may_found, found_waits, learning_is, learn_may, learnable}
 use Rattle.agenda.proofs.Rising.{in_none, in_head, in_cases, in_given, given_in, each_given, given_rises, IsOfMessage, IsOfNone, both_rise, FirstBelow, first_below, first_below_both, below}
+
+-- what messages can do, and then what vats can learn
+abbrev pub steps_of : World → Out → Agenda → List Step
+steps_of w out a = message_steps w out a ++ learn_steps out a
 
 module _ (w : World) (out : Out) (a : Agenda) where
   -- ---- each that is found, and no other, may be done

@@ -1,5 +1,5 @@
 -- What the program finds to do, message by message and promise by promise.
-use Rattle.std.specs.Prelude.{cond, ◌++◌, List, [], ◌∷◌, Option, Some, None, is_some, is_none}
+use Rattle.std.specs.Prelude.{cond, List, [], ◌∷◌, Option, Some, None, is_some, is_none}
 use Rattle.std.specs.List.{filter_map}
 use Rattle.ids.specs.declared.names.VatNo.{VatNo}
 use Rattle.ids.specs.declared.names.MsgId.{MsgId}
@@ -42,10 +42,6 @@ learn_step out k = cond (out k.vat) None (Some (step.Learn k.vat k.promise))
 -- what vats can learn
 abbrev pub learn_steps : Out → Agenda → List Step
 learn_steps out a = filter_map (learn_step out) a.known.keys
-
--- what messages can do, and then what vats can learn
-abbrev pub steps_of : World → Out → Agenda → List Step
-steps_of w out a = message_steps w out a ++ learn_steps out a
 
 -- the first of a list
 abbrev pub first_in : {A : Type 0} → List A → Option A

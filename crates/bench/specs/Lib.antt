@@ -2,4 +2,3 @@ pub mod Seats
 pub mod Desk
 pub mod DeskView
 pub mod Author
-pub mod Fault

@@ -12,9 +12,9 @@ ghost use Rattle.pact.specs.Agree.{blank};
 ghost use Rattle.book.specs.Entered.{entered_in, IsAmong};
 ghost use Rattle.bench.specs.Desk.{held, refused, Answers, Returns};
 ghost use Rattle.bench.specs.Author.{Authored, mark_of, turn_of, Picked};
+ghost use Rattle.book.specs.declared.book.TheConstants.{MOST_STEPS};
 
 pub mod command;
-pub mod fault;
 mod last;
 pub mod once;
 pub mod pick;
@@ -49,7 +49,7 @@ pub struct Bench<L: Opening> {
 impl<L: Opening> Bench<L> {
     /// Each turn has at most this many steps. The ledger has a part for each seat that there may be.
     pub fn new(begun: Begun, budget: u32, blank: Blank, parts: u64) -> Bench<L>
-        requires budget { (0 < budget) × (budget ≤ 1000000) }
+        requires budget { (0 < budget) × (budget ≤ MOST_STEPS) }
         requires ledger { (blank.name ≡ L.name) × (blank.parts ≡ L.parts) × (L.parts ≡ L.seats) × (parts ≡ L.seats) }
         requires book { (begun.table ≡ L.table) × (entered_in (book_of begun.book).journal ≡ L.began) × (begun.before ≡ L.before) }
     {

@@ -2,13 +2,14 @@
 ghost use Rattle.std.specs.Prelude.{◌≡◌, ◌<◌, ◌≤◌};
 ghost use Rattle.book.specs.BookView.{book_of};
 ghost use Rattle.book.specs.Entered.{entered_in, IsAmong};
+ghost use Rattle.book.specs.declared.book.TheConstants.{MOST_STEPS};
 
 use crate::Bench;
-use crate::fault::BenchFault;
 use crate::seat::Opening;
 use crate::start::Begun;
 use crate::work::{Gate, Worked};
 use book::book::Book;
+use book::fault::{BookFault, WorkFault};
 use std::alloc::Global;
 use std::marker::Brand;
 use std::sync::Wait;
@@ -27,8 +28,8 @@ pub fn work_once<G: Gate + Sync, R: Threads + Wait + Sync>(
     workers: usize,
     turns: u64,
     gate: &G,
-) -> (Book, Result<u64, BenchFault>)
-    requires { (0 < budget) × (budget ≤ 1000000) }
+) -> (Book, Result<u64, WorkFault>)
+    requires { (0 < budget) × (budget ≤ MOST_STEPS) }
     ensures { IsAmong (entered_in (book_of book).journal) (entered_in (book_of result.0).journal) }
 {
     let parts = workers as u64;
@@ -44,7 +45,7 @@ pub fn work_once<G: Gate + Sync, R: Threads + Wait + Sync>(
             turns,
             gate,
         ),
-        Err((book, _)) => (book, Err(BenchFault::Memory)),
+        Err((book, _)) => (book, Err(WorkFault::Book(BookFault::Memory))),
     }
 }
 
@@ -59,8 +60,8 @@ fn work_on<L: Opening + Send + Sync, G: Gate + Sync, R: Threads + Wait + Sync>(
     workers: usize,
     turns: u64,
     gate: &G,
-) -> (Book, Result<u64, BenchFault>)
-    requires budget { (0 < budget) × (budget ≤ 1000000) }
+) -> (Book, Result<u64, WorkFault>)
+    requires budget { (0 < budget) × (budget ≤ MOST_STEPS) }
     requires ledger { (blank.name ≡ L.name) × (blank.parts ≡ L.parts) × (L.parts ≡ L.seats) × (parts ≡ L.seats) }
     requires book { (begun.table ≡ L.table) × (entered_in (book_of begun.book).journal ≡ L.began) × (begun.before ≡ L.before) }
     ensures { IsAmong (entered_in (book_of begun.book).journal) (entered_in (book_of result.0).journal) }

@@ -7,11 +7,10 @@ ghost use Rattle.bench.specs.Desk.{events_of};
 
 use crate::Bench;
 use crate::command::Command;
-use crate::fault::BenchFault;
 use crate::pick::Pick;
 use crate::pile::Pile;
 use crate::seat::{Opening, Seat};
-use book::fault::BookFault;
+use book::fault::{BookFault, WorkFault};
 use crossbeam_channel::{Receiver, Sender, bounded};
 use ids::names::{EventName, MsgId};
 use std::alloc::Global;
@@ -301,15 +300,15 @@ impl<L: Opening + Send + Sync> Bench<L> {
         workers: usize,
         turns: u64,
         gate: &G,
-    ) -> Result<Worked<L>, BenchFault>
+    ) -> Result<Worked<L>, WorkFault>
         ensures open { IfOk result (λ w. All (λ s. s.deeds.tickets ≡ []) w.seats.items) }
         ensures turns { IfOk result (λ w. w.turns ≡ sum_by (λ s. turns_in (events_of s.deeds)) w.seats.items) }
     {
         let Ok(pile) = Pile::with_room(alloc, workers) else {
-            return Err(BenchFault::Memory);
+            return Err(WorkFault::Book(BookFault::Memory));
         };
         let Some(pile) = run_all(rt, alloc, self, workers, turns, gate, pile) else {
-            return Err(BenchFault::NoWorker);
+            return Err(WorkFault::NoWorker);
         };
         Ok(pile.into_worked())
     }

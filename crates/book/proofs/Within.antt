@@ -1,7 +1,7 @@
 -- The journal keeps to its limit.
-use Rattle.std.proofs.Common.{◌≡◌, ℕ, ◌+◌, ◌≤◌, zero, suc, Bool, true, false, List, [], ◌∷◌, map, Option, Some, None, ◌||◌, length, nat_lt, refl, sym, ap, ◌∙◌, subst, arith}
+use Rattle.std.proofs.Common.{◌≡◌, ℕ, ◌+◌, ◌≤◌, zero, suc, Bool, true, false, List, [], ◌∷◌, map, Option, Some, None, ◌||◌, length, nat_lt, nat_le, ◌<◌, refl, sym, ap, ◌∙◌, subst, arith}
 use Rattle.std.specs.Prelude.{if◌then◌else◌}
-use Rattle.std.proofs.lemmas.Bool.{ltb-false}
+use Rattle.std.proofs.lemmas.Bool.{leb-false}
 use Rattle.std.proofs.lemmas.List.{length-append, length-map}
 use Rattle.history.specs.Records.{State, Record}
 use Rattle.ids.specs.declared.cells.CellKey.{CellKey}
@@ -17,7 +17,7 @@ use Rattle.undo.specs.CoreView.{items_of, state_of, shown}
 use Rattle.undo.specs.declared.undoing.Core.{Core}
 use Rattle.book.specs.Refusals.{Refusal, first, refuse_where, full, journal_full, full_refusal, check_refusal, taken_refusal, named_refusal, birth_refusal, ask_refusal, ask_refusal_by}
 use Rattle.book.specs.Books.{Book}
-use Rattle.book.specs.declared.book.TheConstants.{MOST_ENTRIES}
+use Rattle.book.specs.declared.book.TheConstants.{LAST_NAME, MOST_ENTRIES}
 
 abbrev pub Within : ℕ → Type 0
 Within count = count ≤ MOST_ENTRIES
@@ -41,7 +41,7 @@ no_room_left x false e = refl
 
 -- where names are left and the journal has room, it has room
 pub room_for_names : (b : Book) → full_refusal b ≡ None → journal_full b ≡ None
-room_for_names b e = no_room_left (nat_lt 4294967295 b.next) (nat_lt 1048575 (length b.journal)) e
+room_for_names b e = no_room_left (nat_lt LAST_NAME b.next) (nat_le MOST_ENTRIES (length b.journal)) e
 
 -- and so for a birth, and an asked program, that is not refused
 pub room_for_birth : (b : Book) (x : Name) (earlier : List Name) (script : Trees) → birth_refusal b x earlier script ≡ None → full_refusal b ≡ None
@@ -57,7 +57,7 @@ not_refused false refusal e = refl
 
 -- where the journal is not full there is room for one more
 pub one_more : (b : Book) → journal_full b ≡ None → Within (length b.journal + 1)
-one_more b e = let few : length b.journal ≤ 1048575 = ltb-false 1048575 (length b.journal) (not_refused (nat_lt 1048575 (length b.journal)) full e) in omega (arith, few)
+one_more b e = let few : length b.journal < MOST_ENTRIES = leb-false MOST_ENTRIES (length b.journal) (not_refused (nat_le MOST_ENTRIES (length b.journal)) full e) in omega (arith, few)
 
 -- an entry more
 pub within_entered : (old new : Core) (e : Noted) (seat : ℕ) (touched : List CellKey) (kept : Record cells) → shown new ≡ entered e seat touched kept (shown old) → Within (length (lines_of (items_of old)) + 1)

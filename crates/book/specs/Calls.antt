@@ -1,5 +1,5 @@
 -- What the accepted calls of a book do.
-use Rattle.std.specs.Prelude.{◌≡◌, ℕ, ◌+◌, true, ◌&&◌, ◌||◌, not, List, [], ◌∷◌, ◌++◌, map, filter, reverse, is_some, Some, None, Contains, slice_get}
+use Rattle.std.specs.Prelude.{◌≡◌, ℕ, ◌+◌, ◌≤◌, true, ◌&&◌, ◌||◌, not, List, [], ◌∷◌, ◌++◌, map, filter, reverse, is_some, Some, None, Contains, slice_get}
 use Rattle.std.specs.List.{AllByRecursion}
 use Rattle.std.specs.Arc.{arc_value}
 use Rattle.std.specs.Option.{option_map}
@@ -15,15 +15,16 @@ use Rattle.heap.specs.State as heap
 use Rattle.heap.specs.State.{Cell, pending, view_cell}
 use Rattle.heap.specs.View.{state_of}
 use Rattle.heap.specs.Found.{Found}
-use Rattle.worldcells.specs.Events.{Event, turn, Noted, event_in, with_notes}
+use Rattle.worldcells.specs.Events.{Event, birth, ask, arrive, forward, learn, turn, Noted, event_in, with_notes}
 use Rattle.post.specs.MessageView.{message_of}
 use Rattle.post.specs.declared.message.Message as code-message
 use Rattle.worldcells.specs.World as world
 use Rattle.post.specs.Messages.{Vat, Message, Published, at_vat, flying, waits_at, arrived}
-use Rattle.worldcells.specs.World.{message, published_as, vat_state}
-use Rattle.kernele.specs.Tree.{Name}
-use Rattle.event.specs.Events.{AreNamed, Foot, DoesNoted, events, Turn, Turns, TurnLeaves, turn_foot}
+use Rattle.worldcells.specs.World.{message, published_as, vat_named, vat_state}
+use Rattle.kernele.specs.Tree.{Name, Trees}
+use Rattle.event.specs.Events.{Foot, DoesNoted, events, birth_foot, ask_foot, Turn, Turns, TurnLeaves, turn_foot}
 use Rattle.event.specs.Forwarding.{onward_of}
+use Rattle.event.specs.Naming.{Numbers}
 use Rattle.event.specs.Ready.{leads_there, first_undone}
 use Rattle.event.specs.Walks.{awaited, found_by}
 use Rattle.deliveries.specs.Outcomes.{found_of}
@@ -39,7 +40,8 @@ use Rattle.journal.specs.Items.{exchanged}
 use Rattle.causality.specs.Selections.{name_of, is_live, chosen}
 use Rattle.desk.specs.Desks.{Lent, without}
 use Rattle.book.specs.Books.{Book}
-use Rattle.book.specs.Refusals.{Refusal, no_ticket, stale, full, journal_full, arrival_refusal, forward_refusal, learning_refusal, undo_refusal, checkout_refusal}
+use Rattle.book.specs.Refusals.{Refusal, no_ticket, stale, full, journal_full, birth_refusal, ask_refusal, arrival_refusal, forward_refusal, learn_refusal, learning_refusal, undo_refusal, checkout_refusal}
+use Rattle.book.specs.declared.book.TheConstants.{LAST_NAME}
 
 -- the line of a new event from a seat: it has the event's notes, it is live, it has the cells that its footprint touches and writes, and as
 -- its causes the live events before it that wrote a cell that it touches, the oldest first
@@ -70,18 +72,51 @@ pub record EntersNext (e : Event) (f : Foot) (seat : ℕ) (old now : Book) : Typ
 abbrev pub lent_of : Task → Lent
 lent_of t = record { number = t.event; message = t.name; vat = t.vat; budget = t.budget; seat = t.seat }
 
+-- a vat of this name, which knows earlier ones, may be born with this script under the name that comes next; these are their numbers
+abbrev pub AdmitsBirth : Book → Name → List Name → Trees → EventName → List VatNo → Type 0
+AdmitsBirth b x earlier script e vats =
+    (e.0 ≡ b.next) × (b.next ≤ LAST_NAME) × (b.world (key.Name x) ≡ None) × Numbers b.world earlier vats × (birth_refusal b x earlier script ≡ None)
+
+-- it is born, from a seat
+abbrev pub Births : Name → List Name → Trees → ℕ → EventName → Book → Book → Type 0
+Births x earlier script seat e old now =
+    (birth_refusal old x earlier script ≡ None)
+    × ((vats : List Vat) × EntersNext (record { name = e; act = birth x earlier script }) (birth_foot e x earlier vats script) seat old now)
+
+-- a program may be asked of the vat of this name under the name that comes next; this is the vat's number
+abbrev pub AdmitsAsk : Book → Name → Trees → EventName → VatNo → Type 0
+AdmitsAsk b x program e number =
+    (e.0 ≡ b.next) × (b.next ≤ LAST_NAME) × ((v : Vat) × (vat_named b.world x ≡ Some v) × (v.number ≡ number)) × (ask_refusal b x program ≡ None)
+
+-- it is asked, from a seat
+abbrev pub Asks : Name → Trees → ℕ → EventName → Book → Book → Type 0
+Asks x program seat e old now =
+    (ask_refusal old x program ≡ None) × ((v : VatNo) × EntersNext (record { name = e; act = ask x program }) (ask_foot e x v program) seat old now)
+
+-- a message arrives, from a seat
+abbrev pub Arrives : MsgId → ℕ → EventName → Book → Book → Type 0
+Arrives m seat e old now = (arrival_refusal old m ≡ None) × ((f : Foot) × EntersNext (record { name = e; act = arrive m }) f seat old now)
+
+-- a message goes on, from a seat
+abbrev pub Forwards : MsgId → ℕ → EventName → Book → Book → Type 0
+Forwards m seat e old now = (forward_refusal old m ≡ None) × ((f : Foot) × EntersNext (record { name = e; act = forward m }) f seat old now)
+
+-- a vat learns what a promise was published as, from a seat
+abbrev pub LearnsAt : VatNo → PromId → ℕ → EventName → Book → Book → Type 0
+LearnsAt v p seat e old now = (learning_refusal old v p ≡ None) × ((f : Foot) × EntersNext (record { name = e; act = learn v p }) f seat old now)
+
+-- and so does the vat of this name
+abbrev pub Learns : Name → PromId → ℕ → EventName → Book → Book → Type 0
+Learns x p seat e old now =
+    (learn_refusal old x p ≡ None)
+    × ((v : Vat) × (f : Foot) × (vat_named old.world x ≡ Some v) × EntersNext (record { name = e; act = learn v.number p }) f seat old now)
+
 -- a ticket carries a message of the world that is at its vat, where it leads, and the vat's state
 pub record Carries (w : world.World) (t : Out) : Type 0 where
   pub waiting : w (key.Msg t.name) ≡ Some (message (message_of t.message))
   pub there : (message_of t.message).place ≡ at_vat t.vat
   pub lead : found_of t.lead ≡ found_by w (message_of t.message).delivery
   pub state : state_of (arc_value t.state) ≡ vat_state w t.vat
-
--- the numbers of the vats of these names
-pub record Numbers (w : world.World) (names : List Name) (numbers : List VatNo) : Type 0 where
-  pub vats : List Vat
-  pub named : AreNamed w names vats
-  pub numbered : map (λ v. v.number) vats ≡ numbers
 
 -- a message may arrive under the name that comes next, and is this one then
 pub record AdmitsArrival (b : Book) (m : MsgId) (e : EventName) (h : Message) : Type 0 where

@@ -7,6 +7,8 @@ use Rattle.ids.specs.declared.names.MsgId.{MsgId}
 use Rattle.event.specs.declared.ready.Delay.{Delay}
 use Rattle.event.specs.declared.ready.Delay.TheVariants as delay
 use Rattle.scopes.specs.Scope as scope
+use Rattle.scopes.specs.Words as words
+use Rattle.scopes.specs.Words.{no_memory}
 use Rattle.scopes.specs.declared.checking.CheckFault.{CheckFault}
 use Rattle.scopes.specs.declared.checking.CheckFault.TheVariants as check-fault
 use Rattle.book.specs.Refusals.{Refusal, no_vat, name_taken, no_message, not_there, not_ready, before, nothing_to_learn, full, stale, vat_out, no_ticket, no_event, no_position, not_live, still_live, not_closed, crossed, cause_missing, dependent, bad_budget, unchecked, refusal_of}
@@ -17,19 +19,14 @@ use Rattle.book.specs.Books.{Book}
 use Rattle.book.specs.Calls.{IsFresh, LeadsAsBefore, RefusesCommit}
 use Rattle.book.specs.declared.fault.BookFault.{BookFault}
 use Rattle.book.specs.declared.fault.BookFault.TheVariants as fault
+use Rattle.book.specs.declared.fault.WorkFault.{WorkFault}
+use Rattle.book.specs.declared.fault.WorkFault.TheVariants as work
 
 -- ---- refusals in words
 
 -- two events behind a word
 abbrev pub pair_text : List ℕ → EventName → EventName → List ℕ
 pair_text words e f = words ++ (event_text e ++ (codes " " ++ event_text f))
-
-abbrev pub check_text : scope.Refusal → List ℕ
-check_text (scope.unbound x) = codes "K1 Unbound " ++ x
-check_text (scope.assign_to_def x) = codes "K2 AssignToDef " ++ x
-check_text (scope.duplicate_name x) = codes "K3 DuplicateName " ++ x
-check_text scope.too_deep = codes "K4 TooDeep"
-check_text scope.too_long = codes "K5 TooLong"
 
 abbrev pub refusal_text : Refusal → List ℕ
 refusal_text (no_vat x) = codes "B1 NoVat " ++ x
@@ -52,7 +49,7 @@ refusal_text (crossed e f) = pair_text (codes "B16 Crossed ") e f
 refusal_text (cause_missing e f) = pair_text (codes "B17 CauseMissing ") e f
 refusal_text (dependent e f) = pair_text (codes "B18 Dependent ") e f
 refusal_text bad_budget = codes "B19 BadBudget"
-refusal_text (unchecked fault) = check_text fault
+refusal_text (unchecked refusal) = words.refusal_text refusal
 
 -- ---- what a fault tells
 
@@ -92,7 +89,7 @@ told_by fault.Memory = None
 -- a fault in words: the refusal that it tells, or want of memory
 abbrev pub words_of : Option Refusal → List ℕ
 words_of (Some refusal) = refusal_text refusal
-words_of None = codes "B20 Memory"
+words_of None = no_memory
 
 abbrev pub fault_text : BookFault → List ℕ
 fault_text f = words_of (told_by f)
@@ -134,3 +131,8 @@ TellsCommit _ b r = ⊥
 abbrev pub Unturned : BookFault → Book → Book → Type 0
 Unturned fault.Memory old now = (now ≡ old) ⊎ (now ≡ record old { next = old.next + 1 })
 Unturned _ old now = now ≡ old
+
+-- why workers did nothing, in words: none could be started, or as a call of the book is refused
+abbrev pub work_text : WorkFault → List ℕ
+work_text work.NoWorker = codes "S7 NoWorker"
+work_text (work.Book f) = fault_text f

@@ -1,5 +1,5 @@
 -- When a call of the book is refused.
-use Rattle.std.specs.Prelude.{ℕ, zero, suc, is_some, ◌||◌, ◌==◌, ◌+◌, not, cond, Bool, false, List, [], ◌∷◌, length, Option, Some, None, Ok, Err, nat_lt, slice_get}
+use Rattle.std.specs.Prelude.{ℕ, zero, suc, is_some, ◌||◌, ◌==◌, ◌+◌, not, cond, Bool, false, List, [], ◌∷◌, length, Option, Some, None, Ok, Err, nat_lt, nat_le, slice_get}
 use Rattle.std.specs.Option.{option_map}
 use Rattle.history.specs.Subject.{meets}
 use Rattle.kernele.specs.Tree.{Name, Trees}
@@ -22,6 +22,7 @@ use Rattle.causality.specs.declared.selection.Gap.{Gap}
 use Rattle.causality.specs.Selections.{name_of, is_live, least_missing, first_marked, first_gap, first_missing_cause, first_crossing}
 use Rattle.desk.specs.Desks.{Lent, has_vat}
 use Rattle.book.specs.Books.{Book}
+use Rattle.book.specs.declared.book.TheConstants.{LAST_NAME, MOST_ENTRIES, MOST_STEPS}
 
 -- why a call is refused
 pub data Refusal : Type 0 where
@@ -67,11 +68,11 @@ refuse_where b refusal = cond b (Some refusal) None
 
 -- the journal has no room
 abbrev pub journal_full : Book → Option Refusal
-journal_full b = refuse_where (nat_lt 1048575 (length b.journal)) full
+journal_full b = refuse_where (nat_le MOST_ENTRIES (length b.journal)) full
 
 -- names are used up, or the journal has no room
 abbrev pub full_refusal : Book → Option Refusal
-full_refusal b = refuse_where (nat_lt 4294967295 b.next || nat_lt 1048575 (length b.journal)) full
+full_refusal b = refuse_where (nat_lt LAST_NAME b.next || nat_le MOST_ENTRIES (length b.journal)) full
 
 abbrev pub check_refusal : Checked → Option Refusal
 check_refusal (Ok s) = None
@@ -142,7 +143,7 @@ learn_refusal b x p = learn_refusal_by (vat_named b.world x) b x p
 
 -- a budget is 1 to 1,000,000
 abbrev pub budget_refusal : ℕ → Option Refusal
-budget_refusal budget = refuse_where (budget == 0 || nat_lt 1000000 budget) bad_budget
+budget_refusal budget = refuse_where (budget == 0 || nat_lt MOST_STEPS budget) bad_budget
 
 abbrev pub vat_at_is_out : Option VatNo → List Lent → Bool
 vat_at_is_out (Some v) out = has_vat v out

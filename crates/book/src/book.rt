@@ -1,5 +1,5 @@
 // The book: the world, the journal that made it, the names that are not drawn yet, and the tickets that are out.
-ghost use Rattle.std.specs.Prelude.{◌≡◌, ℕ, ◌≢◌, ◌≤◌, ◌+◌, ◌↔◌, [], All, List, Option, None, Some, true, false, IsTrue, IfOk, IfErr, IfSome, OnOk, OnErr, length, filter, map, not};
+ghost use Rattle.std.specs.Prelude.{◌≡◌, ℕ, ◌≢◌, ◌≤◌, ◌+◌, ◌↔◌, [], All, Option, None, Some, true, false, IsTrue, IfOk, IfErr, IfSome, OnOk, OnErr, length, filter, map, not};
 ghost use Rattle.std.specs.Option.{option_map, ForSome};
 ghost use Rattle.history.specs.Records.{contents};
 ghost use Rattle.history.specs.Chains.{last_writer};
@@ -9,18 +9,18 @@ ghost use Rattle.ids.specs.declared.cells.CellKey.TheVariants as key;
 ghost use Rattle.kernele.specs.View.{program_of};
 ghost use Rattle.scopes.specs.Check.{scopes_of};
 ghost use Rattle.scopes.specs.Scope.{checked_program};
-ghost use Rattle.scopes.specs.declared.naming.TopName.{TopName};
 ghost use Rattle.heap.specs.Found.{Found};
-ghost use Rattle.worldcells.specs.Events.{birth, ask, arrive, forward, learn};
+ghost use Rattle.worldcells.specs.Events.{birth, learn};
 ghost use Rattle.worldcells.specs.EventView.{event_of};
 ghost use Rattle.post.specs.MessageView.{place_of, message_of, published_of, vat_of};
 ghost use Rattle.worldcells.specs.Theory.{cells, state_of_world};
 ghost use Rattle.worldcells.specs.View.{world_of};
-ghost use Rattle.post.specs.Messages.{Vat as VatModel, at_vat};
+ghost use Rattle.post.specs.Messages.{at_vat};
 ghost use Rattle.worldcells.specs.World.{World as WorldModel, vat, vat_named, vat_state};
-ghost use Rattle.event.specs.Events.{Foot, Turn, birth_foot, ask_foot};
+ghost use Rattle.event.specs.Events.{Foot, Turn};
+ghost use Rattle.event.specs.Naming.{Numbers};
 ghost use Rattle.event.specs.ReadyView.{IsWay};
-ghost use Rattle.agenda.specs.Agendas.{AlikeBut, KnownAs, can_learn, open_view};
+ghost use Rattle.agenda.specs.Agendas.{AlikeBut, KnownAs, can_learn};
 ghost use Rattle.agenda.specs.AgendaView.{NotedIn};
 ghost use Rattle.agenda.specs.Enabled.{Enabled, First};
 ghost use Rattle.event.specs.Effects.{Happens};
@@ -36,7 +36,7 @@ ghost use Rattle.desk.specs.Desks.{has_vat, is_out, without};
 ghost use Rattle.desk.specs.DeskView.{lent_of as desk_lent, out_of};
 ghost use Rattle.book.specs.Refusals.{birth_refusal, ask_refusal, arrival_refusal, forward_refusal, Refusal, named_refusal, learn_refusal, learning_refusal, nothing_to_learn, refuse_where, checkout_refusal, full_refusal, check_refusal, taken_refusal, undo_refusal, redo_refusal, cone_refusal, exchange_refusal, budget_refusal, refusal_of, full, journal_full};
 ghost use Rattle.book.specs.Books.{blank};
-ghost use Rattle.book.specs.Calls.{EntersNext, Admitted, AdmitsArrival, AdmitsForward, AdmitsLearning, Numbers, CanLearn, LeadsAsBefore, TurnsNext, lent_of, Lends, Commits, IsKnown, IsFresh, Undoes, Redoes, Exchanges, StoodAt, live_events};
+ghost use Rattle.book.specs.Calls.{EntersNext, AdmitsAsk, AdmitsBirth, Arrives, Asks, Births, Forwards, Learns, LearnsAt, Admitted, AdmitsArrival, AdmitsForward, AdmitsLearning, CanLearn, LeadsAsBefore, TurnsNext, lent_of, Lends, Commits, IsKnown, IsFresh, Undoes, Redoes, Exchanges, StoodAt, live_events};
 ghost use Rattle.book.specs.Fault.{Tells, delay_tells, TellsLost, TellsStale, TellsCommit, Unturned};
 ghost use Rattle.book.specs.Learning.{LearnsNamed, TellsNamed};
 ghost use Rattle.book.specs.Standing.{Stands};
@@ -85,7 +85,7 @@ const LAST_NAME: u64 = 4_294_967_295;
 pub const MOST_ENTRIES: usize = 1_048_576;
 
 /// The most steps that a turn may be given.
-const MOST_STEPS: u32 = 1_000_000;
+pub const MOST_STEPS: u32 = 1_000_000;
 
 /// The seat of events that are entered from none.
 pub(crate) const NO_SEAT: u64 = 0;
@@ -278,7 +278,7 @@ impl Book {
 
     /// The name that the next event is given.
     fn next_event(&self) -> Result<EventName, BookFault>
-        ensures ok { IfOk result (λ e. (e.0 ≡ self.now.next) × (self.now.next ≤ 4294967295) × (full_refusal (book_of self.now) ≡ None)) }
+        ensures ok { IfOk result (λ e. (e.0 ≡ self.now.next) × (self.now.next ≤ LAST_NAME) × (full_refusal (book_of self.now) ≡ None)) }
         ensures err { IfErr result (λ fault. Tells fault (full_refusal (book_of self.now))) }
     {
         if self.next > LAST_NAME || self.core.len() >= MOST_ENTRIES {
@@ -290,7 +290,7 @@ impl Book {
     /// Enters an event that is possible and makes no notes under the next name, from a seat, or changes nothing.
     fn enter(&mut self, event: Event, seat: u64, effects: Effects) -> Result<(), AllocError>
         requires named { event.name.0 ≡ self.old.next }
-        requires in_range { self.old.next ≤ 4294967295 }
+        requires in_range { self.old.next ≤ LAST_NAME }
         requires room { full_refusal (book_of self.old) ≡ None }
         requires possible { (f : Foot) × Happens (event_of event) f (book_of self.old).world effects }
         requires quiet { effects.notes.items ≡ [] }
@@ -334,9 +334,7 @@ impl Book {
         earlier: &[Text],
         script: &Program,
     ) -> Result<(EventName, Vec<VatNo>), BookFault>
-        ensures ok { IfOk result (λ r. (r.0.0 ≡ self.now.next) × (self.now.next ≤ 4294967295) × ((book_of self.now).world (key.Name name.now) ≡ None)
-            × Numbers (book_of self.now).world earlier.now r.1.items
-            × (birth_refusal (book_of self.now) name.now earlier.now (program_of script.now) ≡ None)) }
+        ensures ok { IfOk result (λ r. AdmitsBirth (book_of self.now) name.now earlier.now (program_of script.now) r.0 r.1.items) }
         ensures err { IfErr result (λ fault. Tells fault (birth_refusal (book_of self.now) name.now earlier.now (program_of script.now))) }
     {
         self.check_free(name)?;
@@ -374,8 +372,7 @@ impl Book {
         script: Program,
         seat: u64,
     ) -> Result<EventName, BookFault>
-        ensures ok { IfOk result (λ e. (birth_refusal (book_of self.old) name.now earlier.items (program_of script) ≡ None)
-            × ((vats : List VatModel) × EntersNext (record { name = e; act = birth name.now earlier.items (program_of script) }) (birth_foot e name.now earlier.items vats (program_of script)) seat (book_of self.old) (book_of self.new))) }
+        ensures ok { IfOk result (λ e. Births name.now earlier.items (program_of script) seat e (book_of self.old) (book_of self.new)) }
         ensures err { IfErr result (λ fault. Tells fault (birth_refusal (book_of self.old) name.now earlier.items (program_of script))) }
         ensures unchanged { OnErr result (book_of self.new ≡ book_of self.old) }
     {
@@ -395,7 +392,7 @@ impl Book {
 
     /// The name of an asked program that may be entered, and its vat.
     fn admit_ask(&self, name: &Text, program: &Program) -> Result<(EventName, VatNo), BookFault>
-        ensures ok { IfOk result (λ r. (r.0.0 ≡ self.now.next) × (self.now.next ≤ 4294967295) × ((v : VatModel) × (vat_named (book_of self.now).world name.now ≡ Some v) × (v.number ≡ r.1)) × (ask_refusal (book_of self.now) name.now (program_of program.now) ≡ None)) }
+        ensures ok { IfOk result (λ r. AdmitsAsk (book_of self.now) name.now (program_of program.now) r.0 r.1) }
         ensures err { IfErr result (λ fault. Tells fault (ask_refusal (book_of self.now) name.now (program_of program.now))) }
     {
         let Some(vat) = self.vat(name) else {
@@ -417,7 +414,7 @@ impl Book {
         program: Program,
         seat: u64,
     ) -> Result<EventName, BookFault>
-        ensures ok { IfOk result (λ e. (ask_refusal (book_of self.old) name.now (program_of program) ≡ None) × ((v : VatNo) × EntersNext (record { name = e; act = ask name.now (program_of program) }) (ask_foot e name.now v (program_of program)) seat (book_of self.old) (book_of self.new))) }
+        ensures ok { IfOk result (λ e. Asks name.now (program_of program) seat e (book_of self.old) (book_of self.new)) }
         ensures err { IfErr result (λ fault. Tells fault (ask_refusal (book_of self.old) name.now (program_of program))) }
         ensures unchanged { OnErr result (book_of self.new ≡ book_of self.old) }
     {
@@ -438,7 +435,7 @@ impl Book {
     /// The name of an arrival that may be entered, and the message where it arrived.
     fn admit_arrival(&self, name: MsgId) -> Result<(EventName, Message), BookFault>
         ensures ok { IfOk result (λ r. AdmitsArrival (book_of self.now) name r.0 (message_of r.1)) }
-        ensures in_range { OnOk result (self.now.next ≤ 4294967295) }
+        ensures in_range { OnOk result (self.now.next ≤ LAST_NAME) }
         ensures err { IfErr result (λ fault. Tells fault (arrival_refusal (book_of self.now) name)) }
     {
         let Some(message) = self.core.world().message(name) else {
@@ -456,7 +453,7 @@ impl Book {
     /// # Errors
     /// `NoMessage`, `NotThere`, `Full`, `Memory`, tried in this order.
     pub fn arrive_as(&mut self, name: MsgId, seat: u64) -> Result<EventName, BookFault>
-        ensures ok { IfOk result (λ e. (arrival_refusal (book_of self.old) name ≡ None) × ((f : Foot) × EntersNext (record { name = e; act = arrive name }) f seat (book_of self.old) (book_of self.new))) }
+        ensures ok { IfOk result (λ e. Arrives name seat e (book_of self.old) (book_of self.new)) }
         ensures err { IfErr result (λ fault. Tells fault (arrival_refusal (book_of self.old) name)) }
         ensures unchanged { OnErr result (book_of self.new ≡ book_of self.old) }
     {
@@ -476,7 +473,7 @@ impl Book {
     /// The name of a forwarding that may be entered, the message on its way, and the promises whose publications it looked at.
     fn admit_forward(&self, name: MsgId) -> Result<(EventName, Message, Vec<PromId>), BookFault>
         ensures ok { IfOk result (λ r. AdmitsForward (book_of self.now) name r.0 (message_of r.1) r.2.items) }
-        ensures in_range { OnOk result (self.now.next ≤ 4294967295) }
+        ensures in_range { OnOk result (self.now.next ≤ LAST_NAME) }
         ensures err { IfErr result (λ fault. Tells fault (forward_refusal (book_of self.now) name)) }
     {
         let world = self.core.world();
@@ -499,7 +496,7 @@ impl Book {
     /// # Errors
     /// `NoMessage`, `NotThere`, `NotReady`, `Full`, `Memory`, tried in this order.
     pub fn forward_as(&mut self, name: MsgId, seat: u64) -> Result<EventName, BookFault>
-        ensures ok { IfOk result (λ e. (forward_refusal (book_of self.old) name ≡ None) × ((f : Foot) × EntersNext (record { name = e; act = forward name }) f seat (book_of self.old) (book_of self.new))) }
+        ensures ok { IfOk result (λ e. Forwards name seat e (book_of self.old) (book_of self.new)) }
         ensures err { IfErr result (λ fault. Tells fault (forward_refusal (book_of self.old) name)) }
         ensures unchanged { OnErr result (book_of self.new ≡ book_of self.old) }
     {
@@ -526,7 +523,7 @@ impl Book {
         promise: PromId,
         seat: u64,
     ) -> Result<EventName, BookFault>
-        ensures ok { IfOk result (λ e. (learn_refusal (book_of self.old) name.now promise ≡ None) × ((v : VatModel) × (f : Foot) × (vat_named (book_of self.old).world name.now ≡ Some v) × EntersNext (record { name = e; act = learn v.number promise }) f seat (book_of self.old) (book_of self.new))) }
+        ensures ok { IfOk result (λ e. Learns name.now promise seat e (book_of self.old) (book_of self.new)) }
         ensures err { IfErr result (λ fault. Tells fault (learn_refusal (book_of self.old) name.now promise)) }
         ensures unchanged { OnErr result (book_of self.new ≡ book_of self.old) }
     {
@@ -568,7 +565,7 @@ impl Book {
         promise: PromId,
         seat: u64,
     ) -> Result<EventName, BookFault>
-        ensures ok { IfOk result (λ e. (learning_refusal (book_of self.old) vat promise ≡ None) × ((f : Foot) × EntersNext (record { name = e; act = learn vat promise }) f seat (book_of self.old) (book_of self.new))) }
+        ensures ok { IfOk result (λ e. LearnsAt vat promise seat e (book_of self.old) (book_of self.new)) }
         ensures err { IfErr result (λ fault. Tells fault (learning_refusal (book_of self.old) vat promise)) }
         ensures unchanged { OnErr result (book_of self.new ≡ book_of self.old) }
     {
@@ -594,7 +591,7 @@ impl Book {
         promise: PromId,
     ) -> Result<(EventName, Published), BookFault>
         ensures ok { IfOk result (λ r. AdmitsLearning (book_of self.now) vat promise r.0 (published_of r.1)) }
-        ensures in_range { OnOk result (self.now.next ≤ 4294967295) }
+        ensures in_range { OnOk result (self.now.next ≤ LAST_NAME) }
         ensures err { IfErr result (λ fault. Tells fault (learning_refusal (book_of self.now) vat promise)) }
     {
         let published = self.learnable(vat, promise)?;
@@ -675,7 +672,7 @@ impl Book {
         budget: u32,
     ) -> Result<(Message, Lead, VatNo, EventName), BookFault>
         ensures ok { IfOk result (λ r. Admitted (book_of self.now) message budget r.0 r.1 r.2 r.3) }
-        ensures in_range { OnOk result (self.now.next ≤ 4294967295) }
+        ensures in_range { OnOk result (self.now.next ≤ LAST_NAME) }
         ensures err { IfErr result (λ fault. Tells fault (checkout_refusal (book_of self.now) message budget)) }
     {
         check_budget(budget)?;

@@ -2,7 +2,7 @@
 ghost use Rattle.std.specs.Prelude.{◌≡◌, Some};
 ghost use Rattle.std.specs.Fmt.{DisplaysOnOk, option_append};
 ghost use Rattle.book.specs.declared.fault.BookFault.TheVariants.{Memory};
-ghost use Rattle.book.specs.Fault.{fault_text, pair_text};
+ghost use Rattle.book.specs.Fault.{fault_text, pair_text, work_text};
 
 use ids::names::{EventName, MsgId};
 use ids::text::Text;
@@ -52,7 +52,7 @@ pub enum BookFault {
     CauseMissing(EventName, EventName),
     /// One of these neighbours wrote a cell that the other touched.
     Dependent(EventName, EventName),
-    /// A budget is 1 to 1,000,000.
+    /// A budget is 1 to `MOST_STEPS`.
     BadBudget,
     /// The program does not pass the check.
     Check(CheckFault),
@@ -132,5 +132,31 @@ impl<T: Drop> From<AllocFailed<T>> for BookFault {
 
     fn from(_error: AllocFailed<T>) -> Self {
         BookFault::Memory
+    }
+}
+
+/// Why workers did nothing.
+#[derive(Drop, Error)]
+pub enum WorkFault {
+    /// No worker could be started.
+    NoWorker,
+    /// As a call of the book is refused: turns may not have this budget, or memory ran out.
+    Book(BookFault),
+}
+
+impl Display for WorkFault {
+    ghost output = { λ fault. Some (work_text fault) };
+
+    fn fmt<W: Write>(&self, f: &mut Formatter<W>) -> fmt::Result {
+        match self {
+            WorkFault::NoWorker => f.write_str("S7 NoWorker"),
+            WorkFault::Book(fault) => Display::fmt(fault, f),
+        }
+    }
+}
+
+impl Debug for WorkFault {
+    fn fmt<W: Write>(&self, f: &mut Formatter<W>) -> fmt::Result {
+        Display::fmt(self, f)
     }
 }

@@ -1,13 +1,10 @@
 // Events that are entered from no seat.
-ghost use Rattle.std.specs.Prelude.{◌≡◌, List, None, Some, IfOk, IfErr, OnErr};
+ghost use Rattle.std.specs.Prelude.{◌≡◌, IfOk, IfErr, OnErr};
 ghost use Rattle.ids.specs.declared.names.VatNo.{VatNo};
 ghost use Rattle.kernele.specs.View.{program_of};
 ghost use Rattle.worldcells.specs.Events.{birth, ask, arrive, forward, learn};
-ghost use Rattle.worldcells.specs.World.{vat_named};
-ghost use Rattle.post.specs.Messages.{Vat as VatModel};
-ghost use Rattle.event.specs.Events.{Foot, birth_foot, ask_foot};
 ghost use Rattle.book.specs.Refusals.{birth_refusal, ask_refusal, arrival_refusal, forward_refusal, learn_refusal, learning_refusal};
-ghost use Rattle.book.specs.Calls.{EntersNext};
+ghost use Rattle.book.specs.Calls.{Arrives, Asks, Births, Forwards, Learns, LearnsAt};
 ghost use Rattle.book.specs.Fault.{Tells};
 
 use crate::book::{Book, NO_SEAT};
@@ -29,8 +26,7 @@ impl Book {
         earlier: Vec<Text>,
         script: Program,
     ) -> Result<EventName, BookFault>
-        ensures ok { IfOk result (λ e. (birth_refusal (book_of self.old) name.now earlier.items (program_of script) ≡ None)
-            × ((vats : List VatModel) × EntersNext (record { name = e; act = birth name.now earlier.items (program_of script) }) (birth_foot e name.now earlier.items vats (program_of script)) 0 (book_of self.old) (book_of self.new))) }
+        ensures ok { IfOk result (λ e. Births name.now earlier.items (program_of script) 0 e (book_of self.old) (book_of self.new)) }
         ensures err { IfErr result (λ fault. Tells fault (birth_refusal (book_of self.old) name.now earlier.items (program_of script))) }
         ensures unchanged { OnErr result (book_of self.new ≡ book_of self.old) }
     {
@@ -42,7 +38,7 @@ impl Book {
     /// # Errors
     /// As `ask_as`.
     pub fn ask(&mut self, name: &Text, program: Program) -> Result<EventName, BookFault>
-        ensures ok { IfOk result (λ e. (ask_refusal (book_of self.old) name.now (program_of program) ≡ None) × ((v : VatNo) × EntersNext (record { name = e; act = ask name.now (program_of program) }) (ask_foot e name.now v (program_of program)) 0 (book_of self.old) (book_of self.new))) }
+        ensures ok { IfOk result (λ e. Asks name.now (program_of program) 0 e (book_of self.old) (book_of self.new)) }
         ensures err { IfErr result (λ fault. Tells fault (ask_refusal (book_of self.old) name.now (program_of program))) }
         ensures unchanged { OnErr result (book_of self.new ≡ book_of self.old) }
     {
@@ -54,7 +50,7 @@ impl Book {
     /// # Errors
     /// As `arrive_as`.
     pub fn arrive(&mut self, name: MsgId) -> Result<EventName, BookFault>
-        ensures ok { IfOk result (λ e. (arrival_refusal (book_of self.old) name ≡ None) × ((f : Foot) × EntersNext (record { name = e; act = arrive name }) f 0 (book_of self.old) (book_of self.new))) }
+        ensures ok { IfOk result (λ e. Arrives name 0 e (book_of self.old) (book_of self.new)) }
         ensures err { IfErr result (λ fault. Tells fault (arrival_refusal (book_of self.old) name)) }
         ensures unchanged { OnErr result (book_of self.new ≡ book_of self.old) }
     {
@@ -66,7 +62,7 @@ impl Book {
     /// # Errors
     /// As `forward_as`.
     pub fn forward(&mut self, name: MsgId) -> Result<EventName, BookFault>
-        ensures ok { IfOk result (λ e. (forward_refusal (book_of self.old) name ≡ None) × ((f : Foot) × EntersNext (record { name = e; act = forward name }) f 0 (book_of self.old) (book_of self.new))) }
+        ensures ok { IfOk result (λ e. Forwards name 0 e (book_of self.old) (book_of self.new)) }
         ensures err { IfErr result (λ fault. Tells fault (forward_refusal (book_of self.old) name)) }
         ensures unchanged { OnErr result (book_of self.new ≡ book_of self.old) }
     {
@@ -78,7 +74,7 @@ impl Book {
     /// # Errors
     /// As `learn_as`.
     pub fn learn(&mut self, name: &Text, promise: PromId) -> Result<EventName, BookFault>
-        ensures ok { IfOk result (λ e. (learn_refusal (book_of self.old) name.now promise ≡ None) × ((v : VatModel) × (f : Foot) × (vat_named (book_of self.old).world name.now ≡ Some v) × EntersNext (record { name = e; act = learn v.number promise }) f 0 (book_of self.old) (book_of self.new))) }
+        ensures ok { IfOk result (λ e. Learns name.now promise 0 e (book_of self.old) (book_of self.new)) }
         ensures err { IfErr result (λ fault. Tells fault (learn_refusal (book_of self.old) name.now promise)) }
         ensures unchanged { OnErr result (book_of self.new ≡ book_of self.old) }
     {
@@ -90,7 +86,7 @@ impl Book {
     /// # Errors
     /// As `learn_at_as`.
     pub fn learn_at(&mut self, vat: VatNo, promise: PromId) -> Result<EventName, BookFault>
-        ensures ok { IfOk result (λ e. (learning_refusal (book_of self.old) vat promise ≡ None) × ((f : Foot) × EntersNext (record { name = e; act = learn vat promise }) f 0 (book_of self.old) (book_of self.new))) }
+        ensures ok { IfOk result (λ e. LearnsAt vat promise 0 e (book_of self.old) (book_of self.new)) }
         ensures err { IfErr result (λ fault. Tells fault (learning_refusal (book_of self.old) vat promise)) }
         ensures unchanged { OnErr result (book_of self.new ≡ book_of self.old) }
     {

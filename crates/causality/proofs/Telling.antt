@@ -15,7 +15,8 @@ use Rattle.worldcells.specs.World.{empty}
 use Rattle.event.specs.Events.{DoesNoted, noted_events}
 use Rattle.event.proofs.Law.{noted_laws}
 use Rattle.journal.specs.Items.{Item}
-use Rattle.journal.specs.Lines.{plain, Line, lines_of, entries_in, PlainJournal}
+use Rattle.journal.proofs.Lifting.{PlainJournal}
+use Rattle.journal.specs.Lines.{plain, Line, lines_of, entries_in}
 use Rattle.journal.specs.Standing.{ItemsStand}
 use Rattle.journal.proofs.Alike.{SameCauses, SameMeets, SameSet}
 use Rattle.journal.proofs.Lifting.{plain_journal as lines_plain}

@@ -17,7 +17,7 @@ use Rattle.commands.proofs.WordTexts.{words_are_told}
 use Rattle.commands.proofs.WordCuts.{told_word, cut_word, told_command, cut_command, same_skipped}
 use Rattle.commands.proofs.Births.{birth_is, Birth, birth_back, and_true, chosen, mapped, then_is, nothing_is, few_is}
 
-abbrev Reading : Type 0
+abbrev pub Reading : Type 0
 Reading = Result (Option Spelled) LineFault
 
 -- what stands behind the first word of a line
@@ -28,7 +28,7 @@ rest_of line = behind_word (without_blanks line)
 begun_case : (text : List ℕ) (skipped : Bool) → is_skipped text ≡ skipped → skipped ≡ false → cond (is_skipped text) (Ok None) (begun_by (first_word text) (behind_word text)) ≡ begun_by (first_word text) (behind_word text)
 begun_case text skipped e f = ap (λ (t : Bool). let r : Reading = cond t (Ok None) (begun_by (first_word text) (behind_word text)) in r) (e ∙ f)
 
-begun_line : (line word rest : List ℕ) → is_skipped word ≡ false → word ≡ first_word (without_blanks line) → rest ≡ rest_of line → spelled_by line ≡ begun_by word rest
+pub begun_line : (line word rest : List ℕ) → is_skipped word ≡ false → word ≡ first_word (without_blanks line) → rest ≡ rest_of line → spelled_by line ≡ begun_by word rest
 begun_line line word rest plain w r =
     let text : List ℕ = without_blanks line in
     begun_case text _ (sym (same_skipped text (blanks_gone line))) (ap is_skipped (sym w) ∙ plain) ∙ λ i. begun_by (sym w i) (sym r i)
@@ -325,7 +325,7 @@ branch : {X : Type 0} (t : Bool) (o : Option Spelled) (next : Reading) (c : Spel
 branch true o next c h here later = here refl (formed_is o c h)
 branch false o next c h here later = later h
 
-same_word : (w v : List ℕ) → bytes_eq w v ≡ true → w ≡ v
+pub same_word : (w v : List ℕ) → bytes_eq w v ≡ true → w ≡ v
 same_word w v e = search (rules, bytes_eq-Decides)
 
 found : (line : List ℕ) (c : Spelled) → (length (without_blanks line) == 0) ≡ false → begun_by (head_of line) (rest_of line) ≡ Ok (Some c) → Spells line c

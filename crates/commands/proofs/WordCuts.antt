@@ -23,7 +23,7 @@ pub bare_stays : (text : List ℕ) → is_bare text ≡ true → without_blanks 
 bare_stays [] h = refl
 bare_stays (b ∷ bs) h = keep_other b bs (not_true (is_blank b) h)
 
-blanks_dropped : (blanks text : List ℕ) → AreBlanks blanks → without_blanks (blanks ++ text) ≡ without_blanks text
+pub blanks_dropped : (blanks text : List ℕ) → AreBlanks blanks → without_blanks (blanks ++ text) ≡ without_blanks text
 blanks_dropped [] text h = refl
 blanks_dropped (b ∷ bs) text h = skip_blank b (bs ++ text) (All-head IsBlank b bs h) ∙ blanks_dropped bs text (All-tail IsBlank b bs h)
 
@@ -71,7 +71,7 @@ front_first : (b : ℕ) (bs : List ℕ) (t : Bool) → is_blank b ≡ t → AreB
 front_first b bs true h k = subst (λ (n : ℕ). AreBlanks (take n (b ∷ bs))) (sym (one_more (position_or_len (λ c. not (is_blank c)) bs))) (All-cons IsBlank b (take (position_or_len (λ c. not (is_blank c)) bs) bs) h k)
 front_first b bs false h k = All-nil IsBlank
 
-are_front : (text : List ℕ) → AreBlanks (take (position_or_len (λ b. not (is_blank b)) text) text)
+pub are_front : (text : List ℕ) → AreBlanks (take (position_or_len (λ b. not (is_blank b)) text) text)
 are_front [] = All-nil IsBlank
 are_front (b ∷ bs) = front_first b bs (is_blank b) refl (are_front bs)
 

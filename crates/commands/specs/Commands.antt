@@ -13,6 +13,7 @@ use Rattle.commands.specs.declared.command.Command.{Command}
 use Rattle.commands.specs.declared.command.Command.TheVariants as code
 use Rattle.commands.specs.declared.command.LineFault.{LineFault}
 use Rattle.commands.specs.declared.command.LineFault.TheVariants.{UnknownCommand, BadWord, LineTooLong, Truncated}
+use Rattle.commands.specs.declared.command.TheConstants.{MOST_LINES, LONGEST_NAME, MOST_STEPS, MOST_WORKERS, MOST_TURNS}
 
 pub data Spelled : Type 0 where
   birth : (x : List ℕ) → (earlier : List (List ℕ)) → (lines : ℕ) → Spelled
@@ -34,9 +35,9 @@ pub data Spelled : Type 0 where
   redo : (events : List EventName) → Spelled
   exchange : (position : ℕ) → Spelled
 
--- a name of the language of at most 64 bytes
+-- a name of the language that is no longer than a vat's name may be
 abbrev pub is_vat_name : List ℕ → Bool
-is_vat_name w = is_name w && nat_le (length w) 64
+is_vat_name w = is_name w && nat_le (length w) LONGEST_NAME
 
 abbrev pub at_most : ℕ → ℕ → Option ℕ
 at_most limit n = cond (nat_le n limit) (Some n) None
@@ -66,7 +67,7 @@ earlier_of inside =
 abbrev pub lines_of : List ℕ → Option ℕ
 lines_of behind =
     let count = behind_word behind in
-    cond (is_empty (first_word behind) && is_empty (behind_word count)) (option_and_then (at_most 4096) (number_of (first_word count))) None
+    cond (is_empty (first_word behind) && is_empty (behind_word count)) (option_and_then (at_most MOST_LINES) (number_of (first_word count))) None
 
 abbrev pub birth_with : List ℕ → Option (List (List ℕ)) → Option ℕ → Option Spelled
 birth_with x None lines = None
@@ -101,7 +102,7 @@ learn_of words =
 
 -- run K
 abbrev pub run_of : List ℕ → Option Spelled
-run_of words = cond (is_empty (behind_word words)) (option_map run (option_and_then (at_most 1000000) (number_of (first_word words)))) None
+run_of words = cond (is_empty (behind_word words)) (option_map run (option_and_then (at_most MOST_STEPS) (number_of (first_word words)))) None
 
 abbrev pub work_with : Option ℕ → Option ℕ → Option Spelled
 work_with None turns = None
@@ -112,7 +113,7 @@ work_with (Some workers) (Some turns) = Some (work workers turns)
 abbrev pub work_of : List ℕ → Option Spelled
 work_of words =
     let turns = behind_word words in
-    cond (is_empty (behind_word turns)) (work_with (option_and_then (from_one_to 64) (number_of (first_word words))) (option_and_then (at_most 1000000) (number_of (first_word turns)))) None
+    cond (is_empty (behind_word turns)) (work_with (option_and_then (from_one_to MOST_WORKERS) (number_of (first_word words))) (option_and_then (at_most MOST_TURNS) (number_of (first_word turns)))) None
 
 -- a command without words
 abbrev pub alone : Spelled → List ℕ → Option Spelled

@@ -1,6 +1,7 @@
 -- How an input is cut into lines.
 use Rattle.std.specs.Prelude.{ℕ, ◌+◌, ◌-◌, List, [], length, take, drop, Bool, cond, ◌==◌, nat_lt, slice_index, Option, Some, None}
 use Rattle.std.specs.List.{position}
+use Rattle.commands.specs.declared.command.TheConstants.{LONGEST_LINE}
 
 abbrev pub is_line_feed : ℕ → Bool
 is_line_feed b = b == 10
@@ -31,9 +32,9 @@ abbrev pub behind_line : List ℕ → List ℕ
 behind_line input = rest_from (line_end input) input
 
 abbrev pub long_to : Option ℕ → List ℕ → Bool
-long_to (Some at) input = nat_lt 65536 at
-long_to None input = nat_lt 65536 (length input)
+long_to (Some at) input = nat_lt LONGEST_LINE at
+long_to None input = nat_lt LONGEST_LINE (length input)
 
--- more than 65,536 bytes stand before the line's end
+-- more bytes than a line may have stand before the line's end
 abbrev pub is_long : List ℕ → Bool
 is_long input = long_to (line_end input) input

@@ -1,12 +1,17 @@
 -- Commands as texts: which command a line spells, a rule for each.
-use Rattle.std.specs.Prelude.{◌≡◌, ◌≢◌, ◌↔◌, ℕ, ◌<◌, ◌≤◌, List, [], ◌∷◌, ◌++◌, length, true, false, Some, Ok, All, codes}
+use Rattle.std.specs.Prelude.{◌≡◌, ◌≢◌, ◌↔◌, ℕ, ◌<◌, ◌≤◌, List, [], ◌∷◌, ◌++◌, length, Bool, true, false, Some, None, Ok, Err, All, codes}
+use Rattle.std.specs.List.{list_any}
+use Rattle.std.specs.Str.{bytes_eq}
 use Rattle.ids.specs.declared.names.EventName.{EventName}
 use Rattle.ids.specs.declared.names.MsgId.{MsgId}
 use Rattle.commands.specs.Words.{is_blank, is_bare, ends_blank}
 use Rattle.commands.specs.Inputs.{IsWord, HasWords}
 use Rattle.commands.specs.Numbers.{number_of, message_named, promise_named, event_named, events_named}
 use Rattle.commands.specs.declared.numbers.PromiseName.{PromiseName}
-use Rattle.commands.specs.Commands.{Spelled, birth, ask, arrive, forward, learn, turn, step, run, work, enabled, show, journal, log, cone, undo, undo_cone, redo, exchange, is_vat_name, are_vats, spelled_by}
+use Rattle.commands.specs.Commands.{Spelled, birth, ask, arrive, forward, learn, turn, step, run, work, enabled, show, journal, log, cone, undo, undo_cone, redo, exchange, is_vat_name, are_vats, is_skipped, spelled_by}
+use Rattle.commands.specs.declared.command.LineFault.{LineFault}
+use Rattle.commands.specs.declared.command.LineFault.TheVariants.{UnknownCommand, BadWord}
+use Rattle.commands.specs.declared.command.TheConstants.{MOST_LINES, MOST_STEPS, MOST_WORKERS, MOST_TURNS}
 
 -- blanks alone
 abbrev pub AreBlanks : List ℕ → Type 0
@@ -28,7 +33,7 @@ pub data Spells : List ℕ → Spelled → Type 0 where
   spells_birth : {line x more behind count : List ℕ} {earlier : List (List ℕ)} {n : ℕ} (inside : List ℕ) (b : ℕ)
       → BeginsCommand line (codes "vat") more → BeginsWithWord more x (40 ∷ inside ++ 41 ∷ b ∷ behind) → is_vat_name x ≡ true
       → All (λ c. c ≢ 41) inside → is_bare inside ≡ true → ends_blank inside ≡ false → HasWords inside earlier → are_vats earlier ≡ true
-      → is_blank b ≡ true → HasWords behind (count ∷ []) → number_of count ≡ Some n → n ≤ 4096 → Spells line (birth x earlier n)
+      → is_blank b ≡ true → HasWords behind (count ∷ []) → number_of count ≡ Some n → n ≤ MOST_LINES → Spells line (birth x earlier n)
   -- ask NAME TEXT: the text is all that stands behind the blanks after the name
   spells_ask : {line x more text : List ℕ} → BeginsCommand line (codes "ask") more → BeginsWithWord more x text → is_vat_name x ≡ true → Spells line (ask x text)
   -- arrive M, forward M, turn M
@@ -41,10 +46,10 @@ pub data Spells : List ℕ → Spelled → Type 0 where
   -- log NAME
   spells_log : {line x : List ℕ} → HasWords line (codes "log" ∷ x ∷ []) → is_vat_name x ≡ true → Spells line (log x)
   -- run K
-  spells_run : {line w : List ℕ} {n : ℕ} → HasWords line (codes "run" ∷ w ∷ []) → number_of w ≡ Some n → n ≤ 1000000 → Spells line (run n)
+  spells_run : {line w : List ℕ} {n : ℕ} → HasWords line (codes "run" ∷ w ∷ []) → number_of w ≡ Some n → n ≤ MOST_STEPS → Spells line (run n)
   -- work K N
-  spells_work : {line u v : List ℕ} {k n : ℕ} → HasWords line (codes "work" ∷ u ∷ v ∷ []) → number_of u ≡ Some k → 1 ≤ k → k ≤ 64
-      → number_of v ≡ Some n → n ≤ 1000000 → Spells line (work k n)
+  spells_work : {line u v : List ℕ} {k n : ℕ} → HasWords line (codes "work" ∷ u ∷ v ∷ []) → number_of u ≡ Some k → 1 ≤ k → k ≤ MOST_WORKERS
+      → number_of v ≡ Some n → n ≤ MOST_TURNS → Spells line (work k n)
   -- those that stand alone
   spells_step : {line : List ℕ} → HasWords line (codes "step" ∷ []) → Spells line step
   spells_enabled : {line : List ℕ} → HasWords line (codes "enabled" ∷ []) → Spells line enabled
@@ -64,3 +69,30 @@ pub data Spells : List ℕ → Spelled → Type 0 where
 -- a line is read as the command that it spells, and as no other
 abbrev pub LinesSpellCommands : Type 0
 LinesSpellCommands = (line : List ℕ) (command : Spelled) → Spells line command ↔ (spelled_by line ≡ Ok (Some command))
+
+-- a line has no command: there are blanks alone, or a comment behind them
+pub data HasNoCommand : List ℕ → Type 0 where
+  blank_line : {line : List ℕ} → AreBlanks line → HasNoCommand line
+  comment_line : (blanks rest : List ℕ) → AreBlanks blanks → HasNoCommand (blanks ++ 35 ∷ rest)
+
+-- such a line, and no other, is skipped
+abbrev pub LinesAreSkipped : Type 0
+LinesAreSkipped = (line : List ℕ) → HasNoCommand line ↔ (spelled_by line ≡ Ok None)
+
+-- the words that begin commands
+abbrev pub command_words : List (List ℕ)
+command_words =
+    codes "vat" ∷ codes "ask" ∷ codes "arrive" ∷ codes "forward" ∷ codes "learn" ∷ codes "turn" ∷ codes "step" ∷ codes "run" ∷ codes "work"
+    ∷ codes "enabled" ∷ codes "show" ∷ codes "journal" ∷ codes "log" ∷ codes "cone" ∷ codes "undo" ∷ codes "undo-cone" ∷ codes "redo" ∷ codes "exchange" ∷ []
+
+abbrev pub is_command_word : List ℕ → Bool
+is_command_word word = list_any (λ v. bytes_eq word v) command_words
+
+-- why a line is refused: its first word begins no command and no comment; or it begins a command, and the line spells none
+pub data IsRefused (line : List ℕ) : LineFault → Type 0 where
+  unknown_word : {word rest : List ℕ} → BeginsCommand line word rest → is_skipped word ≡ false → is_command_word word ≡ false → IsRefused line UnknownCommand
+  bad_words : {word rest : List ℕ} → BeginsCommand line word rest → is_command_word word ≡ true → ((command : Spelled) → ¬ Spells line command) → IsRefused line BadWord
+
+-- a line is refused for this, and for nothing else
+abbrev pub LinesAreRefused : Type 0
+LinesAreRefused = (line : List ℕ) (fault : LineFault) → IsRefused line fault ↔ (spelled_by line ≡ Err fault)

@@ -17,6 +17,9 @@ use std::fmt;
 use std::fmt::{Debug, Display, Formatter, Write};
 use thiserror::Error;
 
+/// The most bytes that may stand before a line feed.
+pub const LONGEST_LINE: usize = 65_536;
+
 /// The most script lines that a vat may have.
 const MOST_LINES: u32 = 4_096;
 
@@ -26,9 +29,10 @@ const LONGEST_NAME: usize = 64;
 /// The most steps that may be commanded at once.
 const MOST_STEPS: u32 = 1_000_000;
 
-/// The most workers that may be commanded at once, and the most turns of theirs.
+/// The most workers that may be commanded at once.
 const MOST_WORKERS: u32 = 64;
 
+/// The most turns that may be commanded of workers.
 const MOST_TURNS: u32 = 1_000_000;
 
 /// A command.
@@ -114,12 +118,12 @@ fn is_vat_name(word: &str) -> bool
     is_name(word) && word.len() <= LONGEST_NAME
 }
 
-/// A number of script lines.
-fn line_count(word: &str) -> Option<u32>
-    ensures { result ≡ option_and_then (at_most 4096) (number_of word.now) }
+/// A number that is no greater than this.
+fn number_up_to(word: &str, most: u32) -> Option<u32>
+    ensures { result ≡ option_and_then (at_most most) (number_of word.now) }
 {
-    let count = number(word)?;
-    (count <= MOST_LINES).then_some(count)
+    let number = number(word)?;
+    (number <= most).then_some(number)
 }
 
 /// The number of lines that stands behind blanks, with nothing behind it.
@@ -129,7 +133,7 @@ fn lines_behind(text: &str) -> Option<u32>
     let (against, behind) = cut_word(text);
     let (count, end) = cut_word(behind);
     if against.is_empty() && end.is_empty() {
-        line_count(count)
+        number_up_to(count, MOST_LINES)
     } else {
         None
     }
@@ -257,14 +261,6 @@ fn step(words: &str) -> Option<Command<'_>>
     words.is_empty().then_some(Command::Step)
 }
 
-/// A number of steps.
-fn step_count(word: &str) -> Option<u32>
-    ensures { result ≡ option_and_then (at_most 1000000) (number_of word.now) }
-{
-    let count = number(word)?;
-    (count <= MOST_STEPS).then_some(count)
-}
-
 fn run(words: &str) -> Option<Command<'_>>
     ensures { option_map command_of result ≡ run_of words.now }
 {
@@ -272,23 +268,15 @@ fn run(words: &str) -> Option<Command<'_>>
     if !end.is_empty() {
         return None;
     }
-    Some(Command::Run(step_count(count)?))
+    Some(Command::Run(number_up_to(count, MOST_STEPS)?))
 }
 
 /// A number of workers: one at least.
 fn worker_count(word: &str) -> Option<u32>
-    ensures { result ≡ option_and_then (from_one_to 64) (number_of word.now) }
+    ensures { result ≡ option_and_then (from_one_to MOST_WORKERS) (number_of word.now) }
 {
     let count = number(word)?;
     (count >= 1 && count <= MOST_WORKERS).then_some(count)
-}
-
-/// A number of turns.
-fn turn_count(word: &str) -> Option<u32>
-    ensures { result ≡ option_and_then (at_most 1000000) (number_of word.now) }
-{
-    let count = number(word)?;
-    (count <= MOST_TURNS).then_some(count)
 }
 
 fn work(words: &str) -> Option<Command<'_>>
@@ -300,7 +288,7 @@ fn work(words: &str) -> Option<Command<'_>>
         return None;
     }
     let workers = worker_count(workers)?;
-    let turns = turn_count(turns)?;
+    let turns = number_up_to(turns, MOST_TURNS)?;
     Some(Command::Work { workers, turns })
 }
 

@@ -13,6 +13,7 @@ use Rattle.erules.specs.Outcomes.{ejected, halt}
 use Rattle.deliveries.specs.Spent.{delivery_nodes, delivery_deepest, delivery_place}
 use Rattle.deliveries.specs.Touched.{delivery_touched, delivery_written}
 use Rattle.deliveries.specs.Turn.{Found, Outcome, Delivers, Begins}
+use Rattle.erules.specs.declared.working.TheConstants.{DEEPEST}
 
 -- a delivery has at most one outcome
 abbrev pub AtMostOneDelivery : Type 0
@@ -44,11 +45,11 @@ WithinBudget = (g : Message) (f : Found) (e : EventName) (v : VatNo) (s : State)
 abbrev pub BudgetIsNodes : Type 0
 BudgetIsNodes = (g : Message) (f : Found) (e : EventName) (v : VatNo) (s : State) (n : ℕ) (o : Outcome) (r : Delivers g f e v s n o) → delivery_nodes r + o.left ≡ n
 
--- no node of it runs past level 1,000
+-- no node of it runs past the deepest level
 abbrev pub NoDeliveryRunsTooDeep : Type 0
-NoDeliveryRunsTooDeep = (g : Message) (f : Found) (e : EventName) (v : VatNo) (s : State) (n : ℕ) (o : Outcome) (r : Delivers g f e v s n o) → delivery_deepest r ≤ 1000
+NoDeliveryRunsTooDeep = (g : Message) (f : Found) (e : EventName) (v : VatNo) (s : State) (n : ℕ) (o : Outcome) (r : Delivers g f e v s n o) → delivery_deepest r ≤ DEEPEST
 
--- it makes at most 4,096 slots, as many objects, and as many messages
+-- it makes no more slots, objects and messages than a turn may
 abbrev pub DeliveriesStayInRoom : Type 0
 DeliveriesStayInRoom = (g : Message) (f : Found) (e : EventName) (v : VatNo) (s : State) (n : ℕ) (o : Outcome) (r : Delivers g f e v s n o) → IsWithinRoom (delivery_place r)
 

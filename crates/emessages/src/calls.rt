@@ -1,6 +1,7 @@
 // Calls of data.
 ghost use Rattle.std.specs.Prelude.{◌≡◌, OnOk};
 ghost use Rattle.emessages.specs.Arguments.{data_args, wanted_args};
+ghost use Rattle.emessages.specs.Ending.{EndsBy};
 ghost use Rattle.erules.specs.Answered.{OnEnd};
 ghost use Rattle.erules.specs.Doings.{behind, data_of, given_by};
 ghost use Rattle.erules.specs.Outcomes.{reply_end};
@@ -25,8 +26,7 @@ pub fn call_datum(
     args: &mut [Value],
     into: &mut Value,
 ) -> Result<(), Stop>
-    ensures { OnEnd result into.new w.new (λ o b. (o ≡ reply_end (given_by (data_of (val_of receiver.now) verb.now (vals_of args.old)) (at w.old)))
-        × (b ≡ behind (data_of (val_of receiver.now) verb.now (vals_of args.old)) (at w.old))) }
+    ensures { OnEnd result into.new w.new (EndsBy (data_of (val_of receiver.now) verb.now (vals_of args.old)) reply_end (λ reply b. b) (at w.old)) }
 {
     take_datum(w, receiver, verb, args)?;
     call_data(w, receiver, verb, args, into)

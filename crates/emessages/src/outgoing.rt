@@ -13,19 +13,16 @@ use crate::posting::{first_place, post};
 use crate::stops::refused;
 use erules::end::Stop;
 use erules::outbox::Note;
-use erules::working::Working;
+use erules::working::{MAX_MESSAGES, Working};
 use ids::names::{MsgId, VatNo};
 use post::call::Call;
 use post::delivery::Delivery;
-use post::message::{Message, Sent as Posted};
+use post::message::{Message, Sent};
 use sends::refusing::Making;
-use sends::sending::{Draw, Sent, home_of, send};
+use sends::sending::{Draw, Sending, home_of, send};
 use std::alloc::{AllocError, Global};
 use values::value::Value;
 use values::verb::Verb;
-
-/// How many messages a turn may make.
-const MAX_MESSAGES: usize = 4096;
 
 /// What the turn's next message is drawn from. Where there is no room for one more, its name is of no matter.
 pub(crate) fn draw(w: &Working) -> Draw
@@ -51,7 +48,7 @@ pub(crate) fn draw(w: &Working) -> Draw
 /// The number of a message with so many before it, where a turn may make one more.
 #[inline(always)]
 fn number_of(count: usize) -> u32
-    ensures { count < 4096 → result ≡ count }
+    ensures { count < MAX_MESSAGES → result ≡ count }
 {
     if count < MAX_MESSAGES {
         count as u32
@@ -68,7 +65,7 @@ pub fn send_call(
     args: &[Value],
     into: &mut Value,
 ) -> Result<(), Stop>
-    requires promised { w.old.out.promises + w.old.steps < 4294967295 }
+    requires promised { w.old.out.promises + w.old.steps < u32.MAX }
     ensures { OnEnd result into.new w.new (λ o b. (o ≡ sent_end (val_of receiver.now) (values (vals_of args.now)) (at w.old))
         × (b ≡ sent_at verb.now (val_of receiver.now) (values (vals_of args.now)) (at w.old))) }
 {
@@ -85,12 +82,12 @@ fn post_call(
     w: &mut Working,
     draw: Draw,
     verb: &Verb,
-    sent: Sent,
+    sent: Sending,
     into: &mut Value,
 ) -> Result<(), AllocError>
     requires here { draw.here ≡ (at w.old).vat }
     requires message { draw.message ≡ next_message (at w.old) }
-    requires promised { w.old.out.promises + w.old.steps < 4294967295 }
+    requires promised { w.old.out.promises + w.old.steps < u32.MAX }
     ensures end { OnOk result (value_end (val_of into.new) ≡ send_end (makes (sent_of sent))) }
     ensures place { OnOk result (at w.new ≡ send_out verb.now (makes (sent_of sent)) (at w.old)) }
 {
@@ -102,12 +99,12 @@ fn post_call(
 }
 
 /// The message of a call that was sent.
-fn message_to(alloc: Global, here: VatNo, verb: &Verb, sent: Sent) -> Result<Message, AllocError>
+fn message_to(alloc: Global, here: VatNo, verb: &Verb, sent: Sending) -> Result<Message, AllocError>
     ensures { IfOk result (λ g. message_of g ≡ call_message here verb.now (sent_of sent)) }
 {
     let to = home_of(here, &sent.target);
     let place = first_place(here, to);
-    let Sent {
+    let Sending {
         target,
         arguments,
         fences,
@@ -115,7 +112,7 @@ fn message_to(alloc: Global, here: VatNo, verb: &Verb, sent: Sent) -> Result<Mes
         result,
     } = sent;
     let call = Call::new(alloc, target, verb.share()?, arguments, fences)?;
-    let posted = Posted {
+    let posted = Sent {
         delivery: Delivery::Sent(call),
         result,
         after,

@@ -29,7 +29,7 @@ pub(crate) fn post(
     message: Message,
     note: Note,
 ) -> Result<(), AllocError>
-    requires promised { w.old.out.promises + w.old.steps < 4294967295 }
+    requires promised { w.old.out.promises + w.old.steps < u32.MAX }
     ensures { OnOk result (at w.new ≡ record (at w.old) { out = noted (note_of note ∷ []) (posted name (message_of message) (at w.old).out) }) }
 {
     w.out.letters.push(Letter { name, message })?;

@@ -1,7 +1,8 @@
 // Promises that programs make, and the uses of their resolvers.
 ghost use Rattle.std.specs.Prelude.{◌≡◌, ◌+◌, ◌<◌, IfOk, OnOk};
+ghost use Rattle.emessages.specs.Ending.{EndsBy};
 ghost use Rattle.erules.specs.Answered.{OnEnd};
-ghost use Rattle.erules.specs.Doings.{behind, given_by, pair_end, pair_out, promise_pair, published_out, resolver_end, resolver_out};
+ghost use Rattle.erules.specs.Doings.{pair_end, pair_out, promise_pair, published_out, resolver_end, resolver_out};
 ghost use Rattle.erules.specs.View.{at};
 ghost use Rattle.sends.specs.Making.{resolving, smashing};
 ghost use Rattle.sends.specs.View.{making_of, published_of};
@@ -12,24 +13,20 @@ use crate::outgoing::draw;
 use crate::stops::refused;
 use erules::end::Stop;
 use erules::outbox::Note;
-use erules::working::Working;
+use erules::working::{MAX_OBJECTS, Working};
 use ids::names::{ObjId, PromId};
 use post::published::Published;
-use sends::publishing::{Published as Resolved, resolve, smash};
+use sends::publishing::{Resolved, resolve, smash};
 use sends::refusing::Making;
 use sends::sending::promise;
 use std::alloc::{AllocError, Global};
 use values::lists::list_within;
 use values::value::Value;
 
-/// How many objects a turn may make.
-const MAX_OBJECTS: usize = 4096;
-
 /// Makes a promise and its resolver, and gives a list of both.
 pub fn make_promise(w: &mut Working, into: &mut Value) -> Result<(), Stop>
-    requires promised { w.old.out.promises + w.old.steps < 4294967295 }
-    ensures { OnEnd result into.new w.new (λ o b. (o ≡ pair_end (given_by (promise_pair (at w.old)) (at w.old)) (at w.old))
-        × (b ≡ pair_out (given_by (promise_pair (at w.old)) (at w.old)) (behind (promise_pair (at w.old)) (at w.old)))) }
+    requires promised { w.old.out.promises + w.old.steps < u32.MAX }
+    ensures { OnEnd result into.new w.new (EndsBy (promise_pair (at w.old)) (λ m. pair_end m (at w.old)) pair_out (at w.old)) }
 {
     let draw = draw(w);
     let made = PromId {
@@ -56,8 +53,7 @@ pub fn use_resolve(
     value: &Value,
     into: &mut Value,
 ) -> Result<(), Stop>
-    ensures { OnEnd result into.new w.new (λ o b. (o ≡ resolver_end (given_by (resolving promise (val_of value.now)) (at w.old)))
-        × (b ≡ resolver_out promise (given_by (resolving promise (val_of value.now)) (at w.old)) (behind (resolving promise (val_of value.now)) (at w.old)))) }
+    ensures { OnEnd result into.new w.new (EndsBy (resolving promise (val_of value.now)) resolver_end (resolver_out promise) (at w.old)) }
 {
     let making = resolve(w.alloc, &mut w.draft, promise, value)?;
     finish_use(w, promise, making, into)
@@ -70,8 +66,7 @@ pub fn use_smash(
     problem: &Value,
     into: &mut Value,
 ) -> Result<(), Stop>
-    ensures { OnEnd result into.new w.new (λ o b. (o ≡ resolver_end (given_by (smashing promise (val_of problem.now)) (at w.old)))
-        × (b ≡ resolver_out promise (given_by (smashing promise (val_of problem.now)) (at w.old)) (behind (smashing promise (val_of problem.now)) (at w.old)))) }
+    ensures { OnEnd result into.new w.new (EndsBy (smashing promise (val_of problem.now)) resolver_end (resolver_out promise) (at w.old)) }
 {
     let making = smash(w.alloc, &mut w.draft, promise, problem)?;
     finish_use(w, promise, making, into)

@@ -2,8 +2,9 @@
 ghost use Rattle.std.specs.Prelude.{◌≡◌, ◌+◌, ◌<◌, false, IfOk, option_map};
 ghost use Rattle.code.specs.Frames.{fits_all};
 ghost use Rattle.code.specs.View.{trees_of_codes};
+ghost use Rattle.emessages.specs.Ending.{EndsBy};
 ghost use Rattle.erules.specs.Answered.{OnEnd};
-ghost use Rattle.erules.specs.Doings.{given_by, behind, wait_of, wait_end, wait_out, when_message as when_message_of};
+ghost use Rattle.erules.specs.Doings.{wait_of, wait_end, wait_out, when_message as when_message_of};
 ghost use Rattle.erules.specs.View.{at};
 ghost use Rattle.heap.specs.Names.{names_of};
 ghost use Rattle.heap.specs.View.{nouns_of};
@@ -42,10 +43,10 @@ pub fn make_when(
 ) -> Result<(), Stop>
     requires fits { fits_all false (names_of captured.items) block.now.value.items }
     requires handled { handler_fits (names_of captured.items) handler }
-    requires promised { w.old.out.promises + w.old.steps < 4294967295 }
-    ensures { OnEnd result into.new w.new (λ o b. (o ≡ wait_end (given_by (wait_of (val_of value) (at w.old)) (at w.old)) (at w.old))
-        × (b ≡ wait_out (record { value = val_of value; captured = nouns_of captured.items; block = trees_of_codes block.now.value.items; handler = option_map handler_of handler })
-        (given_by (wait_of (val_of value) (at w.old)) (at w.old)) (behind (wait_of (val_of value) (at w.old)) (at w.old)))) }
+    requires promised { w.old.out.promises + w.old.steps < u32.MAX }
+    ensures { OnEnd result into.new w.new (EndsBy (wait_of (val_of value) (at w.old)) (λ m. wait_end m (at w.old))
+        (wait_out (record { value = val_of value; captured = nouns_of captured.items; block = trees_of_codes block.now.value.items; handler = option_map handler_of handler }))
+        (at w.old)) }
 {
     let draw = draw(w);
     let promise = PromId {

@@ -10,6 +10,7 @@ use Rattle.heap.specs.State.{Bind, slot}
 use Rattle.erules.specs.At.{At}
 use Rattle.erules.specs.Outcomes.{End, value, halt}
 use Rattle.erules.specs.Rules.{sought, seeking, noun_end, noun_read, same_ejector, is_open, ejects, Ends, Items, Runs}
+use Rattle.erules.specs.declared.working.TheConstants.{DEEPEST}
 
 -- a name stands for this, and to seek it touches no cell that was not touched before
 abbrev pub StandsAtHand : Name → Bind → At → Type 0
@@ -29,7 +30,7 @@ Operands a receiver args x y = Leaf a receiver (int x) × (arg : Tree) × (args 
 
 -- a tree gives this value above the deepest level where so many steps are left; it takes these, and changes nothing else
 abbrev pub AtHand : At → Tree → ℕ → Val → Type 0
-AtHand a t steps v = (k n : ℕ) → k < 1000 → steps ≤ n → Ends k t (record a { left = n }) (value v) (record a { left = n - steps })
+AtHand a t steps v = (k n : ℕ) → k < DEEPEST → steps ≤ n → Ends k t (record a { left = n }) (value v) (record a { left = n - steps })
 
 -- the first n items of a block gave values: what those behind them do, after the last of these values, is what all do
 abbrev pub GoesOn : ℕ → List Code → ℕ → At → At → Type 0

@@ -1,10 +1,11 @@
 // Calls: what they lead to, and how a method is entered and left.
 ghost use Rattle.std.specs.Prelude.{◌≡◌, ◌≤◌, [], codes, length};
 ghost use Rattle.values.specs.View.{val_of, vals_of};
+ghost use Rattle.eobjects.specs.Making.{CallsEnd};
 ghost use Rattle.erules.specs.Answered.{OnStop};
 ghost use Rattle.erules.specs.Doings.{same_vat};
 ghost use Rattle.erules.specs.Outcomes.{halt, thrown, values};
-ghost use Rattle.erules.specs.Rules.{called, callee_of, callee_target, callee_read, if_own, inside, target_of};
+ghost use Rattle.erules.specs.Rules.{called, callee_of, if_own, inside, target_of};
 ghost use Rattle.heap.specs.View.{nouns_of};
 ghost use Rattle.erules.specs.Locals.{captured_in, locals_after, names_in};
 ghost use Rattle.erules.specs.View.{at};
@@ -74,9 +75,7 @@ fn call_end(
     args: &mut [Value],
     into: &mut Value,
 ) -> Result<Option<Entry>, Stop>
-    ensures { OnTarget result into.new w.new (λ t b. (t
-        ≡ callee_target (callee_of (at w.old).vat (val_of receiver.now)) (val_of receiver.now) verb.now (vals_of args.old) (at w.old))
-        × (b ≡ callee_read (callee_of (at w.old).vat (val_of receiver.now)) (val_of receiver.now) verb.now (vals_of args.old) (at w.old))) }
+    ensures { OnTarget result into.new w.new (CallsEnd (val_of receiver.now) verb.now (vals_of args.old) (at w.old)) }
 {
     match called_on(here(w), receiver) {
         Callee::Object(id) => object_target(w, id, verb, args, into),

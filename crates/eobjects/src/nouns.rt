@@ -5,11 +5,12 @@ ghost use Rattle.values.specs.Replies.{items_in};
 ghost use Rattle.values.specs.View.{val_of, vals_of};
 ghost use Rattle.kernele.specs.Tree.{Name};
 ghost use Rattle.code.specs.Frames.{newest, place_in};
+ghost use Rattle.eobjects.specs.Making.{TakesParts};
 ghost use Rattle.erules.specs.Fits.{frame_at};
 ghost use Rattle.heap.specs.State.{lookup, read, slot_cell};
 ghost use Rattle.erules.specs.Answered.{OnEnd, OnStop};
 ghost use Rattle.erules.specs.Outcomes.{thrown, value as value_end, halt as halt_end};
-ghost use Rattle.erules.specs.Rules.{binding as binding_of, matched, matched_all, taken, parts_of, parts_bound, parts_end, reached, seeking, noun_read, sought, sought_slot, held_end, undefined_noun};
+ghost use Rattle.erules.specs.Rules.{binding as binding_of, matched, matched_all, taken, reached, seeking, noun_read, sought, sought_slot, held_end, undefined_noun};
 ghost use Rattle.erules.specs.Rules.{declared, declared_end, assigned, assigned_end};
 ghost use Rattle.erules.specs.Rules.{noun_end as noun_end_of};
 ghost use Rattle.heap.specs.View.{bind_of};
@@ -21,7 +22,7 @@ use erules::end::{Abandon, Stop};
 use erules::halting::{abandon, throw_made};
 use erules::local::Local;
 use erules::wanted::mismatch;
-use erules::working::Working;
+use erules::working::{MAX_SLOTS, Working};
 use heap::state::Binding;
 use ids::names::SlotId;
 use ids::text::Text;
@@ -29,9 +30,6 @@ use kernele::tree::Pattern;
 use std::alloc::{AllocError, Global};
 use std::snapshot::Snapshot;
 use values::value::Value;
-
-/// How many slots a turn may make.
-const MAX_SLOTS: usize = 4096;
 
 /// Reads the value of a noun: a slot gives what it holds.
 #[inline(always)]
@@ -153,9 +151,7 @@ pub fn match_pattern(w: &mut Working, pattern: &Pattern, value: &Value) -> Resul
 
 /// Binds what a list of patterns names, where the value is a list of as many items.
 pub fn bind_parts(w: &mut Working, patterns: &[Pattern], value: &Value) -> Result<(), Stop>
-    ensures { OnEnd result value.now w.new (λ o b. (o
-        ≡ parts_end (value_end (val_of value.now)) (parts_of patterns.now (value_end (val_of value.now))))
-        × (b ≡ parts_bound patterns.now (parts_of patterns.now (value_end (val_of value.now))) (at w.old))) }
+    ensures { OnEnd result value.now w.new (TakesParts patterns.now (val_of value.now) (value_end (val_of value.now)) (at w.old)) }
 {
     match parts(patterns, value) {
         Some(values) => Ok(match_all(w, patterns, values)?),

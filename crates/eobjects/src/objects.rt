@@ -4,25 +4,23 @@ ghost use Rattle.std.specs.Option.{option_copied};
 ghost use Rattle.code.specs.Frames.{only_names, captured_names_of, all_placed, fits_methods};
 ghost use Rattle.code.specs.Index.{Indexes, index_in, index_fits};
 ghost use Rattle.heap.specs.Names.{names_of};
-ghost use Rattle.erules.specs.Fits.{frame_at, FindsMethod};
-ghost use Rattle.scopes.specs.Free.{captures as captures_of};
+ghost use Rattle.erules.specs.Fits.{frame_at, FindsMethod, ObjectFits};
 ghost use Rattle.scopes.specs.Scope.{name_of};
 ghost use Rattle.kernele.specs.Tree.{Name};
 ghost use Rattle.code.specs.View.{methods_of_codes};
 ghost use Rattle.values.specs.Data.{object as object_value};
 ghost use Rattle.values.specs.View.{val_of, vals_of};
 ghost use Rattle.heap.specs.State.{Nouns, object_cell, read};
-ghost use Rattle.erules.specs.Outcomes.{halt as halt_end};
 ghost use Rattle.erules.specs.Answered.{OnAnswer, OnEnd};
-ghost use Rattle.erules.specs.Rules.{reached, captured, missing, all_captured, all_sought, capture_of, capturing, placed, placed_end};
-ghost use Rattle.erules.specs.Doings.{has_object_room};
-ghost use Rattle.erules.specs.Rules.{with_object, object_end, named, named_all, method_in, gives, undefined_noun, no_such_method as no_such_method_end};
-ghost use Rattle.erules.specs.Rules.{method_target as method_target_of, object_target as object_target_of};
+ghost use Rattle.erules.specs.Rules.{reached, captured};
+ghost use Rattle.erules.specs.Rules.{named, named_all};
+ghost use Rattle.erules.specs.Rules.{object_target as object_target_of};
 ghost use Rattle.heap.specs.View.{bind_of, nouns_of, plain_of};
 ghost use Rattle.heap.specs.Drafts.{draft_of};
 ghost use Rattle.erules.specs.Locals.{captured_in, locals_after};
 ghost use Rattle.erules.specs.View.{at};
-ghost use Rattle.eobjects.specs.View.{entered_or, met_as, IsNoMethod, OnTarget};
+ghost use Rattle.eobjects.specs.Making.{CapturesAll, DefinesObject, EntersMethod, MissesOne, PlacesObject};
+ghost use Rattle.eobjects.specs.View.{met_as, IsNoMethod, OnTarget};
 
 use crate::calls::empty_frame;
 use crate::nouns::{match_pattern, reach_name, seek, undefined};
@@ -34,7 +32,7 @@ use erules::entry::Entry;
 use erules::halting::abandon;
 use erules::local::Local;
 use erules::results::no_such_method;
-use erules::working::Working;
+use erules::working::{MAX_OBJECTS, Working};
 use heap::made::{Made, Plain};
 use heap::state::{Binding, Noun};
 use ids::names::{ObjId, PromId};
@@ -47,9 +45,6 @@ use std::sync::Arc;
 use values::value::Value;
 use values::verb::Verb;
 
-/// How many objects a turn may make.
-const MAX_OBJECTS: usize = 4096;
-
 /// Makes an object once its names are captured, and binds its pattern.
 pub fn define_object(
     w: &mut Working,
@@ -59,15 +54,8 @@ pub fn define_object(
     index: &Option<Arc<MethodIndex>>,
     into: &mut Value,
 ) -> Result<(), Stop>
-    requires fits { (captured_names_of captures.now.value.items ≡ captures_of pattern.now (methods_of_codes methods.now.value.items))
-        × all_placed (frame_at (at w.old)) captures.now.value.items
-        × fits_methods (captured_names_of captures.now.value.items ++ only_names (name_of pattern.now)) methods.now.value.items
-        × index_fits (index_in index.now) (methods_of_codes methods.now.value.items) }
-    ensures { OnEnd result into.new w.new (λ o b. (o
-        ≡ object_end (capture_of pattern.now (methods_of_codes methods.now.value.items) (at w.old)) (at w.old))
-        × (b ≡ with_object pattern.now (methods_of_codes methods.now.value.items)
-        (capture_of pattern.now (methods_of_codes methods.now.value.items) (at w.old))
-        (capturing pattern.now (methods_of_codes methods.now.value.items) (at w.old)))) }
+    requires fits { ObjectFits (at w.old) pattern.now captures.now.value.items methods.now.value.items (index_in index.now) }
+    ensures { OnEnd result into.new w.new (DefinesObject pattern.now (methods_of_codes methods.now.value.items) (at w.old)) }
 {
     let nouns = capture_all(w, captures.as_slice())?;
     place(w, pattern, nouns, methods, index, into)
@@ -78,11 +66,8 @@ pub fn define_object(
 pub(crate) fn capture_all(w: &mut Working, captures: &[CaptureCode]) -> Result<Vec<Noun>, Stop>
     requires { all_placed (frame_at (at w.old)) captures.now }
     ensures { OnAnswer result w.new
-        (λ ns b. (captured (nouns_of ns.items) ≡ all_captured (captured []) (captured_names_of captures.now) (at w.old))
-        × (b ≡ all_sought (captured []) (captured_names_of captures.now) (at w.old)))
-        (λ h b. (x : Name) × (missing x ≡ all_captured (captured []) (captured_names_of captures.now) (at w.old))
-        × (halt_end h ≡ undefined_noun x)
-        × (b ≡ all_sought (captured []) (captured_names_of captures.now) (at w.old))) }
+        (λ ns b. CapturesAll (captured_names_of captures.now) (at w.old) (nouns_of ns.items) b)
+        (λ h b. MissesOne (captured_names_of captures.now) (at w.old) h b) }
 {
     let mut nouns = Vec::with_capacity(w.alloc, captures.len())?;
     let mut rest = captures;
@@ -117,10 +102,8 @@ fn place(
 ) -> Result<(), Stop>
     requires fits { fits_methods (names_of nouns.items ++ only_names (name_of pattern.now)) methods.now.value.items }
     requires indexed { index_fits (index_in index.now) (methods_of_codes methods.now.value.items) }
-    ensures { OnEnd result into.new w.new (λ o b. (o ≡ placed_end (has_object_room (at w.old)) (at w.old))
-        × (b ≡ placed (has_object_room (at w.old)) pattern.now
-        (record { own = pattern.now; captured = nouns_of nouns.items; methods = methods_of_codes methods.now.value.items })
-        (at w.old))) }
+    ensures { OnEnd result into.new w.new (PlacesObject pattern.now
+        (record { own = pattern.now; captured = nouns_of nouns.items; methods = methods_of_codes methods.now.value.items }) (at w.old)) }
 {
     if w.draft.object_count() >= MAX_OBJECTS {
         return Err(abandon(w, Abandon::Size));
@@ -228,9 +211,7 @@ fn method_entry(
     args: &mut [Value],
 ) -> Result<Option<Entry>, AllocError>
     requires { frame.items ≡ [] }
-    ensures entry { IfOk result (λ e. entered_or (gives (no_such_method_end verb.now (vals_of args.old))) e
-        ≡ method_target_of id (plain_of object.now) verb.now (vals_of args.old)
-        (method_in (methods_of_codes object.now.methods.value.items) verb.now (vals_of args.old))) }
+    ensures entry { IfOk result (λ e. EntersMethod id (plain_of object.now) verb.now (vals_of args.old) e) }
     ensures kept { IfOk result (λ e. IfNone e (args.new ≡ args.old)) }
 {
     match find_method(object, verb, args)? {

@@ -2,10 +2,10 @@
 ghost use Rattle.std.specs.Prelude.{◌≡◌, ◌+◌, ◌<◌, false, option_map};
 ghost use Rattle.code.specs.Frames.{all_placed, captured_names_of, fits_all};
 ghost use Rattle.code.specs.View.{trees_of_codes};
+ghost use Rattle.eobjects.specs.Making.{DefinesWhen};
 ghost use Rattle.erules.specs.Answered.{OnEnd};
 ghost use Rattle.erules.specs.Fits.{frame_at};
-ghost use Rattle.erules.specs.Outcomes.{value as value_end};
-ghost use Rattle.erules.specs.Rules.{handled_names, when_end, when_made};
+ghost use Rattle.erules.specs.Rules.{handled_names};
 ghost use Rattle.erules.specs.View.{at};
 ghost use Rattle.post.specs.Blocks.{handler_fits};
 ghost use Rattle.post.specs.DeliveryView.{handler_of};
@@ -33,9 +33,8 @@ pub fn define_when(
     requires placed { all_placed (frame_at (at w.old)) captures.now.value.items }
     requires fits { fits_all false (captured_names_of captures.now.value.items) block.now.value.items }
     requires handled { handler_fits (captured_names_of captures.now.value.items) handler }
-    requires promised { w.old.out.promises + w.old.steps < 4294967295 }
-    ensures { OnEnd result into.new w.new (λ o b. (o ≡ when_end (trees_of_codes block.now.value.items) (option_map handler_of handler) (value_end (val_of into.old)) (at w.old))
-        × (b ≡ when_made (trees_of_codes block.now.value.items) (option_map handler_of handler) (value_end (val_of into.old)) (at w.old))) }
+    requires promised { w.old.out.promises + w.old.steps < u32.MAX }
+    ensures { OnEnd result into.new w.new (DefinesWhen (trees_of_codes block.now.value.items) (option_map handler_of handler) (val_of into.old) (at w.old)) }
 {
     let nouns = capture_all(w, captures.as_slice())?;
     let value = mem::replace(into, Value::Null);

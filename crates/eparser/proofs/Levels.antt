@@ -12,6 +12,15 @@ use Rattle.esigns.specs.declared.operator.Level.TheVariants as level
 use Rattle.eparser.specs.Levels.{tighter, joins_two, level_at, level_from}
 use Rattle.eparser.specs.View.{Fails}
 
+-- how many levels bind more tightly
+abbrev pub rank : Level → ℕ
+rank level.Disjunction = 5
+rank level.Conjunction = 4
+rank level.Comparison = 3
+rank level.Sum = 2
+rank level.Product = 1
+rank level.Unary = 0
+
 -- the level of its operands, where there is one
 abbrev below : Level → Level
 below level.Disjunction = level.Conjunction

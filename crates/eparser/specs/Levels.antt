@@ -1,5 +1,5 @@
 -- What the operators of one level between two operands read.
-use Rattle.std.specs.Prelude.{Bool, true, false, ℕ, List, Option, Some, None}
+use Rattle.std.specs.Prelude.{Bool, true, false, List, Option, Some, None}
 use Rattle.etoken.specs.declared.token.Token.{Token}
 use Rattle.kernele.specs.Tree.{Tree}
 use Rattle.esigns.specs.Signs.{product_operator}
@@ -15,15 +15,6 @@ tighter level.Comparison = Some level.Sum
 tighter level.Sum = Some level.Product
 tighter level.Product = Some level.Unary
 tighter level.Unary = None
-
--- how many levels bind more tightly
-abbrev pub rank : Level → ℕ
-rank level.Disjunction = 5
-rank level.Conjunction = 4
-rank level.Comparison = 3
-rank level.Sum = 2
-rank level.Product = 1
-rank level.Unary = 0
 
 -- two of its operators never stand in a row
 abbrev pub joins_two : Level → Bool

@@ -4,6 +4,7 @@ use Rattle.etoken.specs.declared.token.Token.{Token}
 use Rattle.etoken.specs.declared.token.Token.TheVariants as token
 use Rattle.etoken.specs.declared.token.Sign as signs
 use Rattle.etoken.specs.declared.token.Sign.TheVariants as sign
+use Rattle.ereader.specs.declared.depth.TheConstants.{MOST_OPEN}
 
 -- the brackets open after a sign, where n are open before it; a closing one closes the innermost,
 -- of whichever kind, or nothing
@@ -31,4 +32,4 @@ most_open = most_open_from 0
 
 -- more brackets are open at once than may be
 abbrev pub IsTooDeep : List Token → Type 0
-IsTooDeep a = 100 < most_open a
+IsTooDeep a = MOST_OPEN < most_open a

@@ -9,6 +9,7 @@ use Rattle.egrammar.specs.Written.{program_tokens}
 use Rattle.ereader.specs.Brackets.{IsTooDeep}
 use Rattle.ereader.specs.declared.fault.ReadFault.{ReadFault}
 use Rattle.ereader.specs.Texts.{ReadAs}
+use Rattle.etoken.specs.declared.tokens.TheConstants.{MAX_BYTES, MAX_TOKENS}
 
 -- a text that is read as a program is read as nothing else
 abbrev pub OneReading : Type 0
@@ -18,15 +19,15 @@ OneReading = (text : List ℕ) (ts : Trees) (x : Result Trees ReadFault) → Rea
 abbrev pub ReadIsSpelled : Type 0
 ReadIsSpelled = (text : List ℕ) (ts : Trees) → ReadAs text (Ok ts) → SpelledBy text ts
 
--- what a text spells is what reading gives: of at most 65,536 bytes and 16,384 tokens, of which no more than 100 brackets are open at once
+-- what a text spells is what reading gives, where the text has no more bytes and tokens than it may, and no more brackets are open at once
 abbrev pub ReadsWithinLimits : Type 0
 ReadsWithinLimits = (text : List ℕ) (tokens : List Token) (ts : Trees) → CutInto text tokens → Program tokens ts
-    → length text ≤ 65536 → length tokens ≤ 16384 → ¬ IsTooDeep tokens → ReadAs text (Ok ts)
+    → length text ≤ MAX_BYTES → length tokens ≤ MAX_TOKENS → ¬ IsTooDeep tokens → ReadAs text (Ok ts)
 
 -- the canonical spelling of a program keeps within the same limits
 pub record IsWithinLimits (ts : Trees) : Type 0 where
-  pub short : length (spelling ts) ≤ 65536
-  pub few : length (program_tokens ts) ≤ 16384
+  pub short : length (spelling ts) ≤ MAX_BYTES
+  pub few : length (program_tokens ts) ≤ MAX_TOKENS
   pub shallow : ¬ IsTooDeep (program_tokens ts)
 
 -- such a spelling is read as the program

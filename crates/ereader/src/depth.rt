@@ -8,7 +8,7 @@ use etoken::token::{Placed, Sign, Token};
 /// How many brackets may be open at once.
 const MOST_OPEN: usize = 100;
 
-/// Whether more than 100 brackets are open at once.
+/// Whether more than `MOST_OPEN` brackets are open at once.
 pub fn is_too_deep(tokens: &[Placed]) -> bool
     ensures { IsTrue result ↔ IsTooDeep (plain tokens.now) }
 {

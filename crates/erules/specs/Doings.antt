@@ -21,6 +21,7 @@ use Rattle.sends.specs.Making.{Refusal, problem, turn_too_large, Making, refused
 use Rattle.erules.specs.Outbox.{Note, sent_note, waits_note, resolved_note, and_publication, Outbox}
 use Rattle.erules.specs.At.{At}
 use Rattle.erules.specs.Outcomes.{too_large, thrown, abandoned, End, value, halt, Gather, values, halted, reply_end}
+use Rattle.erules.specs.declared.working.TheConstants.{MAX_OBJECTS, MAX_MESSAGES}
 
 -- the vat's cells at a place
 abbrev pub under : At → Under Cell Content
@@ -66,9 +67,9 @@ next_message a = record { event = a.event; index = length a.out.letters }
 abbrev pub next_promise : At → VatNo → PromId
 next_promise a home = record { event = a.event; index = a.out.promises; home = home }
 
--- a turn makes at most 4,096 messages
+-- a turn has room for one more message
 abbrev pub has_message_room : At → Bool
-has_message_room a = ltb (length a.out.letters) 4096
+has_message_room a = ltb (length a.out.letters) MAX_MESSAGES
 
 -- why nothing was made, as an end
 abbrev pub refusal_end : Refusal → End
@@ -142,9 +143,9 @@ wait_out w (makes c) a = record a { out = noted (waits_note c (next_message a) �
 abbrev pub next_object : At → ObjId
 next_object a = record { event = a.event; index = a.objects; vat = a.vat }
 
--- a turn makes at most 4,096 objects
+-- a turn has room for one more object
 abbrev pub has_object_room : At → Bool
-has_object_room a = ltb a.objects 4096
+has_object_room a = ltb a.objects MAX_OBJECTS
 
 abbrev pub promise_pair : At → Vat (Making ObjId)
 promise_pair a = promising (has_object_room a) (next_promise a a.vat) (next_object a)

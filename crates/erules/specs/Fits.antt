@@ -1,9 +1,15 @@
 -- Code fits the place where it is evaluated.
 use Rattle.std.specs.Prelude.{◌≡◌, List, ◌++◌, length, false, Option, IfSome}
 use Rattle.std.specs.Option.{option_map}
-use Rattle.kernele.specs.Tree.{Name}
-use Rattle.scopes.specs.Scope.{names_of_all}
-use Rattle.code.specs.Frames.{Frame, only_names, after, fits, fits_all, fits_methods}
+use Rattle.kernele.specs.Tree.{Name, none}
+use Rattle.kernele.specs.declared.tree.Pattern.{Pattern}
+use Rattle.kernele.specs.declared.tree.Pattern.TheVariants as pattern_kinds
+use Rattle.scopes.specs.Free.{captures, when_captures}
+use Rattle.scopes.specs.Scope.{name_of, names_of_all}
+use Rattle.code.specs.Frames.{Frame, only_names, after, fits, fits_all, fits_methods, all_placed, captured_names_of}
+use Rattle.code.specs.Index.{index_fits}
+use Rattle.code.specs.declared.code.Capture.{Capture}
+use Rattle.code.specs.declared.index.MethodIndex.{MethodIndex}
 use Rattle.code.specs.View.{tree_of_code, trees_of_codes, methods_of_codes}
 use Rattle.code.specs.declared.code.Code.{Code}
 use Rattle.code.specs.declared.code.MethodCode.{MethodCode}
@@ -28,6 +34,24 @@ fits_at a e = fits a.own_scope (frame_at a) e
 -- the same of code in order
 abbrev pub all_fit_at : At → List Code → Type 0
 all_fit_at a es = fits_all a.own_scope (frame_at a) es
+
+-- a when, its value and what it captures fit, without a handler
+abbrev pub WhenFits : At → Code → List Capture → List Code → Type 0
+WhenFits a value cs block =
+    fits_at a value × (captured_names_of cs ≡ when_captures (trees_of_codes block) pattern_kinds.Ignore none) × all_placed (frame_behind a value) cs
+    × fits_all false (captured_names_of cs) block
+
+-- the same with one, which has a name for the problem
+abbrev pub WhenCatchFits : At → Code → List Capture → List Code → Pattern → List Code → Type 0
+WhenCatchFits a value cs block p handler =
+    fits_at a value × (captured_names_of cs ≡ when_captures (trees_of_codes block) p (trees_of_codes handler)) × all_placed (frame_behind a value) cs
+    × fits_all false (captured_names_of cs) block × fits_all false (captured_names_of cs ++ only_names (name_of p)) handler
+
+-- an object, what it captures and its methods fit, and the index, if there is one, is that of its methods
+abbrev pub ObjectFits : At → Pattern → List Capture → List MethodCode → Option MethodIndex → Type 0
+ObjectFits a p cs ms index =
+    (captured_names_of cs ≡ captures p (methods_of_codes ms)) × all_placed (frame_at a) cs
+    × fits_methods (captured_names_of cs ++ only_names (name_of p)) ms × index_fits index (methods_of_codes ms)
 
 -- what is found among methods for a verb and arguments: the method that the rules say, if any; it has as many parameters, and its
 -- block fits behind them wherever the methods fit

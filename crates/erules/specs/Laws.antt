@@ -9,6 +9,7 @@ use Rattle.erules.specs.At.{At}
 use Rattle.erules.specs.Outcomes.{End, value, ejected, halt}
 use Rattle.erules.specs.Rules.{Ends, is_open}
 use Rattle.erules.specs.Derivations.{nodes, deepest}
+use Rattle.erules.specs.declared.working.TheConstants.{DEEPEST, MAX_SLOTS, MAX_OBJECTS, MAX_MESSAGES}
 
 -- the same place in another state, of a turn that began with yet another one
 abbrev pub in_state : State → State → At → At
@@ -71,15 +72,15 @@ PromisesArePaidFor = (k : ℕ) (t : Tree) (a b : At) (o : End) → Ends k t a o 
 abbrev pub StepsAreNodes : Type 0
 StepsAreNodes = (k : ℕ) (t : Tree) (a b : At) (o : End) (r : Ends k t a o b) → nodes r + b.left ≡ a.left
 
--- no node runs past level 1,000
+-- no node runs past the deepest level
 abbrev pub NoneRunsTooDeep : Type 0
-NoneRunsTooDeep = (k : ℕ) (t : Tree) (a b : At) (o : End) (r : Ends k t a o b) → deepest r ≤ 1000
+NoneRunsTooDeep = (k : ℕ) (t : Tree) (a b : At) (o : End) (r : Ends k t a o b) → deepest r ≤ DEEPEST
 
--- a turn has made at most 4,096 slots, as many objects, and as many messages
+-- a turn has made no more slots, objects and messages than it may
 pub record IsWithinRoom (a : At) : Type 0 where
-  pub slots : a.slots ≤ 4096
-  pub objects : a.objects ≤ 4096
-  pub messages : length a.out.letters ≤ 4096
+  pub slots : a.slots ≤ MAX_SLOTS
+  pub objects : a.objects ≤ MAX_OBJECTS
+  pub messages : length a.out.letters ≤ MAX_MESSAGES
 
 -- and so it is behind a tree where it was before
 abbrev pub RoomIsKept : Type 0

@@ -21,6 +21,7 @@ use Rattle.sends.specs.Making.{Making, Published, resolving, smashing}
 use Rattle.erules.specs.At.{At}
 use Rattle.erules.specs.Doings.{given_by, behind, datum_of, datum_read, data_of, same_vat, next_object, has_object_room, sent_end, sent_at, wait_of, wait_end, wait_out, promise_pair, pair_end, pair_out, resolver_end, resolver_out, same_end, same_read, state_end}
 use Rattle.erules.specs.Outcomes.{budget_spent, too_deep, too_large, Halt, thrown, ejected, abandoned, End, value, halt, Gather, values, halted, reply_end}
+use Rattle.erules.specs.declared.working.TheConstants.{DEEPEST, MAX_SLOTS}
 
 -- a step was taken
 abbrev pub begun : At → At
@@ -168,9 +169,9 @@ slot_made v a = record (put (slot_cell (next_slot a)) (held v) a) { slots = a.sl
 abbrev pub with_slot : Name → Val → At → At
 with_slot x v a = binding x (slot (next_slot a)) (slot_made v a)
 
--- a turn makes at most 4,096 slots
+-- a turn has room for one more slot
 abbrev pub has_room : At → Bool
-has_room a = ltb a.slots 4096
+has_room a = ltb a.slots MAX_SLOTS
 
 -- a variable makes its slot where there is room for one, and without room the turn is abandoned
 abbrev pub variable_made : Bool → Name → Val → At → At
@@ -501,12 +502,11 @@ broken_end (value v) = broken_by v (text_in v)
 broken_end (halt h) = halt h
 
 mutual
-  -- at level k, a tree begun at a ends as o at b: the budget is tested, a step is taken, then the level is tested,
-  -- of which the deepest is 1,000
+  -- at level k, a tree begun at a ends as o at b: the budget is tested, a step is taken, then the level is tested
   pub data Ends : ℕ → Tree → At → End → At → Type 0 where
     at_budget : {k : ℕ} {t : Tree} {a : At} → a.left ≡ 0 → Ends k t a (halt (abandoned budget_spent)) a
-    at_depth : {k : ℕ} {t : Tree} {a : At} → 0 < a.left → 1000 < k → Ends k t a (halt (abandoned too_deep)) (begun a)
-    at_node : {k : ℕ} {t : Tree} {a b : At} {o : End} → 0 < a.left → k ≤ 1000 → Runs k t (begun a) o b → Ends k t a o b
+    at_depth : {k : ℕ} {t : Tree} {a : At} → 0 < a.left → DEEPEST < k → Ends k t a (halt (abandoned too_deep)) (begun a)
+    at_node : {k : ℕ} {t : Tree} {a b : At} {o : End} → 0 < a.left → k ≤ DEEPEST → Runs k t (begun a) o b → Ends k t a o b
 
   -- the same, once its step was taken: which parts are evaluated, and what is made of their ends
   pub data Runs : ℕ → Tree → At → End → At → Type 0 where

@@ -19,7 +19,7 @@ use values::verb::Verb;
 
 /// Makes the turn's next ejector and begins its Escape. Without memory nothing changes.
 pub fn open_escape(w: &mut Working) -> Result<EjId, AllocError>
-    requires { w.old.ejectors + w.old.steps < 4294967295 }
+    requires { w.old.ejectors + w.old.steps < u32.MAX }
     ensures named { IfOk result (λ j. j ≡ next_ejector (at w.old)) }
     ensures place { IfOk result (λ j. at w.new ≡ escaping (at w.old)) }
     ensures err { OnErr result (at w.new ≡ at w.old) }

@@ -1,5 +1,6 @@
 // What a turn works on.
 ghost use Rattle.std.specs.Prelude.{◌+◌, ◌≤◌, length};
+ghost use Rattle.std.below.core.specs.declared.int.u32.TheConstants.{MAX};
 ghost use Rattle.erules.specs.Locals.{captured_in};
 
 use crate::end::Halt;
@@ -12,7 +13,16 @@ use std::alloc::Global;
 use std::sync::Arc;
 
 /// The deepest level at which a node may begin.
-pub const DEEPEST: u32 = 1000;
+pub const DEEPEST: u32 = 1_000;
+
+/// How many slots a turn may make.
+pub const MAX_SLOTS: usize = 4_096;
+
+/// How many objects a turn may make, resolvers with them.
+pub const MAX_OBJECTS: usize = 4_096;
+
+/// How many messages a turn may make.
+pub const MAX_MESSAGES: usize = 4_096;
 
 /// A turn under way, on a copy of its vat's state that it changes in place. Where a call that works on it fails for want of memory,
 /// the turn is let go, and no contract says where it then stands, but that of `open_escape`.
@@ -42,6 +52,6 @@ pub struct Working {
     /// Why the last evaluation that was halted has no value.
     pub halt: Halt,
     pub ghost within: { older ≤ length (captured_in captured) },
-    pub ghost counted: { ejectors + steps ≤ 4294967295 },
-    pub ghost promised: { out.promises + steps ≤ 4294967295 },
+    pub ghost counted: { ejectors + steps ≤ MAX },
+    pub ghost promised: { out.promises + steps ≤ MAX },
 }

@@ -1,7 +1,6 @@
 pub mod Breaks
 pub mod Bytes
 pub mod Cutting
-pub mod Fault
 pub mod Laws
 pub mod Spelling
 pub mod Table

@@ -3,6 +3,7 @@ ghost use Rattle.std.specs.Prelude.{◌≡◌, ◌<◌, ◌≤◌, ◌++◌, ◌
 ghost use Rattle.etoken.specs.declared.fault.TokenFault.TheVariants.{Memory, TooLong};
 ghost use Rattle.etoken.specs.Breaks.{may_end, behind, with_break};
 ghost use Rattle.etoken.specs.Tokens.{Answers};
+ghost use Rattle.etoken.specs.declared.tokens.TheConstants.{MAX_TOKENS};
 
 use crate::breaks::Breaks;
 use crate::bytes::blanks;
@@ -22,7 +23,7 @@ pub const MAX_TOKENS: usize = 16_384;
 struct Output {
     breaks: Breaks,
     tokens: Vec<Placed>,
-    ghost in_limit: { length tokens.items ≤ 16384 },
+    ghost in_limit: { length tokens.items ≤ MAX_TOKENS },
 }
 
 impl Output {
@@ -42,7 +43,7 @@ impl Output {
         ensures tokens { OnOk result (self.new.tokens.items ≡ self.old.tokens.items ++ with_break (reverse self.old.breaks.brackets.items) self.old.breaks.ended (record { broken = broken; placed = placed })) }
         ensures brackets { OnOk result (reverse self.new.breaks.brackets.items ≡ behind placed.token (reverse self.old.breaks.brackets.items)) }
         ensures ended { OnOk result (self.new.breaks.ended ≡ may_end placed.token) }
-        ensures err { IfErr result (λ f. (f ≡ Memory) ⊎ ((f ≡ TooLong) × (16384 < length (self.old.tokens.items ++ with_break (reverse self.old.breaks.brackets.items) self.old.breaks.ended (record { broken = broken; placed = placed }))))) }
+        ensures err { IfErr result (λ f. (f ≡ Memory) ⊎ ((f ≡ TooLong) × (MAX_TOKENS < length (self.old.tokens.items ++ with_break (reverse self.old.breaks.brackets.items) self.old.breaks.ended (record { broken = broken; placed = placed }))))) }
     {
         if self.breaks.part(broken, &placed.token) {
             self.push(Placed {
@@ -57,7 +58,7 @@ impl Output {
     fn push(&mut self, placed: Placed) -> Result<(), TokenFault>
         ensures tokens { OnOk result (self.new.tokens.items ≡ self.old.tokens.items ++ placed ∷ []) }
         ensures breaks { self.new.breaks ≡ self.old.breaks }
-        ensures err { IfErr result (λ f. (f ≡ Memory) ⊎ ((f ≡ TooLong) × (length self.old.tokens.items ≡ 16384))) }
+        ensures err { IfErr result (λ f. (f ≡ Memory) ⊎ ((f ≡ TooLong) × (length self.old.tokens.items ≡ MAX_TOKENS))) }
     {
         if self.tokens.len() == MAX_TOKENS {
             return Err(TokenFault::TooLong);

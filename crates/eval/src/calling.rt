@@ -16,6 +16,7 @@ ghost use Rattle.erules.specs.View.{at};
 ghost use Rattle.eobjects.specs.View.{OnTarget};
 ghost use Rattle.eval.specs.Escaping.{Escapes, IsNewest};
 ghost use Rattle.eval.specs.Leading.{Leads};
+ghost use Rattle.erules.specs.declared.working.TheConstants.{DEEPEST};
 
 use crate::eval::{eval_args, eval_item, eval_items, eval_part};
 use code::code::Code;
@@ -45,7 +46,7 @@ pub(crate) fn eval_call(
     level: u32,
     into: &mut Value,
 ) -> Result<(), Stop>
-    requires level { level ≤ 1000 }
+    requires level { level ≤ DEEPEST }
     requires fits { fits_at (at w.old) receiver.now.value × fits_all w.old.own_scope (frame_behind (at w.old) receiver.now.value) args.now.value.items }
     ensures { OnEnd result into.new w.new (Runs level (call (tree_of_code receiver.now.value) verb.now (trees_of_codes args.now.value.items)) (at w.old)) }
 {
@@ -70,7 +71,7 @@ fn eval_any_call(
     level: u32,
     into: &mut Value,
 ) -> Result<(), Stop>
-    requires level { level ≤ 1000 }
+    requires level { level ≤ DEEPEST }
     requires fits { fits_at (at w.old) receiver.now.value × fits_all w.old.own_scope (frame_behind (at w.old) receiver.now.value) args.now.value.items }
     ensures { OnEnd result into.new w.new (Runs level (call (tree_of_code receiver.now.value) verb.now (trees_of_codes args.now.value.items)) (at w.old)) }
 {
@@ -93,7 +94,7 @@ fn eval_target(
     level: u32,
     into: &mut Value,
 ) -> Result<Option<Entry>, Stop>
-    requires level { level ≤ 1001 }
+    requires level { level ≤ DEEPEST + 1 }
     requires fits { all_fit_at (at w.old) args.now }
     ensures { OnTarget result into.new w.new (Leads level (trees_of_codes args.now) (val_of receiver.old) verb.now (at w.old)) }
 {
@@ -109,7 +110,7 @@ fn eval_target(
 /// Evaluates a method's block with the names that it begins with.
 #[cycle(evaluate)]
 fn eval_method(w: &mut Working, entry: Entry, level: u32, into: &mut Value) -> Result<(), Stop>
-    requires { level ≤ 1001 }
+    requires { level ≤ DEEPEST + 1 }
     ensures { OnEnd result into.new w.new (λ o b. (d : At) × Items level null (trees_of_codes entry.body.value.items) (inside (locals_after (nouns_of (captured_in entry.captured)) entry.nouns.items) (at w.old)) o d
         × (b ≡ leaving (at w.old) d)) }
 {
@@ -132,9 +133,9 @@ pub(crate) fn eval_escape(
     level: u32,
     into: &mut Value,
 ) -> Result<(), Stop>
-    requires level { level ≤ 1000 }
+    requires level { level ≤ DEEPEST }
     requires fits { fits_all false (frame_at (at w.old) ++ name.now ∷ []) body.now.value.items }
-    requires counted { w.old.ejectors + w.old.steps < 4294967295 }
+    requires counted { w.old.ejectors + w.old.steps < u32.MAX }
     ensures { OnEnd result into.new w.new (Runs level (escape_tree name.now (trees_of_codes body.now.value.items)) (at w.old)) }
 {
     let outer = w.opened.len();
@@ -154,7 +155,7 @@ fn eval_naming(
     level: u32,
     into: &mut Value,
 ) -> Result<(), Stop>
-    requires level { level ≤ 1001 }
+    requires level { level ≤ DEEPEST + 1 }
     requires fits { fits_all false (frame_at (at w.old) ++ name.now ∷ []) items.now }
     requires newest { IsNewest ejector (at w.old) }
     ensures { OnEnd result into.new w.new (Escapes ejector (Taking level (pattern.Name name.now) (ejector_value ejector) (trees_of_codes items.now) (at w.old))) }
@@ -175,7 +176,7 @@ fn eval_returning(
     level: u32,
     into: &mut Value,
 ) -> Result<(), Stop>
-    requires level { level ≤ 1001 }
+    requires level { level ≤ DEEPEST + 1 }
     requires fits { all_fit_at (at w.old) items.now }
     requires newest { IsNewest ejector (at w.old) }
     ensures { OnEnd result into.new w.new (Escapes ejector (Items level null (trees_of_codes items.now) (at w.old))) }

@@ -1,5 +1,5 @@
 // Control: the constructs that have blocks, each block in a scope of its own.
-ghost use Rattle.std.specs.Prelude.{◌≤◌, ◌++◌, false};
+ghost use Rattle.std.specs.Prelude.{◌+◌, ◌≤◌, ◌++◌, false};
 ghost use Rattle.kernele.specs.Tree.{if_tree, while_tree, for_tree, try_tree};
 ghost use Rattle.code.specs.Frames.{fits_all, only_names};
 ghost use Rattle.erules.specs.Fits.{all_fit_at, fits_at, frame_at, frame_behind};
@@ -12,6 +12,7 @@ ghost use Rattle.erules.specs.Rules.{Runs, Block, Items, Taking};
 ghost use Rattle.erules.specs.View.{at};
 ghost use Rattle.eval.specs.Choosing.{Chooses};
 ghost use Rattle.eval.specs.Unwanted.{OnSomeEnd};
+ghost use Rattle.erules.specs.declared.working.TheConstants.{DEEPEST};
 
 use crate::eval::{eval, eval_items};
 use code::code::Code;
@@ -35,7 +36,7 @@ pub(crate) fn eval_if(
     level: u32,
     into: &mut Value,
 ) -> Result<(), Stop>
-    requires level { level ≤ 1000 }
+    requires level { level ≤ DEEPEST }
     requires fits { fits_at (at w.old) condition.now.value × fits_all false (frame_behind (at w.old) condition.now.value) first.now.value.items × fits_all false (frame_behind (at w.old) condition.now.value) second.now.value.items }
     ensures { OnEnd result into.new w.new (Runs level (if_tree (tree_of_code condition.now.value)
         (trees_of_codes first.now.value.items) (trees_of_codes second.now.value.items)) (at w.old)) }
@@ -56,7 +57,7 @@ pub(crate) fn eval_while(
     level: u32,
     into: &mut Value,
 ) -> Result<(), Stop>
-    requires level { level ≤ 1000 }
+    requires level { level ≤ DEEPEST }
     requires fits { fits_at (at w.old) condition.now.value × fits_all false (frame_behind (at w.old) condition.now.value) body.now.value.items }
     ensures { OnEnd result into.new w.new (Runs level (while_tree (tree_of_code condition.now.value)
         (trees_of_codes body.now.value.items)) (at w.old)) }
@@ -84,7 +85,7 @@ pub(crate) fn eval_for(
     level: u32,
     into: &mut Value,
 ) -> Result<(), Stop>
-    requires level { level ≤ 1000 }
+    requires level { level ≤ DEEPEST }
     requires fits { fits_at (at w.old) list.now.value × fits_all false (frame_behind (at w.old) list.now.value ++ only_names (name_of pattern.now)) body.now.value.items }
     ensures { OnEnd result into.new w.new (Runs level (for_tree pattern.now (tree_of_code list.now.value)
         (trees_of_codes body.now.value.items)) (at w.old)) }
@@ -108,7 +109,7 @@ pub(crate) fn eval_try(
     level: u32,
     into: &mut Value,
 ) -> Result<(), Stop>
-    requires level { level ≤ 1000 }
+    requires level { level ≤ DEEPEST }
     requires fits { fits_all false (frame_at (at w.old)) body.now.value.items × fits_all false (frame_at (at w.old) ++ only_names (name_of pattern.now)) handler.now.value.items }
     ensures { OnEnd result into.new w.new (Runs level (try_tree (trees_of_codes body.now.value.items) pattern.now
         (trees_of_codes handler.now.value.items)) (at w.old)) }
@@ -139,7 +140,7 @@ fn eval_condition(
     level: u32,
     into: &mut Value,
 ) -> Result<bool, Stop>
-    requires level { level ≤ 1001 }
+    requires level { level ≤ DEEPEST + 1 }
     requires fits { fits_at (at w.old) condition.now }
     ensures { Chooses result w.new level (tree_of_code condition.now) (at w.old) }
 {
@@ -161,7 +162,7 @@ fn eval_any_condition(
     level: u32,
     into: &mut Value,
 ) -> Result<bool, Stop>
-    requires level { level ≤ 1001 }
+    requires level { level ≤ DEEPEST + 1 }
     requires fits { fits_at (at w.old) condition.now }
     ensures { Chooses result w.new level (tree_of_code condition.now) (at w.old) }
 {
@@ -174,7 +175,7 @@ fn eval_any_condition(
 #[cycle(evaluate)]
 #[inline(always)]
 fn run_block(w: &mut Working, items: &[Code], level: u32, into: &mut Value) -> Result<(), Stop>
-    requires level { level ≤ 1001 }
+    requires level { level ≤ DEEPEST + 1 }
     requires fits { fits_all false (frame_at (at w.old)) items.now }
     ensures { OnSomeEnd result w.new (Block level (trees_of_codes items.now) (at w.old)) }
 {
@@ -188,7 +189,7 @@ fn run_block(w: &mut Working, items: &[Code], level: u32, into: &mut Value) -> R
 #[cycle(evaluate)]
 #[inline(always)]
 fn run_items(w: &mut Working, items: &[Code], level: u32, into: &mut Value) -> Result<(), Stop>
-    requires level { level ≤ 1001 }
+    requires level { level ≤ DEEPEST + 1 }
     requires fits { all_fit_at (at w.old) items.now }
     ensures { OnSomeEnd result w.new (Items level null (trees_of_codes items.now) (at w.old)) }
 {
@@ -207,7 +208,7 @@ pub(crate) fn eval_block(
     level: u32,
     into: &mut Value,
 ) -> Result<(), Stop>
-    requires level { level ≤ 1001 }
+    requires level { level ≤ DEEPEST + 1 }
     requires fits { fits_all false (frame_at (at w.old)) items.now }
     ensures { OnEnd result into.new w.new (Block level (trees_of_codes items.now) (at w.old)) }
 {
@@ -227,7 +228,7 @@ pub(crate) fn eval_taking(
     level: u32,
     into: &mut Value,
 ) -> Result<(), Stop>
-    requires level { level ≤ 1001 }
+    requires level { level ≤ DEEPEST + 1 }
     requires fits { fits_all false (frame_at (at w.old) ++ only_names (name_of pattern.now)) items.now }
     ensures { OnEnd result into.new w.new (Taking level pattern.now (val_of value.now) (trees_of_codes items.now) (at w.old)) }
 {

@@ -1,6 +1,6 @@
 // Evaluation: one small function for all constructs that have a right side alone, and one for each other; those that have
 // blocks are in `control`, what becomes of a right side's value is in `right`.
-ghost use Rattle.std.specs.Prelude.{◌≡◌, ◌≤◌, Some};
+ghost use Rattle.std.specs.Prelude.{◌+◌, ◌≡◌, ◌≤◌, Some};
 ghost use Rattle.kernele.specs.Tree.{list_tree, same_tree};
 ghost use Rattle.code.specs.Frames.{fits};
 ghost use Rattle.code.specs.View.{tree_of_code, trees_of_codes};
@@ -112,7 +112,7 @@ fn eval_right(
     level: u32,
     into: &mut Value,
 ) -> Result<(), Stop>
-    requires level { level ≤ 1000 }
+    requires level { level ≤ DEEPEST }
     requires side { right_side e.now ≡ Some right.now.value }
     requires fits { fits_at (at w.old) e.now }
     ensures { OnEnd result into.new w.new (Runs level (tree_of_code e.now) (at w.old)) }
@@ -128,7 +128,7 @@ fn eval_list(
     level: u32,
     into: &mut Value,
 ) -> Result<(), Stop>
-    requires level { level ≤ 1000 }
+    requires level { level ≤ DEEPEST }
     requires fits { all_fit_at (at w.old) items.now.value.items }
     ensures { OnEnd result into.new w.new (Runs level (list_tree (trees_of_codes items.now.value.items)) (at w.old)) }
 {
@@ -144,7 +144,7 @@ fn eval_same(
     level: u32,
     into: &mut Value,
 ) -> Result<(), Stop>
-    requires level { level ≤ 1000 }
+    requires level { level ≤ DEEPEST }
     requires fits { fits_at (at w.old) left.now.value × fits w.old.own_scope (frame_behind (at w.old) left.now.value) right.now.value }
     ensures { OnEnd result into.new w.new (Runs level (same_tree (tree_of_code left.now.value) (tree_of_code right.now.value)) (at w.old)) }
 {
@@ -157,7 +157,7 @@ fn eval_same(
 /// Evaluates arguments or items of a list from left to right.
 #[cycle(evaluate)]
 pub(crate) fn eval_args(w: &mut Working, args: &[Code], level: u32) -> Result<Vec<Value>, Stop>
-    requires level { level ≤ 1001 }
+    requires level { level ≤ DEEPEST + 1 }
     requires fits { all_fit_at (at w.old) args.now }
     ensures { OnAnswer result w.new (λ vs b. Args level (trees_of_codes args.now) (at w.old) (values (vals_of vs.items)) b)
         (λ h b. Args level (trees_of_codes args.now) (at w.old) (halted h) b) }
@@ -174,7 +174,7 @@ pub(crate) fn eval_args(w: &mut Working, args: &[Code], level: u32) -> Result<Ve
 /// Evaluates the items of a block in order: the last one's value, or null.
 #[cycle(evaluate)]
 pub fn eval_items(w: &mut Working, items: &[Code], level: u32, into: &mut Value) -> Result<(), Stop>
-    requires level { level ≤ 1001 }
+    requires level { level ≤ DEEPEST + 1 }
     requires fits { all_fit_at (at w.old) items.now }
     ensures { OnEnd result into.new w.new (Items level null (trees_of_codes items.now) (at w.old)) }
 {

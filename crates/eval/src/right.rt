@@ -1,9 +1,9 @@
 // What an expression does with the value of its right side.
 ghost use Rattle.std.specs.Prelude.{◌≡◌};
 ghost use Rattle.values.specs.View.{val_of};
+ghost use Rattle.eobjects.specs.Making.{TakesParts};
 ghost use Rattle.erules.specs.Doings.{datum_of, datum_read};
 ghost use Rattle.erules.specs.Outcomes.{value as value_end};
-ghost use Rattle.erules.specs.Rules.{parts_bound, parts_end, parts_of};
 ghost use Rattle.erules.specs.Answered.{OnEnd};
 ghost use Rattle.erules.specs.View.{at};
 ghost use Rattle.eval.specs.Sides.{is_placed, taken_at, taken_end};
@@ -48,9 +48,7 @@ pub(crate) fn take(w: &mut Working, e: &Code, into: &mut Value) -> Result<(), St
 
 /// Has a list of patterns take the items at the end of a value, which stays as it is.
 fn take_parts(w: &mut Working, patterns: &[Pattern], value: &Value) -> Result<(), Stop>
-    ensures { OnEnd result value.now w.new (λ o b. (o
-        ≡ parts_end (value_end (val_of value.now)) (parts_of patterns.now (datum_of (value_end (val_of value.now)) (at w.old))))
-        × (b ≡ parts_bound patterns.now (parts_of patterns.now (datum_of (value_end (val_of value.now)) (at w.old))) (datum_read (value_end (val_of value.now)) (at w.old)))) }
+    ensures { OnEnd result value.now w.new (TakesParts patterns.now (val_of value.now) (datum_of (value_end (val_of value.now)) (at w.old)) (datum_read (value_end (val_of value.now)) (at w.old))) }
 {
     let mut end = value.share()?;
     take_end(w, &mut end)?;

@@ -1,15 +1,13 @@
 // Sends and whens in the evaluation.
-ghost use Rattle.std.specs.Prelude.{◌≡◌, ◌≤◌, ◌<◌, ◌+◌, ◌++◌, false};
-ghost use Rattle.kernele.specs.Tree.{none, send, when_catch_tree, when_tree};
-ghost use Rattle.kernele.specs.declared.tree.Pattern.TheVariants as pattern_kinds;
-ghost use Rattle.scopes.specs.Free.{when_captures};
-ghost use Rattle.scopes.specs.Scope.{name_of};
-ghost use Rattle.code.specs.Frames.{all_placed, captured_names_of, fits_all, only_names};
+ghost use Rattle.std.specs.Prelude.{◌≤◌, ◌<◌, ◌+◌};
+ghost use Rattle.kernele.specs.Tree.{send, when_catch_tree, when_tree};
+ghost use Rattle.code.specs.Frames.{fits_all};
 ghost use Rattle.code.specs.View.{tree_of_code, trees_of_codes};
 ghost use Rattle.erules.specs.Answered.{OnEnd};
-ghost use Rattle.erules.specs.Fits.{fits_at, frame_behind};
+ghost use Rattle.erules.specs.Fits.{WhenCatchFits, WhenFits, fits_at, frame_behind};
 ghost use Rattle.erules.specs.Rules.{Runs};
 ghost use Rattle.erules.specs.View.{at};
+ghost use Rattle.erules.specs.declared.working.TheConstants.{DEEPEST};
 
 use crate::eval::{eval, eval_args, eval_part};
 use code::code::{Capture, Code};
@@ -32,9 +30,9 @@ pub(crate) fn eval_send(
     level: u32,
     into: &mut Value,
 ) -> Result<(), Stop>
-    requires level { level ≤ 1000 }
+    requires level { level ≤ DEEPEST }
     requires fits { fits_at (at w.old) receiver.now.value × fits_all w.old.own_scope (frame_behind (at w.old) receiver.now.value) args.now.value.items }
-    requires promised { w.old.out.promises + w.old.steps < 4294967295 }
+    requires promised { w.old.out.promises + w.old.steps < u32.MAX }
     ensures { OnEnd result into.new w.new (Runs level (send (tree_of_code receiver.now.value) verb.now (trees_of_codes args.now.value.items)) (at w.old)) }
 {
     let mut target = Value::Null;
@@ -52,12 +50,9 @@ pub(crate) fn eval_when(
     level: u32,
     into: &mut Value,
 ) -> Result<(), Stop>
-    requires level { level ≤ 1000 }
-    requires fits { fits_at (at w.old) value.now.value
-        × (captured_names_of captures.now.value.items ≡ when_captures (trees_of_codes block.now.value.items) pattern_kinds.Ignore none)
-        × all_placed (frame_behind (at w.old) value.now.value) captures.now.value.items
-        × fits_all false (captured_names_of captures.now.value.items) block.now.value.items }
-    requires promised { w.old.out.promises + w.old.steps < 4294967295 }
+    requires level { level ≤ DEEPEST }
+    requires fits { WhenFits (at w.old) value.now.value captures.now.value.items block.now.value.items }
+    requires promised { w.old.out.promises + w.old.steps < u32.MAX }
     ensures { OnEnd result into.new w.new (Runs level (when_tree (tree_of_code value.now.value) (trees_of_codes block.now.value.items)) (at w.old)) }
 {
     eval(w, value, level + 1, into)?;
@@ -75,13 +70,9 @@ pub(crate) fn eval_when_catch(
     level: u32,
     into: &mut Value,
 ) -> Result<(), Stop>
-    requires level { level ≤ 1000 }
-    requires fits { fits_at (at w.old) value.now.value
-        × (captured_names_of captures.now.value.items ≡ when_captures (trees_of_codes block.now.value.items) pattern.now (trees_of_codes handler.now.value.items))
-        × all_placed (frame_behind (at w.old) value.now.value) captures.now.value.items
-        × fits_all false (captured_names_of captures.now.value.items) block.now.value.items
-        × fits_all false (captured_names_of captures.now.value.items ++ only_names (name_of pattern.now)) handler.now.value.items }
-    requires promised { w.old.out.promises + w.old.steps < 4294967295 }
+    requires level { level ≤ DEEPEST }
+    requires fits { WhenCatchFits (at w.old) value.now.value captures.now.value.items block.now.value.items pattern.now handler.now.value.items }
+    requires promised { w.old.out.promises + w.old.steps < u32.MAX }
     ensures { OnEnd result into.new w.new (Runs level (when_catch_tree (tree_of_code value.now.value) (trees_of_codes block.now.value.items) pattern.now (trees_of_codes handler.now.value.items)) (at w.old)) }
 {
     eval(w, value, level + 1, into)?;

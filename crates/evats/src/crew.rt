@@ -1,27 +1,17 @@
 // Workers in threads.
-use bench::fault::BenchFault;
 use bench::once::work_once;
 use bench::work::NoGate;
-use book::book::Book;
+use book::book::{Book, MOST_STEPS};
+use book::fault::{BookFault, WorkFault};
 use std::alloc::Global;
 use std::sync::Wait;
 use std::thread::Threads;
-use stepper::{Crew, Order, WorkFault};
-
-/// The most steps that a turn may have.
-const MOST_STEPS: u32 = 1_000_000;
+use stepper::{Crew, Order};
 
 /// A crew of threads, which share the book by a Bench.
 #[derive(Drop)]
 pub(crate) struct Threaded<'a, R> {
     pub rt: &'a R,
-}
-
-fn told(fault: BenchFault) -> WorkFault {
-    match fault {
-        BenchFault::NoWorker => WorkFault::NoWorker,
-        BenchFault::Memory => WorkFault::Memory,
-    }
 }
 
 impl<R: Threads + Wait + Sync> Crew for Threaded<'_, R> {
@@ -36,9 +26,9 @@ impl<R: Threads + Wait + Sync> Crew for Threaded<'_, R> {
             turns,
         } = order;
         if budget == 0 || budget > MOST_STEPS {
-            return (book, Err(WorkFault::BadBudget));
+            return (book, Err(WorkFault::Book(BookFault::BadBudget)));
         }
-        let (book, done) = work_once(
+        work_once(
             self.rt,
             alloc,
             book,
@@ -46,7 +36,6 @@ impl<R: Threads + Wait + Sync> Crew for Threaded<'_, R> {
             workers as usize,
             u64::from(turns),
             &NoGate,
-        );
-        (book, done.map_err(told))
+        )
     }
 }

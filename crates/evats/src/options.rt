@@ -1,9 +1,10 @@
 // The words of the command line.
-ghost use Rattle.std.specs.Prelude.{◌≡◌, codes};
+ghost use Rattle.std.specs.Prelude.{codes};
 ghost use Rattle.std.specs.Option.{option_map};
 ghost use Rattle.clap.specs.Words.{found_of, one_text, first_value};
 ghost use Rattle.evats.specs.Options.{IsNumber, IsFileOf};
 
+use book::book::MOST_STEPS;
 use clap::{Arg, ArgMatches, Command, Error, value_parser};
 use std::alloc::{AllocError, Global};
 use std::io;
@@ -77,7 +78,7 @@ fn command<'a>(alloc: Global) -> Result<Command<'a>, AllocError> {
     let budget = numbered(
         alloc,
         "budget",
-        1_000_000,
+        i64::from(MOST_STEPS),
         "The most steps of a turn, 1 to 1,000,000; 10,000 if not given",
     );
     let workers = numbered(

@@ -37,7 +37,7 @@ use Rattle.deliveries.specs.Outcomes.{kept, told_of, outcome_on}
 use Rattle.deliveries.specs.declared.outcome.Outcome as code
 use Rattle.event.specs.Events.{noted_events, Foot, AreNew, Leaves, TurnLeaves, is_lost, turn_foot, turn_reads, learn_foot, learnt, in_world, letters_from, on_the_board, counted, made_by}
 use Rattle.event.specs.Effects.{Brings, BringsLearnt, BringsTurn, turn_of}
-use Rattle.event.specs.Entries.{Entry, EachOnce, entries_of, cells_in, keys_in, left_in, left_unless, left_of, writes_at, kept_left}
+use Rattle.event.specs.Entries.{Entry, EachOnce, entries_of, cells_in, keys_in, left_in, left_unless, left_of, kept_left}
 use Rattle.event.specs.Learning.{Learns}
 use Rattle.event.specs.declared.effects.Effects.{Effects}
 use Rattle.event.proofs.Listed.{known, any_listed, any_left, left_known, left_within, kept_apart}
@@ -331,8 +331,8 @@ module _ (e : EventName) (w : World) (m : MsgId) (g : Message) (v : VatNo) (o : 
           (free_both (on_the_board (counted w (outbox_of o.out).publications)) _ (cell_key v c) (no_boards v (counted w (outbox_of o.out).publications) c) (no_message v m c, tt)))
 
   -- the record of all that it writes
-  recorded : kept_left e v left ++ record_of cells e.0 made ≡ record_of cells e.0 (writes_at v left ++ made)
-  recorded = sym (map-append _ (writes_at v left) made)
+  recorded : kept_left e v left ++ record_of cells e.0 made ≡ record_of cells e.0 (in_world v left ++ made)
+  recorded = sym (map-append _ (in_world v left) made)
 
   -- the cells that were touched, and a record of those that were written
   pub turn_brings : (it : Effects) → it.touched.items ≡ turn_reads w (turn_of g v o u) ++ (keys_in v (entries_of o.footprint) ++ (map (λ p. p.0) (letters_from e 0 (outbox_of o.out).letters) ++ key.Msg m ∷ []))

@@ -16,3 +16,4 @@ pub mod Readiness
 pub mod Adding
 pub mod Bringing
 pub mod Noted
+pub mod Naming

@@ -16,7 +16,8 @@ use Rattle.heap.specs.State.{Cell, top, slot_cell, object_cell, view_cell, fence
 use Rattle.heap.proofs.Cells.{cell_exact, cell_self}
 use Rattle.worldcells.specs.World.{cell_key, content_of}
 use Rattle.worldcells.specs.Theory.{cells}
-use Rattle.event.specs.Entries.{Entry, cells_in, keys_in, left_at, left_in, writes_at, kept_left}
+use Rattle.event.specs.Events.{in_world}
+use Rattle.event.specs.Entries.{Entry, cells_in, keys_in, left_at, left_in, kept_left}
 
 -- ---- cells that are the same
 
@@ -118,12 +119,12 @@ left_known (e ∷ es) h = first e.1 refl (all_map (λ p. known (lookup (same_cel
 -- ---- keys in the world
 
 -- what was written was touched
-pub left_within : (v : VatNo) (test : CellKey → Bool) (es : List Entry) → list_any test (map (λ p. p.0) (writes_at v (left_in es))) ≡ true → list_any test (keys_in v es) ≡ true
+pub left_within : (v : VatNo) (test : CellKey → Bool) (es : List Entry) → list_any test (map (λ p. p.0) (in_world v (left_in es))) ≡ true → list_any test (keys_in v es) ≡ true
 left_within v test [] h = h
 left_within v test (e ∷ es) h = first e.1 h (left_within v test es)
   where
-    first : (o : Option heap.Content) → list_any test (map (λ p. p.0) (writes_at v (left_at e.0 o ++ left_in es))) ≡ true
-        → (list_any test (map (λ p. p.0) (writes_at v (left_in es))) ≡ true → list_any test (keys_in v es) ≡ true) → list_any test (keys_in v (e ∷ es)) ≡ true
+    first : (o : Option heap.Content) → list_any test (map (λ p. p.0) (in_world v (left_at e.0 o ++ left_in es))) ≡ true
+        → (list_any test (map (λ p. p.0) (in_world v (left_in es))) ≡ true → list_any test (keys_in v es) ≡ true) → list_any test (keys_in v (e ∷ es)) ≡ true
     first None g ih = or_right (test (cell_key v e.0)) _ (ih g)
     first (Some x) g ih = elim (or_cases (test (cell_key v e.0)) _ g) [ inl q ↦ or_left _ _ q | inr q ↦ or_right (test (cell_key v e.0)) _ (ih q) ]
 

@@ -1,5 +1,5 @@
 -- What the program works out of an event before it is entered.
-use Rattle.std.specs.Prelude.{◌≡◌, List, [], ◌∷◌, map}
+use Rattle.std.specs.Prelude.{◌≡◌, List, [], ◌∷◌, ◌++◌, map, Some}
 use Rattle.std.specs.List.{list_any}
 use Rattle.history.specs.Subject.{touches}
 use Rattle.history.specs.Records.{Record, Writes}
@@ -9,20 +9,25 @@ use Rattle.ids.specs.declared.names.VatNo.{VatNo}
 use Rattle.ids.specs.declared.names.MsgId.{MsgId}
 use Rattle.ids.specs.declared.names.PromId.{PromId}
 use Rattle.ids.specs.declared.cells.CellKey.{CellKey}
+use Rattle.ids.specs.declared.cells.CellKey.TheVariants as key
 use Rattle.kernele.specs.Tree.{Name}
 use Rattle.heap.specs.State as heap
 use Rattle.heap.specs.State.{Cell}
 use Rattle.heap.specs.Found.{touched_in}
-use Rattle.erules.specs.OutboxView.{note_of}
+use Rattle.erules.specs.OutboxView.{letter_of, note_of}
+use Rattle.erules.specs.PublicationsView.{publications_of}
 use Rattle.worldcells.specs.Events.{Event, with_notes}
 use Rattle.post.specs.Messages.{Message, Published}
 use Rattle.post.specs.declared.earlier.Earlier.{Earlier}
-use Rattle.worldcells.specs.World.{World}
+use Rattle.worldcells.specs.World.{World, message}
 use Rattle.worldcells.specs.Theory.{cells, kepts_of}
-use Rattle.event.specs.Events.{Foot, DoesNoted, noted_events, Turn, TurnLeaves, Leaves, first_promise, turn_foot, learnt, learn_foot}
+use Rattle.event.specs.Entries.{entries_of, keys_in}
+use Rattle.event.specs.Events.{AreNew, letters_from, Foot, DoesNoted, noted_events, Turn, TurnLeaves, Leaves, first_promise, turn_foot, learnt, learn_foot}
 use Rattle.deliveries.specs.Outcomes.{outcome_on, written_by}
 use Rattle.deliveries.specs.declared.outcome.Outcome as code
+use Rattle.event.specs.ReadyView.{IsWay}
 use Rattle.event.specs.declared.effects.Effects.{Effects}
+use Rattle.event.specs.declared.ready.Way.{Way}
 
 -- these are the cells that an event of this name and footprint touches, and a record of what it writes
 pub record Brings (e : EventName) (f : Foot) (touched : List CellKey) (kept : Record cells) : Type 0 where
@@ -59,3 +64,17 @@ pub record BringsLearnt (e : EventName) (w : World) (v : VatNo) (p : PromId) (b 
   pub leaves : Leaves (learnt w v p b).touched (learnt w v p b).written (learnt w v p b).state cells left
   pub brings : Brings e (learn_foot v p cells left) it.touched.items (kepts_of it.records.items)
   pub quiet : it.notes.items ≡ []
+
+-- the cells that a turn touches: what was looked at to know that it is ready and what it published, then those of its vat, then the messages
+-- that it made and its own
+abbrev pub turn_keys : EventName → MsgId → Way → VatNo → code.Outcome → List CellKey
+turn_keys e m way v o =
+    (map key.Board way.through.items ++ (map key.Msg way.awaited ++ map (λ b. key.Board b.0) (publications_of o.out.publications)))
+    ++ (keys_in v (entries_of o.footprint) ++ (map (λ p. p.0) (letters_from e 0 (map letter_of o.out.letters.items)) ++ key.Msg m ∷ []))
+
+-- where the message is there, what its turn sends is new, and this is the way of its target, these are the effects of the turn, whatever its
+-- vat's state was
+abbrev pub AreTurnEffects : EventName → World → MsgId → Message → Way → VatNo → code.Outcome → Effects → Type 0
+AreTurnEffects e w m g way v o it =
+    w (key.Msg m) ≡ Some (message g) → AreNew w (letters_from e 0 (map letter_of o.out.letters.items)) → IsWay w v g way
+    → (u : heap.State) → BringsTurn e w m (turn_of g v o u) it

@@ -16,7 +16,7 @@ use Rattle.heap.specs.View.{bind_of, object_of, view_of, same_name, same_slot, s
 use Rattle.heap.specs.declared.reach.Footprint.{Footprint}
 use Rattle.worldcells.specs.World.{Content, content_of, cell_key}
 use Rattle.worldcells.specs.Theory.{cells}
-use Rattle.event.specs.Events.{is_lost}
+use Rattle.event.specs.Events.{in_world, is_lost}
 use Rattle.deliveries.specs.Outcomes.{told_of}
 use Rattle.deliveries.specs.declared.outcome.Outcome.{Outcome}
 
@@ -64,12 +64,9 @@ abbrev pub left_in : List Entry → List (Cell × heap.Content)
 left_in [] = []
 left_in (e ∷ es) = left_at e.0 e.1 ++ left_in es
 
--- those writes in the world, and records of them
-abbrev pub writes_at : VatNo → List (Cell × heap.Content) → List (CellKey × Content)
-writes_at v left = map (λ p. (cell_key v p.0, content_of p.1)) left
-
+-- records of those writes in the world
 abbrev pub kept_left : EventName → VatNo → List (Cell × heap.Content) → Record cells
-kept_left e v left = record_of cells e.0 (writes_at v left)
+kept_left e v left = record_of cells e.0 (in_world v left)
 
 -- a record of one cell in which an event wrote this
 abbrev pub kept_at : EventName → VatNo → Cell → heap.Content → CellKey × (Option Content × Option ℕ)

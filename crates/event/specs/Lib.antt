@@ -9,3 +9,4 @@ pub mod Runs
 pub mod Effects
 pub mod Entries
 pub mod Finds
+pub mod Naming

@@ -1,5 +1,5 @@
 // What an event touches and writes, worked out before it is entered.
-ghost use Rattle.std.specs.Prelude.{◌≡◌, ◌++◌, ◌∷◌, [], Some, List, map, IfOk, OnOk};
+ghost use Rattle.std.specs.Prelude.{◌≡◌, ◌++◌, [], Some, List, map, IfOk, OnOk};
 ghost use Rattle.history.specs.Records.{record_of};
 ghost use Rattle.ids.specs.declared.cells.CellKey.TheVariants as key;
 ghost use Rattle.kernele.specs.View.{program_of};
@@ -7,18 +7,16 @@ ghost use Rattle.scopes.specs.Scope.{own_names_in};
 ghost use Rattle.heap.specs.State.{State};
 ghost use Rattle.post.specs.Messages as posts;
 ghost use Rattle.post.specs.MessageView.{message_of};
-ghost use Rattle.erules.specs.OutboxView.{letter_of};
 ghost use Rattle.erules.specs.PublicationsView.{publications_of, EachOnce as PublishedOnce};
 ghost use Rattle.worldcells.specs.Theory.{kepts_of, kept_of, cells};
 ghost use Rattle.worldcells.specs.World as model;
 ghost use Rattle.worldcells.specs.View.{world_of};
 ghost use Rattle.worldcells.specs.World.{vat_state};
 ghost use Rattle.deliveries.specs.Outcomes.{outcome_on};
-ghost use Rattle.event.specs.Entries.{EachOnce, entries_of, keys_in, left_of, kept_left};
-ghost use Rattle.event.specs.Events.{AreNew, birth_foot, ask_foot, first_message, first_promise, letters_from, opening_message, asked_message, made_by, moved_foot};
-ghost use Rattle.event.specs.Effects.{Brings, BringsLearnt, BringsTurn, known_by, turn_of};
+ghost use Rattle.event.specs.Entries.{EachOnce, left_of, kept_left};
+ghost use Rattle.event.specs.Events.{birth_foot, ask_foot, first_message, first_promise, opening_message, asked_message, made_by, moved_foot};
+ghost use Rattle.event.specs.Effects.{AreTurnEffects, Brings, BringsLearnt, known_by, turn_keys};
 ghost use Rattle.event.specs.Learning.{Learns};
-ghost use Rattle.event.specs.ReadyView.{IsWay};
 
 use crate::left::{record_cells, touch_cells};
 use crate::making::{
@@ -289,7 +287,7 @@ fn turn_touched(
 ) -> Result<Vec<CellKey>, AllocError>
     ensures once { OnOk result (EachOnce outcome.now.footprint) }
     ensures published { OnOk result (PublishedOnce (publications_of outcome.now.out.publications)) }
-    ensures touched { IfOk result (λ keys. keys.items ≡ (map key.Board way.now.through.items ++ (map key.Msg way.now.awaited ++ map (λ b. key.Board b.0) (publications_of outcome.now.out.publications))) ++ (keys_in vat (entries_of outcome.now.footprint) ++ (map (λ p. p.0) (letters_from event 0 (map letter_of outcome.now.out.letters.items)) ++ key.Msg name ∷ []))) }
+    ensures touched { IfOk result (λ keys. keys.items ≡ turn_keys event name way.now vat outcome.now) }
 {
     let mut touched = Vec::new(alloc);
     touch_board(&mut touched, way.through.as_slice())?;
@@ -350,7 +348,7 @@ pub fn turn_effects(
     vat: VatNo,
     outcome: &Outcome,
 ) -> Result<Effects, AllocError>
-    ensures { IfOk result (λ it. world_of world.now (key.Msg name) ≡ Some (model.message (message_of message.now)) → AreNew (world_of world.now) (letters_from event 0 (map letter_of outcome.now.out.letters.items)) → IsWay (world_of world.now) vat (message_of message.now) way.now → (u : State) → BringsTurn event (world_of world.now) name (turn_of (message_of message.now) vat outcome.now u) it) }
+    ensures { IfOk result (λ it. AreTurnEffects event (world_of world.now) name (message_of message.now) way.now vat outcome.now it) }
 {
     Ok(Effects {
         touched: turn_touched(alloc, event, name, way, vat, outcome)?,

@@ -48,7 +48,6 @@ impl Draft {
     ghost use Rattle.heap.specs.State.{top, slot_cell, object_cell, view_cell, fence_cell, bound, held, made, viewed, fenced, read, write, also, no_cells};
     ghost use Rattle.heap.specs.View.{bind_of, object_of, view_of, state_of};
     ghost use Rattle.heap.specs.Found.{Found, touched_in, writes_in};
-    ghost use Rattle.heap.specs.Reaches.{state_in};
     ghost use Rattle.heap.specs.Drafts.{is_of, with_slots, with_objects, and_slots, and_objects, draft_of, counts_of, touched_of, writes_of, written_of, began_with, IsUnwritten};
     ghost use Rattle.heap.specs.Growing.{SlotGrows, lengthens};
     ghost use Rattle.values.specs.View.{val_of};
@@ -184,7 +183,7 @@ impl Draft {
 
     /// Makes the turn's next slot, which holds this value. Without memory the turn has made nothing more.
     pub fn new_slot(&mut self, value: Value) -> Result<SlotId, AllocError>
-        requires { (counts_of self.old).slots < 4294967295 }
+        requires { (counts_of self.old).slots < u32.MAX }
         ensures named { IfOk result (λ i. i ≡ record { event = (counts_of self.old).event; index = (counts_of self.old).slots; vat = (counts_of self.old).vat }) }
         ensures made { IfOk result (λ i. draft_of self.new ≡ write (draft_of self.old) (slot_cell i) (held (val_of value))) }
         ensures touched { IfOk result (λ i. touched_of self.new ≡ also (slot_cell i) (touched_of self.old)) }
@@ -269,7 +268,7 @@ impl Draft {
 
     /// Makes the turn's next object. Without memory the turn has made nothing more.
     pub fn new_object(&mut self, object: Made) -> Result<ObjId, AllocError>
-        requires { (counts_of self.old).objects < 4294967295 }
+        requires { (counts_of self.old).objects < u32.MAX }
         ensures named { IfOk result (λ i. i ≡ record { event = (counts_of self.old).event; index = (counts_of self.old).objects; vat = (counts_of self.old).vat }) }
         ensures made { IfOk result (λ i. draft_of self.new ≡ write (draft_of self.old) (object_cell i) (made (object_of object))) }
         ensures touched { IfOk result (λ i. touched_of self.new ≡ also (object_cell i) (touched_of self.old)) }
@@ -293,14 +292,6 @@ impl Draft {
             ≡ read (draft_of self.now) (view_cell promise) }
     {
         self.base.view(promise)
-    }
-
-    /// What is known of a promise that was touched before.
-    pub fn peek_view(&self, promise: PromId) -> Option<&View>
-        ensures touched { IfSome result (λ k. touched_of self.now (view_cell promise) ≡ true) }
-        ensures content { IfSome result (λ k. read (draft_of self.now) (view_cell promise) ≡ Some (viewed (view_of k.now))) }
-    {
-        self.base.touched_view(promise)
     }
 
     /// Touches what is known of a promise. Without memory nothing more is touched.
@@ -334,14 +325,6 @@ impl Draft {
             ≡ read (draft_of self.now) (fence_cell reference) }
     {
         self.base.fence(reference)
-    }
-
-    /// The messages behind a reference that was touched before.
-    pub fn peek_fence(&self, reference: Reference) -> Option<&Fence>
-        ensures touched { IfSome result (λ f. touched_of self.now (fence_cell reference) ≡ true) }
-        ensures content { IfSome result (λ f. read (draft_of self.now) (fence_cell reference) ≡ Some (fenced f.now)) }
-    {
-        self.base.touched_fence(reference)
     }
 
     /// Touches the messages behind a reference. Without memory nothing more is touched.
@@ -402,7 +385,7 @@ impl Draft {
         vat: VatNo,
         mut slots: Vec<Value>,
     ) -> Result<Reach, AllocError>
-        requires { length slots.items ≤ 4294967295 }
+        requires { length slots.items ≤ u32.MAX }
         ensures touched { IfOk result (λ r. touched_in r.footprint ≡ and_slots event vat slots.items (touched_in base.footprint)) }
         ensures written { IfOk result (λ r. writes_in r.footprint ≡ with_slots event vat slots.items (writes_in base.footprint)) }
         ensures beneath { IfOk result (λ r. r.state ≡ base.state) }
@@ -421,7 +404,7 @@ impl Draft {
         vat: VatNo,
         mut objects: Vec<Made>,
     ) -> Result<Reach, AllocError>
-        requires { length objects.items ≤ 4294967295 }
+        requires { length objects.items ≤ u32.MAX }
         ensures touched { IfOk result (λ r. touched_in r.footprint ≡ and_objects event vat objects.items (touched_in base.footprint)) }
         ensures written { IfOk result (λ r. writes_in r.footprint ≡ with_objects event vat objects.items (writes_in base.footprint)) }
         ensures beneath { IfOk result (λ r. r.state ≡ base.state) }

@@ -1,5 +1,5 @@
 // What a turn has reached of the state that it began with.
-ghost use Rattle.std.specs.Prelude.{◌≡◌, None, Some, true, IfOk, IfSome, OnOk, OnErr};
+ghost use Rattle.std.specs.Prelude.{◌≡◌, None, Some, true, IfSome, OnOk, OnErr};
 ghost use Rattle.std.specs.Arc.{arc_value};
 ghost use Rattle.std.specs.Option.{option_map};
 ghost use Rattle.heap.specs.State.{Cell, top, slot_cell, object_cell, view_cell, fence_cell, bound, held, made, viewed, fenced, no_cells, nothing, also, read, write};
@@ -336,28 +336,6 @@ impl Reach {
         ensures content { IfSome result (λ v. read (state_in self.now) (slot_cell slot) ≡ Some (held (val_of v.now))) }
     {
         match self.footprint.slots.get(&slot) {
-            Some(touch) => touch.content(),
-            None => None,
-        }
-    }
-
-    /// What is known of a promise that was touched.
-    pub(crate) fn touched_view(&self, promise: PromId) -> Option<&View>
-        ensures touched { IfSome result (λ k. touched_in self.now.footprint (view_cell promise) ≡ true) }
-        ensures content { IfSome result (λ k. read (state_in self.now) (view_cell promise) ≡ Some (viewed (view_of k.now))) }
-    {
-        match self.footprint.views.get(&promise) {
-            Some(touch) => touch.content(),
-            None => None,
-        }
-    }
-
-    /// The messages behind a reference that was touched.
-    pub(crate) fn touched_fence(&self, reference: Reference) -> Option<&Fence>
-        ensures touched { IfSome result (λ f. touched_in self.now.footprint (fence_cell reference) ≡ true) }
-        ensures content { IfSome result (λ f. read (state_in self.now) (fence_cell reference) ≡ Some (fenced f.now)) }
-    {
-        match self.footprint.fences.get(&reference) {
             Some(touch) => touch.content(),
             None => None,
         }

@@ -9,10 +9,17 @@ use Rattle.journal.proofs.Reversed.{all_unmapped}
 use Rattle.worldcells.specs.World.{World}
 use Rattle.worldcells.specs.Theory.{Rule, subject, cells}
 use Rattle.journal.specs.Items.{Item}
-use Rattle.journal.specs.Lines.{plain, entries_in, lines_of, PlainJournal}
+use Rattle.journal.specs.Lines.{plain, Line, entries_in, lines_of}
 use Rattle.journal.specs.Standing.{ItemsStand}
 use Rattle.journal.proofs.Alike.{SameCauses, SameMeets, SameSet, sound_alike, closed_alike, part_alike, ordered_alike, own_alike, distinct_alike, causes_turned, meets_turned, set_turned}
 use Rattle.journal.proofs.Telling.{told_entry, entries_told, same_causes, same_meets}
+
+-- lines as a journal tells them: names are apart, causes are older, and the live ones have their causes among the live ones, and no others
+pub record PlainJournal (lines : List Line) : Type 0 where
+  pub distinct : Distinct plain (entries_in lines)
+  pub ordered : Ordered plain (entries_in lines)
+  pub own : NoneNamesItself plain (entries_in lines)
+  pub sound : Sound plain (live_set plain) (entries_in lines)
 
 -- a set of told entries and a set of entries have the same members, among these rows
 abbrev pub SameMembers : (does : Rule) → (Entry plain → Bool) → (Entry (subject does) → Bool) → List (Row (subject does)) → Type 0

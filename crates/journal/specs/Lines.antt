@@ -2,7 +2,7 @@
 use Rattle.std.specs.Prelude.{ℕ, Bool, List, [], map, filter, reverse, Option}
 use Rattle.std.specs.List.{list_any}
 use Rattle.history.specs.Subject.{Subject}
-use Rattle.history.specs.Journal.{Entry, is_in, caused, live_set, Distinct, Ordered, NoneNamesItself, Sound}
+use Rattle.history.specs.Journal.{Entry, is_in, caused}
 use Rattle.history.specs.Chains.{chain}
 use Rattle.ids.specs.CellKeys.{same_key}
 use Rattle.ids.specs.declared.cells.CellKey.{CellKey}
@@ -43,13 +43,6 @@ line_of items i = record { seat = i.seat; entry = record (bare i) { causes = cau
 
 abbrev pub lines_of : List Item → List Line
 lines_of items = map (line_of items) items
-
--- lines as a journal tells them: names are apart, causes are older, and the live ones have their causes among the live ones, and no others
-pub record PlainJournal (lines : List Line) : Type 0 where
-  pub distinct : Distinct plain (entries_in lines)
-  pub ordered : Ordered plain (entries_in lines)
-  pub own : NoneNamesItself plain (entries_in lines)
-  pub sound : Sound plain (live_set plain) (entries_in lines)
 
 -- a line with its causes named in the order of these lines
 abbrev pub in_order : List Line → Line → Line

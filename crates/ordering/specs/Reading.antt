@@ -15,6 +15,7 @@ use Rattle.post.specs.Delivery.{Delivery, sent}
 use Rattle.post.specs.Messages.{is_done, Message, Published}
 use Rattle.sends.specs.Vats.{names_of, names_for}
 use Rattle.erules.specs.Outbox.{Outbox}
+pub use Rattle.event.specs.Walks.{fences_of as publication_fences}
 
 -- the names behind each reference
 abbrev pub Sets : Type 0
@@ -56,10 +57,6 @@ travels_in c r m l = same_carrier (argument l.0) c && member (names_for (fences_
 abbrev pub publication_in : (PromId → Bool) → List (PromId × Published) → Carrier → Option Published
 publication_in before [] c = None
 publication_in before (b ∷ bs) c = cond (same_carrier (published b.0) c && not (before b.0)) (Some b.1) (publication_in before bs c)
-
-abbrev pub publication_fences : Option Published → Carried
-publication_fences None = []
-publication_fences (Some b) = b.fences
 
 abbrev pub afters : EventName → List (MsgId × Message) → MsgId → MsgId → Bool
 afters e ls n m = list_any (was_after n m) (numbered e 0 ls)

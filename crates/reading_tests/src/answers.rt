@@ -2,6 +2,7 @@
 
 use ereader::fault::ReadFault;
 use ereader::{read, read_tokens};
+use etoken::fault::TokenFault;
 use etoken::token::{Placed, Token};
 use etoken::tokens::tokens;
 use ids::text::Text;
@@ -39,6 +40,12 @@ pub(crate) fn answer(alloc: Global, asked: Asked, text: &str) -> Result<String, 
     Ok(out)
 }
 
+/// Writes why a text has no tokens, as it is told of a whole text.
+fn write_refusal(fault: TokenFault, out: &mut String) -> Result<(), AllocError> {
+    let refusal = ReadFault::from(fault);
+    write!(out, "{refusal}")
+}
+
 fn write_answer(
     alloc: Global,
     asked: Asked,
@@ -48,14 +55,14 @@ fn write_answer(
     match asked {
         Asked::Tokens => match tokens(alloc, text) {
             Ok(list) => write_tokens(&list, out),
-            Err(fault) => write!(out, "{fault}"),
+            Err(fault) => write_refusal(fault, out),
         },
         Asked::SpellingOfTokens => match tokens(alloc, text) {
             Ok(list) => {
                 let outcome = read_tokens(alloc, &list, text.len());
                 write_of_reading(alloc, Asked::Spelling, outcome, out)
             }
-            Err(fault) => write!(out, "{fault}"),
+            Err(fault) => write_refusal(fault, out),
         },
         Asked::Spelling | Asked::CheckAsked | Asked::CheckScript | Asked::Names | Asked::Captures =>
             write_of_reading(alloc, asked, read(alloc, text), out),

@@ -3,7 +3,6 @@
 use crate::answers::Asked;
 use crate::tables::{expect, expect_repeated, expect_text};
 use ereader::fault::ReadFault;
-use etoken::fault::TokenFault;
 use scopes::CheckFault;
 
 const NO_PROGRAM: &str = r#"
@@ -185,12 +184,9 @@ fn refuses_deep_programs(rt: HostRuntime) {
 
 #[test]
 fn says_that_memory_ran_out(rt: HostRuntime) {
-    let text = format!(in rt.alloc();
-        "{}, {}, {}",
-        TokenFault::Memory,
-        ReadFault::Memory,
-        CheckFault::Memory
-    )
-    .expect(&rt, "no memory");
-    expect_text(&rt, "faults", &text, "L7 Memory, L7 Memory, B20 Memory");
+    let text = format!(in rt.alloc(); "{}, {}", ReadFault::Memory, CheckFault::Memory).expect(
+        &rt,
+        "no memory",
+    );
+    expect_text(&rt, "faults", &text, "L7 Memory, B20 Memory");
 }

@@ -5,6 +5,7 @@ use Rattle.values.specs.Data.{Val, list, Vals, no_vals, and_val}
 use Rattle.values.specs.Limits.{weight, list_depth}
 use Rattle.values.specs.Replies.{items_in}
 use Rattle.refs.specs.Walks.{Resolutions, walked, followed}
+use Rattle.values.specs.declared.limits.TheConstants.{MOST_WEIGHT, MOST_DEPTH}
 
 -- the promises that were walked, in order, and the settled form, if no limit was passed
 pub record Settling : Type 0 where
@@ -64,4 +65,4 @@ list_at m (suc depth) left vs = settle_list (settle_at m depth) left vs
 
 -- the settled form of a value, within the limits of a value
 unfoldable pub settling : Resolutions → Val → Settling
-settling m v = settle_at m 64 65536 v
+settling m v = settle_at m MOST_DEPTH MOST_WEIGHT v

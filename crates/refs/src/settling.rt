@@ -36,8 +36,8 @@ fn settle_at<R: Resolve>(
     left: u32,
     through: &mut Vec<PromId>,
 ) -> Result<Option<Value>, AllocError>
-    requires shallow { depth ≤ 64 }
-    requires light { left ≤ 65536 }
+    requires shallow { depth ≤ MOST_DEPTH }
+    requires light { left ≤ MOST_WEIGHT }
     ensures settled { IfOk result (λ o. option_map val_of o ≡ (settling_at (R.resolutions map.now) depth left (val_of value.now)).settled) }
     ensures through { OnOk result (through.new.items ≡ through.old.items ++ (settling_at (R.resolutions map.now) depth left (val_of value.now)).through) }
 {
@@ -62,8 +62,8 @@ fn settle_list<R: Resolve>(
     left: u32,
     through: &mut Vec<PromId>,
 ) -> Result<Option<Value>, AllocError>
-    requires shallow { depth ≤ 64 }
-    requires light { left ≤ 65536 }
+    requires shallow { depth ≤ MOST_DEPTH }
+    requires light { left ≤ MOST_WEIGHT }
     ensures settled { IfOk result (λ o. option_map val_of o ≡ (list_at (R.resolutions map.now) depth left (vals_of items.now)).settled) }
     ensures through { OnOk result (through.new.items ≡ through.old.items ++ (list_at (R.resolutions map.now) depth left (vals_of items.now)).through) }
 {

@@ -14,7 +14,7 @@ use Rattle.kernele.proofs.Walks.{trees_from, no_trees_from, methods_from, no_met
 use Rattle.code.specs.View.{tree_of_code, methods_of_codes}
 use Rattle.code.specs.Index.{index_in, index_fits}
 use Rattle.code.specs.Frames.{Frame, only_names, behind, after, place_in, all_placed, captured_names_of, fits, fits_all, fits_methods}
-use Rattle.resolver.specs.Resolves.{Resolves, ResolvesAll, ResolvesBlock, ResolvesMethods, ResolvesMethod}
+use Rattle.resolver.specs.Resolves.{Resolves, ResolvesAll, ResolvesBlock, ResolvesMethods}
 use Rattle.code.specs.declared.code.Place.{Place}
 use Rattle.code.specs.declared.code.Capture.{Capture}
 use Rattle.code.specs.declared.code.Code as code
@@ -27,6 +27,12 @@ use Rattle.resolver.proofs.Growing.{behind-nothing, behind-both}
 use Rattle.std.specs.declared.sync.Arc.{Arc}
 use Rattle.std.specs.declared.vec.Vec.{Vec}
 use Rattle.std.specs.declared.alloc.Global.{Global}
+
+-- a method is resolved whose body begins with its parameters behind the names of its object
+pub record ResolvesMethod (frame : Frame) (m : Method) (c : MethodCode) : Type 0 where
+  pub verb : c.verb ≡ m.verb
+  pub parameters : c.parameters.value.items ≡ m.parameters.value.items
+  pub body : ResolvesBlock (frame ++ only_names (names_of_all m.parameters.value.items)) (trees_of m.body.value.items) c.body.value.items
 
 -- what is resolved of a tree is resolved of the same tree, named otherwise
 pub resolved_as : {own : Bool} {f g : Frame} {t u : Tree} {c : Code} → u ≡ t → Resolves own f t c g → Resolves own f u c g

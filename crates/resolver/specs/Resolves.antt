@@ -1,15 +1,12 @@
 -- What resolving gives: code that stands for the tree, fits the frame that it was resolved for, and leaves the frame behind the tree.
-use Rattle.std.specs.Prelude.{◌≡◌, ◌++◌, Bool, false, List, Option, Some, None}
+use Rattle.std.specs.Prelude.{◌≡◌, Bool, false, List, Option, Some, None}
 use Rattle.kernele.specs.Tree.{Tree, Trees, Methods}
-use Rattle.kernele.specs.View.{trees_of}
-use Rattle.scopes.specs.Scope.{names_of_all}
 use Rattle.kernele.specs.declared.tree.Expr as tree
 use Rattle.kernele.specs.declared.tree.Expr.{Expr}
-use Rattle.kernele.specs.declared.tree.Method.{Method}
 use Rattle.code.specs.declared.code.Code.{Code}
 use Rattle.code.specs.declared.code.MethodCode.{MethodCode}
 use Rattle.code.specs.View.{tree_of_code, trees_of_codes, methods_of_codes}
-use Rattle.code.specs.Frames.{Frame, only_names, after, after_in, fits, fits_all, fits_methods}
+use Rattle.code.specs.Frames.{Frame, after, after_in, fits, fits_all, fits_methods}
 
 -- a tree, from one frame to the next
 pub record Resolves (own : Bool) (frame : Frame) (t : Tree) (c : Code) (next : Frame) : Type 0 where
@@ -32,12 +29,6 @@ pub record ResolvesBlock (frame : Frame) (ts : Trees) (cs : List Code) : Type 0 
 pub record ResolvesMethods (frame : Frame) (ms : Methods) (cs : List MethodCode) : Type 0 where
   pub methods : methods_of_codes cs ≡ ms
   pub fitting : fits_methods frame cs
-
--- one of them, whose body begins with its parameters behind those names
-pub record ResolvesMethod (frame : Frame) (m : Method) (c : MethodCode) : Type 0 where
-  pub verb : c.verb ≡ m.verb
-  pub parameters : c.parameters.value.items ≡ m.parameters.value.items
-  pub body : ResolvesBlock (frame ++ only_names (names_of_all m.parameters.value.items)) (trees_of m.body.value.items) c.body.value.items
 
 -- the right side of a definition, a variable, an assignment, a throw, a broken reference and a state
 abbrev pub right_side : Expr → Option Expr

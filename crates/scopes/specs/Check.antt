@@ -1,11 +1,12 @@
 -- What the check's values stand for.
-use Rattle.std.specs.Prelude.{◌≡◌, ℕ, List, ◌++◌, length, Bool, true, Result, Ok, Err, codes, MatchResult}
+use Rattle.std.specs.Prelude.{◌≡◌, ℕ, List, length, Bool, true, Result, Ok, Err, MatchResult}
 use Rattle.std.specs.Ordering.{nat_cmp}
 use Rattle.std.specs.Cmp.Lexicographic.{slice_cmp}
 use Rattle.std.specs.Option.{option_or}
 use Rattle.std.specs.BTreeMap.{BTreeMap, get}
 use Rattle.kernele.specs.Tree.{Name}
 use Rattle.scopes.specs.Scope.{Names, Scopes, Signature, kind_in, unbound, assign_to_def, duplicate_name, too_deep, too_long, Checked}
+use Rattle.scopes.specs.Words.{refusal_text, no_memory}
 use Rattle.kernele.specs.declared.tree.Method.{Method}
 use Rattle.scopes.specs.declared.naming.Kind.{Kind}
 use Rattle.scopes.specs.declared.checking.CheckFault.{CheckFault}
@@ -17,12 +18,12 @@ use Rattle.scopes.specs.declared.checking.Scopes as code
 
 -- a fault in words
 abbrev pub fault_text : CheckFault → List ℕ
-fault_text (fault.Unbound x) = codes "K1 Unbound " ++ x
-fault_text (fault.AssignToDef x) = codes "K2 AssignToDef " ++ x
-fault_text (fault.DuplicateName x) = codes "K3 DuplicateName " ++ x
-fault_text fault.TooDeep = codes "K4 TooDeep"
-fault_text fault.TooLong = codes "K5 TooLong"
-fault_text fault.Memory = codes "B20 Memory"
+fault_text (fault.Unbound x) = refusal_text (unbound x)
+fault_text (fault.AssignToDef x) = refusal_text (assign_to_def x)
+fault_text (fault.DuplicateName x) = refusal_text (duplicate_name x)
+fault_text fault.TooDeep = refusal_text too_deep
+fault_text fault.TooLong = refusal_text too_long
+fault_text fault.Memory = no_memory
 
 -- the names of a map
 abbrev pub names_of : BTreeMap Name Kind → Names

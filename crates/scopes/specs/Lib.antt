@@ -1,6 +1,7 @@
-pub mod Scope
 pub mod Check
-pub mod Free
 pub mod Found
-pub mod Room
+pub mod Free
 pub mod Parts
+pub mod Room
+pub mod Scope
+pub mod Words

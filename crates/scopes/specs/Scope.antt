@@ -8,6 +8,7 @@ use Rattle.kernele.specs.declared.tree.Pattern.TheVariants as pattern
 use Rattle.scopes.specs.declared.naming.Kind.{Kind}
 use Rattle.scopes.specs.declared.naming.Kind.TheVariants as kind
 use Rattle.scopes.specs.declared.naming.TopName.{TopName}
+use Rattle.scopes.specs.declared.checking.TheConstants.{MOST_NODES, GREATEST_DEPTH}
 
 -- how many nodes a tree has; a block is none and a method is none: the items belong to the node that has the block or the method
 abbrev mutual
@@ -259,11 +260,11 @@ abbrev mutual
   checked_methods earlier (and_method verb ps body ms) s =
       in_turn (in_turn (new_method earlier (verb, length ps) s) (in_block (checked_taking ps (checked_all body)))) (checked_methods (earlier ++ (verb, length ps) ∷ []) ms)
 
--- a program: first its size, at most 16,384 nodes, then its depth, at most 200, then its names
+-- a program: first its size, then its depth, each no greater than a program may have, then its names
 abbrev pub checked_program : Trees → Scopes → Checked
 checked_program ts s =
-    if nat_lt 16384 (nodes_in ts) then Err too_long
-    else (if nat_lt 200 (depth_in ts) then Err too_deep else checked_all ts s)
+    if nat_lt MOST_NODES (nodes_in ts) then Err too_long
+    else (if nat_lt GREATEST_DEPTH (depth_in ts) then Err too_deep else checked_all ts s)
 
 -- the name that a definition adds
 abbrev pub name_of : Pattern → List TopName

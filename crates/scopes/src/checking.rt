@@ -33,7 +33,7 @@ pub enum CheckFault {
     AssignToDef(Text),
     /// A second definition of a name in one scope.
     DuplicateName(Text),
-    /// Trees deeper than 200.
+    /// Trees deeper than `GREATEST_DEPTH`.
     TooDeep,
     /// More than 16,384 nodes.
     TooLong,

@@ -18,6 +18,7 @@ use Rattle.values.specs.Promises.{promise_of}
 use Rattle.heap.specs.State.{pending, resolved, Cell, view_cell, fence_cell, Content, viewed, fenced}
 use Rattle.refs.specs.Walks.{came, most_walked}
 use Rattle.refs.specs.Settling.{fitted}
+use Rattle.values.specs.declared.limits.TheConstants.{MOST_WEIGHT, MOST_DEPTH}
 
 -- what is done to a vat's cells, with a result
 abbrev pub Vat : Type 0 → Type 0
@@ -95,7 +96,7 @@ settled_at (suc depth) left v = settled_walk (settled_list (settled_at depth)) l
 
 -- the settled form of a value; none where it passes a limit of a value
 unfoldable pub settled : Val → Vat (Option Val)
-settled v = settled_at 64 65536 v
+settled v = settled_at MOST_DEPTH MOST_WEIGHT v
 
 -- each value settled by itself, from the left, up to the first that passes a limit
 abbrev pub all_settled : Vals → Vat (Option Vals)

@@ -3,8 +3,8 @@ use Rattle.std.specs.Prelude.{◌+◌}
 use Rattle.heap.specs.Drafts.{Counts}
 use Rattle.sends.specs.Making.{Refusal, problem, turn_too_large, Making, refused, makes, Published, Sent}
 use Rattle.values.specs.View.{val_of, vals_of}
-use Rattle.sends.specs.declared.publishing.Published.{Published as Out}
-use Rattle.sends.specs.declared.sending.Sent.{Sent as Sending}
+use Rattle.sends.specs.declared.publishing.Resolved.{Resolved as Out}
+use Rattle.sends.specs.declared.sending.Sending.{Sending}
 use Rattle.sends.specs.declared.refusing.Refusal.{Refusal as Why}
 use Rattle.sends.specs.declared.refusing.Refusal.TheVariants as why
 use Rattle.sends.specs.declared.refusing.Making.{Making as Made}

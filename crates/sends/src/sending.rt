@@ -1,5 +1,5 @@
 // Sends, whens and promises.
-ghost use Rattle.std.specs.Prelude.{◌≡◌, ◌+◌, ◌<◌, true, IfOk, option_map};
+ghost use Rattle.std.specs.Prelude.{◌≡◌, ◌<◌, true, IfOk, option_map};
 ghost use Rattle.heap.specs.Drafts.{began_with, counts_of};
 ghost use Rattle.values.specs.View.{val_of, vals_of};
 ghost use Rattle.sends.specs.Vats.{all_settled, goes_to};
@@ -34,7 +34,7 @@ pub struct Draw {
 /// What was sent on what, with the fences of the references in the arguments, what it comes after, and the promise of its
 /// result.
 #[derive(Drop)]
-pub struct Sent {
+pub struct Sending {
     pub target: Value,
     pub arguments: Vec<Value>,
     pub fences: Carried,
@@ -85,7 +85,7 @@ fn place(
     draw: Draw,
     target: Value,
     arguments: Vec<Value>,
-) -> Result<Sent, AllocError>
+) -> Result<Sending, AllocError>
     ensures did { IfOk result (λ s. Did (send_placed draw.here draw.message (λ home. record { event = draw.event; index = draw.index; home = home }) (val_of target) (vals_of arguments.items)) draft.old (makes (sent_of s)) draft.new) }
     ensures turn { IsSameTurn draft.old draft.new }
 {
@@ -97,7 +97,7 @@ fn place(
         home: home_of(draw.here, &target),
     };
     come_in(draft, result)?;
-    Ok(Sent {
+    Ok(Sending {
         target,
         arguments,
         fences,
@@ -113,7 +113,7 @@ pub fn send(
     draw: Draw,
     receiver: &Value,
     arguments: &[Value],
-) -> Result<Making<Sent>, AllocError>
+) -> Result<Making<Sending>, AllocError>
     ensures did { IfOk result (λ m. Did (sending draw.here draw.message draw.room (λ home. record { event = draw.event; index = draw.index; home = home }) (val_of receiver.now) (vals_of arguments.now)) draft.old (making_of sent_of m) draft.new) }
     ensures turn { IsSameTurn draft.old draft.new }
 {
@@ -160,7 +160,7 @@ pub fn wait(
 
 /// Makes a promise, and its resolver, which is the turn's next object.
 pub fn promise(draft: &mut Draft, room: bool, promise: PromId) -> Result<Making<ObjId>, AllocError>
-    requires { room ≡ true → (counts_of draft.old).objects < 4294967295 }
+    requires { room ≡ true → (counts_of draft.old).objects < u32.MAX }
     ensures did { IfOk result (λ m. Did (promising room promise (next_object draft.old)) draft.old (making_of (λ o. o) m) draft.new) }
     ensures counts { IfOk result (λ m. counts_of draft.new ≡ and_resolver m (counts_of draft.old)) }
     ensures began { began_with draft.new ≡ began_with draft.old }

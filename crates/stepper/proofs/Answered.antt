@@ -1,6 +1,6 @@
 -- From what the parts answer to what the definition allows.
-use Rattle.std.proofs.Common.{◌≡◌, inl, inr, ℕ, ◌+◌, List, Option, Some, None, Result, Ok, Err, true, false, ◌||◌, refl, subst, sym, ap, ◌∙◌, [], ◌++◌, append_assoc, append-nil, ◌<◌, length, ◌∷◌, arith}
-use Rattle.std.specs.Prelude.{codes, OnOk, IfOk, Bool, string_bytes}
+use Rattle.std.proofs.Common.{◌≡◌, inl, inr, ℕ, ◌+◌, List, Option, Some, None, Result, Ok, Err, true, false, ◌||◌, refl, subst, sym, ap, ◌∙◌}
+use Rattle.std.specs.Prelude.{codes, IfOk, Bool}
 use Rattle.kernele.specs.Tree.{Trees}
 use Rattle.ereader.specs.Texts.{ReadAs}
 use Rattle.ereader.specs.Texts as texts
@@ -17,7 +17,7 @@ use Rattle.journal.specs.Lines.{Line}
 use Rattle.causality.specs.Exact.{Cone}
 use Rattle.book.specs.Refusals.{Refusal}
 use Rattle.book.specs.Refusals.{birth_refusal, ask_refusal, arrival_refusal, forward_refusal, learning_refusal, checkout_refusal, undo_refusal, redo_refusal, cone_refusal, exchange_refusal}
-use Rattle.book.specs.Books.{Book, blank}
+use Rattle.book.specs.Books.{Book}
 use Rattle.book.specs.Calls.{EntersNext, TurnsNext, Undoes, Redoes, Exchanges, StoodAt}
 use Rattle.ids.specs.declared.names.EventName.{EventName}
 use Rattle.ids.specs.declared.names.MsgId.{MsgId}
@@ -32,21 +32,16 @@ use Rattle.book.specs.declared.fault.BookFault.TheVariants as fault
 use Rattle.stepper.specs.declared.engine.Engine.{Engine}
 use Rattle.stepper.specs.Engine.{Happens}
 use Rattle.commands.specs.Commands as commands
-use Rattle.commands.specs.Commands.{Spelled, spelled_by, fault_text}
-use Rattle.commands.specs.Scripts.{script_of, behind_lines, fault_of}
+use Rattle.commands.specs.Commands.{Spelled, fault_text}
+use Rattle.commands.specs.Scripts.{script_of, behind_lines}
 use Rattle.commands.specs.declared.command.LineFault.{LineFault}
-use Rattle.stepper.specs.Replies.{refused, Answers, ask_without_memory, asked_without_memory, asked_unread, ask_refused, Moves, move_without_memory, arrival_refused, arrives, forwarding_refused, forwards, turn_without_memory_named, turn_refused, turns, learning_refused, learns, learn_without_memory, learn_refused, learn_accepted, EnabledIn, enabled, enabled_without_memory, done_text, count_of, undone_text, redone_text, listed, logged, logged_text, cone_found, undo_cone_found, cone_without_memory, cone_refused, undo_without_memory, undo_refused, undo_accepted, undo_cone_without_memory, undo_cone_refused, redo_without_memory, redo_refused, redo_accepted, exchange_without_memory, exchange_refused, exchange_accepted, exchanged_text, AnswersBirth, birth_without_memory, script_without_memory, script_unread, birth_refused, birth_accepted, ask_accepted, queued_text, turned_text, FirstReply, born, answered, skipped, script_refused, said, said_by, Replies, first_and_more, no_more}
+use Rattle.stepper.specs.Replies.{refused, Answers, ask_without_memory, asked_without_memory, asked_unread, ask_refused, Moves, move_without_memory, arrival_refused, arrives, forwarding_refused, forwards, turn_without_memory_named, turn_refused, turns, learning_refused, learns, learn_without_memory, learn_refused, learn_accepted, EnabledIn, enabled, enabled_without_memory, done_text, count_of, undone_text, redone_text, listed, logged, logged_text, cone_found, undo_cone_found, cone_without_memory, cone_refused, undo_without_memory, undo_refused, undo_accepted, undo_cone_without_memory, undo_cone_refused, redo_without_memory, redo_refused, redo_accepted, exchange_without_memory, exchange_refused, exchange_accepted, exchanged_text, AnswersBirth, birth_without_memory, script_without_memory, script_unread, birth_refused, birth_accepted, ask_accepted, queued_text, turned_text, FirstReply, born, answered, script_refused}
 use Rattle.causewaylog.specs.Turns.{live_in}
 use Rattle.causewaylog.specs.Log.{log_text}
-use Rattle.stepper.specs.Listing.{journal_text, cone_text}
-use Rattle.stepper.specs.Steps.{ShowsEnabled}
+pub use Rattle.printing.proofs.Listings.{on_ok}
+use Rattle.printing.specs.Listing.{journal_text, cone_text}
+use Rattle.printing.specs.Steps.{ShowsEnabled}
 use Rattle.worldcells.specs.World.{World}
-use Rattle.commands.specs.Lines.{line_of, behind_line}
-
--- what holds where a call succeeded leads to more
-pub on_ok : {A E P Q : Type 0} (r : Result A E) → (P → Q) → OnOk r P → OnOk r Q
-on_ok (Ok x) f p = f p
-on_ok (Err e) f p = tt
 
 -- a fault of the book is written as the refusal that it tells, or as want of memory
 told_so : (is o : Option Refusal) (T : List ℕ → Type 0) → TellsThat is o → ((r : Refusal) → o ≡ Some r → T (refusal_text r)) → T (codes "B20 Memory") → T (words_of is)

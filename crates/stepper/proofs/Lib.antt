@@ -1,10 +1,7 @@
 pub mod Answered
-pub mod Births
 pub mod Doing
 pub mod Entered
 pub mod Going
-pub mod Listings
-pub mod Names
 pub mod OneAnswer
 pub mod OneMove
 pub mod OneText

@@ -45,7 +45,7 @@ use Rattle.commands.specs.Commands.{Spelled}
 use Rattle.commands.specs.declared.command.LineFault.{LineFault}
 use Rattle.commands.specs.declared.numbers.PromiseName.{PromiseName}
 use Rattle.stepper.specs.Replies.{refused, done_text, queued_text, exchanged_text, Answers, arrive_moves, forward_moves, turn_moves, learn_without_memory, learn_refused, learn_accepted, stepped, runs, enabled_without_memory, enabled, ask_without_memory, asked_without_memory, asked_unread, ask_refused, ask_accepted, shown, listed, log_without_memory, logged, worked, work_refused, cone_without_memory, cone_refused, cone_found, undo_without_memory, undo_refused, undo_accepted, undo_cone_without_memory, undo_cone_refused, undo_cone_found, redo_without_memory, redo_refused, redo_accepted, exchange_without_memory, exchange_refused, exchange_accepted, AnswersBirth, birth_without_memory, script_without_memory, script_refused, script_unread, birth_refused, birth_accepted}
-use Rattle.stepper.specs.Listing.{cone_text}
+use Rattle.printing.specs.Listing.{cone_text}
 use Rattle.stepper.specs.Laws.{SameBook, IsForWant, book_without_memory, text_without_memory, EndsForWant, SameReply, one_reply, other_place, SameAnswer, IsTold, OneAnswer, OneBirth}
 use Rattle.stepper.proofs.Entered.{same_book, same_lines, entered_once, one_run}
 use Rattle.stepper.proofs.OneMove.{answered, not_both, had_memory, one_move, one_step, runs_once}

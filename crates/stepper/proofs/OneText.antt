@@ -32,8 +32,8 @@ use Rattle.agenda.specs.Enabled.{Out, Rises, Enabled, step_cmp}
 use Rattle.agenda.specs.declared.agenda.Step.{Step}
 use Rattle.agenda.proofs.Orders.{vat_total, message_total, promise_total}
 use Rattle.agenda.proofs.Rising.{in_none, in_head, in_tail, in_cases}
-use Rattle.stepper.specs.Show.{Lists, noun_lines, slot_lines, object_lines, view_lines, fence_lines, StateLines, vat_line, VatLines, vat_lines_none, vat_lines_more, number_in, name_of, ByBirth, message_lines, board_lines, Shows}
-use Rattle.stepper.specs.Steps.{enabled_text, ShowsEnabled}
+use Rattle.printing.specs.Show.{Lists, noun_lines, slot_lines, object_lines, view_lines, fence_lines, StateLines, vat_line, VatLines, vat_lines_none, vat_lines_more, number_in, name_of, ByBirth, message_lines, board_lines, Shows}
+use Rattle.printing.specs.Steps.{enabled_text, ShowsEnabled}
 use Rattle.stepper.proofs.OneMove.{step_reversed}
 
 -- ---- all that may be done

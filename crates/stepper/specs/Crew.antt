@@ -3,14 +3,6 @@ use Rattle.std.specs.Prelude.{ℕ, List, ◌++◌, ◌∷◌, [], codes}
 use Rattle.std.specs.Fmt.{decimal}
 use Rattle.book.specs.Books.{Book}
 use Rattle.book.specs.Entered.{entered_in, IsAmong}
-use Rattle.stepper.specs.declared.crew.WorkFault.{WorkFault}
-use Rattle.stepper.specs.declared.crew.WorkFault.TheVariants.{NoWorker, BadBudget, Memory}
-
--- why no work was done
-abbrev pub work_fault_text : WorkFault → List ℕ
-work_fault_text NoWorker = codes "S7 NoWorker"
-work_fault_text BadBudget = codes "B19 BadBudget"
-work_fault_text Memory = codes "B20 Memory"
 
 -- all that was entered before is there still
 abbrev pub Keeps : Book → Book → Type 0

@@ -1,8 +1,9 @@
 -- What holds of replies: each is a function of the book and the command, but for want of memory, the place of `L5` and the work of threads.
-use Rattle.std.specs.Prelude.{◌≡◌, ℕ, true, List, [], ◌∷◌, ◌++◌, Bool, Some, is_some, Result, codes}
+use Rattle.std.specs.Prelude.{◌≡◌, ℕ, List, [], ◌∷◌, ◌++◌, Bool, is_some, Result}
 use Rattle.history.specs.Subject.{touches, new}
 use Rattle.ids.specs.declared.cells.CellKey.{CellKey}
 use Rattle.ereader.specs.Shown as reading
+use Rattle.scopes.specs.Words.{no_memory}
 use Rattle.ereader.specs.declared.fault.ReadFault.TheVariants as read_fault
 use Rattle.journal.specs.Lines.{plain, Line}
 use Rattle.book.specs.Books.{Book}
@@ -35,8 +36,8 @@ pub record SameBook (b d : Book) : Type 0 where
 
 -- memory ran out for a text, or for the book
 pub data IsForWant : List ℕ → Type 0 where
-  book_without_memory : IsForWant (refused (codes "B20 Memory"))
-  text_without_memory : IsForWant (refused (codes "L7 Memory"))
+  book_without_memory : IsForWant (refused no_memory)
+  text_without_memory : IsForWant (refused (reading.shown read_fault.Memory))
 
 -- A reply ends for want of memory. Of a run only the last step can be refused, and what the steps before it told stands before; of another
 -- command this is the whole reply.

@@ -3,12 +3,7 @@ pub mod Ended
 pub mod Engine
 pub mod Fault
 pub mod Laws
-pub mod Listing
-pub mod ListingView
 pub mod Replies
 pub mod Runs
-pub mod Show
-pub mod ShowView
-pub mod Steps
 pub mod Taking
 pub mod Written

@@ -14,6 +14,8 @@ use Rattle.deliveries.specs.Turn.{Told, told, lost}
 use Rattle.values.specs.Data.{gives, throws}
 use Rattle.ereader.specs.Texts.{ReadAs}
 use Rattle.ereader.specs.Shown as reading
+use Rattle.ereader.specs.declared.fault.ReadFault.TheVariants as read_fault
+use Rattle.scopes.specs.Words.{no_memory}
 use Rattle.ereader.specs.declared.fault.ReadFault.{ReadFault}
 use Rattle.post.specs.Messages.{Vat}
 use Rattle.worldcells.specs.Events.{birth, ask, arrive, forward, learn}
@@ -25,7 +27,7 @@ use Rattle.desk.specs.Desks.{has_vat}
 use Rattle.journal.specs.Lines.{Line}
 use Rattle.causality.specs.Exact.{Cone}
 use Rattle.causality.specs.Selections.{chosen}
-use Rattle.book.specs.Fault.{refusal_text}
+use Rattle.book.specs.Fault.{refusal_text, work_text}
 use Rattle.book.specs.Refusals.{Refusal}
 use Rattle.book.specs.Refusals.{birth_refusal, ask_refusal, arrival_refusal, forward_refusal, learning_refusal, checkout_refusal, undo_refusal, redo_refusal, cone_refusal, exchange_refusal}
 use Rattle.book.specs.Learning.{LearnsNamed, RefusesNamed}
@@ -36,14 +38,14 @@ use Rattle.commands.specs.declared.numbers.PromiseName.{PromiseName}
 use Rattle.commands.specs.Commands as command
 use Rattle.commands.specs.Commands.{Spelled, spelled_by, fault_text}
 use Rattle.commands.specs.Scripts.{fault_of, script_of, behind_lines}
-use Rattle.stepper.specs.Show.{Shows}
+use Rattle.printing.specs.Show.{Shows}
 use Rattle.causewaylog.specs.Turns.{live_in}
 use Rattle.causewaylog.specs.Log.{log_text}
-use Rattle.stepper.specs.Listing.{journal_text, cone_text}
-use Rattle.stepper.specs.Steps.{ShowsEnabled}
+use Rattle.printing.specs.Listing.{journal_text, cone_text}
+use Rattle.printing.specs.Steps.{ShowsEnabled}
 use Rattle.commands.specs.declared.command.LineFault.{LineFault}
-use Rattle.stepper.specs.Crew.{work_fault_text, Keeps, worked_text}
-use Rattle.stepper.specs.declared.crew.WorkFault.{WorkFault}
+use Rattle.stepper.specs.Crew.{Keeps, worked_text}
+use Rattle.book.specs.declared.fault.WorkFault.{WorkFault}
 
 -- no CODE NAME ARGS
 abbrev pub refused : List ℕ → List ℕ
@@ -94,14 +96,14 @@ logged_text text = text ++ 10 ∷ []
 -- With a budget for each turn: something that may be done leads from a book to a reply, refused or not, and a book.
 -- Want of memory may refuse what needs it; the book then is as it was, but for a name that a turn may have drawn.
 pub data Moves (budget : ℕ) : Book → Step → List ℕ → Bool → Book → Type 0 where
-  move_without_memory : {b : Book} {s : Step} → Moves budget b s (refused (codes "B20 Memory")) true b
+  move_without_memory : {b : Book} {s : Step} → Moves budget b s (refused (no_memory)) true b
   arrival_refused : {b : Book} {m : MsgId} {r : Refusal} → arrival_refusal b m ≡ Some r → Moves budget b (step.Arrive m) (refused (refusal_text r)) true b
   arrives : {b d : Book} {m : MsgId} {e : EventName} {f : Foot} → arrival_refusal b m ≡ None → EntersNext (record { name = e; act = arrive m }) f 0 b d
       → Moves budget b (step.Arrive m) (done_text e) false d
   forwarding_refused : {b : Book} {m : MsgId} {r : Refusal} → forward_refusal b m ≡ Some r → Moves budget b (step.Forward m) (refused (refusal_text r)) true b
   forwards : {b d : Book} {m : MsgId} {e : EventName} {f : Foot} → forward_refusal b m ≡ None → EntersNext (record { name = e; act = forward m }) f 0 b d
       → Moves budget b (step.Forward m) (done_text e) false d
-  turn_without_memory_named : {b : Book} {m : MsgId} → Moves budget b (step.Turn m) (refused (codes "B20 Memory")) true (record b { next = b.next + 1 })
+  turn_without_memory_named : {b : Book} {m : MsgId} → Moves budget b (step.Turn m) (refused (no_memory)) true (record b { next = b.next + 1 })
   turn_refused : {b : Book} {m : MsgId} {r : Refusal} → checkout_refusal b m budget ≡ Some r → Moves budget b (step.Turn m) (refused (refusal_text r)) true b
   turns : {b d : Book} {m : MsgId} {e : EventName} {t : Turn} → checkout_refusal b m budget ≡ None → TurnsNext e m budget t b d
       → Moves budget b (step.Turn m) (turned_text e t.outcome.told) false d
@@ -122,7 +124,7 @@ pub data Steps (budget : ℕ) : Book → List ℕ → Bool → Book → Bool →
   step_done : {b d : Book} {s : Step} {reply : List ℕ} → FirstIn b (Some s) → Moves budget b s reply false d → Steps budget b reply false d true
   step_refused : {b d : Book} {s : Step} {reply : List ℕ} → FirstIn b (Some s) → Moves budget b s reply true d → Steps budget b reply true d false
   step_idle : {b : Book} → FirstIn b None → Steps budget b idle_text false b false
-  step_without_memory : {b : Book} → Steps budget b (refused (codes "B20 Memory")) true b false
+  step_without_memory : {b : Book} → Steps budget b (refused (no_memory)) true b false
 
 -- so many steps, up to one behind which none follows
 pub data Runs (budget : ℕ) : ℕ → Book → List ℕ → Bool → Book → Type 0 where
@@ -135,18 +137,18 @@ pub data Answers (budget : ℕ) : Book → Spelled → List ℕ → Bool → Boo
   arrive_moves : {b d : Book} {m : MsgId} {reply : List ℕ} {r : Bool} → Moves budget b (step.Arrive m) reply r d → Answers budget b (command.arrive m) reply r d
   forward_moves : {b d : Book} {m : MsgId} {reply : List ℕ} {r : Bool} → Moves budget b (step.Forward m) reply r d → Answers budget b (command.forward m) reply r d
   turn_moves : {b d : Book} {m : MsgId} {reply : List ℕ} {r : Bool} → Moves budget b (step.Turn m) reply r d → Answers budget b (command.turn m) reply r d
-  learn_without_memory : {b : Book} {x : List ℕ} {n : PromiseName} → Answers budget b (command.learn x n) (refused (codes "B20 Memory")) true b
+  learn_without_memory : {b : Book} {x : List ℕ} {n : PromiseName} → Answers budget b (command.learn x n) (refused (no_memory)) true b
   learn_refused : {b : Book} {x : List ℕ} {n : PromiseName} {r : Refusal} → RefusesNamed b x n.event n.index r → Answers budget b (command.learn x n) (refused (refusal_text r)) true b
   learn_accepted : {b d : Book} {x : List ℕ} {n : PromiseName} {e : EventName} → LearnsNamed x n.event n.index e b d → Answers budget b (command.learn x n) (done_text e) false d
   stepped : {b d : Book} {reply : List ℕ} {r more : Bool} → Steps budget b reply r d more → Answers budget b command.step reply r d
   runs : {b d : Book} {n : ℕ} {reply : List ℕ} {r : Bool} → Runs budget n b reply r d → Answers budget b (command.run n) reply r d
   -- what workers enter, and in what order, is not said: but all from before is there still, also where not one could be started
   worked : {b d : Book} {k n : ℕ} (turns : ℕ) → Keeps b d → Answers budget b (command.work k n) (worked_text turns) false d
-  work_refused : {b d : Book} {k n : ℕ} (fault : WorkFault) → Keeps b d → Answers budget b (command.work k n) (refused (work_fault_text fault)) true d
-  enabled_without_memory : {b : Book} → Answers budget b command.enabled (refused (codes "B20 Memory")) true b
+  work_refused : {b d : Book} {k n : ℕ} (fault : WorkFault) → Keeps b d → Answers budget b (command.work k n) (refused (work_text fault)) true d
+  enabled_without_memory : {b : Book} → Answers budget b command.enabled (refused (no_memory)) true b
   enabled : {b : Book} {found : List Step} {text : List ℕ} → EnabledIn b found → ShowsEnabled b.world found text → Answers budget b command.enabled text false b
-  ask_without_memory : {b : Book} {x text : List ℕ} → Answers budget b (command.ask x text) (refused (codes "B20 Memory")) true b
-  asked_without_memory : {b : Book} {x text : List ℕ} → Answers budget b (command.ask x text) (refused (codes "L7 Memory")) true b
+  ask_without_memory : {b : Book} {x text : List ℕ} → Answers budget b (command.ask x text) (refused (no_memory)) true b
+  asked_without_memory : {b : Book} {x text : List ℕ} → Answers budget b (command.ask x text) (refused (reading.shown read_fault.Memory)) true b
   asked_unread : {b : Book} {x text : List ℕ} {f : ReadFault} → ReadAs text (Err f) → Answers budget b (command.ask x text) (refused (reading.shown f)) true b
   ask_refused : {b : Book} {x text : List ℕ} {program : Trees} {r : Refusal} → ReadAs text (Ok program) → ask_refusal b x program ≡ Some r
       → Answers budget b (command.ask x text) (refused (refusal_text r)) true b
@@ -154,33 +156,33 @@ pub data Answers (budget : ℕ) : Book → Spelled → List ℕ → Bool → Boo
       → EntersNext (record { name = e; act = ask x program }) (ask_foot e x v program) 0 b d → Answers budget b (command.ask x text) (queued_text e) false d
   shown : {b : Book} {text : List ℕ} → Shows b.world text → Answers budget b command.show text false b
   listed : {b : Book} → Answers budget b command.journal (journal_text b.journal) false b
-  log_without_memory : {b : Book} {x : List ℕ} → Answers budget b (command.log x) (refused (codes "B20 Memory")) true b
+  log_without_memory : {b : Book} {x : List ℕ} → Answers budget b (command.log x) (refused (no_memory)) true b
   logged : {b : Book} {x : List ℕ} → Answers budget b (command.log x) (logged_text (log_text x (live_in b.journal))) false b
-  cone_without_memory : {b : Book} {e : EventName} → Answers budget b (command.cone e) (refused (codes "B20 Memory")) true b
+  cone_without_memory : {b : Book} {e : EventName} → Answers budget b (command.cone e) (refused (no_memory)) true b
   cone_refused : {b : Book} {e : EventName} {r : Refusal} → cone_refusal b.journal e ≡ Some r → Answers budget b (command.cone e) (refused (refusal_text r)) true b
   cone_found : {b : Book} {e : EventName} {names : List EventName} → cone_refusal b.journal e ≡ None → Cone b.journal e names → Answers budget b (command.cone e) (cone_text names) false b
-  undo_without_memory : {b : Book} {events : List EventName} → Answers budget b (command.undo events) (refused (codes "B20 Memory")) true b
+  undo_without_memory : {b : Book} {events : List EventName} → Answers budget b (command.undo events) (refused (no_memory)) true b
   undo_refused : {b : Book} {events : List EventName} {r : Refusal} → undo_refusal b.journal events ≡ Some r → Answers budget b (command.undo events) (refused (refusal_text r)) true b
   undo_accepted : {b d : Book} {events : List EventName} → undo_refusal b.journal events ≡ None → Undoes events b d
       → Answers budget b (command.undo events) (undone_text (count_of events b.journal)) false d
-  undo_cone_without_memory : {b : Book} {e : EventName} → Answers budget b (command.undo_cone e) (refused (codes "B20 Memory")) true b
+  undo_cone_without_memory : {b : Book} {e : EventName} → Answers budget b (command.undo_cone e) (refused (no_memory)) true b
   undo_cone_refused : {b : Book} {e : EventName} {r : Refusal} → cone_refusal b.journal e ≡ Some r → Answers budget b (command.undo_cone e) (refused (refusal_text r)) true b
   -- the cone is undone as if its events were named
   undo_cone_found : {b d : Book} {e : EventName} {events : List EventName} {reply : List ℕ} {refusal : Bool} → cone_refusal b.journal e ≡ None → Cone b.journal e events
       → Answers budget b (command.undo events) reply refusal d → Answers budget b (command.undo_cone e) reply refusal d
-  redo_without_memory : {b : Book} {events : List EventName} → Answers budget b (command.redo events) (refused (codes "B20 Memory")) true b
+  redo_without_memory : {b : Book} {events : List EventName} → Answers budget b (command.redo events) (refused (no_memory)) true b
   redo_refused : {b : Book} {events : List EventName} {r : Refusal} → redo_refusal b.journal events ≡ Some r → Answers budget b (command.redo events) (refused (refusal_text r)) true b
   redo_accepted : {b d : Book} {events : List EventName} → redo_refusal b.journal events ≡ None → Redoes events b d
       → Answers budget b (command.redo events) (redone_text (count_of events b.journal)) false d
-  exchange_without_memory : {b : Book} {position : ℕ} → Answers budget b (command.exchange position) (refused (codes "B20 Memory")) true b
+  exchange_without_memory : {b : Book} {position : ℕ} → Answers budget b (command.exchange position) (refused (no_memory)) true b
   exchange_refused : {b : Book} {position : ℕ} {r : Refusal} → exchange_refusal b.journal position ≡ Some r → Answers budget b (command.exchange position) (refused (refusal_text r)) true b
   exchange_accepted : {b d : Book} {position : ℕ} {e f : EventName} → exchange_refusal b.journal position ≡ None → Exchanges position b d → StoodAt position b.journal e f
       → Answers budget b (command.exchange position) (exchanged_text e f) false d
 
 -- the same for a vat whose script was taken from the lines behind the command
 pub data AnswersBirth : Book → List ℕ → List (List ℕ) → Result (List ℕ) LineFault → List ℕ → Bool → Book → Type 0 where
-  birth_without_memory : {b : Book} {x : List ℕ} {earlier : List (List ℕ)} {text : List ℕ} → AnswersBirth b x earlier (Ok text) (refused (codes "B20 Memory")) true b
-  script_without_memory : {b : Book} {x : List ℕ} {earlier : List (List ℕ)} {text : List ℕ} → AnswersBirth b x earlier (Ok text) (refused (codes "L7 Memory")) true b
+  birth_without_memory : {b : Book} {x : List ℕ} {earlier : List (List ℕ)} {text : List ℕ} → AnswersBirth b x earlier (Ok text) (refused (no_memory)) true b
+  script_without_memory : {b : Book} {x : List ℕ} {earlier : List (List ℕ)} {text : List ℕ} → AnswersBirth b x earlier (Ok text) (refused (reading.shown read_fault.Memory)) true b
   script_refused : {b : Book} {x : List ℕ} {earlier : List (List ℕ)} {f : LineFault} → AnswersBirth b x earlier (Err f) (refused (fault_text f)) true b
   script_unread : {b : Book} {x text : List ℕ} {earlier : List (List ℕ)} {f : ReadFault} → ReadAs text (Err f) → AnswersBirth b x earlier (Ok text) (refused (reading.shown f)) true b
   birth_refused : {b : Book} {x text : List ℕ} {earlier : List (List ℕ)} {program : Trees} {r : Refusal} → ReadAs text (Ok program) → birth_refusal b x earlier program ≡ Some r

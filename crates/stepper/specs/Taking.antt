@@ -1,5 +1,5 @@
 -- What is taken of a source and given to a sink for one command, line by line.
-use Rattle.std.specs.Prelude.{◌≡◌, ℕ, ◌<◌, ◌≤◌, List, [], ◌∷◌, ◌++◌, Bool, true, false, ◌||◌, string_bytes, Option, Result, Ok, Err}
+use Rattle.std.specs.Prelude.{◌≡◌, ℕ, ◌<◌, ◌≤◌, List, [], ◌∷◌, ◌++◌, Bool, true, false, ◌||◌, string_bytes, Option, Result, MatchResult}
 use Rattle.std.specs.Io.KnownBytes.{Consumes}
 use Rattle.book.specs.Books.{Book}
 use Rattle.book.specs.BookView.{book_of}
@@ -123,3 +123,13 @@ module _ {R W : Type 0} (remaining : R → Option (List ℕ)) (contents : W → 
   StopsLine source later sink after line Reader = FailsBehind source later sink after line
   StopsLine source later sink after line Writer = IsCutShort contents sink after []
   StopsLine source later sink after line Memory = RunsOutBehind source later sink after line
+
+  -- what a line says is answered, or this fault stopped it
+  abbrev pub DoesOrStops : {A : Type 0} → Result A Fault → Engine → Engine → Lines R → Lines R → Outlet W → Outlet W → Result (Option Spelled) LineFault → Type 0
+  DoesOrStops result old new source later sink after says =
+      MatchResult result (λ _. Does old new source later sink after says) (StopsWithin source later sink after (script_lines says))
+
+  -- the command that a line begins is answered, or this fault stopped it
+  abbrev pub AnswersOrStops : {A : Type 0} → Result A Fault → Engine → Engine → Lines R → Lines R → Outlet W → Outlet W → List ℕ → Type 0
+  AnswersOrStops result old new source later sink after line =
+      MatchResult result (λ _. AnswersLine old new source later sink after line) (StopsLine source later sink after line)

@@ -1,40 +1,8 @@
 //! Who does what may be done in a book, for the command `work`.
-ghost use Rattle.std.specs.Prelude.{Some};
-ghost use Rattle.stepper.specs.Crew.{work_fault_text};
 
 use book::book::Book;
+use book::fault::WorkFault;
 use std::alloc::Global;
-use std::fmt;
-use std::fmt::{Debug, Display, Formatter, Write};
-use thiserror::Error;
-
-/// Why no work was done.
-#[derive(Clone, Copy, Error)]
-pub enum WorkFault {
-    /// No worker could be started.
-    NoWorker,
-    /// Turns may not have so many steps.
-    BadBudget,
-    Memory,
-}
-
-impl Display for WorkFault {
-    ghost output = { λ fault. Some (work_fault_text fault) };
-
-    fn fmt<W: Write>(&self, f: &mut Formatter<W>) -> fmt::Result {
-        f.write_str(match self {
-            WorkFault::NoWorker => "S7 NoWorker",
-            WorkFault::BadBudget => "B19 BadBudget",
-            WorkFault::Memory => "B20 Memory",
-        })
-    }
-}
-
-impl Debug for WorkFault {
-    fn fmt<W: Write>(&self, f: &mut Formatter<W>) -> fmt::Result {
-        Display::fmt(self, f)
-    }
-}
 
 /// What the command `work` asks for.
 #[derive(Clone, Copy)]

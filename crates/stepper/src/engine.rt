@@ -1,5 +1,5 @@
 // Commands answered one after another.
-ghost use Rattle.std.specs.Prelude.{◌≡◌, ◌≢◌, ℕ, List, [], map, OnOk, IfOk, IfErr, MatchResult, Ok, Some, false};
+ghost use Rattle.std.specs.Prelude.{◌≡◌, ℕ, List, [], map, OnOk, IfOk, IfErr, MatchResult, Ok, Some, false};
 ghost use Rattle.kernele.specs.View.{program_of};
 ghost use Rattle.ereader.specs.Texts.{ReadAs};
 ghost use Rattle.book.specs.Books.{blank};
@@ -10,8 +10,8 @@ ghost use Rattle.commands.specs.ScriptView.{script_text};
 ghost use Rattle.streams.specs.Lines.{is_ended, IsSound};
 ghost use Rattle.streams.specs.Pieces.{Reads, IsOneLine};
 ghost use Rattle.streams.specs.Outlet.{waiting};
-ghost use Rattle.stepper.specs.Replies.{Answers, AnswersBirth, Moves, Steps, script_lines};
-ghost use Rattle.stepper.specs.Taking.{Does, StopsWithin, AnswersLine, StopsLine};
+ghost use Rattle.stepper.specs.Replies.{Answers, AnswersBirth, Moves, Steps};
+ghost use Rattle.stepper.specs.Taking.{Does, DoesOrStops, AnswersOrStops};
 ghost use Rattle.stepper.specs.Runs.{RunsToEnd, RunsTo};
 ghost use Rattle.stepper.specs.declared.fault.Fault.TheVariants.{Writer};
 
@@ -210,7 +210,7 @@ impl Engine {
         self.book = book;
         match answer {
             Ok(turns) => self.written.worked(turns),
-            Err(fault) => self.written.refuse_work(fault),
+            Err(fault) => self.written.refuse_work(&fault),
         }
     }
 
@@ -346,7 +346,7 @@ impl Engine {
     ) -> Result<(), Fault>
         requires sound { IsSound R.remaining source.old }
         requires crew { C.ready }
-        ensures { MatchResult result (λ _. Does R.remaining W.contents self.old self.new source.old source.new sink.old sink.new (Ok (Some (command_of command.entry)))) (StopsWithin R.remaining W.contents source.old source.new sink.old sink.new (script_lines (Ok (Some (command_of command.entry))))) }
+        ensures { DoesOrStops R.remaining W.contents result self.old self.new source.old source.new sink.old sink.new (Ok (Some (command_of command.entry))) }
     {
         match command {
             Command::Birth {
@@ -388,7 +388,7 @@ impl Engine {
     ) -> Result<(), Fault>
         requires sound { IsSound R.remaining source.old }
         requires crew { C.ready }
-        ensures { MatchResult result (λ _. Does R.remaining W.contents self.old self.new source.old source.new sink.old sink.new (reading_of says.entry)) (StopsWithin R.remaining W.contents source.old source.new sink.old sink.new (script_lines (reading_of says.entry))) }
+        ensures { DoesOrStops R.remaining W.contents result self.old self.new source.old source.new sink.old sink.new (reading_of says.entry) }
     {
         match says {
             Ok(spelled) => match spelled {
@@ -412,9 +412,8 @@ impl Engine {
     ) -> Result<(), Fault>
         requires sound { IsSound R.remaining source.old }
         requires crew { C.ready }
-        ensures { (bytes : List ℕ) → Reads line.now bytes → IsOneLine bytes (is_ended source.old) → MatchResult result
-            (λ _. AnswersLine R.remaining W.contents self.old self.new source.old source.new sink.old sink.new bytes)
-            (StopsLine R.remaining W.contents source.old source.new sink.old sink.new bytes) }
+        ensures { (bytes : List ℕ) → Reads line.now bytes → IsOneLine bytes (is_ended source.old)
+            → AnswersOrStops R.remaining W.contents result self.old self.new source.old source.new sink.old sink.new bytes }
     {
         self.written.text.clear();
         match text_of(line.text.as_slice(), line.is_long) {

@@ -6,26 +6,25 @@ ghost use Rattle.worldcells.specs.View.{world_of};
 ghost use Rattle.deliveries.specs.Outcomes.{told_of};
 ghost use Rattle.commands.specs.Commands.{fault_text};
 ghost use Rattle.stepper.specs.Replies.{refused, queued_text, done_text, idle_text, turned_text, told_text, undone_text, redone_text, exchanged_text, logged_text};
-ghost use Rattle.stepper.specs.Listing.{journal_text, cone_text};
-ghost use Rattle.stepper.specs.Crew.{worked_text, work_fault_text};
+ghost use Rattle.printing.specs.Listing.{journal_text, cone_text};
+ghost use Rattle.stepper.specs.Crew.{worked_text};
 ghost use Rattle.journal.specs.Items.{item_of};
 ghost use Rattle.journal.specs.Lines.{lines_of};
 ghost use Rattle.causality.specs.Journals.{IsJournal};
-ghost use Rattle.stepper.specs.Show.{Shows};
-ghost use Rattle.stepper.specs.Steps.{ShowsEnabled};
+ghost use Rattle.printing.specs.Show.{Shows};
+ghost use Rattle.printing.specs.Steps.{ShowsEnabled};
 
-use crate::crew::WorkFault;
-use crate::enabled::write_enabled;
-use crate::listing::{write_cone, write_journal};
-use crate::show::write_world;
 use agenda::agenda::Step;
-use book::fault::BookFault;
+use book::fault::{BookFault, WorkFault};
 use commands::command::LineFault;
 use deliveries::outcome::Ended;
 use ereader::fault::ReadFault;
 use ids::names::{EventName, MsgId};
 use ids::quote::write_quoted;
 use journal::entry::Entry;
+use printing::enabled::write_enabled;
+use printing::listing::{write_cone, write_journal};
+use printing::show::write_world;
 use std::alloc::{AllocError, Global};
 use values::showing::write_value;
 use worldcells::world::World;
@@ -219,8 +218,8 @@ impl Written {
         write!(out, "no {fault}\n")
     }
 
-    pub(crate) fn refuse_work(&mut self, fault: WorkFault) -> Result<(), AllocError>
-        ensures { OnOk result (Adds self.old self.new (refused (work_fault_text fault)) true) }
+    pub(crate) fn refuse_work(&mut self, fault: &WorkFault) -> Result<(), AllocError>
+        ensures { OnOk result (Adds self.old self.new (refused (book_fault.work_text fault.now)) true) }
     {
         self.refused = true;
         let out = &mut self.text;

@@ -5,10 +5,11 @@ use Rattle.streams.specs.declared.lines.Lines.{Lines}
 use Rattle.streams.specs.declared.line.Line.{Line}
 use Rattle.streams.specs.Pieces.{Reads}
 use Rattle.streams.specs.Lines.{unread, TakesLine, HasNoLine}
+use Rattle.commands.specs.declared.command.TheConstants.{LONGEST_LINE}
 
 -- no line keeps more bytes than may stand before a line feed
 abbrev pub KeptIsShort : Type 0
-KeptIsShort = (line : Line) → length line.text.items ≤ 65536
+KeptIsShort = (line : Line) → length line.text.items ≤ LONGEST_LINE
 
 module _ {R : Type 0} (remaining : R → Option (List ℕ)) where
   -- the line that is taken is the first of the bytes that were left, of which there was one, and what is behind it is left

@@ -2,6 +2,7 @@
 use Rattle.std.specs.Prelude.{◌≡◌, ℕ, ◌<◌, ◌≤◌, List, [], ◌∷◌, ◌++◌, length, Bool, true, false, cond, None}
 use Rattle.commands.specs.Lines.{line_end, line_of, is_long}
 use Rattle.streams.specs.declared.line.Line.{Line}
+use Rattle.commands.specs.declared.command.TheConstants.{LONGEST_LINE}
 
 -- no line feed is among these bytes
 abbrev pub HasNoFeed : List ℕ → Type 0
@@ -24,8 +25,8 @@ pub data IsOneLine : List ℕ → Bool → Type 0 where
 -- these bytes of a line were gathered: they are kept, and nothing is where they are too many
 pub record Gathers (line : Line) (bytes : List ℕ) : Type 0 where
   pub kept : line.is_long ≡ false → line.text.items ≡ bytes
-  pub short : line.is_long ≡ false → length bytes ≤ 65536
-  pub long : line.is_long ≡ true → 65536 < length bytes
+  pub short : line.is_long ≡ false → length bytes ≤ LONGEST_LINE
+  pub long : line.is_long ≡ true → LONGEST_LINE < length bytes
   pub dropped : line.is_long ≡ true → line.text.items ≡ []
 
 -- a line gathers these bytes too

@@ -1,21 +1,20 @@
 // A line, as its bytes are gathered.
 ghost use Rattle.std.specs.Prelude.{◌≡◌, ◌+◌, ◌<◌, ◌≤◌, [], ◌++◌, length, OnOk, OnErr, MatchOption, false, vec_len, vec_capacity};
 ghost use Rattle.commands.specs.Lines.{without_return};
+ghost use Rattle.commands.specs.declared.command.TheConstants.{LONGEST_LINE};
 
+use commands::command::LONGEST_LINE;
 use std::alloc::{AllocError, Global};
-
-/// The most bytes that may stand before a line feed.
-const LONGEST_LINE: usize = 65_536;
 
 /// A line of an input, without its end.
 #[derive(Drop)]
 pub struct Line {
     /// Its bytes; none where it is too long.
     pub text: Vec<u8>,
-    /// Whether more than 65,536 bytes stand before its end.
+    /// Whether more than `LONGEST_LINE` bytes stand before its end.
     pub is_long: bool,
     // However long the line is, it has no more memory than the longest that is kept.
-    ghost is_small: { vec_capacity text ≤ 65536 },
+    ghost is_small: { vec_capacity text ≤ LONGEST_LINE },
 }
 
 /// Puts a piece behind a text that has room for it.
@@ -32,11 +31,11 @@ fn put(text: &mut Vec<u8>, piece: &[u8])
 /// Makes room for more bytes: at least twice what there was, so that a line that comes byte by byte is seldom moved, and
 /// never more than the longest line needs.
 fn make_room(text: &mut Vec<u8>, more: usize) -> Result<(), AllocError>
-    requires fits { vec_len text.old + more ≤ 65536 }
-    requires small { vec_capacity text.old ≤ 65536 }
+    requires fits { vec_len text.old + more ≤ LONGEST_LINE }
+    requires small { vec_capacity text.old ≤ LONGEST_LINE }
     ensures items { text.new.items ≡ text.old.items }
     ensures len { vec_len text.new ≡ vec_len text.old }
-    ensures small { vec_capacity text.new ≤ 65536 }
+    ensures small { vec_capacity text.new ≤ LONGEST_LINE }
     ensures room { OnOk result (vec_len text.new + more ≤ vec_capacity text.new) }
 {
     let wanted = text.len() + more;

@@ -19,7 +19,7 @@ use ids::names::PromId;
 use ids::text::Text;
 use post::published::Published;
 use sends::ends::settle;
-use sends::publishing::{Published as Resolved, end_with};
+use sends::publishing::{Resolved, end_with};
 use std::alloc::{AllocError, Global};
 use values::value::{Answer, Value};
 

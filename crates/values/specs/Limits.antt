@@ -1,6 +1,7 @@
 -- How large a value may be.
 use Rattle.std.specs.Prelude.{ℕ, ◌+◌, max, length, Bool, ◌&&◌, nat_le}
 use Rattle.values.specs.Data.{Val, text, list, broken, Vals, no_vals, and_val}
+use Rattle.values.specs.declared.limits.TheConstants.{MOST_WEIGHT, MOST_DEPTH}
 
 -- a value weighs 1, and with it the bytes of a text or of a problem, or a list's items
 abbrev mutual
@@ -24,6 +25,6 @@ abbrev mutual
   deepest no_vals = 0
   deepest (and_val v vs) = max (list_depth v) (deepest vs)
 
--- a value weighs at most 65,536, and its lists stand at most 64 deep
+-- a value is no heavier than a value may be, and its lists stand no deeper
 abbrev pub within_limits : Val → Bool
-within_limits v = nat_le (weight v) 65536 && nat_le (list_depth v) 64
+within_limits v = nat_le (weight v) MOST_WEIGHT && nat_le (list_depth v) MOST_DEPTH

@@ -5,6 +5,7 @@ ghost use Rattle.values.specs.Growing.{adds_to, items_added as added_items, text
 ghost use Rattle.values.specs.Limits.{deepest, weights, within_limits};
 ghost use Rattle.values.specs.Replies.{data_reply, joined, value_given};
 ghost use Rattle.values.specs.View.{val_of, vals_of};
+ghost use Rattle.values.specs.declared.limits.TheConstants.{MOST_ITEMS_DEPTH, MOST_ITEMS_WEIGHT};
 
 use crate::lists::fits_list;
 use crate::texts::fits_text;
@@ -89,8 +90,8 @@ fn grow_list(list: &mut Arc<Items>, more: &[Value]) -> Result<bool, AllocError>
 
 /// The same in a copy.
 fn grow_copy(list: &mut Arc<Items>, more: &[Value]) -> Result<(), AllocError>
-    requires light { weights list.old.value + weights (vals_of more.now) ≤ 65535 }
-    requires shallow { deepest (vals_of more.now) ≤ 63 }
+    requires light { weights list.old.value + weights (vals_of more.now) ≤ MOST_ITEMS_WEIGHT }
+    requires shallow { deepest (vals_of more.now) ≤ MOST_ITEMS_DEPTH }
     ensures { OnOk result (list.new.value ≡ joined list.old.value (vals_of more.now)) }
 {
     let mut both = list.copy(more.len())?;

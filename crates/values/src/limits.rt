@@ -12,10 +12,10 @@ pub const MOST_WEIGHT: u32 = 65_536;
 pub const MOST_DEPTH: u32 = 64;
 
 /// The weight that is left for the items of a list.
-pub(crate) const MOST_ITEMS_WEIGHT: u32 = 65_535;
+pub(crate) const MOST_ITEMS_WEIGHT: u32 = MOST_WEIGHT - 1;
 
 /// How deep lists may stand in the items of a list.
-pub(crate) const MOST_ITEMS_DEPTH: u32 = 63;
+pub(crate) const MOST_ITEMS_DEPTH: u32 = MOST_DEPTH - 1;
 
 /// Whether a value is not too large.
 pub fn is_within_limits(value: &Value) -> bool
@@ -63,7 +63,7 @@ pub(crate) fn items_left(items: &[Value], depth: u32, weight: u32) -> Option<u32
 
 /// What a value weighs that stands in a list.
 pub fn item_weight(value: &Value) -> u32
-    requires { weight_of (val_of value.now) ≤ 65535 }
+    requires { weight_of (val_of value.now) ≤ MOST_ITEMS_WEIGHT }
     ensures { result ≡ weight_of (val_of value.now) }
 {
     match value {

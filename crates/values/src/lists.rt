@@ -112,8 +112,8 @@ fn joined_list(alloc: Global, first: &Items, second: &[Value]) -> Result<Answer,
 /// Whether a list of the first items and the second is not too large.
 pub(crate) fn fits_list(first: &Items, second: &[Value]) -> bool
     ensures fits { result ≡ within_limits (list (joined first.now (vals_of second.now))) }
-    ensures light { IsTrue result → weights first.now + weights (vals_of second.now) ≤ 65535 }
-    ensures shallow { IsTrue result → deepest (vals_of second.now) ≤ 63 }
+    ensures light { IsTrue result → weights first.now + weights (vals_of second.now) ≤ MOST_ITEMS_WEIGHT }
+    ensures shallow { IsTrue result → deepest (vals_of second.now) ≤ MOST_ITEMS_DEPTH }
 {
     items_left(second, MOST_ITEMS_DEPTH, MOST_ITEMS_WEIGHT - first.weight()).is_some()
 }

@@ -5,6 +5,7 @@ ghost use Rattle.values.specs.Limits.{within_limits};
 ghost use Rattle.values.specs.Replies.{text_table, text_add as add_reply, text_size as size_reply, text_reply, begins_character};
 ghost use Rattle.values.specs.View.{val_of, vals_of, reply_of};
 
+use crate::limits::MOST_WEIGHT;
 use crate::replies::{limited, no_method, sized, thrown, wrong_argument};
 use crate::value::{Answer, Value};
 use crate::verb::{Verb, Word};
@@ -12,7 +13,7 @@ use ids::text::Text;
 use std::alloc::{AllocError, Global};
 
 /// The most bytes of a text that is not too large: it weighs one more.
-const MOST_BYTES: usize = 65_535;
+const MOST_BYTES: usize = MOST_WEIGHT as usize - 1;
 
 /// A text literal, or the problem that it is too large.
 pub fn text_value(alloc: Global, text: &Text) -> Result<Answer, AllocError>

@@ -111,7 +111,7 @@ impl Items {
     #[inline(always)]
     pub(crate) fn weight(&self) -> u32
         ensures weight { result ≡ weights self.now }
-        ensures fits { (weights self.now ≤ 65535) × (deepest self.now ≤ 63) }
+        ensures fits { (weights self.now ≤ MOST_ITEMS_WEIGHT) × (deepest self.now ≤ MOST_ITEMS_DEPTH) }
     {
         self.weight
     }
@@ -120,7 +120,7 @@ impl Items {
     #[inline(always)]
     pub(crate) fn depth(&self) -> u32
         ensures depth { result ≡ deepest self.now }
-        ensures shallow { result ≤ 63 }
+        ensures shallow { result ≤ MOST_ITEMS_DEPTH }
     {
         self.depth
     }
@@ -135,8 +135,8 @@ impl Items {
 
     /// Adds an item at the end.
     pub(crate) fn push(&mut self, item: Value) -> Result<(), AllocError>
-        requires light { weights self.old + weight (val_of item) ≤ 65535 }
-        requires shallow { list_depth (val_of item) ≤ 63 }
+        requires light { weights self.old + weight (val_of item) ≤ MOST_ITEMS_WEIGHT }
+        requires shallow { list_depth (val_of item) ≤ MOST_ITEMS_DEPTH }
         ensures { OnOk result (self.new ≡ joined self.old (and_val (val_of item) no_vals)) }
     {
         let weight = self.weight + item_weight(&item);
@@ -151,8 +151,8 @@ impl Items {
 
     /// Adds the same items, shared, at the end.
     pub(crate) fn extend(&mut self, items: &[Value]) -> Result<(), AllocError>
-        requires light { weights self.old + weights (vals_of items.now) ≤ 65535 }
-        requires shallow { deepest (vals_of items.now) ≤ 63 }
+        requires light { weights self.old + weights (vals_of items.now) ≤ MOST_ITEMS_WEIGHT }
+        requires shallow { deepest (vals_of items.now) ≤ MOST_ITEMS_DEPTH }
         ensures { OnOk result (self.new ≡ joined self.old (vals_of items.now)) }
     {
         for item in items {

@@ -1,5 +1,5 @@
 -- What a step finds and leaves.
-use Rattle.std.specs.Prelude.{◌≡◌, ℕ, true, List, map, Some, None}
+use Rattle.std.specs.Prelude.{◌≡◌, ℕ, true, List, Some, None}
 use Rattle.history.specs.Subject.{after}
 use Rattle.ids.specs.declared.names.EventName.{EventName}
 use Rattle.ids.specs.declared.names.VatNo.{VatNo}
@@ -32,12 +32,6 @@ pub record StepsTo (e : Event) (w v : World) : Type 0 where
 abbrev pub TellsStep : Event → World → StepFault → Type 0
 TellsStep e w fault.Impossible = (f : Foot) → Does e w f → ⊥
 TellsStep e w fault.Memory = Unit {0}
-
--- these are the numbers of the vats of these names
-pub record Numbers (w : World) (names : List Name) (found : List VatNo) : Type 0 where
-  pub vats : List Vat
-  pub named : AreNamed w names vats
-  pub numbers : map (λ v. v.number) vats ≡ found
 
 -- one of these names is of no vat; want of memory tells nothing
 abbrev pub Unnamed : World → List Name → StepFault → Type 0

@@ -17,7 +17,8 @@ ghost use Rattle.erules.specs.OutboxView.{letter_of};
 ghost use Rattle.event.specs.Events.{AreNew, Foot, letters_from};
 ghost use Rattle.event.specs.Effects.{Happens};
 ghost use Rattle.event.specs.ReadyView.{IsWay};
-ghost use Rattle.world.specs.Steps.{StepsTo, TellsStep, Learnable, Numbers, Ready, RunsAt, Unlearnable, Unnamed, Unready as IsUnready};
+ghost use Rattle.event.specs.Naming.{Numbers};
+ghost use Rattle.world.specs.Steps.{StepsTo, TellsStep, Learnable, Ready, RunsAt, Unlearnable, Unnamed, Unready as IsUnready};
 ghost use Rattle.world.specs.declared.step.StepFault.TheVariants.{Memory};
 
 use cells::swaps::Swaps;

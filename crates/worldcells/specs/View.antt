@@ -2,12 +2,12 @@
 use Rattle.std.specs.Prelude.{Bool}
 use Rattle.cells.specs.Seen.{Seen}
 use Rattle.cells.specs.Seen as cells
-use Rattle.ids.specs.KeyLaws.{same_two, same_three}
+use Rattle.ids.specs.KeyLaws.{same_two}
 use Rattle.ids.specs.declared.names.MsgId.{MsgId}
-use Rattle.ids.specs.declared.names.PromId.{PromId}
 use Rattle.ids.specs.declared.cells.CellKey.{CellKey}
 use Rattle.ids.specs.declared.cells.CellKey.TheVariants as key
 use Rattle.heap.specs.View.{same_name, told}
+pub use Rattle.heap.specs.View.{same_promise}
 use Rattle.worldcells.specs.World as model
 use Rattle.worldcells.specs.World.{Content, vat, message, published}
 use Rattle.post.specs.MessageView.{vat_of, message_of, published_of}
@@ -17,9 +17,6 @@ use Rattle.worldcells.specs.declared.world.World.{World}
 -- whether two keys are the same, as the program tests it
 abbrev pub same_message : MsgId → MsgId → Bool
 same_message m n = same_two m.event.0 n.event.0 m.index n.index
-
-abbrev pub same_promise : PromId → PromId → Bool
-same_promise p q = same_three p.event.0 q.event.0 p.index q.index p.home.0.0 q.home.0.0
 
 -- what is seen in each cell: its content and its last writer
 abbrev pub State : Type 0

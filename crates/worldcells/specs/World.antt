@@ -1,10 +1,11 @@
 -- The world: a finite map from keys to contents. That a key has none is a fact about the world.
-use Rattle.std.specs.Prelude.{List, Bool, true, cond, nat_eq, Option, Some, None}
+use Rattle.std.specs.Prelude.{List, Bool, true, cond, Option, Some, None}
 use Rattle.kernele.specs.Tree.{Name}
 use Rattle.values.specs.Data.{Val}
 use Rattle.heap.specs.State as heap
 use Rattle.heap.specs.State.{Bind, Object, View, Cell, top, slot_cell, object_cell, view_cell, fence_cell, State}
 use Rattle.post.specs.Messages.{Vat, Message, Published}
+pub use Rattle.erules.specs.Doings.{same_vat}
 use Rattle.ids.specs.CellKeys.{same_key}
 use Rattle.ids.specs.declared.names.VatNo.{VatNo}
 use Rattle.ids.specs.declared.names.MsgId.{MsgId}
@@ -66,9 +67,6 @@ cell_key v (slot_cell s) = key.Slot s
 cell_key v (object_cell i) = key.Object i
 cell_key v (view_cell p) = key.View v p
 cell_key v (fence_cell r) = key.Fence v r
-
-abbrev pub same_vat : VatNo → VatNo → Bool
-same_vat v w = nat_eq v.0.0 w.0.0
 
 -- a cell is the vat's own: a slot and an object name their vats
 abbrev pub lives_in : Cell → VatNo → Bool

@@ -10,10 +10,10 @@ use Rattle.kernele.specs.declared.tree.Pattern.TheVariants as pattern
 use Rattle.code.specs.View.{methods_of_codes}
 use Rattle.code.specs.Index.{index_in, index_fits}
 use Rattle.code.specs.Frames.{all_placed, captured_names_of, only_names}
-use Rattle.resolver.specs.Resolves.{ResolvesAll, ResolvesMethod, ResolvesMethods}
+use Rattle.resolver.specs.Resolves.{ResolvesAll, ResolvesMethods}
 use Rattle.code.specs.declared.code.MethodCode.{MethodCode}
 use Rattle.resolver.proofs.Growing.{truncated}
-use Rattle.resolver.proofs.Made.{resolved_as, resolved_call, resolved_list, resolved_hide, resolved_if, resolved_while, resolved_for, resolved_try, resolved_escape, resolved_object, resolved_send, resolved_when, resolved_when_catch, resolved_block, all_more, all_pushed, all_end, all_done, methods_more, methods_pushed, methods_end, methods_done}
+use Rattle.resolver.proofs.Made.{ResolvesMethod, resolved_as, resolved_call, resolved_list, resolved_hide, resolved_if, resolved_while, resolved_for, resolved_try, resolved_escape, resolved_object, resolved_send, resolved_when, resolved_when_catch, resolved_block, all_more, all_pushed, all_end, all_done, methods_more, methods_pushed, methods_end, methods_done}
 use Rattle.resolver.proofs.Ranks.{part_nodes, method_nodes}
 use Rattle.resolver.proofs.Sides.{side_of, right_resolved}
 use Rattle.resolver.proofs.resolving.+resolve.Goals as goal

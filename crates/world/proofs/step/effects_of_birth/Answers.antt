@@ -13,7 +13,7 @@ returns-clause-ok c =
       birth_foot c.args.event c.args.name.now c.args.earlier.now n.vats (program_of c.args.script.now),
       record {
         does = ∣ quietly (births n.vats (sym c.in-None.ensures) n.named) refl _ c.in_ok-birth_effects.ensures.quiet ∣₁;
-        brings = c.in_ok-birth_effects.ensures.brings n.vats (n.numbers ∙ sym c.as_slice.ensures.value);
+        brings = c.in_ok-birth_effects.ensures.brings n.vats (n.numbered ∙ sym c.as_slice.ensures.value);
       },
     )
 

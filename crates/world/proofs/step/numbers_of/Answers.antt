@@ -2,7 +2,8 @@ use Rattle.std.proofs.Common.{ap, sym}
 use Rattle.post.specs.MessageView.{vat_of}
 use Rattle.worldcells.specs.View.{world_of}
 use Rattle.worldcells.specs.World.{vat_in}
-use Rattle.world.proofs.Naming.{numbers_none, numbers_more, numbers_all, not_named}
+use Rattle.event.proofs.Naming.{numbers_none, numbers_more, numbers_all}
+use Rattle.world.proofs.Naming.{not_named}
 use Rattle.world.proofs.step.numbers_of.Goals as goal
 
 pub loop-name-init : goal.loop-name-init

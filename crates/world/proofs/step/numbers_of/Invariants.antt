@@ -1,6 +1,6 @@
 use Rattle.std.proofs.Common.{take}
 use Rattle.worldcells.specs.View.{world_of}
-use Rattle.world.specs.Steps.{Numbers}
+use Rattle.event.specs.Naming.{Numbers}
 use Rattle.world.proofs.step.numbers_of.Given as goal
 
 -- so far

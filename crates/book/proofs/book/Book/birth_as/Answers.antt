@@ -7,7 +7,8 @@ use Rattle.event.specs.Events.{birth_foot, births}
 use Rattle.book.specs.BookView.{book_of}
 use Rattle.event.specs.Effects.{Brings, Happens}
 use Rattle.event.proofs.Noted.{quietly}
-use Rattle.book.specs.Calls.{EntersNext, Numbers}
+use Rattle.event.specs.Naming.{Numbers}
+use Rattle.book.specs.Calls.{EntersNext}
 use Rattle.book.specs.Refusals.{birth_refusal}
 use Rattle.book.proofs.Within.{room_for_birth}
 use Rattle.book.proofs.book.Book.birth_as.Goals as goal

@@ -4,7 +4,8 @@ use Rattle.post.specs.MessageView.{vat_of}
 use Rattle.worldcells.specs.World.{vat_in}
 use Rattle.book.specs.BookView.{book_of}
 use Rattle.book.specs.Refusals.{no_vat}
-use Rattle.book.proofs.Named.{numbers_more, numbers_all, absent_at, none_absent}
+use Rattle.event.proofs.Naming.{numbers_more, numbers_all}
+use Rattle.book.proofs.Named.{absent_at, none_absent}
 use Rattle.book.proofs.book.Book.numbers_of.Goals as goal
 
 pub loop-name-preserved : goal.loop-name-preserved

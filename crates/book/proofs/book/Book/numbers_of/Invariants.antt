@@ -1,6 +1,6 @@
 use Rattle.std.proofs.Common.{take}
 use Rattle.book.specs.BookView.{book_of}
-use Rattle.book.specs.Calls.{Numbers}
+use Rattle.event.specs.Naming.{Numbers}
 use Rattle.book.proofs.book.Book.numbers_of.Given as goal
 
 -- so far

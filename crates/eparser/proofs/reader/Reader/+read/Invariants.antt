@@ -5,7 +5,8 @@ use Rattle.egrammar.specs.View.{plain}
 use Rattle.kernele.specs.View.{tree_of, trees_of, methods_of}
 use Rattle.egrammar.proofs.Turns.{Turns}
 use Rattle.esigns.specs.Signs.{operator_of}
-use Rattle.eparser.specs.Levels.{rank, level_at}
+use Rattle.eparser.specs.Levels.{level_at}
+use Rattle.eparser.proofs.Levels.{rank}
 use Rattle.eparser.proofs.reader.Reader.+read.Given as goal
 
 abbrev pub decreases-expression : goal.decreases-expression

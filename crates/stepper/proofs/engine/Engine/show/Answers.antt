@@ -1,6 +1,6 @@
 use Rattle.std.proofs.Common.{false, refl, subst}
 use Rattle.stepper.specs.Replies.{shown}
-use Rattle.stepper.specs.Show.{Shows}
+use Rattle.printing.specs.Show.{Shows}
 use Rattle.stepper.proofs.Answered.{on_ok, no_refusal}
 use Rattle.stepper.proofs.engine.Engine.show.Goals as goal
 

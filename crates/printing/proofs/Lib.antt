@@ -1,0 +1,3 @@
+pub mod Births
+pub mod Listings
+pub mod Names

@@ -1,0 +1,5 @@
+pub mod Listing
+pub mod ListingView
+pub mod Show
+pub mod ShowView
+pub mod Steps
