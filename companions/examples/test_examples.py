@@ -5,7 +5,7 @@ import unittest
 from pathlib import Path
 
 ROOT = Path(__file__).resolve().parents[2]
-TESTED = ROOT / "crates/vat_tests/src/examples.rt"
+TESTED = ROOT / "crates/session_tests/src/examples.rt"
 
 
 def transcripts():

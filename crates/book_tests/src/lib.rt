@@ -1,4 +1,4 @@
-//! What books and plain runs answer where memory is ample: calls with their answers, and sessions of commands over what a book does.
+//! What books and plain runs answer where memory is ample: calls with their answers.
 #![tactic(auto)]
 
 #[cfg(test)]
@@ -6,11 +6,7 @@ mod books;
 #[cfg(test)]
 mod calls;
 #[cfg(test)]
-mod logs;
-#[cfg(test)]
 mod plain_runs;
-#[cfg(test)]
-mod sessions;
 #[cfg(test)]
 mod several;
 #[cfg(test)]

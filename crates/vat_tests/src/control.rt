@@ -1,6 +1,7 @@
 // Asked texts with blocks, conditions, loops and problems, and what their authors are promised.
 
-use crate::tables::{BUDGET, expect_all};
+use crate::expecting::expect_all;
+use transcripts::replies::BUDGET;
 
 const CONDITIONS: &str = r#"
 if (1 < 2) { "a" } else { "b" } => value "a"

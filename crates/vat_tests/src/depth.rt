@@ -1,17 +1,19 @@
 // What nests deepest: texts on a stack as large as that on which the program answers commands, evaluation on a smaller one, as a
 // thread of many would have it; and budgets at their ends.
 
-use crate::tables::{expect, expect_text, limits, nested, replies, session_of};
+use crate::expecting::{expect, expect_text};
 use std::process::Abort;
 use std::rt::Runtime;
 use std::thread::{Builder, Threads};
 use stepper::STACK;
+use transcripts::replies::{limits, replies, session_of, shown};
+use transcripts::tables::nested;
 
 /// The stack of a thread that only runs turns, in bytes: level 1,000 fits it.
-const STACK_OF_TURNS: usize = 16 << 20;
+pub(crate) const STACK_OF_TURNS: usize = 16 << 20;
 
 /// Runs commands on a stack of this size, and compares the replies.
-fn expect_on_a_stack(
+pub(crate) fn expect_on_a_stack(
     rt: &(impl Runtime + AllocGlobal + Threads + Abort),
     size: usize,
     commands: &str,
@@ -26,12 +28,7 @@ fn expect_on_a_stack(
         .expect(rt, "no thread");
     match thread.join(rt) {
         Ok((written, _)) => {
-            expect_text(
-                rt,
-                "commands",
-                str::from_utf8(&written).unwrap_or("no text"),
-                wanted,
-            );
+            expect_text(rt, "commands", shown(&written), wanted);
         }
         Err(_) => assert!(rt; false),
     }
@@ -57,7 +54,11 @@ fn nests_without_brackets(rt: HostRuntime) {
         ("for a in ", 3276, "", "", "no L5 Unexpected 29484"),
         ("if (true) {} else ", 2300, "{}", "", "no K4 TooDeep"),
     ] {
-        expect_refusal_of(&rt, &nested(&rt, open, *times, middle, close), wanted);
+        expect_refusal_of(
+            &rt,
+            &nested(rt.alloc(), open, *times, middle, close).expect(&rt, "no memory"),
+            wanted,
+        );
     }
 }
 
@@ -103,7 +104,7 @@ ok e6 abandoned "calls too deep""#;
 #[test]
 fn deep_calls(rt: HostRuntime) {
     for part in DEEP_CALLS.split("\n\n") {
-        let session = session_of(&rt, part);
+        let session = session_of(rt.alloc(), &[part]).expect(&rt, "no memory");
         expect_on_a_stack(&rt, STACK_OF_TURNS, &session.commands, &session.wanted);
     }
 }
@@ -111,7 +112,7 @@ fn deep_calls(rt: HostRuntime) {
 /// A sum of 198 ones is 198 levels deep, so the call of it may stand at level 801.
 #[test]
 fn the_deepest_tree_at_the_deepest_level(rt: HostRuntime) {
-    let sum = nested(&rt, "1 + ", 197, "1", "");
+    let sum = nested(rt.alloc(), "1 + ", 197, "1", "").expect(&rt, "no memory");
     let commands = format!(in rt.alloc();
         "vat a () 2\ndef g {{ method run() {{ {sum} }} }}\ndef f {{ method run(n) {{ if (n > 0) {{ f(n - 1) }} else {{ g() }} }} }}\nturn e1.m0\nask a f(399)\nturn e3.m0\nask a f(400)\nturn e5.m0\n"
     ).expect(&rt, "no memory");

@@ -8,17 +8,15 @@ mod depth;
 #[cfg(test)]
 mod endings;
 #[cfg(test)]
-mod examples;
+mod expecting;
+#[cfg(test)]
+mod language;
 #[cfg(test)]
 mod objects;
 #[cfg(test)]
 mod sessions;
 #[cfg(test)]
-mod several;
-#[cfg(test)]
 mod steps;
-#[cfg(test)]
-mod tables;
 #[cfg(test)]
 mod turns;
 #[cfg(test)]

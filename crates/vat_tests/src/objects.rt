@@ -1,6 +1,7 @@
 // Asked texts with objects, methods and escapes, and what their authors are promised.
 
-use crate::tables::{BUDGET, expect_all, expect_sessions};
+use crate::expecting::{expect_all, expect_sessions};
+use transcripts::replies::BUDGET;
 
 const METHODS: &str = r#"
 def f(x) { return x * 2 }; f(21) => value 42

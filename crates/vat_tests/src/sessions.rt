@@ -1,6 +1,8 @@
 // Whole texts of commands with the replies that their authors are promised.
 
-use crate::tables::{BUDGET, expect, expect_all, expect_asked, expect_sessions, nested};
+use crate::expecting::{expect, expect_all, expect_asked, expect_sessions};
+use transcripts::replies::BUDGET;
+use transcripts::tables::nested;
 
 #[test]
 fn turns_within_their_budget(rt: HostRuntime) {
@@ -88,7 +90,22 @@ no S2 BadWord
 > turn e01.m00
 ok e3 value null
 > turn e1.m0
-no B4 NotThere"#;
+no B4 NotThere
+> run 1000000
+ok e4 value 1
+idle
+> run 1000001
+no S2 BadWord
+> work 65 1
+no S2 BadWord
+> work 0 1
+no S2 BadWord
+> work 1 1000001
+no S2 BadWord
+> vat aaaaaaaaaaaaaaaaaaaaaaaaaaaaaaaaaaaaaaaaaaaaaaaaaaaaaaaaaaaaaaaaa () 0
+no S2 BadWord
+> vat aaaaaaaaaaaaaaaaaaaaaaaaaaaaaaaaaaaaaaaaaaaaaaaaaaaaaaaaaaaaaaaa () 0
+ok e5 e5.m0"#;
 
 /// Words that name no events.
 const NO_EVENTS: &str = r#"> journal all
@@ -139,7 +156,7 @@ fn texts_at_their_limits(rt: HostRuntime) {
         ("(", 100, "1", ")", "value 1"),
         ("(", 101, "", "", "no L6 TooDeep"),
     ] {
-        let text = nested(&rt, open, *times, middle, close);
+        let text = nested(rt.alloc(), open, *times, middle, close).expect(&rt, "no memory");
         expect_asked(&rt, BUDGET, &text, wanted);
     }
 }
@@ -167,16 +184,12 @@ fn bytes_of_commands(rt: HostRuntime) {
 fn long_commands(rt: HostRuntime) {
     for (before, times, behind, wanted) in &[
         ("", 70_000, "", "no S3 LineTooLong\n"),
+        ("", 65_537, "", "no S3 LineTooLong\n"),
         ("", 65_536, "", "no S1 UnknownCommand\n"),
         ("vat a () 2\n", 32_768, "\n", "no L8 TooLong\n"),
     ] {
-        let long = nested(
-            &rt,
-            "x",
-            *times,
-            behind,
-            if behind.is_empty() { "" } else { "x" },
-        );
+        let close = if behind.is_empty() { "" } else { "x" };
+        let long = nested(rt.alloc(), "x", *times, behind, close).expect(&rt, "no memory");
         let commands = format!(in rt.alloc(); "{before}{long}\n").expect(&rt, "no memory");
         expect(&rt, BUDGET, commands.as_bytes(), wanted);
     }

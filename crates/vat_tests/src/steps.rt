@@ -1,12 +1,13 @@
 // How many steps each construct takes (just enough of them give the value, one less spends the budget), and what a turn may make and keeps.
 
-use crate::tables::{expect_all, expect_asked, expect_sessions, row};
+use crate::expecting::{expect_all, expect_asked, expect_sessions};
 use std::process::Abort;
+use transcripts::tables::row;
 
 /// Runs each text with just enough steps, and with one less.
 fn expect_costs(rt: &(impl Abort + AllocGlobal), table: &str) {
     for line in table.lines() {
-        if let Some((text, wanted)) = row(rt, line) {
+        if let Some((text, wanted)) = row(line) {
             let (count, value) = wanted.split_once(" steps: ").unwrap_or(("", wanted));
             let budget = count.parse().unwrap_or(0u32);
             expect_asked(rt, budget, text, value);
@@ -45,12 +46,14 @@ fn steps_of_constructs(rt: HostRuntime) {
     expect_costs(&rt, STEPS);
 }
 
-/// A turn makes at most 4,096 slots and 4,096 objects.
+/// A turn makes at most 4,096 slots, 4,096 objects and 4,096 messages.
 const LIMITS_OF_A_TURN: &str = r#"
 var i := 0; while (i < 4094) { var s := i; i := i + 1 }; var last := 3 => value 3
 var i := 0; while (i < 4095) { var s := i; i := i + 1 }; var last := 3 => abandoned "turn too large"
 var i := 0; while (i < 4096) { def _ { }; i := i + 1 }; i => value 4096
 var i := 0; while (i < 4097) { def _ { }; i := i + 1 }; i => abandoned "turn too large"
+var i := 0; while (i < 4096) { Ref.broken("x") <- y(); i := i + 1 }; i => value 4096
+var i := 0; while (i < 4097) { Ref.broken("x") <- y(); i := i + 1 }; i => abandoned "turn too large"
 "#;
 
 /// An abandoned turn leaves a variable as it was, a turn that ends with a problem keeps what it wrote.

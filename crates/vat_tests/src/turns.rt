@@ -1,6 +1,6 @@
 // Turns: what a text gives that is asked of a vat.
 
-use crate::tables::{expect_text, row};
+use crate::expecting::expect_text;
 use cells::store::CellStore;
 use cells::swaps::Swaps;
 use cells::touches::Touches;
@@ -21,9 +21,11 @@ use post::message::{Message, Place, Sent};
 use post::program::{Question, Script};
 use std::process::Abort;
 use std::sync::Arc;
+use transcripts::tables::row;
 use turn::ticket::{Out, Ticket};
+use values::calls::data_call;
 use values::showing::show;
-use values::value::Value;
+use values::value::{Answer, Value};
 
 const ALICE: VatNo = VatNo(EventName(1));
 
@@ -178,7 +180,7 @@ fn asked(rt: &(impl Abort + AllocGlobal), state: &Arc<VatState>, text: &str) -> 
 fn expect_turns(rt: &(impl Abort + AllocGlobal), script: &str, table: &str) {
     let state = after_script(rt, script);
     for line in table.lines() {
-        if let Some((text, wanted)) = row(rt, line) {
+        if let Some((text, wanted)) = row(line) {
             expect_text(rt, text, &asked(rt, &state, text), wanted);
         }
     }
@@ -319,5 +321,18 @@ const TURNS: &[(&str, &str)] = &[
 fn turns(rt: HostRuntime) {
     for (script, table) in TURNS {
         expect_turns(&rt, script, table);
+    }
+}
+
+/// A call of data by itself, with its verb as a text.
+#[test]
+fn calls_of_data(rt: HostRuntime) {
+    for (verb, wanted) in &[("add", Some(9)), ("multiply", Some(14)), ("fold", None)] {
+        let answer = data_call(rt.alloc(), &Value::Int(7), verb, &[Value::Int(2)]);
+        match answer.expect(&rt, "no memory") {
+            Answer::Gives(Value::Int(given)) => assert!(rt; Some(given) == *wanted),
+            Answer::Gives(_) => rt.panic("no integer"),
+            Answer::Throws(_) => assert!(rt; wanted.is_none()),
+        }
     }
 }

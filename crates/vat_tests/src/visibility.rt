@@ -1,6 +1,7 @@
 // Where names are in scope, in asked texts.
 
-use crate::tables::{BUDGET, expect_all};
+use crate::expecting::expect_all;
+use transcripts::replies::BUDGET;
 
 const IN_SCOPE: &str = r#"
 [(def y := 1)]; def z := y; z => value 1

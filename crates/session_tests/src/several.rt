@@ -1,6 +1,6 @@
 // Texts of commands for several vats, with the replies that their authors are promised.
 
-use crate::tables::expect_sessions;
+use crate::expecting::expect_sessions;
 
 /// What is sent on a passed copy comes after what was sent before on the original.
 const E_ORDER: &str = r#"> vat carol () 1

@@ -1,6 +1,6 @@
 // Sessions with logs.
 
-use crate::sessions::expect_session;
+use crate::expecting::expect_session;
 
 /// The log of one turn and of a send; of what is undone nothing is left.
 const SEND: &str = r#"> vat a () 1

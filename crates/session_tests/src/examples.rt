@@ -1,6 +1,6 @@
 // The sessions of the folder `examples`, with their replies; `companions/examples` sees to it that they are the same.
 
-use crate::tables::expect_sessions;
+use crate::expecting::expect_sessions;
 
 const MINT: &str =
     r#"> # A mint, whose purses hold money of its own. A purse takes money only from a purse of the same mint, and only what that
