@@ -155,6 +155,10 @@ class Engine:
             case "exchange":
                 first, second = book.journal.exchange(*arguments(words, number))
                 return [f"ok exchanged e{first} e{second}"]
+            case "settle":
+                position, = arguments(words, number)
+                book.journal.settle(position)
+                return [f"ok settled {position}"]
         raise Refusal("S1 UnknownCommand")
 
     def events(self, words):

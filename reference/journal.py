@@ -1,4 +1,4 @@
-"""The journal: entries with their causes, the world that the live ones lead to, undo, redo and exchange."""
+"""The journal: entries with their causes, the world that the live ones lead to, undo, redo, exchange and settling."""
 from dataclasses import dataclass, field
 
 from reading import Refusal
@@ -24,10 +24,11 @@ class Entry:
 
 
 class Journal:
-    """The entries in order, live and undone."""
+    """The entries in order, live and undone. The first of them may be settled: they stay live, where they are."""
 
     def __init__(self):
         self.entries = []
+        self.settled = 0
         self.world = {}
 
     def enter(self, entry):
@@ -46,10 +47,16 @@ class Journal:
             if not self.among({event}):
                 raise Refusal(f"B12 NoEvent e{event}")
         found = self.among(events)
+        self.expect_open(it for it in self.entries[:self.settled] if it.event in events)
         for entry in found:
             if entry.is_live != is_live:
                 raise Refusal(f"{'B13 NotLive' if is_live else 'B14 IsLive'} e{entry.event}")
         return found
+
+    def expect_open(self, settled):
+        """None of these settled entries is asked for."""
+        for entry in settled:
+            raise Refusal(f"B22 Settled e{entry.event}")
 
     def cone(self, event):
         """The entries of the least closed set that has the event. Causes stand before what they caused."""
@@ -89,10 +96,23 @@ class Journal:
         self.world = {cell: content for it in self.entries if it.is_live for cell, content in it.written.items()}
         return len(chosen)
 
+    def expect_place(self, position):
+        if not 1 <= position <= len(self.entries):
+            raise Refusal(f"B12 NoEvent {position}")
+
+    def settle(self, position):
+        """Settles the entries up to a position: they can no longer be taken back."""
+        self.expect_place(position)
+        self.expect_open(self.entries[position - 1:self.settled][:1])
+        for entry in self.entries[:position]:
+            if not entry.is_live:
+                raise Refusal(f"B13 NotLive e{entry.event}")
+        self.settled = position
+
     def exchange(self, position):
-        for wanted in (position, position + 1):
-            if not 1 <= wanted <= len(self.entries):
-                raise Refusal(f"B12 NoEvent {wanted}")
+        self.expect_place(position)
+        self.expect_place(position + 1)
+        self.expect_open(self.entries[position - 1:self.settled][:1])
         first, second = self.entries[position - 1:position + 1]
         self.selected({first.event, second.event}, True)
         if first.wrote_for(second) or second.wrote_for(first):

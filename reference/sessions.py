@@ -36,7 +36,7 @@ class Session:
 
 
 class RandomSession(Session):
-    """What random sessions have in common: they choose events, late ones rather, and give undo, redo, exchange and cone."""
+    """What random sessions have in common: they choose events, late ones rather, and give undo, redo, exchange, cone and settle."""
 
     def __init__(self, seed, budgets):
         self.random = random.Random(seed)
@@ -54,7 +54,9 @@ class RandomSession(Session):
         return self.random.choices(events, weights, k=self.random.randint(1, most)) if events else [self.event()]
 
     def marked(self, is_live):
-        return [it.event for it in self.book.journal.entries if it.is_live == is_live]
+        """The events that are marked so and not settled."""
+        journal = self.book.journal
+        return [it.event for it in journal.entries[journal.settled:] if it.is_live == is_live]
 
     def spoilt(self, part, text):
         return spoilt(self.random, text) if self.chance(part) else text
@@ -67,9 +69,13 @@ class RandomSession(Session):
         self.give(f"ask {name} {text}")
 
     def change(self):
-        match self.random.choice("cone undo-cone undo-cone undo undo redo redo redo exchange exchange".split()):
+        match self.random.choice("cone undo-cone undo-cone undo undo redo redo redo exchange exchange settle".split()):
             case "exchange":
                 self.give(f"exchange {self.position()}")
+            case "settle":
+                self.give("show")
+                self.give(f"settle {self.settling()}")
+                self.give("show")
             case "undo":
                 self.mark("undo", self.undoable())
             case "redo":
@@ -83,6 +89,12 @@ class RandomSession(Session):
         turns = [it.is_live and it.told.startswith("turn") for it in entries]
         found = [place for place in range(1, len(turns)) if turns[place - 1] and turns[place]]
         return self.random.choice(found) if found and self.chance(0.7) else self.random.randint(0, len(turns) + 1)
+
+    def settling(self):
+        """A position not far behind what is settled, or any."""
+        journal = self.book.journal
+        far = len(journal.entries) if self.chance(0.2) else journal.settled + (len(journal.entries) - journal.settled) // 4
+        return self.random.randint(0, far + 1)
 
     def mark(self, kind, chosen):
         self.give(" ".join([kind, *(f"e{event}" for event in chosen)]))

@@ -41,19 +41,22 @@ def vat_lines(world, number):
 
 
 def list_journal(journal):
-    for position, entry in enumerate(journal.entries, 1):
+    if journal.settled:
+        yield f"base {journal.settled}"
+    for position, entry in enumerate(journal.entries[journal.settled:], journal.settled + 1):
         mark = "live" if entry.is_live else "undone"
         causes = "".join(f" e{it.event}" for it in journal.among(entry.causes))
         yield f"{position} e{entry.event} {mark} {entry.told} causes{causes}"
 
 
 def log_of(book, loop):
-    """The records of the live turns of the vat of this name, which are numbered in the journal's present order; none where
-    there is no such vat."""
+    """The records of the live turns of the vat of this name that are not settled. Turns are numbered in the journal's present
+    order, those that are settled as well. There are none where there is no such vat."""
     numbers = {name: number for number, name in book.vats().items()}
+    settled = {it.event for it in book.journal.entries[:book.journal.settled]}
     turns = [it for it in book.journal.entries if it.is_live and it.vat is not None and it.vat == numbers.get(loop)]
     records = [record_of(loop, turn, number, note)
-               for turn, entry in enumerate(turns, 1) for number, note in enumerate(entry.notes)]
+               for turn, entry in enumerate(turns, 1) if entry.event not in settled for number, note in enumerate(entry.notes)]
     return json.dumps(records, ensure_ascii=False, separators=(",", ":"))
 
 

@@ -23,6 +23,7 @@ pub record Entering (c : Command) (e : EventName) (seat : ℕ) (old now : Book) 
   pub no_turn : is_turn act ≡ false
   pub grows : Grows (record { seat = seat; event = record { name = e; act = act } }) old now
   pub same_out : now.out ≡ old.out
+  pub same_settled : now.settled ≡ old.settled
 
 pub entering : (c : Command) (e : EventName) (seat : ℕ) (old now : Book) → Obeys c seat (Some e) old now → Entering c e seat old now
 entering c e seat old now h =
@@ -34,6 +35,7 @@ entering c e seat old now h =
       no_turn = command_no_turn c act of_command;
       grows = grows_act e act seat old now enters;
       same_out = enters.enters.same_out;
+      same_settled = enters.enters.same_settled;
     }
 
 -- a step was done at once
@@ -44,6 +46,7 @@ pub record Moving (e : EventName) (seat : ℕ) (old now : Book) : Type 0 where
   pub no_turn : is_turn act ≡ false
   pub grows : Grows (record { seat = seat; event = record { name = e; act = act } }) old now
   pub same_out : now.out ≡ old.out
+  pub same_settled : now.settled ≡ old.settled
 
 pub moving : (budget seat : ℕ) (e : EventName) (old now : Book) → Picks budget seat (pick.Moved e) old now → Moving e seat old now
 moving budget seat e old now h = record {
@@ -53,6 +56,7 @@ moving budget seat e old now h = record {
   no_turn = step_no_turn h.0 h.1 h.3;
   grows = grows_act e h.1 seat old now h.4;
   same_out = h.4.enters.same_out;
+  same_settled = h.4.enters.same_settled;
 }
 
 -- what is marked enters nothing

@@ -297,13 +297,13 @@ pub met : (first made place : ℕ) (began : List Entered) (v : View) (b : Book) 
 met first made place began v b d h at = let Q : Deeds → Type 0 = λ x. Answers (first + place) x b in subst Q (get_or_from_slice_get v.all place d blank at) (h.agrees place)
 
 -- and so it has no more than there are entries
-pub few_events : (first made place : ℕ) (began : List Entered) (v : View) (b : Book) (d : Deeds) → IsDesk first made began v b → length b.journal ≤ 1048576 → slice_get v.all place ≡ Some d → length d.events < 2 ^ 32
+pub few_events : (first made place : ℕ) (began : List Entered) (v : View) (b : Book) (d : Deeds) → IsDesk first made began v b → length b.journal + 1 < 2 ^ 64 → slice_get v.all place ≡ Some d → length d.events + 1 < 2 ^ 64
 few_events first made place began v b d h within at =
     let a = met first made place began v b d h at in
     let n = length_permutation (events_by (first + place) (entered_in b.journal)) (events_of d) a.list in
     let m = length-map d.events event_of in
     let k = by_within (first + place) b.journal in
-    let two : 4294967296 ≡ 2 ^ 32 = refl in
+    let two : 18446744073709551616 ≡ 2 ^ 64 = refl in
     omega (arith, n, m, k, within, two)
 
 -- ---- the ledger

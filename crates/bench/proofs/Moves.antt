@@ -1,6 +1,6 @@
 -- What the calls of a book leave of its entries, as seats see them.
-use Rattle.std.proofs.Common.{◌≡◌, ℕ, zero, suc, ◌+◌, ◌≤◌, cond, List, [], ◌∷◌, ◌++◌, length, map, filter, Some, None, Option, Bool, true, false, refl, sym, ap, ◌∙◌, subst, arith, length-append, ◌==◌, IsPermutation}
-use Rattle.std.specs.Prelude.{slice_get, option_map, Result, Ok, Err, OnOk, OnErr, IfErr}
+use Rattle.std.proofs.Common.{◌≡◌, ℕ, zero, suc, ◌+◌, ◌<◌, get_or, cond, List, [], ◌∷◌, ◌++◌, length, map, filter, Some, None, Option, Bool, true, false, refl, sym, ap, ◌∙◌, subst, arith, length-append, ◌==◌, IsPermutation}
+use Rattle.std.specs.Prelude.{◌^◌, slice_get, option_map, Result, Ok, Err, OnOk, OnErr, IfErr}
 use Rattle.std.proofs.lemmas.List.{length-map}
 use Rattle.std.proofs.lemmas.List.Sorted.{IsPermutation-refl, IsPermutation-cons, IsPermutation-middle}
 use Rattle.std.proofs.lemmas.Option.{slice_get-map}
@@ -11,7 +11,10 @@ use Rattle.event.specs.Events.{Foot}
 use Rattle.agenda.specs.declared.agenda.Step.{Step}
 use Rattle.agenda.specs.declared.agenda.Step.TheVariants as step
 use Rattle.journal.specs.Items.{item_of, exchanged}
+use Rattle.journal.specs.Journals.{items_in, settled_item}
 use Rattle.journal.specs.Lines.{Line, line_of, lines_of, in_order}
+use Rattle.journal.specs.declared.settled.Settled.{Settled}
+use Rattle.journal.proofs.Settling.{item_behind}
 use Rattle.journal.specs.declared.entry.Entry as code
 use Rattle.desk.specs.Desks.{without, is_out}
 use Rattle.undo.specs.CoreView.{items_of}
@@ -128,7 +131,7 @@ rests_moved n old now is =
       same_length = ap length is ∙ length-map moved (in_order moved) ∙ exchanged_length n old.journal;
     }
 
-rests_exchanged : (position : ℕ) (old now : Book) → exchange_refusal old.journal position ≡ None → Exchanges position old now → Rests old now
+rests_exchanged : (position : ℕ) (old now : Book) → exchange_refusal old.settled old.journal position ≡ None → Exchanges position old now → Rests old now
 rests_exchanged zero old now accepted h = absurd (cc)
 rests_exchanged (suc n) old now accepted h = rests_moved n old now (h.places n (omega arith))
 
@@ -173,33 +176,54 @@ none_entered (command.Exchange position) old now m = tt
 none_entered _ old now m = absurd m
 
 -- ---- the event of the last entry
-abbrev from_some : {A : Type 0} → Option A → A → A
+abbrev pub from_some : {A : Type 0} → Option A → A → A
 from_some (Some x) d = x
 from_some None d = d
+
+pub items_length : (ss : List Settled) (es : List code.Entry) → length (items_in ss es) ≡ length ss + length es
+items_length ss es = let a = length-append (map settled_item ss) (map item_of es) in let b = length-map ss settled_item in let c = length-map es item_of in omega (arith, a, b, c)
 
 at_last : {A : Type 0} (xs : List A) (x : A) → slice_get (xs ++ x ∷ []) (length xs) ≡ Some x
 at_last [] x = refl
 at_last (y ∷ ys) x = at_last ys x
 
-pub last_entered : (es : List code.Entry) (k : ℕ) (x : code.Entry) (lines : List Line) (before : List Entered) (e : Entered)
-    → lines_of (map item_of es) ≡ lines → slice_get es k ≡ Some x → length es ≡ k + 1 → entered_in lines ≡ before ++ e ∷ [] → event_of x.event ≡ e.event
-last_entered es k x lines before e same at long is =
-    let items = map item_of es in
-    let found : slice_get (entered_in lines) k ≡ Some (entry (line_of items (item_of x))) =
-    ap (λ ls. slice_get (entered_in ls) k) (sym same) ∙ slice_get-map entry (lines_of items) k ∙ ap (option_map entry) (slice_get-map (line_of items) items k ∙ ap (option_map (line_of items)) (slice_get-map item_of es k ∙ ap (option_map item_of) at)) in
+pub last_entered : (ss : List Settled) (es : List code.Entry) (k : ℕ) (x : code.Entry) (lines : List Line) (before : List Entered) (e : Entered)
+    → lines_of (items_in ss es) ≡ lines → x ≡ get_or es k x → length es ≡ k + 1 → entered_in lines ≡ before ++ e ∷ [] → event_of x.event ≡ e.event
+last_entered ss es k x lines before e same at long is =
+    let items = items_in ss es in
+    let p = length ss + k in
+    let there : slice_get items p ≡ Some (item_of x) = item_behind ss es p k x refl (omega (arith, long)) ∙ ap (λ (z : code.Entry). Some (item_of z)) (sym at) in
+    let found : slice_get (entered_in lines) p ≡ Some (entry (line_of items (item_of x))) =
+    ap (λ ls. slice_get (entered_in ls) p) (sym same) ∙ slice_get-map entry (lines_of items) p ∙ ap (option_map entry) (slice_get-map (line_of items) items p ∙ ap (option_map (line_of items)) there) in
     let a = length-map lines entry in
     let b = ap length same in
     let c = length-map items (line_of items) in
-    let d = length-map es item_of in
+    let d = items_length ss es in
     let l = ap length is in
     let m = length-append before (e ∷ []) in
-    let place : length before ≡ k = omega (arith, a, b, c, d, l, m, long) in
-    let last : slice_get (entered_in lines) k ≡ Some e = ap (λ xs. slice_get xs k) is ∙ ap (λ j. slice_get (before ++ e ∷ []) j) (sym place) ∙ at_last before e in
+    let place : length before ≡ p = omega (arith, a, b, c, d, l, m, long) in
+    let last : slice_get (entered_in lines) p ≡ Some e = ap (λ xs. slice_get xs p) is ∙ ap (λ j. slice_get (before ++ e ∷ []) j) (sym place) ∙ at_last before e in
     ap (λ o. (from_some o e).event) (sym found ∙ last)
 
--- ---- a journal is no longer than it may be
-pub journal_within : (b : code-book.Book) → length (book_of b).journal ≤ 1048576
-journal_within b = let h = b.within in let l = length-map (items_of b.core) (line_of (items_of b.core)) in omega (arith, h, l)
+-- ---- what is settled of a journal, and how long it may be
+lines_in : (b : code-book.Book) → length (book_of b).journal ≡ length b.core.settled.items + length b.core.entries.items
+lines_in b = length-map (items_of b.core) (line_of (items_of b.core)) ∙ items_length b.core.settled.items b.core.entries.items
+
+pub journal_within : (b : code-book.Book) → length (book_of b).journal + 1 < 2 ^ 64
+journal_within b =
+    let h = b.within in
+    let l = length-map (items_of b.core) (line_of (items_of b.core)) in
+    let s = b.core.settled in
+    let len = s.ok.0 in
+    let cap = s.ok.1 in
+    let small = s.small in
+    let half : 9223372036854775808 ≡ 2 ^ 63 = refl in
+    let whole : 18446744073709551616 ≡ 2 ^ 64 = refl in
+    omega (arith, h, l, len, cap, small, half, whole)
+
+-- behind what is settled there is an entry, where one was entered
+pub one_open : {e : Entered} (b : code-book.Book) (now : Book) → Grows e (book_of b) now → now.settled ≡ (book_of b).settled → now.settled < length now.journal
+one_open b now grows same = let l = lines_in b in let m = grows.more in omega (arith, l, m, same)
 
 -- ---- a ticket is abandoned, whether or not it was out
 pub abandoned : {T : Type 0} (r : Result T BookFault) (n : EventName) (old now : Book) → OnOk r (now ≡ record old { out = without n old.out }) → OnErr r (now ≡ old)

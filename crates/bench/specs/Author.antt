@@ -57,9 +57,9 @@ command_refusal (command.Arrive m) b = arrival_refusal b m
 command_refusal (command.Forward m) b = forward_refusal b m
 command_refusal (command.Learn x p) b = learn_refusal b x p
 command_refusal (command.Abandon n) b = refuse_where (not (is_out n b.out)) no_ticket
-command_refusal (command.Undo names) b = undo_refusal b.journal names.items
-command_refusal (command.Redo names) b = redo_refusal b.journal names.items
-command_refusal (command.Exchange position) b = exchange_refusal b.journal position
+command_refusal (command.Undo names) b = undo_refusal b.settled b.journal names.items
+command_refusal (command.Redo names) b = redo_refusal b.settled b.journal names.items
+command_refusal (command.Exchange position) b = exchange_refusal b.settled b.journal position
 
 -- a fault tells why a command is refused, unless it is want of memory, of which an abandoned ticket takes none
 abbrev pub Refuses : Command → Book → BookFault → Type 0

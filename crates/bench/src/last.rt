@@ -10,10 +10,10 @@ use worldcells::event::Event;
 
 /// The event of the last entry, for proofs alone.
 pub(crate) fn last_event(book: &Book) -> Snapshot<Event>
-    requires { 0 < length (book_of book.now).journal }
+    requires { (book_of book.now).settled < length (book_of book.now).journal }
     ensures { (before : List Entered) (e : Entered) → entered_in (book_of book.now).journal ≡ before ++ e ∷ [] → event_of result.value ≡ e.event }
 {
-    let entries = book.journal();
+    let entries = book.journal().entries;
     let last = &entries[entries.len() - 1];
     Snapshot::of(&last.event)
 }

@@ -133,7 +133,7 @@ impl<L: Opening> Seat<L> {
         requires cell { (cell.now.table.shared.table_id ≡ L.table) × (keeper.old.table_id ≡ L.table) }
         requires view { IsKeeper (cell_view keeper.old) }
         requires fit { IsFit act.now }
-        requires room { slice_get (cell_view keeper.old).all self.old.place ≡ Some self.old.deeds → length self.old.deeds.events < 2 ^ 32 }
+        requires room { slice_get (cell_view keeper.old).all self.old.place ≡ Some self.old.deeds → length self.old.deeds.events + 1 < 2 ^ 64 }
         ensures agreed { (self.old.number ≡ L.before + 1 + self.old.place) × (slice_get (cell_view keeper.old).all self.old.place ≡ Some self.old.deeds) }
         ensures keeper { (keeper.new.table_id ≡ L.table) × (cell_view keeper.new ≡ knower (slice_set (cell_view keeper.old).all self.old.place (after act.now self.old.deeds))) }
         ensures seat { self.new ≡ held self.old act.now }

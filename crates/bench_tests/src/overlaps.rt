@@ -60,7 +60,7 @@ impl<R: Clock> Gate for Reverse<'_, R> {
 /// The last entries are live turns of the questions, the last question's first.
 fn expect_reversed(rt: &impl Abort, book: &Book, vats: usize) {
     assert!(rt; vats <= 4);
-    let entries = book.journal();
+    let entries = book.journal().entries;
     assert!(rt; entries.len() == 4 * vats);
     let mut question = 3 * vats as u64;
     for entry in entries.iter().skip(3 * vats) {

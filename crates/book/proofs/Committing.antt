@@ -181,6 +181,7 @@ module _ (m : MsgId) (budget seat : ℕ) (t : Out) (old mid : Book) (r : Ran) (l
   memory_alone fault.VatOut h = absurd h
   memory_alone (fault.NoEvent n) h = absurd h
   memory_alone (fault.NoPosition n) h = absurd h
+  memory_alone (fault.Settled n) h = absurd h
   memory_alone (fault.NotLive n) h = absurd h
   memory_alone (fault.IsLive n) h = absurd h
   memory_alone (fault.NotClosed n k) h = absurd h
@@ -216,6 +217,7 @@ module _ (m : MsgId) (budget seat : ℕ) (t : Out) (old mid : Book) (r : Ran) (l
   pub turned : (u : Turn) (now : Book) (e : EventName) → u ≡ turn_in mid.world r → e ≡ r.carried.event → seat ≡ 0 → without t.event (old.out ++ lent_of (task_of t) ∷ []) ≡ old.out → Commits r mid now → TurnsNext e m budget u old now
   turned u now e turn_is is none back h = record {
     named = ap (λ (n : EventName). n.0) is ∙ ap (λ (o : Task). o.event.0) same ∙ lends.named;
+    same_settled = h.same_settled ∙ ap (λ (b : Book). b.settled) lends.lent;
     drawn = h.same_next ∙ ap (λ (b : Book). b.next) lends.lent;
     same_out = h.out ∙ ap (λ (b : Book). without r.carried.event b.out) lends.lent ∙ ap (λ (o : Task). without o.event (old.out ++ lent_of (task_of t) ∷ [])) same ∙ back;
     enters = subst (λ (v : Turn). EntersTurn e m budget 0 v old now) (sym turn_is) (moved (turn_in mid.world r) now r.carried.event e r.carried.name m r.carried.budget budget r.carried.seat 0 (sym is)

@@ -1,5 +1,5 @@
 -- An event is entered: the book stands, the world goes one step, and the journal has one more line.
-use Rattle.std.proofs.Common.{◌≡◌, ◌≢◌, ℕ, ◌+◌, ◌<◌, ◌≤◌, true, List, [], ◌∷◌, ◌++◌, map, is_some, refl, sym, ap, ◌∙◌, subst, arith}
+use Rattle.std.proofs.Common.{◌≡◌, ◌≢◌, ℕ, ◌+◌, ◌<◌, ◌≤◌, true, List, [], ◌∷◌, ◌++◌, map, is_some, refl, sym, ap, ap₂, ◌∙◌, subst, arith}
 use Rattle.std.proofs.Math.Logic.{∥∥₁_elim, ∥∥₁_prop}
 use Rattle.std.specs.List.{AllByRecursion}
 use Rattle.history.specs.Subject.{empty, new, touches}
@@ -26,7 +26,7 @@ use Rattle.journal.specs.Standing.{ItemsStand}
 use Rattle.journal.proofs.Appending.{next_line, lines_appended}
 use Rattle.journal.proofs.Touching.{any-map, told_new, told_touches}
 use Rattle.desk.specs.Desks.{Lent}
-use Rattle.undo.specs.CoreView.{items_of, state_of, shown}
+use Rattle.undo.specs.CoreView.{items_of, settled_of, state_of, shown}
 use Rattle.undo.specs.Standing.{CoreStands}
 use Rattle.undo.specs.declared.undoing.Core.{Core}
 use Rattle.undo.proofs.Standing.{enters}
@@ -37,7 +37,7 @@ use Rattle.book.proofs.Sets.{Bool-set, Lines-set}
 
 -- the book of a core
 abbrev pub book_with : Core → ℕ → List Lent → Book
-book_with core next out = record { world = contents cells (state_of core); journal = lines_of (items_of core); next = next; out = out }
+book_with core next out = record { world = contents cells (state_of core); journal = lines_of (items_of core); settled = settled_of core; next = next; out = out }
 
 -- what stands is what is shown
 pub kept_same : (old new : Core) (next : ℕ) (out : List Lent) → shown new ≡ shown old → Kept old next out → Kept new next out
@@ -53,8 +53,8 @@ pub stands_same : (old new : Core) (next : ℕ) (out : List Lent) → shown new 
 stands_same old new next out is h = ∥∥₁_elim h ∥∥₁_prop (λ k. ∣ kept_same old new next out is k ∣₁)
 
 -- and so is the book
-pub book_same : (old new : Core) (next : ℕ) (out : List Lent) → shown new ≡ shown old → book_with new next out ≡ book_with old next out
-book_same old new next out is = ap (λ (j : List Item × State cells). record { world = contents cells j.1; journal = lines_of j.0; next = next; out = out }) is
+pub book_same : (old new : Core) (next : ℕ) (out : List Lent) → shown new ≡ shown old → settled_of new ≡ settled_of old → book_with new next out ≡ book_with old next out
+book_same old new next out is many = ap₂ (λ (j : List Item × State cells) n. record { world = contents cells j.1; journal = lines_of j.0; settled = n; next = next; out = out }) is many
 
 -- an event that is entered with these cells and this record
 module _ (old now : Core) (next later : ℕ) (out : List Lent) (e : Noted) (seat : ℕ) (touched : List CellKey) (kept : Record cells) (f : Foot)
@@ -148,10 +148,11 @@ module _ (old now : Core) (next : ℕ) (out : List Lent) (e : Event) (seat : ℕ
       kept_entered old now next (next + 1) out (with_notes e []) seat touched kept f brings is next_le drawn_lt k d (next_free k) out k.free
       (all_map _ _ out (λ t lt same. omega (arith, lt, same, name)) k.drawn) (all_map _ _ out (λ t lt. omega (arith, lt)) k.drawn) k.apart)
 
-  pub next_enters : EntersNext e f seat (book_with old next out) (book_with now (next + 1) out)
-  next_enters = record {
+  pub next_enters : settled_of now ≡ settled_of old → EntersNext e f seat (book_with old next out) (book_with now (next + 1) out)
+  next_enters many = record {
     named = name;
     drawn = refl;
+    same_settled = many;
     same_out = refl;
     enters = book_enters old now next (next + 1) out (with_notes e []) seat touched kept f brings is next_le drawn_lt h does next_free (next + 1) out;
   }

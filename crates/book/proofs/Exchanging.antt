@@ -24,13 +24,13 @@ use Rattle.causality.specs.Journals.{IsJournal}
 use Rattle.causality.specs.Selections.{name_of}
 use Rattle.causality.proofs.Facts.{entry_at, cells_items, wrote_meets}
 use Rattle.causality.proofs.Telling.{journal_tells}
-use Rattle.undo.specs.CoreView.{items_of, state_of, shown}
+use Rattle.undo.specs.CoreView.{items_of, settled_of, state_of, shown}
 use Rattle.undo.specs.Standing.{CoreStands}
 use Rattle.undo.specs.declared.undoing.Core.{Core}
 use Rattle.undo.proofs.Neighbours.{exchanges}
 use Rattle.desk.specs.Desks.{Lent}
 use Rattle.book.specs.Calls.{Exchanges, StoodAt}
-use Rattle.book.specs.Refusals.{first, refuse_where, dependent, neighbours_by, undone_neighbour, dependent_neighbour, placed_refusal, exchange_refusal}
+use Rattle.book.specs.Refusals.{first, refuse_where, dependent, neighbours_by, settled_at, undone_neighbour, dependent_neighbour, placed_refusal, exchange_refusal}
 use Rattle.book.specs.Standing.{Kept, Stands}
 use Rattle.book.proofs.Entering.{book_with, stands_same}
 use Rattle.book.proofs.Sets.{Lines-set}
@@ -53,11 +53,12 @@ between (suc k) n (x ∷ rows) e =
     let w = between k n rows (omega arith) in
     record { xs = x ∷ w.xs; a = w.a; b = w.b; ys = w.ys; is = ap (λ l. x ∷ l) w.is; behind = w.behind }
 
--- where nothing refuses the neighbours for their marks, it is what they depend on that counts
-full_is : (p : ℕ) (a b : Option Line) → neighbours_by undone_neighbour p a b ≡ None → neighbours_by (λ x y. first (undone_neighbour x y) (dependent_neighbour x y)) p a b ≡ neighbours_by dependent_neighbour p a b
-full_is p None b e = refl
-full_is p (Some a) None e = refl
-full_is p (Some a) (Some b) e = ap (λ o. first o (dependent_neighbour a b)) e
+-- where nothing refuses the neighbours for their place and marks, it is what they depend on that counts
+full_is : (s p : ℕ) (a b : Option Line) → neighbours_by (λ x y. first (settled_at s p x) (undone_neighbour x y)) p a b ≡ None
+    → neighbours_by (λ x y. first (first (settled_at s p x) (undone_neighbour x y)) (dependent_neighbour x y)) p a b ≡ neighbours_by dependent_neighbour p a b
+full_is s p None b e = refl
+full_is s p (Some a) None e = refl
+full_is s p (Some a) (Some b) e = ap (λ o. first o (dependent_neighbour a b)) e
 
 either_wrote : (x y : Bool) → (x || y) ≡ not (not x && not y)
 either_wrote true y = refl
@@ -77,21 +78,16 @@ dependent_is all (i ∷ j ∷ items) (h, (q, hs)) zero p e f g k =
     ap₂ refuse_where (ap₂ (λ x y. x || y) (wrote_meets all i j q) (wrote_meets all j i h) ∙ either_wrote (wrote_one_of i j) (wrote_one_of j i)) (ap₂ dependent first_is second_is)
 dependent_is all (i ∷ j ∷ items) (h, hs) (suc n) p e f g k = dependent_is all (j ∷ items) hs n p e f g k
 
--- a position that is not refused is one further than some place
-pub placed_at : (lines : List Line) (position : ℕ) → placed_refusal lines position ≡ None → (n : ℕ) × (position ≡ n + 1)
-placed_at lines zero e = cc
-placed_at lines (suc n) e = (n, omega arith)
-
 -- THE LEMMA: what refuses an exchange of neighbours that are live
-pub refused_where : (items : List Item) → IsJournal items → (position n : ℕ) → position ≡ n + 1 → (e f : EventName) → placed_refusal (lines_of items) position ≡ None → StoodAt position (lines_of items) e f
-    → exchange_refusal (lines_of items) position ≡ refuse_where (not (neighbours may_exchange n items)) (dependent e f)
-refused_where items journal zero n is e f placed stood = absurd (omega arith)
-refused_where items journal (suc m) n is e f placed stood =
+pub refused_where : (items : List Item) → IsJournal items → (s position n : ℕ) → position ≡ n + 1 → (e f : EventName) → placed_refusal s (lines_of items) position ≡ None → StoodAt position (lines_of items) e f
+    → exchange_refusal s (lines_of items) position ≡ refuse_where (not (neighbours may_exchange n items)) (dependent e f)
+refused_where items journal s zero n is e f placed stood = absurd (omega arith)
+refused_where items journal s (suc m) n is e f placed stood =
     let same : m ≡ n = omega arith in
     let at = stood m (omega arith) in
     let next : m + 1 ≡ suc m = omega arith in
     let behind : option_map name_of (slice_get (lines_of items) (suc m)) ≡ Some f = subst (λ k. option_map name_of (slice_get (lines_of items) k) ≡ Some f) next at.1 in
-    full_is (suc m) _ _ placed
+    full_is s (suc m) _ _ placed
     ∙ dependent_is items items (cells_items items (journal_tells items journal)) m (suc m) e f at.0 behind
     ∙ ap (λ k. refuse_where (not (neighbours may_exchange k items)) (dependent e f)) same
 
@@ -138,12 +134,13 @@ module _ (old new : Core) (next : ℕ) (out : List Lent) (n : ℕ) (there : n + 
     pub exchanged_stands : Stands new next out
     exchanged_stands = ∥∥₁_elim h ∥∥₁_prop (λ k. ∣ kept k ∣₁)
 
-    pub book_exchanged : (position : ℕ) → position ≡ n + 1 → Exchanges position (book_with old next out) (book_with new next out)
-    book_exchanged position at = record {
+    pub book_exchanged : settled_of new ≡ settled_of old → (position : ℕ) → position ≡ n + 1 → Exchanges position (book_with old next out) (book_with new next out)
+    book_exchanged many position at = record {
       places = λ m is_m. (let same : n ≡ m = omega arith in
           subst (λ k. lines_of (items_of new) ≡ map (in_order (exchanged k (lines_of (items_of old)))) (exchanged k (lines_of (items_of old)))) same
           (∥∥₁_elim h (Lines-set _ _) (λ k. lines k.rows k.stands)));
       same_world = ap (λ (j : List Item × State cells). contents cells j.1) is;
+      same_settled = many;
       same_next = refl;
       same_out = refl;
     }
@@ -153,11 +150,3 @@ pub tried_stands : (old new : Core) (next : ℕ) (out : List Lent) (n : ℕ) →
     → shown new ≡ (if b then exchanged n (items_of old) else items_of old, state_of old) → Stands old next out → Stands new next out
 tried_stands old new next out n there true may is h = exchanged_stands old new next out n there (sym may) is h
 tried_stands old new next out n there false may is h = stands_same old new next out is h
-
--- a position that is not refused, and within the entries
-pub places_there : (items : List Item) (entries : List Entry) (position : ℕ) → map item_of entries ≡ items → placed_refusal (lines_of (map item_of entries)) position ≡ None → position < length entries
-    → (position ≡ (position - 1) + 1) × ((position - 1) + 1 < length items)
-places_there items entries position is placed lt =
-    let at = placed_at (lines_of (map item_of entries)) position placed in
-    let many : length items ≡ length entries = ap length (sym is) ∙ length-map entries item_of in
-    (omega (arith, at.1), omega (arith, at.1, many))

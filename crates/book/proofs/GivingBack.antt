@@ -30,7 +30,7 @@ marked_back names others (l ∷ lines) (h, hs) (e, es) = λ i.
 -- THE THEOREM
 pub gives_back : RedoNextGivesBack
 gives_back names others before between now run ok undoes same redoes =
-    let back : redone_in others between.journal ≡ before.journal = ap (redone_in others) undoes.marked ∙ marked_back names others before.journal (live_set_of names before.journal ok) same in (
+    let back : redone_in others between.journal ≡ before.journal = ap (redone_in others) undoes.marked ∙ marked_back names others before.journal (live_set_of names before.settled before.journal ok) same in (
       one_world (live_events before.journal) now.world before.world (subst (λ ls. PlainRun (live_events ls) now.world) back redoes.run) run,
       redoes.marked ∙ back,
     )

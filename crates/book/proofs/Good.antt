@@ -1,9 +1,9 @@
 -- What stands is good.
-use Rattle.std.proofs.Common.{◌≡◌, ℕ, ◌<◌, ◌≤◌, ◌==◌, Bool, true, false, cond, ◌||◌, List, [], ◌∷◌, map, filter, length, refl, sym, ap, ◌∙◌, subst, ne_eqb, eq-eqb}
+use Rattle.std.proofs.Common.{◌≡◌, ℕ, ◌+◌, ◌<◌, ◌≤◌, ◌==◌, Bool, true, false, cond, ◌||◌, List, [], ◌∷◌, map, filter, length, refl, sym, ap, ◌∙◌, subst, ne_eqb, eq-eqb, arith}
 use Rattle.std.proofs.Math.Logic.{∥∥₁_elim, ∥∥₁_map}
 use Rattle.std.proofs.Props.{props}
 use Rattle.std.proofs.lemmas.Bool.{or_left, or_right, false≢true}
-use Rattle.std.proofs.lemmas.List.{length-map}
+use Rattle.std.proofs.lemmas.List.{length-append, length-map}
 use Rattle.std.specs.List.{AllByRecursion}
 use Rattle.history.specs.Subject.{empty}
 use Rattle.history.specs.Journal.{Entry, name_of, is_in, live_set, Ordered, NoneNamesItself, Runs, runs_none, runs_more}
@@ -24,7 +24,9 @@ use Rattle.journal.proofs.Telling.{told_entry, entries_told}
 use Rattle.journal.proofs.Touching.{told_new, told_touches}
 use Rattle.causality.proofs.Telling.{journal_tells}
 use Rattle.desk.specs.Desks.{Lent}
-use Rattle.undo.specs.CoreView.{items_of, state_of}
+use Rattle.journal.specs.Journals.{settled_item}
+use Rattle.causality.proofs.Behind.{lines_taken, settled_live}
+use Rattle.undo.specs.CoreView.{items_of, open_of, settled_of, state_of}
 use Rattle.undo.specs.declared.undoing.Core.{Core}
 use Rattle.book.specs.Good as with_cells
 use Rattle.book.specs.Good.{CausesAreOlder, HasFoot, RunsWithCells, IsGood}
@@ -103,10 +105,12 @@ drawn_prop next [] a b = refl
 drawn_prop next (e ∷ es) (p, q) (r, s) = λ i. (less_prop (name_of plain e) next p r i, drawn_prop next es q s i)
 
 -- THE LEMMA
-pub stands_good : (core : Core) (next : ℕ) (out : List Lent) → Stands core next out → length (items_of core) ≤ MOST_ENTRIES → IsGood (book_with core next out)
+pub stands_good : (core : Core) (next : ℕ) (out : List Lent) → Stands core next out → length (items_of core) ≤ settled_of core + MOST_ENTRIES → IsGood (book_with core next out)
 stands_good core next out h within =
     let items = items_of core in
     let lines = (journal_tells items (stands_journal core next out h)).lines_are in
+    let many : length (lines_of items) ≡ length items = length-map items (line_of items) in
+    let all : length items ≡ settled_of core + length (open_of core) = length-append (map settled_item core.settled.items) (open_of core) ∙ ap (λ n. n + length (open_of core)) (length-map core.settled.items settled_item) in
     record {
       distinct = lines.distinct;
       drawn = ∥∥₁_elim h (drawn_prop next (entries_in (lines_of items))) (λ k.
@@ -117,5 +121,7 @@ stands_good core next out h within =
       footprints = ∥∥₁_map h (λ k.
           subst (λ es. RunsWithCells (filter (live_set plain) es) (contents cells (state_of core))) (sym (entries_told DoesNoted noted_laws k.stands))
           (runs_told (entries_of k.rows) k.rows k.stands.stands.chained k.stands.stands.follows.fit (contents cells (state_of core)) (good_runs noted_events noted_laws k.stands.stands.good)));
-      within = subst (λ n. n ≤ MOST_ENTRIES) (sym (length-map items (line_of items))) within;
+      base = omega (arith, many, all);
+      settled = subst (AllByRecursion (λ (l : Line). l.entry.live ≡ true)) (sym (lines_taken (line_of items) core.settled.items _)) (all_mapped (line_of items) _ (map settled_item core.settled.items) (settled_live core.settled.items));
+      within = omega (arith, many, within);
     }

@@ -5,6 +5,7 @@ pub mod Blank
 pub mod Seen
 pub mod Choosing
 pub mod Running
+pub mod Settling
 pub mod Undoing
 pub mod Redoing
 pub mod Placed

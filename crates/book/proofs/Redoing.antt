@@ -20,14 +20,14 @@ use Rattle.journal.proofs.Marking.{lines_redone}
 use Rattle.causality.specs.Selections.{numbers, among, chosen, is_live, first_missing_cause, first_crossing, places_from}
 use Rattle.causality.proofs.Exactness.{sound_of_lacks}
 use Rattle.causality.proofs.Telling.{journal_tells}
-use Rattle.undo.specs.CoreView.{items_of, state_of, shown}
+use Rattle.undo.specs.CoreView.{items_of, settled_of, state_of, shown}
 use Rattle.undo.specs.Standing.{CoreStands}
 use Rattle.undo.specs.declared.undoing.Core.{Core}
 use Rattle.undo.proofs.Standing.{redoes}
 use Rattle.desk.specs.Desks.{Lent}
 use Rattle.event.specs.Runs.{PlainRun}
 use Rattle.book.specs.Calls.{Redoes, redone_in, live_events}
-use Rattle.book.specs.Refusals.{missing_refusal, live_refusal, redo_refusal, gap_refusal, still_live, cause_missing, crossed}
+use Rattle.book.specs.Refusals.{closed_refusal, live_refusal, redo_refusal, gap_refusal, still_live, cause_missing, crossed}
 use Rattle.book.specs.Standing.{Kept, Stands}
 use Rattle.book.proofs.Entering.{book_with}
 use Rattle.book.proofs.Sets.{Lines-set}
@@ -35,15 +35,15 @@ use Rattle.book.proofs.Choosing.{neither, not_mapped, of_rows, journal_of, place
 use Rattle.book.proofs.Running.{plain_run}
 
 -- the parts of a redo that nothing refuses
-dead_set : (names : List EventName) (lines : List Line) → redo_refusal lines names ≡ None → AllByRecursion (λ l. chosen names l ≡ true → is_live l ≡ false) lines
-dead_set names lines ok = chosen_undone names lines (not_mapped still_live _ (neither (live_refusal names lines) _ (neither (missing_refusal names lines) _ ok).1).0)
+dead_set : (names : List EventName) (n : ℕ) (lines : List Line) → redo_refusal n lines names ≡ None → AllByRecursion (λ l. chosen names l ≡ true → is_live l ≡ false) lines
+dead_set names n lines ok = chosen_undone names lines (not_mapped still_live _ (neither (live_refusal names lines) _ (neither (closed_refusal names n lines) _ ok).1).0)
 
-no_lack : (names : List EventName) (lines : List Line) → redo_refusal lines names ≡ None → (first_missing_cause names lines ≡ None) × (first_crossing names lines ≡ None)
-no_lack names lines ok =
-    let rest = neither _ _ (neither (live_refusal names lines) _ (neither (missing_refusal names lines) _ ok).1).1 in
+no_lack : (names : List EventName) (n : ℕ) (lines : List Line) → redo_refusal n lines names ≡ None → (first_missing_cause names lines ≡ None) × (first_crossing names lines ≡ None)
+no_lack names n lines ok =
+    let rest = neither _ _ (neither (live_refusal names lines) _ (neither (closed_refusal names n lines) _ ok).1).1 in
     (not_mapped (gap_refusal cause_missing) _ rest.0, not_mapped (gap_refusal crossed) _ rest.1)
 
-module _ (old new : Core) (next : ℕ) (out : List Lent) (names : List EventName) (ps : List ℕ) (ok : redo_refusal (lines_of (items_of old)) names ≡ None)
+module _ (old new : Core) (next : ℕ) (out : List Lent) (names : List EventName) (ps : List ℕ) (ok : redo_refusal (settled_of old) (lines_of (items_of old)) names ≡ None)
     (at : ps ≡ places_from 0 names (lines_of (items_of old))) (is : shown new ≡ walk (swap_item true) ps (shown old)) where
   module _ (rows : List (Row noted_events)) (h : CoreStands DoesNoted (empty noted_events) next rows old) where
     members : SameMembers DoesNoted (among names) (of_rows names) rows
@@ -54,11 +54,11 @@ module _ (old new : Core) (next : ℕ) (out : List Lent) (names : List EventName
 
     sound : Sound noted_events (both (live_set noted_events) (of_rows names)) (entries_of rows)
     sound = sound_of_lines DoesNoted noted_laws h (both (live_set plain) (among names)) (both (live_set noted_events) (of_rows names)) members_both
-        (sound_of_lacks names (lines_of (items_of old)) (journal_tells (items_of old) (journal_of old h)) (no_lack names (lines_of (items_of old)) ok))
+        (sound_of_lacks names (lines_of (items_of old)) (journal_tells (items_of old) (journal_of old h)) (no_lack names (settled_of old) (lines_of (items_of old)) ok))
 
     dead : AllByRecursion (λ e. of_rows names e ≡ true → e.live ≡ false) (entries_of rows)
     dead = dead_of_lines DoesNoted noted_laws h (among names) (of_rows names) members
-        (all_entries (λ e. among names e ≡ true → e.live ≡ false) (lines_of (items_of old)) (dead_set names (lines_of (items_of old)) ok))
+        (all_entries (λ e. among names e ≡ true → e.live ≡ false) (lines_of (items_of old)) (dead_set names (settled_of old) (lines_of (items_of old)) ok))
 
     abbrev after : List (Row noted_events)
     after = redo_rows noted_events (of_rows names) rows (state_of old)
@@ -92,10 +92,11 @@ module _ (old new : Core) (next : ℕ) (out : List Lent) (names : List EventName
     pub redone_stands : Stands new next out
     redone_stands = ∥∥₁_elim h ∥∥₁_prop (λ k. ∣ kept k ∣₁)
 
-    pub book_redone : Redoes names (book_with old next out) (book_with new next out)
-    book_redone = record {
+    pub book_redone : settled_of new ≡ settled_of old → Redoes names (book_with old next out) (book_with new next out)
+    book_redone many = record {
       run = ∥∥₁_elim h ∥∥₁_prop (λ k. run k.rows k.stands);
       marked = ∥∥₁_elim h (Lines-set _ _) (λ k. lines k.rows k.stands);
+      same_settled = many;
       same_next = refl;
       same_out = refl;
     }

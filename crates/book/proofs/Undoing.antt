@@ -21,14 +21,14 @@ use Rattle.journal.proofs.Lifting.{SameMembers, named_members, live_members, wit
 use Rattle.journal.proofs.Marking.{lines_undone}
 use Rattle.causality.specs.Selections.{numbers, among, chosen, is_live, first_gap, places_from}
 use Rattle.causality.proofs.Exactness.{closed_of_gaps}
-use Rattle.undo.specs.CoreView.{items_of, state_of, shown}
+use Rattle.undo.specs.CoreView.{items_of, settled_of, state_of, shown}
 use Rattle.undo.specs.Standing.{CoreStands}
 use Rattle.undo.specs.declared.undoing.Core.{Core}
 use Rattle.undo.proofs.Standing.{undoes}
 use Rattle.desk.specs.Desks.{Lent}
 use Rattle.event.specs.Runs.{PlainRun}
 use Rattle.book.specs.Calls.{Undoes, undone_in, live_events, rest_of}
-use Rattle.book.specs.Refusals.{missing_refusal, undone_refusal, undo_refusal, gap_refusal, not_live, not_closed}
+use Rattle.book.specs.Refusals.{closed_refusal, undone_refusal, undo_refusal, gap_refusal, not_live, not_closed}
 use Rattle.book.specs.Standing.{Kept, Stands}
 use Rattle.book.proofs.Entering.{book_with}
 use Rattle.book.proofs.Sets.{Lines-set}
@@ -48,13 +48,13 @@ rest_left names (l ∷ lines) =
     (filter is_live (undone_in names lines)) (filter (λ m. is_live m && not (chosen names m)) lines) refl (rest_left names lines)
 
 -- the parts of an undo that nothing refuses
-pub live_set_of : (names : List EventName) (lines : List Line) → undo_refusal lines names ≡ None → AllByRecursion (λ l. chosen names l ≡ true → is_live l ≡ true) lines
-live_set_of names lines ok = chosen_live names lines (not_mapped not_live _ (neither (undone_refusal names lines) _ (neither (missing_refusal names lines) _ ok).1).0)
+pub live_set_of : (names : List EventName) (n : ℕ) (lines : List Line) → undo_refusal n lines names ≡ None → AllByRecursion (λ l. chosen names l ≡ true → is_live l ≡ true) lines
+live_set_of names n lines ok = chosen_live names lines (not_mapped not_live _ (neither (undone_refusal names lines) _ (neither (closed_refusal names n lines) _ ok).1).0)
 
-no_gap : (names : List EventName) (lines : List Line) → undo_refusal lines names ≡ None → first_gap names lines ≡ None
-no_gap names lines ok = not_mapped (gap_refusal not_closed) _ (neither (undone_refusal names lines) _ (neither (missing_refusal names lines) _ ok).1).1
+no_gap : (names : List EventName) (n : ℕ) (lines : List Line) → undo_refusal n lines names ≡ None → first_gap names lines ≡ None
+no_gap names n lines ok = not_mapped (gap_refusal not_closed) _ (neither (undone_refusal names lines) _ (neither (closed_refusal names n lines) _ ok).1).1
 
-module _ (old new : Core) (next : ℕ) (out : List Lent) (names : List EventName) (ps : List ℕ) (ok : undo_refusal (lines_of (items_of old)) names ≡ None)
+module _ (old new : Core) (next : ℕ) (out : List Lent) (names : List EventName) (ps : List ℕ) (ok : undo_refusal (settled_of old) (lines_of (items_of old)) names ≡ None)
     (at : ps ≡ places_from 0 names (lines_of (items_of old))) (is : shown new ≡ walk (swap_item false) (reverse ps) (shown old)) where
   module _ (rows : List (Row noted_events)) (h : CoreStands DoesNoted (empty noted_events) next rows old) where
     members : SameMembers DoesNoted (among names) (of_rows names) rows
@@ -62,11 +62,11 @@ module _ (old new : Core) (next : ℕ) (out : List Lent) (names : List EventName
 
     closed : Closed noted_events (live_set noted_events) (of_rows names) (entries_of rows)
     closed = closed_of_lines DoesNoted noted_laws h (live_set plain) (among names) (live_set noted_events) (of_rows names) (live_members DoesNoted rows) members
-        (closed_of_gaps names (lines_of (items_of old)) (no_gap names (lines_of (items_of old)) ok))
+        (closed_of_gaps names (lines_of (items_of old)) (no_gap names (settled_of old) (lines_of (items_of old)) ok))
 
     part : Part (of_rows names) (live_set noted_events) (entries_of rows)
     part = part_of_lines DoesNoted noted_laws h (live_set plain) (among names) (live_set noted_events) (of_rows names) (live_members DoesNoted rows) members
-        (all_entries (λ e. among names e ≡ true → e.live ≡ true) (lines_of (items_of old)) (live_set_of names (lines_of (items_of old)) ok))
+        (all_entries (λ e. among names e ≡ true → e.live ≡ true) (lines_of (items_of old)) (live_set_of names (settled_of old) (lines_of (items_of old)) ok))
 
     abbrev after : List (Row noted_events)
     after = undo_rows noted_events (of_rows names) rows (state_of old)
@@ -101,10 +101,11 @@ module _ (old new : Core) (next : ℕ) (out : List Lent) (names : List EventName
     pub undone_stands : Stands new next out
     undone_stands = ∥∥₁_elim h ∥∥₁_prop (λ k. ∣ kept k ∣₁)
 
-    pub book_undone : Undoes names (book_with old next out) (book_with new next out)
-    book_undone = record {
+    pub book_undone : settled_of new ≡ settled_of old → Undoes names (book_with old next out) (book_with new next out)
+    book_undone many = record {
       rest = ∥∥₁_elim h ∥∥₁_prop (λ k. run k.rows k.stands);
       marked = ∥∥₁_elim h (Lines-set _ _) (λ k. lines k.rows k.stands);
+      same_settled = many;
       same_next = refl;
       same_out = refl;
     }

@@ -1,5 +1,5 @@
 -- What the accepted calls of a book do.
-use Rattle.std.specs.Prelude.{◌≡◌, ℕ, ◌+◌, ◌≤◌, true, ◌&&◌, ◌||◌, not, List, [], ◌∷◌, ◌++◌, map, filter, reverse, is_some, Some, None, Contains, slice_get}
+use Rattle.std.specs.Prelude.{◌≡◌, ℕ, ◌+◌, ◌≤◌, true, ◌&&◌, ◌||◌, not, List, [], ◌∷◌, ◌++◌, map, filter, reverse, drop, is_some, Some, None, Contains, slice_get}
 use Rattle.std.specs.List.{AllByRecursion}
 use Rattle.std.specs.Arc.{arc_value}
 use Rattle.std.specs.Option.{option_map}
@@ -29,7 +29,7 @@ use Rattle.event.specs.Ready.{leads_there, first_undone}
 use Rattle.event.specs.Walks.{awaited, found_by}
 use Rattle.deliveries.specs.Outcomes.{found_of}
 use Rattle.deliveries.specs.declared.lead.Lead.{Lead}
-use Rattle.event.specs.Runs.{PlainRun}
+use Rattle.event.specs.Runs.{RunFrom, PlainRun}
 use Rattle.event.specs.Effects.{turn_of}
 use Rattle.turn.specs.Tasks.{task_of}
 use Rattle.turn.specs.declared.ticket.Out.{Out}
@@ -39,7 +39,7 @@ use Rattle.journal.specs.Lines.{plain, Line, entries_in, in_order}
 use Rattle.journal.specs.Items.{exchanged}
 use Rattle.causality.specs.Selections.{name_of, is_live, chosen}
 use Rattle.desk.specs.Desks.{Lent, without}
-use Rattle.book.specs.Books.{Book}
+use Rattle.book.specs.Books.{Book, settled_lines, open_lines}
 use Rattle.book.specs.Refusals.{Refusal, no_ticket, stale, full, journal_full, birth_refusal, ask_refusal, arrival_refusal, forward_refusal, learn_refusal, learning_refusal, undo_refusal, checkout_refusal}
 use Rattle.book.specs.declared.book.TheConstants.{LAST_NAME}
 
@@ -65,6 +65,7 @@ pub record Enters (e : Noted) (f : Foot) (seat : ℕ) (old now : Book) : Type 0 
 pub record EntersNext (e : Event) (f : Foot) (seat : ℕ) (old now : Book) : Type 0 where
   pub named : e.name.0 ≡ old.next
   pub drawn : now.next ≡ old.next + 1
+  pub same_settled : now.settled ≡ old.settled
   pub same_out : now.out ≡ old.out
   pub enters : Enters (with_notes e []) f seat old now
 
@@ -214,6 +215,7 @@ pub record Commits (r : Ran) (old now : Book) : Type 0 where
   pub fresh : IsFresh old r
   pub room : journal_full old ≡ None
   pub enters : EntersTurn r.carried.event r.carried.name r.carried.budget r.carried.seat (turn_in old.world r) old now
+  pub same_settled : now.settled ≡ old.settled
   pub same_next : now.next ≡ old.next
   pub out : now.out ≡ without r.carried.event old.out
 
@@ -221,6 +223,7 @@ pub record Commits (r : Ran) (old now : Book) : Type 0 where
 pub record TurnsNext (e : EventName) (m : MsgId) (budget : ℕ) (t : Turn) (old now : Book) : Type 0 where
   pub named : e.0 ≡ old.next
   pub drawn : now.next ≡ old.next + 1
+  pub same_settled : now.settled ≡ old.settled
   pub same_out : now.out ≡ old.out
   pub enters : EntersTurn e m budget 0 t old now
 
@@ -250,6 +253,7 @@ rest_of names lines = map (λ l. event_in l.entry.event) (filter (λ l. is_live 
 pub record Undoes (names : List EventName) (old now : Book) : Type 0 where
   pub rest : PlainRun (rest_of names old.journal) now.world
   pub marked : now.journal ≡ undone_in names old.journal
+  pub same_settled : now.settled ≡ old.settled
   pub same_next : now.next ≡ old.next
   pub same_out : now.out ≡ old.out
 
@@ -257,6 +261,7 @@ pub record Undoes (names : List EventName) (old now : Book) : Type 0 where
 pub record Redoes (names : List EventName) (old now : Book) : Type 0 where
   pub run : PlainRun (live_events (redone_in names old.journal)) now.world
   pub marked : now.journal ≡ redone_in names old.journal
+  pub same_settled : now.settled ≡ old.settled
   pub same_next : now.next ≡ old.next
   pub same_out : now.out ≡ old.out
 
@@ -264,6 +269,7 @@ pub record Redoes (names : List EventName) (old now : Book) : Type 0 where
 pub record Exchanges (position : ℕ) (old now : Book) : Type 0 where
   pub places : (n : ℕ) → position ≡ n + 1 → now.journal ≡ map (in_order (exchanged n old.journal)) (exchanged n old.journal)
   pub same_world : now.world ≡ old.world
+  pub same_settled : now.settled ≡ old.settled
   pub same_next : now.next ≡ old.next
   pub same_out : now.out ≡ old.out
 
@@ -278,5 +284,21 @@ SameSet names others lines = AllByRecursion (λ l. chosen names l ≡ chosen oth
 -- where a book's world is the plain run of its live events: a redo of what was just undone gives back the former journal and world
 abbrev pub RedoNextGivesBack : Type 0
 RedoNextGivesBack = (names others : List EventName) (before between now : Book) → PlainRun (live_events before.journal) before.world →
-    undo_refusal before.journal names ≡ None → Undoes names before between → SameSet names others before.journal → Redoes others between now →
+    undo_refusal before.settled before.journal names ≡ None → Undoes names before between → SameSet names others before.journal → Redoes others between now →
     (now.world ≡ before.world) × (now.journal ≡ before.journal)
+
+-- a world is the base of a book: the plain run of its settled events
+abbrev pub IsBase : Book → world.World → Type 0
+IsBase b w = PlainRun (live_events (settled_lines b)) w
+
+-- there is a base from which the live events behind the settled ones lead to the world
+abbrev pub RunsFromBase : Book → Type 0
+RunsFromBase b = ∥ ((v : world.World) × IsBase b v × RunFrom v (live_events (open_lines b)) b.world) ∥₁
+
+-- all lines up to a position are settled, and nothing else of the book changes
+abbrev pub Settles : ℕ → Book → Book → Type 0
+Settles position old now = now ≡ record old { settled = position }
+
+-- the settled events of the first book lead to its base, and those that the second has more lead from there to the base of the second
+abbrev pub BaseGoesOn : Book → Book → Type 0
+BaseGoesOn old now = (v : world.World) → IsBase old v → ∥ ((w : world.World) × IsBase now w × RunFrom v (live_events (drop old.settled (settled_lines now))) w) ∥₁

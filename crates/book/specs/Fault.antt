@@ -11,7 +11,7 @@ use Rattle.scopes.specs.Words as words
 use Rattle.scopes.specs.Words.{no_memory}
 use Rattle.scopes.specs.declared.checking.CheckFault.{CheckFault}
 use Rattle.scopes.specs.declared.checking.CheckFault.TheVariants as check-fault
-use Rattle.book.specs.Refusals.{Refusal, no_vat, name_taken, no_message, not_there, not_ready, before, nothing_to_learn, full, stale, vat_out, no_ticket, no_event, no_position, not_live, still_live, not_closed, crossed, cause_missing, dependent, bad_budget, unchecked, refusal_of}
+use Rattle.book.specs.Refusals.{Refusal, no_vat, name_taken, no_message, not_there, not_ready, before, nothing_to_learn, full, stale, vat_out, no_ticket, no_event, no_position, is_settled, not_live, still_live, not_closed, crossed, cause_missing, dependent, bad_budget, unchecked, refusal_of}
 use Rattle.worldcells.specs.World.{World}
 use Rattle.turn.specs.declared.ticket.Task.{Task}
 use Rattle.turn.specs.declared.ticket.Ran.{Ran}
@@ -42,6 +42,7 @@ refusal_text vat_out = codes "B10 VatOut"
 refusal_text no_ticket = codes "B11 NoTicket"
 refusal_text (no_event e) = codes "B12 NoEvent " ++ event_text e
 refusal_text (no_position position) = codes "B12 NoEvent " ++ decimal position
+refusal_text (is_settled e) = codes "B22 Settled " ++ event_text e
 refusal_text (not_live e) = codes "B13 NotLive " ++ event_text e
 refusal_text (still_live e) = codes "B14 IsLive " ++ event_text e
 refusal_text (not_closed e f) = pair_text (codes "B15 NotClosed ") e f
@@ -76,6 +77,7 @@ told_by fault.VatOut = Some vat_out
 told_by fault.NoTicket = Some no_ticket
 told_by (fault.NoEvent e) = Some (no_event e)
 told_by (fault.NoPosition position) = Some (no_position position)
+told_by (fault.Settled e) = Some (is_settled e)
 told_by (fault.NotLive e) = Some (not_live e)
 told_by (fault.IsLive e) = Some (still_live e)
 told_by (fault.NotClosed e f) = Some (not_closed e f)

@@ -10,7 +10,7 @@ use Rattle.worldcells.specs.Events.{Event, event_in}
 use Rattle.worldcells.specs.World.{World, empty, vat_named}
 use Rattle.event.specs.Events.{Foot, DoesNoted, events}
 use Rattle.journal.specs.Lines.{plain, entries_in}
-use Rattle.book.specs.Books.{Book}
+use Rattle.book.specs.Books.{Book, open_count, settled_lines}
 use Rattle.book.specs.declared.book.TheConstants.{MOST_ENTRIES}
 
 -- each cause of an entry is the event of an older one, the newest first
@@ -30,15 +30,17 @@ pub data RunsWithCells : List (Entry plain) → World → Type 0 where
   runs_more : {e : Entry plain} {es : List (Entry plain)} {w : World} {f : Foot} → RunsWithCells es w → DoesNoted e.event w f → HasFoot e f → RunsWithCells (e ∷ es) (after events f w)
 
 -- names are apart and were drawn, causes are older entries, the live ones have their causes among the live ones, and no others, the live ones are
--- a run to the world, each with the notes that it made there and the cells that it touched and wrote, and there is no more than a journal may
--- have
+-- a run to the world, each with the notes that it made there and the cells that it touched and wrote, what is settled is live, and behind it
+-- there is no more than a journal may have
 pub record IsGood (b : Book) : Type 0 where
   pub distinct : Distinct plain (entries_in b.journal)
   pub drawn : AllByRecursion (λ e. name_of plain e < b.next) (entries_in b.journal)
   pub older : CausesAreOlder (entries_in b.journal)
   pub sound : Sound plain (live_set plain) (entries_in b.journal)
   pub footprints : ∥ RunsWithCells (filter (live_set plain) (entries_in b.journal)) b.world ∥₁
-  pub within : length b.journal ≤ MOST_ENTRIES
+  pub base : b.settled ≤ length b.journal
+  pub settled : AllByRecursion (λ l. l.entry.live ≡ true) (settled_lines b)
+  pub within : open_count b ≤ MOST_ENTRIES
 
 -- the live events, the newest first
 abbrev pub live_events : Book → List Event

@@ -26,17 +26,17 @@ ghost use Rattle.agenda.specs.Enabled.{Enabled, First};
 ghost use Rattle.event.specs.Effects.{Happens};
 ghost use Rattle.deliveries.specs.Outcomes.{told_of};
 ghost use Rattle.event.specs.Runs.{PlainRun};
-ghost use Rattle.journal.specs.Items.{item_of};
+ghost use Rattle.journal.specs.Journals.{items_of};
 ghost use Rattle.journal.specs.Lines.{plain, lines_of, entries_in};
 ghost use Rattle.causality.specs.Exact.{Cone};
 ghost use Rattle.causality.specs.Journals.{IsJournal};
 ghost use Rattle.causality.specs.Selections.{chosen};
-ghost use Rattle.undo.specs.CoreView.{items_of, state_of};
+ghost use Rattle.undo.specs.CoreView.{items_of as core_items, settled_of, state_of};
 ghost use Rattle.desk.specs.Desks.{has_vat, is_out, without};
 ghost use Rattle.desk.specs.DeskView.{lent_of as desk_lent, out_of};
-ghost use Rattle.book.specs.Refusals.{birth_refusal, ask_refusal, arrival_refusal, forward_refusal, Refusal, named_refusal, learn_refusal, learning_refusal, nothing_to_learn, refuse_where, checkout_refusal, full_refusal, check_refusal, taken_refusal, undo_refusal, redo_refusal, cone_refusal, exchange_refusal, budget_refusal, refusal_of, full, journal_full};
+ghost use Rattle.book.specs.Refusals.{birth_refusal, ask_refusal, arrival_refusal, forward_refusal, Refusal, named_refusal, learn_refusal, learning_refusal, nothing_to_learn, refuse_where, checkout_refusal, full_refusal, check_refusal, taken_refusal, undo_refusal, redo_refusal, cone_refusal, exchange_refusal, settle_refusal, budget_refusal, refusal_of, full, journal_full};
 ghost use Rattle.book.specs.Books.{blank};
-ghost use Rattle.book.specs.Calls.{EntersNext, AdmitsAsk, AdmitsBirth, Arrives, Asks, Births, Forwards, Learns, LearnsAt, Admitted, AdmitsArrival, AdmitsForward, AdmitsLearning, CanLearn, LeadsAsBefore, TurnsNext, lent_of, Lends, Commits, IsKnown, IsFresh, Undoes, Redoes, Exchanges, StoodAt, live_events};
+ghost use Rattle.book.specs.Calls.{EntersNext, AdmitsAsk, AdmitsBirth, Arrives, Asks, Births, Forwards, Learns, LearnsAt, Admitted, AdmitsArrival, AdmitsForward, AdmitsLearning, CanLearn, LeadsAsBefore, TurnsNext, lent_of, Lends, Commits, IsKnown, IsFresh, Undoes, Redoes, Exchanges, Settles, BaseGoesOn, RunsFromBase, StoodAt, live_events};
 ghost use Rattle.book.specs.Fault.{Tells, delay_tells, TellsLost, TellsStale, TellsCommit, Unturned};
 ghost use Rattle.book.specs.Learning.{LearnsNamed, TellsNamed};
 ghost use Rattle.book.specs.Standing.{Stands};
@@ -45,7 +45,7 @@ ghost use Rattle.book.specs.declared.fault.BookFault.TheVariants.{NoTicket, Stal
 
 use crate::fault::BookFault;
 use crate::seats::greatest_seat;
-use crate::selecting::{check_cone, check_exchange, check_redo, check_undo};
+use crate::selecting::{check_cone, check_exchange, check_redo, check_settle, check_undo};
 use agenda::agenda::{Agenda, Step, is_open};
 use causality::cone::cone;
 use causality::names::NameSet;
@@ -66,7 +66,7 @@ use heap::state::VatState;
 use ids::cells::CellKey;
 use ids::names::{EventName, MsgId, PromId, VatNo};
 use ids::text::Text;
-use journal::entry::Entry;
+use journal::journal::Journal;
 use kernele::tree::Program;
 use post::message::{Message, Place, same_sent};
 use post::published::Published;
@@ -108,7 +108,7 @@ pub struct Book {
     agenda: Option<Agenda>,
     pub ghost in_range: { next ≤ 4294967296 },
     pub ghost stands: { Stands core next (out_of desk) },
-    pub ghost within: { length (items_of core) ≤ MOST_ENTRIES },
+    pub ghost within: { length (core_items core) ≤ settled_of core + MOST_ENTRIES },
     pub ghost noted: { ForSome agenda (NotedIn (contents cells (state_of core))) },
 }
 
@@ -247,22 +247,25 @@ impl Book {
         }
     }
 
-    /// The world: what the live events lead to from the empty world, one after another in the journal's order. Each cell has as its
-    /// last writer the last live event that wrote it.
+    /// The world: what the live events lead to from the empty world, one after another in the journal's order, so also what those that
+    /// are not settled lead to from the base, which is what the settled ones lead to. Each cell has as its last writer the last live
+    /// event that wrote it.
     pub fn world(&self) -> &World
         ensures same { world_of result.now ≡ (book_of self.now).world }
         ensures plain_run { PlainRun (live_events (book_of self.now).journal) (world_of result.now) }
+        ensures from_base { RunsFromBase (book_of self.now) }
         ensures last_writers { (k : CellKey) → (state_of_world result.now k).1 ≡ last_writer plain k (live_set plain) (entries_in (book_of self.now).journal) }
     {
         self.core.world()
     }
 
-    /// The entries of the journal, in its order.
-    pub fn journal(&self) -> &[Entry]
-        ensures lines { lines_of (map item_of result.now) ≡ (book_of self.now).journal }
-        ensures journal { IsJournal (map item_of result.now) }
+    /// The journal: what is kept of settled entries, and the entries behind them, in its order.
+    pub fn journal(&self) -> Journal<'_>
+        ensures lines { lines_of (items_of result) ≡ (book_of self.now).journal }
+        ensures settled { length result.settled.now ≡ (book_of self.now).settled }
+        ensures journal { IsJournal (items_of result) }
     {
-        self.core.entries()
+        self.core.journal()
     }
 
     /// The greatest seat of an entry or of a ticket that is out; 0 where there is none.
@@ -271,7 +274,7 @@ impl Book {
         ensures tickets { All (λ t. t.seat ≤ result) (book_of self.now).out }
         ensures least { (n : ℕ) → All (λ l. l.seat ≤ n) (book_of self.now).journal → All (λ t. t.seat ≤ n) (book_of self.now).out → result ≤ n }
     {
-        let entered = greatest_seat(self.core.entries());
+        let entered = greatest_seat(self.core.journal());
         let lent = self.desk.greatest_seat();
         if entered < lent { lent } else { entered }
     }
@@ -899,15 +902,16 @@ impl Book {
     /// Takes events back, with the world as if they had never been: nothing is run. Answers how many.
     ///
     /// # Errors
-    /// `NoEvent`, `NotLive`, `NotClosed`, tried in this order; `Memory` at any time.
+    /// `NoEvent`, `Settled`, `NotLive`, `NotClosed`, tried in this order; `Memory` at any time.
     pub fn undo(&mut self, events: &[EventName]) -> Result<usize, BookFault>
-        ensures ok { IfOk result (λ count. (undo_refusal (book_of self.old).journal events.now ≡ None) × Undoes events.now (book_of self.old) (book_of self.new) × (count ≡ length (filter (chosen events.now) (book_of self.old).journal))) }
-        ensures err { IfErr result (λ fault. Tells fault (undo_refusal (book_of self.old).journal events.now)) }
+        ensures ok { IfOk result (λ count. (undo_refusal (book_of self.old).settled (book_of self.old).journal events.now ≡ None) × Undoes events.now (book_of self.old) (book_of self.new) × (count ≡ length (filter (chosen events.now) (book_of self.old).journal))) }
+        ensures err { IfErr result (λ fault. Tells fault (undo_refusal (book_of self.old).settled (book_of self.old).journal events.now)) }
         ensures unchanged { OnErr result (book_of self.new ≡ book_of self.old) }
     {
         let names = NameSet::new(self.alloc, events)?;
-        check_undo(self.alloc, self.core.entries(), &names)?;
-        let positions = positions(self.alloc, self.core.entries(), &names)?;
+        let journal = self.core.journal();
+        check_undo(self.alloc, journal, &names)?;
+        let positions = positions(self.alloc, journal, &names)?;
         self.core.prepare(self.alloc, &positions)?;
         self.core.undo(&positions, &mut Swaps::none());
         self.agenda = None;
@@ -917,15 +921,16 @@ impl Book {
     /// Puts events that were undone back where they stand in the journal, also amid events that came since. Answers how many.
     ///
     /// # Errors
-    /// `NoEvent`, `IsLive`, `CauseMissing`, `Crossed`, tried in this order; `Memory` at any time.
+    /// `NoEvent`, `Settled`, `IsLive`, `CauseMissing`, `Crossed`, tried in this order; `Memory` at any time.
     pub fn redo(&mut self, events: &[EventName]) -> Result<usize, BookFault>
-        ensures ok { IfOk result (λ count. (redo_refusal (book_of self.old).journal events.now ≡ None) × Redoes events.now (book_of self.old) (book_of self.new) × (count ≡ length (filter (chosen events.now) (book_of self.old).journal))) }
-        ensures err { IfErr result (λ fault. Tells fault (redo_refusal (book_of self.old).journal events.now)) }
+        ensures ok { IfOk result (λ count. (redo_refusal (book_of self.old).settled (book_of self.old).journal events.now ≡ None) × Redoes events.now (book_of self.old) (book_of self.new) × (count ≡ length (filter (chosen events.now) (book_of self.old).journal))) }
+        ensures err { IfErr result (λ fault. Tells fault (redo_refusal (book_of self.old).settled (book_of self.old).journal events.now)) }
         ensures unchanged { OnErr result (book_of self.new ≡ book_of self.old) }
     {
         let names = NameSet::new(self.alloc, events)?;
-        check_redo(self.alloc, self.core.entries(), &names)?;
-        let positions = positions(self.alloc, self.core.entries(), &names)?;
+        let journal = self.core.journal();
+        check_redo(self.alloc, journal, &names)?;
+        let positions = positions(self.alloc, journal, &names)?;
         self.core.prepare(self.alloc, &positions)?;
         self.core.redo(&positions, &mut Swaps::none());
         self.agenda = None;
@@ -936,14 +941,14 @@ impl Book {
     /// one that stood first.
     ///
     /// # Errors
-    /// `NoPosition`, `NotLive`, `Dependent`, tried in this order. It takes no memory, so it never wants any.
+    /// `NoPosition`, `Settled`, `NotLive`, `Dependent`, tried in this order. It takes no memory, so it never wants any.
     pub fn exchange(&mut self, position: usize) -> Result<(EventName, EventName), BookFault>
-        ensures ok { IfOk result (λ r. (exchange_refusal (book_of self.old).journal position ≡ None) × Exchanges position (book_of self.old) (book_of self.new) × StoodAt position (book_of self.old).journal r.0 r.1) }
-        ensures err { IfErr result (λ fault. Tells fault (exchange_refusal (book_of self.old).journal position)) }
+        ensures ok { IfOk result (λ r. (exchange_refusal (book_of self.old).settled (book_of self.old).journal position ≡ None) × Exchanges position (book_of self.old) (book_of self.new) × StoodAt position (book_of self.old).journal r.0 r.1) }
+        ensures err { IfErr result (λ fault. Tells fault (exchange_refusal (book_of self.old).settled (book_of self.old).journal position)) }
         ensures without_memory { IfErr result (λ fault. fault ≢ Memory) }
         ensures unchanged { OnErr result (book_of self.new ≡ book_of self.old) }
     {
-        let (first, second) = check_exchange(self.core.entries(), position)?;
+        let (first, second) = check_exchange(self.core.journal(), position)?;
         if self.core.exchange(position - 1) {
             Ok((first, second))
         } else {
@@ -951,15 +956,32 @@ impl Book {
         }
     }
 
+    /// Settles the entries up to a position, counted from 1: they can no longer be taken back, and the book keeps of each only what the
+    /// causes of later events are found by. What is seen, the tickets that are out and the journal are as they were.
+    ///
+    /// # Errors
+    /// `NoPosition`, `Settled`, `NotLive`, tried in this order; `Memory` at any time.
+    pub fn settle(&mut self, position: usize) -> Result<(), BookFault>
+        ensures ok { OnOk result ((settle_refusal (book_of self.old).settled (book_of self.old).journal position ≡ None) × Settles position (book_of self.old) (book_of self.new)) }
+        ensures base { OnOk result (BaseGoesOn (book_of self.old) (book_of self.new)) }
+        ensures err { IfErr result (λ fault. Tells fault (settle_refusal (book_of self.old).settled (book_of self.old).journal position)) }
+        ensures unchanged { OnErr result (book_of self.new ≡ book_of self.old) }
+    {
+        let count = check_settle(self.core.journal(), position)?;
+        self.core.settle(self.alloc, count)?;
+        Ok(())
+    }
+
     /// An event and all that came of it, in the journal's order: the least set with it that may be undone.
     ///
     /// # Errors
-    /// `NoEvent`, `NotLive`, tried in this order; `Memory` at any time.
+    /// `NoEvent`, `Settled`, `NotLive`, tried in this order; `Memory` at any time.
     pub fn cone(&self, event: EventName) -> Result<Vec<EventName>, BookFault>
-        ensures ok { IfOk result (λ names. (cone_refusal (book_of self.now).journal event ≡ None) × Cone (book_of self.now).journal event names.items) }
-        ensures err { IfErr result (λ fault. Tells fault (cone_refusal (book_of self.now).journal event)) }
+        ensures ok { IfOk result (λ names. (cone_refusal (book_of self.now).settled (book_of self.now).journal event ≡ None) × Cone (book_of self.now).journal event names.items) }
+        ensures err { IfErr result (λ fault. Tells fault (cone_refusal (book_of self.now).settled (book_of self.now).journal event)) }
     {
-        check_cone(self.alloc, self.core.entries(), event)?;
-        Ok(cone(self.alloc, self.core.entries(), event)?)
+        let journal = self.core.journal();
+        check_cone(self.alloc, journal, event)?;
+        Ok(cone(self.alloc, journal, event)?)
     }
 }

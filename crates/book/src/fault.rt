@@ -40,6 +40,8 @@ pub enum BookFault {
     NoEvent(EventName),
     /// The journal has no entry at this position, counted from 1.
     NoPosition(usize),
+    /// The event is settled: it can no longer be taken back.
+    Settled(EventName),
     /// The event is undone.
     NotLive(EventName),
     /// The event is live already.
@@ -98,6 +100,7 @@ impl Display for BookFault {
             BookFault::NoTicket => f.write_str("B11 NoTicket"),
             BookFault::NoEvent(event) => write_about(f, "B12 NoEvent ", event),
             BookFault::NoPosition(position) => write_about(f, "B12 NoEvent ", position),
+            BookFault::Settled(event) => write_about(f, "B22 Settled ", event),
             BookFault::NotLive(event) => write_about(f, "B13 NotLive ", event),
             BookFault::IsLive(event) => write_about(f, "B14 IsLive ", event),
             BookFault::NotClosed(event, other) => write_pair(f, "B15 NotClosed ", *event, *other),

@@ -1,120 +1,178 @@
 // What may be undone, redone and exchanged, and what goes with an event that is undone.
-ghost use Rattle.std.specs.Prelude.{◌≡◌, ◌≢◌, ◌+◌, ◌<◌, None, IfOk, IfErr, OnOk, length, map};
+ghost use Rattle.std.specs.Prelude.{◌≡◌, ◌≢◌, ◌+◌, ◌<◌, ◌≤◌, true, not, [], ◌∷◌, None, IfOk, IfErr, OnOk, length, map, take};
+ghost use Rattle.std.specs.List.{AllByRecursion};
 ghost use Rattle.journal.specs.Items.{item_of};
+ghost use Rattle.journal.specs.Journals.{items_of};
 ghost use Rattle.journal.specs.Lines.{lines_of};
-ghost use Rattle.causality.specs.Journals.{IsJournal};
+ghost use Rattle.causality.specs.Journals.{IsJournal, NoneSettled};
+ghost use Rattle.causality.specs.Walks.{first_item};
 ghost use Rattle.book.specs.Calls.{StoodAt};
 ghost use Rattle.book.specs.Fault.{Tells};
 ghost use Rattle.book.specs.declared.fault.BookFault.TheVariants.{Memory};
-ghost use Rattle.book.specs.Refusals.{first, missing_refusal, undone_refusal, live_refusal, undo_refusal, redo_refusal, cone_refusal, exchange_refusal, refuse_where, not_live, placed_refusal};
+ghost use Rattle.book.specs.Refusals.{first, missing_refusal, undone_refusal, live_refusal, undo_refusal, redo_refusal, cone_refusal, exchange_refusal, refuse_where, not_live, placed_refusal, closed_refusal, settle_refusal};
 
 use crate::fault::BookFault;
 use causality::names::NameSet;
 use causality::selection::{
-    first_crossing, first_gap, first_marked, first_missing_cause, least_missing,
+    first_crossing, first_gap, first_marked, first_missing_cause, first_settled, least_missing,
 };
 use ids::names::EventName;
 use journal::entry::{Entry, Mark};
+use journal::journal::Journal;
 use std::alloc::Global;
 
 /// The events are in the journal.
-fn check_entered(alloc: Global, entries: &[Entry], names: &NameSet) -> Result<(), BookFault>
-    ensures ok { OnOk result (missing_refusal names.now (lines_of (map item_of entries.now)) ≡ None) }
-    ensures err { IfErr result (λ fault. Tells fault (missing_refusal names.now (lines_of (map item_of entries.now)))) }
+fn check_entered(alloc: Global, journal: Journal, names: &NameSet) -> Result<(), BookFault>
+    ensures ok { OnOk result (missing_refusal names.now (lines_of (items_of journal.entry)) ≡ None) }
+    ensures err { IfErr result (λ fault. Tells fault (missing_refusal names.now (lines_of (items_of journal.entry)))) }
 {
-    match least_missing(alloc, entries, names)? {
+    match least_missing(alloc, journal, names)? {
         Some(name) => Err(BookFault::NoEvent(name)),
         None => Ok(()),
     }
 }
 
-/// None of the events is undone.
-fn check_live(entries: &[Entry], names: &NameSet) -> Result<(), BookFault>
-    ensures ok { OnOk result (undone_refusal names.now (lines_of (map item_of entries.now)) ≡ None) }
-    ensures err { IfErr result (λ fault. Tells fault (undone_refusal names.now (lines_of (map item_of entries.now)))) }
+/// The events are in the journal, and none is settled.
+fn check_open(alloc: Global, journal: Journal, names: &NameSet) -> Result<(), BookFault>
+    ensures open { OnOk result (NoneSettled names.now journal.entry) }
+    ensures ok { OnOk result (closed_refusal names.now (length journal.entry.settled.now) (lines_of (items_of journal.entry)) ≡ None) }
+    ensures err { IfErr result (λ fault. Tells fault (closed_refusal names.now (length journal.entry.settled.now) (lines_of (items_of journal.entry)))) }
 {
-    match first_marked(entries, names, Mark::Undone) {
+    check_entered(alloc, journal, names)?;
+    match first_settled(journal, names) {
+        Some(name) => Err(BookFault::Settled(name)),
+        None => Ok(()),
+    }
+}
+
+/// None of the events is undone.
+fn check_live(journal: Journal, names: &NameSet) -> Result<(), BookFault>
+    requires { NoneSettled names.now journal }
+    ensures ok { OnOk result (undone_refusal names.now (lines_of (items_of journal.entry)) ≡ None) }
+    ensures err { IfErr result (λ fault. Tells fault (undone_refusal names.now (lines_of (items_of journal.entry)))) }
+{
+    match first_marked(journal, names, Mark::Undone) {
         Some(name) => Err(BookFault::NotLive(name)),
         None => Ok(()),
     }
 }
 
 /// None of the events is live.
-fn check_undone(entries: &[Entry], names: &NameSet) -> Result<(), BookFault>
-    ensures ok { OnOk result (live_refusal names.now (lines_of (map item_of entries.now)) ≡ None) }
-    ensures err { IfErr result (λ fault. Tells fault (live_refusal names.now (lines_of (map item_of entries.now)))) }
+fn check_undone(journal: Journal, names: &NameSet) -> Result<(), BookFault>
+    requires { NoneSettled names.now journal }
+    ensures ok { OnOk result (live_refusal names.now (lines_of (items_of journal.entry)) ≡ None) }
+    ensures err { IfErr result (λ fault. Tells fault (live_refusal names.now (lines_of (items_of journal.entry)))) }
 {
-    match first_marked(entries, names, Mark::Live) {
+    match first_marked(journal, names, Mark::Live) {
         Some(name) => Err(BookFault::IsLive(name)),
         None => Ok(()),
     }
 }
 
-/// The events may be undone: all are in the journal and live, and so are all live events that came of them.
-pub(crate) fn check_undo(alloc: Global, entries: &[Entry], names: &NameSet) -> Result<(), BookFault>
-    requires { IsJournal (map item_of entries.now) }
-    ensures ok { OnOk result (undo_refusal (lines_of (map item_of entries.now)) names.now ≡ None) }
-    ensures err { IfErr result (λ fault. Tells fault (undo_refusal (lines_of (map item_of entries.now)) names.now)) }
+/// The events may be undone: all are in the journal, not settled and live, and so are all live events that came of them.
+pub(crate) fn check_undo(alloc: Global, journal: Journal, names: &NameSet) -> Result<(), BookFault>
+    requires { IsJournal (items_of journal) }
+    ensures open { OnOk result (NoneSettled names.now journal.entry) }
+    ensures ok { OnOk result (undo_refusal (length journal.entry.settled.now) (lines_of (items_of journal.entry)) names.now ≡ None) }
+    ensures err { IfErr result (λ fault. Tells fault (undo_refusal (length journal.entry.settled.now) (lines_of (items_of journal.entry)) names.now)) }
 {
-    check_entered(alloc, entries, names)?;
-    check_live(entries, names)?;
-    match first_gap(entries, names) {
+    check_open(alloc, journal, names)?;
+    check_live(journal, names)?;
+    match first_gap(journal, names) {
         Some(gap) => Err(BookFault::NotClosed(gap.event, gap.other)),
         None => Ok(()),
     }
 }
 
-/// The events may be redone: all are in the journal and undone, no cause of them is missing, and none crosses another.
-pub(crate) fn check_redo(alloc: Global, entries: &[Entry], names: &NameSet) -> Result<(), BookFault>
-    requires { IsJournal (map item_of entries.now) }
-    ensures ok { OnOk result (redo_refusal (lines_of (map item_of entries.now)) names.now ≡ None) }
-    ensures err { IfErr result (λ fault. Tells fault (redo_refusal (lines_of (map item_of entries.now)) names.now)) }
+/// The events may be redone: all are in the journal, not settled and undone, no cause of them is missing, and none crosses another.
+pub(crate) fn check_redo(alloc: Global, journal: Journal, names: &NameSet) -> Result<(), BookFault>
+    requires { IsJournal (items_of journal) }
+    ensures open { OnOk result (NoneSettled names.now journal.entry) }
+    ensures ok { OnOk result (redo_refusal (length journal.entry.settled.now) (lines_of (items_of journal.entry)) names.now ≡ None) }
+    ensures err { IfErr result (λ fault. Tells fault (redo_refusal (length journal.entry.settled.now) (lines_of (items_of journal.entry)) names.now)) }
 {
-    check_entered(alloc, entries, names)?;
-    check_undone(entries, names)?;
-    if let Some(gap) = first_missing_cause(alloc, entries, names)? {
+    check_open(alloc, journal, names)?;
+    check_undone(journal, names)?;
+    if let Some(gap) = first_missing_cause(alloc, journal, names)? {
         return Err(BookFault::CauseMissing(gap.event, gap.other));
     }
-    match first_crossing(alloc, entries, names)? {
+    match first_crossing(alloc, journal, names)? {
         Some(gap) => Err(BookFault::Crossed(gap.event, gap.other)),
         None => Ok(()),
     }
 }
 
-/// The event is in the journal and live.
-pub(crate) fn check_cone(alloc: Global, entries: &[Entry], root: EventName) -> Result<(), BookFault>
-    ensures ok { OnOk result (cone_refusal (lines_of (map item_of entries.now)) root ≡ None) }
-    ensures err { IfErr result (λ fault. Tells fault (cone_refusal (lines_of (map item_of entries.now)) root)) }
+/// The event is in the journal, not settled, and live.
+pub(crate) fn check_cone(alloc: Global, journal: Journal, root: EventName) -> Result<(), BookFault>
+    ensures open { OnOk result (NoneSettled (root ∷ []) journal.entry) }
+    ensures ok { OnOk result (cone_refusal (length journal.entry.settled.now) (lines_of (items_of journal.entry)) root ≡ None) }
+    ensures err { IfErr result (λ fault. Tells fault (cone_refusal (length journal.entry.settled.now) (lines_of (items_of journal.entry)) root)) }
 {
     let roots = [root];
     let names = NameSet::new(alloc, &roots)?;
-    check_entered(alloc, entries, &names)?;
-    check_live(entries, &names)
+    check_open(alloc, journal, &names)?;
+    check_live(journal, &names)
 }
 
-/// The events of the entries at a position, counted from 1, and behind it, which are live.
+/// The events of the entries at a position, counted from 1, and behind it, which are not settled, and live.
 pub(crate) fn check_exchange(
-    entries: &[Entry],
+    journal: Journal,
     position: usize,
 ) -> Result<(EventName, EventName), BookFault>
-    ensures there { OnOk result (position < length entries.now) }
-    ensures stood { IfOk result (λ r. StoodAt position (lines_of (map item_of entries.now)) r.0 r.1) }
-    ensures ok { OnOk result (placed_refusal (lines_of (map item_of entries.now)) position ≡ None) }
-    ensures err { IfErr result (λ fault. Tells fault (placed_refusal (lines_of (map item_of entries.now)) position)) }
+    ensures open { OnOk result (length journal.entry.settled.now < position) }
+    ensures there { OnOk result (position < length (items_of journal.entry)) }
+    ensures stood { IfOk result (λ r. StoodAt position (lines_of (items_of journal.entry)) r.0 r.1) }
+    ensures ok { OnOk result (placed_refusal (length journal.entry.settled.now) (lines_of (items_of journal.entry)) position ≡ None) }
+    ensures err { IfErr result (λ fault. Tells fault (placed_refusal (length journal.entry.settled.now) (lines_of (items_of journal.entry)) position)) }
     ensures without_memory { IfErr result (λ fault. fault ≢ Memory) }
 {
-    let Some(place) = position.checked_sub(1) else {
-        return Err(BookFault::NoPosition(0));
-    };
-    let Some(entry) = entries.get(place) else {
+    if position == 0 || position > journal.len() {
         return Err(BookFault::NoPosition(position));
-    };
-    let Some(behind) = entries.get(position) else {
+    }
+    if position == journal.len() {
         return Err(BookFault::NoPosition(position + 1));
-    };
+    }
+    if position <= journal.settled.len() {
+        return Err(BookFault::Settled(journal.name_at(position - 1)));
+    }
+    let place = position - journal.settled.len();
+    let entry = &journal.entries[place - 1];
+    let behind = &journal.entries[place];
     match (entry.mark, behind.mark) {
         (Mark::Undone, _) => Err(BookFault::NotLive(entry.event.name)),
         (_, Mark::Undone) => Err(BookFault::NotLive(behind.event.name)),
         (Mark::Live, Mark::Live) => Ok((entry.event.name, behind.event.name)),
+    }
+}
+
+/// The first of these entries that is undone.
+fn first_undone(entries: &[Entry]) -> Option<EventName>
+    ensures { result ≡ first_item (λ i. not i.live) (map item_of entries.now) }
+{
+    for entry in entries {
+        if entry.mark == Mark::Undone {
+            return Some(entry.event.name);
+        }
+    }
+    None
+}
+
+/// How many of the entries that are not settled stand up to a position, counted from 1, which may be settled: they are live.
+pub(crate) fn check_settle(journal: Journal, position: usize) -> Result<usize, BookFault>
+    ensures there { IfOk result (λ count. (length journal.entry.settled.now + count ≡ position) × (count ≤ length journal.entry.entries.now)) }
+    ensures live { IfOk result (λ count. AllByRecursion (λ i. i.live ≡ true) (take count (map item_of journal.entry.entries.now))) }
+    ensures ok { OnOk result (settle_refusal (length journal.entry.settled.now) (lines_of (items_of journal.entry)) position ≡ None) }
+    ensures err { IfErr result (λ fault. Tells fault (settle_refusal (length journal.entry.settled.now) (lines_of (items_of journal.entry)) position)) }
+{
+    if position == 0 || position > journal.len() {
+        return Err(BookFault::NoPosition(position));
+    }
+    if position <= journal.settled.len() {
+        return Err(BookFault::Settled(journal.name_at(position - 1)));
+    }
+    let count = position - journal.settled.len();
+    match first_undone(&journal.entries[..count]) {
+        Some(name) => Err(BookFault::NotLive(name)),
+        None => Ok(count),
     }
 }

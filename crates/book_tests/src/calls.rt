@@ -104,9 +104,17 @@ pub(crate) fn redo(rt: &impl Abort, book: &mut Book, event: u64) {
     }
 }
 
-/// The journal has just these events in this order, each live or undone.
+/// Settles the entries up to a position.
+pub(crate) fn settle(rt: &impl Abort, book: &mut Book, position: usize) {
+    match book.settle(position) {
+        Ok(()) => assert!(rt; book.journal().settled.len() == position),
+        Err(fault) => panic!(rt; "settle: {fault}"),
+    }
+}
+
+/// Behind what is settled the journal has just these events in this order, each live or undone.
 pub(crate) fn expect_journal(rt: &impl Abort, book: &Book, wanted: &[(u64, Mark)]) {
-    let entries = book.journal();
+    let entries = book.journal().entries;
     assert!(rt; entries.len() == wanted.len(), "not so many entries");
     for (entry, (event, mark)) in entries.iter().zip(wanted) {
         assert!(rt; entry.event.name == EventName(*event), "another event");

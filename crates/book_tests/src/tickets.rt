@@ -1,6 +1,8 @@
 // Tickets that are out while events are undone and redone, and the answer of each call of a book.
 
-use crate::calls::{BUDGET, ask, birth, expect_integer, expect_journal, message, redo, turn, undo};
+use crate::calls::{
+    BUDGET, ask, birth, expect_integer, expect_journal, message, redo, settle, turn, undo,
+};
 use book::book::Book;
 use book::fault::BookFault;
 use ids::names::EventName;
@@ -55,7 +57,7 @@ fn commit(rt: &impl Abort, book: &mut Book, ticket: Ticket<Ran>, event: u64) {
             panic!(rt; "commit: {fault}");
         }
     }
-    match book.journal().last() {
+    match book.journal().entries.last() {
         Some(entry) => {
             assert!(rt; entry.event.name == EventName(event));
             assert!(rt; entry.seat == SEAT);
@@ -153,6 +155,41 @@ fn redone_beneath_a_ticket(rt: HostRuntime) {
     expect_integer(&rt, &turn(&rt, &mut book, 4, 6), 1);
 }
 
+/// The opening is settled while a ticket is out: the ticket is as good as before, and its turn is numbered on.
+#[test]
+fn settled_beneath_a_ticket(rt: HostRuntime) {
+    let mut book = asked(&rt, "n := 1");
+    let ticket = checkout(&rt, &mut book, 3, 5);
+    let ran = run(&rt, ticket);
+    settle(&rt, &mut book, 3);
+    expect_journal(&rt, &book, &[(4, Mark::Live)]);
+    commit(&rt, &mut book, ran, 5);
+    assert!(rt; book.journal().len() == 5);
+    assert!(rt;
+        matches!(
+            book.undo(&[EventName(2)]),
+            Err(BookFault::Settled(EventName(2)))
+        )
+    );
+    assert!(rt; matches!(book.settle(2), Err(BookFault::Settled(EventName(2)))));
+    assert!(rt; matches!(book.settle(6), Err(BookFault::NoPosition(6))));
+    undo(&rt, &mut book, 5);
+    assert!(rt; matches!(book.settle(5), Err(BookFault::NotLive(EventName(5)))));
+    expect_integer(&rt, &turn(&rt, &mut book, 4, 6), 0);
+}
+
+/// The seat of a settled entry is counted still.
+#[test]
+fn settled_seats(rt: HostRuntime) {
+    let mut book = asked(&rt, "n := 1");
+    let ticket = checkout(&rt, &mut book, 3, 5);
+    let ran = run(&rt, ticket);
+    commit(&rt, &mut book, ran, 5);
+    settle(&rt, &mut book, 5);
+    expect_journal(&rt, &book, &[]);
+    assert!(rt; book.greatest_seat() == SEAT);
+}
+
 /// A turn of another vat is undone while a ticket is out: that is nothing to it.
 #[test]
 fn undone_elsewhere(rt: HostRuntime) {
@@ -163,7 +200,7 @@ fn undone_elsewhere(rt: HostRuntime) {
     let ran = run(&rt, ticket);
     undo(&rt, &mut book, 6);
     commit(&rt, &mut book, ran, 7);
-    let mark = |place: usize| book.journal().get(place).map(|entry| entry.mark);
+    let mark = |place: usize| book.journal().entries.get(place).map(|entry| entry.mark);
     assert!(rt; matches!(mark(5), Some(Mark::Undone)));
     assert!(rt; matches!(mark(6), Some(Mark::Live)));
     assert!(rt; book.journal().len() == 7);
@@ -247,7 +284,7 @@ fn budgets_of_tickets(rt: HostRuntime) {
 #[test]
 fn each_call_of_a_book(rt: HostRuntime) {
     let mut book = Book::new(rt.alloc());
-    assert!(rt; book.journal().is_empty());
+    assert!(rt; book.journal().entries.is_empty());
     birth(&rt, &mut book, "a", "var n := 0", 1);
     expect_integer(&rt, &turn(&rt, &mut book, 1, 2), 0);
     ask(&rt, &mut book, "a", "n := n + 1", 3);
@@ -287,6 +324,7 @@ fn each_call_of_a_book(rt: HostRuntime) {
         }
         Err(fault) => panic!(rt; "cone: {fault}"),
     }
+    settle(&rt, &mut book, 1);
     checkout_and_abandon(&rt, &mut book);
 }
 

@@ -1,5 +1,5 @@
 -- On the entries of a slice, one by one.
-use Rattle.std.proofs.Common.{◌≡◌, ℕ, ◌+◌, ◌<◌, List, ◌∷◌, [], ◌++◌, length, take, drop, get_or, map, Option, Some, refl, sym, ap, ◌∙◌}
+use Rattle.std.proofs.Common.{◌≡◌, ℕ, ◌+◌, ◌<◌, List, ◌∷◌, [], ◌++◌, append_assoc, length, take, drop, get_or, map, Option, Some, refl, sym, ap, ◌∙◌}
 use Rattle.std.specs.List.{slice_get}
 use Rattle.std.specs.Option.{option_map, option_or}
 use Rattle.std.proofs.lemmas.List.{at_drop_more, map_more}
@@ -20,9 +20,11 @@ up_to_here xs i x h e = ap (λ y. map item_of (take i xs) ++ item_of y ∷ []) e
 pub item_here : (xs : List Entry) (i : ℕ) (x : Entry) → i < length xs → x ≡ get_or xs i x → slice_get (map item_of xs) i ≡ Some (item_of x)
 item_here xs i x h e = slice_get-map item_of xs i ∙ ap (option_map item_of) (slice_get_read xs (length xs) i x refl h e)
 
--- the first answer from an index on
-pub along_here : {B : Type 0} (one : List Item → Item → Option B) (xs : List Entry) (i : ℕ) (x : Entry) → i < length xs → x ≡ get_or xs i x
-    → first_along one (map item_of (take i xs)) (map item_of (drop i xs)) ≡ option_or (one (map item_of (take i xs)) (item_of x)) (first_along one (map item_of (take (i + 1) xs)) (map item_of (drop (i + 1) xs)))
-along_here one xs i x h e =
-    from_here (λ es. first_along one (map item_of (take i xs)) (map item_of es)) xs i x h e
-    ∙ ap (λ b. option_or (one (map item_of (take i xs)) (item_of x)) (first_along one b (map item_of (drop (i + 1) xs)))) (up_to_here xs i x h e)
+-- the first answer from an index on, behind others
+pub along_behind : {B : Type 0} (one : List Item → Item → Option B) (ss : List Item) (xs : List Entry) (i : ℕ) (x : Entry) → i < length xs → x ≡ get_or xs i x
+    → first_along one (ss ++ map item_of (take i xs)) (map item_of (drop i xs))
+    ≡ option_or (one (ss ++ map item_of (take i xs)) (item_of x)) (first_along one (ss ++ map item_of (take (i + 1) xs)) (map item_of (drop (i + 1) xs)))
+along_behind one ss xs i x h e =
+    from_here (λ es. first_along one (ss ++ map item_of (take i xs)) (map item_of es)) xs i x h e
+    ∙ ap (λ b. option_or (one (ss ++ map item_of (take i xs)) (item_of x)) (first_along one b (map item_of (drop (i + 1) xs))))
+    (append_assoc ss (map item_of (take i xs)) (item_of x ∷ []) ∙ ap (λ l. ss ++ l) (up_to_here xs i x h e))

@@ -1,5 +1,5 @@
 -- The places of causes are collected along chains.
-use Rattle.std.proofs.Common.{◌≡◌, ℕ, suc, ◌+◌, ◌<◌, ◌≤◌, ◌==◌, Bool, true, false, cond, ◌||◌, List, [], ◌∷◌, ◌++◌, Option, Some, None, is_some, option_map, map, length, take, get_or, reverse, slice_get, take_all, append_assoc, Result, Ok, Err, IfOk, OnOk, refl, sym, ap, ap₂, ◌∙◌, subst, arith, eqb-true, eq-eqb, lt-ltb, ltb-true, true≢false}
+use Rattle.std.proofs.Common.{◌≡◌, ℕ, zero, suc, ◌+◌, ◌<◌, ◌≤◌, ◌==◌, Bool, true, false, cond, ◌||◌, List, [], ◌∷◌, ◌++◌, Option, Some, None, is_some, option_map, map, length, take, get_or, reverse, slice_get, take_all, append_assoc, Result, Ok, Err, IfOk, OnOk, refl, sym, ap, ap₂, ◌∙◌, subst, arith, eqb-true, eq-eqb, lt-ltb, ltb-true, true≢false}
 use Rattle.std.proofs.Math.Bool.{Bool-set}
 use Rattle.std.proofs.Math.Logic.{∥∥₁_elim}
 use Rattle.std.specs.List.{list_any, AllByRecursion}
@@ -17,8 +17,8 @@ use Rattle.history.proofs.Lists.{all_mapped, all_reversed}
 use Rattle.history.proofs.Chaining.{chain_ends}
 use Rattle.ids.specs.declared.names.EventName.{EventName}
 use Rattle.ids.specs.declared.cells.CellKey.{CellKey}
-use Rattle.journal.specs.Items.{Item, item_of, lasts_of, last_of}
-use Rattle.journal.specs.Lines.{plain, Line, bare, reached, is_cause, causes_in, line_of, lines_of}
+use Rattle.journal.specs.Items.{Item, item_of, lasts_of, last_of, number_of}
+use Rattle.journal.specs.Lines.{plain, Line, bare, writer_of, wrote_cell, reached, is_cause, causes_in, line_of, lines_of}
 use Rattle.journal.specs.declared.entry.Entry as code
 use Rattle.journal.specs.declared.entry.Touched.{Touched}
 use Rattle.journal.proofs.Reversed.{map-map}
@@ -27,10 +27,10 @@ use Rattle.event.specs.Events.{DoesNoted}
 use Rattle.event.proofs.Law.{noted_laws}
 use Rattle.causality.specs.Journals.{IsJournal}
 use Rattle.causality.specs.Selections.{numbers}
-use Rattle.causality.specs.Causes.{place_among, Places, Indexes, place_of, number_of, has_place, passes_at, writer_of, reached_at, number_at}
+use Rattle.causality.specs.Causes.{IsWriter, place_among, Places, Indexes, place_of, has_place, passes_at, reached_at, number_at}
 use Rattle.causality.specs.declared.causes.NameIndex.{NameIndex}
 use Rattle.causality.proofs.Ascending.{ascending, named_ascending}
-use Rattle.causality.proofs.Following.{number, named_place, one_place, here_or_on, Follows, follows}
+use Rattle.causality.proofs.Following.{number, named_place, one_place, here_or_on, all_place, Follows, follows}
 use Rattle.causality.proofs.Indexing.{flipped}
 
 -- what holds of the item in each place holds of all
@@ -79,6 +79,13 @@ module _ (items : List Item) (index : NameIndex) (indexed : Indexes index (lines
   place_within (Some e) p h =
       let lt : p < length (map (λ (i : Item). i.event.name) items) = slice_get_within (map (λ (i : Item). i.event.name) items) p e (places.right e p h) in
       let same : length (map (λ (i : Item). i.event.name) items) ≡ length items = length-map items (λ (i : Item). i.event.name) in omega arith
+
+  -- and it is whoever the writer is
+  pub writer_wrote : (k : CellKey) (w : Option EventName) → IsWriter items k (number_of w) → (p : ℕ) → place_of index w ≡ Some p → (i : Item) → slice_get items p ≡ Some i → wrote_cell i k ≡ true
+  writer_wrote k None h p found i at = cc
+  writer_wrote k (Some e) h p found i at =
+      let named : Some e.0 ≡ Some (number i) = sym (number_there p ∙ ap (option_map (λ (n : EventName). n.0)) (places.right e p found)) ∙ ap (option_map number) at in
+      all_place _ items h p i at named
 
   module _ (journal : IsJournal items) (k : CellKey) (here : ℕ) (i : Item) (at : slice_get items here ≡ Some i) (w : Option EventName) (writer : number_of w ≡ writer_of i k) where
     -- what was reached from a place is the place and what is reached from the writer before it
@@ -195,7 +202,26 @@ pub both_ok : {A E : Type 0} (P R : A → Type 0) (Q : Type 0) (r : Result A E) 
 both_ok P R Q (Ok a) p q f = f a p q
 both_ok P R Q (Err e) p q f = tt
 
--- a line at a place
-pub line_at : (items : List Item) (p : ℕ) (i : Item) (l : Line) → slice_get items p ≡ Some i → slice_get (lines_of items) p ≡ Some l → l ≡ line_of items i
-line_at items p i l at there =
-    let both : Some l ≡ Some (line_of items i) = sym there ∙ slice_get-map (line_of items) items p ∙ ap (option_map (line_of items)) at in cc
+-- an item stands at each place
+pub some_there : {A : Type 0} (xs : List A) (p : ℕ) → p < length xs → (x : A) × (slice_get xs p ≡ Some x)
+some_there [] p h = absurd (omega arith)
+some_there (x ∷ xs) zero h = (x, refl)
+some_there (x ∷ xs) (suc p) h = some_there xs p (omega arith)
+
+-- items that stand before others, and those behind
+pub before_there : {A : Type 0} (ss ys : List A) (p : ℕ) (x : A) → slice_get ss p ≡ Some x → slice_get (ss ++ ys) p ≡ Some x
+before_there [] ys p x h = cc
+before_there (s ∷ ss) ys zero x h = h
+before_there (s ∷ ss) ys (suc p) x h = before_there ss ys p x h
+
+pub behind_there : {A : Type 0} (ss ys : List A) (p : ℕ) → slice_get (ss ++ ys) (length ss + p) ≡ slice_get ys p
+behind_there [] ys p = let e : 0 + p ≡ p = omega arith in ap (slice_get ys) e
+behind_there (s ∷ ss) ys p = let e : length (s ∷ ss) + p ≡ suc (length ss + p) = omega arith in ap (slice_get (s ∷ (ss ++ ys))) e ∙ behind_there ss ys p
+
+-- the number of the event at a place
+pub number_is : (items : List Item) (p : ℕ) (e : EventName) → slice_get (map (λ i. i.event.name) items) p ≡ Some e → number_at items p ≡ e.0
+number_is items p e h = by (slice_get items p) (sym (slice_get-map (λ (i : Item). i.event.name) items p) ∙ h)
+  where
+    by : (o : Option Item) → option_map (λ (i : Item). i.event.name) o ≡ Some e → option_map_or (λ (i : Item). i.event.name.0) o 0 ≡ e.0
+    by None g = cc
+    by (Some i) g = let one : i.event.name ≡ e = cc in ap (λ (n : EventName). n.0) one

@@ -16,12 +16,11 @@ use Rattle.ids.specs.declared.cells.CellKey.{CellKey}
 use Rattle.worldcells.specs.World.{World}
 use Rattle.worldcells.specs.Theory.{Rule, subject, cells}
 use Rattle.journal.specs.Items.{Item}
-use Rattle.journal.specs.Lines.{plain, reached}
+use Rattle.journal.specs.Lines.{plain, reached, writer_of}
 use Rattle.journal.specs.Standing.{Told, told, row_told, ItemsStand}
 use Rattle.journal.proofs.Reversed.{map-map, map-reverse}
 use Rattle.journal.proofs.Touching.{any-map}
 use Rattle.journal.proofs.Telling.{reached_is, items_told}
-use Rattle.causality.specs.Causes.{writer_of}
 
 -- the number of an item's event
 abbrev pub number : Item → ℕ
@@ -44,7 +43,7 @@ apart_reversed : (ns : List ℕ) → Apart ns → Apart (reverse ns)
 apart_reversed [] h = tt
 apart_reversed (n ∷ ns) (h, hs) = subst Apart (sym (reverse-append (n ∷ []) ns)) (apart_last (reverse ns) n (apart_reversed ns hs) (all_reversed _ ns h))
 
-all_place : {A : Type 0} (P : A → Type 0) (xs : List A) → AllByRecursion P xs → (p : ℕ) (x : A) → slice_get xs p ≡ Some x → P x
+pub all_place : {A : Type 0} (P : A → Type 0) (xs : List A) → AllByRecursion P xs → (p : ℕ) (x : A) → slice_get xs p ≡ Some x → P x
 all_place P [] h p x g = cc
 all_place P (y ∷ xs) (h, hs) zero x g = let is : y ≡ x = cc in subst P is h
 all_place P (y ∷ xs) (h, hs) (suc p) x g = all_place P xs hs p x g

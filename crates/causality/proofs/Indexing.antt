@@ -5,9 +5,8 @@ use Rattle.std.specs.BTreeMap.{is_at}
 use Rattle.std.specs.Cmp.{unsigned_ties}
 use Rattle.ids.specs.declared.names.EventName.{EventName}
 use Rattle.ids.specs.contracts.names.EventNameOrd.TheImpl.{cmp-value}
-use Rattle.journal.specs.Items.{Item, item_of}
+use Rattle.journal.specs.Items.{Item}
 use Rattle.journal.specs.Lines.{Line, line_of, lines_of}
-use Rattle.journal.specs.declared.entry.Entry.{Entry}
 use Rattle.journal.proofs.Reversed.{map-map}
 use Rattle.causality.specs.Causes.{place_among}
 
@@ -29,8 +28,8 @@ pub looked_up : (places : List (EventName × ℕ)) (e : EventName) → lookup (i
 looked_up places e = λ i. lookup (λ n. by_name e n i) places
 
 -- the names of lines are those of the entries
-pub names_told : (xs : List Entry) → map (λ l. l.entry.event.name) (lines_of (map item_of xs)) ≡ map (λ x. x.event.name) xs
-names_told xs = map-map (λ (l : Line). l.entry.event.name) (line_of (map item_of xs)) (map item_of xs) ∙ map-map (λ (i : Item). i.event.name) item_of xs
+pub names_told : (items : List Item) → map (λ (l : Line). l.entry.event.name) (lines_of items) ≡ map (λ (i : Item). i.event.name) items
+names_told items = map-map (λ (l : Line). l.entry.event.name) (line_of items) items
 
 -- the places of the first so many names
 pub record PlacesBelow (bound : ℕ) (places : List (EventName × ℕ)) (names : List EventName) : Type 0 where

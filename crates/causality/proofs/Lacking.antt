@@ -5,12 +5,11 @@ use Rattle.std.specs.List.{slice_get}
 use Rattle.std.specs.Option.{option_map}
 use Rattle.std.specs.BTreeSet.{BTreeSet}
 use Rattle.std.proofs.lemmas.List.Elements.{filter-append}
-use Rattle.std.proofs.lemmas.Option.{slice_get-map}
 use Rattle.history.specs.Journal.{is_in}
 use Rattle.history.proofs.Lists.{all_of}
 use Rattle.ids.specs.declared.names.EventName.{EventName}
 use Rattle.journal.specs.Items.{Item, wrote_one_of}
-use Rattle.journal.specs.Lines.{Line, line_of, lines_of, causes_in}
+use Rattle.journal.specs.Lines.{causes_in}
 use Rattle.causality.specs.Selections.{numbers}
 use Rattle.causality.specs.Walks.{stays, is_of, comes_back, missed, first_met, unexpected, crossed}
 use Rattle.causality.specs.declared.selection.Gap.{Gap}
@@ -20,12 +19,11 @@ use Rattle.causality.proofs.Firsts.{some_same}
 abbrev pub SameNames : List ℕ → List ℕ → Type 0
 SameNames ns ms = (e : EventName) → is_in ns e.0 ≡ is_in ms e.0
 
--- a set of the names of the causes of a line has those of its item
-pub cause_names : {E : Type 0} (all : List Item) (p : ℕ) (names listed : List EventName) → listed ≡ names → ((l : Line) → slice_get (lines_of all) p ≡ Some l → numbers names ≡ l.entry.causes)
-    → (r : Result (BTreeSet EventName) E) → IfOk r (λ set. SameNames (numbers set.keys) (numbers listed)) → IfOk r (λ set. (i : Item) → slice_get all p ≡ Some i → SameNames (numbers set.keys) (causes_in all i))
-cause_names all p names listed is h (Ok set) g = λ i at e.
-    g e ∙ ap (λ ns. is_in (numbers ns) e.0) is ∙ ap (λ ns. is_in ns e.0) (h (line_of all i) (slice_get-map (line_of all) all p ∙ ap (option_map (line_of all)) at))
-cause_names all p names listed is h (Err fault) g = g
+-- a set of the names of the causes of an item
+pub cause_names : {E : Type 0} (causes : Item → List ℕ) (At : Item → Type 0) (names listed : List EventName) → listed ≡ names → ((i : Item) → At i → numbers names ≡ causes i)
+    → (r : Result (BTreeSet EventName) E) → IfOk r (λ set. SameNames (numbers set.keys) (numbers listed)) → IfOk r (λ set. (i : Item) → At i → SameNames (numbers set.keys) (causes i))
+cause_names causes At names listed is h (Ok set) g = λ i at e. g e ∙ ap (λ ns. is_in (numbers ns) e.0) is ∙ ap (λ ns. is_in ns e.0) (h i at)
+cause_names causes At names listed is h (Err fault) g = g
 
 pub missed_same : (names : List EventName) (ns ms : List ℕ) (items : List Item) → SameNames ns ms → missed names ns items ≡ missed names ms items
 missed_same names ns ms items h = some_same _ _ items (all_of _ items (λ f. ap (λ b. cond (not (stays names f) && b) (Some f.event.name) None) (h f.event.name)))

@@ -1,6 +1,8 @@
 pub mod Along
 pub mod Ascending
+pub mod Behind
 pub mod Collecting
+pub mod Written
 pub mod Cones
 pub mod Exactness
 pub mod Facts
@@ -15,4 +17,3 @@ pub mod Pairs
 pub mod Redoing
 pub mod Telling
 pub mod Writers
-pub mod Touched

@@ -1,18 +1,18 @@
 -- On sets of names.
-use Rattle.std.proofs.Common.{◌≡◌, ◌∙◌, ℕ, ◌+◌, ◌<◌, List, [], ◌∷◌, ◌++◌, Bool, true, false, cond, ◌&&◌, Option, Some, None, length, map, take, get_or, refl, sym, ap, eqb-true, eq-eqb, true≢false}
+use Rattle.std.proofs.Common.{◌≡◌, ◌∙◌, ℕ, ◌+◌, ◌<◌, List, [], ◌∷◌, ◌++◌, Bool, true, false, cond, ◌&&◌, Option, Some, None, length, map, take, get_or, slice_get, refl, sym, ap, eqb-true, eq-eqb, true≢false}
 use Rattle.std.specs.Prelude.{◌||◌, ◌==◌}
 use Rattle.std.specs.List.{list_any}
 use Rattle.std.specs.Cmp.{unsigned_ties}
 use Rattle.std.specs.BTreeMap.{is_at}
+use Rattle.std.proofs.lemmas.Option.{slice_get_within, get_or_from_slice_get}
 use Rattle.std.proofs.lemmas.List.Folds.{list_any-append, list_any_at, list_any_more}
 use Rattle.history.specs.Journal.{is_in}
 use Rattle.ids.specs.declared.names.EventName.{EventName}
 use Rattle.ids.specs.contracts.names.EventNameOrd.TheImpl.{cmp-value}
 use Rattle.history.proofs.Lists.{all_of, any_same}
 use Rattle.journal.proofs.Touching.{any-map}
-use Rattle.journal.specs.Items.{Item, item_of}
+use Rattle.journal.specs.Items.{Item}
 use Rattle.journal.specs.Lines.{line_of}
-use Rattle.journal.specs.declared.entry.Entry.{Entry}
 use Rattle.causality.specs.Names.{SameNames, is_writer_in, wrote_last}
 use Rattle.causality.specs.Selections.{numbers, is_entered}
 use Rattle.causality.proofs.Indexing.{by_name}
@@ -68,12 +68,12 @@ named_last es fs i h = any_same _ _ i.lasts (all_of _ i.lasts (λ p. either p.1)
     either None = refl
     either (Some n) = h (record { 0 = n })
 
--- the names of a set that these entries have
-abbrev pub in_entries : List Entry → EventName → Bool
-in_entries xs e = list_any (λ x. x.event.name.0 == e.0) xs
+-- the names of a set that are among these
+abbrev pub in_names : List EventName → EventName → Bool
+in_names xs e = list_any (λ x. x.0 == e.0) xs
 
-abbrev pub Found : List EventName → List EventName → List Entry → Type 0
-Found keys names xs = (e : EventName) → is_in (numbers keys) e.0 ≡ (is_in (numbers names) e.0 && in_entries xs e)
+abbrev pub Found : List EventName → List EventName → List EventName → Type 0
+Found keys names xs = (e : EventName) → is_in (numbers keys) e.0 ≡ (is_in (numbers names) e.0 && in_names xs e)
 
 pub found_none : (keys names : List EventName) → keys ≡ [] → Found keys names []
 found_none keys names none e = ap (λ ks. is_in (numbers ks) e.0) none ∙ never (is_in (numbers names) e.0)
@@ -82,16 +82,22 @@ found_none keys names none e = ap (λ ks. is_in (numbers ks) e.0) none ∙ never
     never true = refl
     never false = refl
 
-module _ (old names : List EventName) (xs : List Entry) (i : ℕ) (x : Entry) (here : i < length xs) (is : x ≡ get_or xs i x) where
-  one_entry : (e : EventName) → in_entries (take (i + 1) xs) e ≡ (in_entries (take i xs) e || (x.event.name.0 == e.0))
-  one_entry e = list_any_more (λ y. y.event.name.0 == e.0) xs i x here ∙ ap (λ (y : Entry). in_entries (take i xs) e || (y.event.name.0 == e.0)) (sym is)
+module _ (old names : List EventName) (xs : List EventName) (i : ℕ) (x : EventName) (at : slice_get xs i ≡ Some x) where
+  here : i < length xs
+  here = slice_get_within xs i x at
 
-  same_name : (e : EventName) (b : Bool) → is_in (numbers names) x.event.name.0 ≡ b → (x.event.name.0 == e.0) ≡ true → is_in (numbers names) e.0 ≡ b
-  same_name e b has same = ap (is_in (numbers names)) (sym (eqb-true x.event.name.0 e.0 same)) ∙ has
+  is : x ≡ get_or xs i x
+  is = sym (get_or_from_slice_get xs i x x at)
 
-  pub found_more : (new : List EventName) → Put x.event.name old new → is_in (numbers names) x.event.name.0 ≡ true → Found old names (take i xs) → Found new names (take (i + 1) xs)
+  one_entry : (e : EventName) → in_names (take (i + 1) xs) e ≡ (in_names (take i xs) e || (x.0 == e.0))
+  one_entry e = list_any_more (λ y. y.0 == e.0) xs i x here ∙ ap (λ (y : EventName). in_names (take i xs) e || (y.0 == e.0)) (sym is)
+
+  same_name : (e : EventName) (b : Bool) → is_in (numbers names) x.0 ≡ b → (x.0 == e.0) ≡ true → is_in (numbers names) e.0 ≡ b
+  same_name e b has same = ap (is_in (numbers names)) (sym (eqb-true x.0 e.0 same)) ∙ has
+
+  pub found_more : (new : List EventName) → Put x old new → is_in (numbers names) x.0 ≡ true → Found old names (take i xs) → Found new names (take (i + 1) xs)
   found_more new updates has before e =
-      put_is x.event.name old new updates e ∙ ap (cond (x.event.name.0 == e.0) true) (before e) ∙ by (x.event.name.0 == e.0) (is_in (numbers names) e.0) (in_entries (take i xs) e) (same_name e true has) ∙ ap (λ b. is_in (numbers names) e.0 && b) (sym (one_entry e))
+      put_is x old new updates e ∙ ap (cond (x.0 == e.0) true) (before e) ∙ by (x.0 == e.0) (is_in (numbers names) e.0) (in_names (take i xs) e) (same_name e true has) ∙ ap (λ b. is_in (numbers names) e.0 && b) (sym (one_entry e))
     where
       by : (b m y : Bool) → (b ≡ true → m ≡ true) → cond b true (m && y) ≡ (m && (y || b))
       by true true true h = refl
@@ -101,9 +107,9 @@ module _ (old names : List EventName) (xs : List Entry) (i : ℕ) (x : Entry) (h
       by false true false h = refl
       by false false y h = refl
 
-  pub found_past : is_in (numbers names) x.event.name.0 ≡ false → Found old names (take i xs) → Found old names (take (i + 1) xs)
+  pub found_past : is_in (numbers names) x.0 ≡ false → Found old names (take i xs) → Found old names (take (i + 1) xs)
   found_past out before e =
-      before e ∙ by (x.event.name.0 == e.0) (is_in (numbers names) e.0) (in_entries (take i xs) e) (same_name e false out) ∙ ap (λ b. is_in (numbers names) e.0 && b) (sym (one_entry e))
+      before e ∙ by (x.0 == e.0) (is_in (numbers names) e.0) (in_names (take i xs) e) (same_name e false out) ∙ ap (λ b. is_in (numbers names) e.0 && b) (sym (one_entry e))
     where
       by : (b m y : Bool) → (b ≡ true → m ≡ false) → (m && y) ≡ (m && (y || b))
       by true true y h = absurd (true≢false (h refl))
@@ -113,5 +119,5 @@ module _ (old names : List EventName) (xs : List Entry) (i : ℕ) (x : Entry) (h
       by false false y h = refl
 
 -- the journal has an event where an entry of it has its name
-pub entered_is : (all : List Item) (xs : List Entry) (e : EventName) → is_entered (map (line_of all) (map item_of xs)) e ≡ in_entries xs e
-entered_is all xs e = any-map (line_of all) (λ l. l.entry.event.name.0 == e.0) (map item_of xs) ∙ any-map item_of (λ i. i.event.name.0 == e.0) xs
+pub entered_is : (all items : List Item) (e : EventName) → is_entered (map (line_of all) items) e ≡ in_names (map (λ i. i.event.name) items) e
+entered_is all items e = any-map (line_of all) (λ l. l.entry.event.name.0 == e.0) items ∙ sym (any-map (λ (i : Item). i.event.name) (λ n. n.0 == e.0) items)

@@ -1,5 +1,5 @@
 -- What holds of each pair of a list, the item before first.
-use Rattle.std.proofs.Common.{List, [], ◌∷◌, ◌++◌, map, reverse, sym, subst}
+use Rattle.std.proofs.Common.{◌≡◌, ℕ, zero, suc, ◌<◌, List, [], ◌∷◌, ◌++◌, length, get_or, map, reverse, sym, subst, arith}
 use Rattle.std.specs.List.{AllByRecursion}
 use Rattle.std.proofs.lemmas.List.{reverse-append, reverse-reverse}
 use Rattle.history.proofs.Lists.{all_map, all_both, all_append, all_reversed, all_mapped}
@@ -99,3 +99,9 @@ around_pairs R xs h = (from_around R [] xs h).1
 pub pairs_of_all : {A : Type 0} (T : A → A → Type 0) (xs : List A) → AllByRecursion (λ a. AllByRecursion (T a) xs) xs → Pairs (λ a b. T b a) xs
 pairs_of_all T [] h = tt
 pairs_of_all T (x ∷ xs) (p, h) = (all_map _ _ xs (λ b row. row.0) h, pairs_of_all T xs (all_map _ _ xs (λ b row. row.1) h))
+
+-- the one at an index
+pub all_at_index : {A B : Type 0} (f : A → B) (P : B → Type 0) (xs : List A) (i : ℕ) (x : A) → i < length xs → x ≡ get_or xs i x → AllByRecursion P (map f xs) → P (f x)
+all_at_index f P [] i x h e all = absurd (omega arith)
+all_at_index f P (y ∷ xs) zero x h e all = subst (λ z. P (f z)) (sym e) all.0
+all_at_index f P (y ∷ xs) (suc i) x h e all = all_at_index f P xs i x (omega arith) e all.1

@@ -1,14 +1,13 @@
 -- Where the entry of each name stands, and the places that a set of places has.
 use Rattle.std.specs.Prelude.{◌≡◌, ℕ, Bool, true, false, ◌==◌, List, map, Option, Some, is_some, slice_get, option_map, option_and_then}
-use Rattle.std.specs.List.{list_any}
+use Rattle.std.specs.List.{list_any, AllByRecursion}
 use Rattle.std.specs.Option.{option_map_or}
 use Rattle.std.specs.Map.{lookup}
 use Rattle.history.specs.Journal.{is_in}
-use Rattle.history.specs.Chains.{last_of}
 use Rattle.ids.specs.declared.names.EventName.{EventName}
 use Rattle.ids.specs.declared.cells.CellKey.{CellKey}
 use Rattle.journal.specs.Items.{Item}
-use Rattle.journal.specs.Lines.{plain, Line, bare, reached}
+use Rattle.journal.specs.Lines.{Line, wrote_cell, reached}
 use Rattle.causality.specs.declared.causes.NameIndex.{NameIndex}
 
 -- where a name is found
@@ -28,10 +27,6 @@ Indexes index lines = Places index.places.entries (map (λ l. l.entry.event.name
 abbrev pub place_of : NameIndex → Option EventName → Option ℕ
 place_of index writer = option_and_then (λ e. place_among index.places.entries e) writer
 
--- the number of a writer
-abbrev pub number_of : Option EventName → Option ℕ
-number_of writer = option_map (λ e. e.0) writer
-
 -- a place is among these
 abbrev pub has_place : List ℕ → ℕ → Bool
 has_place places q = list_any (λ p. p == q) places
@@ -40,9 +35,9 @@ has_place places q = list_any (λ p. p == q) places
 abbrev pub passes_at : (Item → Bool) → List Item → ℕ → Bool
 passes_at test items q = option_map_or test (slice_get items q) false
 
--- the last writer of a cell when an item was made
-abbrev pub writer_of : Item → CellKey → Option ℕ
-writer_of i k = last_of plain (bare i) k
+-- whoever of these items it names wrote the cell
+abbrev pub IsWriter : List Item → CellKey → Option ℕ → Type 0
+IsWriter items k writer = AllByRecursion (λ a. writer ≡ Some (a.event.name.0) → wrote_cell a k ≡ true) items
 
 -- the item at a place is reached from a writer of a cell
 abbrev pub reached_at : List Item → CellKey → Option ℕ → ℕ → Bool

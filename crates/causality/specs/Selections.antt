@@ -1,5 +1,5 @@
 -- What a set of events, a list of their names, lacks for an undo or a redo.
-use Rattle.std.specs.Prelude.{◌&&◌, ◌||◌, ◌==◌, ◌+◌, not, Bool, cond, ℕ, List, [], ◌∷◌, ◌++◌, map, filter, Option, Some, None, min}
+use Rattle.std.specs.Prelude.{◌&&◌, ◌||◌, ◌==◌, ◌+◌, not, Bool, cond, ℕ, List, [], ◌∷◌, ◌++◌, map, filter, take, Option, Some, None, min}
 use Rattle.std.specs.List.{list_any}
 use Rattle.std.specs.Option.{option_map, option_or}
 use Rattle.history.specs.Subject.{meets}
@@ -39,6 +39,10 @@ first_some f (x ∷ xs) = option_or (f x) (first_some f xs)
 -- the name of the first line that passes a test
 abbrev pub first_name : (Line → Bool) → List Line → Option EventName
 first_name test lines = first_some (λ l. cond (test l) (Some (name_of l)) None) lines
+
+-- the first of the set that is settled, where so many lines are
+abbrev pub first_settled : List EventName → ℕ → List Line → Option EventName
+first_settled names n lines = first_name (chosen names) (take n lines)
 
 -- the lesser of a name and what is least of others
 abbrev pub lesser : EventName → Option EventName → Option EventName

@@ -73,6 +73,10 @@ missed_at names all before i = cond (comes_back names i) (option_map (gap i.even
 abbrev pub unexpected : List EventName → List ℕ → Item → List Item → Option EventName
 unexpected names causes i before = first_item (λ f. stays names f && (wrote_one_of f i && not (is_in causes f.event.name.0))) before
 
+-- the first of these that wrote what an item touched, and has none of these numbers
+abbrev pub unnamed : List ℕ → Item → List Item → Option EventName
+unnamed causes i before = first_item (λ f. wrote_one_of f i && not (is_in causes f.event.name.0)) before
+
 -- the first of these that wrote what an item touched
 abbrev pub first_met : Item → List Item → Option EventName
 first_met i before = first_item (λ f. wrote_one_of f i) before

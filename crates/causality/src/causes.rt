@@ -3,15 +3,16 @@ ghost use Rattle.std.specs.List.{AllByRecursion};
 ghost use Rattle.std.specs.List.Sorted.{IsStrictlySortedBy};
 ghost use Rattle.std.specs.Ordering.{nat_cmp};
 ghost use Rattle.std.specs.Prelude.{◌≡◌, ◌<◌, ◌||◌, ℕ, map, length, Some, IfOk, OnOk, slice_get};
-ghost use Rattle.journal.specs.Items.{item_of, last_of};
-ghost use Rattle.journal.specs.Lines.{Line, lines_of};
+ghost use Rattle.journal.specs.Items.{Item, item_of, last_of};
+ghost use Rattle.journal.specs.Journals.{items_of};
+ghost use Rattle.journal.specs.Lines.{causes_in, lines_of};
 ghost use Rattle.causality.specs.Journals.{IsJournal};
 ghost use Rattle.causality.specs.Selections.{numbers};
-ghost use Rattle.causality.specs.Causes.{Indexes, place_of, number_of, has_place, reached_at, writer_of, number_at};
+ghost use Rattle.causality.specs.Causes.{Indexes, IsWriter, place_of, has_place, reached_at, number_at};
 
-use ids::cells::CellKey;
 use ids::names::EventName;
 use journal::entry::{Entry, Touched};
+use journal::journal::Journal;
 use std::alloc::{AllocError, Global};
 use std::collections::{BTreeMap, BTreeSet};
 
@@ -22,13 +23,13 @@ pub struct NameIndex {
 }
 
 impl NameIndex {
-    /// The index of these entries. Fails only for want of memory.
-    pub fn new(alloc: Global, entries: &[Entry]) -> Result<NameIndex, AllocError>
-        ensures { IfOk result (λ index. Indexes index (lines_of (map item_of entries.now))) }
+    /// The index of a journal. Fails only for want of memory.
+    pub fn new(alloc: Global, journal: Journal) -> Result<NameIndex, AllocError>
+        ensures { IfOk result (λ index. Indexes index (lines_of (items_of journal.entry))) }
     {
         let mut places = BTreeMap::new(alloc);
-        for place in 0..entries.len() {
-            places.insert(entries[place].event.name, place)?;
+        for place in 0..journal.len() {
+            places.insert(journal.name_at(place), place)?;
         }
         Ok(NameIndex { places })
     }
@@ -44,33 +45,22 @@ impl NameIndex {
     }
 }
 
-/// The last writer of a cell when an entry was made.
-fn writer_of(entry: &Entry, key: &CellKey) -> Option<EventName>
-    ensures { number_of result ≡ writer_of (item_of entry.now) key.now }
-{
-    for cell in &entry.touched {
-        if cell.key == *key {
-            return cell.writer;
-        }
-    }
-    None
-}
-
 /// Collects the places of the entries that wrote a touched cell: of its last writer, of the last writer before that one, and so on.
 fn follow(
-    entries: &[Entry],
+    journal: Journal,
     index: &NameIndex,
     cell: &Touched,
     places: &mut BTreeSet<usize>,
 ) -> Result<(), AllocError>
-    requires journal { IsJournal (map item_of entries.now) }
-    requires indexed { Indexes index.now (lines_of (map item_of entries.now)) }
-    ensures { OnOk result ((q : ℕ) → has_place places.new.keys q ≡ (has_place places.old.keys q || reached_at (map item_of entries.now) (last_of cell.now).0 (last_of cell.now).1 q)) }
+    requires journal { IsJournal (items_of journal) }
+    requires indexed { Indexes index.now (lines_of (items_of journal)) }
+    requires wrote { IsWriter (items_of journal) (last_of cell.now).0 (last_of cell.now).1 }
+    ensures { OnOk result ((q : ℕ) → has_place places.new.keys q ≡ (has_place places.old.keys q || reached_at (items_of journal.entry) (last_of cell.now).0 (last_of cell.now).1 q)) }
 {
     let mut place = index.place_of(cell.writer);
     while let Some(here) = place {
         places.insert(here)?;
-        place = index.place_of(writer_of(&entries[here], &cell.key));
+        place = index.place_of(journal.writer_at(here, &cell.key));
     }
     Ok(())
 }
@@ -78,35 +68,35 @@ fn follow(
 /// The names of the entries at these places.
 fn names_at(
     alloc: Global,
-    entries: &[Entry],
+    journal: Journal,
     places: &BTreeSet<usize>,
 ) -> Result<Vec<EventName>, AllocError>
-    requires { AllByRecursion (λ p. p < length entries.now) places.now.keys }
-    ensures names { IfOk result (λ names. numbers names.items ≡ map (number_at (map item_of entries.now)) places.now.keys) }
+    requires { AllByRecursion (λ p. p < length (items_of journal)) places.now.keys }
+    ensures names { IfOk result (λ names. numbers names.items ≡ map (number_at (items_of journal.entry)) places.now.keys) }
     ensures ascending { OnOk result (IsStrictlySortedBy nat_cmp places.now.keys) }
 {
     let mut names = Vec::new(alloc);
     for place in places {
-        names.push(entries[*place].event.name)?;
+        names.push(journal.name_at(*place))?;
     }
     Ok(names)
 }
 
-/// The names of all causes of the entry at a position, in the journal's order. Fails only for want of memory.
+/// The names of all causes of the entry at a place behind the settled ones, in the journal's order. Fails only for want of memory.
 pub fn causes(
     alloc: Global,
-    entries: &[Entry],
+    journal: Journal,
     index: &NameIndex,
-    position: usize,
+    place: usize,
 ) -> Result<Vec<EventName>, AllocError>
-    requires journal { IsJournal (map item_of entries.now) }
-    requires indexed { Indexes index.now (lines_of (map item_of entries.now)) }
-    requires there { position < length entries.now }
-    ensures { IfOk result (λ names. (l : Line) → slice_get (lines_of (map item_of entries.now)) position ≡ Some l → numbers names.items ≡ l.entry.causes) }
+    requires journal { IsJournal (items_of journal) }
+    requires indexed { Indexes index.now (lines_of (items_of journal)) }
+    requires there { place < length journal.entries.now }
+    ensures { IfOk result (λ names. (i : Item) → slice_get (map item_of journal.entry.entries.now) place ≡ Some i → numbers names.items ≡ causes_in (items_of journal.entry) i) }
 {
     let mut places = BTreeSet::new(alloc);
-    for cell in &entries[position].touched {
-        follow(entries, index, cell, &mut places)?;
+    for cell in &journal.entries[place].touched {
+        follow(journal, index, cell, &mut places)?;
     }
-    names_at(alloc, entries, &places)
+    names_at(alloc, journal, &places)
 }

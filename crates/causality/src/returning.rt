@@ -3,17 +3,20 @@ ghost use Rattle.std.specs.Prelude.{◌≡◌, ◌<◌, [], map, filter, take, l
 ghost use Rattle.history.specs.Journal.{is_in};
 ghost use Rattle.ids.specs.declared.names.EventName.{EventName};
 ghost use Rattle.journal.specs.Items.{Item, item_of};
+ghost use Rattle.journal.specs.Journals.{items_in, items_of, settled_item};
 ghost use Rattle.journal.specs.Lines.{causes_in, lines_of};
 ghost use Rattle.causality.specs.Causes.{Indexes};
 ghost use Rattle.causality.specs.Journals.{IsJournal};
 ghost use Rattle.causality.specs.Selections.{numbers};
-ghost use Rattle.causality.specs.Walks.{first_along, stays, comes_back, missed, missed_at, first_met, unexpected, crossed, crossed_at};
+ghost use Rattle.causality.specs.Walks.{first_along, stays, comes_back, missed, missed_at, first_met, unnamed, unexpected, crossed, crossed_at};
 
 use crate::causes::{NameIndex, causes};
 use crate::names::{NameSet, has, sorted};
 use crate::selection::Gap;
 use ids::names::EventName;
 use journal::entry::{Entry, Mark, meets};
+use journal::journal::Journal;
+use journal::settled::Settled;
 use std::alloc::{AllocError, Global};
 use std::collections::BTreeSet;
 
@@ -37,19 +40,19 @@ pub(crate) fn comes_back(entry: &Entry, names: &NameSet) -> bool
     !is_live(entry) && names.has(entry.event.name)
 }
 
-/// The names of all causes of the entry at a position. Fails only for want of memory.
+/// The names of all causes of the entry at a place behind the settled ones. Fails only for want of memory.
 fn cause_set(
     alloc: Global,
-    entries: &[Entry],
+    journal: Journal,
     index: &NameIndex,
-    position: usize,
+    place: usize,
 ) -> Result<BTreeSet<EventName>, AllocError>
-    requires journal { IsJournal (map item_of entries.now) }
-    requires indexed { Indexes index.now (lines_of (map item_of entries.now)) }
-    requires there { position < length entries.now }
-    ensures { IfOk result (λ set. (i : Item) → slice_get (map item_of entries.now) position ≡ Some i → (e : EventName) → is_in (numbers set.keys) e.0 ≡ is_in (causes_in (map item_of entries.now) i) e.0) }
+    requires journal { IsJournal (items_of journal) }
+    requires indexed { Indexes index.now (lines_of (items_of journal)) }
+    requires there { place < length journal.entries.now }
+    ensures { IfOk result (λ set. (i : Item) → slice_get (map item_of journal.entry.entries.now) place ≡ Some i → (e : EventName) → is_in (numbers set.keys) e.0 ≡ is_in (causes_in (items_of journal.entry) i) e.0) }
 {
-    let names = causes(alloc, entries, index, position)?;
+    let names = causes(alloc, journal, index, place)?;
     sorted(alloc, &names)
 }
 
@@ -66,36 +69,37 @@ fn missed(earlier: &[Entry], names: &NameSet, causes: &BTreeSet<EventName>) -> O
     None
 }
 
-/// The first cause of the entry at a position that is neither live nor of the set. Fails only for want of memory.
+/// The first cause of the entry at a place behind the settled ones that is neither live nor of the set. Fails only for want of memory.
 fn missing_cause(
     alloc: Global,
-    entries: &[Entry],
+    journal: Journal,
     index: &NameIndex,
     names: &NameSet,
-    position: usize,
+    place: usize,
 ) -> Result<Option<EventName>, AllocError>
-    requires journal { IsJournal (map item_of entries.now) }
-    requires indexed { Indexes index.now (lines_of (map item_of entries.now)) }
-    requires there { position < length entries.now }
-    ensures { IfOk result (λ other. (i : Item) → slice_get (map item_of entries.now) position ≡ Some i → other ≡ missed names.now (causes_in (map item_of entries.now) i) (map item_of (take position entries.now))) }
+    requires journal { IsJournal (items_of journal) }
+    requires indexed { Indexes index.now (lines_of (items_of journal)) }
+    requires there { place < length journal.entries.now }
+    ensures { IfOk result (λ other. (i : Item) → slice_get (map item_of journal.entry.entries.now) place ≡ Some i → other ≡ missed names.now (causes_in (items_of journal.entry) i) (items_in journal.entry.settled.now (take place journal.entry.entries.now))) }
 {
-    let causes = cause_set(alloc, entries, index, position)?;
-    Ok(missed(&entries[..position], names, &causes))
+    // All settled ones are live.
+    let causes = cause_set(alloc, journal, index, place)?;
+    Ok(missed(&journal.entries[..place], names, &causes))
 }
 
 /// The first entry that comes back without one of its causes, and the first such cause. Fails only for want of memory.
 pub(crate) fn first_missed(
     alloc: Global,
-    entries: &[Entry],
+    journal: Journal,
     names: &NameSet,
 ) -> Result<Option<Gap>, AllocError>
-    requires { IsJournal (map item_of entries.now) }
-    ensures { IfOk result (λ gap. gap ≡ first_along (missed_at names.now (map item_of entries.now)) [] (map item_of entries.now)) }
+    requires { IsJournal (items_of journal) }
+    ensures { IfOk result (λ gap. gap ≡ first_along (missed_at names.now (items_of journal.entry)) [] (items_of journal.entry)) }
 {
-    let index = NameIndex::new(alloc, entries)?;
-    for (position, entry) in entries.iter().enumerate() {
+    let index = NameIndex::new(alloc, journal)?;
+    for (place, entry) in journal.entries.iter().enumerate() {
         if comes_back(entry, names) {
-            let missing = missing_cause(alloc, entries, &index, names, position)?;
+            let missing = missing_cause(alloc, journal, &index, names, place)?;
             if let Some(other) = missing {
                 let event = entry.event.name;
                 return Ok(Some(Gap { event, other }));
@@ -135,22 +139,34 @@ fn unexpected(
     None
 }
 
-/// What the entry at a position crosses; the earlier ones that come back are known. Fails only for want of memory.
+/// The first of settled events that wrote what an entry touched, and is no cause of it.
+fn unnamed(settled: &[Settled], causes: &BTreeSet<EventName>, entry: &Entry) -> Option<EventName>
+    ensures { result ≡ unnamed (numbers causes.now.keys) (item_of entry.now) (map settled_item settled.now) }
+{
+    for other in settled {
+        if other.meets(entry) && !has(causes, other.name) {
+            return Some(other.name);
+        }
+    }
+    None
+}
+
+/// What the entry at a place behind the settled ones crosses; the earlier ones that come back are known. Fails only for want of memory.
 fn crossed(
     alloc: Global,
-    entries: &[Entry],
+    journal: Journal,
     index: &NameIndex,
     names: &NameSet,
     returning: &[&Entry],
-    position: usize,
+    place: usize,
 ) -> Result<Option<EventName>, AllocError>
-    requires journal { IsJournal (map item_of entries.now) }
-    requires indexed { Indexes index.now (lines_of (map item_of entries.now)) }
-    requires there { position < length entries.now }
-    requires gathered { map (λ x. item_of x.now) returning.now ≡ filter (comes_back names.now) (map item_of (take position entries.now)) }
-    ensures { IfOk result (λ other. (i : Item) → slice_get (map item_of entries.now) position ≡ Some i → other ≡ crossed names.now (map item_of entries.now) (map item_of (take position entries.now)) i) }
+    requires journal { IsJournal (items_of journal) }
+    requires indexed { Indexes index.now (lines_of (items_of journal)) }
+    requires there { place < length journal.entries.now }
+    requires gathered { map (λ x. item_of x.now) returning.now ≡ filter (comes_back names.now) (map item_of (take place journal.entries.now)) }
+    ensures { IfOk result (λ other. (i : Item) → slice_get (map item_of journal.entry.entries.now) place ≡ Some i → other ≡ crossed names.now (items_of journal.entry) (items_in journal.entry.settled.now (take place journal.entry.entries.now)) i) }
 {
-    let entry = &entries[position];
+    let entry = &journal.entries[place];
     if is_live(entry) {
         // A live event has all live ones that it meets as its causes.
         return Ok(first_met(returning, entry));
@@ -158,23 +174,26 @@ fn crossed(
     if !names.has(entry.event.name) {
         return Ok(None);
     }
-    let causes = cause_set(alloc, entries, index, position)?;
-    Ok(unexpected(&entries[..position], names, &causes, entry))
+    let causes = cause_set(alloc, journal, index, place)?;
+    match unnamed(journal.settled, &causes, entry) {
+        Some(other) => Ok(Some(other)),
+        None => Ok(unexpected(&journal.entries[..place], names, &causes, entry)),
+    }
 }
 
 /// The first entry that crosses an earlier one, and that one. Fails only for want of memory.
 pub(crate) fn first_crossed(
     alloc: Global,
-    entries: &[Entry],
+    journal: Journal,
     names: &NameSet,
 ) -> Result<Option<Gap>, AllocError>
-    requires { IsJournal (map item_of entries.now) }
-    ensures { IfOk result (λ gap. gap ≡ first_along (crossed_at names.now (map item_of entries.now)) [] (map item_of entries.now)) }
+    requires { IsJournal (items_of journal) }
+    ensures { IfOk result (λ gap. gap ≡ first_along (crossed_at names.now (items_of journal.entry)) [] (items_of journal.entry)) }
 {
-    let index = NameIndex::new(alloc, entries)?;
+    let index = NameIndex::new(alloc, journal)?;
     let mut returning = Vec::new(alloc);
-    for (position, entry) in entries.iter().enumerate() {
-        let crossing = crossed(alloc, entries, &index, names, &returning, position)?;
+    for (place, entry) in journal.entries.iter().enumerate() {
+        let crossing = crossed(alloc, journal, &index, names, &returning, place)?;
         if let Some(other) = crossing {
             let event = entry.event.name;
             return Ok(Some(Gap { event, other }));

@@ -1,5 +1,5 @@
 -- The log of a vat.
-use Rattle.std.specs.Prelude.{ℕ, ◌+◌, List, [], ◌∷◌, ◌++◌, Option, Some, None}
+use Rattle.std.specs.Prelude.{ℕ, ◌+◌, List, [], ◌∷◌, ◌++◌, length, Option, Some, None}
 use Rattle.kernele.specs.Tree.{Name}
 use Rattle.worldcells.specs.Events.{Noted}
 use Rattle.serde_json.specs.Data.{Data, array}
@@ -24,6 +24,10 @@ abbrev pub turns_called : Option VatNo → List Noted → List Turn
 turns_called None es = []
 turns_called (Some v) es = turns_of v es
 
--- the log of the loop of a name, from live events: a list of records in JSON with no spaces
-abbrev pub log_text : Name → List Noted → List ℕ
-log_text x es = compact_text (array (items_of (records_of x 1 (turns_called (vat_called x es) es))))
+-- the records of the turns of a vat, if there is one, among later events: turns are counted among the earlier ones too
+abbrev pub records_behind : Name → Option VatNo → List Noted → List Noted → List Data
+records_behind x v earlier es = records_of x (length (turns_called v earlier) + 1) (turns_called v es)
+
+-- the log of the loop of a name, from the events that are settled and those behind them: a list of records in JSON with no spaces
+abbrev pub log_text : Name → List Noted → List Noted → List ℕ
+log_text x settled es = compact_text (array (items_of (records_behind x (vat_called x (settled ++ es)) settled es)))

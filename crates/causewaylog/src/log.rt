@@ -1,20 +1,22 @@
 // The log of a vat.
-ghost use Rattle.std.specs.Prelude.{◌≡◌, ◌++◌, map, IfOk, OnOk, string_bytes};
+ghost use Rattle.std.specs.Prelude.{◌≡◌, ◌++◌, map, Some, IfOk, OnOk, string_bytes};
 ghost use Rattle.erules.specs.OutboxView.{note_of};
 ghost use Rattle.journal.specs.Items.{item_of};
+ghost use Rattle.journal.specs.Journals.{items_of, settled_item};
+ghost use Rattle.book.specs.Books.{settled_lines, open_lines};
 ghost use Rattle.book.specs.BookView.{book_of};
 ghost use Rattle.serde_json.specs.View.{view};
 ghost use Rattle.causewaylog.specs.Facts.{facts_of};
 ghost use Rattle.causewaylog.specs.Live.{live_of};
-ghost use Rattle.causewaylog.specs.Log.{log_text, records_from, records_of, turns_called};
-ghost use Rattle.causewaylog.specs.Turns.{live_in, turns_of, vat_called};
+ghost use Rattle.causewaylog.specs.Log.{log_text, records_from, records_behind};
+ghost use Rattle.causewaylog.specs.Turns.{live_in, vat_called};
 
 use crate::facts::{anchor, of_got, of_note};
-use crate::turns::{got_by, vat_called};
+use crate::turns::{got_by, settled_turns, vat_called};
 use book::book::Book;
 use erules::outbox::Note;
 use ids::names::{MsgId, VatNo};
-use journal::entry::Entry;
+use journal::journal::Journal;
 use serde_json::Value;
 use std::alloc::{AllocError, Global};
 
@@ -38,18 +40,19 @@ fn add_turn(
     Ok(())
 }
 
-/// The records of the live turns of a vat, which are numbered from 1 in the journal's order.
+/// The records of the live turns of a vat that are not settled. Turns are numbered from 1 in the journal's order, those that are settled
+/// as well.
 fn records_of(
     alloc: Global,
-    entries: &[Entry],
+    journal: Journal,
     loop_name: &str,
     vat: VatNo,
 ) -> Result<Vec<Value>, AllocError>
-    ensures { IfOk result (λ all. map view all.items ≡ records_of loop_name.now 1 (turns_of vat (live_of (map item_of entries.now)))) }
+    ensures { IfOk result (λ all. map view all.items ≡ records_behind loop_name.now (Some vat) (live_of (map settled_item journal.entry.settled.now)) (live_of (map item_of journal.entry.entries.now))) }
 {
     let mut records = Vec::new(alloc);
-    let mut turns = 0;
-    for entry in entries {
+    let mut turns = settled_turns(journal.settled, vat);
+    for entry in journal.entries {
         if let Some(message) = got_by(entry, vat) {
             turns += 1;
             let notes = entry.notes.as_slice();
@@ -59,24 +62,24 @@ fn records_of(
     Ok(records)
 }
 
-/// The records of the live turns of the vat of this name: none where there is no such vat.
+/// The records of the live turns of the vat of this name that are not settled: none where there is no such vat.
 fn records_called(
     alloc: Global,
-    entries: &[Entry],
+    journal: Journal,
     loop_name: &str,
 ) -> Result<Vec<Value>, AllocError>
-    ensures { IfOk result (λ all. let es = live_of (map item_of entries.now) in map view all.items ≡ records_of loop_name.now 1 (turns_called (vat_called loop_name.now es) es)) }
+    ensures { IfOk result (λ all. map view all.items ≡ records_behind loop_name.now (vat_called loop_name.now (live_of (items_of journal.entry))) (live_of (map settled_item journal.entry.settled.now)) (live_of (map item_of journal.entry.entries.now))) }
 {
-    match vat_called(entries, loop_name) {
-        Some(vat) => records_of(alloc, entries, loop_name, vat),
+    match vat_called(journal, loop_name) {
+        Some(vat) => records_of(alloc, journal, loop_name, vat),
         None => Ok(Vec::new(alloc)),
     }
 }
 
-/// The log of the live turns of the vat of this name, as a list of records in JSON: empty where there is no such vat. Fails only for
-/// want of memory.
+/// The log of the live turns of the vat of this name that are not settled, as a list of records in JSON: empty where there is no such
+/// vat. Fails only for want of memory.
 pub fn log_of(alloc: Global, book: &Book, loop_name: &str) -> Result<String, AllocError>
-    ensures { IfOk result (λ text. string_bytes text ≡ log_text loop_name.now (live_in (book_of book.now).journal)) }
+    ensures { IfOk result (λ text. string_bytes text ≡ log_text loop_name.now (live_in (settled_lines (book_of book.now))) (live_in (open_lines (book_of book.now)))) }
 {
     let records = records_called(alloc, book.journal(), loop_name)?;
     Value::from(records).to_string(alloc)

@@ -9,9 +9,9 @@ use Rattle.commands.specs.declared.command.LineFault.{LineFault}
 use Rattle.commands.specs.declared.numbers.PromiseName.{PromiseName}
 use Rattle.commands.specs.Words.{is_blank, is_bare, ends_blank, without_blanks, first_word, behind_word, words_in}
 use Rattle.commands.specs.Numbers.{number_of, message_named, promise_named, event_named, events_named, one_or_more}
-use Rattle.commands.specs.Commands.{Spelled, birth, ask, arrive, forward, learn, turn, step, run, work, enabled, show, journal, log, cone, undo, undo_cone, redo, exchange, is_vat_name, vat_named, log_of, are_vats, at_most, is_empty, of_message, of_event, of_events, learn_of, run_of, from_one_to, work_with, work_of, alone, exchange_of, ask_of, birth_of, formed, begun_by, is_skipped, spelled_by}
+use Rattle.commands.specs.Commands.{Spelled, birth, ask, arrive, forward, learn, turn, step, run, work, enabled, show, journal, log, cone, undo, undo_cone, redo, exchange, settle, is_vat_name, vat_named, log_of, are_vats, at_most, is_empty, of_message, of_event, of_events, learn_of, run_of, from_one_to, work_with, work_of, alone, of_position, ask_of, birth_of, formed, begun_by, is_skipped, spelled_by}
 use Rattle.commands.specs.Inputs.{HasWords}
-use Rattle.commands.specs.Spells.{Spells, BeginsWithWord, BeginsCommand, spells_birth, spells_ask, spells_arrive, spells_forward, spells_turn, spells_learn, spells_run, spells_work, spells_step, spells_enabled, spells_show, spells_journal, spells_log, spells_cone, spells_undo_cone, spells_undo, spells_redo, spells_exchange, LinesSpellCommands}
+use Rattle.commands.specs.Spells.{Spells, BeginsWithWord, BeginsCommand, spells_birth, spells_ask, spells_arrive, spells_forward, spells_turn, spells_learn, spells_run, spells_work, spells_step, spells_enabled, spells_show, spells_journal, spells_log, spells_cone, spells_undo_cone, spells_undo, spells_redo, spells_exchange, spells_settle, LinesSpellCommands}
 use Rattle.commands.proofs.Wording.{behind, blanks_gone, words_behind_blanks, words_cut}
 use Rattle.commands.proofs.WordTexts.{words_are_told}
 use Rattle.commands.proofs.WordCuts.{told_word, cut_word, told_command, cut_command, same_skipped}
@@ -175,6 +175,7 @@ spelled line command (spells_undo_cone {w = w} {e = e} has n) = spelled_one even
 spelled line command (spells_undo {w = w} {ws = ws} {events = events} has n) = spelled_events undo line (codes "undo") w ws events refl (λ rest. refl) has n
 spelled line command (spells_redo {w = w} {ws = ws} {events = events} has n) = spelled_events redo line (codes "redo") w ws events refl (λ rest. refl) has n
 spelled line command (spells_exchange {w = w} {n = n} has e) = spelled_one number_of exchange line (codes "exchange") w n refl (λ rest. refl) has e
+spelled line command (spells_settle {w = w} {n = n} has e) = spelled_one number_of settle line (codes "settle") w n refl (λ rest. refl) has e
 
 -- the first word of a line
 abbrev head_of : List ℕ → List ℕ
@@ -351,7 +352,8 @@ found line c some e =
     branch (bytes_eq w (codes "undo")) (of_events undo r) _ c e14 (λ t h. events_back undo line (codes "undo") c (λ es v us k n. spells_undo k n) (has (codes "undo") t) h) (λ e15.
     branch (bytes_eq w (codes "undo-cone")) (of_event undo_cone r) _ c e15 (λ t h. one_back event_named undo_cone line (codes "undo-cone") c (λ v x k n. spells_undo_cone k n) (has (codes "undo-cone") t) refl h) (λ e16.
     branch (bytes_eq w (codes "redo")) (of_events redo r) _ c e16 (λ t h. events_back redo line (codes "redo") c (λ es v us k n. spells_redo k n) (has (codes "redo") t) h) (λ e17.
-    branch (bytes_eq w (codes "exchange")) (exchange_of r) _ c e17 (λ t h. one_back number_of exchange line (codes "exchange") c (λ v x k n. spells_exchange k n) (has (codes "exchange") t) refl h) (λ e18. absurd (cc e18)))))))))))))))))))
+    branch (bytes_eq w (codes "exchange")) (of_position exchange r) _ c e17 (λ t h. one_back number_of exchange line (codes "exchange") c (λ v x k n. spells_exchange k n) (has (codes "exchange") t) refl h) (λ e18.
+    branch (bytes_eq w (codes "settle")) (of_position settle r) _ c e18 (λ t h. one_back number_of settle line (codes "settle") c (λ v x k n. spells_settle k n) (has (codes "settle") t) refl h) (λ e19. absurd (cc e19))))))))))))))))))))
 
 -- a line that is skipped is read as no command
 text_some : (text : List ℕ) → is_skipped text ≡ false → (length text == 0) ≡ false

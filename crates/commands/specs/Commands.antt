@@ -34,6 +34,7 @@ pub data Spelled : Type 0 where
   undo_cone : (e : EventName) → Spelled
   redo : (events : List EventName) → Spelled
   exchange : (position : ℕ) → Spelled
+  settle : (position : ℕ) → Spelled
 
 -- a name of the language that is no longer than a vat's name may be
 abbrev pub is_vat_name : List ℕ → Bool
@@ -135,9 +136,9 @@ of_event command words = cond (is_empty (behind_word words)) (option_map command
 abbrev pub of_events : (List EventName → Spelled) → List ℕ → Option Spelled
 of_events command words = option_map command (one_or_more (words_in words))
 
--- exchange P
-abbrev pub exchange_of : List ℕ → Option Spelled
-exchange_of words = cond (is_empty (behind_word words)) (option_map exchange (number_of (first_word words))) None
+-- a command of one position
+abbrev pub of_position : (ℕ → Spelled) → List ℕ → Option Spelled
+of_position command words = cond (is_empty (behind_word words)) (option_map command (number_of (first_word words))) None
 
 abbrev pub formed : Option Spelled → Result (Option Spelled) LineFault
 formed (Some command) = Ok (Some command)
@@ -163,7 +164,8 @@ begun_by word words =
     (cond (bytes_eq word (codes "undo")) (formed (of_events undo words))
     (cond (bytes_eq word (codes "undo-cone")) (formed (of_event undo_cone words))
     (cond (bytes_eq word (codes "redo")) (formed (of_events redo words))
-    (cond (bytes_eq word (codes "exchange")) (formed (exchange_of words)) (Err UnknownCommand))))))))))))))))))
+    (cond (bytes_eq word (codes "exchange")) (formed (of_position exchange words))
+    (cond (bytes_eq word (codes "settle")) (formed (of_position settle words)) (Err UnknownCommand)))))))))))))))))))
 
 -- a blank line or a comment is no command
 abbrev pub is_skipped : List ℕ → Bool
@@ -196,6 +198,7 @@ command_of (code.Undo events) = undo events.items
 command_of (code.UndoCone e) = undo_cone e
 command_of (code.Redo events) = redo events.items
 command_of (code.Exchange position) = exchange position
+command_of (code.Settle position) = settle position
 
 abbrev pub reading_of : Result (Option Command) LineFault → Result (Option Spelled) LineFault
 reading_of (Ok c) = Ok (option_map command_of c)

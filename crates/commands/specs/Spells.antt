@@ -8,7 +8,7 @@ use Rattle.commands.specs.Words.{is_blank, is_bare, ends_blank}
 use Rattle.commands.specs.Inputs.{IsWord, HasWords}
 use Rattle.commands.specs.Numbers.{number_of, message_named, promise_named, event_named, events_named}
 use Rattle.commands.specs.declared.numbers.PromiseName.{PromiseName}
-use Rattle.commands.specs.Commands.{Spelled, birth, ask, arrive, forward, learn, turn, step, run, work, enabled, show, journal, log, cone, undo, undo_cone, redo, exchange, is_vat_name, are_vats, is_skipped, spelled_by}
+use Rattle.commands.specs.Commands.{Spelled, birth, ask, arrive, forward, learn, turn, step, run, work, enabled, show, journal, log, cone, undo, undo_cone, redo, exchange, settle, is_vat_name, are_vats, is_skipped, spelled_by}
 use Rattle.commands.specs.declared.command.LineFault.{LineFault}
 use Rattle.commands.specs.declared.command.LineFault.TheVariants.{UnknownCommand, BadWord}
 use Rattle.commands.specs.declared.command.TheConstants.{MOST_LINES, MOST_STEPS, MOST_WORKERS, MOST_TURNS}
@@ -63,8 +63,9 @@ pub data Spells : List ℕ → Spelled → Type 0 where
       → HasWords line (codes "undo" ∷ w ∷ ws) → events_named (w ∷ ws) ≡ Some events → Spells line (undo events)
   spells_redo : {line w : List ℕ} {ws : List (List ℕ)} {events : List EventName}
       → HasWords line (codes "redo" ∷ w ∷ ws) → events_named (w ∷ ws) ≡ Some events → Spells line (redo events)
-  -- exchange P
+  -- exchange P, settle P
   spells_exchange : {line w : List ℕ} {n : ℕ} → HasWords line (codes "exchange" ∷ w ∷ []) → number_of w ≡ Some n → Spells line (exchange n)
+  spells_settle : {line w : List ℕ} {n : ℕ} → HasWords line (codes "settle" ∷ w ∷ []) → number_of w ≡ Some n → Spells line (settle n)
 
 -- a line is read as the command that it spells, and as no other
 abbrev pub LinesSpellCommands : Type 0
@@ -83,7 +84,7 @@ LinesAreSkipped = (line : List ℕ) → HasNoCommand line ↔ (spelled_by line �
 abbrev pub command_words : List (List ℕ)
 command_words =
     codes "vat" ∷ codes "ask" ∷ codes "arrive" ∷ codes "forward" ∷ codes "learn" ∷ codes "turn" ∷ codes "step" ∷ codes "run" ∷ codes "work"
-    ∷ codes "enabled" ∷ codes "show" ∷ codes "journal" ∷ codes "log" ∷ codes "cone" ∷ codes "undo" ∷ codes "undo-cone" ∷ codes "redo" ∷ codes "exchange" ∷ []
+    ∷ codes "enabled" ∷ codes "show" ∷ codes "journal" ∷ codes "log" ∷ codes "cone" ∷ codes "undo" ∷ codes "undo-cone" ∷ codes "redo" ∷ codes "exchange" ∷ codes "settle" ∷ []
 
 abbrev pub is_command_word : List ℕ → Bool
 is_command_word word = list_any (λ v. bytes_eq word v) command_words

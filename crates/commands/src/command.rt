@@ -1,10 +1,10 @@
 // Commands, as lines spell them.
-ghost use Rattle.std.specs.Prelude.{◌≡◌, map, Some, IfOk};
+ghost use Rattle.std.specs.Prelude.{◌≡◌, ℕ, map, Some, IfOk};
 ghost use Rattle.std.specs.Option.{option_map, option_and_then};
 ghost use Rattle.commands.specs.Numbers.{number_of};
 ghost use Rattle.ids.specs.declared.names.EventName.{EventName};
 ghost use Rattle.ids.specs.declared.names.MsgId.{MsgId};
-ghost use Rattle.commands.specs.Commands.{Spelled, is_vat_name, at_most, from_one_to, is_among, are_vats, earlier_of, lines_of, birth_of, ask_of, arrive, forward, learn_of, turn, step, run_of, work_of, enabled, show, journal, log_of, cone, undo, undo_cone, redo, exchange, exchange_of, alone, of_message, of_event, of_events, is_skipped, begun_by, spelled_by, command_of, reading_of, fault_text};
+ghost use Rattle.commands.specs.Commands.{Spelled, is_vat_name, at_most, from_one_to, is_among, are_vats, earlier_of, lines_of, birth_of, ask_of, arrive, forward, learn_of, turn, step, run_of, work_of, enabled, show, journal, log_of, cone, undo, undo_cone, redo, exchange, settle, of_position, alone, of_message, of_event, of_events, is_skipped, begun_by, spelled_by, command_of, reading_of, fault_text};
 
 use crate::numbers::{
     PromiseName, behind_tag, event_named, events_named, message_named, number, promise_named,
@@ -79,6 +79,8 @@ pub enum Command<'a> {
     Redo(Vec<EventName>),
     /// The entry at a position, counted from 1, and the one behind it are to change places.
     Exchange(usize),
+    /// All entries up to a position, counted from 1, are to be settled.
+    Settle(usize),
 }
 
 /// Why a line is no command.
@@ -361,14 +363,27 @@ fn redo(alloc: Global, words: &str) -> Result<Option<Command<'_>>, AllocError>
     }
 }
 
-fn exchange(words: &str) -> Option<Command<'_>>
-    ensures { option_map command_of result ≡ exchange_of words.now }
+/// The one position that words name.
+fn position_named(words: &str) -> Option<usize>
+    ensures { (command : ℕ → Spelled) → option_map command result ≡ of_position command words.now }
 {
     let (position, end) = cut_word(words);
     if !end.is_empty() {
         return None;
     }
-    Some(Command::Exchange(number(position)? as usize))
+    Some(number(position)? as usize)
+}
+
+fn exchange(words: &str) -> Option<Command<'_>>
+    ensures { option_map command_of result ≡ of_position exchange words.now }
+{
+    Some(Command::Exchange(position_named(words)?))
+}
+
+fn settle(words: &str) -> Option<Command<'_>>
+    ensures { option_map command_of result ≡ of_position settle words.now }
+{
+    Some(Command::Settle(position_named(words)?))
 }
 
 fn is_skipped(text: &[u8]) -> bool
@@ -406,6 +421,7 @@ fn begun_by<'a>(alloc: Global, word: &str, words: &'a str) -> Result<Said<'a>, A
         "undo-cone" => undo_cone(words),
         "redo" => redo(alloc, words)?,
         "exchange" => exchange(words),
+        "settle" => settle(words),
         _ => return Ok(Err(LineFault::UnknownCommand)),
     };
     match command {

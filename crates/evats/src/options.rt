@@ -35,6 +35,7 @@ Commands, one a line:
   undo-cone E               takes an event back with all its consequences
   redo E..                  does events again where they stood
   exchange P                lets the entry at position P and the next one change places
+  settle P                  settles the entries up to position P, which can then not be taken back
 
 For example:
   vat a () 1

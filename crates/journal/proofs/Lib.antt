@@ -1,6 +1,8 @@
 pub mod Among
 pub mod Reversed
 pub mod Touching
+pub mod Touched
+pub mod Settling
 pub mod Alike
 pub mod Telling
 pub mod Lifting

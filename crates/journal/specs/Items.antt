@@ -27,8 +27,12 @@ abbrev pub is_live : Mark → Bool
 is_live mark.Live = true
 is_live mark.Undone = false
 
+-- the number of a writer
+abbrev pub number_of : Option EventName → Option ℕ
+number_of writer = option_map (λ e. e.0) writer
+
 abbrev pub last_of : Touched → CellKey × Option ℕ
-last_of t = (t.key, option_map (λ (e : EventName). e.0) t.writer)
+last_of t = (t.key, number_of t.writer)
 
 abbrev pub lasts_of : List Touched → List (CellKey × Option ℕ)
 lasts_of touched = map last_of touched

@@ -1,3 +1,5 @@
 pub mod Items
 pub mod Lines
+pub mod Settled
+pub mod Journals
 pub mod Standing

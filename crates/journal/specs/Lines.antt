@@ -1,9 +1,9 @@
 -- What the journal tells: a line for each entry, the oldest first, with the names of all its causes.
-use Rattle.std.specs.Prelude.{ℕ, Bool, List, [], map, filter, reverse, Option}
+use Rattle.std.specs.Prelude.{ℕ, Bool, List, [], map, filter, reverse, Option, None, unwrap_or}
 use Rattle.std.specs.List.{list_any}
-use Rattle.history.specs.Subject.{Subject}
+use Rattle.history.specs.Subject.{Subject, found}
 use Rattle.history.specs.Journal.{Entry, is_in, caused}
-use Rattle.history.specs.Chains.{chain}
+use Rattle.history.specs.Chains.{wrote, chain, last_of}
 use Rattle.ids.specs.CellKeys.{same_key}
 use Rattle.ids.specs.declared.cells.CellKey.{CellKey}
 use Rattle.worldcells.specs.Events.{Noted}
@@ -25,6 +25,18 @@ entries_in lines = reverse (map (λ l. l.entry) lines)
 -- an item as an entry of which no cause is known
 abbrev pub bare : Item → Entry plain
 bare i = record { event = i.event; foot = record { reads = map (λ p. p.0) i.lasts; writes = map (λ r. (r.0, tt)) i.kept }; causes = []; live = i.live; lasts = i.lasts }
+
+-- the last writer of a cell, if it is one of these
+abbrev pub last_among : List (CellKey × Option ℕ) → CellKey → Option ℕ
+last_among lasts k = unwrap_or (found plain lasts k) None
+
+-- the last writer of a cell when an item was made
+abbrev pub writer_of : Item → CellKey → Option ℕ
+writer_of i k = last_of plain (bare i) k
+
+-- an item wrote a cell
+abbrev pub wrote_cell : Item → CellKey → Bool
+wrote_cell i k = wrote plain k (bare i)
 
 -- the names, the newest first, that are reached from a last writer of a cell: its own, that of the last writer of the cell before it, and so on
 abbrev pub reached : List Item → CellKey → Option ℕ → List ℕ

@@ -4,7 +4,8 @@ ghost use Rattle.std.specs.List.{list_any};
 ghost use Rattle.ids.specs.CellKeys.{same_key};
 ghost use Rattle.worldcells.specs.Records.{record_of};
 ghost use Rattle.worldcells.specs.Theory.{state_of_world};
-ghost use Rattle.journal.specs.Items.{item_of, lasts_of, wrote_one_of, may_exchange};
+ghost use Rattle.journal.specs.Items.{item_of, lasts_of, number_of, wrote_one_of, may_exchange};
+ghost use Rattle.journal.specs.Lines.{last_among};
 
 use erules::outbox::Note;
 use ids::cells::CellKey;
@@ -72,12 +73,43 @@ pub fn with_writers(
     Ok(all)
 }
 
+/// The last writer of a cell, if it is one of these.
+pub fn writer_among(touched: &[Touched], key: &CellKey) -> Option<EventName>
+    ensures { number_of result ≡ last_among (lasts_of touched.now) key.now }
+{
+    for cell in touched {
+        if cell.key == *key {
+            return cell.writer;
+        }
+    }
+    None
+}
+
 /// Whether a record is of one of these cells.
 fn is_touched(kept: &CellRecord, touched: &[Touched]) -> bool
     ensures { result ≡ list_any (λ q. same_key (record_of kept.now).0 q.0) (lasts_of touched.now) }
 {
     for cell in touched {
         if kept.is_of(&cell.key) {
+            return true;
+        }
+    }
+    false
+}
+
+/// Whether two keys are of one cell.
+fn is_same(key: &CellKey, other: &CellKey) -> bool
+    ensures { result ≡ same_key key.now other.now }
+{
+    *key == *other
+}
+
+/// Whether a cell is one of these.
+pub(crate) fn is_among(key: &CellKey, touched: &[Touched]) -> bool
+    ensures { result ≡ list_any (λ q. same_key key.now q.0) (lasts_of touched.now) }
+{
+    for cell in touched {
+        if is_same(key, &cell.key) {
             return true;
         }
     }

@@ -2,3 +2,5 @@
 #![tactic(auto)]
 
 pub mod entry;
+pub mod journal;
+pub mod settled;

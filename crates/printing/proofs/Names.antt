@@ -1,19 +1,23 @@
 -- Names of events, from their numbers, and the lines that have them as causes.
-use Rattle.std.proofs.Common.{◌≡◌, ℕ, List, [], ◌∷◌, map, Option, Some, refl, ap, ◌∙◌}
-use Rattle.std.specs.Option.{option_map}
-use Rattle.std.specs.List.{slice_get}
-use Rattle.std.proofs.lemmas.Option.{slice_get-map}
+use Rattle.std.proofs.Common.{◌≡◌, ℕ, Bool, cond, List, [], ◌∷◌, ◌++◌, length, drop, map, Option, Some, None, refl, sym, ap, ◌∙◌}
+use Rattle.std.proofs.Math.Logic.{∥∥₁_elim}
+use Rattle.std.proofs.Props.{props}
+use Rattle.std.specs.Ordering.{is_eq}
 use Rattle.ids.specs.declared.names.EventName.{EventName}
 use Rattle.ids.specs.declared.names.VatNo.{VatNo}
 use Rattle.kernele.specs.Tree.{Name}
 use Rattle.worldcells.specs.EventView.{act_of}
 use Rattle.worldcells.specs.declared.event.Action.{Action}
 use Rattle.worldcells.specs.declared.event.Action.TheVariants as action
-use Rattle.journal.specs.Items.{Item, item_of}
-use Rattle.journal.specs.Lines.{Line, line_of, lines_of}
-use Rattle.journal.specs.declared.entry.Entry.{Entry}
+use Rattle.ids.specs.Cells.{vat_cmp}
+use Rattle.worldcells.specs.Events.{Act, birth, ask, arrive, forward, learn, turn, event_in}
+use Rattle.journal.specs.Items.{Item}
+use Rattle.journal.specs.Journals.{settled_item}
+use Rattle.journal.specs.Lines.{line_of, causes_in}
+use Rattle.journal.specs.Settled.{newborn}
+use Rattle.journal.specs.declared.settled.Settled.{Settled}
 use Rattle.causality.specs.Selections.{numbers}
-use Rattle.printing.specs.Listing.{events_of, born_as}
+use Rattle.printing.specs.Listing.{events_of, born_by, born_as}
 use Rattle.printing.specs.ListingView.{line_with}
 
 -- the events of their own numbers
@@ -21,18 +25,9 @@ pub names_back : (names : List EventName) → events_of (numbers names) ≡ name
 names_back [] = refl
 names_back (e ∷ es) = ap (λ ns. e ∷ ns) (names_back es)
 
--- lines, from entries and not from their items
-pub lines_as : (items : List Item) (entries : List Entry) → map (λ e. line_of items (item_of e)) entries ≡ map (line_of items) (map item_of entries)
-lines_as items [] = refl
-lines_as items (e ∷ es) = ap (λ ls. line_of items (item_of e) ∷ ls) (lines_as items es)
-
--- the line of the entry at a position, from the names of its causes
-pub cause_line : (entries : List Entry) (i : ℕ) (e : Entry) (names : List EventName) → slice_get entries i ≡ Some e
-    → ((l : Line) → slice_get (lines_of (map item_of entries)) i ≡ Some l → numbers names ≡ l.entry.causes)
-    → line_with (numbers names) (item_of e) ≡ line_of (map item_of entries) (item_of e)
-cause_line entries i e names at causes =
-    let items = map item_of entries in
-    ap (λ ns. line_with ns (item_of e)) (causes (line_of items (item_of e)) (slice_get-map (line_of items) items i ∙ ap (option_map (line_of items)) (slice_get-map item_of entries i ∙ ap (option_map item_of) at)))
+-- the line of an item, from the names of its causes
+pub cause_line : (items : List Item) (i : Item) (names : List EventName) → numbers names ≡ causes_in items i → line_with (numbers names) i ≡ line_of items i
+cause_line items i names causes = ap (λ ns. line_with ns i) causes
 
 -- in another event no vat is born
 pub not_born : (v : VatNo) (e : EventName) (a : Action) (other : Option Name) → ((x : _) → (earlier : _) → (script : _) → a ≡ action.Birth x earlier script → ⊥) → born_as v (record { name = e; act = act_of a }) other ≡ other
@@ -42,3 +37,29 @@ not_born v e (action.Arrive m) other differs = refl
 not_born v e (action.Forward m) other differs = refl
 not_born v e (action.Learn w p) other differs = refl
 not_born v e (action.Turn w m budget) other differs = refl
+
+-- so it goes by the name of the vat that is born in it, if one is
+abbrev pub born_after : VatNo → EventName → Option Name → Option Name → Option Name
+born_after v e None other = other
+born_after v e (Some x) other = cond (is_eq (vat_cmp (record { 0 = e }) v)) (Some x) other
+
+newborn_told : (v : VatNo) (e : EventName) (a : Act) (other : Option Name) → born_by v e a other ≡ born_after v e (newborn a) other
+newborn_told v e (birth x earlier script) other = refl
+newborn_told v e (ask x program) other = refl
+newborn_told v e (arrive m) other = refl
+newborn_told v e (forward m) other = refl
+newborn_told v e (learn w p) other = refl
+newborn_told v e (turn w m budget) other = refl
+
+names_prop : (x y : Option Name) → IsProp (x ≡ y)
+names_prop = hlevel props
+
+-- the name of the vat that was born in a settled event
+pub settled_born : (v : VatNo) (s : Settled) (o : Option Name) (other : Option Name) → s.newborn ≡ o → born_after v s.name o other ≡ born_as v (event_in (settled_item s).event) other
+settled_born v s o other is = ∥∥₁_elim s.keeps (names_prop _ _) (λ k.
+    ap (λ n. born_after v s.name n other) (sym is ∙ k.birth) ∙ sym (newborn_told v s.name (settled_item s).event.act other))
+
+-- the lines behind what is settled
+pub lines_left : {A : Type 0} (f : Item → A) (ss : List Settled) (ys : List Item) → drop (length ss) (map f (map settled_item ss ++ ys)) ≡ map f ys
+lines_left f [] ys = refl
+lines_left f (s ∷ ss) ys = lines_left f ss ys

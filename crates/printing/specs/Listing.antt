@@ -1,5 +1,5 @@
 -- The journal and a cone as texts.
-use Rattle.std.specs.Prelude.{ℕ, ◌+◌, List, [], ◌∷◌, ◌++◌, map, Bool, true, false, cond, Option, Some, None, codes}
+use Rattle.std.specs.Prelude.{ℕ, zero, suc, ◌+◌, List, [], ◌∷◌, ◌++◌, map, drop, Bool, true, false, cond, Option, Some, None, codes}
 use Rattle.std.specs.Fmt.{decimal}
 use Rattle.std.specs.Ordering.{is_eq}
 use Rattle.ids.specs.Cells.{vat_cmp}
@@ -64,9 +64,14 @@ abbrev pub entry_lines : (VatNo → Option Name) → ℕ → List Line → List 
 entry_lines names position [] = []
 entry_lines names position (l ∷ ls) = entry_line names position l ++ entry_lines names (position + 1) ls
 
--- the entries in order, with their positions from 1
-abbrev pub journal_text : List Line → List ℕ
-journal_text lines = entry_lines (born lines) 1 lines
+-- base POSITION, if some entries are settled
+abbrev pub base_text : ℕ → List ℕ
+base_text zero = []
+base_text (suc n) = codes "base " ++ (decimal (suc n) ++ (10 ∷ []))
+
+-- how many entries are settled, and the others in order, with their positions, which are counted from 1
+abbrev pub journal_text : ℕ → List Line → List ℕ
+journal_text settled lines = base_text settled ++ entry_lines (born lines) (settled + 1) (drop settled lines)
 
 -- cone E..
 abbrev pub cone_text : List EventName → List ℕ

@@ -1,12 +1,14 @@
 // The journal and a cone as texts.
-ghost use Rattle.std.specs.Prelude.{◌≡◌, ◌++◌, map, IfOk, OnOk, string_bytes, option_copied};
+ghost use Rattle.std.specs.Prelude.{◌≡◌, ◌++◌, length, IfOk, OnOk, string_bytes, option_copied};
 ghost use Rattle.ids.specs.declared.names.VatNo.{VatNo};
 ghost use Rattle.worldcells.specs.EventView.{act_of, event_of};
+ghost use Rattle.worldcells.specs.Events.{event_in};
 ghost use Rattle.journal.specs.Items.{is_live, item_of};
+ghost use Rattle.journal.specs.Journals.{items_of, settled_item};
 ghost use Rattle.journal.specs.Lines.{lines_of};
 ghost use Rattle.causality.specs.Journals.{IsJournal};
 ghost use Rattle.causality.specs.Selections.{numbers};
-ghost use Rattle.printing.specs.Listing.{born, born_as, act_text, learn_text, mark_text, names_text, entry_line, journal_text, cone_text};
+ghost use Rattle.printing.specs.Listing.{born, born_as, act_text, learn_text, mark_text, names_text, entry_line, base_text, journal_text, cone_text};
 ghost use Rattle.printing.specs.ListingView.{line_with};
 ghost use Rattle.printing.specs.Show.{name_of};
 
@@ -14,6 +16,8 @@ use causality::causes::{NameIndex, causes};
 use ids::names::{EventName, PromId, VatNo};
 use ids::text::Text;
 use journal::entry::{Entry, Mark};
+use journal::journal::Journal;
+use journal::settled::Settled;
 use std::alloc::{AllocError, Global};
 use std::collections::BTreeMap;
 use worldcells::event::{Action, Event};
@@ -99,27 +103,55 @@ fn note_birth(vats: &mut BTreeMap<VatNo, Text>, event: &Event) -> Result<(), All
     }
 }
 
+/// Notes the name of the vat that was born in a settled event, if one was.
+fn note_settled_birth(vats: &mut BTreeMap<VatNo, Text>, settled: &Settled) -> Result<(), AllocError>
+    ensures { OnOk result ((v : VatNo) → name_of vats.new.entries v ≡ born_as v (event_in (settled_item settled.now).event) (name_of vats.old.entries v)) }
+{
+    match &settled.newborn {
+        Some(name) => {
+            vats.insert(VatNo(settled.name), name.share()?)?;
+            Ok(())
+        }
+        None => Ok(()),
+    }
+}
+
 /// The names of the vats that were born, also of births that are undone.
-fn vats_born(alloc: Global, entries: &[Entry]) -> Result<BTreeMap<VatNo, Text>, AllocError>
-    ensures { IfOk result (λ vats. (v : VatNo) → name_of vats.entries v ≡ born (lines_of (map item_of entries.now)) v) }
+fn vats_born(alloc: Global, journal: Journal) -> Result<BTreeMap<VatNo, Text>, AllocError>
+    ensures { IfOk result (λ vats. (v : VatNo) → name_of vats.entries v ≡ born (lines_of (items_of journal.entry)) v) }
 {
     let mut vats = BTreeMap::new(alloc);
-    for entry in entries {
+    for settled in journal.settled {
+        note_settled_birth(&mut vats, settled)?;
+    }
+    for entry in journal.entries {
         note_birth(&mut vats, &entry.event)?;
     }
     Ok(vats)
 }
 
-/// Writes a journal, a line for each entry, with its position from 1.
-pub fn write_journal(alloc: Global, entries: &[Entry], out: &mut String) -> Result<(), AllocError>
-    requires { IsJournal (map item_of entries.now) }
-    ensures { OnOk result (string_bytes out.new ≡ string_bytes out.old ++ journal_text (lines_of (map item_of entries.now))) }
+/// Writes how many entries are settled, if some are.
+fn write_base(count: usize, out: &mut String) -> Result<(), AllocError>
+    ensures { OnOk result (string_bytes out.new ≡ string_bytes out.old ++ base_text count) }
 {
-    let index = NameIndex::new(alloc, entries)?;
-    let vats = vats_born(alloc, entries)?;
-    for (position, entry) in entries.iter().enumerate() {
-        let causes = causes(alloc, entries, &index, position)?;
-        write_entry(position + 1, entry, &causes, &vats, out)?;
+    if count == 0 {
+        return Ok(());
+    }
+    write!(out, "base {count}\n")
+}
+
+/// Writes a journal: how many entries are settled, if some are, and a line for each of the others, with its position from 1.
+pub fn write_journal(alloc: Global, journal: Journal, out: &mut String) -> Result<(), AllocError>
+    requires { IsJournal (items_of journal) }
+    ensures { OnOk result (string_bytes out.new ≡ string_bytes out.old ++ journal_text (length journal.entry.settled.now) (lines_of (items_of journal.entry))) }
+{
+    let base = journal.settled.len();
+    let index = NameIndex::new(alloc, journal)?;
+    let vats = vats_born(alloc, journal)?;
+    write_base(base, out)?;
+    for (place, entry) in journal.entries.iter().enumerate() {
+        let causes = causes(alloc, journal, &index, place)?;
+        write_entry(base + place + 1, entry, &causes, &vats, out)?;
     }
     Ok(())
 }

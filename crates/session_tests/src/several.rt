@@ -1,9 +1,9 @@
 // Texts of commands for several vats, with the replies that their authors are promised.
 
-use crate::expecting::expect_sessions;
+use crate::expecting::{expect_session, expect_sessions};
 
 /// What is sent on a passed copy comes after what was sent before on the original.
-const E_ORDER: &str = r#"> vat carol () 1
+pub(crate) const E_ORDER: &str = r#"> vat carol () 1
 > def _ { method x() { 1 } method w() { 2 } }
 ok e1 e1.m0
 > turn e1.m0
@@ -284,39 +284,7 @@ learn alice e3.p0
 learn alice e8.p1"#;
 
 /// A vat is undone with all that came of it, and redone.
-const BIRTH_UNDONE: &str = r#"> vat carol () 1
-> def _ { method x() { 1 } method w() { 2 } }
-ok e1 e1.m0
-> turn e1.m0
-ok e2 value <e2.o0>
-> vat bob () 1
-> def _ { method y(c) { c <- w() } }
-ok e3 e3.m0
-> turn e3.m0
-ok e4 value <e4.o0>
-> vat alice (carol bob) 0
-ok e5 e5.m0
-> turn e5.m0
-ok e6 value null
-> ask alice carol <- x(); bob <- y(carol)
-ok e7 e7.m0
-> turn e7.m0
-ok e8 value <e8.p1>
-> arrive e8.m1
-ok e9
-> turn e8.m1
-ok e10 value <e10.p0>
-> arrive e10.m0
-ok e11
-> turn e10.m0
-no B6 Before e8.m0
-> arrive e8.m0
-ok e12
-> turn e8.m0
-ok e13 value 1
-> turn e10.m0
-ok e14 value 2
-> undo-cone e1
+const BIRTH_UNDONE: &str = r#"> undo-cone e1
 ok undone 12
 > show
 vat bob e3
@@ -358,39 +326,7 @@ board e8.p1 = <e10.p0>
 board e10.p0 = 2"#;
 
 /// An undone turn whose message was run anew does not come back.
-const CROSSED: &str = r#"> vat carol () 1
-> def _ { method x() { 1 } method w() { 2 } }
-ok e1 e1.m0
-> turn e1.m0
-ok e2 value <e2.o0>
-> vat bob () 1
-> def _ { method y(c) { c <- w() } }
-ok e3 e3.m0
-> turn e3.m0
-ok e4 value <e4.o0>
-> vat alice (carol bob) 0
-ok e5 e5.m0
-> turn e5.m0
-ok e6 value null
-> ask alice carol <- x(); bob <- y(carol)
-ok e7 e7.m0
-> turn e7.m0
-ok e8 value <e8.p1>
-> arrive e8.m1
-ok e9
-> turn e8.m1
-ok e10 value <e10.p0>
-> arrive e10.m0
-ok e11
-> turn e10.m0
-no B6 Before e8.m0
-> arrive e8.m0
-ok e12
-> turn e8.m0
-ok e13 value 1
-> turn e10.m0
-ok e14 value 2
-> undo-cone e10
+const CROSSED: &str = r#"> undo-cone e10
 ok undone 3
 > turn e8.m1
 ok e15 value <e15.p0>
@@ -398,39 +334,7 @@ ok e15 value <e15.p0>
 no B16 Crossed e15 e10"#;
 
 /// A redo without its cause is refused.
-const CAUSE_MISSING: &str = r#"> vat carol () 1
-> def _ { method x() { 1 } method w() { 2 } }
-ok e1 e1.m0
-> turn e1.m0
-ok e2 value <e2.o0>
-> vat bob () 1
-> def _ { method y(c) { c <- w() } }
-ok e3 e3.m0
-> turn e3.m0
-ok e4 value <e4.o0>
-> vat alice (carol bob) 0
-ok e5 e5.m0
-> turn e5.m0
-ok e6 value null
-> ask alice carol <- x(); bob <- y(carol)
-ok e7 e7.m0
-> turn e7.m0
-ok e8 value <e8.p1>
-> arrive e8.m1
-ok e9
-> turn e8.m1
-ok e10 value <e10.p0>
-> arrive e10.m0
-ok e11
-> turn e10.m0
-no B6 Before e8.m0
-> arrive e8.m0
-ok e12
-> turn e8.m0
-ok e13 value 1
-> turn e10.m0
-ok e14 value 2
-> undo-cone e10
+const CAUSE_MISSING: &str = r#"> undo-cone e10
 ok undone 3
 > redo e14
 no B17 CauseMissing e14 e10"#;
@@ -526,11 +430,16 @@ fn several_vats(rt: HostRuntime) {
         WHEN_BROKEN,
         RING,
         ARRIVAL_UNDONE,
-        BIRTH_UNDONE,
-        CROSSED,
-        CAUSE_MISSING,
         OWN_MESSAGE,
         TO_THE_END,
     ];
     expect_sessions(&rt, &sessions);
+}
+
+/// What can be undone and redone behind the turns in E-order.
+#[test]
+fn turns_in_e_order_are_undone(rt: HostRuntime) {
+    for behind in [BIRTH_UNDONE, CROSSED, CAUSE_MISSING] {
+        expect_session(&rt, &[E_ORDER, behind]);
+    }
 }

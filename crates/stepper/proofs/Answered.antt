@@ -16,9 +16,9 @@ use Rattle.agenda.specs.declared.agenda.Step.TheVariants as step
 use Rattle.journal.specs.Lines.{Line}
 use Rattle.causality.specs.Exact.{Cone}
 use Rattle.book.specs.Refusals.{Refusal}
-use Rattle.book.specs.Refusals.{birth_refusal, ask_refusal, arrival_refusal, forward_refusal, learning_refusal, checkout_refusal, undo_refusal, redo_refusal, cone_refusal, exchange_refusal}
-use Rattle.book.specs.Books.{Book}
-use Rattle.book.specs.Calls.{EntersNext, TurnsNext, Undoes, Redoes, Exchanges, StoodAt}
+use Rattle.book.specs.Refusals.{birth_refusal, ask_refusal, arrival_refusal, forward_refusal, learning_refusal, checkout_refusal, undo_refusal, redo_refusal, cone_refusal, exchange_refusal, settle_refusal}
+use Rattle.book.specs.Books.{Book, settled_lines, open_lines}
+use Rattle.book.specs.Calls.{EntersNext, TurnsNext, Undoes, Redoes, Exchanges, Settles, StoodAt}
 use Rattle.ids.specs.declared.names.EventName.{EventName}
 use Rattle.ids.specs.declared.names.MsgId.{MsgId}
 use Rattle.ids.specs.declared.names.PromId.{PromId}
@@ -35,7 +35,7 @@ use Rattle.commands.specs.Commands as commands
 use Rattle.commands.specs.Commands.{Spelled, fault_text}
 use Rattle.commands.specs.Scripts.{script_of, behind_lines}
 use Rattle.commands.specs.declared.command.LineFault.{LineFault}
-use Rattle.stepper.specs.Replies.{refused, Answers, ask_without_memory, asked_without_memory, asked_unread, ask_refused, Moves, move_without_memory, arrival_refused, arrives, forwarding_refused, forwards, turn_without_memory_named, turn_refused, turns, learning_refused, learns, learn_without_memory, learn_refused, learn_accepted, EnabledIn, enabled, enabled_without_memory, done_text, count_of, undone_text, redone_text, listed, logged, logged_text, cone_found, undo_cone_found, cone_without_memory, cone_refused, undo_without_memory, undo_refused, undo_accepted, undo_cone_without_memory, undo_cone_refused, redo_without_memory, redo_refused, redo_accepted, exchange_without_memory, exchange_refused, exchange_accepted, exchanged_text, AnswersBirth, birth_without_memory, script_without_memory, script_unread, birth_refused, birth_accepted, ask_accepted, queued_text, turned_text, FirstReply, born, answered, script_refused}
+use Rattle.stepper.specs.Replies.{refused, Answers, ask_without_memory, asked_without_memory, asked_unread, ask_refused, Moves, move_without_memory, arrival_refused, arrives, forwarding_refused, forwards, turn_without_memory_named, turn_refused, turns, learning_refused, learns, learn_without_memory, learn_refused, learn_accepted, EnabledIn, enabled, enabled_without_memory, done_text, count_of, undone_text, redone_text, listed, logged, logged_text, cone_found, undo_cone_found, cone_without_memory, cone_refused, undo_without_memory, undo_refused, undo_accepted, undo_cone_without_memory, undo_cone_refused, redo_without_memory, redo_refused, redo_accepted, exchange_without_memory, exchange_refused, exchange_accepted, settle_without_memory, settle_refused, settle_accepted, exchanged_text, settled_text, AnswersBirth, birth_without_memory, script_without_memory, script_unread, birth_refused, birth_accepted, ask_accepted, queued_text, turned_text, FirstReply, born, answered, script_refused}
 use Rattle.causewaylog.specs.Turns.{live_in}
 use Rattle.causewaylog.specs.Log.{log_text}
 pub use Rattle.printing.proofs.Listings.{on_ok}
@@ -155,11 +155,11 @@ module _ (budget : ℕ) (b : Book) where
       unturned f d (λ z. Moves budget b (step.Turn m) (refused (book.fault_text f)) true z) stays (move_fails (checkout_refusal b m budget) (λ r e. turn_refused e) f t refl) (named_told {m = m} f)
 
   -- the journal as it is
-  pub all_listed : {lines : List Line} → lines ≡ b.journal → Answers budget b commands.journal (journal_text lines) false b
-  all_listed same = subst (λ ls. Answers budget b commands.journal (journal_text ls) false b) (sym same) listed
+  pub all_listed : {n : ℕ} {lines : List Line} → n ≡ b.settled → lines ≡ b.journal → Answers budget b commands.journal (journal_text n lines) false b
+  all_listed {lines = lines} many same = subst (λ m. Answers budget b commands.journal (journal_text m lines) false b) (sym many) (subst (λ ls. Answers budget b commands.journal (journal_text b.settled ls) false b) (sym same) listed)
 
   -- the log of a vat
-  pub vat_logged : {x log text : List ℕ} → text ≡ log → log ≡ log_text x (live_in b.journal) → Answers budget b (commands.log x) (logged_text text) false b
+  pub vat_logged : {x log text : List ℕ} → text ≡ log → log ≡ log_text x (live_in (settled_lines b)) (live_in (open_lines b)) → Answers budget b (commands.log x) (logged_text text) false b
   vat_logged {x = x} same is = subst (λ t. Answers budget b (commands.log x) (logged_text t) false b) (sym (same ∙ is)) logged
 
   -- all that may be done, as the world shows it
@@ -172,50 +172,59 @@ module _ (budget : ℕ) (b : Book) where
   pub none_enabled : {d : Book} → d ≡ b → Answers budget b commands.enabled (refused (codes "B20 Memory")) true d
   none_enabled same = subst (λ z. Answers budget b commands.enabled (refused (codes "B20 Memory")) true z) (sym same) enabled_without_memory
 
-  pub cone_done : {e : EventName} {names events : List EventName} → names ≡ events → (cone_refusal b.journal e ≡ None) × Cone b.journal e events
+  pub cone_done : {e : EventName} {names events : List EventName} → names ≡ events → (cone_refusal b.settled b.journal e ≡ None) × Cone b.journal e events
       → Answers budget b (commands.cone e) (cone_text names) false b
   cone_done {e = e} same (none, cone) = subst (λ es. Answers budget b (commands.cone e) (cone_text es) false b) (sym same) (cone_found none cone)
 
   -- the cone is undone as if its events were named
-  pub cone_undone : {e : EventName} {names events : List EventName} {d : Book} {reply : List ℕ} {refusal : Bool} → names ≡ events → (cone_refusal b.journal e ≡ None) × Cone b.journal e events
+  pub cone_undone : {e : EventName} {names events : List EventName} {d : Book} {reply : List ℕ} {refusal : Bool} → names ≡ events → (cone_refusal b.settled b.journal e ≡ None) × Cone b.journal e events
       → Answers budget b (commands.undo names) reply refusal d → Answers budget b (commands.undo_cone e) reply refusal d
   cone_undone {d = d} {reply = reply} {refusal = refusal} same (none, cone) h = undo_cone_found none cone (subst (λ es. Answers budget b (commands.undo es) reply refusal d) same h)
 
-  pub cone_fails : {e : EventName} (f : BookFault) → Tells f (cone_refusal b.journal e) → Answers budget b (commands.cone e) (refused (book.fault_text f)) true b
-  cone_fails {e = e} f t = told f (cone_refusal b.journal e) (λ words. Answers budget b (commands.cone e) (refused words) true b) t (λ r h. cone_refused h) cone_without_memory
+  pub cone_fails : {e : EventName} (f : BookFault) → Tells f (cone_refusal b.settled b.journal e) → Answers budget b (commands.cone e) (refused (book.fault_text f)) true b
+  cone_fails {e = e} f t = told f (cone_refusal b.settled b.journal e) (λ words. Answers budget b (commands.cone e) (refused words) true b) t (λ r h. cone_refused h) cone_without_memory
 
-  pub undo_cone_fails : {e : EventName} (f : BookFault) → Tells f (cone_refusal b.journal e) → Answers budget b (commands.undo_cone e) (refused (book.fault_text f)) true b
-  undo_cone_fails {e = e} f t = told f (cone_refusal b.journal e) (λ words. Answers budget b (commands.undo_cone e) (refused words) true b) t (λ r h. undo_cone_refused h) undo_cone_without_memory
+  pub undo_cone_fails : {e : EventName} (f : BookFault) → Tells f (cone_refusal b.settled b.journal e) → Answers budget b (commands.undo_cone e) (refused (book.fault_text f)) true b
+  undo_cone_fails {e = e} f t = told f (cone_refusal b.settled b.journal e) (λ words. Answers budget b (commands.undo_cone e) (refused words) true b) t (λ r h. undo_cone_refused h) undo_cone_without_memory
 
-  undo_told : (events : List EventName) (f : BookFault) → Tells f (undo_refusal b.journal events) → Answers budget b (commands.undo events) (refused (book.fault_text f)) true b
-  undo_told events f t = told f (undo_refusal b.journal events) (λ words. Answers budget b (commands.undo events) (refused words) true b) t (λ r h. undo_refused h) undo_without_memory
+  undo_told : (events : List EventName) (f : BookFault) → Tells f (undo_refusal b.settled b.journal events) → Answers budget b (commands.undo events) (refused (book.fault_text f)) true b
+  undo_told events f t = told f (undo_refusal b.settled b.journal events) (λ words. Answers budget b (commands.undo events) (refused words) true b) t (λ r h. undo_refused h) undo_without_memory
 
-  pub undo_fails : {events : List EventName} (f : BookFault) {d : Book} → Tells f (undo_refusal b.journal events) → d ≡ b → Answers budget b (commands.undo events) (refused (book.fault_text f)) true d
+  pub undo_fails : {events : List EventName} (f : BookFault) {d : Book} → Tells f (undo_refusal b.settled b.journal events) → d ≡ b → Answers budget b (commands.undo events) (refused (book.fault_text f)) true d
   undo_fails {events = events} f t stays = subst (λ z. Answers budget b (commands.undo events) (refused (book.fault_text f)) true z) (sym stays) (undo_told events f t)
 
-  pub undo_done : {events : List EventName} {d : Book} {count : ℕ} → (undo_refusal b.journal events ≡ None) × Undoes events b d × (count ≡ count_of events b.journal)
+  pub undo_done : {events : List EventName} {d : Book} {count : ℕ} → (undo_refusal b.settled b.journal events ≡ None) × Undoes events b d × (count ≡ count_of events b.journal)
       → Answers budget b (commands.undo events) (undone_text count) false d
   undo_done {events = events} {d = d} (none, undoes, same) = subst (λ n. Answers budget b (commands.undo events) (undone_text n) false d) (sym same) (undo_accepted none undoes)
 
-  redo_told : (events : List EventName) (f : BookFault) → Tells f (redo_refusal b.journal events) → Answers budget b (commands.redo events) (refused (book.fault_text f)) true b
-  redo_told events f t = told f (redo_refusal b.journal events) (λ words. Answers budget b (commands.redo events) (refused words) true b) t (λ r h. redo_refused h) redo_without_memory
+  redo_told : (events : List EventName) (f : BookFault) → Tells f (redo_refusal b.settled b.journal events) → Answers budget b (commands.redo events) (refused (book.fault_text f)) true b
+  redo_told events f t = told f (redo_refusal b.settled b.journal events) (λ words. Answers budget b (commands.redo events) (refused words) true b) t (λ r h. redo_refused h) redo_without_memory
 
-  pub redo_fails : {events : List EventName} (f : BookFault) {d : Book} → Tells f (redo_refusal b.journal events) → d ≡ b → Answers budget b (commands.redo events) (refused (book.fault_text f)) true d
+  pub redo_fails : {events : List EventName} (f : BookFault) {d : Book} → Tells f (redo_refusal b.settled b.journal events) → d ≡ b → Answers budget b (commands.redo events) (refused (book.fault_text f)) true d
   redo_fails {events = events} f t stays = subst (λ z. Answers budget b (commands.redo events) (refused (book.fault_text f)) true z) (sym stays) (redo_told events f t)
 
-  pub redo_done : {events : List EventName} {d : Book} {count : ℕ} → (redo_refusal b.journal events ≡ None) × Redoes events b d × (count ≡ count_of events b.journal)
+  pub redo_done : {events : List EventName} {d : Book} {count : ℕ} → (redo_refusal b.settled b.journal events ≡ None) × Redoes events b d × (count ≡ count_of events b.journal)
       → Answers budget b (commands.redo events) (redone_text count) false d
   redo_done {events = events} {d = d} (none, redoes, same) = subst (λ n. Answers budget b (commands.redo events) (redone_text n) false d) (sym same) (redo_accepted none redoes)
 
-  exchange_told : (position : ℕ) (f : BookFault) → Tells f (exchange_refusal b.journal position) → Answers budget b (commands.exchange position) (refused (book.fault_text f)) true b
-  exchange_told position f t = told f (exchange_refusal b.journal position) (λ words. Answers budget b (commands.exchange position) (refused words) true b) t (λ r h. exchange_refused h) exchange_without_memory
+  exchange_told : (position : ℕ) (f : BookFault) → Tells f (exchange_refusal b.settled b.journal position) → Answers budget b (commands.exchange position) (refused (book.fault_text f)) true b
+  exchange_told position f t = told f (exchange_refusal b.settled b.journal position) (λ words. Answers budget b (commands.exchange position) (refused words) true b) t (λ r h. exchange_refused h) exchange_without_memory
 
-  pub exchange_fails : {position : ℕ} (f : BookFault) {d : Book} → Tells f (exchange_refusal b.journal position) → d ≡ b → Answers budget b (commands.exchange position) (refused (book.fault_text f)) true d
+  pub exchange_fails : {position : ℕ} (f : BookFault) {d : Book} → Tells f (exchange_refusal b.settled b.journal position) → d ≡ b → Answers budget b (commands.exchange position) (refused (book.fault_text f)) true d
   exchange_fails {position = position} f t stays = subst (λ z. Answers budget b (commands.exchange position) (refused (book.fault_text f)) true z) (sym stays) (exchange_told position f t)
 
-  pub exchange_done : {position : ℕ} {e f : EventName} {d : Book} → (exchange_refusal b.journal position ≡ None) × Exchanges position b d × StoodAt position b.journal e f
+  pub exchange_done : {position : ℕ} {e f : EventName} {d : Book} → (exchange_refusal b.settled b.journal position ≡ None) × Exchanges position b d × StoodAt position b.journal e f
       → Answers budget b (commands.exchange position) (exchanged_text e f) false d
   exchange_done (none, exchanges, stood) = exchange_accepted none exchanges stood
+
+  settle_told : (position : ℕ) (f : BookFault) → Tells f (settle_refusal b.settled b.journal position) → Answers budget b (commands.settle position) (refused (book.fault_text f)) true b
+  settle_told position f t = told f (settle_refusal b.settled b.journal position) (λ words. Answers budget b (commands.settle position) (refused words) true b) t (λ r h. settle_refused h) settle_without_memory
+
+  pub settle_fails : {position : ℕ} (f : BookFault) {d : Book} → Tells f (settle_refusal b.settled b.journal position) → d ≡ b → Answers budget b (commands.settle position) (refused (book.fault_text f)) true d
+  settle_fails {position = position} f t stays = subst (λ z. Answers budget b (commands.settle position) (refused (book.fault_text f)) true z) (sym stays) (settle_told position f t)
+
+  pub settle_done : {position : ℕ} {d : Book} → (settle_refusal b.settled b.journal position ≡ None) × Settles position b d → Answers budget b (commands.settle position) (settled_text position) false d
+  settle_done (none, settles) = settle_accepted none settles
 
 pub or_false : (s : Bool) → s ≡ (s || false)
 or_false true = refl

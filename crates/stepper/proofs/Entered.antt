@@ -54,7 +54,7 @@ pub same_lines : (ls ms : List Line) → ms ≡ ls → SameLines ls ms
 same_lines ls ms e = subst (SameLines ls) (sym e) (these_lines ls)
 
 pub same_book : (b : Book) → SameBook b b
-same_book b = record { world = refl; next = refl; out = refl; journal = same_lines b.journal b.journal refl }
+same_book b = record { world = refl; settled = refl; next = refl; out = refl; journal = same_lines b.journal b.journal refl }
 
 -- ---- one event in one world
 
@@ -80,11 +80,12 @@ line_once {ls = ls} {ms = ms} {l = l} {m = m} same a b h k =
       written = λ c. k.written c ∙ sym (written_once a b c) ∙ sym (h.written c);
     }
 
-pub enters_once : {e : Noted} {f g : Foot} {seat : ℕ} {a b c d : Book} → SameBook a b → Enters e f seat a c → Enters e g seat b d → d.next ≡ c.next → d.out ≡ c.out → SameBook c d
-enters_once {e = e} {f = f} {g = g} {a = a} {b = b} {c = c} {d = d} same h k next out =
+pub enters_once : {e : Noted} {f g : Foot} {seat : ℕ} {a b c d : Book} → SameBook a b → Enters e f seat a c → Enters e g seat b d → d.settled ≡ c.settled → d.next ≡ c.next → d.out ≡ c.out → SameBook c d
+enters_once {e = e} {f = f} {g = g} {a = a} {b = b} {c = c} {d = d} same h k settled next out =
     let does : ∥ DoesNoted e a.world g ∥₁ = subst (λ (w : World). ∥ DoesNoted e w g ∥₁) same.world k.does in
     record {
       world = k.step ∙ ap (λ (w : World). after events g w) same.world ∙ sym (after_once h.does does) ∙ sym h.step;
+      settled = settled;
       next = next;
       out = out;
       journal = subst (λ (z : List Line). SameLines z d.journal) (sym h.entered)
@@ -99,7 +100,7 @@ pub entered_once : {x y : EventName} {act : Act} {f g : Foot} {a b c d : Book} �
 entered_once {x = x} {y = y} {act = act} {g = g} {a = a} {b = b} {d = d} same h k =
     let one : x ≡ y = one_name x y a.next h.named (k.named ∙ same.next) in
     let also : Enters (with_notes (record { name = x; act = act }) []) g 0 b d = subst (λ (z : EventName). Enters (with_notes (record { name = z; act = act }) []) g 0 b d) (sym one) k.enters in
-    (one, enters_once same h.enters also (k.drawn ∙ ap (λ n. n + 1) same.next ∙ sym h.drawn) (k.same_out ∙ same.out ∙ sym h.same_out))
+    (one, enters_once same h.enters also (k.same_settled ∙ same.settled ∙ sym h.same_settled) (k.drawn ∙ ap (λ n. n + 1) same.next ∙ sym h.drawn) (k.same_out ∙ same.out ∙ sym h.same_out))
 
 -- ---- turns
 
@@ -134,7 +135,7 @@ turned_once {m = m} {budget = budget} {a = a} {b = b} {d = d} {x = x} {y = y} {t
       enters_once same h.enters.enters
           (subst (λ (ns : List Note). Enters (record { name = x; act = turn t.vat m budget; notes = ns }) (turn_foot x b.world m u also.cells also.left) 0 b d) notes
           (subst (λ (v : VatNo). Enters (record { name = x; act = turn v m budget; notes = u.outcome.out.notes }) (turn_foot x b.world m u also.cells also.left) 0 b d) vat also.enters))
-          (k.drawn ∙ ap (λ n. n + 1) same.next ∙ sym h.drawn) (k.same_out ∙ same.out ∙ sym h.same_out),
+          (k.same_settled ∙ same.settled ∙ sym h.same_settled) (k.drawn ∙ ap (λ n. n + 1) same.next ∙ sym h.drawn) (k.same_out ∙ same.out ∙ sym h.same_out),
     )
 
 -- ---- plain runs

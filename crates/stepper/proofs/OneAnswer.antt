@@ -44,7 +44,7 @@ use Rattle.commands.specs.Commands as command
 use Rattle.commands.specs.Commands.{Spelled}
 use Rattle.commands.specs.declared.command.LineFault.{LineFault}
 use Rattle.commands.specs.declared.numbers.PromiseName.{PromiseName}
-use Rattle.stepper.specs.Replies.{refused, done_text, queued_text, exchanged_text, Answers, arrive_moves, forward_moves, turn_moves, learn_without_memory, learn_refused, learn_accepted, stepped, runs, enabled_without_memory, enabled, ask_without_memory, asked_without_memory, asked_unread, ask_refused, ask_accepted, shown, listed, log_without_memory, logged, worked, work_refused, cone_without_memory, cone_refused, cone_found, undo_without_memory, undo_refused, undo_accepted, undo_cone_without_memory, undo_cone_refused, undo_cone_found, redo_without_memory, redo_refused, redo_accepted, exchange_without_memory, exchange_refused, exchange_accepted, AnswersBirth, birth_without_memory, script_without_memory, script_refused, script_unread, birth_refused, birth_accepted}
+use Rattle.stepper.specs.Replies.{refused, done_text, queued_text, exchanged_text, Answers, arrive_moves, forward_moves, turn_moves, learn_without_memory, learn_refused, learn_accepted, stepped, runs, enabled_without_memory, enabled, ask_without_memory, asked_without_memory, asked_unread, ask_refused, ask_accepted, shown, listed, log_without_memory, logged, worked, work_refused, cone_without_memory, cone_refused, cone_found, undo_without_memory, undo_refused, undo_accepted, undo_cone_without_memory, undo_cone_refused, undo_cone_found, redo_without_memory, redo_refused, redo_accepted, exchange_without_memory, exchange_refused, exchange_accepted, settle_without_memory, settle_refused, settle_accepted, AnswersBirth, birth_without_memory, script_without_memory, script_refused, script_unread, birth_refused, birth_accepted}
 use Rattle.printing.specs.Listing.{cone_text}
 use Rattle.stepper.specs.Laws.{SameBook, IsForWant, book_without_memory, text_without_memory, EndsForWant, SameReply, one_reply, other_place, SameAnswer, IsTold, OneAnswer, OneBirth}
 use Rattle.stepper.proofs.Entered.{same_book, same_lines, entered_once, one_run}
@@ -116,7 +116,7 @@ one_undo (undo_refused h) (undo_refused k) n m = refused_once h k
 one_undo (undo_refused h) (undo_accepted k x) n m = not_both h k
 one_undo (undo_accepted h x) (undo_refused k) n m = not_both k h
 one_undo {b = b} {d = d} {e = e} {events = events} (undo_accepted h x) (undo_accepted k y) n m =
-    answer_once refl (record { world = one_run (rest_of events b.journal) x.rest y.rest; next = y.same_next ∙ sym x.same_next; out = y.same_out ∙ sym x.same_out; journal = same_lines d.journal e.journal (y.marked ∙ sym x.marked) })
+    answer_once refl (record { world = one_run (rest_of events b.journal) x.rest y.rest; settled = y.same_settled ∙ sym x.same_settled; next = y.same_next ∙ sym x.same_next; out = y.same_out ∙ sym x.same_out; journal = same_lines d.journal e.journal (y.marked ∙ sym x.marked) })
 
 one_redo : {budget : ℕ} {b d e : Book} {events : List EventName} {r t : List ℕ} {q p : Bool} → Answers budget b (command.redo events) r q d → Answers budget b (command.redo events) t p e
     → ¬ IsForWant r → ¬ IsForWant t → SameAnswer r q d t p e
@@ -126,10 +126,10 @@ one_redo (redo_refused h) (redo_refused k) n m = refused_once h k
 one_redo (redo_refused h) (redo_accepted k x) n m = not_both h k
 one_redo (redo_accepted h x) (redo_refused k) n m = not_both k h
 one_redo {b = b} {d = d} {e = e} {events = events} (redo_accepted h x) (redo_accepted k y) n m =
-    answer_once refl (record { world = one_run (live_events (redone_in events b.journal)) x.run y.run; next = y.same_next ∙ sym x.same_next; out = y.same_out ∙ sym x.same_out; journal = same_lines d.journal e.journal (y.marked ∙ sym x.marked) })
+    answer_once refl (record { world = one_run (live_events (redone_in events b.journal)) x.run y.run; settled = y.same_settled ∙ sym x.same_settled; next = y.same_next ∙ sym x.same_next; out = y.same_out ∙ sym x.same_out; journal = same_lines d.journal e.journal (y.marked ∙ sym x.marked) })
 
 -- what is exchanged stands at a position, counted from 1
-exchanged_once : {b d e : Book} {x y u v : EventName} (position : ℕ) → exchange_refusal b.journal position ≡ None → Exchanges position b d → Exchanges position b e → StoodAt position b.journal x y → StoodAt position b.journal u v
+exchanged_once : {b d e : Book} {x y u v : EventName} (position : ℕ) → exchange_refusal b.settled b.journal position ≡ None → Exchanges position b d → Exchanges position b e → StoodAt position b.journal x y → StoodAt position b.journal u v
     → SameAnswer (exchanged_text x y) false d (exchanged_text u v) false e
 exchanged_once zero h i j f g = absurd (cc)
 exchanged_once {d = d} {e = e} {x = x} {y = y} {u = u} {v = v} (suc n) h i j f g =
@@ -137,7 +137,7 @@ exchanged_once {d = d} {e = e} {x = x} {y = y} {u = u} {v = v} (suc n) h i j f g
     let one : u ≡ x = (let p = (f n at).0 in let q = (g n at).0 in cc) in
     let two : v ≡ y = (let p = (f n at).1 in let q = (g n at).1 in cc) in
     answer_once (ap (λ z. exchanged_text z v) one ∙ ap (exchanged_text x) two)
-    (record { world = j.same_world ∙ sym i.same_world; next = j.same_next ∙ sym i.same_next; out = j.same_out ∙ sym i.same_out; journal = same_lines d.journal e.journal (j.places n at ∙ sym (i.places n at)) })
+    (record { world = j.same_world ∙ sym i.same_world; settled = j.same_settled ∙ sym i.same_settled; next = j.same_next ∙ sym i.same_next; out = j.same_out ∙ sym i.same_out; journal = same_lines d.journal e.journal (j.places n at ∙ sym (i.places n at)) })
 
 -- ---- questions
 
@@ -284,6 +284,13 @@ answer_but once told (exchange_refused h) (exchange_refused k) y z n m = refused
 answer_but once told (exchange_refused h) (exchange_accepted k x u) y z n m = not_both h k
 answer_but once told (exchange_accepted h x u) (exchange_refused k) y z n m = not_both k h
 answer_but once told (exchange_accepted {position = position} h x u) (exchange_accepted k v w) y z n m = exchanged_once position h x v u w
+answer_but once told settle_without_memory k y z n m = absurd (n book_without_memory)
+answer_but once told (settle_refused h) settle_without_memory y z n m = absurd (m book_without_memory)
+answer_but once told (settle_accepted h x) settle_without_memory y z n m = absurd (m book_without_memory)
+answer_but once told (settle_refused h) (settle_refused k) y z n m = refused_once h k
+answer_but once told (settle_refused h) (settle_accepted k x) y z n m = not_both h k
+answer_but once told (settle_accepted h x) (settle_refused k) y z n m = not_both k h
+answer_but {d = d} once told (settle_accepted h x) (settle_accepted k v) y z n m = answer_once refl (subst (SameBook d) (x ∙ sym v) (same_book d))
 
 pub one_answer : OneAnswer
 one_answer budget b c r s q p d e good told h k n m = answer_but (names_vats_once b good) told h k n m (ends n) (ends m)

@@ -1,5 +1,5 @@
 -- What books that are the same have in common: what they refuse, what may be done first, and the causes of what is entered.
-use Rattle.std.proofs.Common.{◌≡◌, ℕ, suc, Bool, true, false, List, [], ◌∷◌, ◌++◌, length, Option, Some, None, map, filter, refl, sym, ap, subst, ◌∙◌, cond}
+use Rattle.std.proofs.Common.{◌≡◌, ℕ, suc, ◌-◌, Bool, true, false, List, [], ◌∷◌, ◌++◌, length, Option, Some, None, map, filter, refl, sym, ap, subst, ◌∙◌, cond}
 use Rattle.std.specs.Prelude.{◌&&◌, ◌||◌, not, is_some, nat_lt, nat_le, reverse}
 use Rattle.std.specs.List.{list_any}
 use Rattle.std.specs.Option.{option_map}
@@ -106,7 +106,7 @@ module _ (f g : Foot plain) (alike : (k : CellKey) → touches plain g k ≡ tou
 
 module _ {b c : Book} (h : SameBook b c) where
   same_full : full_refusal c ≡ full_refusal b
-  same_full = λ i. refuse_where (nat_lt 4294967295 (h.next i) || nat_le MOST_ENTRIES (same_length b.journal c.journal h.journal i)) full
+  same_full = λ i. refuse_where (nat_lt 4294967295 (h.next i) || nat_le MOST_ENTRIES (same_length b.journal c.journal h.journal i - h.settled i)) full
 
   pub same_arrival : (m : MsgId) → arrival_refusal c m ≡ arrival_refusal b m
   same_arrival m = λ i. first (arrival_refusal_by m (message_of (h.world i) m)) (same_full i)

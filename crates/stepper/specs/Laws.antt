@@ -27,9 +27,11 @@ SameLines [] [] = Unit {0}
 SameLines (l ∷ ls) (m ∷ ms) = SameLine l m × SameLines ls ms
 SameLines _ _ = ⊥
 
--- two books are the same: one world, one name that comes next, the same tickets out, and journals that tell the same line by line
+-- two books are the same: one world, as many lines settled, one name that comes next, the same tickets out, and journals that tell the same
+-- line by line
 pub record SameBook (b d : Book) : Type 0 where
   pub world : d.world ≡ b.world
+  pub settled : d.settled ≡ b.settled
   pub next : d.next ≡ b.next
   pub out : d.out ≡ b.out
   pub journal : SameLines b.journal d.journal

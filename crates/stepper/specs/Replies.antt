@@ -29,10 +29,10 @@ use Rattle.causality.specs.Exact.{Cone}
 use Rattle.causality.specs.Selections.{chosen}
 use Rattle.book.specs.Fault.{refusal_text, work_text}
 use Rattle.book.specs.Refusals.{Refusal}
-use Rattle.book.specs.Refusals.{birth_refusal, ask_refusal, arrival_refusal, forward_refusal, learning_refusal, checkout_refusal, undo_refusal, redo_refusal, cone_refusal, exchange_refusal}
+use Rattle.book.specs.Refusals.{birth_refusal, ask_refusal, arrival_refusal, forward_refusal, learning_refusal, checkout_refusal, undo_refusal, redo_refusal, cone_refusal, exchange_refusal, settle_refusal}
 use Rattle.book.specs.Learning.{LearnsNamed, RefusesNamed}
-use Rattle.book.specs.Books.{Book, blank}
-use Rattle.book.specs.Calls.{EntersNext, TurnsNext, Undoes, Redoes, Exchanges, StoodAt}
+use Rattle.book.specs.Books.{Book, blank, settled_lines, open_lines}
+use Rattle.book.specs.Calls.{EntersNext, TurnsNext, Undoes, Redoes, Exchanges, Settles, StoodAt}
 use Rattle.commands.specs.Lines.{is_line_feed, line_end, line_of, behind_line}
 use Rattle.commands.specs.declared.numbers.PromiseName.{PromiseName}
 use Rattle.commands.specs.Commands as command
@@ -88,6 +88,10 @@ redone_text count = codes "ok redone " ++ (decimal count ++ 10 ∷ [])
 -- ok exchanged EVENT EVENT
 abbrev pub exchanged_text : EventName → EventName → List ℕ
 exchanged_text e f = codes "ok exchanged " ++ (event_text e ++ (codes " " ++ (event_text f ++ 10 ∷ [])))
+
+-- ok settled P
+abbrev pub settled_text : ℕ → List ℕ
+settled_text position = codes "ok settled " ++ (decimal position ++ 10 ∷ [])
 
 -- a log, and the end of the line
 abbrev pub logged_text : List ℕ → List ℕ
@@ -155,29 +159,32 @@ pub data Answers (budget : ℕ) : Book → Spelled → List ℕ → Bool → Boo
   ask_accepted : {b d : Book} {x text : List ℕ} {program : Trees} {e : EventName} {v : VatNo} → ReadAs text (Ok program) → ask_refusal b x program ≡ None
       → EntersNext (record { name = e; act = ask x program }) (ask_foot e x v program) 0 b d → Answers budget b (command.ask x text) (queued_text e) false d
   shown : {b : Book} {text : List ℕ} → Shows b.world text → Answers budget b command.show text false b
-  listed : {b : Book} → Answers budget b command.journal (journal_text b.journal) false b
+  listed : {b : Book} → Answers budget b command.journal (journal_text b.settled b.journal) false b
   log_without_memory : {b : Book} {x : List ℕ} → Answers budget b (command.log x) (refused (no_memory)) true b
-  logged : {b : Book} {x : List ℕ} → Answers budget b (command.log x) (logged_text (log_text x (live_in b.journal))) false b
+  logged : {b : Book} {x : List ℕ} → Answers budget b (command.log x) (logged_text (log_text x (live_in (settled_lines b)) (live_in (open_lines b)))) false b
   cone_without_memory : {b : Book} {e : EventName} → Answers budget b (command.cone e) (refused (no_memory)) true b
-  cone_refused : {b : Book} {e : EventName} {r : Refusal} → cone_refusal b.journal e ≡ Some r → Answers budget b (command.cone e) (refused (refusal_text r)) true b
-  cone_found : {b : Book} {e : EventName} {names : List EventName} → cone_refusal b.journal e ≡ None → Cone b.journal e names → Answers budget b (command.cone e) (cone_text names) false b
+  cone_refused : {b : Book} {e : EventName} {r : Refusal} → cone_refusal b.settled b.journal e ≡ Some r → Answers budget b (command.cone e) (refused (refusal_text r)) true b
+  cone_found : {b : Book} {e : EventName} {names : List EventName} → cone_refusal b.settled b.journal e ≡ None → Cone b.journal e names → Answers budget b (command.cone e) (cone_text names) false b
   undo_without_memory : {b : Book} {events : List EventName} → Answers budget b (command.undo events) (refused (no_memory)) true b
-  undo_refused : {b : Book} {events : List EventName} {r : Refusal} → undo_refusal b.journal events ≡ Some r → Answers budget b (command.undo events) (refused (refusal_text r)) true b
-  undo_accepted : {b d : Book} {events : List EventName} → undo_refusal b.journal events ≡ None → Undoes events b d
+  undo_refused : {b : Book} {events : List EventName} {r : Refusal} → undo_refusal b.settled b.journal events ≡ Some r → Answers budget b (command.undo events) (refused (refusal_text r)) true b
+  undo_accepted : {b d : Book} {events : List EventName} → undo_refusal b.settled b.journal events ≡ None → Undoes events b d
       → Answers budget b (command.undo events) (undone_text (count_of events b.journal)) false d
   undo_cone_without_memory : {b : Book} {e : EventName} → Answers budget b (command.undo_cone e) (refused (no_memory)) true b
-  undo_cone_refused : {b : Book} {e : EventName} {r : Refusal} → cone_refusal b.journal e ≡ Some r → Answers budget b (command.undo_cone e) (refused (refusal_text r)) true b
+  undo_cone_refused : {b : Book} {e : EventName} {r : Refusal} → cone_refusal b.settled b.journal e ≡ Some r → Answers budget b (command.undo_cone e) (refused (refusal_text r)) true b
   -- the cone is undone as if its events were named
-  undo_cone_found : {b d : Book} {e : EventName} {events : List EventName} {reply : List ℕ} {refusal : Bool} → cone_refusal b.journal e ≡ None → Cone b.journal e events
+  undo_cone_found : {b d : Book} {e : EventName} {events : List EventName} {reply : List ℕ} {refusal : Bool} → cone_refusal b.settled b.journal e ≡ None → Cone b.journal e events
       → Answers budget b (command.undo events) reply refusal d → Answers budget b (command.undo_cone e) reply refusal d
   redo_without_memory : {b : Book} {events : List EventName} → Answers budget b (command.redo events) (refused (no_memory)) true b
-  redo_refused : {b : Book} {events : List EventName} {r : Refusal} → redo_refusal b.journal events ≡ Some r → Answers budget b (command.redo events) (refused (refusal_text r)) true b
-  redo_accepted : {b d : Book} {events : List EventName} → redo_refusal b.journal events ≡ None → Redoes events b d
+  redo_refused : {b : Book} {events : List EventName} {r : Refusal} → redo_refusal b.settled b.journal events ≡ Some r → Answers budget b (command.redo events) (refused (refusal_text r)) true b
+  redo_accepted : {b d : Book} {events : List EventName} → redo_refusal b.settled b.journal events ≡ None → Redoes events b d
       → Answers budget b (command.redo events) (redone_text (count_of events b.journal)) false d
   exchange_without_memory : {b : Book} {position : ℕ} → Answers budget b (command.exchange position) (refused (no_memory)) true b
-  exchange_refused : {b : Book} {position : ℕ} {r : Refusal} → exchange_refusal b.journal position ≡ Some r → Answers budget b (command.exchange position) (refused (refusal_text r)) true b
-  exchange_accepted : {b d : Book} {position : ℕ} {e f : EventName} → exchange_refusal b.journal position ≡ None → Exchanges position b d → StoodAt position b.journal e f
+  exchange_refused : {b : Book} {position : ℕ} {r : Refusal} → exchange_refusal b.settled b.journal position ≡ Some r → Answers budget b (command.exchange position) (refused (refusal_text r)) true b
+  exchange_accepted : {b d : Book} {position : ℕ} {e f : EventName} → exchange_refusal b.settled b.journal position ≡ None → Exchanges position b d → StoodAt position b.journal e f
       → Answers budget b (command.exchange position) (exchanged_text e f) false d
+  settle_without_memory : {b : Book} {position : ℕ} → Answers budget b (command.settle position) (refused (no_memory)) true b
+  settle_refused : {b : Book} {position : ℕ} {r : Refusal} → settle_refusal b.settled b.journal position ≡ Some r → Answers budget b (command.settle position) (refused (refusal_text r)) true b
+  settle_accepted : {b d : Book} {position : ℕ} → settle_refusal b.settled b.journal position ≡ None → Settles position b d → Answers budget b (command.settle position) (settled_text position) false d
 
 -- the same for a vat whose script was taken from the lines behind the command
 pub data AnswersBirth : Book → List ℕ → List (List ℕ) → Result (List ℕ) LineFault → List ℕ → Bool → Book → Type 0 where

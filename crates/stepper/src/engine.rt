@@ -292,6 +292,16 @@ impl Engine {
         }
     }
 
+    /// Settles all entries up to a position.
+    fn settle(&mut self, position: usize) -> Result<(), AllocError>
+        ensures { OnOk result (Happens self.old self.new (λ b r s d. Answers self.old.budget b (commands.settle position) r s d)) }
+    {
+        match self.book.settle(position) {
+            Ok(()) => self.written.settled(position),
+            Err(fault) => self.written.refuse_call(&fault),
+        }
+    }
+
     fn birth_program(
         &mut self,
         name: &str,
@@ -374,6 +384,7 @@ impl Engine {
             Command::UndoCone(event) => self.undo_cone(event),
             Command::Redo(events) => self.redo(&events),
             Command::Exchange(position) => self.exchange(position),
+            Command::Settle(position) => self.settle(position),
         }?;
         Ok(())
     }

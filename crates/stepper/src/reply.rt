@@ -1,14 +1,14 @@
 // Replies, as they are written.
-ghost use Rattle.std.specs.Prelude.{◌≡◌, ◌++◌, [], map, true, false, IfOk, OnOk, string_bytes};
+ghost use Rattle.std.specs.Prelude.{◌≡◌, ◌++◌, [], length, true, false, IfOk, OnOk, string_bytes};
 ghost use Rattle.ereader.specs.Shown.{shown};
 ghost use Rattle.book.specs.Fault as book_fault;
 ghost use Rattle.worldcells.specs.View.{world_of};
 ghost use Rattle.deliveries.specs.Outcomes.{told_of};
 ghost use Rattle.commands.specs.Commands.{fault_text};
-ghost use Rattle.stepper.specs.Replies.{refused, queued_text, done_text, idle_text, turned_text, told_text, undone_text, redone_text, exchanged_text, logged_text};
+ghost use Rattle.stepper.specs.Replies.{refused, queued_text, done_text, idle_text, turned_text, told_text, undone_text, redone_text, exchanged_text, settled_text, logged_text};
 ghost use Rattle.printing.specs.Listing.{journal_text, cone_text};
 ghost use Rattle.stepper.specs.Crew.{worked_text};
-ghost use Rattle.journal.specs.Items.{item_of};
+ghost use Rattle.journal.specs.Journals.{items_of};
 ghost use Rattle.journal.specs.Lines.{lines_of};
 ghost use Rattle.causality.specs.Journals.{IsJournal};
 ghost use Rattle.printing.specs.Show.{Shows};
@@ -21,7 +21,7 @@ use deliveries::outcome::Ended;
 use ereader::fault::ReadFault;
 use ids::names::{EventName, MsgId};
 use ids::quote::write_quoted;
-use journal::entry::Entry;
+use journal::journal::Journal;
 use printing::enabled::write_enabled;
 use printing::listing::{write_cone, write_journal};
 use printing::show::write_world;
@@ -140,11 +140,11 @@ impl Written {
     }
 
     /// The journal is listed.
-    pub(crate) fn journal(&mut self, alloc: Global, entries: &[Entry]) -> Result<(), AllocError>
-        requires { IsJournal (map item_of entries.now) }
-        ensures { OnOk result (Adds self.old self.new (journal_text (lines_of (map item_of entries.now))) false) }
+    pub(crate) fn journal(&mut self, alloc: Global, journal: Journal) -> Result<(), AllocError>
+        requires { IsJournal (items_of journal) }
+        ensures { OnOk result (Adds self.old self.new (journal_text (length journal.entry.settled.now) (lines_of (items_of journal.entry))) false) }
     {
-        write_journal(alloc, entries, &mut self.text)
+        write_journal(alloc, journal, &mut self.text)
     }
 
     /// The log of a vat is written.
@@ -192,6 +192,14 @@ impl Written {
     {
         let out = &mut self.text;
         write!(out, "ok exchanged {event} {other}\n")
+    }
+
+    /// All entries up to a position are settled.
+    pub(crate) fn settled(&mut self, position: usize) -> Result<(), AllocError>
+        ensures { OnOk result (Adds self.old self.new (settled_text position) false) }
+    {
+        let out = &mut self.text;
+        write!(out, "ok settled {position}\n")
     }
 
     pub(crate) fn refuse_line(&mut self, fault: LineFault) -> Result<(), AllocError>

@@ -1,4 +1,6 @@
 pub mod Looping
+pub mod Behind
+pub mod Settling
 pub mod Entries
 pub mod Positions
 pub mod Exchanging

@@ -1,15 +1,24 @@
 -- What a core shows.
-use Rattle.std.specs.Prelude.{Bool, List, map}
+use Rattle.std.specs.Prelude.{ℕ, Bool, List, map, length}
 use Rattle.history.specs.Records.{State}
 use Rattle.ids.specs.declared.cells.CellKey.{CellKey}
 use Rattle.worldcells.specs.View.{is_ready}
 use Rattle.worldcells.specs.Theory.{cells, state_of_world}
 use Rattle.journal.specs.Items.{Item, item_of}
+use Rattle.journal.specs.Journals.{items_in}
 use Rattle.undo.specs.declared.undoing.Core.{Core}
 
--- the entries, the oldest first
+-- how many entries are settled
+abbrev pub settled_of : Core → ℕ
+settled_of core = length core.settled.items
+
+-- the entries that are not, the oldest first
+abbrev pub open_of : Core → List Item
+open_of core = map item_of core.entries.items
+
+-- all entries, the oldest first
 abbrev pub items_of : Core → List Item
-items_of core = map item_of core.entries.items
+items_of core = items_in core.settled.items core.entries.items
 
 -- the content and the last writer of each cell
 abbrev pub state_of : Core → State cells

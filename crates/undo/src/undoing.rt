@@ -1,5 +1,6 @@
 // The world, and the journal of the events that wrote it.
-ghost use Rattle.std.specs.Prelude.{◌≡◌, ◌+◌, ◌%◌, ◌^◌, ◌<◌, ℕ, if◌then◌else◌, true, false, List, [], ◌∷◌, ◌==◌, None, IfOk, OnOk, OnErr, map, length, reverse, All};
+ghost use Rattle.std.specs.Prelude.{◌≡◌, ◌+◌, ◌%◌, ◌^◌, ◌<◌, ◌≤◌, ℕ, if◌then◌else◌, true, false, List, [], ◌∷◌, ◌==◌, None, IfOk, OnOk, OnErr, map, length, reverse, take, All};
+ghost use Rattle.std.specs.List.{AllByRecursion};
 ghost use Rattle.std.specs.Arc.{arc_value};
 ghost use Rattle.heap.specs.View as heap;
 ghost use Rattle.history.specs.Records.{contents};
@@ -20,6 +21,8 @@ use heap::state::VatState;
 use ids::cells::CellKey;
 use ids::names::VatNo;
 use journal::entry::{Entry, Mark, may_exchange, with_writers};
+use journal::journal::Journal;
+use journal::settled::Settled;
 use std::alloc::{AllocError, Global};
 use std::sync::Arc;
 use worldcells::event::Event;
@@ -34,9 +37,10 @@ pub struct Deed {
     pub seat: u64,
 }
 
-/// The cells, and an entry for each event that wrote them, the oldest first.
+/// The cells, and an entry for each event that wrote them, the oldest first: those that are settled, and those behind them.
 pub struct Core {
     world: World,
+    settled: Vec<Settled>,
     entries: Vec<Entry>,
 }
 
@@ -45,6 +49,7 @@ impl Drop for Core {
     fn drop(self) {
         let Core {
             world: _,
+            settled: _,
             entries: _,
         } = self;
     }
@@ -62,38 +67,45 @@ fn swap_one(world: &mut World, entry: &mut Entry, mark: Mark, swaps: &mut Swaps)
 }
 
 impl Core {
-    ghost use Rattle.undo.specs.CoreView.{items_of, state_of, shown, ready_of};
+    ghost use Rattle.undo.specs.CoreView.{settled_of, open_of, items_of, state_of, shown, ready_of};
+    ghost use Rattle.journal.specs.Journals.{items_of as journal_items};
 
     /// No cells, and no entries.
     pub fn new(alloc: Global) -> Core
         ensures entries { items_of result ≡ [] }
+        ensures settled { settled_of result ≡ 0 }
         ensures cells { (k : CellKey) → state_of result k ≡ (None, None) }
     {
         Core {
             world: World::new(alloc),
+            settled: Vec::new(alloc),
             entries: Vec::new(alloc),
         }
     }
 
-    /// How many entries there are.
+    /// How many entries are not settled.
     pub fn len(&self) -> usize
-        ensures { result ≡ length (items_of self.now) }
+        ensures { result + settled_of self.now ≡ length (items_of self.now) }
     {
         self.entries.len()
     }
 
-    /// Whether there are no entries.
+    /// Whether no entry is left that is not settled.
     pub fn is_empty(&self) -> bool
-        ensures { result ≡ (length (items_of self.now) == 0) }
+        ensures { result ≡ (length (open_of self.now) == 0) }
     {
         self.entries.is_empty()
     }
 
-    /// The entries, the oldest first.
-    pub fn entries(&self) -> &[Entry]
-        ensures { map item_of result.now ≡ items_of self.now }
+    /// All entries, the oldest first.
+    pub fn journal(&self) -> Journal<'_>
+        ensures items { journal_items result ≡ items_of self.now }
+        ensures settled { length result.settled.now ≡ settled_of self.now }
     {
-        &self.entries
+        Journal {
+            settled: &self.settled,
+            entries: &self.entries,
+        }
     }
 
     /// The world.
@@ -107,43 +119,52 @@ impl Core {
     pub fn share_vat(&mut self, alloc: Global, vat: VatNo) -> Result<Arc<VatState>, AllocError>
         ensures shared { IfOk result (λ s. heap.state_of (arc_value s) ≡ vat_state (contents cells (state_of self.old)) vat) }
         ensures shown { shown self.new ≡ shown self.old }
+        ensures settled { settled_of self.new ≡ settled_of self.old }
     {
         self.world.share_vat(alloc, vat)
     }
 
-    /// Exchanges the records of the entry at a position with the cells, and marks it. It takes no memory.
+    /// Exchanges the records of the entry at a position, which is not settled, with the cells, and marks it. It takes no memory.
     fn swap_entry(&mut self, position: usize, mark: Mark, swaps: &mut Swaps)
-        requires { all_ready (ready_of self.old) (items_of self.old) (position ∷ []) ≡ true }
+        requires behind { settled_of self.old ≤ position }
+        requires ready { all_ready (ready_of self.old) (items_of self.old) (position ∷ []) ≡ true }
         ensures shown { shown self.new ≡ step_at (swap_item (is_live mark)) position (shown self.old) }
         ensures ready { ready_of self.new ≡ ready_of self.old }
         ensures keys { (p : ℕ) → keys_at (items_of self.new) p ≡ keys_at (items_of self.old) p }
         ensures counted { swaps.new % 2 ^ 64 ≡ (swaps.old + records_at (items_of self.old) (position ∷ [])) % 2 ^ 64 }
+        ensures settled { settled_of self.new ≡ settled_of self.old }
     {
-        swap_one(&mut self.world, &mut self.entries[position], mark, swaps);
+        let place = position - self.settled.len();
+        swap_one(&mut self.world, &mut self.entries[place], mark, swaps);
     }
 
-    /// Makes room for all cells of which the entries at these positions have records, and makes the states of their vats their own.
-    /// Nothing that is shown changes. Fails only for want of memory.
+    /// Makes room for all cells of which the entries at these positions, which are not settled, have records, and makes the states of
+    /// their vats their own. Nothing that is shown changes. Fails only for want of memory.
     pub fn prepare(&mut self, alloc: Global, positions: &[usize]) -> Result<(), AllocError>
-        requires { All (λ p. p < length (items_of self.old)) positions.now }
+        requires behind { All (λ p. settled_of self.old ≤ p) positions.now }
+        requires within { All (λ p. p < length (items_of self.old)) positions.now }
         ensures ok { OnOk result (all_ready (ready_of self.new) (items_of self.new) positions.now ≡ true) }
         ensures ready { (k : CellKey) → ready_of self.old k ≡ true → ready_of self.new k ≡ true }
         ensures shown { shown self.new ≡ shown self.old }
+        ensures settled { settled_of self.new ≡ settled_of self.old }
     {
         for position in positions {
-            make_rooms(alloc, &mut self.world, &self.entries[*position].records)?;
+            let place = *position - self.settled.len();
+            make_rooms(alloc, &mut self.world, &self.entries[place].records)?;
         }
         Ok(())
     }
 
-    /// Undoes the entries at these ascending positions, by exchanging their records from the last to the first. It takes no memory,
-    /// so it cannot fail.
+    /// Undoes the entries at these ascending positions, which are not settled, by exchanging their records from the last to the first.
+    /// It takes no memory, so it cannot fail.
     pub fn undo(&mut self, positions: &[usize], swaps: &mut Swaps)
-        requires { all_ready (ready_of self.old) (items_of self.old) positions.now ≡ true }
+        requires behind { All (λ p. settled_of self.old ≤ p) positions.now }
+        requires ready { all_ready (ready_of self.old) (items_of self.old) positions.now ≡ true }
         ensures shown { shown self.new ≡ walk (swap_item false) (reverse positions.now) (shown self.old) }
         ensures ready { ready_of self.new ≡ ready_of self.old }
         ensures keys { (p : ℕ) → keys_at (items_of self.new) p ≡ keys_at (items_of self.old) p }
         ensures counted { swaps.new % 2 ^ 64 ≡ (swaps.old + records_at (items_of self.old) positions.now) % 2 ^ 64 }
+        ensures settled { settled_of self.new ≡ settled_of self.old }
     {
         let mut i = positions.len();
         while i > 0 {
@@ -152,14 +173,16 @@ impl Core {
         }
     }
 
-    /// Redoes the entries at these ascending positions, by exchanging their records from the first to the last. It takes no memory,
-    /// so it cannot fail.
+    /// Redoes the entries at these ascending positions, which are not settled, by exchanging their records from the first to the last.
+    /// It takes no memory, so it cannot fail.
     pub fn redo(&mut self, positions: &[usize], swaps: &mut Swaps)
-        requires { all_ready (ready_of self.old) (items_of self.old) positions.now ≡ true }
+        requires behind { All (λ p. settled_of self.old ≤ p) positions.now }
+        requires ready { all_ready (ready_of self.old) (items_of self.old) positions.now ≡ true }
         ensures shown { shown self.new ≡ walk (swap_item true) positions.now (shown self.old) }
         ensures ready { ready_of self.new ≡ ready_of self.old }
         ensures keys { (p : ℕ) → keys_at (items_of self.new) p ≡ keys_at (items_of self.old) p }
         ensures counted { swaps.new % 2 ^ 64 ≡ (swaps.old + records_at (items_of self.old) positions.now) % 2 ^ 64 }
+        ensures settled { settled_of self.new ≡ settled_of self.old }
     {
         for position in positions {
             self.swap_entry(*position, Mark::Live, swaps);
@@ -180,10 +203,11 @@ impl Core {
         ensures counted { OnOk result (swaps.new % 2 ^ 64 ≡ (swaps.old + length records.items) % 2 ^ 64) }
         ensures err { OnErr result (shown self.new ≡ shown self.old) }
         ensures none { OnErr result (swaps.new ≡ swaps.old) }
+        ensures settled { settled_of self.new ≡ settled_of self.old }
     {
         make_rooms(alloc, &mut self.world, &records)?;
         let touched = with_writers(alloc, &self.world, touched)?;
-        let position = self.entries.len();
+        let position = self.settled.len() + self.entries.len();
         self.entries.push(Entry {
             event: deed.event,
             notes: deed.notes,
@@ -196,18 +220,37 @@ impl Core {
         Ok(())
     }
 
-    /// Lets the entry at a position and the one behind it change places, if neither wrote a cell that the other touched, and says
-    /// whether they did. It takes no memory.
+    /// Lets the entry at a position, which is not settled, and the one behind it change places, if neither wrote a cell that the other
+    /// touched, and says whether they did. It takes no memory.
     pub fn exchange(&mut self, position: usize) -> bool
-        requires { position + 1 < length (items_of self.old) }
+        requires behind { settled_of self.old ≤ position }
+        requires within { position + 1 < length (items_of self.old) }
         ensures done { result ≡ neighbours may_exchange position (items_of self.old) }
         ensures shown { shown self.new ≡ (if result then exchanged position (items_of self.old) else items_of self.old, state_of self.old) }
         ensures ready { ready_of self.new ≡ ready_of self.old }
+        ensures settled { settled_of self.new ≡ settled_of self.old }
     {
-        if !may_exchange(&self.entries[position], &self.entries[position + 1]) {
+        let place = position - self.settled.len();
+        if !may_exchange(&self.entries[place], &self.entries[place + 1]) {
             return false;
         }
-        self.entries.swap(position, position + 1);
+        self.entries.swap(place, place + 1);
         true
+    }
+
+    /// Settles the first of the entries that are not settled, so many, which are live: they can no longer be taken back, and what is
+    /// not needed for that is let go. Nothing that is shown changes. Without memory nothing changes at all.
+    pub fn settle(&mut self, alloc: Global, count: usize) -> Result<(), AllocError>
+        requires within { count ≤ length (open_of self.old) }
+        requires live { AllByRecursion (λ i. i.live ≡ true) (take count (open_of self.old)) }
+        ensures shown { shown self.new ≡ shown self.old }
+        ensures ok { OnOk result (settled_of self.new ≡ settled_of self.old + count) }
+        ensures err { OnErr result (settled_of self.new ≡ settled_of self.old) }
+    {
+        let mut settled = Settled::of_all(alloc, &self.entries[..count])?;
+        self.settled.append(&mut settled)?;
+        self.entries.rotate_left(count);
+        self.entries.truncate(self.entries.len() - count);
+        Ok(())
     }
 }

@@ -8,6 +8,7 @@ use Rattle.worldcells.specs.contracts.homes.Homes as homes
 use Rattle.worldcells.specs.contracts.record.CellRecord as cell_record
 use Rattle.worldcells.specs.contracts.world.World as world
 use Rattle.journal.specs.contracts.entry.Entry as entry
+use Rattle.journal.specs.contracts.settled.Settled as settled
 use Rattle.undo.specs.contracts.undoing.Core as core
 use Rattle.bench.proofs.crossing.Messages.{message_crosses, published_crosses}
 use Rattle.bench.proofs.crossing.More.{table_crosses, note_crosses, mark_crosses, touched_crosses}
@@ -113,16 +114,30 @@ entry_row_sync = search (entry_sync, happening_crosses, note_crosses, mark_cross
 
 pub ruleset entry_crosses = (entry_send, entry_sync, entry_row_send, entry_row_sync)
 
+pub settled_send : IsSend (settled.the_field).row
+settled_send = search (event_crosses, touched_crosses, text_crosses, vat_number_crosses, sendable, crosses) depth 40
+
+pub settled_row_send : IsSend settled.the_row
+settled_row_send = search (settled_send, event_crosses, touched_crosses, text_crosses, vat_number_crosses, sendable, crosses) depth 40
+
+pub settled_sync : IsSync (settled.the_field).row
+settled_sync = search (event_crosses, touched_crosses, text_crosses, vat_number_crosses, sendable, crosses) depth 40
+
+pub settled_row_sync : IsSync settled.the_row
+settled_row_sync = search (settled_sync, event_crosses, touched_crosses, text_crosses, vat_number_crosses, sendable, crosses) depth 40
+
+pub ruleset settled_crosses = (settled_send, settled_sync, settled_row_send, settled_row_sync)
+
 pub core_send : IsSend (core.the_field).row
-core_send = search (world_crosses, entry_crosses, sendable, crosses) depth 40
+core_send = search (world_crosses, settled_crosses, entry_crosses, sendable, crosses) depth 40
 
 pub core_row_send : IsSend core.the_row
-core_row_send = search (core_send, world_crosses, entry_crosses, sendable, crosses) depth 40
+core_row_send = search (core_send, world_crosses, settled_crosses, entry_crosses, sendable, crosses) depth 40
 
 pub core_sync : IsSync (core.the_field).row
-core_sync = search (world_crosses, entry_crosses, sendable, crosses) depth 40
+core_sync = search (world_crosses, settled_crosses, entry_crosses, sendable, crosses) depth 40
 
 pub core_row_sync : IsSync core.the_row
-core_row_sync = search (core_sync, world_crosses, entry_crosses, sendable, crosses) depth 40
+core_row_sync = search (core_sync, world_crosses, settled_crosses, entry_crosses, sendable, crosses) depth 40
 
 pub ruleset core_crosses = (core_send, core_sync, core_row_send, core_row_sync)

@@ -1,53 +1,65 @@
-use Rattle.std.proofs.Common.{◌<◌, ◌||◌, length, map, get_or, sym, ap, ◌∙◌, subst}
-use Rattle.journal.specs.Items.{item_of}
+use Rattle.std.proofs.Common.{◌≡◌, ◌<◌, ◌||◌, Some, length, map, slice_get, sym, ap, ◌∙◌, subst}
+use Rattle.journal.specs.Items.{Item, number_of}
+use Rattle.journal.specs.Journals.{items_of, settled_item}
+use Rattle.journal.specs.Lines.{reached, writer_of}
 use Rattle.history.specs.Journal.{is_in}
-use Rattle.causality.specs.Causes.{has_place, passes_at, reached_at, writer_of}
-use Rattle.causality.proofs.Following.{number, named_place}
-use Rattle.journal.specs.Lines.{reached}
-use Rattle.causality.proofs.Collecting.{reached_place, place_within, reached_more, older_place, item_at, items_length, place_falls, none_more}
+use Rattle.causality.specs.Causes.{IsWriter, has_place, passes_at, reached_at}
+use Rattle.causality.proofs.Following.{number, named_place, all_place}
+use Rattle.causality.proofs.Collecting.{reached_place, place_within, reached_more, older_place, writer_wrote, some_there, before_there, place_falls, none_more}
+use Rattle.causality.proofs.Telling.{journal_tells}
+use Rattle.causality.proofs.Written.{writers_wrote, found_writer}
 use Rattle.causality.proofs.causes.follow.Goals as goal
 
 pub loop-place-init : goal.loop-place-init
 loop-place-init c =
-    let items = map item_of c.args.entries.now in
+    let items = items_of c.args.journal in
     let k = c.args.cell.now.key in
     let w = c.args.cell.now.writer in
     record {
       reached = λ q. ap (λ ns. has_place c.args.places.now.keys q || passes_at (λ i. is_in ns (number i)) items q)
           (ap (λ o. reached items k (named_place items o)) c.place_of-place.ensures ∙ reached_place items c.args.index.now c.requires.indexed k w);
-      within = λ p is. subst (λ n. p < n) (items_length c.args.entries.now) (place_within items c.args.index.now c.requires.indexed w p (sym c.place_of-place.ensures ∙ is));
+      within = λ p is. place_within items c.args.index.now c.requires.indexed w p (sym c.place_of-place.ensures ∙ is);
+      wrote = λ p is i at. writer_wrote items c.args.index.now c.requires.indexed k w c.requires.wrote p (sym c.place_of-place.ensures ∙ is) i at;
     }
+
+pub writer_at-requires-clause-there : goal.writer_at-requires-clause-there
+writer_at-requires-clause-there c = c.loop-place.invariant.within c.in-Some.here c.in-Some.is
+
+pub writer_at-requires-clause-wrote : goal.writer_at-requires-clause-wrote
+writer_at-requires-clause-wrote c = λ i at.
+    c.loop-place.invariant.wrote c.in-Some.here c.in-Some.is i (before_there (map settled_item c.args.journal.settled.now) _ c.in-Some.here i at)
 
 pub loop-place-smaller : goal.loop-place-smaller
 loop-place-smaller c =
-    let xs = c.args.entries.now in
-    let items = map item_of xs in
+    let items = items_of c.args.journal in
     let here = c.in-Some.here in
-    let d = c.index-entries-here.result in
-    let there : here < length xs = c.loop-place.invariant.within here c.in-Some.is in
+    let (i, at) = some_there items here (c.loop-place.invariant.within here c.in-Some.is) in
     place_falls c.place_of-place-in-Some.result c.loop-place.place here c.in-Some.is
-    (λ p is. older_place items c.args.index.now c.requires.indexed c.requires.journal c.args.cell.now.key here (item_of (get_or xs here d)) (item_at xs here d there) c.writer_of.result (c.writer_of.ensures ∙ ap (λ x. writer_of (item_of x) c.args.cell.now.key) c.index-entries-here.is) p (sym c.place_of-place-in-Some.ensures ∙ is))
+    (λ p is. older_place items c.args.index.now c.requires.indexed c.requires.journal c.args.cell.now.key here i at c.writer_at.result (c.writer_at.ensures i at) p (sym c.place_of-place-in-Some.ensures ∙ is))
 
 pub loop-place-preserved : goal.loop-place-preserved
 loop-place-preserved c =
-    let xs = c.args.entries.now in
-    let items = map item_of xs in
+    let items = items_of c.args.journal in
     let k = c.args.cell.now.key in
     let here = c.in-Some.here in
-    let d = c.index-entries-here.result in
-    let w = c.writer_of.result in
-    let there : here < length xs = c.loop-place.invariant.within here c.in-Some.is in
+    let w = c.writer_at.result in
+    let (i, at) = some_there items here (c.loop-place.invariant.within here c.in-Some.is) in
+    let writer : number_of w ≡ writer_of i k = c.writer_at.ensures i at in
+    let wrote : IsWriter items k (number_of w) = subst (IsWriter items k) (sym writer)
+    (found_writer items k i.lasts (all_place _ items (writers_wrote items (journal_tells items c.requires.journal)) here i at)) in
     record {
       reached = λ q.
           ap (λ o. has_place c.insert.new.self.keys q || reached_at items k (named_place items o) q) c.place_of-place-in-Some.ensures
-          ∙ reached_more items c.args.index.now c.requires.indexed c.requires.journal k here (item_of (get_or xs here d)) (item_at xs here d there) w (c.writer_of.ensures ∙ ap (λ x. writer_of (item_of x) k) c.index-entries-here.is) c.loop-place.places.keys c.insert.new.self.keys c.in_ok-insert.ensures.updates.0 q
+          ∙ reached_more items c.args.index.now c.requires.indexed c.requires.journal k here i at w writer c.loop-place.places.keys c.insert.new.self.keys c.in_ok-insert.ensures.updates.0 q
           ∙ ap (λ o. has_place c.loop-place.places.keys q || reached_at items k (named_place items o) q) (sym c.in-Some.is)
           ∙ c.loop-place.invariant.reached q;
-      within = λ p is. subst (λ n. p < n) (items_length xs) (place_within items c.args.index.now c.requires.indexed w p (sym c.place_of-place-in-Some.ensures ∙ is));
+      within = λ p is. place_within items c.args.index.now c.requires.indexed w p (sym c.place_of-place-in-Some.ensures ∙ is);
+      wrote = λ p is j there. writer_wrote items c.args.index.now c.requires.indexed k w wrote p (sym c.place_of-place-in-Some.ensures ∙ is) j there;
     }
 
 pub returns : goal.returns
 returns c = λ q.
-    none_more (map item_of c.args.entries.now) c.args.cell.now.key c.loop-place.places.keys q
-    ∙ ap (λ o. has_place c.loop-place.places.keys q || reached_at (map item_of c.args.entries.now) c.args.cell.now.key (named_place (map item_of c.args.entries.now) o) q) (sym c.in_default.is)
+    let items = items_of c.args.journal in
+    none_more items c.args.cell.now.key c.loop-place.places.keys q
+    ∙ ap (λ o. has_place c.loop-place.places.keys q || reached_at items c.args.cell.now.key (named_place items o) q) (sym c.in_default.is)
     ∙ c.loop-place.invariant.reached q

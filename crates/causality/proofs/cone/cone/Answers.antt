@@ -1,21 +1,31 @@
-use Rattle.std.proofs.Common.{◌≤◌, ◌+◌, ◌∙◌, true, false, List, Vec, Global, length, map, drop, sym, ap, arith}
+use Rattle.std.proofs.Common.{◌≤◌, ◌+◌, ◌∙◌, true, false, List, [], ◌∷◌, Vec, Global, length, map, drop, rules, sym, ap, arith}
 use Rattle.std.specs.BTreeSet.{BTreeSet}
 use Rattle.std.proofs.lemmas.List.{drop_all}
 use Rattle.history.specs.Journal.{is_in}
 use Rattle.ids.specs.declared.names.EventName.{EventName}
 use Rattle.journal.specs.Items.{item_of}
+use Rattle.journal.specs.Journals.{items_of, settled_item}
 use Rattle.journal.specs.declared.entry.Entry.{Entry}
 use Rattle.causality.specs.Selections.{numbers}
 use Rattle.causality.specs.Walks.{gathered}
+use Rattle.causality.proofs.Behind.{none_of, gathered_past}
 use Rattle.causality.proofs.Cones.{cone_of, gather_step}
 use Rattle.causality.proofs.NameSets.{name_added}
 use Rattle.causality.proofs.Telling.{journal_tells}
 use Rattle.causality.proofs.cone.cone.Goals as goal
 use Rattle.causality.proofs.cone.cone.Goals.{then-does_join+in_ok-insert+in_ok-push, else-does_join}
 
+pub loop-entry-init : goal.loop-entry-init
+loop-entry-init c =
+    let j = c.args.journal in
+    record {
+      known = λ e. search rules;
+      gathering = ap (λ (ns : List EventName). gathered c.args.root ns (map item_of j.entries.now)) c.new-names.ensures.items ∙ sym (gathered_past c.args.root (map settled_item j.settled.now) (map item_of j.entries.now) (none_of (c.args.root ∷ []) j c.requires.open));
+    }
+
 pub loop-entry-preserved : goal.loop-entry-preserved
 loop-entry-preserved c =
-    let xs = c.args.entries.now in
+    let xs = c.args.journal.entries.now in
     let i = c.loop-entry.entry-index in
     let x = c.entry-item.result in
     let root = c.args.root in
@@ -38,9 +48,9 @@ loop-entry-preserved c =
 
 pub returns : goal.returns
 returns c =
-    let xs = c.args.entries.now in
+    let xs = c.args.journal.entries.now in
     let i = c.loop-entry.entry-index in
-    let all = map item_of xs in
+    let all = items_of c.args.journal in
     let names = c.loop-entry.names.items in
     let done : length xs ≤ i = omega (arith, c.loop-entry-test.false) in
     cone_of all c.args.root (journal_tells all c.requires.journal) c.requires.live names

@@ -1,7 +1,5 @@
-use Rattle.std.proofs.Common.{map}
-use Rattle.journal.specs.Items.{item_of}
 use Rattle.causality.proofs.Lacking.{cause_names}
 use Rattle.causality.proofs.returning.cause_set.Goals as goal
 
 pub returns : goal.returns
-returns c = cause_names (map item_of c.args.entries.now) c.args.position c.in_ok-names.names.items c.deref.result.now c.deref.ensures.value c.in_ok-names.ensures c.sorted.result c.sorted.ensures
+returns c = cause_names _ _ c.in_ok-names.names.items c.deref.result.now c.deref.ensures.value c.in_ok-names.ensures c.sorted.result c.sorted.ensures

@@ -1,6 +1,8 @@
 use Rattle.std.proofs.Common.{map, sym, ◌∙◌}
 use Rattle.journal.specs.Items.{item_of}
+use Rattle.journal.specs.Journals.{items_of, settled_item}
 use Rattle.journal.specs.Lines.{lines_of}
+use Rattle.causality.proofs.Behind.{none_of, parted_past, followed_past}
 use Rattle.causality.proofs.Exactness.{gaps_of_closed}
 use Rattle.causality.proofs.Gaps.{gap_walked}
 use Rattle.causality.proofs.Telling.{journal_tells}
@@ -9,12 +11,18 @@ use Rattle.causality.proofs.selection.first_gap.Goals as goal
 
 pub returns-then-not-is_parted : goal.returns-then-not-is_parted
 returns-then-not-is_parted c =
-    let all = map item_of c.args.entries.now in
+    let j = c.args.journal in
+    let all = items_of j in
     let names = c.args.names.now in
     let told = journal_tells all c.requires.journal in
-    sym (gaps_of_closed names (lines_of all) told (unparted_closed names all told (sym c.is_parted.ensures ∙ c.if-not-is_parted.true)))
+    sym (gaps_of_closed names (lines_of all) told (unparted_closed names all told
+    (parted_past names (map settled_item j.settled.now) (map item_of j.entries.now) (none_of names j c.requires.open) ∙ sym c.is_parted.ensures ∙ c.if-not-is_parted.true)))
 
 pub returns : goal.returns
 returns c =
-    let all = map item_of c.args.entries.now in
-    c.first_followed.ensures ∙ sym (gap_walked c.args.names.now all (journal_tells all c.requires.journal) c.requires.live)
+    let j = c.args.journal in
+    let all = items_of j in
+    let names = c.args.names.now in
+    c.first_followed.ensures
+    ∙ sym (followed_past names (map settled_item j.settled.now) (map item_of j.entries.now) (none_of names j c.requires.open))
+    ∙ sym (gap_walked names all (journal_tells all c.requires.journal) c.requires.live)

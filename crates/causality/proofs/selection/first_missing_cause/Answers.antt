@@ -1,5 +1,5 @@
-use Rattle.std.proofs.Common.{map, sym}
-use Rattle.journal.specs.Items.{item_of}
+use Rattle.std.proofs.Common.{sym}
+use Rattle.journal.specs.Journals.{items_of}
 use Rattle.causality.proofs.Lacking.{ok_by}
 use Rattle.causality.proofs.Redoing.{missing_walked}
 use Rattle.causality.proofs.Telling.{journal_tells}
@@ -7,5 +7,5 @@ use Rattle.causality.proofs.selection.first_missing_cause.Goals as goal
 
 pub returns : goal.returns
 returns c =
-    let all = map item_of c.args.entries.now in
-    ok_by _ _ (sym (missing_walked c.args.names.now all (journal_tells all c.requires))) c.first_missed.result c.first_missed.ensures
+    let all = items_of c.args.journal in
+    ok_by _ _ (sym (missing_walked c.args.names.now all (journal_tells all c.requires.journal))) c.first_missed.result c.first_missed.ensures

@@ -1,14 +1,20 @@
-use Rattle.std.proofs.Common.{arith}
-use Rattle.std.proofs.lemmas.Grind.{common_steps}
-use Rattle.causewaylog.proofs.Living.{called_from}
+use Rattle.std.proofs.Common.{map, sym, ap, ◌∙◌}
+use Rattle.std.specs.Option.{option_or}
+use Rattle.journal.specs.Items.{item_of}
+use Rattle.journal.specs.Journals.{settled_item}
+use Rattle.causewaylog.specs.Live.{live_of}
+use Rattle.causewaylog.specs.Turns.{vat_called}
+use Rattle.causewaylog.proofs.Living.{called_either}
 use Rattle.causewaylog.proofs.turns.vat_called.Goals as goal
 
 pub returns-in-Some : goal.returns-in-Some
 returns-in-Some c =
-    let step = called_from c.args.name.now c.args.entries.now c.loop-entry.entry-index c.entry-item.result c.loop-entry-test.true c.entry-item.is in
-    grind (arith, common_steps)
+    let x = c.args.name.now in
+    let es = live_of (map item_of c.args.journal.entries.now) in
+    ap (λ o. option_or o (vat_called x es)) (sym c.in-Some.is ∙ c.settled_vat.ensures) ∙ sym (called_either x (map settled_item c.args.journal.settled.now) (map item_of c.args.journal.entries.now))
 
-pub loop-entry-preserved : goal.loop-entry-preserved
-loop-entry-preserved c =
-    let step = called_from c.args.name.now c.args.entries.now c.loop-entry.entry-index c.entry-item.result c.loop-entry-test.true c.entry-item.is in
-    grind (arith, common_steps)
+pub returns-in-None : goal.returns-in-None
+returns-in-None c =
+    let x = c.args.name.now in
+    let es = live_of (map item_of c.args.journal.entries.now) in
+    c.open_vat.ensures ∙ ap (λ o. option_or o (vat_called x es)) (sym c.in-None.is ∙ c.settled_vat.ensures) ∙ sym (called_either x (map settled_item c.args.journal.settled.now) (map item_of c.args.journal.entries.now))

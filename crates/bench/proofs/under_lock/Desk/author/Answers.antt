@@ -11,7 +11,7 @@ use Rattle.bench.specs.DeskView.{Desked}
 use Rattle.bench.specs.Seats.{is_turn}
 use Rattle.bench.proofs.Acts.{Entering, entering, mark_enters_none}
 use Rattle.bench.proofs.Agrees.{desk_entered, counted_more, counted_same, few_events}
-use Rattle.bench.proofs.Moves.{journal_within, marked, refused_marked}
+use Rattle.bench.proofs.Moves.{journal_within, marked, one_open, refused_marked}
 use Rattle.bench.proofs.under_lock.Desk.author.Goals as goal
 
 pub note-requires-clause-room : goal.note-requires-clause-room
@@ -22,6 +22,14 @@ note-requires-in-Ok-None-clause-room g c = λ at. few_events _ _ _ _ _ (book_of 
 
 pub note-requires-in-Err-clause-room : goal.note-requires-in-Err-clause-room
 note-requires-in-Err-clause-room g c = λ at. few_events _ _ _ _ _ (book_of c.self.inside.book) _ c.self.invariant.2 (journal_within c.self.inside.book) at
+
+pub last_event-entered-requires : goal.last_event-entered-requires
+last_event-entered-requires g c =
+    let old = book_of c.self.inside.book in
+    let now = book_of c.obey.new.book in
+    let h : Obeys c.args.command c.number.result (Some c.in-Ok-Some.event) old now = subst (λ (o : Option EventName). Obeys c.args.command c.number.result o old now) c.in-Ok-Some.field-0-is c.in-Ok-Some.ensures.ok in
+    let it : Entering c.args.command c.in-Ok-Some.event c.number.result old now = entering _ _ _ old now h in
+    one_open c.self.inside.book now it.grows it.same_settled
 
 pub note-requires-clause-fit : goal.note-requires-clause-fit
 note-requires-clause-fit g c =

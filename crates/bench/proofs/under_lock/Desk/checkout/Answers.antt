@@ -16,7 +16,7 @@ use Rattle.bench.specs.DeskView.{Desked}
 use Rattle.bench.specs.Seats.{is_turn}
 use Rattle.bench.proofs.Acts.{Moving, moving}
 use Rattle.bench.proofs.Agrees.{desk_entered, desk_opened, rests_same, counted_more, counted_same, few_events}
-use Rattle.bench.proofs.Moves.{journal_within}
+use Rattle.bench.proofs.Moves.{journal_within, one_open}
 use Rattle.bench.proofs.under_lock.Desk.checkout.Goals as goal
 
 pub note-requires-clause-room : goal.note-requires-clause-room
@@ -24,6 +24,15 @@ note-requires-clause-room g c = λ at. few_events _ _ _ _ _ (book_of c.self.insi
 
 pub note-requires-in-Turn-clause-room : goal.note-requires-in-Turn-clause-room
 note-requires-in-Turn-clause-room g c = λ at. few_events _ _ _ _ _ (book_of c.self.inside.book) _ c.self.invariant.2 (journal_within c.self.inside.book) at
+
+pub last_event-moved-requires : goal.last_event-moved-requires
+last_event-moved-requires g c =
+    let old = book_of c.self.inside.book in
+    let now = book_of c.pick_first.new.book in
+    let b = c.self.inside.budget in
+    let h : Picks b c.number.result (pick.Moved c.in-Moved.event) old now = subst (λ (p : Pick). Picks b c.number.result p old now) c.in-Moved.is c.in_ok-pick_first.ensures.ok in
+    let it : Moving c.in-Moved.event c.number.result old now = moving b _ _ old now h in
+    one_open c.self.inside.book now it.grows it.same_settled
 
 pub note-requires-clause-fit : goal.note-requires-clause-fit
 note-requires-clause-fit g c =

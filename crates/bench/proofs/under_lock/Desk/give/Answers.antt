@@ -9,7 +9,7 @@ use Rattle.bench.proofs.Acts.{returned}
 use Rattle.book.specs.BookView.{book_of}
 use Rattle.desk.specs.Desks.{without}
 use Rattle.bench.proofs.Agrees.{desk_given, counted_more, few_events}
-use Rattle.bench.proofs.Moves.{grows, journal_within}
+use Rattle.bench.proofs.Moves.{grows, journal_within, one_open}
 use Rattle.bench.specs.Seats.{is_turn}
 use Rattle.bench.proofs.under_lock.Desk.give.Goals as goal
 
@@ -17,7 +17,7 @@ pub last_event-given-requires : goal.last_event-given-requires
 last_event-given-requires g c =
     let old = book_of c.self.inside.book in
     let g' = grows _ _ _ old (book_of c.commit.new.self) c.in-Ok.ensures.ok.1.enters.enters in
-    let m = g'.more in omega (arith, m)
+    one_open c.self.inside.book (book_of c.commit.new.self) g' c.in-Ok.ensures.ok.1.same_settled
 
 pub note-requires-clause-fit : goal.note-requires-clause-fit
 note-requires-clause-fit g c =

@@ -10,7 +10,7 @@ use Rattle.book.proofs.book.Book.checkout.Goals as goal
 pub invariant_of-self : goal.invariant_of-self
 invariant_of-self c =
     let b = c.args.self.now in
-    record { in_range = b.in_range; stands = stands_same b.core _ b.next (out_of b.desk) c.share_vat.ensures.shown b.stands; within = within_same b.core c.share_vat.new.self c.share_vat.ensures.shown b.within; noted = noted_same b.core c.share_vat.new.self b.agenda c.share_vat.ensures.shown b.noted }
+    record { in_range = b.in_range; stands = stands_same b.core _ b.next (out_of b.desk) c.share_vat.ensures.shown b.stands; within = within_same b.core c.share_vat.new.self c.share_vat.ensures.shown c.share_vat.ensures.settled b.within; noted = noted_same b.core c.share_vat.new.self b.agenda c.share_vat.ensures.shown b.noted }
 
 pub invariant_of-self-in-Break-branch-3 : goal.invariant_of-self-in-Break-branch-3
 invariant_of-self-in-Break-branch-3 c =
@@ -18,7 +18,7 @@ invariant_of-self-in-Break-branch-3 c =
     record {
       in_range = b.in_range;
       stands = subst (Stands c.share_vat.new.self b.next) (sym c.in_err-lend.ensures.err) (stands_same b.core _ b.next (out_of b.desk) c.share_vat.ensures.shown b.stands);
-      within = within_same b.core c.share_vat.new.self c.share_vat.ensures.shown b.within;
+      within = within_same b.core c.share_vat.new.self c.share_vat.ensures.shown c.share_vat.ensures.settled b.within;
       noted = noted_same b.core c.share_vat.new.self b.agenda c.share_vat.ensures.shown b.noted;
     }
 
@@ -30,6 +30,6 @@ invariant_of-self-2 c =
       in_range = omega (arith, c.in_ok-carried.ensures.in_range);
       stands = subst (Stands c.share_vat.new.self (b.next + 1)) (sym c.in_ok-lend.ensures.ok)
           (stands_lent c.share_vat.new.self b.next (out_of b.desk) _ admitted.named (stands_same b.core _ b.next (out_of b.desk) c.share_vat.ensures.shown b.stands));
-      within = within_same b.core c.share_vat.new.self c.share_vat.ensures.shown b.within;
+      within = within_same b.core c.share_vat.new.self c.share_vat.ensures.shown c.share_vat.ensures.settled b.within;
       noted = noted_same b.core c.share_vat.new.self b.agenda c.share_vat.ensures.shown b.noted;
     }

@@ -7,4 +7,4 @@ use Rattle.book.proofs.book.Book.cone.Goals as goal
 pub cone-requires-clause-journal : goal.cone-requires-clause-journal
 cone-requires-clause-journal c =
     let b = c.args.self.now in
-    subst IsJournal (sym c.entries-2.ensures) (stands_journal b.core b.next (out_of b.desk) b.stands)
+    subst IsJournal (sym c.journal-journal.ensures.items) (stands_journal b.core b.next (out_of b.desk) b.stands)

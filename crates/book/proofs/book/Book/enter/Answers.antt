@@ -18,7 +18,7 @@ use Rattle.book.proofs.Within.{within_same, within_entered, one_more, room_for_n
 use Rattle.book.proofs.book.Book.enter.Goals as goal
 
 pub invariant_of-self : goal.invariant_of-self
-invariant_of-self c = record { in_range = c.args.self.now.in_range; stands = stands_same c.args.self.now.core c.enter.new.self c.args.self.now.next (out_of c.args.self.now.desk) c.in_err-enter.ensures.err c.args.self.now.stands; within = within_same c.args.self.now.core c.enter.new.self c.in_err-enter.ensures.err c.args.self.now.within; noted = noted_same c.args.self.now.core c.enter.new.self c.args.self.now.agenda c.in_err-enter.ensures.err c.args.self.now.noted }
+invariant_of-self c = record { in_range = c.args.self.now.in_range; stands = stands_same c.args.self.now.core c.enter.new.self c.args.self.now.next (out_of c.args.self.now.desk) c.in_err-enter.ensures.err c.args.self.now.stands; within = within_same c.args.self.now.core c.enter.new.self c.in_err-enter.ensures.err c.enter.ensures.settled c.args.self.now.within; noted = noted_same c.args.self.now.core c.enter.new.self c.args.self.now.agenda c.in_err-enter.ensures.err c.args.self.now.noted }
 
 pub invariant_of-self-2-clause-stands : goal.invariant_of-self-2-clause-stands
 invariant_of-self-2-clause-stands c =
@@ -53,7 +53,7 @@ invariant_of-self-2-clause-within c =
     let is : shown c.enter.new.self ≡ entered (with_notes e []) c.args.seat c.args.effects.touched.items kept (shown old) =
     c.in_ok-enter.ensures.ok ∙ ap (λ t. entered (with_notes e (map note_of c.args.effects.notes.items)) c.args.seat t kept (shown old)) c.deref.ensures.value
     ∙ ap (λ (ns : List Note). entered (with_notes e (map note_of ns)) c.args.seat c.args.effects.touched.items kept (shown old)) c.requires.quiet in
-    within_entered old c.enter.new.self (with_notes e []) c.args.seat c.args.effects.touched.items kept is (one_more (book_of c.args.self.now) (room_for_names (book_of c.args.self.now) c.requires.room))
+    within_entered old c.enter.new.self (with_notes e []) c.args.seat c.args.effects.touched.items kept is c.enter.ensures.settled (one_more (book_of c.args.self.now) (room_for_names (book_of c.args.self.now) c.requires.room))
 
 pub returns-clause-ok : goal.returns-clause-ok
 returns-clause-ok c = λ f h.
@@ -63,4 +63,4 @@ returns-clause-ok c = λ f h.
     let is : shown c.enter.new.self ≡ entered (with_notes e []) c.args.seat c.args.effects.touched.items kept (shown old) =
     c.in_ok-enter.ensures.ok ∙ ap (λ t. entered (with_notes e (map note_of c.args.effects.notes.items)) c.args.seat t kept (shown old)) c.deref.ensures.value
     ∙ ap (λ (ns : List Note). entered (with_notes e (map note_of ns)) c.args.seat c.args.effects.touched.items kept (shown old)) c.requires.quiet in
-    next_enters old c.enter.new.self c.args.self.now.next (out_of c.args.self.now.desk) e c.args.seat c.args.effects.touched.items kept f h.brings is c.requires.named c.args.self.now.stands (quiet_does h c.requires.quiet)
+    next_enters old c.enter.new.self c.args.self.now.next (out_of c.args.self.now.desk) e c.args.seat c.args.effects.touched.items kept f h.brings is c.requires.named c.args.self.now.stands (quiet_does h c.requires.quiet) c.enter.ensures.settled

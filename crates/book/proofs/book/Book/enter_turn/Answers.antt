@@ -50,7 +50,7 @@ invariant_of-self c =
     record {
       in_range = b.in_range;
       stands = stands_same b.core _ b.next (out_of b.desk) c.in_err-enter.ensures.err b.stands;
-      within = within_same b.core c.enter.new.self c.in_err-enter.ensures.err b.within;
+      within = within_same b.core c.enter.new.self c.in_err-enter.ensures.err c.enter.ensures.settled b.within;
       noted = noted_same b.core c.enter.new.self b.agenda c.in_err-enter.ensures.err b.noted;
     }
 
@@ -73,7 +73,7 @@ invariant_of-self-2 c =
       in_range = b.in_range;
       stands = subst (Stands c.enter.new.self b.next) (sym c.remove.ensures.rest)
           (committed_stands b.core c.enter.new.self b.next (out_of b.desk) r c.in_ok-touched.field-0 brings is c.in_ok-check_known.ensures.ok c.in_ok-way.ensures.ok b.stands);
-      within = within_entered b.core c.enter.new.self n r.carried.seat c.in_ok-touched.field-0.touched.items (kepts_of c.in_ok-touched.field-0.records.items) is (one_more (book_of b) c.in_ok-check_room.ensures.ok);
+      within = within_entered b.core c.enter.new.self n r.carried.seat c.in_ok-touched.field-0.touched.items (kepts_of c.in_ok-touched.field-0.records.items) is c.enter.ensures.settled (one_more (book_of b) c.in_ok-check_room.ensures.ok);
       noted = noted_next b.core c.enter.new.self c.take.result c.noted.result c.world-2.result.now c.deref-2.result.now c.world-2.ensures c.noted.ensures
           (subst (λ (touched : List CellKey). AlikeBut touched (contents cells (state_of b.core)) (contents cells (state_of c.enter.new.self))) (sym c.deref-2.ensures.value)
           (entered_alike b.core c.enter.new.self n r.carried.seat c.in_ok-touched.field-0.touched.items (kepts_of c.in_ok-touched.field-0.records.items)
@@ -101,6 +101,7 @@ returns-clause-ok c =
       fresh = c.in_ok-way.ensures.ok;
       room = c.in_ok-check_room.ensures.ok;
       enters = committed_turn b.core c.enter.new.self b.next (out_of b.desk) r c.in_ok-touched.field-0 brings is c.in_ok-check_known.ensures.ok c.in_ok-way.ensures.ok b.stands _;
+      same_settled = c.enter.ensures.settled;
       same_next = refl;
       out = c.remove.ensures.rest;
     }

@@ -17,15 +17,15 @@ pub returns-then-entered-lent-clause-entries : goal.returns-then-entered-lent-cl
 returns-then-entered-lent-clause-entries c =
     let entered = c.greatest_seat-entered.result in
     lines_below (items_of c.args.self.now.core) entered c.greatest_seat-lent.result (omega arith)
-    (subst (λ (xs : List Item). All (λ (i : Item). i.seat ≤ entered) xs) c.entries.ensures c.greatest_seat-entered.ensures.above)
+    (subst (λ (xs : List Item). All (λ (i : Item). i.seat ≤ entered) xs) c.journal.ensures.items c.greatest_seat-entered.ensures.above)
 
 pub returns-else-entered-lent-clause-entries : goal.returns-else-entered-lent-clause-entries
 returns-else-entered-lent-clause-entries c =
     let entered = c.greatest_seat-entered.result in
     lines_below (items_of c.args.self.now.core) entered entered (omega arith)
-    (subst (λ (xs : List Item). All (λ (i : Item). i.seat ≤ entered) xs) c.entries.ensures c.greatest_seat-entered.ensures.above)
+    (subst (λ (xs : List Item). All (λ (i : Item). i.seat ≤ entered) xs) c.journal.ensures.items c.greatest_seat-entered.ensures.above)
 
 pub returns-else-entered-lent-clause-least : goal.returns-else-entered-lent-clause-least
 returns-else-entered-lent-clause-least c = λ n lines tickets.
     c.greatest_seat-entered.ensures.least n
-    (subst (λ (xs : List Item). All (λ (i : Item). i.seat ≤ n) xs) (sym c.entries.ensures) (items_below (items_of c.args.self.now.core) n lines))
+    (subst (λ (xs : List Item). All (λ (i : Item). i.seat ≤ n) xs) (sym c.journal.ensures.items) (items_below (items_of c.args.self.now.core) n lines))

@@ -21,7 +21,7 @@ invariant_of-self c =
     record {
       in_range = b.in_range;
       stands = stands_same b.core _ b.next (out_of b.desk) c.share_vat.ensures.shown b.stands;
-      within = within_same b.core c.share_vat.new.self c.share_vat.ensures.shown b.within;
+      within = within_same b.core c.share_vat.new.self c.share_vat.ensures.shown c.share_vat.ensures.settled b.within;
       noted = noted_same b.core c.share_vat.new.self b.agenda c.share_vat.ensures.shown b.noted;
     }
 
@@ -33,7 +33,7 @@ enter-requires-clause-possible c =
     let v = c.args.vat in
     let p = c.args.promise in
     let q = published_of c.in_ok-event.published in
-    let same = book_same s.core c.share_vat.new.self s.next (out_of s.desk) c.share_vat.ensures.shown in
+    let same = book_same s.core c.share_vat.new.self s.next (out_of s.desk) c.share_vat.ensures.shown c.share_vat.ensures.settled in
     let learns : Learns (vat_state b.world v) p q c.in_ok-footprint.footprint = subst (λ (u : State). Learns u p q c.in_ok-footprint.footprint) c.in_ok-state.ensures.shared c.in_ok-footprint.ensures in
     let h = learnt_happens b.world v p e q c.in_ok-effects.effects c.in_ok-event.ensures.ok.can (c.in_ok-effects.ensures b.world q learns) in
     (h.0, subst (λ (k : Book). Happens (record { name = e; act = learn v p }) h.0 k.world c.in_ok-effects.effects) (sym same) h.1)
@@ -56,7 +56,7 @@ returns-clause-ok c =
     let v = c.args.vat in
     let p = c.args.promise in
     let q = published_of c.in_ok-event.published in
-    let same = book_same s.core c.share_vat.new.self s.next (out_of s.desk) c.share_vat.ensures.shown in
+    let same = book_same s.core c.share_vat.new.self s.next (out_of s.desk) c.share_vat.ensures.shown c.share_vat.ensures.settled in
     let learns : Learns (vat_state b.world v) p q c.in_ok-footprint.footprint = subst (λ (u : State). Learns u p q c.in_ok-footprint.footprint) c.in_ok-state.ensures.shared c.in_ok-footprint.ensures in
     let h = learnt_happens b.world v p e q c.in_ok-effects.effects c.in_ok-event.ensures.ok.can (c.in_ok-effects.ensures b.world q learns) in
     let enters = c.in_ok-enter.ensures.ok h.0 (subst (λ (k : Book). Happens (record { name = e; act = learn v p }) h.0 k.world c.in_ok-effects.effects) (sym same) h.1) in

@@ -1,15 +1,14 @@
-use Rattle.std.proofs.Common.{◌≤◌, ap, length, sym, subst, arith}
+use Rattle.std.proofs.Common.{ap, length, arith}
 use Rattle.journal.specs.Lines.{lines_of}
 use Rattle.desk.specs.DeskView.{out_of}
 use Rattle.book.proofs.Blank.{blank_stands}
-use Rattle.book.specs.declared.book.TheConstants.{MOST_ENTRIES}
 use Rattle.book.proofs.book.Book.new.Goals as goal
 
 pub invariant_of-result-clause-stands : goal.invariant_of-result-clause-stands
 invariant_of-result-clause-stands c = blank_stands c.new.result (out_of c.new-2.result) c.new.ensures.entries c.new.ensures.cells c.new-2.ensures
 
 pub invariant_of-result-clause-within : goal.invariant_of-result-clause-within
-invariant_of-result-clause-within c = subst (λ n. n ≤ MOST_ENTRIES) (ap length (sym c.new.ensures.entries)) (omega arith)
+invariant_of-result-clause-within c = let none = ap length c.new.ensures.entries in omega (arith, none)
 
 pub returns : goal.returns
-returns c = λ i. record { world = λ k. (c.new.ensures.cells k i).0; journal = lines_of (c.new.ensures.entries i); next = 1; out = c.new-2.ensures i }
+returns c = λ i. record { world = λ k. (c.new.ensures.cells k i).0; journal = lines_of (c.new.ensures.entries i); settled = c.new.ensures.settled i; next = 1; out = c.new-2.ensures i }

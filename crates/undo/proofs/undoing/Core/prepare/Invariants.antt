@@ -6,6 +6,7 @@ use Rattle.undo.proofs.undoing.Core.prepare.Given as goal
 
 abbrev pub invariant-loop-position : goal.invariant-loop-position
 invariant-loop-position l = record {
+  settled : l.self.settled ≡ l.fn.self.settled;
   entries : l.self.entries ≡ l.fn.self.entries;
   state : state_of l.self ≡ state_of l.fn.self;
   ready : (k : CellKey) → ready_of l.fn.self k ≡ true → ready_of l.self k ≡ true;

@@ -1,12 +1,13 @@
 use Rattle.std.proofs.Common.{◌≡◌, ◌≤◌, ◌+◌, ◌%◌, ◌^◌, ℕ, false, length, take, drop, reverse}
 use Rattle.history.specs.Walks.{walk}
-use Rattle.undo.specs.CoreView.{items_of, shown, ready_of}
+use Rattle.undo.specs.CoreView.{items_of, settled_of, shown, ready_of}
 use Rattle.journal.specs.Items.{swap_item, keys_at, records_at}
 use Rattle.undo.proofs.undoing.Core.undo.Given as goal
 
 abbrev pub invariant-loop-i : goal.invariant-loop-i
 invariant-loop-i l = record {
   bound : l.i ≤ length l.positions;
+  settled : settled_of l.self ≡ settled_of l.fn.self;
   ready : ready_of l.self ≡ ready_of l.fn.self;
   keys : (p : ℕ) → keys_at (items_of l.self) p ≡ keys_at (items_of l.fn.self) p;
   rest : walk (swap_item false) (reverse (take l.i l.positions)) (shown l.self) ≡ walk (swap_item false) (reverse l.positions) (shown l.fn.self);

@@ -2,7 +2,7 @@ use Rattle.std.proofs.Common.{◌≡◌, drop, map}
 use Rattle.journal.specs.Items.{item_of}
 use Rattle.causewaylog.specs.Live.{live_of}
 use Rattle.causewaylog.specs.Turns.{vat_called}
-use Rattle.causewaylog.proofs.turns.vat_called.Given as goal
+use Rattle.causewaylog.proofs.turns.open_vat.Given as goal
 
 -- the entries so far bear no vat of the name
 abbrev pub invariant-loop-entry : goal.invariant-loop-entry

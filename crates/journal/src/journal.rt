@@ -1,0 +1,51 @@
+// The journal: what is kept of settled entries, and the entries behind them.
+ghost use Rattle.std.specs.Prelude.{◌≡◌, ◌+◌, ◌<◌, true, length, map, Some, slice_get};
+ghost use Rattle.ids.specs.declared.cells.CellKey.{CellKey};
+ghost use Rattle.journal.specs.Items.{Item, number_of};
+ghost use Rattle.journal.specs.Lines.{writer_of, wrote_cell};
+
+use crate::entry::{Entry, writer_among};
+use crate::settled::Settled;
+use ids::cells::CellKey;
+use ids::names::EventName;
+
+/// A journal, the oldest entry first: settled entries, which can no longer be taken back, and those behind them.
+#[derive(Clone, Copy)]
+pub struct Journal<'a> {
+    pub settled: &'a [Settled],
+    pub entries: &'a [Entry],
+}
+
+impl<'a> Journal<'a> {
+    ghost use Rattle.journal.specs.Journals.{items_of, settled_item};
+
+    /// How many entries there are.
+    pub fn len(self) -> usize
+        ensures { result ≡ length (items_of self.entry) }
+    {
+        self.settled.len() + self.entries.len()
+    }
+
+    /// The name of the event at a place, counted from the oldest.
+    pub fn name_at(self, place: usize) -> EventName
+        requires { place < length (items_of self) }
+        ensures { slice_get (map (λ i. i.event.name) (items_of self.entry)) place ≡ Some result }
+    {
+        if place < self.settled.len() {
+            return self.settled[place].name;
+        }
+        self.entries[place - self.settled.len()].event.name
+    }
+
+    /// The last writer of a cell when the event at a place was made, which wrote the cell if it is settled.
+    pub fn writer_at(self, place: usize, key: &CellKey) -> Option<EventName>
+        requires there { place < length (items_of self) }
+        requires wrote { (i : Item) → slice_get (map settled_item self.settled.now) place ≡ Some i → wrote_cell i key.now ≡ true }
+        ensures { (i : Item) → slice_get (items_of self.entry) place ≡ Some i → number_of result ≡ writer_of i key.now }
+    {
+        if place < self.settled.len() {
+            return writer_among(&self.settled[place].written, key);
+        }
+        writer_among(&self.entries[place - self.settled.len()].touched, key)
+    }
+}

@@ -1,0 +1,26 @@
+use Rattle.std.proofs.Common.{◌≡◌, ◌∙◌, ◌+◌, ◌-◌, ◌≤◌, true, ◌++◌, List, length, map, take, drop, sym, ap, ap₂, append_assoc, subst, arith}
+use Rattle.std.specs.List.{AllByRecursion}
+use Rattle.std.proofs.lemmas.List.{length-map}
+use Rattle.journal.specs.Items.{Item, item_of}
+use Rattle.journal.specs.Journals.{settled_item}
+use Rattle.undo.specs.CoreView.{state_of}
+use Rattle.undo.proofs.Settling.{map_take, rotated, all_stay}
+use Rattle.undo.proofs.undoing.Core.settle.Goals as goal
+
+pub of_all-requires : goal.of_all-requires
+of_all-requires c =
+    subst (λ es. AllByRecursion (λ (i : Item). i.live ≡ true) (map item_of (take c.args.count es))) (sym c.deref.ensures.value)
+    (subst (AllByRecursion (λ (i : Item). i.live ≡ true)) (map_take item_of c.args.count c.args.self.now.entries.items) c.requires.live)
+
+pub returns-clause-shown : goal.returns-clause-shown
+returns-clause-shown c =
+    let b = c.args.self.now in
+    let xs = b.entries.items in
+    let n = c.args.count in
+    let within : n ≤ length xs = (let m = length-map xs item_of in omega (arith, m, c.requires.within)) in
+    let many : c.len.result ≡ length xs = omega (arith, c.rotate_left.ensures.len, c.len.ensures, b.entries.ok.0) in
+    let left : c.len.result - n ≡ length xs - n = omega (arith, many) in
+    let entries : c.truncate.new.self.items ≡ drop n xs = c.truncate.ensures.items ∙ ap (take (c.len.result - n)) c.rotate_left.ensures.items ∙ rotated n (c.len.result - n) xs within left in
+    let new : map settled_item c.in_ok-settled.settled.items ≡ map item_of (take n xs) = c.in_ok-settled.ensures ∙ ap (λ es. map item_of (take n es)) c.deref.ensures.value in
+    ap₂ (λ ss es. (map settled_item ss ++ map item_of es, state_of b)) c.in_ok-append.ensures.items entries
+    ∙ ap (λ l. (l, state_of b)) (all_stay settled_item item_of b.settled.items c.in_ok-settled.settled.items n xs new)
