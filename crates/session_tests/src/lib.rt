@@ -1,4 +1,4 @@
-//! What sessions of commands answer where memory is ample: several vats, undo and redo, settling, logs, the examples, and what README and LANGUAGE show.
+//! What sessions of commands answer where memory is ample: several vats, undo and redo, settling, the examples, and what README and LANGUAGE show.
 #![tactic(auto)]
 
 #[cfg(test)]
@@ -7,8 +7,6 @@ mod documents;
 mod examples;
 #[cfg(test)]
 mod expecting;
-#[cfg(test)]
-mod logs;
 #[cfg(test)]
 mod settling;
 #[cfg(test)]

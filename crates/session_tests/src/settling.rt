@@ -1,7 +1,7 @@
 // Sessions in which events are settled, with the replies that their authors are promised.
 
 use crate::expecting::expect_session;
-use crate::several::E_ORDER;
+use crate::several::{E_ORDER, PASSED};
 
 /// Behind the turns in E-order the births are settled, and what came later is taken back.
 const SETTLED_BIRTHS: &str = r#"> settle 6
@@ -149,7 +149,7 @@ base 6
 
 #[test]
 fn later_events_are_taken_back(rt: HostRuntime) {
-    expect_session(&rt, &[E_ORDER, SETTLED_BIRTHS]);
+    expect_session(&rt, &[PASSED, E_ORDER, SETTLED_BIRTHS]);
 }
 
 #[test]

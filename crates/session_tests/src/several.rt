@@ -2,8 +2,8 @@
 
 use crate::expecting::{expect_session, expect_sessions};
 
-/// What is sent on a passed copy comes after what was sent before on the original.
-pub(crate) const E_ORDER: &str = r#"> vat carol () 1
+/// Carol is called by alice, and by bob with the carol whom alice passed on; no call has come to its vat.
+pub(crate) const PASSED: &str = r#"> vat carol () 1
 > def _ { method x() { 1 } method w() { 2 } }
 ok e1 e1.m0
 > turn e1.m0
@@ -20,8 +20,10 @@ ok e6 value null
 > ask alice carol <- x(); bob <- y(carol)
 ok e7 e7.m0
 > turn e7.m0
-ok e8 value <e8.p1>
-> arrive e8.m1
+ok e8 value <e8.p1>"#;
+
+/// What is sent on a passed copy comes after what was sent before on the original.
+pub(crate) const E_ORDER: &str = r#"> arrive e8.m1
 ok e9
 > turn e8.m1
 ok e10 value <e10.p0>
@@ -77,25 +79,7 @@ ok e15 value 8
 ok e16 value 9"#;
 
 /// A call on what is far or not known throws; a vat learns where a promise leads.
-const LEARNING: &str = r#"> vat carol () 1
-> def _ { method x() { 1 } method w() { 2 } }
-ok e1 e1.m0
-> turn e1.m0
-ok e2 value <e2.o0>
-> vat bob () 1
-> def _ { method y(c) { c <- w() } }
-ok e3 e3.m0
-> turn e3.m0
-ok e4 value <e4.o0>
-> vat alice (carol bob) 0
-ok e5 e5.m0
-> turn e5.m0
-ok e6 value null
-> ask alice carol <- x(); bob <- y(carol)
-ok e7 e7.m0
-> turn e7.m0
-ok e8 value <e8.p1>
-> arrive e8.m1
+const LEARNING: &str = r#"> arrive e8.m1
 ok e9
 > turn e8.m1
 ok e10 value <e10.p0>
@@ -248,25 +232,7 @@ ok e30 value <e30.p0>
 idle"#;
 
 /// An arrival is undone apart from what came after it.
-const ARRIVAL_UNDONE: &str = r#"> vat carol () 1
-> def _ { method x() { 1 } method w() { 2 } }
-ok e1 e1.m0
-> turn e1.m0
-ok e2 value <e2.o0>
-> vat bob () 1
-> def _ { method y(c) { c <- w() } }
-ok e3 e3.m0
-> turn e3.m0
-ok e4 value <e4.o0>
-> vat alice (carol bob) 0
-ok e5 e5.m0
-> turn e5.m0
-ok e6 value null
-> ask alice carol <- x(); bob <- y(carol)
-ok e7 e7.m0
-> turn e7.m0
-ok e8 value <e8.p1>
-> arrive e8.m0
+const ARRIVAL_UNDONE: &str = r#"> arrive e8.m0
 ok e9
 > arrive e8.m1
 ok e10
@@ -421,25 +387,30 @@ board e10.p0 = 8"#;
 #[test]
 fn several_vats(rt: HostRuntime) {
     let sessions = [
-        E_ORDER,
         FORWARDING,
-        LEARNING,
         LIST_AS_TARGET,
         ITSELF,
         TO_BROKEN,
         WHEN_BROKEN,
         RING,
-        ARRIVAL_UNDONE,
         OWN_MESSAGE,
         TO_THE_END,
     ];
     expect_sessions(&rt, &sessions);
 }
 
+/// What becomes of two calls of one vat, the later of which was sent on a passed copy.
+#[test]
+fn calls_on_a_passed_copy(rt: HostRuntime) {
+    for behind in [E_ORDER, LEARNING, ARRIVAL_UNDONE] {
+        expect_session(&rt, &[PASSED, behind]);
+    }
+}
+
 /// What can be undone and redone behind the turns in E-order.
 #[test]
 fn turns_in_e_order_are_undone(rt: HostRuntime) {
     for behind in [BIRTH_UNDONE, CROSSED, CAUSE_MISSING] {
-        expect_session(&rt, &[E_ORDER, behind]);
+        expect_session(&rt, &[PASSED, E_ORDER, behind]);
     }
 }

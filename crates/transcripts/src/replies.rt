@@ -46,7 +46,7 @@ pub fn shown(bytes: &[u8]) -> &str {
 }
 
 /// How an answer differs from the one that is wanted, if it does.
-pub fn told(
+fn told(
     alloc: Global,
     of: &str,
     answered: &str,

@@ -12,6 +12,8 @@ mod expecting;
 #[cfg(test)]
 mod language;
 #[cfg(test)]
+mod logs;
+#[cfg(test)]
 mod objects;
 #[cfg(test)]
 mod sessions;

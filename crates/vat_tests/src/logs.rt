@@ -1,6 +1,6 @@
 // Sessions with logs.
 
-use crate::expecting::expect_session;
+use crate::expecting::expect_sessions;
 
 /// The log of one turn and of a send; of what is undone nothing is left.
 const SEND: &str = r#"> vat a () 1
@@ -72,8 +72,5 @@ no S2 BadWord
 
 #[test]
 fn logs_of_turns(rt: HostRuntime) {
-    expect_session(&rt, &[SEND]);
-    expect_session(&rt, &[WHEN]);
-    expect_session(&rt, &[PROBLEM]);
-    expect_session(&rt, &[ABANDONED]);
+    expect_sessions(&rt, &[SEND, WHEN, PROBLEM, ABANDONED]);
 }
