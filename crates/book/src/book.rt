@@ -1,85 +1,66 @@
-// The book: the world, the journal that made it, the names that are not drawn yet, and the tickets that are out.
-ghost use Rattle.std.specs.Prelude.{◌≡◌, ℕ, ◌≢◌, ◌≤◌, ◌+◌, ◌↔◌, [], All, Option, None, Some, true, false, IsTrue, IfOk, IfErr, IfSome, OnOk, OnErr, length, filter, map, not};
+// The book: the world, the journal that made it, the names that are not drawn yet, and the tickets that are out; how events are entered, and which may be next.
+ghost use Rattle.std.specs.Prelude.{◌≡◌, ℕ, ◌≤◌, ◌+◌, [], All, None, IfOk, IfErr, OnOk, OnErr, length, not};
 ghost use Rattle.std.specs.Option.{option_map, ForSome};
 ghost use Rattle.history.specs.Records.{contents};
 ghost use Rattle.history.specs.Chains.{last_writer};
 ghost use Rattle.history.specs.Journal.{live_set};
 ghost use Rattle.ids.specs.declared.cells.CellKey.{CellKey};
-ghost use Rattle.ids.specs.declared.cells.CellKey.TheVariants as key;
 ghost use Rattle.kernele.specs.View.{program_of};
 ghost use Rattle.scopes.specs.Check.{scopes_of};
 ghost use Rattle.scopes.specs.Scope.{checked_program};
-ghost use Rattle.heap.specs.Found.{Found};
-ghost use Rattle.worldcells.specs.Events.{birth, learn};
 ghost use Rattle.worldcells.specs.EventView.{event_of};
-ghost use Rattle.post.specs.MessageView.{place_of, message_of, published_of, vat_of};
+ghost use Rattle.post.specs.MessageView.{message_of, published_of, vat_of};
 ghost use Rattle.worldcells.specs.Theory.{cells, state_of_world};
 ghost use Rattle.worldcells.specs.View.{world_of};
-ghost use Rattle.post.specs.Messages.{at_vat};
-ghost use Rattle.worldcells.specs.World.{World as WorldModel, vat, vat_named, vat_state};
-ghost use Rattle.event.specs.Events.{Foot, Turn};
+ghost use Rattle.worldcells.specs.World.{World as WorldModel, vat, vat_named};
+ghost use Rattle.event.specs.Events.{Foot};
 ghost use Rattle.event.specs.Naming.{Numbers};
-ghost use Rattle.event.specs.ReadyView.{IsWay};
 ghost use Rattle.agenda.specs.Agendas.{AlikeBut, KnownAs, can_learn};
 ghost use Rattle.agenda.specs.AgendaView.{NotedIn};
 ghost use Rattle.agenda.specs.Enabled.{Enabled, First};
 ghost use Rattle.event.specs.Effects.{Happens};
-ghost use Rattle.deliveries.specs.Outcomes.{told_of};
 ghost use Rattle.event.specs.Runs.{PlainRun};
 ghost use Rattle.journal.specs.Journals.{items_of};
 ghost use Rattle.journal.specs.Lines.{plain, lines_of, entries_in};
-ghost use Rattle.causality.specs.Exact.{Cone};
 ghost use Rattle.causality.specs.Journals.{IsJournal};
-ghost use Rattle.causality.specs.Selections.{chosen};
 ghost use Rattle.undo.specs.CoreView.{items_of as core_items, settled_of, state_of};
-ghost use Rattle.desk.specs.Desks.{has_vat, is_out, without};
-ghost use Rattle.desk.specs.DeskView.{lent_of as desk_lent, out_of};
-ghost use Rattle.book.specs.Refusals.{birth_refusal, ask_refusal, arrival_refusal, forward_refusal, Refusal, named_refusal, learn_refusal, learning_refusal, nothing_to_learn, refuse_where, checkout_refusal, full_refusal, check_refusal, taken_refusal, undo_refusal, redo_refusal, cone_refusal, exchange_refusal, settle_refusal, budget_refusal, refusal_of, full, journal_full};
+ghost use Rattle.desk.specs.Desks.{has_vat};
+ghost use Rattle.desk.specs.DeskView.{out_of};
+ghost use Rattle.book.specs.Refusals.{birth_refusal, ask_refusal, arrival_refusal, forward_refusal, named_refusal, learn_refusal, learning_refusal, nothing_to_learn, refuse_where, full_refusal, check_refusal, taken_refusal};
 ghost use Rattle.book.specs.Books.{blank};
-ghost use Rattle.book.specs.Calls.{EntersNext, AdmitsAsk, AdmitsBirth, Arrives, Asks, Births, Forwards, Learns, LearnsAt, Admitted, AdmitsArrival, AdmitsForward, AdmitsLearning, CanLearn, LeadsAsBefore, TurnsNext, lent_of, Lends, Commits, IsKnown, IsFresh, Undoes, Redoes, Exchanges, Settles, BaseGoesOn, RunsFromBase, StoodAt, live_events};
-ghost use Rattle.book.specs.Fault.{Tells, delay_tells, TellsLost, TellsStale, TellsCommit, Unturned};
+ghost use Rattle.book.specs.Calls.{EntersNext, AdmitsAsk, AdmitsBirth, Arrives, Asks, Births, Forwards, Learns, LearnsAt, AdmitsArrival, AdmitsForward, AdmitsLearning, CanLearn, RunsFromBase, live_events};
+ghost use Rattle.book.specs.Fault.{Tells};
 ghost use Rattle.book.specs.Learning.{LearnsNamed, TellsNamed};
 ghost use Rattle.book.specs.Standing.{Stands};
 ghost use Rattle.book.specs.declared.book.TheConstants.{MOST_ENTRIES};
-ghost use Rattle.book.specs.declared.fault.BookFault.TheVariants.{NoTicket, Stale, Full, Memory};
+ghost use Rattle.ids.specs.declared.cells.CellKey.TheVariants as key;
 
-use crate::fault::BookFault;
+use crate::fault::{BookFault, unready_fault};
 use crate::seats::greatest_seat;
-use crate::selecting::{check_cone, check_exchange, check_redo, check_settle, check_undo};
 use agenda::agenda::{Agenda, Step, is_open};
-use causality::cone::cone;
-use causality::names::NameSet;
-use causality::selection::positions;
 use cells::swaps::Swaps;
-use deliveries::lead::Lead;
 use deliveries::outcome::Ended;
-use desk::desk::{Desk, Lent};
-use event::effects::{
-    Effects, ask_effects, birth_effects, learn_effects, move_effects, turn_effects,
-};
+use desk::desk::Desk;
+use event::effects::{Effects, ask_effects, birth_effects, learn_effects, move_effects};
 use event::forwarding::{Destination, onward};
-use event::found::is_found;
 use event::learning::learn;
-use event::ready::{Delay, Unready, Way, check_ready, message_at_vat};
-use heap::reach::Footprint;
-use heap::state::VatState;
+use event::ready::message_at_vat;
 use ids::cells::CellKey;
 use ids::names::{EventName, MsgId, PromId, VatNo};
 use ids::text::Text;
 use journal::journal::Journal;
 use kernele::tree::Program;
-use post::message::{Message, Place, same_sent};
+use post::message::Message;
 use post::published::Published;
 use post::vat::Vat;
 use scopes::{CheckFault, Outer, check};
 use std::alloc::{AllocError, Global};
-use turn::ticket::{Out, Ran, Task, Ticket};
 use undo::undoing::{Core, Deed};
 use worldcells::event::{Action, Event};
 use worldcells::world::World;
 
 /// The greatest name that an event may have.
-const LAST_NAME: u64 = 4_294_967_295;
+pub(crate) const LAST_NAME: u64 = 4_294_967_295;
 
 /// The most entries that a journal may have.
 pub const MOST_ENTRIES: usize = 1_048_576;
@@ -100,12 +81,12 @@ pub struct Turned {
 /// All that has happened: the world, the journal whose live events made it, the next event's name, and the tickets that are out.
 #[derive(Drop)]
 pub struct Book {
-    alloc: Global,
-    core: Core,
-    next: u64,
-    desk: Desk,
+    pub(crate) alloc: Global,
+    pub(crate) core: Core,
+    pub(crate) next: u64,
+    pub(crate) desk: Desk,
     /// What may be done next; none where it is to be found anew.
-    agenda: Option<Agenda>,
+    pub(crate) agenda: Option<Agenda>,
     pub ghost in_range: { next ≤ 4294967296 },
     pub ghost stands: { Stands core next (out_of desk) },
     pub ghost within: { length (core_items core) ≤ settled_of core + MOST_ENTRIES },
@@ -123,48 +104,8 @@ fn check_program(alloc: Global, program: &Program, outer: &Outer) -> Result<(), 
     }
 }
 
-fn unready_fault(message: MsgId, unready: Unready) -> BookFault
-    ensures { Tells result (Some (refusal_of message unready)) }
-{
-    match unready {
-        Unready::NoMessage => BookFault::NoMessage(message),
-        Unready::NotThere => BookFault::NotThere,
-        Unready::NotReady => BookFault::NotReady,
-        Unready::Before(first) => BookFault::Before(first),
-    }
-}
-
-fn delay_fault(message: MsgId, delay: Delay) -> BookFault
-    ensures { (refusal : Option Refusal) → delay_tells message delay refusal → Tells result refusal }
-{
-    match delay {
-        Delay::Memory => BookFault::Memory,
-        Delay::Unready(unready) => unready_fault(message, unready),
-    }
-}
-
-fn check_budget(budget: u32) -> Result<(), BookFault>
-    ensures ok { OnOk result (budget_refusal budget ≡ None) }
-    ensures err { IfErr result (λ fault. Tells fault (budget_refusal budget)) }
-{
-    if budget == 0 || budget > MOST_STEPS {
-        return Err(BookFault::BadBudget);
-    }
-    Ok(())
-}
-
-/// Whether the state of a vat, if it has one, holds what a turn found.
-fn is_found_at(alloc: Global, footprint: &Footprint, world: &World, vat: VatNo) -> bool
-    ensures { IsTrue result ↔ Found footprint.now (vat_state (world_of world.now) vat) }
-{
-    match world.home(vat) {
-        Some(state) => is_found(footprint, state),
-        None => is_found(footprint, &VatState::new(alloc)),
-    }
-}
-
 /// The agenda with what the cells hold now that an event touched. Without memory there is none, and it is to be found anew.
-fn noted(
+pub(crate) fn noted(
     alloc: Global,
     agenda: Option<Agenda>,
     world: &World,
@@ -176,58 +117,6 @@ fn noted(
     match agenda.note(alloc, world, touched) {
         Ok(()) => Some(agenda),
         Err(_) => None,
-    }
-}
-
-fn is_at(place: Place, vat: VatNo) -> bool
-    ensures { IsTrue result ↔ (place_of place ≡ at_vat vat) }
-{
-    match place {
-        Place::At(home) => home == vat,
-        Place::Flying(_) | Place::Done(_) => false,
-    }
-}
-
-/// Whether a message, if the world has it, is the one that a ticket carries, their places aside.
-fn is_copy(found: Option<&Message>, carried: &Message) -> bool
-    ensures { IsTrue result ↔ IfSome found.entry (λ g. record (message_of g.now) { place = (message_of carried.now).place } ≡ message_of carried.now) }
-{
-    match found {
-        Some(message) => same_sent(message, carried),
-        None => true,
-    }
-}
-
-/// Where the message of a ticket leads, if it is ready and leads where it led.
-fn same_way(alloc: Global, world: &World, out: &Task) -> Result<Way, BookFault>
-    ensures ok { OnOk result (LeadsAsBefore (world_of world.now) out.now) }
-    ensures way { IfOk result (IsWay (world_of world.now) out.now.vat (message_of out.now.message)) }
-    ensures err { IfErr result (λ fault. TellsLost fault (world_of world.now) out.now) }
-{
-    let way = match check_ready(alloc, world, &out.message, out.vat) {
-        Ok(way) => way,
-        Err(Delay::Memory) => return Err(BookFault::Memory),
-        Err(Delay::Unready(_)) => return Err(BookFault::Stale),
-    };
-    if !way.lead.is_same(&out.lead) {
-        return Err(BookFault::Stale);
-    }
-    Ok(way)
-}
-
-/// Whether the ticket that was found out, if one was, is this one.
-fn is_lent(found: Option<Lent>, out: &Task) -> bool
-    ensures { IsTrue result ↔ (option_map desk_lent found ≡ Some (lent_of out.now)) }
-{
-    match found {
-        Some(lent) => {
-            lent.number == out.event
-                && lent.message == out.name
-                && lent.vat == out.vat
-                && lent.budget == out.budget
-                && lent.seat == out.seat
-        }
-        None => false,
     }
 }
 
@@ -280,7 +169,7 @@ impl Book {
     }
 
     /// The name that the next event is given.
-    fn next_event(&self) -> Result<EventName, BookFault>
+    pub(crate) fn next_event(&self) -> Result<EventName, BookFault>
         ensures ok { IfOk result (λ e. (e.0 ≡ self.now.next) × (self.now.next ≤ LAST_NAME) × (full_refusal (book_of self.now) ≡ None)) }
         ensures err { IfErr result (λ fault. Tells fault (full_refusal (book_of self.now))) }
     {
@@ -666,322 +555,5 @@ impl Book {
         let steps = agenda.all(self.alloc, self.core.world(), &self.desk);
         self.agenda = Some(agenda);
         steps
-    }
-
-    /// A message that may be delivered with this budget, shared, where it leads, its vat, and the name of its turn.
-    fn admit_turn(
-        &self,
-        message: MsgId,
-        budget: u32,
-    ) -> Result<(Message, Lead, VatNo, EventName), BookFault>
-        ensures ok { IfOk result (λ r. Admitted (book_of self.now) message budget r.0 r.1 r.2 r.3) }
-        ensures in_range { OnOk result (self.now.next ≤ LAST_NAME) }
-        ensures err { IfErr result (λ fault. Tells fault (checkout_refusal (book_of self.now) message budget)) }
-    {
-        check_budget(budget)?;
-        let world = self.core.world();
-        let (waiting, vat) = match message_at_vat(world, message) {
-            Ok(found) => found,
-            Err(unready) => return Err(unready_fault(message, unready)),
-        };
-        if self.desk.has_vat(vat) {
-            return Err(BookFault::VatOut);
-        }
-        let lead = match check_ready(self.alloc, world, waiting, vat) {
-            Ok(way) => way.lead,
-            Err(delay) => return Err(delay_fault(message, delay)),
-        };
-        let event = self.next_event()?;
-        Ok((waiting.share()?, lead, vat, event))
-    }
-
-    /// Lends a ticket for the turn of a message, with at most this many steps, to a seat. The ticket shares the vat's state.
-    ///
-    /// # Errors
-    /// `BadBudget`, `NoMessage`, `NotThere`, `VatOut`, `Before`, `Full`, `Memory`, tried in this order.
-    pub fn checkout(
-        &mut self,
-        message: MsgId,
-        budget: u32,
-        seat: u64,
-    ) -> Result<Ticket<Out>, BookFault>
-        ensures ok { IfOk result (λ t. (checkout_refusal (book_of self.old) message budget ≡ None) × Lends message budget seat t (book_of self.old) (book_of self.new)) }
-        ensures err { IfErr result (λ fault. Tells fault (checkout_refusal (book_of self.old) message budget)) }
-        ensures unchanged { OnErr result (book_of self.new ≡ book_of self.old) }
-    {
-        let (carried, lead, vat, event) = self.admit_turn(message, budget)?;
-        let state = self.core.share_vat(self.alloc, vat)?;
-        self.desk.lend(Lent {
-            number: event,
-            message,
-            vat,
-            budget,
-            seat,
-        })?;
-        self.next += 1;
-        Ok(Ticket::new(Out {
-            alloc: self.alloc,
-            event,
-            name: message,
-            message: carried,
-            lead,
-            vat,
-            state,
-            budget,
-            seat,
-        }))
-    }
-
-    /// The ticket is out, and its message is the world's, if it is there.
-    fn check_known(&self, out: &Task) -> Result<(), BookFault>
-        ensures ok { OnOk result (IsKnown (book_of self.now) out.now) }
-        ensures err { IfErr result (λ fault. (fault ≡ NoTicket) × (IsKnown (book_of self.now) out.now → ⊥)) }
-    {
-        if is_lent(self.desk.get(out.event), out)
-            && is_copy(self.core.world().message(out.name), &out.message)
-        {
-            return Ok(());
-        }
-        Err(BookFault::NoTicket)
-    }
-
-    /// The message of a known ticket is ready at its vat, and the vat holds what the turn found.
-    fn check_fresh(&self, ran: &Ran) -> Result<Way, BookFault>
-        requires { IsKnown (book_of self.now) ran.now.carried }
-        ensures ok { OnOk result (IsFresh (book_of self.now) ran.now) }
-        ensures way { IfOk result (IsWay (book_of self.now).world ran.now.carried.vat (message_of ran.now.carried.message)) }
-        ensures err { IfErr result (λ fault. TellsStale fault (book_of self.now) ran.now) }
-    {
-        let world = self.core.world();
-        let out = &ran.carried;
-        // A copy may say another place than the message in the world, and each must be at the vat.
-        match world.message(out.name) {
-            Some(message)
-                if is_at(message.place, out.vat)
-                    && is_at(out.message.place, out.vat)
-                    && is_found_at(self.alloc, &ran.outcome.footprint, world, out.vat) => {
-                same_way(self.alloc, world, out)
-            }
-            _ => Err(BookFault::Stale),
-        }
-    }
-
-    fn check_room(&self) -> Result<(), BookFault>
-        ensures ok { OnOk result (journal_full (book_of self.now) ≡ None) }
-        ensures err { IfErr result (λ fault. (fault ≡ Full) × (journal_full (book_of self.now) ≡ Some full)) }
-    {
-        if self.core.len() >= MOST_ENTRIES {
-            return Err(BookFault::Full);
-        }
-        Ok(())
-    }
-
-    /// Enters a turn that was run, or changes nothing.
-    fn enter_turn(&mut self, ran: &Ran) -> Result<(), BookFault>
-        ensures ok { OnOk result (Commits ran.now (book_of self.old) (book_of self.new)) }
-        ensures err { IfErr result (λ fault. TellsCommit fault (book_of self.old) ran.now) }
-        ensures unchanged { OnErr result (book_of self.new ≡ book_of self.old) }
-    {
-        self.check_known(&ran.carried)?;
-        let way = self.check_fresh(ran)?;
-        self.check_room()?;
-        let out = &ran.carried;
-        let Effects {
-            touched,
-            records,
-            notes,
-        } = turn_effects(
-            self.alloc,
-            self.core.world(),
-            out.event,
-            out.name,
-            &out.message,
-            &way,
-            out.vat,
-            &ran.outcome,
-        )?;
-        let event = Event {
-            name: out.event,
-            action: Action::Turn {
-                vat: out.vat,
-                message: out.name,
-                budget: out.budget,
-            },
-        };
-        let deed = Deed {
-            event,
-            notes,
-            seat: out.seat,
-        };
-        self.core
-            .enter(self.alloc, deed, &touched, records, &mut Swaps::none())?;
-        self.desk.remove(out.event);
-        self.agenda = noted(self.alloc, self.agenda.take(), self.core.world(), &touched);
-        Ok(())
-    }
-
-    /// Enters the turn of a ticket that was run, and the ticket is no longer out. A refused ticket comes back as it was.
-    ///
-    /// # Errors
-    /// `NoTicket`, `Stale`, `Full`, `Memory`, tried in this order.
-    pub fn commit(&mut self, ticket: Ticket<Ran>) -> Result<EventName, (Ticket<Ran>, BookFault)>
-        ensures ok { IfOk result (λ e. (e ≡ ticket.carried.event) × Commits ticket (book_of self.old) (book_of self.new)) }
-        ensures err { IfErr result (λ r. TellsCommit r.1 (book_of self.old) ticket) }
-        ensures back { IfErr result (λ r. r.0 ≡ ticket) }
-        ensures unchanged { OnErr result (book_of self.new ≡ book_of self.old) }
-    {
-        match self.enter_turn(ticket.ran()) {
-            Ok(()) => {
-                let event = ticket.ran().carried.event;
-                ticket.discard();
-                Ok(event)
-            }
-            Err(fault) => Err((ticket, fault)),
-        }
-    }
-
-    /// Lets go of the ticket of this number: it is no longer out. It takes no memory.
-    ///
-    /// # Errors
-    /// `NoTicket`.
-    pub fn abandon(&mut self, number: EventName) -> Result<(), BookFault>
-        ensures ok { OnOk result (is_out number (book_of self.old).out ≡ true) }
-        ensures gone { OnOk result (book_of self.new ≡ record (book_of self.old) { out = without number (book_of self.old).out }) }
-        ensures err { IfErr result (λ fault. (fault ≡ NoTicket) × (is_out number (book_of self.old).out ≡ false)) }
-        ensures unchanged { OnErr result (book_of self.new ≡ book_of self.old) }
-    {
-        if self.desk.remove(number) {
-            Ok(())
-        } else {
-            Err(BookFault::NoTicket)
-        }
-    }
-
-    /// Lets go of a ticket whose turn cannot be entered.
-    fn drop_turn<S: Drop>(
-        &mut self,
-        number: EventName,
-        ticket: Ticket<S>,
-        fault: BookFault,
-    ) -> BookFault
-        ensures same { result ≡ fault }
-        ensures gone { book_of self.new ≡ record (book_of self.old) { out = without number (book_of self.old).out } }
-    {
-        ticket.discard();
-        self.desk.remove(number);
-        fault
-    }
-
-    /// Runs the turn of a message, with at most this many steps, and enters what it did: checkout, run and commit.
-    ///
-    /// # Errors
-    /// `BadBudget`, `NoMessage`, `NotThere`, `VatOut`, `Before`, `Full`, `Memory`, tried in this order.
-    pub fn turn(&mut self, message: MsgId, budget: u32) -> Result<Turned, BookFault>
-        ensures ok { IfOk result (λ t. (checkout_refusal (book_of self.old) message budget ≡ None) × ((u : Turn) × TurnsNext t.event message budget u (book_of self.old) (book_of self.new) × (told_of t.ended ≡ u.outcome.told))) }
-        ensures err { IfErr result (λ fault. Tells fault (checkout_refusal (book_of self.old) message budget)) }
-        ensures unchanged { IfErr result (λ fault. Unturned fault (book_of self.old) (book_of self.new)) }
-    {
-        let ticket = self.checkout(message, budget, NO_SEAT)?;
-        let ran = match ticket.run() {
-            Ok(ran) => ran,
-            Err((ticket, _)) => {
-                let number = ticket.out().event;
-                return Err(self.drop_turn(number, ticket, BookFault::Memory));
-            }
-        };
-        let number = ran.ran().carried.event;
-        let Ok(ended) = ran.outcome().ended.share() else {
-            return Err(self.drop_turn(number, ran, BookFault::Memory));
-        };
-        match self.commit(ran) {
-            Ok(event) => Ok(Turned { event, ended }),
-            Err((ran, fault)) => Err(self.drop_turn(number, ran, fault)),
-        }
-    }
-
-    /// Takes events back, with the world as if they had never been: nothing is run. Answers how many.
-    ///
-    /// # Errors
-    /// `NoEvent`, `Settled`, `NotLive`, `NotClosed`, tried in this order; `Memory` at any time.
-    pub fn undo(&mut self, events: &[EventName]) -> Result<usize, BookFault>
-        ensures ok { IfOk result (λ count. (undo_refusal (book_of self.old).settled (book_of self.old).journal events.now ≡ None) × Undoes events.now (book_of self.old) (book_of self.new) × (count ≡ length (filter (chosen events.now) (book_of self.old).journal))) }
-        ensures err { IfErr result (λ fault. Tells fault (undo_refusal (book_of self.old).settled (book_of self.old).journal events.now)) }
-        ensures unchanged { OnErr result (book_of self.new ≡ book_of self.old) }
-    {
-        let names = NameSet::new(self.alloc, events)?;
-        let journal = self.core.journal();
-        check_undo(self.alloc, journal, &names)?;
-        let positions = positions(self.alloc, journal, &names)?;
-        self.core.prepare(self.alloc, &positions)?;
-        self.core.undo(&positions, &mut Swaps::none());
-        self.agenda = None;
-        Ok(positions.len())
-    }
-
-    /// Puts events that were undone back where they stand in the journal, also amid events that came since. Answers how many.
-    ///
-    /// # Errors
-    /// `NoEvent`, `Settled`, `IsLive`, `CauseMissing`, `Crossed`, tried in this order; `Memory` at any time.
-    pub fn redo(&mut self, events: &[EventName]) -> Result<usize, BookFault>
-        ensures ok { IfOk result (λ count. (redo_refusal (book_of self.old).settled (book_of self.old).journal events.now ≡ None) × Redoes events.now (book_of self.old) (book_of self.new) × (count ≡ length (filter (chosen events.now) (book_of self.old).journal))) }
-        ensures err { IfErr result (λ fault. Tells fault (redo_refusal (book_of self.old).settled (book_of self.old).journal events.now)) }
-        ensures unchanged { OnErr result (book_of self.new ≡ book_of self.old) }
-    {
-        let names = NameSet::new(self.alloc, events)?;
-        let journal = self.core.journal();
-        check_redo(self.alloc, journal, &names)?;
-        let positions = positions(self.alloc, journal, &names)?;
-        self.core.prepare(self.alloc, &positions)?;
-        self.core.redo(&positions, &mut Swaps::none());
-        self.agenda = None;
-        Ok(positions.len())
-    }
-
-    /// Lets the live entry at a position, counted from 1, and the live one behind it change places. Answers their events, first the
-    /// one that stood first.
-    ///
-    /// # Errors
-    /// `NoPosition`, `Settled`, `NotLive`, `Dependent`, tried in this order. It takes no memory, so it never wants any.
-    pub fn exchange(&mut self, position: usize) -> Result<(EventName, EventName), BookFault>
-        ensures ok { IfOk result (λ r. (exchange_refusal (book_of self.old).settled (book_of self.old).journal position ≡ None) × Exchanges position (book_of self.old) (book_of self.new) × StoodAt position (book_of self.old).journal r.0 r.1) }
-        ensures err { IfErr result (λ fault. Tells fault (exchange_refusal (book_of self.old).settled (book_of self.old).journal position)) }
-        ensures without_memory { IfErr result (λ fault. fault ≢ Memory) }
-        ensures unchanged { OnErr result (book_of self.new ≡ book_of self.old) }
-    {
-        let (first, second) = check_exchange(self.core.journal(), position)?;
-        if self.core.exchange(position - 1) {
-            Ok((first, second))
-        } else {
-            Err(BookFault::Dependent(first, second))
-        }
-    }
-
-    /// Settles the entries up to a position, counted from 1: they can no longer be taken back, and the book keeps of each only what the
-    /// causes of later events are found by. What is seen, the tickets that are out and the journal are as they were.
-    ///
-    /// # Errors
-    /// `NoPosition`, `Settled`, `NotLive`, tried in this order; `Memory` at any time.
-    pub fn settle(&mut self, position: usize) -> Result<(), BookFault>
-        ensures ok { OnOk result ((settle_refusal (book_of self.old).settled (book_of self.old).journal position ≡ None) × Settles position (book_of self.old) (book_of self.new)) }
-        ensures base { OnOk result (BaseGoesOn (book_of self.old) (book_of self.new)) }
-        ensures err { IfErr result (λ fault. Tells fault (settle_refusal (book_of self.old).settled (book_of self.old).journal position)) }
-        ensures unchanged { OnErr result (book_of self.new ≡ book_of self.old) }
-    {
-        let count = check_settle(self.core.journal(), position)?;
-        self.core.settle(self.alloc, count)?;
-        Ok(())
-    }
-
-    /// An event and all that came of it, in the journal's order: the least set with it that may be undone.
-    ///
-    /// # Errors
-    /// `NoEvent`, `Settled`, `NotLive`, tried in this order; `Memory` at any time.
-    pub fn cone(&self, event: EventName) -> Result<Vec<EventName>, BookFault>
-        ensures ok { IfOk result (λ names. (cone_refusal (book_of self.now).settled (book_of self.now).journal event ≡ None) × Cone (book_of self.now).journal event names.items) }
-        ensures err { IfErr result (λ fault. Tells fault (cone_refusal (book_of self.now).settled (book_of self.now).journal event)) }
-    {
-        let journal = self.core.journal();
-        check_cone(self.alloc, journal, event)?;
-        Ok(cone(self.alloc, journal, event)?)
     }
 }

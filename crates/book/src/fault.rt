@@ -1,9 +1,11 @@
 // Why the book refuses a call.
-ghost use Rattle.std.specs.Prelude.{◌≡◌, Some};
+ghost use Rattle.std.specs.Prelude.{◌≡◌, Option, Some};
 ghost use Rattle.std.specs.Fmt.{DisplaysOnOk, option_append};
 ghost use Rattle.book.specs.declared.fault.BookFault.TheVariants.{Memory};
-ghost use Rattle.book.specs.Fault.{fault_text, pair_text, work_text};
+ghost use Rattle.book.specs.Fault.{Tells, delay_tells, fault_text, pair_text, work_text};
+ghost use Rattle.book.specs.Refusals.{Refusal, refusal_of};
 
+use event::ready::{Delay, Unready};
 use ids::names::{EventName, MsgId};
 use ids::text::Text;
 use scopes::CheckFault;
@@ -135,6 +137,26 @@ impl<T: Drop> From<AllocFailed<T>> for BookFault {
 
     fn from(_error: AllocFailed<T>) -> Self {
         BookFault::Memory
+    }
+}
+
+pub(crate) fn unready_fault(message: MsgId, unready: Unready) -> BookFault
+    ensures { Tells result (Some (refusal_of message unready)) }
+{
+    match unready {
+        Unready::NoMessage => BookFault::NoMessage(message),
+        Unready::NotThere => BookFault::NotThere,
+        Unready::NotReady => BookFault::NotReady,
+        Unready::Before(first) => BookFault::Before(first),
+    }
+}
+
+pub(crate) fn delay_fault(message: MsgId, delay: Delay) -> BookFault
+    ensures { (refusal : Option Refusal) → delay_tells message delay refusal → Tells result refusal }
+{
+    match delay {
+        Delay::Memory => BookFault::Memory,
+        Delay::Unready(unready) => unready_fault(message, unready),
     }
 }
 

@@ -5,5 +5,6 @@ pub mod book;
 pub mod fault;
 mod seatless;
 mod seats;
-mod selecting;
+mod taking_back;
 pub mod theorems;
+mod tickets;

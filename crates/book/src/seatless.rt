@@ -16,10 +16,7 @@ use kernele::tree::Program;
 impl Book {
     ghost use Rattle.book.specs.BookView.{book_of};
 
-    /// As `birth_as`, from no seat.
-    ///
-    /// # Errors
-    /// As `birth_as`.
+    /// As `birth_as`, also in its errors, from no seat.
     pub fn birth(
         &mut self,
         name: &Text,
@@ -33,10 +30,7 @@ impl Book {
         self.birth_as(name, earlier, script, NO_SEAT)
     }
 
-    /// As `ask_as`, from no seat.
-    ///
-    /// # Errors
-    /// As `ask_as`.
+    /// As `ask_as`, also in its errors, from no seat.
     pub fn ask(&mut self, name: &Text, program: Program) -> Result<EventName, BookFault>
         ensures ok { IfOk result (λ e. Asks name.now (program_of program) 0 e (book_of self.old) (book_of self.new)) }
         ensures err { IfErr result (λ fault. Tells fault (ask_refusal (book_of self.old) name.now (program_of program))) }
@@ -45,10 +39,7 @@ impl Book {
         self.ask_as(name, program, NO_SEAT)
     }
 
-    /// As `arrive_as`, from no seat.
-    ///
-    /// # Errors
-    /// As `arrive_as`.
+    /// As `arrive_as`, also in its errors, from no seat.
     pub fn arrive(&mut self, name: MsgId) -> Result<EventName, BookFault>
         ensures ok { IfOk result (λ e. Arrives name 0 e (book_of self.old) (book_of self.new)) }
         ensures err { IfErr result (λ fault. Tells fault (arrival_refusal (book_of self.old) name)) }
@@ -57,10 +48,7 @@ impl Book {
         self.arrive_as(name, NO_SEAT)
     }
 
-    /// As `forward_as`, from no seat.
-    ///
-    /// # Errors
-    /// As `forward_as`.
+    /// As `forward_as`, also in its errors, from no seat.
     pub fn forward(&mut self, name: MsgId) -> Result<EventName, BookFault>
         ensures ok { IfOk result (λ e. Forwards name 0 e (book_of self.old) (book_of self.new)) }
         ensures err { IfErr result (λ fault. Tells fault (forward_refusal (book_of self.old) name)) }
@@ -69,10 +57,7 @@ impl Book {
         self.forward_as(name, NO_SEAT)
     }
 
-    /// As `learn_as`, from no seat.
-    ///
-    /// # Errors
-    /// As `learn_as`.
+    /// As `learn_as`, also in its errors, from no seat.
     pub fn learn(&mut self, name: &Text, promise: PromId) -> Result<EventName, BookFault>
         ensures ok { IfOk result (λ e. Learns name.now promise 0 e (book_of self.old) (book_of self.new)) }
         ensures err { IfErr result (λ fault. Tells fault (learn_refusal (book_of self.old) name.now promise)) }
@@ -81,10 +66,7 @@ impl Book {
         self.learn_as(name, promise, NO_SEAT)
     }
 
-    /// As `learn_at_as`, from no seat.
-    ///
-    /// # Errors
-    /// As `learn_at_as`.
+    /// As `learn_at_as`, also in its errors, from no seat.
     pub fn learn_at(&mut self, vat: VatNo, promise: PromId) -> Result<EventName, BookFault>
         ensures ok { IfOk result (λ e. LearnsAt vat promise 0 e (book_of self.old) (book_of self.new)) }
         ensures err { IfErr result (λ fault. Tells fault (learning_refusal (book_of self.old) vat promise)) }
