@@ -18,7 +18,7 @@ use Rattle.history.proofs.Lists.{all_map, all_both, all_append}
 use Rattle.journal.specs.Lines.{Line}
 use Rattle.desk.specs.Desks.{Lent, without}
 use Rattle.book.specs.Books.{Book}
-use Rattle.book.proofs.Tickets.{all_filter, without_differ}
+use Rattle.book.proofs.TicketsOut.{all_filter, without_differ}
 use Rattle.pact.specs.declared.View.{View}
 use Rattle.pact.specs.declared.Deeds.{Deeds}
 use Rattle.pact.specs.declared.Act.TheVariants.{Opens, Closes}

@@ -25,7 +25,7 @@ use Rattle.book.specs.Calls.{Enters, Undoes, Redoes, Exchanges, undone, redone}
 use Rattle.book.specs.Refusals.{exchange_refusal}
 use Rattle.book.specs.declared.fault.BookFault.{BookFault}
 use Rattle.book.specs.declared.fault.BookFault.TheVariants.{NoTicket}
-use Rattle.book.proofs.Tickets.{not_out}
+use Rattle.book.proofs.TicketsOut.{not_out}
 use Rattle.pact.specs.declared.View.{View}
 use Rattle.pact.specs.declared.Deeds.{Deeds}
 use Rattle.pact.specs.Agree.{after, knower}

@@ -46,7 +46,7 @@ use Rattle.book.specs.declared.fault.BookFault.TheVariants as fault
 use Rattle.book.proofs.Entering.{book_with, book_enters, book_stands, kept_entered}
 use Rattle.book.proofs.Within.{neither, room_for_names}
 use Rattle.book.proofs.Unnamed.{letters_new}
-use Rattle.book.proofs.Tickets.{all_out, without_differ, apart_without, all_filter}
+use Rattle.book.proofs.TicketsOut.{all_out, without_differ, apart_without, all_filter}
 
 -- the turn that a ticket was run for is one of the world, wherever the world is as the turn found it and what was sent is new there
 pub run_turns : (b : Book) (r : Ran) → IsFresh b r → AreNew b.world (letters_from r.carried.event 0 (outbox_of r.outcome.out).letters) → ∥ Turns r.carried.event b.world r.carried.name r.carried.budget (turn_in b.world r) ∥₁

@@ -11,7 +11,7 @@ pub mod Redoing
 pub mod Placed
 pub mod Exchanging
 pub mod GivingBack
-pub mod Tickets
+pub mod TicketsOut
 pub mod Unnamed
 pub mod Noting
 pub mod Named

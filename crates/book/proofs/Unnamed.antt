@@ -28,7 +28,7 @@ use Rattle.undo.specs.declared.undoing.Core.{Core}
 use Rattle.desk.specs.Desks.{Lent}
 use Rattle.book.specs.Standing.{Stands}
 use Rattle.book.proofs.Sets as sets
-use Rattle.book.proofs.Tickets.{all_out, all_filter}
+use Rattle.book.proofs.TicketsOut.{all_out, all_filter}
 
 -- writes of other cells leave a cell as it was
 pub unwritten : (ps : List (CellKey × Content)) (w : World) (k : CellKey) → AllByRecursion (λ p. same_key p.0 k ≡ false) ps → written events ps w k ≡ w k

@@ -2,10 +2,10 @@ use Rattle.std.proofs.Common.{◌+◌, sym, subst, arith}
 use Rattle.desk.specs.DeskView.{out_of}
 use Rattle.book.specs.Standing.{Stands}
 use Rattle.book.proofs.Entering.{stands_same}
-use Rattle.book.proofs.Tickets.{stands_lent}
+use Rattle.book.proofs.TicketsOut.{stands_lent}
 use Rattle.book.proofs.Noting.{noted_same}
 use Rattle.book.proofs.Within.{within_same}
-use Rattle.book.proofs.tickets.Book.checkout.Goals as goal
+use Rattle.book.proofs.book.Book.checkout.Goals as goal
 
 pub invariant_of-self : goal.invariant_of-self
 invariant_of-self c =

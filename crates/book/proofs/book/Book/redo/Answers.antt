@@ -16,7 +16,7 @@ use Rattle.book.proofs.Redoing.{redone_stands, book_redone}
 use Rattle.book.specs.Calls.{redone}
 use Rattle.book.proofs.Noting.{noted_same, noted_none}
 use Rattle.book.proofs.Within.{within_same, within_marked}
-use Rattle.book.proofs.taking_back.Book.redo.Goals as goal
+use Rattle.book.proofs.book.Book.redo.Goals as goal
 
 pub check_redo-requires : goal.check_redo-requires
 check_redo-requires c =

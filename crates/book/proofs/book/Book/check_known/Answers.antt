@@ -11,9 +11,9 @@ use Rattle.worldcells.specs.World.{World}
 use Rattle.book.specs.BookView.{book_of}
 use Rattle.book.specs.Calls.{lent_of}
 use Rattle.book.proofs.Committing.{is_copied, copied_if}
-use Rattle.book.proofs.Tickets.{lent_there, out_found}
-use Rattle.book.proofs.tickets.Book.check_known.Goals.{else-is_lent-via-then-is_lent+else-is_copy, else-is_lent-via-else-is_lent}
-use Rattle.book.proofs.tickets.Book.check_known.Goals as goal
+use Rattle.book.proofs.TicketsOut.{lent_there, out_found}
+use Rattle.book.proofs.book.Book.check_known.Goals.{else-is_lent-via-then-is_lent+else-is_copy, else-is_lent-via-else-is_lent}
+use Rattle.book.proofs.book.Book.check_known.Goals as goal
 
 pub returns-then-is_copy-clause-ok : goal.returns-then-is_copy-clause-ok
 returns-then-is_copy-clause-ok c =

@@ -2,7 +2,7 @@ use Rattle.std.proofs.Common.{sym, subst}
 use Rattle.causality.specs.Journals.{IsJournal}
 use Rattle.desk.specs.DeskView.{out_of}
 use Rattle.book.proofs.Choosing.{stands_journal}
-use Rattle.book.proofs.taking_back.Book.cone.Goals as goal
+use Rattle.book.proofs.book.Book.cone.Goals as goal
 
 pub cone-requires-clause-journal : goal.cone-requires-clause-journal
 cone-requires-clause-journal c =

@@ -16,7 +16,7 @@ use Rattle.book.proofs.Undoing.{undone_stands, book_undone}
 use Rattle.book.specs.Calls.{undone}
 use Rattle.book.proofs.Noting.{noted_same, noted_none}
 use Rattle.book.proofs.Within.{within_same, within_marked}
-use Rattle.book.proofs.taking_back.Book.undo.Goals as goal
+use Rattle.book.proofs.book.Book.undo.Goals as goal
 
 pub check_undo-requires : goal.check_undo-requires
 check_undo-requires c =

@@ -1,8 +1,8 @@
 use Rattle.std.proofs.Common.{sym, subst}
 use Rattle.desk.specs.DeskView.{out_of}
 use Rattle.book.specs.Standing.{Stands}
-use Rattle.book.proofs.Tickets.{stands_without}
-use Rattle.book.proofs.tickets.Book.drop_turn.Goals as goal
+use Rattle.book.proofs.TicketsOut.{stands_without}
+use Rattle.book.proofs.book.Book.drop_turn.Goals as goal
 
 pub invariant_of-self : goal.invariant_of-self
 invariant_of-self g c =

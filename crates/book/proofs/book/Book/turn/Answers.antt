@@ -14,8 +14,8 @@ use Rattle.book.specs.Refusals.{checkout_refusal}
 use Rattle.desk.specs.Desks.{without}
 use Rattle.book.specs.declared.fault.BookFault.{BookFault}
 use Rattle.book.proofs.Committing.{memory_alone, turned, struck}
-use Rattle.book.proofs.Tickets.{lent_without}
-use Rattle.book.proofs.tickets.Book.turn.Goals as goal
+use Rattle.book.proofs.TicketsOut.{lent_without}
+use Rattle.book.proofs.book.Book.turn.Goals as goal
 
 pub returns-in-Err-clause-unchanged : goal.returns-in-Err-clause-unchanged
 returns-in-Err-clause-unchanged c =

@@ -24,7 +24,7 @@ use Rattle.book.proofs.Committing.{committed_turn, committed_stands, sent_new}
 use Rattle.book.proofs.Freshness.{brought, stale_commit}
 use Rattle.book.proofs.Noting.{Noted, noted_same, noted_next, entered_alike}
 use Rattle.book.proofs.Within.{within_same, within_entered, one_more}
-use Rattle.book.proofs.tickets.Book.enter_turn.Goals as goal
+use Rattle.book.proofs.book.Book.enter_turn.Goals as goal
 
 pub returns-in_err-check_known-clause-err : goal.returns-in_err-check_known-clause-err
 returns-in_err-check_known-clause-err c =

@@ -12,7 +12,7 @@ use Rattle.book.proofs.Blank.{stands_run}
 use Rattle.book.proofs.Entering.{stands_same}
 use Rattle.book.proofs.Noting.{noted_same}
 use Rattle.book.proofs.Settling.{open_same, never_less, base_goes_on, book_settled}
-use Rattle.book.proofs.taking_back.Book.settle.Goals as goal
+use Rattle.book.proofs.book.Book.settle.Goals as goal
 
 pub settle-requires-clause-within : goal.settle-requires-clause-within
 settle-requires-clause-within c =

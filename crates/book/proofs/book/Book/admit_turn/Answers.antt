@@ -13,7 +13,7 @@ use Rattle.book.specs.Calls.{IsReadyAt}
 use Rattle.book.specs.Fault.{Tells}
 use Rattle.book.specs.Refusals.{checkout_refusal}
 use Rattle.book.proofs.Checkouts.{lost_checkout, out_checkout, delayed_checkout, room_checkout}
-use Rattle.book.proofs.tickets.Book.admit_turn.Goals as goal
+use Rattle.book.proofs.book.Book.admit_turn.Goals as goal
 
 pub returns-in-Err-clause-err : goal.returns-in-Err-clause-err
 returns-in-Err-clause-err c =

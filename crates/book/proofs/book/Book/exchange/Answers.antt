@@ -12,7 +12,7 @@ use Rattle.book.proofs.Choosing.{stands_journal}
 use Rattle.book.proofs.Exchanging.{refused_where, book_exchanged, tried_stands}
 use Rattle.book.proofs.Noting.{noted_kept}
 use Rattle.book.proofs.Within.{within_tried}
-use Rattle.book.proofs.taking_back.Book.exchange.Goals as goal
+use Rattle.book.proofs.book.Book.exchange.Goals as goal
 
 pub exchange-requires-clause-behind : goal.exchange-requires-clause-behind
 exchange-requires-clause-behind c =

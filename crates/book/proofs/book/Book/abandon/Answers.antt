@@ -2,8 +2,8 @@ use Rattle.std.proofs.Common.{◌∙◌, sym, subst}
 use Rattle.desk.specs.DeskView.{out_of}
 use Rattle.book.specs.BookView.{book_of}
 use Rattle.book.specs.Standing.{Stands}
-use Rattle.book.proofs.Tickets.{stands_without, not_out}
-use Rattle.book.proofs.tickets.Book.abandon.Goals as goal
+use Rattle.book.proofs.TicketsOut.{stands_without, not_out}
+use Rattle.book.proofs.book.Book.abandon.Goals as goal
 
 pub invariant_of-self : goal.invariant_of-self
 invariant_of-self c =
