@@ -2,4 +2,5 @@
 #![tactic(auto)]
 
 pub mod replies;
+pub mod sessions;
 pub mod tables;

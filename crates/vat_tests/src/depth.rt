@@ -6,7 +6,8 @@ use std::process::Abort;
 use std::rt::Runtime;
 use std::thread::{Builder, Threads};
 use stepper::STACK;
-use transcripts::replies::{limits, replies, session_of, shown};
+use transcripts::replies::{limits, replies, shown};
+use transcripts::sessions::session_of;
 use transcripts::tables::nested;
 
 /// The stack of a thread that only runs turns, in bytes: level 1,000 fits it.

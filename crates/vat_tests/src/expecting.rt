@@ -35,20 +35,20 @@ pub(crate) fn expect_sessions(rt: &(impl Abort + AllocGlobal), transcripts: &[&s
 pub(crate) fn expect_asked(rt: &(impl Abort + AllocGlobal), budget: u32, text: &str, wanted: &str) {
     expect_none(
         rt,
-        difference_asked(rt.alloc(), budget, EMPTY, text, wanted),
+        difference_asked(rt.alloc(), budget, &EMPTY, text, wanted),
     );
 }
 
 /// Asks the texts of some tables, each in a vat of its own.
 pub(crate) fn expect_all(rt: &(impl Abort + AllocGlobal), budget: u32, tables: &[&str]) {
-    expect_behind(rt, budget, EMPTY, tables);
+    expect_behind(rt, budget, &EMPTY, tables);
 }
 
 /// The same in vats with this opening.
 pub(crate) fn expect_behind(
     rt: &(impl Abort + AllocGlobal),
     budget: u32,
-    opening: Opening<'_>,
+    opening: &Opening<'_>,
     tables: &[&str],
 ) {
     expect_none(

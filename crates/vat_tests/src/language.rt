@@ -101,7 +101,7 @@ fn language_with_a_script(rt: HostRuntime) {
         commands: "vat a () 1\ndef x := 6\nturn e1.m0\n",
         replies: "ok e1 e1.m0\nok e2 value 6\n",
     };
-    expect_behind(&rt, BUDGET, opening, &[MORE]);
+    expect_behind(&rt, BUDGET, &opening, &[MORE]);
 }
 
 #[test]
