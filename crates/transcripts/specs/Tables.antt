@@ -1,5 +1,5 @@
 -- The lines of a table, what is commanded for one, and texts that are nested.
-use Rattle.std.specs.Prelude.{◌≡◌, ℕ, ◌<◌, ◌≤◌, Bool, List, [], ◌∷◌, ◌++◌, ◌⊎◌, length, nat_eq, if◌then◌else◌, codes}
+use Rattle.std.specs.Prelude.{◌≡◌, ◌≢◌, ℕ, ◌<◌, ◌≤◌, Bool, List, [], ◌∷◌, ◌++◌, ◌⊎◌, length, nat_eq, if◌then◌else◌, codes}
 use Rattle.std.specs.List.{repeat, starts_with}
 use Rattle.std.specs.Str.Pattern.{LacksTextAt}
 use Rattle.transcripts.specs.declared.tables.Opening.{Opening}
@@ -13,11 +13,11 @@ ARROW = codes " => "
 abbrev pub NO_ANSWER : List ℕ
 NO_ANSWER = codes "no answer stands here"
 
--- a line is a text, the first arrow in it, and an answer; with no arrow it is the text, and the answer cannot be given
+-- a line is a text, the first arrow in it, and an answer; with no arrow it is the text, unless it is empty, and the answer cannot be given
 abbrev pub IsRow : List ℕ → List ℕ → List ℕ → Type 0
 IsRow line text answer =
     ((line ≡ text ++ ARROW ++ answer) × ((i : ℕ) → i < length text → LacksTextAt ARROW line i))
-    ⊎ ((line ≡ text) × (answer ≡ NO_ANSWER) × ((i : ℕ) → i ≤ length line → LacksTextAt ARROW line i))
+    ⊎ ((line ≡ text) × (line ≢ []) × (answer ≡ NO_ANSWER) × ((i : ℕ) → i ≤ length line → LacksTextAt ARROW line i))
 
 abbrev pub is_refusal : List ℕ → Bool
 is_refusal wanted = starts_with nat_eq wanted (codes "no ")
