@@ -1,0 +1,56 @@
+"""Runs the program on the words given here, once it is built.
+
+usage: ./run [WORDS]             proves the program first, where that was not done yet
+       ./run --unproved [WORDS]  builds it without its proofs, where that was not done yet
+
+WORDS are those of the program: `./run --unproved --help` prints them.
+"""
+import os
+import signal
+import sys
+
+from .builds import proved_build
+from .crates import Fault
+from .processes import Interrupted, interruptions
+from .programs import NOTHING_PROVED, say, unproved_program
+
+
+def program_for(is_unproved):
+    """The program to run."""
+    if is_unproved:
+        return unproved_program()
+    build = proved_build()
+    if not build.is_current():
+        from .proving import prove
+        prove(build)
+    return build.program
+
+
+def become(program, words):
+    """Runs the program in place of this process, with its input and output."""
+    # Python ignores these, and the program would inherit that.
+    for number in (signal.SIGPIPE, signal.SIGXFSZ):
+        signal.signal(number, signal.SIG_DFL)
+    os.execv(program, [str(program), *words])
+
+
+def main(words):
+    is_unproved = words[:1] == ["--unproved"]
+    words = words[is_unproved:]
+    try:
+        with interruptions():
+            program = program_for(is_unproved)
+        if is_unproved:
+            say(NOTHING_PROVED)
+        become(program, words)
+    except Fault as fault:
+        say(f"run: {fault}")
+    except OSError as fault:
+        say(f"run: {fault}")
+    except Interrupted as interrupted:
+        return interrupted.status
+    return 2
+
+
+if __name__ == "__main__":
+    sys.exit(main(sys.argv[1:]))
