@@ -7,6 +7,8 @@ import time
 from pathlib import Path
 
 SECONDS = 10
+# The signals that ask to end.
+ASKING = (signal.SIGINT, signal.SIGTERM, signal.SIGHUP)
 
 
 class Interrupted(Exception):
@@ -27,8 +29,7 @@ def interruptions():
             signal.signal(other, signal.SIG_IGN)
         raise Interrupted(number)
 
-    asking = (signal.SIGINT, signal.SIGTERM, signal.SIGHUP)
-    before = {number: signal.getsignal(number) for number in asking if signal.getsignal(number) != signal.SIG_IGN}
+    before = {number: signal.getsignal(number) for number in ASKING if signal.getsignal(number) != signal.SIG_IGN}
     for number in before:
         signal.signal(number, interrupt)
     try:
@@ -38,9 +39,16 @@ def interruptions():
             signal.signal(number, handler)
 
 
-def start(words, folder, log):
-    """Starts a command in a session of its own, with nothing to read; what it says goes to the log."""
-    return subprocess.Popen(words, cwd=folder, stdin=subprocess.DEVNULL, stdout=log, stderr=log, start_new_session=True)
+def start(processes, words, folder, log, **variables):
+    """Starts a command in a session of its own, with nothing to read, and adds it to the processes; what it says goes to the
+    log. A signal that asks to end waits meanwhile, so that no process is missed."""
+    before = signal.pthread_sigmask(signal.SIG_BLOCK, ASKING)
+    how = {"cwd": folder, "env": {**os.environ, **variables}, "stdin": subprocess.DEVNULL, "stdout": log, "stderr": log}
+    try:
+        unblock = lambda: signal.pthread_sigmask(signal.SIG_SETMASK, before)
+        processes.append(subprocess.Popen(words, start_new_session=True, preexec_fn=unblock, **how))
+    finally:
+        signal.pthread_sigmask(signal.SIG_SETMASK, before)
 
 
 def members(session):
@@ -58,11 +66,9 @@ def members(session):
 
 def end(process):
     """Ends a process and all of its session."""
-    with contextlib.suppress(ProcessLookupError):
-        os.killpg(process.pid, signal.SIGTERM)
     limit = time.monotonic() + SECONDS
-    while members(process.pid) and time.monotonic() < limit:
-        for member in members(process.pid):
+    while (left := members(process.pid)) and time.monotonic() < limit:
+        for member in left:
             with contextlib.suppress(ProcessLookupError):
                 os.kill(member, signal.SIGKILL)
         process.poll()
@@ -71,8 +77,9 @@ def end(process):
 
 
 @contextlib.contextmanager
-def ended(processes):
-    """Ends these processes at last, however that comes; more may be added meanwhile."""
+def ending():
+    """A list of processes, to which more are added meanwhile. All of them end at last, however that comes."""
+    processes = []
     try:
         yield processes
     finally:

@@ -3,14 +3,15 @@ import shutil
 import sys
 import time
 from dataclasses import dataclass, field
+from pathlib import Path
 
 from . import progress, schedule
 from .builds import locked
 from .crates import PROGRAM, Fault, folder_of, lowest_first, read_crates
-from .kit import KIT, with_those_below
+from .kit import KIT
 from .machine import free_memory, processors
-from .processes import ended, start
-from .rooms import Room, is_proved, place_of_rooms
+from .processes import ending, start
+from .rooms import Room, is_proved, place_of_rooms, remove
 from .sums import CODE_AND_PROOFS, files_below, sums_of
 
 PAUSE = 0.2
@@ -21,56 +22,53 @@ PLANNED = 0.85
 
 @dataclass(frozen=True)
 class Size:
-    """How many lines a crate has, of code and of definitions and proofs, and the bytes of the libraries of the kit that it names."""
+    """How many lines a crate has, of code and of definitions and proofs."""
 
     code: int
     proofs: int
-    named: int
-
-    @property
-    def lines(self):
-        return self.code + self.proofs
 
 
-def lines_of(folder, ending):
+def lines_of(folder, ending_of_names):
     """How many lines the files of a crate have whose names end so."""
-    files = [path for part in CODE_AND_PROOFS for path in files_below(folder / part) if path.endswith(ending)]
-    return sum(open(path, "rb").read().count(b"\n") for path in files)
+    paths = [path for part in CODE_AND_PROOFS for path in files_below(folder / part) if path.endswith(ending_of_names)]
+    return sum(Path(path).read_bytes().count(b"\n") for path in paths)
 
 
-def size_of(root, crate, own):
-    """The size of a crate; `own` are the names of the repository's crates."""
-    folder = folder_of(root, crate.name)
-    named = with_those_below([use for use in crate.uses if use not in own])
-    archives = [KIT / "rlibs" / f"{name}.rlib" / "toolchain" / "checked.a" for name in named]
-    held = sum(path.stat().st_size for path in archives if path.is_file())
-    return Size(lines_of(folder, ".rt"), lines_of(folder, ".antt"), held)
+def size_of(folder):
+    return Size(lines_of(folder, ".rt"), lines_of(folder, ".antt"))
 
 
-def memory_of(size, below, jobs=1):
-    """What a check takes at most, in bytes, as `rt` reckons it."""
+def held_of_kit(libraries):
+    """The memory that libraries of the kit take in a check, in bytes."""
+    archives = [KIT / "rlibs" / f"{name}.rlib" / "toolchain" / "checked.a" for name in libraries]
+    return min(5 * sum(path.stat().st_size for path in archives if path.is_file()), 2_500_000_000)
+
+
+def memory_of(size, below, held, jobs):
+    """What a check takes at most, in bytes, as `rt` reckons it: by the crate's size, those of the crates below it, and what
+    libraries of the kit take."""
     alone = 1_000_000_000 + 1_000_000 * size.code + 200_000 * size.proofs + 80_000 * sum(it.code for it in below)
-    held = min(5 * (size.named + max((it.named for it in below), default=0)), 2_500_000_000)
     return round((alone + held) * (1 + 0.6 * (jobs - 1)))
 
 
 @dataclass
 class Work:
-    """A crate at work."""
+    """A crate at work, with what it takes of the machine."""
 
-    room: Room
     process: object
-    log: object
+    log: Path
     begun: float
     jobs: int
     memory: int
+    room: Room = None
 
 
 @dataclass
 class Plan:
-    """What there is to prove: all crates lowest first, the sums of their sources, their sizes, and which are left."""
+    """What there is to prove: all crates lowest first, the sums of their sources, their sizes, which are left, and which of
+    these are at work. Of those that are proved: what they took, and what was expected of them."""
 
-    root: object
+    root: Path
     crates: list
     sums: dict
     sizes: dict
@@ -78,151 +76,153 @@ class Plan:
     lanes: int
     memory: int
     at_work: dict = field(default_factory=dict)
-    spent: float = 0
+    took: float = 0
     wanted: float = 0
 
-    @property
-    def seconds(self):
-        """What each crate takes, at the pace so far."""
-        pace = schedule.pace(self.spent, self.wanted)
-        return {crate.name: pace * self.expected(crate.name) for crate in self.crates}
-
-    def expected(self, name):
-        return schedule.expected(self.sizes[name].lines, name == PROGRAM)
-
     def below(self, name):
+        """The crates below one, lowest first, and itself."""
         return lowest_first({crate.name: crate for crate in self.crates}, name)
 
-    def needs(self, name, jobs):
-        """The memory that a check of the crate takes."""
-        *below, own = (self.sizes[crate.name] for crate in self.below(name))
-        return memory_of(own, below, jobs)
+    def libraries(self):
+        """The libraries that are left."""
+        return [crate for crate in self.left if crate.name != PROGRAM]
+
+    def expected(self, name):
+        size = self.sizes[name]
+        return schedule.expected(size.code, size.proofs, name == PROGRAM)
+
+    def seconds(self):
+        """What each crate takes, at the pace so far."""
+        pace = schedule.pace(self.took, self.wanted)
+        return {crate.name: pace * self.expected(crate.name) for crate in self.crates}
+
+    def memory_for(self, name, jobs):
+        """The memory that a check of a crate takes."""
+        crates = self.below(name)
+        own = {crate.name for crate in crates}
+        *below, size = (self.sizes[crate.name] for crate in crates)
+        held = held_of_kit({use for crate in crates for use in crate.uses} - own)
+        return memory_of(size, below, held, jobs)
 
     def ready(self):
-        """The crates that may be proved now, those with the longest chain behind them first."""
+        """The libraries that may be proved now, those with the longest chain behind them first."""
         left = {crate.name for crate in self.left}
-        chains = schedule.longest_chains(self.left, self.seconds)
-        ready = [crate for crate in self.left if crate.name not in self.at_work and schedule.is_ready(crate, left)]
-        return sorted((crate for crate in ready if crate.name != PROGRAM), key=lambda crate: -chains[crate.name])
-
-    def jobs(self, ready):
-        """How many jobs the next crate gets: the processors that no other one waits for."""
-        idle = self.lanes - sum(work.jobs for work in self.at_work.values())
-        return min(MOST_JOBS, idle // max(1, ready))
+        chains = schedule.longest_chains(self.left, self.seconds())
+        ready = [it for it in self.libraries() if it.name not in self.at_work and schedule.is_ready(it, left)]
+        return sorted(ready, key=lambda crate: -chains[crate.name])
 
     def has_room(self, memory):
-        """Whether a check that takes so much memory may begin now. One is always at work."""
-        planned = sum(work.memory for work in self.at_work.values())
-        return not self.at_work or (planned + memory <= PLANNED * self.memory and memory <= free_memory())
+        """Whether a check that takes so much memory may begin now; one may always be at work."""
+        planned = memory + sum(work.memory for work in self.at_work.values())
+        return not self.at_work or (planned <= PLANNED * self.memory and memory <= free_memory())
 
-    def time_left(self, now):
-        """How long all that is left takes, in seconds."""
-        seconds = self.seconds
-        rest = {name: max(seconds[name] - (now - work.begun), seconds[name] / 10) for name, work in self.at_work.items()}
-        return schedule.time_left(self.left, seconds, rest, self.lanes)
+    def jobs_for(self, name, waiting):
+        """How many jobs a crate gets, where so many wait: the processors that no other one waits for, as many as memory holds."""
+        idle = self.lanes - sum(work.jobs for work in self.at_work.values())
+        most = min(MOST_JOBS, max(idle // waiting, min(idle, 1)))
+        return next((jobs for jobs in range(most, 0, -1) if self.has_room(self.memory_for(name, jobs))), 0)
 
-    def line(self, now):
+    def line(self):
         """How far the proofs are, in a line."""
-        at_work = list(self.at_work) or [crate.name for crate in self.left if crate.name == PROGRAM and len(self.left) == 1]
-        return progress.line(len(self.crates) - len(self.left), len(self.crates), at_work, self.time_left(now))
+        now, seconds = time.monotonic(), self.seconds()
+        rest = {name: max(seconds[name] - (now - work.begun), seconds[name] / 10) for name, work in self.at_work.items()}
+        left = schedule.time_left(self.left, seconds, rest, self.lanes)
+        return progress.line(len(self.crates) - len(self.left), len(self.crates), list(self.at_work), left)
 
 
-def plan_of(root):
-    """What there is to prove."""
-    known = read_crates(root)
-    crates = lowest_first(known, PROGRAM)
+def plan_of(root, crates):
+    """What there is to prove of these crates."""
     sums = sums_of(root, crates, CODE_AND_PROOFS)
-    sizes = {crate.name: size_of(root, crate, known) for crate in crates}
-    left = [crate for crate in crates if not is_proved(root, crate.name, sums[crate.name])]
+    sizes = {crate.name: size_of(folder_of(root, crate.name)) for crate in crates}
+    left = [crate for crate in crates if crate.name == PROGRAM or not is_proved(root, crate.name, sums[crate.name])]
     return Plan(root, crates, sums, sizes, left, processors(), free_memory())
 
 
-def refused(name, log):
-    """The failure of a crate, with what `rt` said."""
-    said = log.read_text(encoding="utf-8", errors="replace").rstrip()
-    return Fault(f"{name} is not proved; rt said:\n{said}")
+def rt():
+    """The command of the kit that proves."""
+    found = shutil.which("rt")
+    if not found:
+        raise Fault("there is no command rt on the PATH; a kit of Rattle has it, in its folder bin")
+    return found
 
 
-def begin(plan, crate, jobs, processes):
+def stop_if_refused(name, work):
+    """Tells what `rt` said of a crate that it did not prove."""
+    if work.process.returncode:
+        said = work.log.read_text(encoding="utf-8", errors="replace").rstrip()
+        raise Fault(f"{name} is not proved (rt ended with {work.process.returncode}). It said:\n{said}")
+
+
+def begin(plan, name, jobs, processes):
     """Has a crate proved in a room of its own."""
-    room = Room(plan.root, place_of_rooms(plan.root) / crate.name, tuple(plan.below(crate.name)))
+    room = Room(plan.root, place_of_rooms(plan.root) / name, tuple(plan.below(name)))
     room.furnish()
     log = room.folder / "log"
     with open(log, "wb") as out:
-        process = start([rt(), "lib", "--jobs", str(jobs)], room.crate_folder, out)
-    processes.append(process)
-    plan.at_work[crate.name] = Work(room, process, log, time.monotonic(), jobs, plan.needs(crate.name, jobs))
+        start(processes, [rt(), "lib", "--jobs", str(jobs)], room.crate_folder, out)
+    plan.at_work[name] = Work(processes[-1], log, time.monotonic(), jobs, plan.memory_for(name, jobs), room)
 
 
 def begin_all(plan, processes):
     """Begins as many crates as processors and memory allow."""
     ready = plan.ready()
     for place, crate in enumerate(ready):
-        jobs = plan.jobs(len(ready) - place)
-        while jobs > 1 and not plan.has_room(plan.needs(crate.name, jobs)):
-            jobs -= 1
-        if jobs > 0 and plan.has_room(plan.needs(crate.name, jobs)):
-            begin(plan, crate, jobs, processes)
+        jobs = plan.jobs_for(crate.name, len(ready) - place)
+        if jobs:
+            begin(plan, crate.name, jobs, processes)
 
 
 def take(plan, name):
-    """Takes the library of a crate that is proved."""
-    work = plan.at_work.pop(name)
+    """Takes the library of a crate whose process has ended."""
+    work = plan.at_work[name]
+    stop_if_refused(name, work)
     work.room.hand_over(plan.sums[name])
+    del plan.at_work[name]
     plan.left = [crate for crate in plan.left if crate.name != name]
-    plan.spent += time.monotonic() - work.begun
+    plan.took += work.jobs * (time.monotonic() - work.begun)
     plan.wanted += plan.expected(name)
 
 
 def prove_libraries(plan, display):
     """Proves all crates but the program."""
-    with ended([]) as processes:
-        while [crate for crate in plan.left if crate.name != PROGRAM]:
+    with ending() as processes:
+        while plan.libraries():
             begin_all(plan, processes)
-            display.show(plan.line(time.monotonic()))
+            display.show(plan.line())
             time.sleep(PAUSE)
             for name, work in list(plan.at_work.items()):
                 if work.process.poll() is not None:
-                    processes.remove(work.process)
-                    if work.process.returncode:
-                        raise refused(name, work.log)
                     take(plan, name)
 
 
 def prove_program(plan, display):
     """Proves and links the program, whose libraries are all proved."""
-    log, begun = place_of_rooms(plan.root) / f"{PROGRAM}.log", time.monotonic()
+    log = place_of_rooms(plan.root) / f"{PROGRAM}.log"
     log.parent.mkdir(parents=True, exist_ok=True)
-    with open(log, "wb") as out, ended([start([rt(), "run"], folder_of(plan.root, PROGRAM), out)]) as processes:
-        while processes[0].poll() is None:
-            display.show(plan.line(begun))
+    with open(log, "wb") as out, ending() as processes:
+        start(processes, [rt(), "run"], folder_of(plan.root, PROGRAM), out)
+        plan.at_work[PROGRAM] = work = Work(processes[0], log, time.monotonic(), plan.lanes, 0)
+        while work.process.poll() is None:
+            display.show(plan.line())
             time.sleep(PAUSE)
-    if processes[0].returncode:
-        raise refused(PROGRAM, log)
-
-
-def rt():
-    """The command of the kit that proves."""
-    return shutil.which("rt") or fail("there is no command rt on the PATH: a kit of Rattle has it, as /opt/rattle/bin/rt")
-
-
-def fail(why):
-    raise Fault(why)
+    stop_if_refused(PROGRAM, work)
 
 
 def prove_once(build, display):
-    """Proves what is left, and notes the program if the sources are still the same."""
-    plan = plan_of(build.root)
-
-    def tell_of_waiting(folder):
+    """Proves what is left, and notes the program where the sources are still the same."""
+    def tell(folder):
         display.clear()
-        print(f"another rt is at work in {folder}; waiting for it ..", file=display.out, flush=True)
+        print(f"another command is at work in {folder}; waiting for it ..", file=display.out, flush=True)
 
-    with locked([folder_of(build.root, crate.name) for crate in plan.crates], tell_of_waiting):
-        plan = plan_of(build.root)
+    crates = lowest_first(read_crates(build.root), PROGRAM)
+    # As `rt` does, so that no other `rt` works in these folders meanwhile.
+    with locked([folder_of(build.root, crate.name) for crate in crates], tell):
+        plan = plan_of(build.root, crates)
         prove_libraries(plan, display)
     if build.sources() == plan.sums[PROGRAM]:
         prove_program(plan, display)
+        if not build.program.exists():
+            raise Fault(f"rt proved {PROGRAM} and left no program at {build.program}")
         if build.sources() == plan.sums[PROGRAM]:
             build.note(plan.sums[PROGRAM])
 
@@ -236,4 +236,4 @@ def prove(build):
             prove_once(build, display)
     finally:
         display.clear()
-        shutil.rmtree(place_of_rooms(build.root), ignore_errors=True) if False else None
+    remove(place_of_rooms(build.root))

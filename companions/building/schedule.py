@@ -1,17 +1,17 @@
 """Which crate comes next, and how long all that is left takes."""
 import heapq
 
-# What a crate takes on one idle processor, in seconds: as much to begin with, and as much for each line of its files.
-BEGINNING, A_LINE = 30, 0.045
+# What a crate takes on one processor, in seconds: to begin with, for a line of code, and for one of definitions and proofs.
+BEGINNING, A_LINE, A_LINE_OF_PROOFS = 20, 0.12, 0.005
 # What the program takes besides: it is compiled whole.
 COMPILING = 120
 # How many seconds of proofs tell as much of the pace as the figures above.
 TRUSTED = 300
 
 
-def expected(lines, is_program):
-    """What a crate with so many lines takes, in seconds."""
-    return BEGINNING + A_LINE * lines + COMPILING * is_program
+def expected(code, proofs, is_program):
+    """What a crate with so many lines of code, and of definitions and proofs, takes in seconds."""
+    return BEGINNING + A_LINE * code + A_LINE_OF_PROOFS * proofs + COMPILING * is_program
 
 
 def longest_chains(crates, seconds):
