@@ -9,11 +9,11 @@ import re
 import subprocess
 import sys
 
+from building import crates, programs
+
 from .journal import JournalFault, last_journal, read_journal
 from .picture import picture
 from .session import Command, commands_of, lines_of, refusals, said, without_open_script
-
-PROGRAM = pathlib.Path(__file__).resolve().parents[2] / "crates/evats/out/evats"
 
 
 class Fault(Exception):
@@ -25,6 +25,14 @@ def read_input(file):
         return pathlib.Path(file).read_bytes() if file else sys.stdin.buffer.read()
     except OSError as fault:
         raise Fault(f"cannot read {file or 'standard input'}: {fault.strerror}") from fault
+
+
+def program_named(word):
+    """The program that a word names; without one that which is built."""
+    try:
+        return word or programs.program_to_try()
+    except crates.Fault as fault:
+        raise Fault(str(fault)) from fault
 
 
 def replies_to(program, commands):
@@ -81,14 +89,15 @@ def put(file, text):
 
 def main(words=None):
     parser = argparse.ArgumentParser(prog="causes", description=__doc__, formatter_class=argparse.RawDescriptionHelpFormatter)
-    parser.add_argument("--program", default=PROGRAM, help="the program; without it the one that ./run builds")
+    parser.add_argument("--program", help="the program; without it the one that ./run proved, else that of ./run --unproved")
     parser.add_argument("--out", metavar="FILE.svg", help="where the picture goes; without it to standard output")
     parser.add_argument("--cone", metavar="E", help="an event, as e3, that is coloured with all that came of it")
     parser.add_argument("file", metavar="FILE", nargs="?", help="the commands; without it standard input is read")
     arguments = parser.parse_args(words)
     try:
-        text, refused = drawn(arguments.program, read_input(arguments.file), arguments.cone)
-        put(arguments.out, text)
+        text = read_input(arguments.file)
+        svg, refused = drawn(program_named(arguments.program), text, arguments.cone)
+        put(arguments.out, svg)
     except Fault as fault:
         print(f"causes: {fault}", file=sys.stderr)
         return 2
