@@ -65,7 +65,9 @@ def members(session):
 
 
 def end(process):
-    """Ends a process and all of its session."""
+    """Ends a process and all of its session, if it has not ended: another process may have its number then."""
+    if process.poll() is not None:
+        return
     limit = time.monotonic() + SECONDS
     while (left := members(process.pid)) and time.monotonic() < limit:
         for member in left:
