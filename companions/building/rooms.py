@@ -12,7 +12,7 @@ from dataclasses import dataclass
 from pathlib import Path
 
 from .builds import text_of, write_whole
-from .crates import folder_of
+from .crates import Fault, folder_of
 from .sums import CODE_AND_PROOFS, sums_of
 
 # What `rt lib` leaves in out/ that is used again: the library, and what a later check begins with.
@@ -20,11 +20,20 @@ LEFT = ("rlib", "incremental")
 
 
 def place_of_rooms(root):
-    """Where rooms stand: in git's own folder, where no check looks for crates and files can be linked."""
-    if (root / ".git").is_dir():
-        return root / ".git" / "proving"
-    name = hashlib.sha256(os.fsencode(root)).hexdigest()[:16]
-    return Path(tempfile.gettempdir()) / f"proving-{os.getuid()}-{name}"
+    """Where the rooms of a repository stand: outside it, where no check of the whole finds them; if it may be on the same disk,
+    so that libraries need no copies."""
+    cache = Path(os.environ.get("XDG_CACHE_HOME") or Path.home() / ".cache")
+    places = [cache / "evats-proving", Path(tempfile.gettempdir()) / f"evats-proving-{os.getuid()}"]
+    place = next((it for it in places if disk_of(it) == disk_of(root)), places[0])
+    place.mkdir(mode=0o700, parents=True, exist_ok=True)
+    if place.stat().st_uid != os.getuid():
+        raise Fault(f"{place} belongs to somebody else: set XDG_CACHE_HOME to a folder of your own")
+    return place / hashlib.sha256(os.fsencode(root)).hexdigest()[:16]
+
+
+def disk_of(path):
+    """The disk that a path is on, or will be."""
+    return next(above for above in [path, *path.parents] if above.exists()).stat().st_dev
 
 
 def remove(folder):
