@@ -13,6 +13,9 @@ from .builds import proved_build
 from .crates import Fault
 from .processes import Interrupted, interruptions
 from .programs import NOTHING_PROVED, say, unproved_program
+from .proving import prove
+
+HELP = (["-h"], ["--help"])
 
 
 def program_for(is_unproved):
@@ -21,7 +24,6 @@ def program_for(is_unproved):
         return unproved_program()
     build = proved_build()
     if not build.is_current():
-        from .proving import prove
         prove(build)
     return build.program
 
@@ -38,14 +40,15 @@ def main(words):
     is_unproved = words[:1] == ["--unproved"]
     words = words[is_unproved:]
     try:
+        if words in HELP and not is_unproved and not proved_build().is_current():
+            print(__doc__.rstrip())
+            return 0
         with interruptions():
             program = program_for(is_unproved)
         if is_unproved:
             say(NOTHING_PROVED)
         become(program, words)
-    except Fault as fault:
-        say(f"run: {fault}")
-    except OSError as fault:
+    except (Fault, OSError) as fault:
         say(f"run: {fault}")
     except Interrupted as interrupted:
         return interrupted.status

@@ -2,13 +2,17 @@
 import re
 from pathlib import Path
 
+from .crates import Fault
+
 KIT = Path("/opt/rattle")
 
 
 def uses_of(library):
     """The libraries of the kit that one of them uses."""
-    text = (KIT / "rlibs" / f"{library}.rlib" / "format").read_text(encoding="utf-8")
-    return re.findall(r"^dep (\w+)$", text, re.M)
+    path = KIT / "rlibs" / f"{library}.rlib" / "format"
+    if not path.is_file():
+        raise Fault(f"{library} is no crate of crates.txt and no library of the kit at {KIT}")
+    return re.findall(r"^dep (\w+)$", path.read_text(encoding="utf-8"), re.M)
 
 
 def with_those_below(libraries):

@@ -179,7 +179,7 @@ def take(plan, name):
     work.room.hand_over(plan.sums[name])
     del plan.at_work[name]
     plan.left = [crate for crate in plan.left if crate.name != name]
-    plan.took += work.jobs * (time.monotonic() - work.begun)
+    plan.took += time.monotonic() - work.begun
     plan.wanted += plan.expected(name)
 
 
