@@ -146,11 +146,13 @@ def rt():
     return found
 
 
-def stop_if_refused(name, work):
-    """Tells what `rt` said of a crate that it did not prove."""
+def stop_if_refused(plan, name):
+    """Tells what `rt` said of a crate that it did not prove, with the paths of the repository."""
+    work = plan.at_work[name]
     if work.process.returncode:
         said = work.log.read_text(encoding="utf-8", errors="replace").rstrip()
-        raise Fault(f"{name} is not proved (rt ended with {work.process.returncode}). It said:\n{said}")
+        said = said.replace(str(work.room.folder), str(plan.root)) if work.room else said
+        raise Fault(f"rt said of crates/{name}:\n{said}\n{name} is not proved: rt ended with {work.process.returncode}")
 
 
 def begin(plan, name, jobs, processes):
@@ -174,10 +176,9 @@ def begin_all(plan, processes):
 
 def take(plan, name):
     """Takes the library of a crate whose process has ended."""
-    work = plan.at_work[name]
-    stop_if_refused(name, work)
+    stop_if_refused(plan, name)
+    work = plan.at_work.pop(name)
     work.room.hand_over(plan.sums[name])
-    del plan.at_work[name]
     plan.left = [crate for crate in plan.left if crate.name != name]
     plan.took += time.monotonic() - work.begun
     plan.wanted += plan.expected(name)
@@ -205,7 +206,7 @@ def prove_program(plan, display):
         while work.process.poll() is None:
             display.show(plan.line())
             time.sleep(PAUSE)
-    stop_if_refused(PROGRAM, work)
+    stop_if_refused(plan, PROGRAM)
 
 
 def prove_once(build, display):
