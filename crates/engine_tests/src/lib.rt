@@ -8,4 +8,6 @@ mod fakes;
 #[cfg(test)]
 mod lines;
 #[cfg(test)]
+mod pieces;
+#[cfg(test)]
 mod talking;

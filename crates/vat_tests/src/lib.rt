@@ -10,7 +10,11 @@ mod endings;
 #[cfg(test)]
 mod expecting;
 #[cfg(test)]
+mod fences;
+#[cfg(test)]
 mod language;
+#[cfg(test)]
+mod leads;
 #[cfg(test)]
 mod logs;
 #[cfg(test)]

@@ -2,12 +2,12 @@
 ghost use Rattle.std.specs.Prelude.{nat_eq, cond, None, Some};
 ghost use Rattle.values.specs.View.{val_of};
 
-use crate::ends::end_of;
-use crate::kinds::{Kind, kind_of};
-use crate::resolve::Resolve;
-use crate::settling::settle;
 use ids::names::{EventName, PromId, VatNo};
 use ids::text::Text;
+use refs::ends::end_of;
+use refs::kinds::{Kind, kind_of};
+use refs::resolve::Resolve;
+use refs::settling::settle;
 use std::process::Abort;
 use values::lists::list_within;
 use values::showing::show;

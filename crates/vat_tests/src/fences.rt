@@ -1,8 +1,8 @@
 // Fences go with references.
 
-use crate::carried::Carried;
-use crate::fence::Fence;
-use crate::rules::{on_learn, on_pass, on_receive, on_send};
+use eorder::carried::Carried;
+use eorder::fence::Fence;
+use eorder::rules::{on_learn, on_pass, on_receive, on_send};
 use ids::names::{EventName, MsgId, ObjId, VatNo};
 use ids::reference::Reference;
 use std::process::Abort;

@@ -1,11 +1,11 @@
 // Lines in pieces of each size, readers and writers that are interrupted, fail, or take little.
-use crate::counted::Counted;
-use crate::lines::{Lines, TakeFault};
-use crate::outlet::Outlet;
 use std::io;
 use std::io::{Error, ErrorKind, Read, Write};
 use std::process::Abort;
 use std::test::Fail;
+use streams::counted::Counted;
+use streams::lines::{Lines, TakeFault};
+use streams::outlet::Outlet;
 
 /// Gives up to so many bytes in a call, and then fails or ends; each call is interrupted first, and so many times more.
 #[derive(Drop)]
