@@ -4,8 +4,8 @@ import re
 from .cases import Broken, case_of
 from .tables import HEAD, Row, cases_of
 
-BEGUN = re.compile(r"^\./run (?:--unproved )?<<'END'$", re.MULTILINE)
-SESSION = re.compile(r"```sh\n\./run (?:--unproved )?<<'END'\n(.*?)\nEND\n```\n\nIt prints:\n\n```\n(.*?)\n```", re.DOTALL)
+BEGUN = re.compile(r"^\./run\b.*<<'END'$", re.MULTILINE)
+SESSION = re.compile(r"```sh\n\./run\b[^\n]*<<'END'\n(.*?)\nEND\n```\n\nIt prints:\n\n```\n(.*?)\n```", re.DOTALL)
 SCRIPT = re.compile(r"vat whose script is `([^`]+)`")
 ASKED = ["ask a ..", "Reply"]
 COMMANDED = ["Line of commands", "Reply"]
