@@ -85,7 +85,12 @@ def difference_of_ends(wanted, status, seconds):
 
 def differences(case, ran, seconds):
     """What a run did otherwise than a case wants, line by line: nothing where it did just that."""
-    told = difference_of_ends(case.status, ran.status, seconds)
-    told += difference_of_texts(case.errors, ran.errors, lambda _: "of standard error")
-    where = lambda place: f"of the replies, {command_of(case.commands, case.replies, place)}"
-    return told + difference_of_texts(case.replies, ran.replies, where)
+
+    def at_its_command(place):
+        return f"of the replies, {command_of(case.commands, case.replies, place)}"
+
+    return [
+        *difference_of_ends(case.status, ran.status, seconds),
+        *difference_of_texts(case.errors, ran.errors, lambda _: "of standard error"),
+        *difference_of_texts(case.replies, ran.replies, at_its_command),
+    ]

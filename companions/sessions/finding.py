@@ -32,14 +32,14 @@ def cases_at(path):
         return tables.cases_in(path, name_of(path))
     if path.suffix == SESSION:
         return lacking(path) or [Session(path).case(name_of(path.with_suffix("")))]
-    return lacking(path) if path.suffix in BESIDE else []
+    return lacking(path) if path.suffix in BESIDE else [Broken(name_of(path), "this is no file of a test")]
 
 
 def files_below(path):
-    """The files of a folder and of those in it, but for documents; or the file itself."""
+    """The files of a folder and of those in it, but for documents and programs; or the file itself."""
     if not path.is_dir():
         return [path]
-    return [each for each in sorted(path.rglob("*")) if each.is_file() and each.suffix != DOCUMENT]
+    return [each for each in sorted(path.rglob("*")) if each.is_file() and each.suffix not in ("", DOCUMENT)]
 
 
 def with_endings(path):

@@ -122,7 +122,7 @@ class Files(Folder):
         self.assertEqual(self.ran("exec cat")[1], 1)
 
     def test_what_stands_alone_fails(self):
-        for name in ("talk.evats", "talk.replies", "talk.args", "talk.status", "talk.errors"):
+        for name in ("talk.evats", "talk.replies", "talk.args", "talk.status", "talk.errors", "talk.reply"):
             with self.subTest(name):
                 self.put(f"tests/{name}", "")
                 told, status = self.ran("exec cat")
