@@ -5,7 +5,8 @@ from .cases import Broken, case_of
 from .tables import HEAD, Row, cases_of
 
 BEGUN = re.compile(r"^\./run\b.*<<'END'$", re.MULTILINE)
-SESSION = re.compile(r"```sh\n\./run\b[^\n]*<<'END'\n(.*?)\nEND\n```\n\nIt prints:\n\n```\n(.*?)\n```", re.DOTALL)
+SESSION = re.compile(r"```sh\n\./run\b([^\n]*) <<'END'\n(.*?)\nEND\n```\n\nIt prints:\n\n```\n(.*?)\n```", re.DOTALL)
+UNPROVED = "--unproved"
 SCRIPT = re.compile(r"vat whose script is `([^`]+)`")
 ASKED = ["ask a ..", "Reply"]
 COMMANDED = ["Line of commands", "Reply"]
@@ -28,13 +29,17 @@ def head_with(script):
     return ["> vat a () 1", f"> {script}", *HEAD[1:3], f"ok e2 value {value}", *HEAD[4:]]
 
 
+def session_of(name, text, found):
+    """The case of a session that was found in a document, with the words that `./run` hands on."""
+    words, commands, replies = found.groups()
+    line = text.count("\n", 0, found.start()) + 1
+    arguments = [word for word in words.split() if word != UNPROVED]
+    return case_of(f"{name}:{line}", commands.split("\n"), replies.split("\n"), arguments)
+
+
 def sessions_of(name, text):
     """The sessions that a document shows, each behind `It prints:` with its replies."""
-    found = list(SESSION.finditer(text))
-    cases = [
-        case_of(f"{name}:{text.count(chr(10), 0, session.start()) + 1}", session[1].split("\n"), session[2].split("\n"))
-        for session in found
-    ]
+    cases = [session_of(name, text, found) for found in SESSION.finditer(text)]
     begun = len(BEGUN.findall(text))
     return cases if begun == len(cases) else [*cases, Broken(name, f"{begun} sessions, and {len(cases)} with replies")]
 
