@@ -75,6 +75,11 @@ def table_of(name, text):
     return Table(tuple(head), tuple(row for _, _, row in read if row), tuple(broken))
 
 
+def has_places(head):
+    """Whether a command of a head has a place for the text, and a reply one for the answer."""
+    return all(any(PLACE in line and line.startswith("> ") == is_command for line in head) for is_command in (True, False))
+
+
 def session_in(head, text, answer):
     """The commands and the replies of a head in which a text and its answer stand."""
     commands, replies = [], []
@@ -104,6 +109,8 @@ def cases_in(path, name):
     """The cases of a table in a file NAME.table."""
     table, arguments = table_of(name, path.read_text()), arguments_beside(path)
     cases = [case for row in table.rows for case in cases_of(f"{name}:{row.line}", row, table.head, arguments)]
+    if not has_places(table.head):
+        return [Broken(name, f"the head has no {PLACE} for the text, or none for the answer")]
     return [*cases, *table.broken] or [Broken(name, "the table has no row")]
 
 
@@ -130,5 +137,7 @@ def accept(path, run):
         ran = run(arguments, commands)
         answer = answer_in(table.head, ran.replies) if ran.ended and not STEPS.fullmatch(row.answer) else None
         lines[row.line - 1] = f"{row.text}{ARROW}{answer or row.answer}"
+    if lines == text.split("\n"):
+        return []
     path.write_text("\n".join(lines))
-    return [] if lines == text.split("\n") else [path]
+    return [path]

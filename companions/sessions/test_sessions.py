@@ -209,7 +209,8 @@ class Tables(Folder):
         self.assertEqual(cases[1].replies, b"ok e1 e1.m0\nno S1 X\n")
 
     def test_what_is_no_row(self):
-        for text in ("1 => \n", "1\n", " => value 1\n", "# Nothing.\n", ""):
+        headless = ("> ..\nok\n\n1 => ok\n", "> step\n..\n\n1 => ok\n")
+        for text in ("1 => \n", "1\n", " => value 1\n", "# Nothing.\n", "", *headless):
             with self.subTest(text):
                 (broken,) = tables.cases_in(self.put("some.table", text), "some")
                 self.assertIsInstance(broken, Broken)
