@@ -7,26 +7,33 @@ import select
 import signal
 import subprocess
 import tempfile
-import threading
 import time
 from subprocess import PIPE
 from typing import NamedTuple
 
-# How long a program may take for a reply, and for its end. One that takes longer is stopped.
-SECONDS = 60
+# How long a program may take for a reply, and for its end, and how many bytes it may say there. One that goes on is stopped.
+SECONDS, MOST = 60, 1 << 24
 # How long a session that differs is made shorter.
 SHORTENING = 300
 
 
 def text(data):
-    return data.decode(errors="backslashreplace")
+    """What was said, which differs from all replies where it is no text."""
+    try:
+        return data.decode()
+    except UnicodeDecodeError:
+        return f"(no text) {bytes(data)!r}"
+
+
+def brief(said):
+    return said if len(said) < 10_000 else f"{said[:5_000]} .. {said[-5_000:]}"
 
 
 def shown(line):
     """A line of replies, or none, as it is told."""
     if line is None:
         return "(nothing)"
-    return line[:-1] if line.endswith("\n") else f"{line} (and no line feed)"
+    return brief(line[:-1] if line.endswith("\n") else f"{line} (and no line feed)")
 
 
 class Ended(NamedTuple):
@@ -39,20 +46,20 @@ class Ended(NamedTuple):
     @property
     def ending(self):
         if self.status is None:
-            return f"it was stopped after {SECONDS} seconds"
+            return f"it was stopped after {SECONDS} seconds or {MOST} bytes"
         if self.status < 0:
             return f"signal {-self.status} ended it: {signal.strsignal(-self.status)}"
         return f"it ended with {self.status}"
 
     def otherwise(self, replies, status):
         """What is otherwise than these replies, no errors and this status; nothing where all is so."""
-        told, lines = [], re.findall("[^\n]*\n|[^\n]+", self.out)
+        told, lines = [], (it[0] for it in re.finditer("[^\n]*\n|[^\n]+", self.out))
         for wanted, got in itertools.zip_longest((f"{it}\n" for it in replies), lines):
             if wanted != got:
                 told.append(f"wanted: {shown(wanted)}\ngot:    {shown(got)}")
                 break
         if self.err:
-            told.append(f"standard error: {self.err}")
+            told.append(f"standard error: {brief(self.err)}")
         if self.status != status:
             told.append(f"{self.ending}; its status should be {status}")
         return "\n".join(told)
@@ -65,25 +72,12 @@ def stop(process):
     process.wait()
 
 
-def run(words, given="", **streams):
-    """Runs a program to its end, all of whose input is there at once."""
-    streams = {"stdin": PIPE, "stdout": PIPE, "stderr": PIPE} | streams
-    with subprocess.Popen(words, start_new_session=True, **streams) as process:
-        try:
-            out, err = process.communicate(given.encode(), SECONDS)
-            status = process.returncode
-        except subprocess.TimeoutExpired:
-            stop(process)
-            (out, err), status = process.communicate(), None
-    return Ended(status, text(out or b""), text(err or b""))
-
-
 class Conversation:
     """A program that is given a command, and waited for, before it is given the next."""
 
-    def __init__(self, words):
+    def __init__(self, words, stdin=PIPE, stdout=PIPE):
         self.said, self.is_stopped, self.errors = "", False, tempfile.TemporaryFile()
-        streams = {"stdin": PIPE, "stdout": PIPE, "stderr": self.errors}
+        streams = {"stdin": stdin, "stdout": stdout, "stderr": self.errors}
         self.process = subprocess.Popen(words, bufsize=0, start_new_session=True, **streams)
 
     def __enter__(self):
@@ -92,7 +86,7 @@ class Conversation:
     def __exit__(self, *_):
         if self.process.poll() is None:
             stop(self.process)
-        for stream in (self.process.stdin, self.process.stdout, self.errors):
+        for stream in filter(None, (self.process.stdin, self.process.stdout, self.errors)):
             stream.close()
 
     def give(self, command):
@@ -101,12 +95,13 @@ class Conversation:
 
     def hear(self, is_whole):
         """What is said until that is whole, or nothing more comes."""
-        found, end = b"", time.monotonic() + SECONDS
+        found, end = bytearray(), time.monotonic() + SECONDS
         while not is_whole(found):
-            ready, _, _ = select.select([self.process.stdout], [], [], max(0, end - time.monotonic()))
-            if not ready:
+            left = end - time.monotonic()
+            if len(found) > MOST or left < 0 or not select.select([self.process.stdout], [], [], left)[0]:
                 self.stop()
-            piece = os.read(self.process.stdout.fileno(), 1 << 16) if ready else b""
+                break
+            piece = os.read(self.process.stdout.fileno(), 1 << 16)
             if not piece:
                 break
             found += piece
@@ -126,11 +121,22 @@ class Conversation:
 
     def end(self):
         """How it ends where it is given nothing more, and what it says until then."""
-        self.process.stdin.close()
-        rest = "" if self.process.stdout.closed else self.hear(lambda _: False)
+        if self.process.stdin:
+            self.process.stdin.close()
+        is_heard = self.process.stdout and not self.process.stdout.closed and not self.is_stopped
+        rest = self.hear(lambda _: False) if is_heard else ""
         self.wait()
         self.errors.seek(0)
         return Ended(None if self.is_stopped else self.process.returncode, rest, text(self.errors.read()))
+
+
+def run(words, given="", stdin=None, stdout=PIPE):
+    """How a program ends whose input, if no other is named, is a file of what it is given."""
+    with tempfile.TemporaryFile() as source:
+        source.write(given.encode())
+        source.seek(0)
+        with Conversation(words, stdin or source, stdout) as conversation:
+            return conversation.end()
 
 
 def shortened(session, found, again):

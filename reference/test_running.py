@@ -107,6 +107,15 @@ class Runs(unittest.TestCase):
             self.assertEqual(conversation.hear(lambda said: said == b"a\n"), "a\n")
             self.assertEqual((conversation.end(), conversation.said), ((None, "", ""), "a\n"))
 
+    @patch.object(running, "MOST", 1_000_000)
+    def test_a_program_that_does_not_end_its_reply_is_stopped(self):
+        ended = run(["yes"])
+        self.assertEqual((ended.status, ended.out[:4]), (None, "y\ny\n"))
+        self.assertLess(len(ended.otherwise(["n"], 0)), 1_000)
+
+    def test_what_is_no_text_differs(self):
+        self.assertEqual(run(["printf", r"\377"]), (0, "(no text) b'\\xff'", ""))
+
     def test_what_is_otherwise(self):
         for ended, wanted in (
             (Ended(1, "a\nb\n", ""), ""),
@@ -116,6 +125,6 @@ class Runs(unittest.TestCase):
             (Ended(1, "a\nc\nd\n", "e"), "wanted: b\ngot:    c\nstandard error: e"),
             (Ended(0, "a\nb\n", ""), "it ended with 0; its status should be 1"),
             (Ended(-9, "a\nb\n", ""), "signal 9 ended it: Killed; its status should be 1"),
-            (Ended(None, "a\nb\n", ""), "it was stopped after 60 seconds; its status should be 1"),
+            (Ended(None, "a\nb\n", ""), "it was stopped after 60 seconds or 16777216 bytes; its status should be 1"),
         ):
             self.assertEqual(ended.otherwise(["a", "b"], 1), wanted)
