@@ -79,8 +79,11 @@ class Scripts(unittest.TestCase):
     @patch.object(running, "SECONDS", 1)
     def test_a_program_that_hangs_is_stopped(self):
         self.expect(WAITS, COMPARE, SEVERAL, LOGS, WORKERS, TALK)
-        self.expect({"hangs 2": "and had said 'ok e1 e1.m0.nok e2 value 2.n'"}, TALK)
         self.expect(dict.fromkeys(["omits end", "cuts end"], "it was stopped after 1 seconds"), WORKERS, TALK)
+
+    @patch.object(running, "SECONDS", 5)
+    def test_what_a_program_had_said_is_told(self):
+        self.expect({"hangs 2": "n := n .*: '' and not 'ok e3 e3.m0.n'(.|\n)*and had said 'ok e1 e1.m0.nok e2 value 2.n'"}, TALK)
 
     def test_a_session_that_differs_is_made_short(self):
         said = told(COMPARE, "--seconds", "0.1", FAKE, fault="complains 2")[1]
