@@ -12,11 +12,9 @@ BUDGETS = [3, 10, 30, 100, 1_000, 10_000, 100_000]
 
 
 class Session:
-    has_references = True
-
     def __init__(self, budget):
         self.budget, self.book, self.commands, self.replies = budget, Book(budget), [], []
-        self.engine = Engine(self.book, self.has_references)
+        self.engine = Engine(self.book)
 
     def give(self, text):
         """One command, with its script lines if it has some."""
@@ -26,13 +24,6 @@ class Session:
     @property
     def input(self):
         return "\n".join([*self.commands, ""])
-
-    def without(self, place):
-        shorter = type(self).__new__(type(self))
-        Session.__init__(shorter, self.budget)
-        for command in self.commands[:place] + self.commands[place + 1:]:
-            shorter.give(command)
-        return shorter
 
 
 class RandomSession(Session):

@@ -2,13 +2,14 @@
 
 use crate::calls::{BUDGET, message, name, program};
 use ids::names::{EventName, PromId, VatNo};
-use post::published::Published;
 use std::process::Abort;
 use values::value::Value;
 use world::run::plain_run;
 use world::step::StepFault;
 use worldcells::event::{Action, Event};
 use worldcells::world::World;
+
+const COUNTING: &str = "n := n + 1";
 
 fn event(name: u64, action: Action) -> Event {
     Event {
@@ -26,32 +27,35 @@ fn turn_at(born: u64, asked: u64) -> Action {
     }
 }
 
-/// What the question of an event at the first vat was answered, if it was.
-fn answer(world: &World, asked: u64) -> Option<i64> {
+/// What was published for the question of an event at the first vat, if it was.
+fn published(world: &World, asked: u64) -> Option<&Value> {
     let promise = PromId {
         event: EventName(asked),
         index: 0,
         home: VatNo(EventName(1)),
     };
     match world.published(promise) {
-        Some(
-            Published {
-                value: Value::Int(found),
-                ..
-            },
-        ) => Some(*found),
+        Some(found) => Some(&found.value),
+        None => None,
+    }
+}
+
+/// The integer that the question of an event at the first vat was answered, if it was one.
+fn answer(world: &World, asked: u64) -> Option<i64> {
+    match published(world, asked) {
+        Some(Value::Int(found)) => Some(*found),
         _ => None,
     }
 }
 
 /// A birth and its turn, and a question and its turn at the vat that this event bore, in order.
-fn events(rt: &(impl Abort + AllocGlobal), born: u64) -> Vec<Event> {
+fn events(rt: &(impl Abort + AllocGlobal), asked: &str, born: u64) -> Vec<Event> {
     let birth = Action::Birth(
         name(rt, "a"),
         Vec::new(rt.alloc()),
         program(rt, "var n := 20"),
     );
-    let ask = Action::Ask(name(rt, "a"), program(rt, "n := n + 1"));
+    let ask = Action::Ask(name(rt, "a"), program(rt, asked));
     vec![in rt.alloc();
         event(1, birth),
         event(2, turn_at(1, 1)),
@@ -68,7 +72,7 @@ fn is_impossible(rt: &(impl Abort + AllocGlobal), events: &[Event]) -> bool {
 
 #[test]
 fn a_plain_run(rt: HostRuntime) {
-    match plain_run(rt.alloc(), &events(&rt, 1)) {
+    match plain_run(rt.alloc(), &events(&rt, COUNTING, 1)) {
         Ok(world) => {
             assert!(rt; answer(&world, 1) == Some(20));
             assert!(rt; answer(&world, 3) == Some(21));
@@ -80,7 +84,7 @@ fn a_plain_run(rt: HostRuntime) {
 /// Without its birth a turn is impossible, and so is a question that is asked of no vat.
 #[test]
 fn impossible_runs(rt: HostRuntime) {
-    let events = events(&rt, 1);
+    let events = events(&rt, COUNTING, 1);
     assert!(rt; events.len() == 4);
     assert!(rt; is_impossible(&rt, &events[1..]));
     assert!(rt; is_impossible(&rt, &events[2..]));
@@ -90,5 +94,19 @@ fn impossible_runs(rt: HostRuntime) {
 /// A message has no turn at another vat than its own.
 #[test]
 fn a_turn_elsewhere(rt: HostRuntime) {
-    assert!(rt; is_impossible(&rt, &events(&rt, 2)));
+    assert!(rt; is_impossible(&rt, &events(&rt, COUNTING, 2)));
+}
+
+/// A plain run checks no program: a name that stands for nothing throws where it is evaluated.
+#[test]
+fn names_that_nothing_defines(rt: HostRuntime) {
+    for asked in ["z", "z; def z := 1"] {
+        match plain_run(rt.alloc(), &events(&rt, asked, 1)) {
+            Ok(world) => match published(&world, 3) {
+                Some(Value::Broken(problem)) => assert!(rt; problem.as_str() == "undefined noun z"),
+                _ => rt.panic("no problem"),
+            },
+            Err(_) => rt.panic("no run"),
+        }
+    }
 }

@@ -87,12 +87,14 @@ fn each_read_fails(rt: HostRuntime) {
     }
 }
 
-/// Each write of a session fails in turn: what went out is a beginning of the replies.
+/// Each write of a session fails in turn: what went out is a beginning of the replies, and all that the calls before took.
 #[test]
 fn each_write_fails(rt: HostRuntime) {
     let commands = commands_of(&rt, ORDER);
     let replies = replies_within(&rt, ORDER, commands.len());
     for (most, taken) in [(1, 1), (1, 100), (100, 7), (8_192, 100)] {
+        let mut before: usize = 0;
+        let mut is_whole = false;
         for calls_left in 0..3_000u32 {
             let output = Tap {
                 calls_left,
@@ -105,9 +107,16 @@ fn each_write_fails(rt: HostRuntime) {
                     "no memory",
                 );
                 expect(&rt, "a session", &outcome, &wanted);
+                is_whole = true;
                 break;
             };
             assert!(rt; replies.as_str().starts_with(out));
+            // One call more takes no less than was taken before, and not much more.
+            assert!(rt; out.len() >= before);
+            assert!(rt; out.len() <= before.saturating_add(taken));
+            before = out.len();
         }
+        assert!(rt; is_whole);
+        assert!(rt; replies.len() <= before.saturating_add(taken));
     }
 }

@@ -81,7 +81,7 @@ pub(crate) fn tapping(rt: &impl AllocGlobal, most: usize) -> Tap {
 }
 
 /// How a run ended.
-fn ending_of(ended: Result<Summary, Fault>) -> &'static str {
+pub(crate) fn ending_of(ended: Result<Summary, Fault>) -> &'static str {
     match ended {
         Ok(summary) if summary.refused => "refused",
         Ok(_) => "accepted",

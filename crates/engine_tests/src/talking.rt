@@ -1,6 +1,6 @@
 // An author who waits for each reply.
 
-use crate::fakes::{ORDER, SUM, Talk};
+use crate::fakes::{ORDER, SUM, Talk, ending_of, replies_within};
 use std::alloc::Global;
 use std::io;
 use std::io::{Error, ErrorKind, Read, Write};
@@ -55,11 +55,11 @@ impl Write for Ear {
     }
 }
 
-/// Each command is answered before more is read than the block that holds it.
+/// Each command is answered before more is read than the block that holds it, up to the last.
 #[test]
 fn replies_come_before_the_next_read(rt: HostRuntime) {
     let alloc = rt.alloc();
-    for talk in [SUM, ORDER] {
+    for (talk, ending) in [(SUM, "accepted"), (ORDER, "refused")] {
         let heard = Arc::new(alloc, AtomicU64::new(0)).expect(&rt, "no memory");
         let author = Author {
             talk,
@@ -68,12 +68,17 @@ fn replies_come_before_the_next_read(rt: HostRuntime) {
             heard: Arc::try_clone(&heard).expect(&rt, "no memory"),
         };
         let mut source = Lines::new(alloc, author).expect(&rt, "no memory");
-        let mut sink = Outlet::new(alloc, Ear { heard });
+        let ear = Ear {
+            heard: Arc::try_clone(&heard).expect(&rt, "no memory"),
+        };
+        let mut sink = Outlet::new(alloc, ear);
         let limits = Limits {
             budget: 10_000,
             workers: 8,
         };
         let ended = run(alloc, &mut source, &mut sink, limits, &mut Nobody);
-        assert!(rt; ended.is_ok());
+        assert!(rt; ending_of(ended) == ending);
+        let replies = replies_within(&rt, talk, usize::MAX);
+        assert!(rt; heard.load(Ordering::SeqCst) == replies.len() as u64);
     }
 }

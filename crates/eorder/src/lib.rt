@@ -4,6 +4,4 @@
 pub mod carried;
 pub mod fence;
 pub mod rules;
-#[cfg(test)]
-mod tests;
 pub mod theorems;

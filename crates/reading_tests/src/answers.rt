@@ -8,9 +8,7 @@ use etoken::tokens::tokens;
 use ids::text::Text;
 use kernele::print;
 use kernele::tree::{Expr, Pattern, Program};
-use scopes::{
-    CheckFault, Kind, Outer, TopName, captured_by_when, captured_names, check, top_names,
-};
+use scopes::{Kind, TopName, captured_by_when, captured_names, top_names};
 use std::alloc::{AllocError, Global};
 use std::fmt::Write;
 
@@ -23,10 +21,6 @@ pub enum Asked {
     Spelling,
     /// The same, where its tokens are read by themselves.
     SpellingOfTokens,
-    /// Whether it may be asked of a vat behind a vat `w`, whose script is `var v := 1; def d := 2`.
-    CheckAsked,
-    /// Whether it may be a script behind a vat `v`.
-    CheckScript,
     /// The names that it defines.
     Names,
     /// What its first item, an object or a `when`, captures.
@@ -64,8 +58,12 @@ fn write_answer(
             }
             Err(fault) => write_refusal(fault, out),
         },
-        Asked::Spelling | Asked::CheckAsked | Asked::CheckScript | Asked::Names | Asked::Captures =>
-            write_of_reading(alloc, asked, read(alloc, text), out),
+        Asked::Spelling | Asked::Names | Asked::Captures => write_of_reading(
+            alloc,
+            asked,
+            read(alloc, text),
+            out,
+        ),
     }
 }
 
@@ -88,8 +86,6 @@ fn write_of_program(
     out: &mut String,
 ) -> Result<(), AllocError> {
     match asked {
-        Asked::CheckAsked => write_verdict(&check_asked(alloc, program), out),
-        Asked::CheckScript => write_verdict(&check_script(alloc, program), out),
         Asked::Names => write_names(&top_names(alloc, program)?, out),
         Asked::Captures => write_captures(alloc, program, out),
         Asked::Spelling | Asked::Tokens | Asked::SpellingOfTokens => {
@@ -117,31 +113,6 @@ fn write_token(token: &Token, out: &mut String) -> Result<(), AllocError> {
         Token::Word(word) => write!(out, "{word:?}"),
         Token::Sign(sign) => write!(out, "{sign:?}"),
     }
-}
-
-fn write_verdict(checked: &Result<(), CheckFault>, out: &mut String) -> Result<(), AllocError> {
-    match checked {
-        Ok(()) => out.push_str("fits"),
-        Err(fault) => write!(out, "{fault}"),
-    }
-}
-
-/// The names that the script defines of the vat that is asked.
-fn known(alloc: Global) -> Result<Vec<TopName>, CheckFault> {
-    match read(alloc, "var v := 1; def d := 2") {
-        Ok(script) => Ok(top_names(alloc, &script)?),
-        Err(_) => Err(CheckFault::Memory),
-    }
-}
-
-fn check_asked(alloc: Global, program: &Program) -> Result<(), CheckFault> {
-    let outer = Outer::for_asked(alloc, &[Text::new(alloc, "w")?], &known(alloc)?)?;
-    check(alloc, program, &outer)
-}
-
-fn check_script(alloc: Global, program: &Program) -> Result<(), CheckFault> {
-    let outer = Outer::for_script(alloc, &[Text::new(alloc, "v")?])?;
-    check(alloc, program, &outer)
 }
 
 fn write_names(names: &[TopName], out: &mut String) -> Result<(), AllocError> {

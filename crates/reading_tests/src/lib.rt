@@ -1,16 +1,14 @@
-//! What is read, checked and found in texts where memory is ample: tables of texts, each with the answer that is wanted.
+//! What is read and found in texts, where no reply of the program shows it: tables of texts, each with the answer that is wanted.
 #![tactic(auto)]
 
 #[cfg(test)]
 mod answers;
 #[cfg(test)]
-mod checks;
+mod captures;
 #[cfg(test)]
 mod names;
 #[cfg(test)]
 mod programs;
-#[cfg(test)]
-mod refusals;
 #[cfg(test)]
 mod tables;
 #[cfg(test)]

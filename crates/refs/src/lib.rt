@@ -5,6 +5,4 @@ pub mod ends;
 pub mod kinds;
 pub mod resolve;
 pub mod settling;
-#[cfg(test)]
-mod tests;
 pub mod theorems;

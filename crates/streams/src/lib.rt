@@ -6,6 +6,4 @@ mod held;
 pub mod line;
 pub mod lines;
 pub mod outlet;
-#[cfg(test)]
-mod tests;
 pub mod theorems;

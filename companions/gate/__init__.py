@@ -1,0 +1,1 @@
+"""Runs `rt ci`, tells what it is at, and measures what it takes."""

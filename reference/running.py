@@ -1,0 +1,151 @@
+"""Programs that are run on commands: what they say in time, how they end, and what is otherwise than it should be."""
+import contextlib
+import itertools
+import os
+import re
+import select
+import signal
+import subprocess
+import tempfile
+import time
+from subprocess import PIPE
+from typing import NamedTuple
+
+# How long a program may take for a reply, and for its end, and how many bytes it may say there. One that goes on is stopped.
+SECONDS, MOST = 60, 1 << 24
+# How long a session that differs is made shorter.
+SHORTENING = 300
+
+
+def text(data):
+    """What was said, which differs from all replies where it is no text."""
+    try:
+        return data.decode()
+    except UnicodeDecodeError:
+        return f"(no text) {bytes(data)!r}"
+
+
+def brief(said):
+    return said if len(said) < 10_000 else f"{said[:5_000]} .. {said[-5_000:]}"
+
+
+def shown(line):
+    """A line of replies, or none, as it is told."""
+    if line is None:
+        return "(nothing)"
+    return brief(line[:-1] if line.endswith("\n") else f"{line} (and no line feed)")
+
+
+class Ended(NamedTuple):
+    """How a program ended, what it had said, and its errors. The status is negative where a signal ended it, and None where
+    it was stopped."""
+    status: int | None
+    out: str
+    err: str
+
+    @property
+    def ending(self):
+        if self.status is None:
+            return f"it was stopped after {SECONDS} seconds or {MOST} bytes"
+        if self.status < 0:
+            return f"signal {-self.status} ended it: {signal.strsignal(-self.status)}"
+        return f"it ended with {self.status}"
+
+    def otherwise(self, replies, status):
+        """What is otherwise than these replies, no errors and this status; nothing where all is so."""
+        told, lines = [], (it[0] for it in re.finditer("[^\n]*\n|[^\n]+", self.out))
+        for wanted, got in itertools.zip_longest((f"{it}\n" for it in replies), lines):
+            if wanted != got:
+                told.append(f"wanted: {shown(wanted)}\ngot:    {shown(got)}")
+                break
+        if self.err:
+            told.append(f"standard error: {brief(self.err)}")
+        if self.status != status:
+            told.append(f"{self.ending}; its status should be {status}")
+        return "\n".join(told)
+
+
+def stop(process):
+    """Ends a program with all that it started."""
+    with contextlib.suppress(ProcessLookupError):
+        os.killpg(process.pid, signal.SIGKILL)
+    process.wait()
+
+
+class Conversation:
+    """A program that is given a command, and waited for, before it is given the next."""
+
+    def __init__(self, words, stdin=PIPE, stdout=PIPE):
+        self.said, self.is_stopped, self.errors = "", False, tempfile.TemporaryFile()
+        streams = {"stdin": stdin, "stdout": stdout, "stderr": self.errors}
+        self.process = subprocess.Popen(words, bufsize=0, start_new_session=True, **streams)
+
+    def __enter__(self):
+        return self
+
+    def __exit__(self, *_):
+        if self.process.poll() is None:
+            stop(self.process)
+        for stream in filter(None, (self.process.stdin, self.process.stdout, self.errors)):
+            stream.close()
+
+    def give(self, command):
+        with contextlib.suppress(BrokenPipeError):
+            self.process.stdin.write(command.encode())
+
+    def hear(self, is_whole):
+        """What is said until that is whole, or nothing more comes."""
+        found, end = bytearray(), time.monotonic() + SECONDS
+        while not is_whole(found):
+            left = end - time.monotonic()
+            if len(found) > MOST or left < 0 or not select.select([self.process.stdout], [], [], left)[0]:
+                self.stop()
+                break
+            piece = os.read(self.process.stdout.fileno(), 1 << 16)
+            if not piece:
+                break
+            found += piece
+        self.said += text(found)
+        return text(found)
+
+    def wait(self):
+        """Waits for the program's end."""
+        try:
+            self.process.wait(SECONDS)
+        except subprocess.TimeoutExpired:
+            self.stop()
+
+    def stop(self):
+        self.is_stopped = True
+        stop(self.process)
+
+    def end(self):
+        """How it ends where it is given nothing more, and what it says until then."""
+        if self.process.stdin:
+            self.process.stdin.close()
+        is_heard = self.process.stdout and not self.process.stdout.closed and not self.is_stopped
+        rest = self.hear(lambda _: False) if is_heard else ""
+        self.wait()
+        self.errors.seek(0)
+        return Ended(None if self.is_stopped else self.process.returncode, rest, text(self.errors.read()))
+
+
+def run(words, given="", stdin=None, stdout=PIPE):
+    """How a program ends whose input, if no other is named, is a file of what it is given."""
+    with tempfile.TemporaryFile() as source:
+        source.write(given.encode())
+        source.seek(0)
+        with Conversation(words, stdin or source, stdout) as conversation:
+            return conversation.end()
+
+
+def shortened(session, found, again):
+    """A session that differs, without the commands that it can do without, as long as there is time, and what differs in it.
+    `again` answers a session of the commands that it is given, and what differs there."""
+    end = time.monotonic() + SHORTENING
+    for place in reversed(range(len(session.commands))):
+        if time.monotonic() < end:
+            shorter, otherwise = again(session.commands[:place] + session.commands[place + 1:])
+            if otherwise:
+                session, found = shorter, otherwise
+    return session, found
