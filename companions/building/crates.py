@@ -29,14 +29,19 @@ def crate_of(line):
     return Crate(head.split()[0], tuple(uses.split()), line.strip())
 
 
+def crates_in(text):
+    """The crates that a text as that of crates.txt names, by their names."""
+    crates = [crate for crate in map(crate_of, text.splitlines()) if crate]
+    return {crate.name: crate for crate in crates}
+
+
 def read_crates(root):
     """The crates of a repository by their names."""
     try:
-        lines = (root / "crates.txt").read_text(encoding="utf-8").splitlines()
+        text = (root / "crates.txt").read_text(encoding="utf-8")
     except OSError as fault:
         raise Fault(f"cannot read {root / 'crates.txt'}: {fault.strerror}") from fault
-    crates = [crate for crate in map(crate_of, lines) if crate]
-    return {crate.name: crate for crate in crates}
+    return crates_in(text)
 
 
 def lowest_first(crates, name):

@@ -8,16 +8,13 @@ import sys
 import time
 from pathlib import Path
 
+from building.crates import read_crates
+
 from .processes import KINDS, processes, work_below
 
 EVERY = 60
 PROVED = re.compile(r"^(?:rt: )?(\w+) (?:proved$|is kept: )", re.MULTILINE)
 NAMES = dict(zip(KINDS, ("", " (tests)", " (wrong bodies)")))
-
-
-def crates_in(text):
-    """How many crates a `crates.txt` names."""
-    return sum(1 for line in text.splitlines() if line.split("#")[0].strip())
 
 
 def proved_in(log):
@@ -33,7 +30,7 @@ def told(proved, crates, work):
 
 def watch(log, shell, say, every=EVERY):
     """Says what the processes of a shell are at, until that shell has ended."""
-    crates = crates_in(Path("crates.txt").read_text())
+    crates = len(read_crates(Path()))
     while os.getppid() == shell:
         time.sleep(every)
         work = set(work_below(str(shell), processes()).values())

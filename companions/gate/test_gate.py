@@ -6,7 +6,7 @@ import tempfile
 import unittest
 from pathlib import Path
 
-from .__main__ import crates_in, proved_in, told
+from .__main__ import proved_in, told
 from .processes import Process, processes, work_below
 
 COMPANIONS = Path(__file__).resolve().parents[1]
@@ -40,9 +40,6 @@ class Works(unittest.TestCase):
 
 
 class Telling(unittest.TestCase):
-    def test_crates(self):
-        self.assertEqual(crates_in("# crates\nlow: std\n\nhigh: low # above\n"), 2)
-
     def test_a_line(self):
         work = {("sends", "bodies"), ("heap", "proof")}
         self.assertEqual(told(3, 40, work), "gate: 3 of 40 crates proved; at work: heap sends (wrong bodies)")

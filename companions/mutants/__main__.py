@@ -8,6 +8,8 @@ import argparse
 import sys
 from pathlib import Path
 
+from building.processes import Interrupted, interruptions
+
 from .changes import NoSuchRevision, now, stands_on, to_be_tried
 from .report import report_of
 from .trial import mutants_of, tried
@@ -60,7 +62,11 @@ def main(words):
     say(f"{len(wanted)} mutants of {len(crates)} crates: {' '.join(crates)}")
     if given.list or not wanted:
         return 0
-    log, status = tried(ROOT, crates, say)
+    try:
+        with interruptions():
+            log, status = tried(ROOT, crates, say)
+    except Interrupted as interrupted:
+        return interrupted.status
     return told(report_of(log, wanted), log, status)
 
 

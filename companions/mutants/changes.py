@@ -2,6 +2,8 @@
 import subprocess
 from pathlib import Path
 
+from building.crates import crates_in
+
 from .contracts import contract_text
 
 OWN_PARTS = ("src", "specs", "proofs", "mutants")
@@ -13,10 +15,8 @@ class NoSuchRevision(Exception):
 
 def stands_on(text):
     """The crates of a `crates.txt`, in its order, each with those of them that it stands on."""
-    lines = [line.split("#")[0].strip() for line in text.splitlines()]
-    named = [line.split(":", 1) for line in lines if line]
-    below = {head.split()[0]: tail.split() for head, tail in named}
-    return {name: [it for it in uses if it in below] for name, uses in below.items()}
+    crates = crates_in(text)
+    return {name: [use for use in crate.uses if use in crates] for name, crate in crates.items()}
 
 
 def git(root, *words):

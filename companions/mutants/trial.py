@@ -1,13 +1,12 @@
 """Tries mutants in a copy of the tree, where they stand in place of the crates' wrong bodies."""
-import os
 import re
 import shutil
-import signal
-import subprocess
 import tempfile
 import time
 from dataclasses import dataclass, field
 from pathlib import Path
+
+from building.processes import ending, start
 
 # What a check in which nothing is changed costs beside one of a mutant: the one before a crate's mutants, and the one behind them.
 CHECKS_BESIDE = 2
@@ -86,15 +85,7 @@ def tried(root, crates, say, rt="rt", every=30):
         copied(root, tree, crates)
         count = sum(len(mutants_of(root, crate)) for crate in crates)
         progress = Progress(room, count, count + CHECKS_BESIDE * len(crates))
-        with log.open("w") as out:
-            process = subprocess.Popen(
-                [rt, "ci", *crates], cwd=tree, env={**os.environ, "TMPDIR": str(room)},
-                stdin=subprocess.DEVNULL, stdout=out, stderr=subprocess.STDOUT, start_new_session=True,
-            )
-            try:
-                watched(process, log, progress, say, every)
-            except BaseException:
-                os.killpg(process.pid, signal.SIGTERM)
-                process.wait()
-                raise
-        return log.read_text(errors="replace"), process.returncode
+        with log.open("w") as out, ending() as processes:
+            start(processes, [rt, "ci", *crates], tree, out, TMPDIR=str(room))
+            watched(processes[0], log, progress, say, every)
+        return log.read_text(errors="replace"), processes[0].returncode
