@@ -3,16 +3,16 @@ import re
 from dataclasses import dataclass, field
 
 TOLD = re.compile(r"(?:rt: )?must-fail (\w+)/([\w.-]+)\.edit: (.*)")
-# What the report says of each, by what `rt` says, the first that fits.
+# What the report says of each, by what `rt` says, the first that fits. `rt` tells the first line of a refusal alone: where that
+# is of a record that lacks a name, or of a sum that may wrap, it says nothing of the contract.
 FAULTS = (
-    ("NOT REFUSED", "got through"),
-    ("BAD EDIT", "cannot be applied or compiled"),
-    ("NOT TRIED", "was not tried"),
-    ("only because a proof file names", "shows little: a proof names what it took away"),
-    ("only by a limit of the prover", "shows little: the prover met a limit of its own"),
+    (r"NOT REFUSED", "got through"),
+    (r"BAD EDIT", "cannot be applied or compiled"),
+    (r"NOT TRIED", "was not tried"),
+    (r"only because a proof file names|error: `[^`]*`: record `", "shows little: a proof names what it took away"),
+    (r"only by a limit of the prover", "shows little: the prover met a limit of its own"),
+    (r"`(?:\w+-)?overflow_", "shows little: it may wrap"),
 )
-# A refusal that is told of a sum, a difference or an index says that the body is unsafe, and nothing of the contract.
-UNSAFE = re.compile(r"error\[(?:overflow|arithmetic|bounds|division)[\w-]*\]|(?:may|could|can) (?:overflow|wrap|underflow)")
 
 
 @dataclass
@@ -30,10 +30,7 @@ class Report:
 
 def fault_in(said):
     """Why a mutant shows nothing or little, or nothing where it was refused as it should be."""
-    for words, fault in FAULTS:
-        if words in said:
-            return fault
-    return "shows little: it is refused as unsafe" if UNSAFE.search(said) else None
+    return next((fault for words, fault in FAULTS if re.search(words, said)), None)
 
 
 def report_of(log, wanted):

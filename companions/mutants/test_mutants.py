@@ -60,6 +60,8 @@ rt: must-fail high/b.edit: NOT REFUSED: the crate is still proved with this edit
 rt: must-fail high/c.edit: BAD EDIT: `old` stands nowhere
 rt: must-fail high/d.edit: refused, as it must be (only because a proof file names what the edit took away, so this says little)
 rt: must-fail low/e.edit: NOT TRIED: its check was killed
+rt: must-fail low/g.edit: refused, as it must be: ./proofs/g/Answers.antt:40:25: error: `g-returns`: record `Rattle.low.proofs
+rt: must-fail low/h.edit: refused, as it must be: note: src/lib.rt:3:1: it is not proved that the sum fits (`h-overflow_add-x`)
 0 passed, 1 failed
 """
 
@@ -170,7 +172,7 @@ class Trial(unittest.TestCase):
         self.assertEqual(mutants_of(self.there.root, "high"), ["high/a"])
 
     def test_what_is_said_of_each(self):
-        report = report_of(LOG, ["high/a", "high/b", "high/c", "high/d", "low/e", "low/f"])
+        report = report_of(LOG, ["high/a", "high/b", "high/c", "high/d", "low/e", "low/f", "low/g", "low/h"])
         self.assertEqual(report.refused, 1)
         self.assertEqual(report.missing, ["crates/low/mutants/f.edit"])
         self.assertEqual(
@@ -180,6 +182,8 @@ class Trial(unittest.TestCase):
                 "crates/high/mutants/c.edit": "cannot be applied or compiled",
                 "crates/high/mutants/d.edit": "shows little",
                 "crates/low/mutants/e.edit": "was not tried",
+                "crates/low/mutants/g.edit": "shows little",
+                "crates/low/mutants/h.edit": "shows little",
             },
         )
         self.assertFalse(report.is_good)
