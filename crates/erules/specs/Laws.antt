@@ -97,3 +97,7 @@ DefinitionsAreAdded = (k : ℕ) (t : Tree) (a b : At) (v : Val) → Ends k t a (
 -- a value on its way to an Escape leaves a tree only where that Escape is being evaluated around the tree
 abbrev pub EjectionsAreOpen : Type 0
 EjectionsAreOpen = (k : ℕ) (t : Tree) (a b : At) (j : EjId) (v : Val) → Ends k t a (halt (ejected j v)) b → is_open j a.opened ≡ true
+
+-- the limits of a turn, as numbers
+abbrev pub LimitsAreNumbers : Type 0
+LimitsAreNumbers = (DEEPEST ≡ 1000) × (MAX_SLOTS ≡ 4096) × (MAX_OBJECTS ≡ 4096) × (MAX_MESSAGES ≡ 4096)
