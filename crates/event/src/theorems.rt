@@ -11,8 +11,8 @@ pub fn events_obey_the_law()
     ensures once { NotesAreOnce }
 {}
 
-/// A turn can happen in a world exactly where its message is ready: where it is at a vat, leads there, and what
-/// it waits for is done.
+/// At an event of which a world has no message yet, a turn can happen there exactly where its message is ready: where that is at a vat,
+/// leads there, and what it waits for is done.
 pub fn ready_messages_have_turns()
     ensures { ReadyMessagesHaveTurns }
 {}
