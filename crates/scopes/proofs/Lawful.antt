@@ -1,14 +1,14 @@
 -- The check is that of the rules of scope: it passes what is right throughout, and tells the first fault of the rest.
-use Rattle.std.proofs.Common.{◌≡◌, ◌⊎◌, ◌↔◌, inl, inr, ℕ, ◌<◌, ◌≤◌, List, [], ◌∷◌, ◌++◌, Bool, true, false, if◌then◌else◌, nat_lt, Ok, Err, IsOk, length, ap, sym, refl, ◌∙◌, subst, append_assoc, arith}
+use Rattle.std.proofs.Common.{◌≡◌, ◌⊎◌, ◌↔◌, inl, inr, ◌≤◌, List, [], ◌∷◌, ◌++◌, Bool, true, false, if◌then◌else◌, nat_lt, Ok, Err, IsOk, length, ap, sym, refl, ◌∙◌, subst, arith}
 use Rattle.std.proofs.lemmas.Bool.{ltb-true, ltb-false, false≢true}
 use Rattle.kernele.specs.Tree.{Name, Tree, null_tree, bool_tree, int_tree, text_tree, noun, define, variable, assign, call, list_tree, same_tree, define_list, hide, if_tree, while_tree, for_tree, try_tree, throw_tree, object_tree, escape_tree, send, when_tree, when_catch_tree, new_promise, break_ref, state_ref, Trees, none, and_then, Methods, no_methods, and_method}
 use Rattle.kernele.specs.declared.tree.Pattern.{Pattern}
 use Rattle.kernele.specs.declared.tree.Pattern.TheVariants as pattern
-use Rattle.scopes.specs.Scope.{Scopes, Checked, Refusal, too_long, too_deep, in_turn, in_block, entered, assigned, added, bound, all_bound, checked_with, checked_taking, checked, checked_all, checked_methods, checked_program, Signature, new_method, defined_name, variable_name, name_of, names_of_all, nodes_in, depth_in, script_scopes, asked_scopes}
-use Rattle.scopes.specs.Bindings.{Happening, opens, defines, gets_method, uses, assigns, Happened, IsUnbound, Means, IsRight, IsWrong, unbound_noun, unbound_assigned, assigned_definition, defined_twice, method_twice, AreRight, IsFirstFault, following, defining, braced, happens, happens_in, happens_of, Passes, IsRefused, is_too_long, is_too_deep, is_wrong, IsCheckBehind, before_script, before_asked, ScriptsAreChecked, AskedAreChecked}
+use Rattle.scopes.specs.Scope.{Scopes, Checked, Refusal, too_long, too_deep, in_turn, in_block, assigned, added, bound, all_bound, checked_with, checked_taking, checked, checked_all, checked_methods, checked_program, Signature, new_method, defined_name, variable_name, name_of, names_of_all, nodes_in, depth_in, script_scopes, asked_scopes}
+use Rattle.scopes.specs.Bindings.{Happening, opens, defines, gets_method, uses, assigns, IsUnbound, Means, IsRight, IsWrong, unbound_noun, unbound_assigned, assigned_definition, defined_twice, method_twice, AreRight, IsFirstFault, following, defining, braced, happens, happens_in, happens_of, Passes, IsRefused, is_too_long, is_too_deep, is_wrong, IsCheckBehind, before_script, before_asked, ScriptsAreChecked, AskedAreChecked}
 use Rattle.scopes.proofs.Past.{split_cons, split_append, IsEven, even_nil, even_append, even_braced, even_defining, even_one}
 use Rattle.scopes.proofs.Meanings.{named, Fits, fits_script, fits_asked}
-use Rattle.scopes.proofs.Says.{Says, then_says, block_says, then_block, says_nothing, found_says, assigned_says, added_says, bound_says, all_bound_say, BlockSays, with_says, InObject, Gone, in_new_object, new_says, method_block_says, object_says}
+use Rattle.scopes.proofs.Says.{Says, then_says, then_block, says_nothing, found_says, assigned_says, added_says, bound_says, all_bound_say, with_says, InObject, Gone, in_new_object, new_says, method_block_says, object_says}
 use Rattle.scopes.specs.declared.naming.Kind.{Kind}
 use Rattle.scopes.specs.declared.naming.Kind.TheVariants as kind
 use Rattle.scopes.specs.declared.naming.TopName.{TopName}

@@ -1,12 +1,12 @@
 -- What names mean behind a past, and what scopes it leaves, when more happens.
-use Rattle.std.proofs.Common.{◌≡◌, ◌⊎◌, inl, inr, ℕ, zero, suc, List, [], ◌∷◌, ◌++◌, Option, Some, None, Bool, true, false, if◌then◌else◌, ap, sym, refl, ◌∙◌, subst, arith}
+use Rattle.std.proofs.Common.{◌≡◌, ◌⊎◌, inl, inr, ℕ, suc, List, [], ◌∷◌, ◌++◌, Option, Some, None, Bool, true, false, if◌then◌else◌, ap, sym, refl, ◌∙◌, subst, arith}
 use Rattle.std.proofs.lemmas.Bool.{false≢true}
 use Rattle.std.proofs.lemmas.Slice.Eq.{bytes_eq-Decides}
 use Rattle.std.specs.Option.{option_or}
 use Rattle.std.specs.Str.{bytes_eq}
 use Rattle.kernele.specs.Tree.{Name}
 use Rattle.scopes.specs.Scope.{Names, Scopes, no_names, with_name, with_names, kind_in, entered, script_scopes, asked_scopes, definitions, names_in}
-use Rattle.scopes.specs.Bindings.{Happening, opens, closes, defines, gets_method, uses, assigns, opened, closed, left_open, Happened, IsUnbound, Means, IsDefinedHere, following, defining, before_script, before_asked}
+use Rattle.scopes.specs.Bindings.{Happening, opens, defines, opened, left_open, Happened, IsUnbound, Means, IsDefinedHere, following, defining, before_script, before_asked}
 use Rattle.scopes.proofs.Past.{split_cons, not_happened, opened_from, passed, passed_open, passed_split, happened_passed, passed_happened}
 use Rattle.scopes.specs.declared.naming.Kind.{Kind}
 use Rattle.scopes.specs.declared.naming.TopName.{TopName}

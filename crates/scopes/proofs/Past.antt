@@ -1,6 +1,6 @@
 -- What a past tells of braces: what happened in braces that are open still, and that a pair of braces with all that is in it leaves no trace.
-use Rattle.std.proofs.Common.{◌≡◌, ◌⊎◌, inl, inr, ℕ, zero, suc, ◌+◌, List, [], ◌∷◌, ◌++◌, Option, Some, None, ap, sym, refl, ◌∙◌, subst, append_assoc, append-nil, map, arith}
-use Rattle.scopes.specs.Bindings.{Happening, opens, closes, defines, gets_method, uses, assigns, opened, closed, left_open, Happened, following, braced, defining}
+use Rattle.std.proofs.Common.{◌≡◌, ◌⊎◌, inl, inr, ℕ, zero, suc, ◌+◌, List, [], ◌∷◌, ◌++◌, Option, Some, None, ap, sym, refl, ◌∙◌, append_assoc, arith}
+use Rattle.scopes.specs.Bindings.{Happening, opens, closes, defines, opened, closed, left_open, Happened, following, braced, defining}
 use Rattle.scopes.specs.declared.naming.TopName.{TopName}
 
 -- a thing that is in a past is the last one, or is in the past before that

@@ -1,15 +1,15 @@
 -- What the check says of things that happen: that all are right, and what scopes they leave, or the first fault.
-use Rattle.std.proofs.Common.{◌≡◌, ◌⊎◌, inl, inr, ℕ, suc, List, [], ◌∷◌, ◌++◌, Option, Some, None, Bool, true, false, cond, if◌then◌else◌, is_some, nat_eq, Ok, Err, length, ap, sym, refl, ◌∙◌, subst, append_assoc}
+use Rattle.std.proofs.Common.{◌≡◌, inl, inr, List, [], ◌∷◌, ◌++◌, Option, Some, None, Bool, true, false, if◌then◌else◌, is_some, nat_eq, Ok, Err, ap, sym, refl, ◌∙◌, subst}
 use Rattle.std.proofs.lemmas.Slice.Eq.{bytes_eq-Decides}
 use Rattle.std.proofs.lemmas.Bool.{eqb-true, eq-eqb, false≢true}
 use Rattle.std.specs.Str.{bytes_eq}
 use Rattle.kernele.specs.Tree.{Name, Trees}
 use Rattle.kernele.specs.declared.tree.Pattern.{Pattern}
 use Rattle.kernele.specs.declared.tree.Pattern.TheVariants as pattern
-use Rattle.scopes.specs.Scope.{Scopes, Checked, Refusal, in_turn, in_block, left_for, entered, found, assigned, assigned_to, added, with_name, bound, all_bound, checked_with, checked_taking, checked_all, kind_in, unbound, assign_to_def, duplicate_name, defined_name, variable_name, name_of, names_of_all, Signature, same_signature, has_signature, new_method}
-use Rattle.scopes.specs.Bindings.{Happening, opens, closes, defines, gets_method, uses, assigns, left_open, Happened, IsRight, IsWrong, unbound_noun, unbound_assigned, assigned_definition, defined_twice, method_twice, AreRight, IsFirstFault, following, defining, braced, happens_in}
+use Rattle.scopes.specs.Scope.{Scopes, Checked, Refusal, in_turn, in_block, left_for, entered, found, assigned, assigned_to, added, with_name, bound, all_bound, checked_with, checked_taking, checked_all, kind_in, unbound, duplicate_name, defined_name, name_of, names_of_all, Signature, same_signature, has_signature, new_method}
+use Rattle.scopes.specs.Bindings.{Happening, opens, closes, defines, gets_method, uses, assigns, left_open, Happened, unbound_noun, unbound_assigned, assigned_definition, defined_twice, method_twice, AreRight, IsFirstFault, following, defining, braced, happens_in}
 use Rattle.scopes.proofs.Past.{passed, happened_passed, passed_happened, IsEven, following-append, following_braced}
-use Rattle.scopes.proofs.Meanings.{named, Meaning, Here, Fits, happened_more, more_happened, happened_last, none_in_new, fits_more, fits_entered, fits_passed, fits_defined}
+use Rattle.scopes.proofs.Meanings.{Meaning, Here, Fits, happened_more, more_happened, happened_last, none_in_new, fits_more, fits_entered, fits_passed, fits_defined}
 use Rattle.scopes.specs.declared.naming.Kind.{Kind}
 use Rattle.scopes.specs.declared.naming.Kind.TheVariants as kind
 use Rattle.scopes.specs.declared.naming.TopName.{TopName}
