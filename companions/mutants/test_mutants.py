@@ -194,19 +194,21 @@ class Trial(unittest.TestCase):
         rt = self.stub('mkdir "$TMPDIR/rt-edit-1-a"; sleep 1; rmdir "$TMPDIR/rt-edit-1-a"; echo "$@"; cat crates/high/must-fail/a.edit; exit 1')
         log, status = tried(self.there.root, ["high"], said.append, rt=rt, every=0.1)
         self.assertEqual((log, status), ("ci high\nfile: src/lib.rt\n", 1))
-        self.assertIn("tried about 0 of 1 mutants", said)
+        self.assertIn("tried 0 of 1 mutants", said)
 
     def test_progress(self):
-        progress = Progress(self.at / "room", 4, 6)
+        progress = Progress(self.at / "room", 8)
         progress.room.mkdir()
-        self.assertEqual(progress.told(3), "proving what the mutants are tried over: 3 crates")
+        self.assertEqual(progress.told("rt: low proved\n"), "proving what the mutants are tried over: 1 crates")
+        kept = "".join(f"rt: must-fail low/{name}.edit: refused\n" for name in "xyz")
+        self.assertEqual(progress.told(kept), "tried 3 of 8 mutants")
         for name in "abcdef":
             (progress.room / f"rt-edit-1-{name}").mkdir()
-        self.assertEqual(progress.told(3), "tried about 0 of 4 mutants")
+        self.assertEqual(progress.told(kept), "tried 3 of 8 mutants")
         for name in "abcd":
             os.rmdir(progress.room / f"rt-edit-1-{name}")
         progress.first = time.monotonic() - 600
-        self.assertEqual(progress.told(3), "tried about 3 of 4 mutants, about 5 minutes left")
+        self.assertEqual(progress.told(kept + "rt: must-fail low/w.edit: refused\n"), "tried 4 of 8 mutants, about 10 minutes left")
 
 
 if __name__ == "__main__":

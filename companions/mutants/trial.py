@@ -8,9 +8,7 @@ from pathlib import Path
 
 from building.processes import ending, start
 
-# What a check in which nothing is changed costs beside one of a mutant: the one before a crate's mutants, and the one behind them.
-CHECKS_BESIDE = 2
-
+from .report import TOLD
 
 def mutants_of(root, crate):
     """The mutants of a crate, named CRATE/NAME."""
@@ -29,11 +27,11 @@ def copied(root, to, crates):
 
 @dataclass
 class Progress:
-    """How far a run has come, told by the folders that `rt` makes for the checks of edits."""
+    """How far a run has come: which mutants its log tells of, and at what pace checks end, by the folders that `rt` makes for
+    them. Those that were tried before are told at once, with no check."""
 
     room: Path
     mutants: int
-    checks: int
     began: float = field(default_factory=time.monotonic)
     seen: set = field(default_factory=set)
     first: float = 0.0
@@ -46,14 +44,14 @@ class Progress:
         self.seen |= there
         return len(self.seen) - len(there)
 
-    def told(self, crates):
-        """A line that says how far the run has come; `crates` are those that are proved."""
-        ended = self.look()
-        if not self.seen:
-            return f"proving what the mutants are tried over: {crates} crates"
-        share = min(ended / self.checks, 1)
-        left = f", about {minutes((time.monotonic() - self.first) * (1 - share) / share)} left" if ended >= 4 else ""
-        return f"tried about {round(share * self.mutants)} of {self.mutants} mutants{left}"
+    def told(self, log):
+        """A line that says how far the run with this log has come."""
+        ended, tried = self.look(), sum(TOLD.match(line) is not None for line in log.splitlines())
+        if not self.seen and not tried:
+            return f"proving what the mutants are tried over: {proved_in(log)} crates"
+        each = (time.monotonic() - self.first) / ended if ended >= 4 else 0
+        left = f", about {minutes(each * (self.mutants - tried))} left" if each else ""
+        return f"tried {tried} of {self.mutants} mutants{left}"
 
 
 def minutes(seconds):
@@ -73,7 +71,7 @@ def watched(process, log, progress, say, every):
         progress.look()
         if time.monotonic() - said >= every:
             said = time.monotonic()
-            say(progress.told(proved_in(log.read_text(errors="replace"))))
+            say(progress.told(log.read_text(errors="replace")))
 
 
 def tried(root, crates, say, rt="rt", every=30):
@@ -84,7 +82,7 @@ def tried(root, crates, say, rt="rt", every=30):
         room.mkdir()
         copied(root, tree, crates)
         count = sum(len(mutants_of(root, crate)) for crate in crates)
-        progress = Progress(room, count, count + CHECKS_BESIDE * len(crates))
+        progress = Progress(room, count)
         with log.open("w") as out, ending() as processes:
             start(processes, [rt, "ci", *crates], tree, out, TMPDIR=str(room))
             watched(processes[0], log, progress, say, every)

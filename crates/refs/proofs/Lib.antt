@@ -5,3 +5,4 @@ pub mod Making
 pub mod Rules
 pub mod Open
 pub mod Hurried
+pub mod Unfolding

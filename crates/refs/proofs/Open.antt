@@ -18,10 +18,10 @@ use Rattle.refs.proofs.Settled.{settle_at-is, settle_own, settle_within, fitted_
 -- ---- from a settled form to what was settled
 
 -- the first item and those behind it
-abbrev ItemsFrom : (ℕ → Val → Settling) → ℕ → Val → Vals → Vals → Type 0
+abbrev pub ItemsFrom : (ℕ → Val → Settling) → ℕ → Val → Vals → Vals → Type 0
 ItemsFrom f left v vs ws = (w : Val) × (us : Vals) × ((f left v).settled ≡ Some w) × ((settle_items f (left - weight w) vs).settled ≡ Some us) × (ws ≡ and_val w us)
 
-items_from : (f : ℕ → Val → Settling) (left : ℕ) (v : Val) (vs ws : Vals) → (settle_items f left (and_val v vs)).settled ≡ Some ws → ItemsFrom f left v vs ws
+pub items_from : (f : ℕ → Val → Settling) (left : ℕ) (v : Val) (vs ws : Vals) → (settle_items f left (and_val v vs)).settled ≡ Some ws → ItemsFrom f left v vs ws
 items_from f left v vs ws e = go (f left v).settled refl e
   where
     behind : (w : Val) (o : Option Vals) → (f left v).settled ≡ Some w → (settle_items f (left - weight w) vs).settled ≡ o → option_map (and_val w) o ≡ Some ws → ItemsFrom f left v vs ws
@@ -33,10 +33,10 @@ items_from f left v vs ws e = go (f left v).settled refl e
     go (Some w) g i = behind w (settle_items f (left - weight w) vs).settled g refl i
 
 -- a list's items
-abbrev ListFrom : (ℕ → Val → Settling) → ℕ → Vals → Val → Type 0
+abbrev pub ListFrom : (ℕ → Val → Settling) → ℕ → Vals → Val → Type 0
 ListFrom f left us w = (l : ℕ) × (ws : Vals) × (left ≡ suc l) × ((settle_items f l us).settled ≡ Some ws) × (w ≡ list ws)
 
-list_from : (f : ℕ → Val → Settling) (left : ℕ) (us : Vals) (w : Val) → (settle_list f left us).settled ≡ Some w → ListFrom f left us w
+pub list_from : (f : ℕ → Val → Settling) (left : ℕ) (us : Vals) (w : Val) → (settle_list f left us).settled ≡ Some w → ListFrom f left us w
 list_from f zero us w e = absurd (cc)
 list_from f (suc l) us w e = go (settle_items f l us).settled refl e
   where
@@ -96,7 +96,7 @@ settled_open m (suc depth) left v w e =
 
 -- ---- what settles to itself
 
-fits : (depth left : ℕ) (v : Val) → Within depth left v → fitted depth left v ≡ Some v
+pub fits : (depth left : ℕ) (v : Val) → Within depth left v → fitted depth left v ≡ Some v
 fits depth left v h = ap (λ b. cond b (Some v) None) (both_true (le-leb (weight v) left h.0) (le-leb (list_depth v) depth h.1))
 
 open_itself : (m : Resolutions) (p : PromId) → IsOpen m (promise p) → followed m (promise p) ≡ promise p

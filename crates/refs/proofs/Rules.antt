@@ -158,7 +158,7 @@ found_all n m v w ps l k = found l n [] k (are_new l [] (λ q e. absurd (cc)))
 pub what_is_led_ends : WhatIsLedEnds
 what_is_led_ends m v w ps l k = let f = found_all most_walked m v w ps l (omega (arith, most-is, k)) in (ap (λ x. x.through) f, ap (λ x. x.end) f)
 
-ring_found : {m : Resolutions} {seen : List PromId} {v : Val} {ps : List PromId} → Returns m seen v ps → (n : ℕ) → length ps ≤ n → walk n m seen v ≡ record { through = ps; end = None }
+pub ring_found : {m : Resolutions} {seen : List PromId} {v : Val} {ps : List PromId} → Returns m seen v ps → (n : ℕ) → length ps ≤ n → walk n m seen v ≡ record { through = ps; end = None }
 ring_found {m = m} (comes_back seen p h) n l = walk-seen n m seen p h
 ring_found (goes_on seen p v ps h k r) zero l = absurd (omega arith)
 ring_found {m = m} (goes_on seen p v ps h k r) (suc n) l = walk-on n m seen p v h k ∙ ap (λ (x : Walk). record { through = p ∷ x.through; end = x.end }) (ring_found r n (omega arith))

@@ -1,11 +1,12 @@
 -- Laws of walks and of settled forms.
-use Rattle.std.specs.Prelude.{◌≡◌, ◌^◌, ◌<◌, true, Some, None, List, [], length, ◌⊎◌}
+use Rattle.std.specs.Prelude.{◌≡◌, ◌^◌, ◌<◌, ◌↔◌, true, Some, None, List, [], length, ◌⊎◌}
 use Rattle.ids.specs.declared.names.PromId.{PromId}
 use Rattle.values.specs.Data.{Val, list, promise, Vals, no_vals, and_val}
 use Rattle.values.specs.Limits.{within_limits}
 use Rattle.refs.specs.Walks.{Resolutions, walk, most_walked, walked}
 use Rattle.refs.specs.Leads.{Leads, Circles}
 use Rattle.refs.specs.Settling.{settling}
+use Rattle.refs.specs.Unfolds.{Unfolds}
 
 -- where the function ends, the rules lead
 abbrev pub WhatEndsIsLed : Type 0
@@ -30,6 +31,14 @@ OneEnd = (m : Resolutions) (v w x : Val) (ps qs : List PromId) → Leads m v ps 
 -- and never both to an end and into a ring
 abbrev pub NoEndInARing : Type 0
 NoEndInARing = (m : Resolutions) (v w : Val) (ps qs : List PromId) → Leads m v ps w → Circles m v qs → ⊥
+
+-- through fewer promises than 2 ^ 64, a value settles to what it unfolds to within the limits of a value, and to nothing else
+abbrev pub SettlesAsItUnfolds : Type 0
+SettlesAsItUnfolds = (m : Resolutions) (v w : Val) (ps : List PromId) → length ps < 2 ^ 64 → ((settling m v).through ≡ ps) × ((settling m v).settled ≡ Some w) ↔ Unfolds m v ps w × (within_limits w ≡ true)
+
+-- a value unfolds to at most one value
+abbrev pub OneUnfolding : Type 0
+OneUnfolding = (m : Resolutions) (v w x : Val) (ps qs : List PromId) → Unfolds m v ps w → Unfolds m v qs x → (ps ≡ qs) × (w ≡ x)
 
 -- a settled form is within the limits of a value
 abbrev pub SettledIsWithinLimits : Type 0

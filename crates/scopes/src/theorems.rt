@@ -1,0 +1,9 @@
+// What holds of the check.
+ghost use Rattle.scopes.specs.Bindings.{ScriptsAreChecked, AskedAreChecked};
+
+/// The check passes a program exactly where it is no larger and no deeper than it may be and the rules of scope find nothing wrong in it, and
+/// else tells the first fault.
+pub fn scopes_are_lawful()
+    ensures scripts { ScriptsAreChecked }
+    ensures asked { AskedAreChecked }
+{}
