@@ -94,7 +94,7 @@ answer_once_told (command.cone e) once same is h k n m = one_cone same h k (ends
 answer_once_told (command.undo events) once same is h k n m = one_undo same h k (ends n) (ends m)
 answer_once_told (command.undo_cone e) once same is h k n m = one_cone_undone same h k (ends n) (ends m)
 answer_once_told (command.redo events) once same is h k n m = one_redo same h k (ends n) (ends m)
-answer_once_told (command.exchange position) once same is h k n m = one_exchange same h k (ends n) (ends m)
+answer_once_told (command.exchange position) once same is h k n m = one_exchange same h k
 answer_once_told (command.settle position) once same is h k n m = one_settling same h k (ends n) (ends m)
 
 pub one_answer : OneAnswer

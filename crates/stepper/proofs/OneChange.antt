@@ -13,7 +13,7 @@ use Rattle.book.specs.Books.{Book}
 use Rattle.book.specs.Calls.{Undoes, Redoes, Exchanges, StoodAt, rest_of, live_events, redone_in}
 use Rattle.commands.specs.Commands as command
 use Rattle.printing.specs.Listing.{cone_text}
-use Rattle.stepper.specs.Replies.{refused, undone_text, redone_text, exchanged_text, Answers, cone_without_memory, cone_refused, cone_found, undo_without_memory, undo_refused, undo_accepted, undo_cone_without_memory, undo_cone_refused, undo_cone_found, redo_without_memory, redo_refused, redo_accepted, exchange_without_memory, exchange_refused, exchange_accepted, settle_without_memory, settle_refused, settle_accepted}
+use Rattle.stepper.specs.Replies.{refused, undone_text, redone_text, exchanged_text, Answers, cone_without_memory, cone_refused, cone_found, undo_without_memory, undo_refused, undo_accepted, undo_cone_without_memory, undo_cone_refused, undo_cone_found, redo_without_memory, redo_refused, redo_accepted, exchange_refused, exchange_accepted, settle_without_memory, settle_refused, settle_accepted}
 use Rattle.stepper.specs.Laws.{SameLines, SameBook, IsForWant, book_without_memory, SameAnswer}
 use Rattle.stepper.proofs.SameSets.{same_undo, same_redo, same_cone, same_exchange, same_settle, same_cones}
 use Rattle.stepper.proofs.SameChanges.{same_count, same_undone_in, same_redone_in, same_rest, same_live_events, same_places, same_stood}
@@ -103,14 +103,11 @@ exchanged_once {b = b} {c = c} {x = x} {y = y} {u = u} {v = v} (suc n) same h i 
     answer_once (ap (λ z. exchanged_text z v) one ∙ ap (exchanged_text x) two)
     (changed_alike same (j.same_world ∙ same.world ∙ sym i.same_world) (lines_as (i.places n at) (j.places n at) (same_places n b.journal c.journal same.journal)) i.same_settled j.same_settled i.same_next j.same_next i.same_out j.same_out)
 
-pub one_exchange : {budget : ℕ} {b c d e : Book} {position : ℕ} {r t : List ℕ} {q p : Bool} → SameBook b c → Answers budget b (command.exchange position) r q d → Answers budget c (command.exchange position) t p e
-    → ¬ IsForWant r → ¬ IsForWant t → SameAnswer r q d t p e
-one_exchange same exchange_without_memory k n m = absurd (n book_without_memory)
-one_exchange same h exchange_without_memory n m = absurd (m book_without_memory)
-one_exchange {position = position} same (exchange_refused h) (exchange_refused k) n m = refused_once same (exchange_alike same position) h k
-one_exchange {position = position} same (exchange_refused h) (exchange_accepted k x u) n m = not_refused (exchange_alike same position) h k
-one_exchange {position = position} same (exchange_accepted h x u) (exchange_refused k) n m = not_accepted (exchange_alike same position) h k
-one_exchange {position = position} same (exchange_accepted h x u) (exchange_accepted k v w) n m = exchanged_once position same h x v u w
+pub one_exchange : {budget : ℕ} {b c d e : Book} {position : ℕ} {r t : List ℕ} {q p : Bool} → SameBook b c → Answers budget b (command.exchange position) r q d → Answers budget c (command.exchange position) t p e → SameAnswer r q d t p e
+one_exchange {position = position} same (exchange_refused h) (exchange_refused k) = refused_once same (exchange_alike same position) h k
+one_exchange {position = position} same (exchange_refused h) (exchange_accepted k x u) = not_refused (exchange_alike same position) h k
+one_exchange {position = position} same (exchange_accepted h x u) (exchange_refused k) = not_accepted (exchange_alike same position) h k
+one_exchange {position = position} same (exchange_accepted h x u) (exchange_accepted k v w) = exchanged_once position same h x v u w
 
 pub one_settling : {budget : ℕ} {b c d e : Book} {position : ℕ} {r t : List ℕ} {q p : Bool} → SameBook b c → Answers budget b (command.settle position) r q d → Answers budget c (command.settle position) t p e
     → ¬ IsForWant r → ¬ IsForWant t → SameAnswer r q d t p e
