@@ -17,6 +17,16 @@ SECONDS, MOST = 60, 1 << 24
 SHORTENING = 300
 
 
+def bytes_of(given):
+    """What is given, as bytes: those that are no text stand in it as `text_of` has them."""
+    return given.encode(errors="surrogateescape")
+
+
+def text_of(data):
+    """Any bytes as what may be given."""
+    return data.decode(errors="surrogateescape")
+
+
 def text(data):
     """What was said, which differs from all replies where it is no text."""
     try:
@@ -75,10 +85,10 @@ def stop(process):
 class Conversation:
     """A program that is given a command, and waited for, before it is given the next."""
 
-    def __init__(self, words, stdin=PIPE, stdout=PIPE):
+    def __init__(self, words, stdin=PIPE, stdout=PIPE, environment=None):
         self.said, self.is_stopped, self.errors = "", False, tempfile.TemporaryFile()
         streams = {"stdin": stdin, "stdout": stdout, "stderr": self.errors}
-        self.process = subprocess.Popen(words, bufsize=0, start_new_session=True, **streams)
+        self.process = subprocess.Popen(words, bufsize=0, start_new_session=True, env=environment, **streams)
 
     def __enter__(self):
         return self
@@ -91,7 +101,7 @@ class Conversation:
 
     def give(self, command):
         with contextlib.suppress(BrokenPipeError):
-            self.process.stdin.write(command.encode())
+            self.process.stdin.write(bytes_of(command))
 
     def hear(self, is_whole):
         """What is said until that is whole, or nothing more comes."""
@@ -130,12 +140,12 @@ class Conversation:
         return Ended(None if self.is_stopped else self.process.returncode, rest, text(self.errors.read()))
 
 
-def run(words, given="", stdin=None, stdout=PIPE):
+def run(words, given="", stdin=None, stdout=PIPE, environment=None):
     """How a program ends whose input, if no other is named, is a file of what it is given."""
     with tempfile.TemporaryFile() as source:
-        source.write(given.encode())
+        source.write(bytes_of(given))
         source.seek(0)
-        with Conversation(words, stdin or source, stdout) as conversation:
+        with Conversation(words, stdin or source, stdout, environment) as conversation:
             return conversation.end()
 
 
