@@ -115,10 +115,10 @@ class Trial:
         return parts
 
     def asked(self):
-        """How many requests for memory the command makes."""
-        ended = self.run(self.command)
-        asked = self.refuser.told()[0]
-        must(ended.status == 1, f"without a refusal {ended.ending}, and said {brief(ended.err)}")
+        """How many requests for memory the command makes; asked before all else."""
+        self.plain(self.command)
+        asked, *_ = self.refuser.told()
+        self.plain("")
         return asked
 
     def done(self, reply):
@@ -138,13 +138,14 @@ class Trial:
         if (ended.status, ended.err) == (2, OUT_OF_MEMORY):
             must(ended.out == answered, f"the run ended, and not behind what stands before: {ended.out.removeprefix(answered)}")
             return AT_LINE if refused_in_line else AT_REPLY
+        must(ended.status == 1 and not ended.err, f"{ended.ending}, and said {brief(ended.out.removeprefix(answered))}{brief(ended.err)}")
         kind, first, said = self.done(ended.out.partition(MARKED)[0].removeprefix(answered))
         before, *behind = self.plain(first)
         least = next_event(behind[0])
         # A turn that is refused may have drawn its name.
         for lost in (0, 1) if said and self.word in ("turn", "step", "run") else (0,):
             wanted = MARKED.join([before + said, *(shifted(it, least, lost) for it in behind), ""])
-            if (ended.status, ended.out, ended.err) == (1, wanted, ""):
+            if ended.out == wanted:
                 return kind
         wanted = MARKED.join([before + said, *behind, ""]).splitlines()
         raise Differs(f"{kind}, and then otherwise:\n{ended.otherwise(wanted, 1)}")
