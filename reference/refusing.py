@@ -12,11 +12,9 @@ from dataclasses import dataclass, field
 from functools import cache
 from pathlib import Path
 
-from commands import MOST_LINES, earlier_vats, number, text_of as line_of, vat_name, words_of
 from following import MARK, MARKED, WORK, Differs, Followed, must
-from reading import Refusal
-from running import Conversation, brief, bytes_of, run, text_of
-from texts import Broken
+from running import Conversation, brief, bytes_of, run
+from texts import Broken, commands_of
 
 SOURCE = Path(__file__).resolve().parent / "refusing.c"
 # What is asked behind a command: all that it may have changed.
@@ -55,29 +53,6 @@ class Refuser:
     def told(self):
         """How many requests were made, how many were refused, and how many of these for room for a line."""
         return self.PAGE.unpack(self.page[:])[4:]
-
-
-def script_lines(line):
-    """How many lines a line takes as its script."""
-    try:
-        words = words_of(line_of((line, line.removesuffix(b"\r"))))
-        if words[:1] != ["vat"] or len(words) < 4:
-            return 0
-        vat_name(words[1]), earlier_vats(words[2:-1])
-        return number(words[-1], MOST_LINES)
-    except Refusal:
-        return 0
-
-
-def commands_of(data):
-    """The commands of a session, each with the lines that it takes; not one at its end that lacks some of them."""
-    lines, found = [f"{it}\n" for it in text_of(data).removesuffix("\n").split("\n")] if data else [], []
-    while lines:
-        count = 1 + script_lines(bytes_of(lines[0])[:-1])
-        if count <= len(lines):
-            found.append("".join(lines[:count]))
-        del lines[:count]
-    return found
 
 
 def shifted(text, least, by):

@@ -1,13 +1,17 @@
 """Programs that are run on commands: what they say in time, how they end, and what is otherwise than it should be."""
 import contextlib
 import itertools
+import multiprocessing
 import os
 import re
 import select
 import signal
 import subprocess
+import sys
 import tempfile
+import threading
 import time
+from functools import partial
 from subprocess import PIPE
 from typing import NamedTuple
 
@@ -159,3 +163,54 @@ def shortened(session, found, again):
             if otherwise:
                 session, found = shorter, otherwise
     return session, found
+
+
+def shorter(items, differs, end):
+    """A list or a text that differs, without the pieces that it can do without: halves first, single items last; until a time."""
+    size = len(items) // 2 or 1
+    while size and items:
+        place = 0
+        while place < len(items):
+            found = items[:place] + items[place + size:]
+            if time.monotonic() < end and differs(found):
+                items = found
+            else:
+                place += size
+        size //= 2
+    return items
+
+
+def smallest(commands, differs):
+    """Commands that differ, without those and without the pieces of each that they can do without, as long as there is time."""
+    end = time.monotonic() + SHORTENING
+    commands = shorter(commands, differs, end)
+    for place in range(len(commands)):
+        before, behind = commands[:place], commands[place + 1:]
+        commands = [*before, shorter(commands[place], lambda text: differs([*before, text, *behind]), end), *behind]
+    return commands
+
+
+def deep(work):
+    """What is answered by a piece of work on a stack on which the interpreter reaches level 1,000 of a program, which is many levels
+    of this one."""
+    found = []
+    sys.setrecursionlimit(100_000)
+    threading.stack_size(1 << 30)
+    thread = threading.Thread(target=lambda: found.append(work()))
+    thread.start()
+    thread.join()
+    return found[0]
+
+
+def side_by_side(count, work):
+    """What is answered by so many processes, each of which does the work under a number of its own; by this one where it is alone."""
+    if count == 1:
+        return [deep(partial(work, 0))]
+    sys.stdout.flush()
+    fork, pipes = multiprocessing.get_context("fork"), []
+    for number in range(count):
+        pipe, its = fork.Pipe(duplex=False)
+        fork.Process(target=lambda: its.send(deep(partial(work, number)))).start()
+        its.close()
+        pipes.append(pipe)
+    return [pipe.recv() for pipe in pipes]

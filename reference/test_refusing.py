@@ -6,9 +6,10 @@ import tempfile
 import unittest
 from pathlib import Path
 
-from refusing import Refuser, chosen, commands_of, compiled, shifted
+from refusing import Refuser, chosen, compiled, shifted
 from running import run
 from test_running import FAKE, told
+from texts import commands_of
 
 SESSION, SHORTEST = "vat a () 1\ndef x := 2\nrun 3\n", "vat a () 0\n"
 # What is told of a fake that has a fault where it is refused memory.
