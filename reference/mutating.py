@@ -6,7 +6,7 @@ from functools import cache
 from programs import TOKEN, WORDS
 from running import bytes_of, text_of
 from sessions import Session
-from texts import TOP, cases_of, commands_of, companion
+from texts import TOP, commands_of, companion, sessions_below
 
 # A session of texts that are asked begins so where their table has no head of its own.
 HEAD = ["vat a () 3\ndef x := 6\nvar n := 0\ndef o { to get() { n := n + 1; return n } method run(i) { i * x } }", "step"]
@@ -14,7 +14,8 @@ ASKED = re.compile("[ \t]*ask[ \t]+[^ \t]+[ \t]*(.*)", re.S)
 BUDGETS = [3, 30, 100, 400, 1_000]
 # How many texts are asked in a session, and how many bytes a text or a session has, but for one in some.
 TEXTS, SHORT, SELDOM = 40, 3_000, 0.01
-NUMBERS = [0, 1, 2, 3, 7, 64, 255, 4_096, 4_097, 65_536, 1_000_000, 1_000_001, 2**31, 2**32 - 1, 2**32, 2**63 - 1, 2**63, 10**20]
+NUMBERS = [0, 1, 2, 3, 7, 64, 255, 4_096, 4_097, 65_536, 1_000_000, 1_000_001, 2**31, 2**32 - 1, 2**32, 2**63 - 1, 2**63,
+           10**20]
 BYTES = bytes([0, 9, 10, 13, 32, 127, 128, 192, 224, 237, 255]) + b'"\\#;,.(){}[]<->:=!&|_\'~'
 # More would go on for long in sessions that never come to rest.
 MOST_STEPS = 60
@@ -24,12 +25,13 @@ class Texts:
     """Texts that may be asked, and sessions."""
 
     def __init__(self):
-        tables = companion("tables")
-        self.tables = [it for path in sorted((TOP / "tests").rglob("*.table")) for it in [tables.table_of(path.name, path.read_text())]]
-        sessions = [text_of(path.read_bytes()) for folder in ("tests", "examples") for path in sorted((TOP / folder).rglob("*.evats"))]
+        read = companion("tables").table_of
+        self.tables = [read(path.name, path.read_text()) for path in sorted((TOP / "tests").rglob("*.table"))]
         self.rows = [[row.meant for row in table.rows] for table in self.tables]
-        self.sessions = [it for it in sessions if it]
-        self.parts = [part for session in self.sessions for command in commands_of(bytes_of(session)) for part in parts_of(command)]
+        names = [name for folder in ("tests", "examples") for name in sessions_below(folder)]
+        self.sessions = [it for it in (text_of((TOP / name).read_bytes()) for name in names) if it]
+        commands = [command for session in self.sessions for command in commands_of(bytes_of(session))]
+        self.parts = [part for command in commands for part in parts_of(command)]
 
     def head(self, place):
         """The commands of a table's head before the one that has the text, if that is asked."""
@@ -72,8 +74,9 @@ class Mutator:
     def changed(self, text, others):
         """A text with some changes, and now and then as it is."""
         for _ in range(self.random.choice([0, 1, 1, 1, 1, 2, 2, 3, 5, 8])):
-            ways = [self.byte, self.byte, self.token, self.token, self.line, self.number, self.number, self.name, self.cut, self.repeat]
-            text = self.join(text, self.choice(others)) if self.chance(0.15) else self.random.choice(ways)(text)
+            ways = [self.byte, self.byte, self.token, self.token, self.line, self.number, self.number, self.name, self.cut]
+            way = self.random.choice([*ways, self.repeat])
+            text = self.join(text, self.choice(others)) if self.chance(0.15) else way(text)
         return text
 
     def byte(self, text):
@@ -117,8 +120,9 @@ class Mutator:
             return text
         one = self.random.choice(found)
         value = int(one[0][:20])
-        others = [value + 1, max(0, value - 1), f"0{value}", value * 10, self.random.choice(found)[0], self.random.choice(NUMBERS)]
-        return f"{text[:one.start()]}{self.random.choice(others)}{text[one.end():]}"
+        near, far = [value + 1, max(0, value - 1), f"0{value}", value * 10], self.random.choice(NUMBERS)
+        new = self.random.choice([*near, far, self.random.choice(found)[0]])
+        return f"{text[:one.start()]}{new}{text[one.end():]}"
 
     def name(self, text):
         """A name or a word changed to another one."""

@@ -19,13 +19,17 @@ from texts import Broken, commands_of
 SOURCE = Path(__file__).resolve().parent / "refusing.c"
 # What is asked behind a command: all that it may have changed.
 QUESTIONS = "show\njournal\n"
-OUT_OF_MEMORY, WANT, WANT_OF_READING, NO_WORKER = "evats: out of memory\n", "no B20 Memory\n", "no L7 Memory\n", "no S7 NoWorker\n"
+OUT_OF_MEMORY = "evats: out of memory\n"
+WANT, WANT_OF_READING, NO_WORKER = "no B20 Memory\n", "no L7 Memory\n", "no S7 NoWorker\n"
 # How a command ends for which memory was refused: it is answered as ever; the reply says want of memory; the run ends, since
 # there was no room for a line of the input; or since there was none for something else, as a reply.
 USUAL, TOLD, AT_LINE, AT_REPLY = "answered as ever", "answered by want of memory", "ended at a line", "ended at a reply"
 # Of `work`: workers did something or nothing, and what they did is possible.
 FOLLOWED = "workers were followed"
 FAILED, LEFT_OUT = "failed", "left out"
+KINDS = (LEFT_OUT, USUAL, TOLD, FOLLOWED, AT_LINE, AT_REPLY, FAILED)
+NOT_BEHIND = "the run ended, and not just what stands before was answered"
+GOES_ON = "room for a line was refused, and the run did not end for want of memory"
 
 
 def compiled(folder):
@@ -82,7 +86,7 @@ class Trial:
         return run(self.words, given, environment=self.refuser.environment)
 
     def plain(self, first):
-        """What is replied where no memory is refused, in its parts: up to this; the questions; the command again; the questions."""
+        """What is replied where no memory is refused: up to this, to the questions, to the command, and to the questions."""
         ended = self.run(first)
         *parts, rest = ended.out.split(MARKED)
         must(ended.status == 1 and not ended.err and len(parts) == 4 and not rest,
@@ -97,7 +101,7 @@ class Trial:
         return asked
 
     def done(self, reply):
-        """How a command ended that gave this reply: what it did, as if that had been given in its place, and what it said beside."""
+        """How a command ended that gave this reply; what it did, as if that had been given in its place; what it said beside."""
         usual = self.plain(self.command)[0].removeprefix(self.plain("")[0])
         *steps, last = reply.splitlines(keepends=True) or [""]
         if reply == usual:
@@ -108,13 +112,15 @@ class Trial:
 
     def judged(self, ended):
         """How the command ended for which memory was refused; differs where that may not be."""
-        _, refused, refused_in_line = self.refuser.told()
+        _, _, refused_in_line = self.refuser.told()
         answered = self.plain("")[0]
+        rest = ended.out.removeprefix(answered)
         if (ended.status, ended.err) == (2, OUT_OF_MEMORY):
-            must(ended.out == answered, f"the run ended, and not behind what stands before: {ended.out.removeprefix(answered)}")
+            must(ended.out == answered, f"{NOT_BEHIND}: {brief(rest)}")
             return AT_LINE if refused_in_line else AT_REPLY
-        must(ended.status == 1 and not ended.err, f"{ended.ending}, and said {brief(ended.out.removeprefix(answered))}{brief(ended.err)}")
-        kind, first, said = self.done(ended.out.partition(MARKED)[0].removeprefix(answered))
+        must(not refused_in_line, GOES_ON)
+        must(ended.status == 1 and not ended.err, f"{ended.ending}, and said {brief(rest)}{brief(ended.err)}")
+        kind, first, said = self.done(rest.partition(MARKED)[0])
         before, *behind = self.plain(first)
         least = next_event(behind[0])
         # A turn that is refused may have drawn its name.
@@ -143,20 +149,21 @@ class Given(Conversation):
 
 
 class Worked(Followed):
-    """A session of which a `work` is refused memory. Workers may have done something or nothing; the interpreter does the same, and
-    goes on with the program."""
-    is_refused = False
+    """A session of which a `work` is refused memory. Workers may have done something or nothing; the interpreter does the
+    same, and goes on with the program."""
+    is_refused, lost = False, 0
 
     def expect_reply(self, text, reply, new, taken):
         if not (self.is_refused and not new and reply in ([WANT.strip()], [NO_WORKER.strip()])):
             super().expect_reply(text, reply, new, taken)
 
     def end_of_work(self, new, taken, turns, dropped):
-        """Where memory was refused, workers may end before all is done, and any turn may be lost."""
+        """Where memory was refused, workers may end before all is done, and any turn may be lost with its name."""
         if self.is_refused:
+            self.lost = turns
             self.unseen += turns
         else:
-            super().end_of_work(new, taken, turns, dropped)
+            super().end_of_work(new, taken, turns, max(0, dropped - self.lost))
 
 
 class WorkTrial(Trial):
@@ -170,8 +177,8 @@ class WorkTrial(Trial):
         self.options = parser.parse_args(words[1:])
 
     def followed(self, number, is_on):
-        """What differs in the run in which a request is refused, whether the last reply was whole, how the run ended, and what was
-        told of requests."""
+        """What differs in the run in which a request is refused, whether the last reply was whole, how the run ended, and
+        what was told of requests."""
         session, found = Worked(self.options.budget), None
         session.most_workers = self.options.workers
         self.refuser.watch(0, 0)
@@ -200,8 +207,9 @@ class WorkTrial(Trial):
         if not refused:
             return None
         if found and (ended.status, ended.err) == (2, OUT_OF_MEMORY):
-            must(is_whole, f"the run ended, and not behind what stands before: {found}")
+            must(is_whole, f"{NOT_BEHIND}: {found}")
             return AT_LINE if refused_in_line else AT_REPLY
+        must(not refused_in_line, GOES_ON)
         must(not found and ended.status == 1 and not ended.err, f"{found or ''}\n{ended.ending}; {brief(ended.err)}")
         return FOLLOWED
 
@@ -216,11 +224,8 @@ class Found:
         self.counts.update(other.counts)
         self.faults += other.faults
 
-    def left_out(self):
-        return self.counts[LEFT_OUT]
-
     def refusals(self):
-        return self.counts.total() - self.left_out()
+        return self.counts.total() - self.counts[LEFT_OUT]
 
 
 def chosen(asked, most, seed):
@@ -242,34 +247,31 @@ def trial_of(words, refuser, earlier, command):
     return None if any(map(is_work, earlier)) else Trial(words, refuser, before, command)
 
 
-def try_command(trial, name, options, found):
-    """Refuses memory for a command, one request alone and then all from it on, as long as there is time."""
-    def note(number, is_on, what):
-        which = f"request {number} {'and all behind it' if is_on else 'alone'}" if number else "no request"
-        found.faults.append(f"{name}: {which} refused for {brief(trial.command)}{what}")
+def kind_of(trial, number, is_on, is_today):
+    """How a command ends for which memory is refused, and what may not be, if there is something."""
+    try:
+        kind = trial.refuse(number, is_on)
+        must(kind != AT_REPLY or is_today, "the run ended though no room for a line was refused")
+        return kind, ""
+    except Differs as differs:
+        return FAILED, f"request {number} {'and all behind it' if is_on else 'alone'} refused for {brief(trial.command)}{differs}"
 
+
+def try_command(trial, name, options, found):
+    """Refuses memory for a command, one request alone and then with all behind it, as long as there is time."""
     try:
         asked = trial.asked()
     except Differs as differs:
-        return note(0, False, differs)
+        found.faults.append(f"{name}: {brief(trial.command)}{differs}")
+        return
     requests = chosen(asked, options.most, f"{options.seed} {name}")
     found.counts[LEFT_OUT] += 2 * (asked - len(requests))
     for is_on in (False, True):
         for number in requests:
-            if time.monotonic() > options.end:
-                found.counts[LEFT_OUT] += 1
-                continue
-            try:
-                kind = trial.refuse(number, is_on)
-            except Differs as differs:
-                kind = FAILED
-                note(number, is_on, differs)
-            if kind == AT_REPLY and not options.is_today:
-                kind = FAILED
-                note(number, is_on, "the run ended though no room for a line was refused\n")
-            if kind:
-                found.counts[kind] += 1
-    return None
+            is_late = time.monotonic() > options.end
+            kind, fault = (LEFT_OUT, "") if is_late else kind_of(trial, number, is_on, options.is_today)
+            found.counts[kind] += kind is not None
+            found.faults += [f"{name}: {fault}"] if fault else []
 
 
 # That of this process.

@@ -166,7 +166,7 @@ def shortened(session, found, again):
 
 
 def shorter(items, differs, end):
-    """A list or a text that differs, without the pieces that it can do without: halves first, single items last; until a time."""
+    """A list or a text that differs, without the pieces that it can do without, halves first, single items last; until a time."""
     size = len(items) // 2 or 1
     while size and items:
         place = 0
@@ -191,7 +191,7 @@ def smallest(commands, differs):
 
 
 def deep(work):
-    """What is answered by a piece of work on a stack on which the interpreter reaches level 1,000 of a program, which is many levels
+    """What a piece of work answers, on a stack on which the interpreter reaches level 1,000 of a program: that is many levels
     of this one."""
     found = []
     sys.setrecursionlimit(100_000)
@@ -203,7 +203,7 @@ def deep(work):
 
 
 def side_by_side(count, work):
-    """What is answered by so many processes, each of which does the work under a number of its own; by this one where it is alone."""
+    """What so many processes answer, each of which does the work under a number of its own; one alone is this one."""
     if count == 1:
         return [deep(partial(work, 0))]
     sys.stdout.flush()

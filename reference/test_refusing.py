@@ -18,6 +18,7 @@ FAULTS = {
     "forgets refused": "want of memory, and then otherwise:\nwanted: vat a e1\ngot:    1 e1 undone birth a causes\n",
     "draws refused": "want of memory, and then otherwise:\nwanted: ok e1 e1.m0\ngot:    ok e2 e2.m0\n",
     "is-silent refused": "neither the usual one nor want of memory\nwanted: ok e1 e1.m0\ngot:    \n",
+    "goes-on refused": "room for a line was refused, and the run did not end for want of memory\n",
     "ends refused": "the run ended though no room for a line was refused\n",
     "dies refused": "signal 9 ended it: Killed, and said \n",
     "fails refused": "it ended with 3, and said \n",
@@ -60,7 +61,7 @@ class Refused(unittest.TestCase):
         return told(["refuse"], *words, "--program", FAKE, str(self.folder / "few.evats"), fault=fault)
 
     def test_a_program_that_does_all_is_passed(self):
-        usual = "ended at a line: 6\nanswered by want of memory: 4\nanswered as ever: 4\n14 refusals, 0 failed\n"
+        usual = "answered as ever: 4\nanswered by want of memory: 4\nended at a line: 6\n14 refusals, 0 failed\n"
         self.assertEqual(self.refuse(), (False, usual))
         self.assertEqual(self.refuse("--jobs", "2"), (False, usual))
 
@@ -73,7 +74,7 @@ class Refused(unittest.TestCase):
                 self.assertRegex(said, re.compile(f"FAILED .*{wanted}.*, [1-9][0-9]* failed\n$", re.S))
 
     def test_runs_that_end_at_a_reply_are_counted_for_today(self):
-        told_of = "ended at a line: 2\nended at a reply: 2\nanswered as ever: 2\n6 refusals, 0 failed\n"
+        told_of = "answered as ever: 2\nended at a line: 2\nended at a reply: 2\n6 refusals, 0 failed\n"
         self.assertEqual(self.refuse("--today", fault="ends refused", session=SHORTEST), (False, told_of))
 
     def test_without_a_refusal_nothing_is_passed(self):
