@@ -8,7 +8,7 @@ from mutating import MOST_STEPS, Mutated, Mutator, harmless, mutated
 from running import bytes_of, shorter, side_by_side, smallest, text_of
 from test_running import ALL, FAKE, WAITS, told
 
-MUTATE = ["compare", "--mutate", "--seconds", "0.1"]
+MUTATE = ["compare", "--mutate", "--seconds", "0.5"]
 
 
 class Scripts(unittest.TestCase):

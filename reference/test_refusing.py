@@ -5,7 +5,9 @@ import subprocess
 import tempfile
 import unittest
 from pathlib import Path
+from unittest.mock import patch
 
+import refusing
 from refusing import Refuser, chosen, compiled, shifted
 from running import run
 from test_running import FAKE, told
@@ -49,16 +51,19 @@ int main(void) {
 
 @unittest.skipUnless(shutil.which("gcc"), "there is no gcc")
 class Refused(unittest.TestCase):
-    def setUp(self):
+    @classmethod
+    def setUpClass(cls):
         folder = tempfile.TemporaryDirectory()
-        self.addCleanup(folder.cleanup)
-        self.folder = Path(folder.name)
+        cls.addClassCleanup(folder.cleanup)
+        cls.folder = Path(folder.name)
+        cls.library = compiled(folder.name)
 
     def refuse(self, *words, fault="none end", session=SESSION):
         """Whether the script fails on a fake, and what it prints."""
         (self.folder / "few.evats").write_text(session)
         (self.folder / "few.replies").touch()
-        return told(["refuse"], *words, "--program", FAKE, str(self.folder / "few.evats"), fault=fault)
+        with patch.object(refusing, "compiled", return_value=self.library):
+            return told(["refuse"], *words, "--program", FAKE, str(self.folder / "few.evats"), fault=fault)
 
     def test_a_program_that_does_all_is_passed(self):
         usual = "answered as ever: 4\nanswered by want of memory: 4\nended at a line: 6\n14 refusals, 0 failed\n"
@@ -90,10 +95,9 @@ class Refused(unittest.TestCase):
         self.assertRegex(self.refuse("--most", "2", session=SHORTEST)[1], "^left out: 2\n(.|\n)*\n4 refusals, 0 failed\n$")
 
     def test_what_the_library_refuses(self):
-        source, program, library = self.folder / "program.c", self.folder / "program", compiled(self.folder)
+        source, program, refuser = self.folder / "program.c", self.folder / "program", Refuser(self.library)
         source.write_text(PROGRAM)
         subprocess.run(["gcc", "-o", program, source], check=True)
-        refuser = Refuser(library)
         # Of `cde` with its line feed, which are bytes 3 to 6 of the input, seven requests are made, four of them behind it.
         for first, is_on, replies, told_of in (
             (0, False, "6\n7\n5\n", (7, 0, 0)),
