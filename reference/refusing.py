@@ -106,8 +106,8 @@ class Trial:
         *steps, last = reply.splitlines(keepends=True) or [""]
         if reply == usual:
             return USUAL, self.command, ""
-        must(last == WANT or last == WANT_OF_READING and self.word in ("ask", "vat"),
-             f"the reply is neither the usual one nor want of memory\nwanted: {brief(usual)}got:    {brief(reply)}")
+        is_want = last == WANT and self.word != "exchange" or last == WANT_OF_READING and self.word in ("ask", "vat")
+        must(is_want, f"the reply is neither the usual one nor want of memory\nwanted: {brief(usual)}got:    {brief(reply)}")
         return TOLD, f"run {len(steps)}\n" if self.word == "run" else "", last
 
     def judged(self, ended):

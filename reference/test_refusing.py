@@ -78,6 +78,11 @@ class Refused(unittest.TestCase):
                 self.assertTrue(is_failed)
                 self.assertRegex(said, re.compile(f"FAILED .*{wanted}.*, [1-9][0-9]* failed\n$", re.S))
 
+    def test_an_exchange_never_says_want_of_memory(self):
+        is_failed, said = self.refuse(session="exchange 1\n")
+        self.assertTrue(is_failed)
+        self.assertRegex(said, "nor want of memory\nwanted: no B12 NoEvent 1\ngot:    no B20 Memory\n")
+
     def test_runs_that_end_at_a_reply_are_counted_for_today(self):
         told_of = "answered as ever: 2\nended at a line: 2\nended at a reply: 2\n6 refusals, 0 failed\n"
         self.assertEqual(self.refuse("--today", fault="ends refused", session=SHORTEST), (False, told_of))
