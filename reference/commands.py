@@ -91,6 +91,18 @@ def arguments(words, *kinds):
     return [kind(word) for kind, word in zip(kinds, words[1:])]
 
 
+def script_lines(line):
+    """How many lines a line takes as its script."""
+    try:
+        words = words_of(text_of((line, line.removesuffix(b"\r"))).lstrip(" \t"))
+        if words[:1] != ["vat"] or len(words) < 4:
+            return 0
+        vat_name(words[1]), earlier_vats(words[2:-1])
+        return number(words[-1], MOST_LINES)
+    except Refusal:
+        return 0
+
+
 class Engine:
     """Answers the lines of an input, whole."""
 

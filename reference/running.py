@@ -1,13 +1,17 @@
 """Programs that are run on commands: what they say in time, how they end, and what is otherwise than it should be."""
 import contextlib
 import itertools
+import multiprocessing
 import os
 import re
 import select
 import signal
 import subprocess
+import sys
 import tempfile
+import threading
 import time
+from functools import partial
 from subprocess import PIPE
 from typing import NamedTuple
 
@@ -15,6 +19,16 @@ from typing import NamedTuple
 SECONDS, MOST = 60, 1 << 24
 # How long a session that differs is made shorter.
 SHORTENING = 300
+
+
+def bytes_of(given):
+    """What is given, as bytes: those that are no text stand in it as `text_of` has them."""
+    return given.encode(errors="surrogateescape")
+
+
+def text_of(data):
+    """Any bytes as what may be given."""
+    return data.decode(errors="surrogateescape")
 
 
 def text(data):
@@ -75,10 +89,10 @@ def stop(process):
 class Conversation:
     """A program that is given a command, and waited for, before it is given the next."""
 
-    def __init__(self, words, stdin=PIPE, stdout=PIPE):
+    def __init__(self, words, stdin=PIPE, stdout=PIPE, environment=None):
         self.said, self.is_stopped, self.errors = "", False, tempfile.TemporaryFile()
         streams = {"stdin": stdin, "stdout": stdout, "stderr": self.errors}
-        self.process = subprocess.Popen(words, bufsize=0, start_new_session=True, **streams)
+        self.process = subprocess.Popen(words, bufsize=0, start_new_session=True, env=environment, **streams)
 
     def __enter__(self):
         return self
@@ -91,7 +105,7 @@ class Conversation:
 
     def give(self, command):
         with contextlib.suppress(BrokenPipeError):
-            self.process.stdin.write(command.encode())
+            self.process.stdin.write(bytes_of(command))
 
     def hear(self, is_whole):
         """What is said until that is whole, or nothing more comes."""
@@ -130,12 +144,12 @@ class Conversation:
         return Ended(None if self.is_stopped else self.process.returncode, rest, text(self.errors.read()))
 
 
-def run(words, given="", stdin=None, stdout=PIPE):
+def run(words, given="", stdin=None, stdout=PIPE, environment=None):
     """How a program ends whose input, if no other is named, is a file of what it is given."""
     with tempfile.TemporaryFile() as source:
-        source.write(given.encode())
+        source.write(bytes_of(given))
         source.seek(0)
-        with Conversation(words, stdin or source, stdout) as conversation:
+        with Conversation(words, stdin or source, stdout, environment) as conversation:
             return conversation.end()
 
 
@@ -149,3 +163,54 @@ def shortened(session, found, again):
             if otherwise:
                 session, found = shorter, otherwise
     return session, found
+
+
+def shorter(items, differs, end):
+    """A list or a text that differs, without the pieces that it can do without, halves first, single items last; until a time."""
+    size = len(items) // 2 or 1
+    while size and items:
+        place = 0
+        while place < len(items):
+            found = items[:place] + items[place + size:]
+            if time.monotonic() < end and differs(found):
+                items = found
+            else:
+                place += size
+        size //= 2
+    return items
+
+
+def smallest(commands, differs):
+    """Commands that differ, without those and without the pieces of each that they can do without, as long as there is time."""
+    end = time.monotonic() + SHORTENING
+    commands = shorter(commands, differs, end)
+    for place in range(len(commands)):
+        before, behind = commands[:place], commands[place + 1:]
+        commands = [*before, shorter(commands[place], lambda text: differs([*before, text, *behind]), end), *behind]
+    return commands
+
+
+def deep(work):
+    """What a piece of work answers, on a stack on which the interpreter reaches level 1,000 of a program: that is many levels
+    of this one."""
+    found = []
+    sys.setrecursionlimit(100_000)
+    threading.stack_size(1 << 30)
+    thread = threading.Thread(target=lambda: found.append(work()))
+    thread.start()
+    thread.join()
+    return found[0]
+
+
+def side_by_side(count, work):
+    """What so many processes answer, each of which does the work under a number of its own; one alone is this one."""
+    if count == 1:
+        return [deep(partial(work, 0))]
+    sys.stdout.flush()
+    fork, pipes = multiprocessing.get_context("fork"), []
+    for number in range(count):
+        pipe, its = fork.Pipe(duplex=False)
+        fork.Process(target=lambda: its.send(deep(partial(work, number)))).start()
+        its.close()
+        pipes.append(pipe)
+    return [pipe.recv() for pipe in pipes]

@@ -6,6 +6,7 @@ from cells import listed
 from commands import Engine
 from contents import At
 from programs import USES, Program, shared_script, spoilt
+from running import bytes_of
 from talks import Talk
 
 BUDGETS = [3, 10, 30, 100, 1_000, 10_000, 100_000]
@@ -19,7 +20,7 @@ class Session:
     def give(self, text):
         """One command, with its script lines if it has some."""
         self.commands.append(text)
-        self.replies += self.engine.answers(f"{text}\n".encode())
+        self.replies += self.engine.answers(bytes_of(f"{text}\n"))
 
     @property
     def input(self):

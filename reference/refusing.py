@@ -1,0 +1,298 @@
+"""Requests for memory that the built program is refused one by one, and what it may do then."""
+import argparse
+import mmap
+import os
+import random
+import re
+import struct
+import subprocess
+import time
+from collections import Counter
+from dataclasses import dataclass, field
+from functools import cache
+from pathlib import Path
+
+from following import MARK, MARKED, WORK, Differs, Followed, must
+from running import Conversation, brief, bytes_of, run
+from texts import Broken, commands_of
+
+SOURCE = Path(__file__).resolve().parent / "refusing.c"
+# What is asked behind a command: all that it may have changed.
+QUESTIONS = "show\njournal\n"
+OUT_OF_MEMORY = "evats: out of memory\n"
+WANT, WANT_OF_READING, NO_WORKER = "no B20 Memory\n", "no L7 Memory\n", "no S7 NoWorker\n"
+# How a command ends for which memory was refused: it is answered as ever; the reply says want of memory; the run ends, since
+# there was no room for a line of the input; or since there was none for something else, as a reply.
+USUAL, TOLD, AT_LINE, AT_REPLY = "answered as ever", "answered by want of memory", "ended at a line", "ended at a reply"
+# Of `work`: workers did something or nothing, and what they did is possible.
+FOLLOWED = "workers were followed"
+FAILED, LEFT_OUT = "failed", "left out"
+KINDS = (LEFT_OUT, USUAL, TOLD, FOLLOWED, AT_LINE, AT_REPLY, FAILED)
+NOT_BEHIND = "the run ended, and not just what stands before was answered"
+GOES_ON = "room for a line was refused, and the run did not end for want of memory"
+
+
+def compiled(folder):
+    """The library that refuses, made in a folder."""
+    library = Path(folder) / "refusing.so"
+    subprocess.run(["gcc", "-O2", "-shared", "-fPIC", "-o", library, SOURCE], check=True)
+    return library
+
+
+class Refuser:
+    """The library as it is loaded into a program, and the page that is shared with it."""
+    PAGE = struct.Struct("7l")
+
+    def __init__(self, library):
+        shared = Path(library).with_name(f"page-{os.getpid()}")
+        shared.write_bytes(bytes(self.PAGE.size))
+        with open(shared, "r+b") as file:
+            self.page = mmap.mmap(file.fileno(), self.PAGE.size)
+        self.environment = {**os.environ, "LD_PRELOAD": str(library), "REFUSING": str(shared)}
+
+    def watch(self, start, end, first=0, is_on=False):
+        """Of the requests for these bytes of the input the first is refused, and with `is_on` all behind it."""
+        self.page[:] = self.PAGE.pack(start, end, first, is_on, 0, 0, 0)
+
+    def told(self):
+        """How many requests were made, how many were refused, and how many of these for room for a line."""
+        return self.PAGE.unpack(self.page[:])[4:]
+
+
+def shifted(text, least, by):
+    """A text in which each event from one on has a later name."""
+    return re.sub(r"\be([0-9]+)\b", lambda it: f"e{int(it[1]) + by * (int(it[1]) >= least)}", text)
+
+
+def next_event(state):
+    """An event that is none of those in a text, and all later ones."""
+    return 1 + max(map(int, re.findall(r"\be([0-9]+)\b", state)), default=0)
+
+
+class Trial:
+    """A command of a session behind those before it, for which memory is refused. Then it is asked what there is, the command is
+    given again, and the same is asked."""
+
+    def __init__(self, words, refuser, before, command):
+        self.words, self.refuser, self.before, self.command = words, refuser, before, command
+        self.word = next(iter(command.split()), "")
+        self.plain = cache(self.plain)
+
+    def run(self, first, refused=0, is_on=False):
+        """How a run ends in which this stands in the place of the command."""
+        start = len(bytes_of(self.before))
+        self.refuser.watch(start, start + len(bytes_of(first)), refused, is_on)
+        given = MARK.join([self.before + first, QUESTIONS, self.command, QUESTIONS, ""])
+        return run(self.words, given, environment=self.refuser.environment)
+
+    def plain(self, first):
+        """What is replied where no memory is refused: up to this, to the questions, to the command, and to the questions."""
+        ended = self.run(first)
+        *parts, rest = ended.out.split(MARKED)
+        must(ended.status == 1 and not ended.err and len(parts) == 4 and not rest,
+             f"without a refusal {ended.ending}, and said {brief(ended.out)}{brief(ended.err)}")
+        return parts
+
+    def asked(self):
+        """How many requests for memory the command makes; asked before all else."""
+        self.plain(self.command)
+        asked, *_ = self.refuser.told()
+        self.plain("")
+        return asked
+
+    def done(self, reply):
+        """How a command ended that gave this reply; what it did, as if that had been given in its place; what it said beside."""
+        usual = self.plain(self.command)[0].removeprefix(self.plain("")[0])
+        *steps, last = reply.splitlines(keepends=True) or [""]
+        if reply == usual:
+            return USUAL, self.command, ""
+        is_want = last == WANT and self.word != "exchange" or last == WANT_OF_READING and self.word in ("ask", "vat")
+        must(is_want, f"the reply is neither the usual one nor want of memory\nwanted: {brief(usual)}got:    {brief(reply)}")
+        return TOLD, f"run {len(steps)}\n" if self.word == "run" else "", last
+
+    def judged(self, ended):
+        """How the command ended for which memory was refused; differs where that may not be."""
+        _, _, refused_in_line = self.refuser.told()
+        answered = self.plain("")[0]
+        rest = ended.out.removeprefix(answered)
+        if (ended.status, ended.err) == (2, OUT_OF_MEMORY):
+            must(ended.out == answered, f"{NOT_BEHIND}: {brief(rest)}")
+            return AT_LINE if refused_in_line else AT_REPLY
+        must(not refused_in_line, GOES_ON)
+        must(ended.status == 1 and not ended.err, f"{ended.ending}, and said {brief(rest)}{brief(ended.err)}")
+        kind, first, said = self.done(rest.partition(MARKED)[0])
+        before, *behind = self.plain(first)
+        least = next_event(behind[0])
+        # A turn that is refused may have drawn its name.
+        for lost in (0, 1) if said and self.word in ("turn", "step", "run") else (0,):
+            wanted = MARKED.join([before + said, *(shifted(it, least, lost) for it in behind), ""])
+            if ended.out == wanted:
+                return kind
+        wanted = MARKED.join([before + said, *behind, ""]).splitlines()
+        raise Differs(f"{kind}, and then otherwise:\n{ended.otherwise(wanted, 1)}")
+
+    def refuse(self, number, is_on):
+        """How the command ends where this request is refused; nothing where it did not come to it."""
+        ended = self.run(self.command, number, is_on)
+        if not self.refuser.told()[1]:
+            return None
+        return self.judged(ended)
+
+
+class Given(Conversation):
+    """A conversation that counts the bytes that were given."""
+    given = 0
+
+    def give(self, command):
+        self.given += len(bytes_of(command))
+        super().give(command)
+
+
+class Worked(Followed):
+    """A session of which a `work` is refused memory. Workers may have done something or nothing; the interpreter does the
+    same, and goes on with the program."""
+    is_refused, lost = False, 0
+
+    def expect_reply(self, text, reply, new, taken):
+        if not (self.is_refused and not new and reply in ([WANT.strip()], [NO_WORKER.strip()])):
+            super().expect_reply(text, reply, new, taken)
+
+    def end_of_work(self, new, taken, turns, dropped):
+        """Where memory was refused, workers may end before all is done, and any turn may be lost with its name."""
+        if self.is_refused:
+            self.lost = turns
+            self.unseen += turns
+        else:
+            super().end_of_work(new, taken, turns, max(0, dropped - self.lost))
+
+
+class WorkTrial(Trial):
+    """The same of `work`, which comes to another world each time."""
+
+    def __init__(self, words, refuser, before, command):
+        super().__init__(words, refuser, before, command)
+        parser = argparse.ArgumentParser()
+        parser.add_argument("--budget", type=int, default=10_000)
+        parser.add_argument("--workers", type=int, default=8)
+        self.options = parser.parse_args(words[1:])
+
+    def followed(self, number, is_on):
+        """What differs in the run in which a request is refused, whether the last reply was whole, how the run ended, and
+        what was told of requests."""
+        session, found = Worked(self.options.budget), None
+        session.most_workers = self.options.workers
+        self.refuser.watch(0, 0)
+        with Given(self.words, environment=self.refuser.environment) as session.program:
+            try:
+                for command in commands_of(bytes_of(self.before)):
+                    session.give(command.removesuffix("\n"))
+                start = session.program.given
+                self.refuser.watch(start, start + len(bytes_of(self.command)), number, is_on)
+                session.is_refused = number > 0
+                session.give(self.command.removesuffix("\n"))
+                session.is_refused = False
+                session.give(self.command.removesuffix("\n"))
+            except Differs as differs:
+                found = str(differs)
+            is_whole = not session.program.said or session.program.said.endswith(MARKED)
+            return found, is_whole, session.program.end(), self.refuser.told()
+
+    def asked(self):
+        found, _, ended, told = self.followed(0, False)
+        must(not found and ended.status == 1, f"without a refusal {ended.ending}, and {found}")
+        return told[0]
+
+    def refuse(self, number, is_on):
+        found, is_whole, ended, (_, refused, refused_in_line) = self.followed(number, is_on)
+        if not refused:
+            return None
+        if found and (ended.status, ended.err) == (2, OUT_OF_MEMORY):
+            must(is_whole, f"{NOT_BEHIND}: {found}")
+            return AT_LINE if refused_in_line else AT_REPLY
+        must(not refused_in_line, GOES_ON)
+        must(not found and ended.status == 1 and not ended.err, f"{found or ''}\n{ended.ending}; {brief(ended.err)}")
+        return FOLLOWED
+
+
+@dataclass
+class Found:
+    """How often memory was refused, by how the commands ended, and what may not be."""
+    counts: Counter = field(default_factory=Counter)
+    faults: list = field(default_factory=list)
+
+    def add(self, other):
+        self.counts.update(other.counts)
+        self.faults += other.faults
+
+    def refusals(self):
+        return self.counts.total() - self.counts[LEFT_OUT]
+
+
+def chosen(asked, most, seed):
+    """The requests that are refused of so many: all, or so many of them by chance."""
+    if asked <= most:
+        return range(1, asked + 1)
+    return sorted(random.Random(seed).sample(range(1, asked + 1), most))
+
+
+def is_work(command):
+    return bool(WORK.fullmatch(command.removesuffix("\n")))
+
+
+def trial_of(words, refuser, earlier, command):
+    """The trial of a command behind others; none where it has another world to begin with each time."""
+    before = "".join(earlier)
+    if is_work(command):
+        return WorkTrial(words, refuser, before, command)
+    return None if any(map(is_work, earlier)) else Trial(words, refuser, before, command)
+
+
+def kind_of(trial, number, is_on, is_today):
+    """How a command ends for which memory is refused, and what may not be, if there is something."""
+    try:
+        kind = trial.refuse(number, is_on)
+        must(kind != AT_REPLY or is_today, "the run ended though no room for a line was refused")
+        return kind, ""
+    except Differs as differs:
+        return FAILED, f"request {number} {'and all behind it' if is_on else 'alone'} refused for {brief(trial.command)}{differs}"
+
+
+def try_command(trial, name, options, found):
+    """Refuses memory for a command, one request alone and then with all behind it, as long as there is time."""
+    try:
+        asked = trial.asked()
+    except Differs as differs:
+        found.faults.append(f"{name}: {brief(trial.command)}{differs}")
+        return
+    requests = chosen(asked, options.most, f"{options.seed} {name}")
+    found.counts[LEFT_OUT] += 2 * (asked - len(requests))
+    for is_on in (False, True):
+        for number in requests:
+            is_late = time.monotonic() > options.end
+            kind, fault = (LEFT_OUT, "") if is_late else kind_of(trial, number, is_on, options.is_today)
+            found.counts[kind] += kind is not None
+            found.faults += [f"{name}: {fault}"] if fault else []
+
+
+# That of this process.
+refuser = None
+
+
+def begin(library):
+    """Begins a process that refuses memory by the library."""
+    global refuser
+    refuser = Refuser(library)
+
+
+def try_session(options, case):
+    """What was found in a session."""
+    found, earlier = Found(), []
+    if isinstance(case, Broken):
+        found.faults.append(f"{case.name}: {case.why}")
+        return found
+    for place, command in enumerate(commands_of(case.commands), 1):
+        trial = trial_of([options.program, *case.arguments], refuser, earlier, command)
+        earlier.append(command)
+        if trial and time.monotonic() < options.end:
+            try_command(trial, f"{case.name}, command {place}", options, found)
+    return found
