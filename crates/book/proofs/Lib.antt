@@ -1,6 +1,7 @@
 pub mod Sets
 pub mod Entering
 pub mod Within
+pub mod Counting
 pub mod Blank
 pub mod Seen
 pub mod Choosing

@@ -7,3 +7,4 @@ pub mod Good
 pub mod Learning
 pub mod Refusals
 pub mod Standing
+pub mod Counting
