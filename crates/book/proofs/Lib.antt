@@ -12,6 +12,7 @@ pub mod Redoing
 pub mod Placed
 pub mod Exchanging
 pub mod GivingBack
+pub mod Again
 pub mod TicketsOut
 pub mod Unnamed
 pub mod Noting
