@@ -16,6 +16,7 @@ use Rattle.event.specs.declared.ready.Unready.TheVariants as why
 use Rattle.desk.specs.Desks.{has_vat}
 use Rattle.book.specs.Books.{Book}
 use Rattle.book.specs.Fault.{delay_tells}
+use Rattle.book.proofs.Choosing.{neither}
 use Rattle.book.specs.Refusals.{Refusal, first, refuse_where, vat_out, refusal_of, budget_refusal, message_out, vat_at_is_out, full_refusal, checkout_refusal}
 
 -- the first does not refuse, so it is the next that counts
@@ -24,6 +25,18 @@ next_is a b e = ap (λ o. first o b) e
 
 pub none_mapped : (m : MsgId) (o : Option Unready) → o ≡ None → option_map (refusal_of m) o ≡ None
 none_mapped m o e = ap (option_map (refusal_of m)) e
+
+not_where : (t : Bool) (refusal : Refusal) → refuse_where t refusal ≡ None → t ≡ false
+not_where true refusal e = cc
+not_where false refusal e = refl
+
+-- where a checkout is not refused no ticket of the vat is out
+pub vat_is_free : (b : Book) (m : MsgId) (budget : ℕ) (g : Message) (v : VatNo) → b.world (key.Msg m) ≡ Some (message g) → g.place ≡ at_vat v → checkout_refusal b m budget ≡ None → has_vat v b.out ≡ false
+vat_is_free b m budget g v waiting there e =
+    let lost_there = (neither (budget_refusal budget) _ e).1 in
+    let out_there = (neither (option_map (refusal_of m) (lost b.world m)) _ lost_there).1 in
+    sym (ap (λ (o : Option Message). message_out o b.out) (ap message_in waiting) ∙ ap (λ (p : Place). vat_at_is_out (waits_at p) b.out) there)
+    ∙ not_where (message_out (message_of b.world m) b.out) vat_out (neither (refuse_where (message_out (message_of b.world m) b.out) vat_out) _ out_there).0
 
 -- nothing is in the way of a message that leads to its vat and awaits nothing
 pub nothing_unready : (w : World) (v : VatNo) (g : Message) → leads_there w v g ≡ true → first_undone w (awaited w g) ≡ None → unready_at w v g ≡ None

@@ -1,6 +1,7 @@
 pub mod Sets
 pub mod Entering
 pub mod Within
+pub mod Counting
 pub mod Blank
 pub mod Seen
 pub mod Choosing
@@ -11,6 +12,7 @@ pub mod Redoing
 pub mod Placed
 pub mod Exchanging
 pub mod GivingBack
+pub mod Again
 pub mod TicketsOut
 pub mod Unnamed
 pub mod Noting

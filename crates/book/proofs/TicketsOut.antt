@@ -1,4 +1,4 @@
--- Tickets that are out: their numbers are drawn, free and apart, also when one is lent or struck out.
+-- Tickets that are out: their numbers are drawn, free and apart, and so are their vats, also when one is lent or struck out.
 use Rattle.std.proofs.Common.{◌≡◌, ◌≢◌, ℕ, zero, suc, ◌+◌, ◌<◌, ◌==◌, Bool, true, false, not, ◌||◌, cond, List, [], ◌∷◌, ◌++◌, filter, Option, Some, refl, sym, ap, ◌∙◌, subst, arith, ne_eqb, eq-eqb}
 use Rattle.std.proofs.Math.Logic.{∥∥₁_elim, ∥∥₁_prop}
 use Rattle.std.proofs.Props.{props}
@@ -11,7 +11,8 @@ use Rattle.history.proofs.Lists.{all_map, all_both, all_append}
 use Rattle.history.proofs.Naming.{free_from}
 use Rattle.ids.specs.declared.names.EventName.{EventName}
 use Rattle.event.specs.Events.{noted_events}
-use Rattle.desk.specs.Desks.{Lent, is_out, without, lent_at}
+use Rattle.ids.specs.declared.names.VatNo.{VatNo}
+use Rattle.desk.specs.Desks.{Lent, is_out, has_vat, without, lent_at}
 use Rattle.undo.specs.declared.undoing.Core.{Core}
 use Rattle.book.specs.Standing.{Apart, Kept, Stands}
 
@@ -64,7 +65,7 @@ found_at : (out : List Lent) → Apart out → AllByRecursion (λ t. lent_at t.n
 found_at [] h = tt
 found_at (t ∷ out) (d, h) = (
   rw (eq-eqb t.number.0 t.number.0 refl) refl,
-  all_both _ _ _ out (λ u ne is. rw (ne_eqb t.number.0 u.number.0 (λ same. ne (sym same))) is) d (found_at out h),
+  all_both _ _ _ out (λ u ne is. rw (ne_eqb t.number.0 u.number.0 (λ same. ne.0 (sym same))) is) d (found_at out h),
 )
 
 pub lent_is : (out : List Lent) (t : Lent) → Apart out → Contains out t → lent_at t.number out ≡ Some t
@@ -89,7 +90,31 @@ Lents-set = hlevel props
 Found-set : IsSet (Option Lent)
 Found-set = hlevel props
 
+-- where no ticket of a vat is out, each is of another
+none_of_vat : (v : VatNo) (out : List Lent) → has_vat v out ≡ false → AllByRecursion (λ u. u.vat.0.0 ≢ v.0.0) out
+none_of_vat v [] h = tt
+none_of_vat v (u ∷ out) h = one (u.vat.0.0 == v.0.0) refl h (none_of_vat v out)
+  where
+    one : (b : Bool) → (u.vat.0.0 == v.0.0) ≡ b → (b || has_vat v out) ≡ false → (has_vat v out ≡ false → AllByRecursion (λ w. w.vat.0.0 ≢ v.0.0) out) → AllByRecursion (λ w. w.vat.0.0 ≢ v.0.0) (u ∷ out)
+    one true is same rest = cc
+    one false is same rest = ((λ e. absurd (false≢true (sym is ∙ eq-eqb u.vat.0.0 v.0.0 e))), rest same)
+
+-- that tickets are apart is a fact, and no choice
+differ_prop : (t u : Lent) → IsProp ((u.number.0 ≢ t.number.0) × (u.vat.0.0 ≢ t.vat.0.0))
+differ_prop t u = hlevel props
+
+differs_prop : (t : Lent) (out : List Lent) → IsProp (AllByRecursion (λ u. (u.number.0 ≢ t.number.0) × (u.vat.0.0 ≢ t.vat.0.0)) out)
+differs_prop t [] a b = refl
+differs_prop t (u ∷ out) (p, q) (r, s) = λ i. (differ_prop t u p r i, differs_prop t out q s i)
+
+apart_prop : (out : List Lent) → IsProp (Apart out)
+apart_prop [] a b = refl
+apart_prop (t ∷ out) (p, q) (r, s) = λ i. (differs_prop t out p r i, apart_prop out q s i)
+
 module _ (core : Core) (next : ℕ) (out : List Lent) where
+  pub stands_apart : Stands core next out → Apart out
+  stands_apart h = ∥∥₁_elim h (apart_prop out) (λ k. k.apart)
+
   -- a ticket is struck out
   pub kept_without : (e : EventName) → Kept core next out → Kept core next (without e out)
   kept_without e k = record {
@@ -104,12 +129,12 @@ module _ (core : Core) (next : ℕ) (out : List Lent) where
   stands_without e h = ∥∥₁_elim h ∥∥₁_prop (λ k. ∣ kept_without e k ∣₁)
 
   -- a ticket of the next number is lent
-  apart_lent : (t : Lent) (ts : List Lent) → AllByRecursion (λ u. u.number.0 < t.number.0) ts → Apart ts → Apart (ts ++ t ∷ [])
-  apart_lent t [] d h = (tt, tt)
-  apart_lent t (u ∷ ts) (lt, d) (ne, h) = (all_append _ ts (t ∷ []) ne ((λ same. omega (arith, lt, same)), tt), apart_lent t ts d h)
+  apart_lent : (t : Lent) (ts : List Lent) → AllByRecursion (λ u. u.number.0 < t.number.0) ts → AllByRecursion (λ u. u.vat.0.0 ≢ t.vat.0.0) ts → Apart ts → Apart (ts ++ t ∷ [])
+  apart_lent t [] d others h = (tt, tt)
+  apart_lent t (u ∷ ts) (lt, d) (other, others) (ne, h) = (all_append _ ts (t ∷ []) ne (((λ same. omega (arith, lt, same)), (λ same. other (sym same))), tt), apart_lent t ts d others h)
 
-  pub kept_lent : (t : Lent) → t.number.0 ≡ next → Kept core next out → Kept core (next + 1) (out ++ t ∷ [])
-  kept_lent t is k = record {
+  pub kept_lent : (t : Lent) → t.number.0 ≡ next → has_vat t.vat out ≡ false → Kept core next out → Kept core (next + 1) (out ++ t ∷ [])
+  kept_lent t is alone_there k = record {
     rows = k.rows;
     stands = record {
       shows = k.stands.shows;
@@ -126,11 +151,11 @@ module _ (core : Core) (next : ℕ) (out : List Lent) where
     };
     free = all_append _ out (t ∷ []) k.free (free_from noted_events t.number.0 next (entries_of k.rows) k.stands.stands.named.below (omega (arith, is)), tt);
     drawn = all_append _ out (t ∷ []) (all_map _ _ out (λ u lt. omega (arith, lt)) k.drawn) (omega (arith, is), tt);
-    apart = apart_lent t out (all_map _ _ out (λ u lt. omega (arith, lt, is)) k.drawn) k.apart;
+    apart = apart_lent t out (all_map _ _ out (λ u lt. omega (arith, lt, is)) k.drawn) (none_of_vat t.vat out alone_there) k.apart;
   }
 
-  pub stands_lent : (t : Lent) → t.number.0 ≡ next → Stands core next out → Stands core (next + 1) (out ++ t ∷ [])
-  stands_lent t is h = ∥∥₁_elim h ∥∥₁_prop (λ k. ∣ kept_lent t is k ∣₁)
+  pub stands_lent : (t : Lent) → t.number.0 ≡ next → has_vat t.vat out ≡ false → Stands core next out → Stands core (next + 1) (out ++ t ∷ [])
+  stands_lent t is alone_there h = ∥∥₁_elim h ∥∥₁_prop (λ k. ∣ kept_lent t is alone_there k ∣₁)
 
   -- lent and struck out again
   pub lent_without : (t : Lent) → t.number.0 ≡ next → Stands core next out → without t.number (out ++ t ∷ []) ≡ out

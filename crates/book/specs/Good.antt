@@ -1,8 +1,9 @@
 -- What holds of every book, for those who read its journal.
-use Rattle.std.specs.Prelude.{◌≡◌, ◌<◌, ◌≤◌, true, List, [], ◌∷◌, map, filter, Some, is_some, length}
+use Rattle.std.specs.Prelude.{◌≡◌, ◌<◌, ◌≤◌, true, List, [], ◌∷◌, map, filter, None, Some, is_some, length}
 use Rattle.std.specs.List.{AllByRecursion}
 use Rattle.history.specs.Subject.{after, new, touches}
 use Rattle.history.specs.Journal.{Entry, name_of, is_in, live_set, Distinct, Sound}
+use Rattle.ids.specs.declared.names.EventName.{EventName}
 use Rattle.ids.specs.declared.cells.CellKey.{CellKey}
 use Rattle.kernele.specs.Tree.{Name}
 use Rattle.post.specs.Messages.{Vat}
@@ -11,6 +12,8 @@ use Rattle.worldcells.specs.World.{World, empty, vat_named}
 use Rattle.event.specs.Events.{Foot, DoesNoted, events}
 use Rattle.journal.specs.Lines.{plain, entries_in}
 use Rattle.book.specs.Books.{Book, open_count, settled_lines}
+use Rattle.book.specs.Calls.{SameSet, Undoes}
+use Rattle.book.specs.Refusals.{missing_refusal, redo_refusal, undo_refusal}
 use Rattle.book.specs.declared.book.TheConstants.{MOST_ENTRIES}
 
 -- each cause of an entry is the event of an older one, the newest first
@@ -45,6 +48,11 @@ pub record IsGood (b : Book) : Type 0 where
 -- the live events, the newest first
 abbrev pub live_events : Book → List Event
 live_events b = map (λ e. event_in e.event) (filter (live_set plain) (entries_in b.journal))
+
+-- a redo of what was just undone, in whatever order and however often its events are named, is refused for want of memory alone
+abbrev pub RedoNextIsAllowed : Book → Type 0
+RedoNextIsAllowed b = (names others : List EventName) (between : Book) → undo_refusal b.settled b.journal names ≡ None → Undoes names b between →
+    SameSet names others b.journal → missing_refusal others b.journal ≡ None → redo_refusal between.settled between.journal others ≡ None
 
 -- no two names stand for one vat
 abbrev pub NamesVatsOnce : World → Type 0

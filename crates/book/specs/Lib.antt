@@ -8,3 +8,4 @@ pub mod Learning
 pub mod Limits
 pub mod Refusals
 pub mod Standing
+pub mod Counting

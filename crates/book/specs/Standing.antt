@@ -9,10 +9,10 @@ use Rattle.desk.specs.Desks.{Lent}
 use Rattle.undo.specs.Standing.{CoreStands}
 use Rattle.undo.specs.declared.undoing.Core.{Core}
 
--- no two tickets that are out have one number
+-- no two tickets that are out have one number, or are of one vat
 abbrev pub Apart : List Lent → Type 0
 Apart [] = Unit {0}
-Apart (t ∷ out) = AllByRecursion (λ u. u.number.0 ≢ t.number.0) out × Apart out
+Apart (t ∷ out) = AllByRecursion (λ u. (u.number.0 ≢ t.number.0) × (u.vat.0.0 ≢ t.vat.0.0)) out × Apart out
 
 -- rows stand with the core, from the empty world; the numbers of tickets that are out were drawn, and no row has them or names them as causes
 pub record Kept (core : Core) (next : ℕ) (out : List Lent) : Type 0 where

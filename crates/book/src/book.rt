@@ -38,7 +38,6 @@ ghost use Rattle.ids.specs.declared.cells.CellKey.TheVariants as key;
 use crate::fault::{BookFault, unready_fault};
 use crate::seats::greatest_seat;
 use agenda::agenda::{Agenda, Step, is_open};
-use cells::swaps::Swaps;
 use deliveries::outcome::Ended;
 use desk::desk::Desk;
 use event::effects::{Effects, ask_effects, birth_effects, learn_effects, move_effects};
@@ -121,11 +120,13 @@ pub(crate) fn noted(
 }
 
 impl Book {
-    ghost use Rattle.book.specs.BookView.{book_of};
+    ghost use Rattle.book.specs.BookView.{book_of, swaps_of};
+    ghost use Rattle.book.specs.Counting.{CountsNew};
 
     /// A book in which nothing has happened.
     pub fn new(alloc: Global) -> Book
-        ensures { book_of result ≡ blank }
+        ensures blank { book_of result ≡ blank }
+        ensures counted { swaps_of result ≡ 0 }
     {
         Book {
             alloc,
@@ -188,6 +189,8 @@ impl Book {
         requires quiet { effects.notes.items ≡ [] }
         ensures ok { OnOk result ((f : Foot) → Happens (event_of event) f (book_of self.old).world effects → EntersNext (event_of event) f seat (book_of self.old) (book_of self.new)) }
         ensures unchanged { OnErr result (book_of self.new ≡ book_of self.old) }
+        ensures counted { OnOk result (CountsNew self.old self.new) }
+        ensures none { OnErr result (swaps_of self.new ≡ swaps_of self.old) }
     {
         let Effects {
             touched,
@@ -195,8 +198,7 @@ impl Book {
             notes,
         } = effects;
         let deed = Deed { event, notes, seat };
-        self.core
-            .enter(self.alloc, deed, &touched, records, &mut Swaps::none())?;
+        self.core.enter(self.alloc, deed, &touched, records)?;
         self.next += 1;
         self.agenda = noted(self.alloc, self.agenda.take(), self.core.world(), &touched);
         Ok(())
@@ -267,6 +269,8 @@ impl Book {
         ensures ok { IfOk result (λ e. Births name.now earlier.items (program_of script) seat e (book_of self.old) (book_of self.new)) }
         ensures err { IfErr result (λ fault. Tells fault (birth_refusal (book_of self.old) name.now earlier.items (program_of script))) }
         ensures unchanged { OnErr result (book_of self.new ≡ book_of self.old) }
+        ensures counted { OnOk result (CountsNew self.old self.new) }
+        ensures none { OnErr result (swaps_of self.new ≡ swaps_of self.old) }
     {
         let (event, vats) = self.admit_birth(name, &earlier, &script)?;
         let effects = birth_effects(self.alloc, event, name, &earlier, &vats, &script)?;
@@ -309,6 +313,8 @@ impl Book {
         ensures ok { IfOk result (λ e. Asks name.now (program_of program) seat e (book_of self.old) (book_of self.new)) }
         ensures err { IfErr result (λ fault. Tells fault (ask_refusal (book_of self.old) name.now (program_of program))) }
         ensures unchanged { OnErr result (book_of self.new ≡ book_of self.old) }
+        ensures counted { OnOk result (CountsNew self.old self.new) }
+        ensures none { OnErr result (swaps_of self.new ≡ swaps_of self.old) }
     {
         let (event, vat) = self.admit_ask(name, &program)?;
         let effects = ask_effects(self.alloc, event, name, vat, &program)?;
@@ -348,6 +354,8 @@ impl Book {
         ensures ok { IfOk result (λ e. Arrives name seat e (book_of self.old) (book_of self.new)) }
         ensures err { IfErr result (λ fault. Tells fault (arrival_refusal (book_of self.old) name)) }
         ensures unchanged { OnErr result (book_of self.new ≡ book_of self.old) }
+        ensures counted { OnOk result (CountsNew self.old self.new) }
+        ensures none { OnErr result (swaps_of self.new ≡ swaps_of self.old) }
     {
         let (event, arrived) = self.admit_arrival(name)?;
         let effects = move_effects(self.alloc, event, name, arrived, &[])?;
@@ -391,6 +399,8 @@ impl Book {
         ensures ok { IfOk result (λ e. Forwards name seat e (book_of self.old) (book_of self.new)) }
         ensures err { IfErr result (λ fault. Tells fault (forward_refusal (book_of self.old) name)) }
         ensures unchanged { OnErr result (book_of self.new ≡ book_of self.old) }
+        ensures counted { OnOk result (CountsNew self.old self.new) }
+        ensures none { OnErr result (swaps_of self.new ≡ swaps_of self.old) }
     {
         let (event, forwarded, through) = self.admit_forward(name)?;
         let effects = move_effects(self.alloc, event, name, forwarded, &through)?;
@@ -418,6 +428,8 @@ impl Book {
         ensures ok { IfOk result (λ e. Learns name.now promise seat e (book_of self.old) (book_of self.new)) }
         ensures err { IfErr result (λ fault. Tells fault (learn_refusal (book_of self.old) name.now promise)) }
         ensures unchanged { OnErr result (book_of self.new ≡ book_of self.old) }
+        ensures counted { OnOk result (CountsNew self.old self.new) }
+        ensures none { OnErr result (swaps_of self.new ≡ swaps_of self.old) }
     {
         let vat = match self.vat(name) {
             Some(vat) => vat.number,
@@ -439,6 +451,8 @@ impl Book {
         ensures ok { IfOk result (λ e. LearnsNamed name.now event index e (book_of self.old) (book_of self.new)) }
         ensures err { IfErr result (λ fault. TellsNamed fault (book_of self.old) name.now event index) }
         ensures unchanged { OnErr result (book_of self.new ≡ book_of self.old) }
+        ensures counted { OnOk result (CountsNew self.old self.new) }
+        ensures none { OnErr result (swaps_of self.new ≡ swaps_of self.old) }
     {
         let vat = match self.vat(name) {
             Some(vat) => vat.number,
@@ -460,6 +474,8 @@ impl Book {
         ensures ok { IfOk result (λ e. LearnsAt vat promise seat e (book_of self.old) (book_of self.new)) }
         ensures err { IfErr result (λ fault. Tells fault (learning_refusal (book_of self.old) vat promise)) }
         ensures unchanged { OnErr result (book_of self.new ≡ book_of self.old) }
+        ensures counted { OnOk result (CountsNew self.old self.new) }
+        ensures none { OnErr result (swaps_of self.new ≡ swaps_of self.old) }
     {
         let (event, published) = self.admit_learning(vat, promise)?;
         let state = self.core.share_vat(self.alloc, vat)?;
@@ -516,6 +532,7 @@ impl Book {
     ) -> Result<Option<PromId>, AllocError>
         ensures known { IfOk result (KnownAs (can_learn (book_of self.old).world) vat event index) }
         ensures same { book_of self.new ≡ book_of self.old }
+        ensures counted { swaps_of self.new ≡ swaps_of self.old }
     {
         let agenda = self.agenda()?;
         let found = agenda.known_as(vat, event, index);
@@ -527,6 +544,7 @@ impl Book {
     fn agenda(&mut self) -> Result<Agenda, AllocError>
         ensures noted { IfOk result (NotedIn (book_of self.old).world) }
         ensures same { book_of self.new ≡ book_of self.old }
+        ensures counted { swaps_of self.new ≡ swaps_of self.old }
     {
         match self.agenda.take() {
             Some(agenda) => Ok(agenda),
@@ -539,6 +557,7 @@ impl Book {
     pub fn next(&mut self) -> Result<Option<Step>, AllocError>
         ensures first { IfOk result (First (book_of self.old).world (λ v. has_vat v (book_of self.old).out)) }
         ensures same { book_of self.new ≡ book_of self.old }
+        ensures counted { swaps_of self.new ≡ swaps_of self.old }
     {
         let agenda = self.agenda()?;
         let step = agenda.first(self.alloc, self.core.world(), &self.desk);
@@ -550,6 +569,7 @@ impl Book {
     pub fn enabled(&mut self) -> Result<Vec<Step>, AllocError>
         ensures all { IfOk result (λ steps. Enabled (book_of self.old).world (λ v. has_vat v (book_of self.old).out) steps.items) }
         ensures same { book_of self.new ≡ book_of self.old }
+        ensures counted { swaps_of self.new ≡ swaps_of self.old }
     {
         let agenda = self.agenda()?;
         let steps = agenda.all(self.alloc, self.core.world(), &self.desk);

@@ -1,5 +1,5 @@
 // Events that are entered from no seat.
-ghost use Rattle.std.specs.Prelude.{◌≡◌, IfOk, IfErr, OnErr};
+ghost use Rattle.std.specs.Prelude.{◌≡◌, IfOk, IfErr, OnOk, OnErr};
 ghost use Rattle.ids.specs.declared.names.VatNo.{VatNo};
 ghost use Rattle.kernele.specs.View.{program_of};
 ghost use Rattle.worldcells.specs.Events.{birth, ask, arrive, forward, learn};
@@ -14,7 +14,8 @@ use ids::text::Text;
 use kernele::tree::Program;
 
 impl Book {
-    ghost use Rattle.book.specs.BookView.{book_of};
+    ghost use Rattle.book.specs.BookView.{book_of, swaps_of};
+    ghost use Rattle.book.specs.Counting.{CountsNew};
 
     /// As `birth_as`, also in its errors, from no seat.
     pub fn birth(
@@ -26,6 +27,8 @@ impl Book {
         ensures ok { IfOk result (λ e. Births name.now earlier.items (program_of script) 0 e (book_of self.old) (book_of self.new)) }
         ensures err { IfErr result (λ fault. Tells fault (birth_refusal (book_of self.old) name.now earlier.items (program_of script))) }
         ensures unchanged { OnErr result (book_of self.new ≡ book_of self.old) }
+        ensures counted { OnOk result (CountsNew self.old self.new) }
+        ensures none { OnErr result (swaps_of self.new ≡ swaps_of self.old) }
     {
         self.birth_as(name, earlier, script, NO_SEAT)
     }
@@ -35,6 +38,8 @@ impl Book {
         ensures ok { IfOk result (λ e. Asks name.now (program_of program) 0 e (book_of self.old) (book_of self.new)) }
         ensures err { IfErr result (λ fault. Tells fault (ask_refusal (book_of self.old) name.now (program_of program))) }
         ensures unchanged { OnErr result (book_of self.new ≡ book_of self.old) }
+        ensures counted { OnOk result (CountsNew self.old self.new) }
+        ensures none { OnErr result (swaps_of self.new ≡ swaps_of self.old) }
     {
         self.ask_as(name, program, NO_SEAT)
     }
@@ -44,6 +49,8 @@ impl Book {
         ensures ok { IfOk result (λ e. Arrives name 0 e (book_of self.old) (book_of self.new)) }
         ensures err { IfErr result (λ fault. Tells fault (arrival_refusal (book_of self.old) name)) }
         ensures unchanged { OnErr result (book_of self.new ≡ book_of self.old) }
+        ensures counted { OnOk result (CountsNew self.old self.new) }
+        ensures none { OnErr result (swaps_of self.new ≡ swaps_of self.old) }
     {
         self.arrive_as(name, NO_SEAT)
     }
@@ -53,6 +60,8 @@ impl Book {
         ensures ok { IfOk result (λ e. Forwards name 0 e (book_of self.old) (book_of self.new)) }
         ensures err { IfErr result (λ fault. Tells fault (forward_refusal (book_of self.old) name)) }
         ensures unchanged { OnErr result (book_of self.new ≡ book_of self.old) }
+        ensures counted { OnOk result (CountsNew self.old self.new) }
+        ensures none { OnErr result (swaps_of self.new ≡ swaps_of self.old) }
     {
         self.forward_as(name, NO_SEAT)
     }
@@ -62,6 +71,8 @@ impl Book {
         ensures ok { IfOk result (λ e. Learns name.now promise 0 e (book_of self.old) (book_of self.new)) }
         ensures err { IfErr result (λ fault. Tells fault (learn_refusal (book_of self.old) name.now promise)) }
         ensures unchanged { OnErr result (book_of self.new ≡ book_of self.old) }
+        ensures counted { OnOk result (CountsNew self.old self.new) }
+        ensures none { OnErr result (swaps_of self.new ≡ swaps_of self.old) }
     {
         self.learn_as(name, promise, NO_SEAT)
     }
@@ -71,6 +82,8 @@ impl Book {
         ensures ok { IfOk result (λ e. LearnsAt vat promise 0 e (book_of self.old) (book_of self.new)) }
         ensures err { IfErr result (λ fault. Tells fault (learning_refusal (book_of self.old) vat promise)) }
         ensures unchanged { OnErr result (book_of self.new ≡ book_of self.old) }
+        ensures counted { OnOk result (CountsNew self.old self.new) }
+        ensures none { OnErr result (swaps_of self.new ≡ swaps_of self.old) }
     {
         self.learn_at_as(vat, promise, NO_SEAT)
     }

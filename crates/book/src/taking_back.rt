@@ -21,7 +21,6 @@ use causality::selection::{
     first_crossing, first_gap, first_marked, first_missing_cause, first_settled, least_missing,
     positions,
 };
-use cells::swaps::Swaps;
 use ids::names::EventName;
 use journal::entry::{Entry, Mark};
 use journal::journal::Journal;
@@ -182,7 +181,8 @@ fn check_settle(journal: Journal, position: usize) -> Result<usize, BookFault>
 }
 
 impl Book {
-    ghost use Rattle.book.specs.BookView.{book_of};
+    ghost use Rattle.book.specs.BookView.{book_of, swaps_of};
+    ghost use Rattle.book.specs.Counting.{CountsChosen};
 
     /// Takes events back, with the world as if they had never been: nothing is run. Answers how many.
     ///
@@ -192,13 +192,15 @@ impl Book {
         ensures ok { IfOk result (λ count. (undo_refusal (book_of self.old).settled (book_of self.old).journal events.now ≡ None) × Undoes events.now (book_of self.old) (book_of self.new) × (count ≡ length (filter (chosen events.now) (book_of self.old).journal))) }
         ensures err { IfErr result (λ fault. Tells fault (undo_refusal (book_of self.old).settled (book_of self.old).journal events.now)) }
         ensures unchanged { OnErr result (book_of self.new ≡ book_of self.old) }
+        ensures counted { OnOk result (CountsChosen events.now self.old self.new) }
+        ensures none { OnErr result (swaps_of self.new ≡ swaps_of self.old) }
     {
         let names = NameSet::new(self.alloc, events)?;
         let journal = self.core.journal();
         check_undo(self.alloc, journal, &names)?;
         let positions = positions(self.alloc, journal, &names)?;
         self.core.prepare(self.alloc, &positions)?;
-        self.core.undo(&positions, &mut Swaps::none());
+        self.core.undo(&positions);
         self.agenda = None;
         Ok(positions.len())
     }
@@ -211,13 +213,15 @@ impl Book {
         ensures ok { IfOk result (λ count. (redo_refusal (book_of self.old).settled (book_of self.old).journal events.now ≡ None) × Redoes events.now (book_of self.old) (book_of self.new) × (count ≡ length (filter (chosen events.now) (book_of self.old).journal))) }
         ensures err { IfErr result (λ fault. Tells fault (redo_refusal (book_of self.old).settled (book_of self.old).journal events.now)) }
         ensures unchanged { OnErr result (book_of self.new ≡ book_of self.old) }
+        ensures counted { OnOk result (CountsChosen events.now self.old self.new) }
+        ensures none { OnErr result (swaps_of self.new ≡ swaps_of self.old) }
     {
         let names = NameSet::new(self.alloc, events)?;
         let journal = self.core.journal();
         check_redo(self.alloc, journal, &names)?;
         let positions = positions(self.alloc, journal, &names)?;
         self.core.prepare(self.alloc, &positions)?;
-        self.core.redo(&positions, &mut Swaps::none());
+        self.core.redo(&positions);
         self.agenda = None;
         Ok(positions.len())
     }
@@ -233,6 +237,7 @@ impl Book {
         ensures without_memory { IfErr result (λ fault. fault ≢ Memory) }
         ensures told { IfErr result (λ fault. IsSome (told_by fault)) }
         ensures unchanged { OnErr result (book_of self.new ≡ book_of self.old) }
+        ensures counted { swaps_of self.new ≡ swaps_of self.old }
     {
         let (first, second) = check_exchange(self.core.journal(), position)?;
         if self.core.exchange(position - 1) {
@@ -252,6 +257,7 @@ impl Book {
         ensures base { OnOk result (BaseGoesOn (book_of self.old) (book_of self.new)) }
         ensures err { IfErr result (λ fault. Tells fault (settle_refusal (book_of self.old).settled (book_of self.old).journal position)) }
         ensures unchanged { OnErr result (book_of self.new ≡ book_of self.old) }
+        ensures counted { swaps_of self.new ≡ swaps_of self.old }
     {
         let count = check_settle(self.core.journal(), position)?;
         self.core.settle(self.alloc, count)?;

@@ -19,7 +19,6 @@ ghost use Rattle.book.specs.declared.book.TheConstants.{LAST_NAME};
 
 use crate::book::{Book, MOST_ENTRIES, MOST_STEPS, NO_SEAT, Turned, noted};
 use crate::fault::{BookFault, delay_fault, unready_fault};
-use cells::swaps::Swaps;
 use deliveries::lead::Lead;
 use desk::desk::Lent;
 use event::effects::{Effects, turn_effects};
@@ -108,7 +107,8 @@ fn is_lent(found: Option<Lent>, out: &Task) -> bool
 }
 
 impl Book {
-    ghost use Rattle.book.specs.BookView.{book_of};
+    ghost use Rattle.book.specs.BookView.{book_of, swaps_of};
+    ghost use Rattle.book.specs.Counting.{CountsNew};
 
     /// A message that may be delivered with this budget, shared, where it leads, its vat, and the name of its turn.
     fn admit_turn(
@@ -140,7 +140,7 @@ impl Book {
     /// Lends a ticket for the turn of a message, with at most this many steps, to a seat. The ticket shares the vat's state.
     ///
     /// # Errors
-    /// `BadBudget`, `NoMessage`, `NotThere`, `VatOut`, `Before`, `Full`, `Memory`, tried in this order.
+    /// `BadBudget`, `NoMessage`, `NotThere`, `VatOut`, `NotReady`, `Before`, `Full`, `Memory`, tried in this order.
     pub fn checkout(
         &mut self,
         message: MsgId,
@@ -150,6 +150,7 @@ impl Book {
         ensures ok { IfOk result (λ t. (checkout_refusal (book_of self.old) message budget ≡ None) × Lends message budget seat t (book_of self.old) (book_of self.new)) }
         ensures err { IfErr result (λ fault. Tells fault (checkout_refusal (book_of self.old) message budget)) }
         ensures unchanged { OnErr result (book_of self.new ≡ book_of self.old) }
+        ensures counted { swaps_of self.new ≡ swaps_of self.old }
     {
         let (carried, lead, vat, event) = self.admit_turn(message, budget)?;
         let state = self.core.share_vat(self.alloc, vat)?;
@@ -223,6 +224,8 @@ impl Book {
         ensures ok { OnOk result (Commits ran.now (book_of self.old) (book_of self.new)) }
         ensures err { IfErr result (λ fault. TellsCommit fault (book_of self.old) ran.now) }
         ensures unchanged { OnErr result (book_of self.new ≡ book_of self.old) }
+        ensures counted { OnOk result (CountsNew self.old self.new) }
+        ensures none { OnErr result (swaps_of self.new ≡ swaps_of self.old) }
     {
         self.check_known(&ran.carried)?;
         let way = self.check_fresh(ran)?;
@@ -255,8 +258,7 @@ impl Book {
             notes,
             seat: out.seat,
         };
-        self.core
-            .enter(self.alloc, deed, &touched, records, &mut Swaps::none())?;
+        self.core.enter(self.alloc, deed, &touched, records)?;
         self.desk.remove(out.event);
         self.agenda = noted(self.alloc, self.agenda.take(), self.core.world(), &touched);
         Ok(())
@@ -271,6 +273,8 @@ impl Book {
         ensures err { IfErr result (λ r. TellsCommit r.1 (book_of self.old) ticket) }
         ensures back { IfErr result (λ r. r.0 ≡ ticket) }
         ensures unchanged { OnErr result (book_of self.new ≡ book_of self.old) }
+        ensures counted { OnOk result (CountsNew self.old self.new) }
+        ensures none { OnErr result (swaps_of self.new ≡ swaps_of self.old) }
     {
         match self.enter_turn(ticket.ran()) {
             Ok(()) => {
@@ -291,6 +295,7 @@ impl Book {
         ensures gone { OnOk result (book_of self.new ≡ record (book_of self.old) { out = without number (book_of self.old).out }) }
         ensures err { IfErr result (λ fault. (fault ≡ NoTicket) × (is_out number (book_of self.old).out ≡ false)) }
         ensures unchanged { OnErr result (book_of self.new ≡ book_of self.old) }
+        ensures counted { swaps_of self.new ≡ swaps_of self.old }
     {
         if self.desk.remove(number) {
             Ok(())
@@ -308,6 +313,7 @@ impl Book {
     ) -> BookFault
         ensures same { result ≡ fault }
         ensures gone { book_of self.new ≡ record (book_of self.old) { out = without number (book_of self.old).out } }
+        ensures counted { swaps_of self.new ≡ swaps_of self.old }
     {
         ticket.discard();
         self.desk.remove(number);
@@ -317,11 +323,13 @@ impl Book {
     /// Runs the turn of a message, with at most this many steps, and enters what it did: checkout, run and commit.
     ///
     /// # Errors
-    /// `BadBudget`, `NoMessage`, `NotThere`, `VatOut`, `Before`, `Full`, `Memory`, tried in this order.
+    /// `BadBudget`, `NoMessage`, `NotThere`, `VatOut`, `NotReady`, `Before`, `Full`, `Memory`, tried in this order.
     pub fn turn(&mut self, message: MsgId, budget: u32) -> Result<Turned, BookFault>
         ensures ok { IfOk result (λ t. (checkout_refusal (book_of self.old) message budget ≡ None) × ((u : Turn) × TurnsNext t.event message budget u (book_of self.old) (book_of self.new) × (told_of t.ended ≡ u.outcome.told))) }
         ensures err { IfErr result (λ fault. Tells fault (checkout_refusal (book_of self.old) message budget)) }
         ensures unchanged { IfErr result (λ fault. Unturned fault (book_of self.old) (book_of self.new)) }
+        ensures counted { OnOk result (CountsNew self.old self.new) }
+        ensures none { OnErr result (swaps_of self.new ≡ swaps_of self.old) }
     {
         let ticket = self.checkout(message, budget, NO_SEAT)?;
         let ran = match ticket.run() {

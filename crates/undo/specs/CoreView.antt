@@ -3,6 +3,7 @@ use Rattle.std.specs.Prelude.{ℕ, Bool, List, map, length}
 use Rattle.history.specs.Records.{State}
 use Rattle.ids.specs.declared.cells.CellKey.{CellKey}
 use Rattle.worldcells.specs.View.{is_ready}
+use Rattle.worldcells.specs.View as world
 use Rattle.worldcells.specs.Theory.{cells, state_of_world}
 use Rattle.journal.specs.Items.{Item, item_of}
 use Rattle.journal.specs.Journals.{items_in}
@@ -31,3 +32,7 @@ shown core = (items_of core, state_of core)
 -- the cells that can be exchanged with no memory
 abbrev pub ready_of : Core → CellKey → Bool
 ready_of core = is_ready core.world
+
+-- how many exchanges of a record with its cell were made, modulo 2^64
+abbrev pub swaps_of : Core → ℕ
+swaps_of core = world.swaps_of core.world

@@ -1,11 +1,10 @@
 // Records of cells, one after another.
-ghost use Rattle.std.specs.Prelude.{◌≡◌, ◌+◌, ◌%◌, ◌^◌, true, length, OnOk, OnErr};
+ghost use Rattle.std.specs.Prelude.{◌≡◌, true, length, OnOk};
 ghost use Rattle.history.specs.Records.{swap_state, swap_record};
 ghost use Rattle.ids.specs.declared.cells.CellKey.{CellKey};
-ghost use Rattle.worldcells.specs.View.{seen_of_world, is_ready};
+ghost use Rattle.worldcells.specs.View.{seen_of_world, is_ready, swaps_of, RisesBy};
 ghost use Rattle.worldcells.specs.Theory.{cells, state_of_world, kept_of, kepts_of, all_pass};
 
-use cells::swaps::Swaps;
 use std::alloc::{AllocError, Global};
 use worldcells::record::CellRecord;
 use worldcells::world::World;
@@ -20,6 +19,7 @@ pub fn make_rooms(
     ensures ok { OnOk result (all_pass (is_ready world.new) (kepts_of records.now) ≡ true) }
     ensures ready { (k : CellKey) → is_ready world.old k ≡ true → is_ready world.new k ≡ true }
     ensures seen { seen_of_world world.new ≡ seen_of_world world.old }
+    ensures counted { swaps_of world.new ≡ swaps_of world.old }
 {
     for record in records {
         world.make_room(alloc, record.key()?)?;
@@ -27,15 +27,15 @@ pub fn make_rooms(
     Ok(())
 }
 
-/// Exchanges records with their cells, from the first to the last. It takes no memory.
-pub fn swap_records(world: &mut World, records: &mut [CellRecord], swaps: &mut Swaps)
+/// Exchanges records with their cells, from the first to the last. It takes no memory, and counts each.
+pub fn swap_records(world: &mut World, records: &mut [CellRecord])
     requires { all_pass (is_ready world.old) (kepts_of records.old) ≡ true }
     ensures state { state_of_world world.new ≡ swap_state cells (kepts_of records.old) (state_of_world world.old) }
     ensures records { kepts_of records.new ≡ swap_record cells (kepts_of records.old) (state_of_world world.old) }
     ensures ready { is_ready world.new ≡ is_ready world.old }
-    ensures counted { swaps.new % 2 ^ 64 ≡ (swaps.old + length records.old) % 2 ^ 64 }
+    ensures counted { RisesBy (length records.old) (swaps_of world.old) (swaps_of world.new) }
 {
     for record in records.iter_mut() {
-        world.swap_record(record, swaps);
+        world.swap_record(record);
     }
 }

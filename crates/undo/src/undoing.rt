@@ -1,5 +1,5 @@
 // The world, and the journal of the events that wrote it.
-ghost use Rattle.std.specs.Prelude.{◌≡◌, ◌+◌, ◌%◌, ◌^◌, ◌<◌, ◌≤◌, ℕ, if◌then◌else◌, true, false, List, [], ◌∷◌, ◌==◌, None, IfOk, OnOk, OnErr, map, length, reverse, take, All};
+ghost use Rattle.std.specs.Prelude.{◌≡◌, ◌+◌, ◌<◌, ◌≤◌, ℕ, if◌then◌else◌, true, false, List, [], ◌∷◌, ◌==◌, None, IfOk, OnOk, OnErr, map, length, reverse, take, All};
 ghost use Rattle.std.specs.List.{AllByRecursion};
 ghost use Rattle.std.specs.Arc.{arc_value};
 ghost use Rattle.heap.specs.View as heap;
@@ -9,13 +9,12 @@ ghost use Rattle.ids.specs.declared.cells.CellKey.{CellKey};
 ghost use Rattle.erules.specs.OutboxView.{note_of};
 ghost use Rattle.worldcells.specs.Events.{with_notes};
 ghost use Rattle.worldcells.specs.EventView.{event_of};
-ghost use Rattle.worldcells.specs.View.{is_ready};
+ghost use Rattle.worldcells.specs.View.{is_ready, swaps_of as swaps_in, RisesBy};
 ghost use Rattle.worldcells.specs.World.{vat_state};
 ghost use Rattle.worldcells.specs.Theory.{cells, state_of_world, kepts_of, all_pass};
 ghost use Rattle.journal.specs.Items.{item_of, is_live, swap_item, entered, keys_at, all_ready, records_at, may_exchange, neighbours, exchanged};
 
 use crate::records::{make_rooms, swap_records};
-use cells::swaps::Swaps;
 use erules::outbox::Note;
 use heap::state::VatState;
 use ids::cells::CellKey;
@@ -56,18 +55,18 @@ impl Drop for Core {
 }
 
 /// Exchanges the records of an entry with the cells, and marks it. It takes no memory.
-fn swap_one(world: &mut World, entry: &mut Entry, mark: Mark, swaps: &mut Swaps)
+fn swap_one(world: &mut World, entry: &mut Entry, mark: Mark)
     requires { all_pass (is_ready world.old) (item_of entry.old).kept ≡ true }
     ensures item { (item_of entry.new, state_of_world world.new) ≡ swap_item (is_live mark) (item_of entry.old) (state_of_world world.old) }
     ensures ready { is_ready world.new ≡ is_ready world.old }
-    ensures counted { swaps.new % 2 ^ 64 ≡ (swaps.old + length (item_of entry.old).kept) % 2 ^ 64 }
+    ensures counted { RisesBy (length (item_of entry.old).kept) (swaps_in world.old) (swaps_in world.new) }
 {
-    swap_records(world, &mut entry.records, swaps);
+    swap_records(world, &mut entry.records);
     entry.mark = mark;
 }
 
 impl Core {
-    ghost use Rattle.undo.specs.CoreView.{settled_of, open_of, items_of, state_of, shown, ready_of};
+    ghost use Rattle.undo.specs.CoreView.{settled_of, open_of, items_of, state_of, shown, ready_of, swaps_of};
     ghost use Rattle.journal.specs.Journals.{items_of as journal_items};
 
     /// No cells, and no entries.
@@ -75,6 +74,7 @@ impl Core {
         ensures entries { items_of result ≡ [] }
         ensures settled { settled_of result ≡ 0 }
         ensures cells { (k : CellKey) → state_of result k ≡ (None, None) }
+        ensures counted { swaps_of result ≡ 0 }
     {
         Core {
             world: World::new(alloc),
@@ -120,22 +120,23 @@ impl Core {
         ensures shared { IfOk result (λ s. heap.state_of (arc_value s) ≡ vat_state (contents cells (state_of self.old)) vat) }
         ensures shown { shown self.new ≡ shown self.old }
         ensures settled { settled_of self.new ≡ settled_of self.old }
+        ensures counted { swaps_of self.new ≡ swaps_of self.old }
     {
         self.world.share_vat(alloc, vat)
     }
 
     /// Exchanges the records of the entry at a position, which is not settled, with the cells, and marks it. It takes no memory.
-    fn swap_entry(&mut self, position: usize, mark: Mark, swaps: &mut Swaps)
+    fn swap_entry(&mut self, position: usize, mark: Mark)
         requires behind { settled_of self.old ≤ position }
         requires ready { all_ready (ready_of self.old) (items_of self.old) (position ∷ []) ≡ true }
         ensures shown { shown self.new ≡ step_at (swap_item (is_live mark)) position (shown self.old) }
         ensures ready { ready_of self.new ≡ ready_of self.old }
         ensures keys { (p : ℕ) → keys_at (items_of self.new) p ≡ keys_at (items_of self.old) p }
-        ensures counted { swaps.new % 2 ^ 64 ≡ (swaps.old + records_at (items_of self.old) (position ∷ [])) % 2 ^ 64 }
+        ensures counted { RisesBy (records_at (items_of self.old) (position ∷ [])) (swaps_of self.old) (swaps_of self.new) }
         ensures settled { settled_of self.new ≡ settled_of self.old }
     {
         let place = position - self.settled.len();
-        swap_one(&mut self.world, &mut self.entries[place], mark, swaps);
+        swap_one(&mut self.world, &mut self.entries[place], mark);
     }
 
     /// Makes room for all cells of which the entries at these positions, which are not settled, have records, and makes the states of
@@ -147,6 +148,7 @@ impl Core {
         ensures ready { (k : CellKey) → ready_of self.old k ≡ true → ready_of self.new k ≡ true }
         ensures shown { shown self.new ≡ shown self.old }
         ensures settled { settled_of self.new ≡ settled_of self.old }
+        ensures counted { swaps_of self.new ≡ swaps_of self.old }
     {
         for position in positions {
             let place = *position - self.settled.len();
@@ -157,35 +159,35 @@ impl Core {
 
     /// Undoes the entries at these ascending positions, which are not settled, by exchanging their records from the last to the first.
     /// It takes no memory, so it cannot fail.
-    pub fn undo(&mut self, positions: &[usize], swaps: &mut Swaps)
+    pub fn undo(&mut self, positions: &[usize])
         requires behind { All (λ p. settled_of self.old ≤ p) positions.now }
         requires ready { all_ready (ready_of self.old) (items_of self.old) positions.now ≡ true }
         ensures shown { shown self.new ≡ walk (swap_item false) (reverse positions.now) (shown self.old) }
         ensures ready { ready_of self.new ≡ ready_of self.old }
         ensures keys { (p : ℕ) → keys_at (items_of self.new) p ≡ keys_at (items_of self.old) p }
-        ensures counted { swaps.new % 2 ^ 64 ≡ (swaps.old + records_at (items_of self.old) positions.now) % 2 ^ 64 }
+        ensures counted { RisesBy (records_at (items_of self.old) positions.now) (swaps_of self.old) (swaps_of self.new) }
         ensures settled { settled_of self.new ≡ settled_of self.old }
     {
         let mut i = positions.len();
         while i > 0 {
             i -= 1;
-            self.swap_entry(positions[i], Mark::Undone, swaps);
+            self.swap_entry(positions[i], Mark::Undone);
         }
     }
 
     /// Redoes the entries at these ascending positions, which are not settled, by exchanging their records from the first to the last.
     /// It takes no memory, so it cannot fail.
-    pub fn redo(&mut self, positions: &[usize], swaps: &mut Swaps)
+    pub fn redo(&mut self, positions: &[usize])
         requires behind { All (λ p. settled_of self.old ≤ p) positions.now }
         requires ready { all_ready (ready_of self.old) (items_of self.old) positions.now ≡ true }
         ensures shown { shown self.new ≡ walk (swap_item true) positions.now (shown self.old) }
         ensures ready { ready_of self.new ≡ ready_of self.old }
         ensures keys { (p : ℕ) → keys_at (items_of self.new) p ≡ keys_at (items_of self.old) p }
-        ensures counted { swaps.new % 2 ^ 64 ≡ (swaps.old + records_at (items_of self.old) positions.now) % 2 ^ 64 }
+        ensures counted { RisesBy (records_at (items_of self.old) positions.now) (swaps_of self.old) (swaps_of self.new) }
         ensures settled { settled_of self.new ≡ settled_of self.old }
     {
         for position in positions {
-            self.swap_entry(*position, Mark::Live, swaps);
+            self.swap_entry(*position, Mark::Live);
         }
     }
 
@@ -197,12 +199,11 @@ impl Core {
         deed: Deed,
         touched: &[CellKey],
         records: Vec<CellRecord>,
-        swaps: &mut Swaps,
     ) -> Result<(), AllocError>
         ensures ok { OnOk result (shown self.new ≡ entered (with_notes (event_of deed.event) (map note_of deed.notes.items)) deed.seat touched.now (kepts_of records.items) (shown self.old)) }
-        ensures counted { OnOk result (swaps.new % 2 ^ 64 ≡ (swaps.old + length records.items) % 2 ^ 64) }
+        ensures counted { OnOk result (RisesBy (length records.items) (swaps_of self.old) (swaps_of self.new)) }
         ensures err { OnErr result (shown self.new ≡ shown self.old) }
-        ensures none { OnErr result (swaps.new ≡ swaps.old) }
+        ensures none { OnErr result (swaps_of self.new ≡ swaps_of self.old) }
         ensures settled { settled_of self.new ≡ settled_of self.old }
     {
         make_rooms(alloc, &mut self.world, &records)?;
@@ -216,7 +217,7 @@ impl Core {
             touched,
             records,
         })?;
-        self.swap_entry(position, Mark::Live, swaps);
+        self.swap_entry(position, Mark::Live);
         Ok(())
     }
 
@@ -229,6 +230,7 @@ impl Core {
         ensures shown { shown self.new ≡ (if result then exchanged position (items_of self.old) else items_of self.old, state_of self.old) }
         ensures ready { ready_of self.new ≡ ready_of self.old }
         ensures settled { settled_of self.new ≡ settled_of self.old }
+        ensures counted { swaps_of self.new ≡ swaps_of self.old }
     {
         let place = position - self.settled.len();
         if !may_exchange(&self.entries[place], &self.entries[place + 1]) {
@@ -246,6 +248,7 @@ impl Core {
         ensures shown { shown self.new ≡ shown self.old }
         ensures ok { OnOk result (settled_of self.new ≡ settled_of self.old + count) }
         ensures err { OnErr result (settled_of self.new ≡ settled_of self.old) }
+        ensures counted { swaps_of self.new ≡ swaps_of self.old }
     {
         let mut settled = Settled::of_all(alloc, &self.entries[..count])?;
         self.settled.append(&mut settled)?;

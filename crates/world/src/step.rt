@@ -21,7 +21,6 @@ ghost use Rattle.event.specs.Naming.{Numbers};
 ghost use Rattle.world.specs.Steps.{StepsTo, TellsStep, Learnable, Ready, RunsAt, Unlearnable, Unnamed, Unready as IsUnready};
 ghost use Rattle.world.specs.declared.step.StepFault.TheVariants.{Memory};
 
-use cells::swaps::Swaps;
 use deliveries::lead::Lead;
 use erules::outbox::Letter;
 use event::effects::{
@@ -366,6 +365,6 @@ pub fn step(alloc: Global, world: &mut World, event: &Event) -> Result<(), StepF
         notes: _,
     } = effects_of(alloc, world, event)?;
     make_rooms(alloc, world, &records)?;
-    swap_records(world, &mut records, &mut Swaps::none());
+    swap_records(world, &mut records);
     Ok(())
 }

@@ -1,5 +1,5 @@
 -- What the program's worlds stand for.
-use Rattle.std.specs.Prelude.{Bool}
+use Rattle.std.specs.Prelude.{◌≡◌, ℕ, ◌+◌, ◌%◌, ◌^◌, Bool}
 use Rattle.cells.specs.Seen.{Seen}
 use Rattle.cells.specs.Seen as cells
 use Rattle.ids.specs.KeyLaws.{same_two}
@@ -46,3 +46,11 @@ is_ready w (key.View v p) = ready_of_homes w.homes (key.View v p)
 is_ready w (key.Fence v r) = ready_of_homes w.homes (key.Fence v r)
 is_ready w (key.Msg m) = cells.has_room same_message w.messages m
 is_ready w (key.Board p) = cells.has_room same_promise w.board p
+
+-- how many times a cell was exchanged with a record in a world, modulo 2^64
+abbrev pub swaps_of : World → ℕ
+swaps_of w = w.swaps
+
+-- such a count rose by so many
+abbrev pub RisesBy : ℕ → ℕ → ℕ → Type 0
+RisesBy n before now = now % 2 ^ 64 ≡ (before + n) % 2 ^ 64

@@ -36,6 +36,8 @@ pub struct World {
     homes: Homes,
     messages: CellStore<MsgId, Message>,
     board: CellStore<PromId, Published>,
+    /// How many exchanges were made.
+    swaps: Swaps,
 }
 
 // By hand, so that what drops one elsewhere calls this and is not proved anew for all that it holds.
@@ -46,23 +48,26 @@ impl Drop for World {
             homes: _,
             messages: _,
             board: _,
+            swaps: _,
         } = self;
     }
 }
 
 impl World {
     ghost use Rattle.worldcells.specs.Exchanged.{hold};
-    ghost use Rattle.worldcells.specs.View.{world_of, seen_of_world, is_ready};
+    ghost use Rattle.worldcells.specs.View.{world_of, seen_of_world, is_ready, swaps_of};
 
     /// The world in which nothing has happened.
     pub fn new(alloc: Global) -> World
-        ensures { (k : CellKey) → seen_of_world result k ≡ (None, None) }
+        ensures nothing { (k : CellKey) → seen_of_world result k ≡ (None, None) }
+        ensures counted { swaps_of result ≡ 0 }
     {
         World {
             names: CellStore::new(alloc),
             homes: Homes::new(alloc),
             messages: CellStore::new(alloc),
             board: CellStore::new(alloc),
+            swaps: Swaps::none(),
         }
     }
 
@@ -123,6 +128,7 @@ impl World {
         ensures ok { OnOk result (is_ready self.new key ≡ true) }
         ensures ready { (k : CellKey) → is_ready self.old k ≡ true → is_ready self.new k ≡ true }
         ensures seen { seen_of_world self.new ≡ seen_of_world self.old }
+        ensures counted { swaps_of self.new ≡ swaps_of self.old }
     {
         match key {
             CellKey::Name(name) => self.names.make_room(name),
@@ -141,27 +147,28 @@ impl World {
     pub fn share_vat(&mut self, alloc: Global, vat: VatNo) -> Result<Arc<VatState>, AllocError>
         ensures shared { IfOk result (λ s. state_of (arc_value s) ≡ vat_state (world_of self.old) vat) }
         ensures seen { seen_of_world self.new ≡ seen_of_world self.old }
+        ensures counted { swaps_of self.new ≡ swaps_of self.old }
     {
         self.homes.share(alloc, vat)
     }
 
-    /// Exchanges what the record has with what its cell has. It takes no memory.
-    pub fn swap_record(&mut self, kept: &mut CellRecord, swaps: &mut Swaps)
+    /// Exchanges what the record has with what its cell has. It takes no memory, and counts one exchange.
+    pub fn swap_record(&mut self, kept: &mut CellRecord)
         requires { is_ready self.old (record_of kept.old).0 ≡ true }
         ensures seen { seen_of_world self.new ≡ hold (seen_of_world self.old) (record_of kept.old).0 (record_of kept.old).1 }
         ensures exchanged { record_of kept.new ≡ ((record_of kept.old).0, seen_of_world self.old (record_of kept.old).0) }
         ensures ready { is_ready self.new ≡ is_ready self.old }
-        ensures counted { swaps.new ≡ (swaps.old + 1) % 2 ^ 64 }
+        ensures counted { swaps_of self.new ≡ (swaps_of self.old + 1) % 2 ^ 64 }
     {
         match kept {
-            CellRecord::Name(kept) => self.names.swap_record(kept, swaps),
-            CellRecord::Slot(kept) => self.homes.swap_slot(kept, swaps),
-            CellRecord::Object(kept) => self.homes.swap_object(kept, swaps),
-            CellRecord::Top(vat, kept) => self.homes.swap_top(*vat, kept, swaps),
-            CellRecord::View(vat, kept) => self.homes.swap_view(*vat, kept, swaps),
-            CellRecord::Fence(vat, kept) => self.homes.swap_fence(*vat, kept, swaps),
-            CellRecord::Msg(kept) => self.messages.swap_record(kept, swaps),
-            CellRecord::Board(kept) => self.board.swap_record(kept, swaps),
+            CellRecord::Name(kept) => self.names.swap_record(kept, &mut self.swaps),
+            CellRecord::Slot(kept) => self.homes.swap_slot(kept, &mut self.swaps),
+            CellRecord::Object(kept) => self.homes.swap_object(kept, &mut self.swaps),
+            CellRecord::Top(vat, kept) => self.homes.swap_top(*vat, kept, &mut self.swaps),
+            CellRecord::View(vat, kept) => self.homes.swap_view(*vat, kept, &mut self.swaps),
+            CellRecord::Fence(vat, kept) => self.homes.swap_fence(*vat, kept, &mut self.swaps),
+            CellRecord::Msg(kept) => self.messages.swap_record(kept, &mut self.swaps),
+            CellRecord::Board(kept) => self.board.swap_record(kept, &mut self.swaps),
         }
     }
 

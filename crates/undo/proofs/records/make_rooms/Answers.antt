@@ -7,10 +7,14 @@ use Rattle.undo.proofs.records.make_rooms.Goals as goal
 pub returns-in_err-make_room-clause-seen : goal.returns-in_err-make_room-clause-seen
 returns-in_err-make_room-clause-seen c = c.make_room.ensures.seen ∙ c.loop-record.invariant.seen
 
+pub returns-in_err-make_room-clause-counted : goal.returns-in_err-make_room-clause-counted
+returns-in_err-make_room-clause-counted c = c.make_room.ensures.counted ∙ c.loop-record.invariant.counted
+
 pub loop-record-preserved : goal.loop-record-preserved
 loop-record-preserved c = record {
   seen = c.make_room.ensures.seen ∙ c.loop-record.invariant.seen;
   ready = λ k h. c.make_room.ensures.ready k (c.loop-record.invariant.ready k h);
+  counted = c.make_room.ensures.counted ∙ c.loop-record.invariant.counted;
   made =
       let xs = c.args.records.now in
       let new = is_ready c.make_room.new.self in

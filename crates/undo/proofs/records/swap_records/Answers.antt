@@ -1,6 +1,6 @@
 use Rattle.std.proofs.Common.{◌∙◌, ◌<◌, ◌^◌, length, get_or, ap, arith}
 use Rattle.worldcells.specs.Records.{record_of}
-use Rattle.worldcells.specs.View.{seen_of_world, is_ready}
+use Rattle.worldcells.specs.View.{seen_of_world, is_ready, swaps_of}
 use Rattle.worldcells.specs.Theory.{numbered, state_of_world, kept_of}
 use Rattle.undo.proofs.Looping.{rest_more, done_more, fits_more, held, counted_more}
 use Rattle.undo.proofs.records.swap_records.Goals as goal
@@ -21,5 +21,5 @@ loop-record-preserved c =
       fits = rw (c.swap_record.ensures.ready) (fits_more kept_of xs i x y w v h state rec (is_ready c.loop-record.world) c.loop-record.invariant.fits);
       rest = rest_more kept_of xs i x y w v h state rec ∙ c.loop-record.invariant.rest;
       done = done_more kept_of xs i x y w v h state rec ∙ c.loop-record.invariant.done;
-      counted = counted_more (2 ^ 64) c.loop-record.swaps c.swap_record.new.swaps c.args.swaps.now i c.loop-record.invariant.counted c.swap_record.ensures.counted;
+      counted = counted_more (2 ^ 64) (swaps_of c.loop-record.world) (swaps_of c.swap_record.new.self) (swaps_of c.args.world.now) i c.loop-record.invariant.counted c.swap_record.ensures.counted;
     }

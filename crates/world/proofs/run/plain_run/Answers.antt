@@ -8,7 +8,7 @@ use Rattle.world.proofs.Going.{Joined, joined_start, joined_step, joined_end, te
 use Rattle.world.proofs.run.plain_run.Goals as goal
 
 pub loop-event-init : goal.loop-event-init
-loop-event-init c = joined_start (world_of c.new-world.result) (map event_of c.args.events.now) (λ i k. (c.new-world.ensures k i).0)
+loop-event-init c = joined_start (world_of c.new-world.result) (map event_of c.args.events.now) (λ i k. (c.new-world.ensures.nothing k i).0)
 
 pub returns-clause-ok : goal.returns-clause-ok
 returns-clause-ok c =

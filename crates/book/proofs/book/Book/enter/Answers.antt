@@ -1,4 +1,5 @@
-use Rattle.std.proofs.Common.{◌≡◌, List, [], Option, map, ap, sym, subst, ◌∙◌}
+use Rattle.std.proofs.Common.{◌≡◌, List, [], Option, length, map, ap, sym, subst, ◌∙◌}
+use Rattle.std.proofs.lemmas.List.{length-map}
 use Rattle.history.specs.Records.{contents}
 use Rattle.ids.specs.declared.cells.CellKey.{CellKey}
 use Rattle.agenda.specs.Agendas.{AlikeBut}
@@ -7,11 +8,12 @@ use Rattle.erules.specs.OutboxView.{note_of}
 use Rattle.erules.specs.declared.outbox.Note.{Note}
 use Rattle.worldcells.specs.Events.{with_notes}
 use Rattle.worldcells.specs.EventView.{event_of}
-use Rattle.worldcells.specs.Theory.{cells, kepts_of}
+use Rattle.worldcells.specs.Theory.{cells, kept_of, kepts_of}
 use Rattle.journal.specs.Items.{entered}
 use Rattle.desk.specs.DeskView.{out_of}
-use Rattle.undo.specs.CoreView.{shown, state_of}
+use Rattle.undo.specs.CoreView.{shown, state_of, swaps_of}
 use Rattle.book.proofs.Entering.{stands_same, quiet_does, next_stands, next_enters}
+use Rattle.book.proofs.Counting.{entered_counts}
 use Rattle.book.proofs.Noting.{Noted, noted_same, noted_next, entered_alike}
 use Rattle.book.specs.BookView.{book_of}
 use Rattle.book.proofs.Within.{within_same, within_entered, one_more, room_for_names}
@@ -64,3 +66,10 @@ returns-clause-ok c = λ f h.
     c.in_ok-enter.ensures.ok ∙ ap (λ t. entered (with_notes e (map note_of c.args.effects.notes.items)) c.args.seat t kept (shown old)) c.deref.ensures.value
     ∙ ap (λ (ns : List Note). entered (with_notes e (map note_of ns)) c.args.seat c.args.effects.touched.items kept (shown old)) c.requires.quiet in
     next_enters old c.enter.new.self c.args.self.now.next (out_of c.args.self.now.desk) e c.args.seat c.args.effects.touched.items kept f h.brings is c.requires.named c.args.self.now.stands (quiet_does h c.requires.quiet) c.enter.ensures.settled
+
+pub returns-clause-counted : goal.returns-clause-counted
+returns-clause-counted c =
+    let old = c.args.self.now.core in
+    let notes = with_notes (event_of c.args.event) (map note_of c.args.effects.notes.items) in
+    let records = c.args.effects.records.items in
+    entered_counts old c.enter.new.self notes c.args.seat c.deref.result.now (kepts_of records) (length records) (swaps_of old) (swaps_of c.enter.new.self) c.in_ok-enter.ensures.ok (sym (length-map records kept_of)) c.in_ok-enter.ensures.counted

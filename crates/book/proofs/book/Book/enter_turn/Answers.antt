@@ -1,7 +1,8 @@
-use Rattle.std.proofs.Common.{rules, ◌≡◌, ◌∙◌, List, Option, map, refl, ap, sym, subst}
+use Rattle.std.proofs.Common.{rules, ◌≡◌, ◌∙◌, List, Option, length, map, refl, ap, sym, subst}
 use Rattle.ids.specs.declared.cells.CellKey.{CellKey}
 use Rattle.agenda.specs.Agendas.{AlikeBut}
 use Rattle.agenda.specs.declared.agenda.Agenda.{Agenda}
+use Rattle.std.proofs.lemmas.List.{length-map}
 use Rattle.std.proofs.lemmas.Result.{err_from_is_err_and}
 use Rattle.history.specs.Records.{contents}
 use Rattle.desk.specs.DeskView.{out_of}
@@ -10,10 +11,10 @@ use Rattle.erules.specs.Outbox.{Note}
 use Rattle.erules.specs.OutboxView.{note_of, outbox_of}
 use Rattle.worldcells.specs.Events as world
 use Rattle.worldcells.specs.Events.{Event, turn, with_notes}
-use Rattle.worldcells.specs.Theory.{cells, kepts_of}
-use Rattle.worldcells.specs.View.{world_of}
+use Rattle.worldcells.specs.Theory.{cells, kept_of, kepts_of}
+use Rattle.worldcells.specs.View.{world_of, RisesBy}
 use Rattle.event.specs.Events.{turn_foot}
-use Rattle.undo.specs.CoreView.{shown, state_of}
+use Rattle.undo.specs.CoreView.{shown, state_of, swaps_of}
 use Rattle.book.specs.BookView.{book_of}
 use Rattle.book.specs.Calls.{strange, no_room, turn_in}
 use Rattle.book.specs.Fault.{TellsCommit}
@@ -22,6 +23,7 @@ use Rattle.book.specs.declared.fault.BookFault.{BookFault}
 use Rattle.book.proofs.Entering.{stands_same}
 use Rattle.book.proofs.Committing.{committed_turn, committed_stands, sent_new}
 use Rattle.book.proofs.Freshness.{brought, stale_commit}
+use Rattle.book.proofs.Counting.{entered_counts}
 use Rattle.book.proofs.Noting.{Noted, noted_same, noted_next, entered_alike}
 use Rattle.book.proofs.Within.{within_same, within_entered, one_more}
 use Rattle.book.proofs.book.Book.enter_turn.Goals as goal
@@ -105,3 +107,14 @@ returns-clause-ok c =
       same_next = refl;
       out = c.remove.ensures.rest;
     }
+
+pub returns-clause-counted : goal.returns-clause-counted
+returns-clause-counted c =
+    let b = c.args.self.now in
+    let r = c.args.ran.now in
+    let e : Event = record { name = r.carried.event; act = turn r.carried.vat r.carried.name r.carried.budget } in
+    let n : world.Noted = with_notes e (map note_of c.in_ok-touched.notes.items) in
+    let records = c.in_ok-touched.records.items in
+    let entered_as : shown c.enter.new.self ≡ entered n r.carried.seat c.deref.result.now (kepts_of records) (shown b.core) = search rules in
+    let counted : RisesBy (length records) (swaps_of b.core) (swaps_of c.enter.new.self) = search rules in
+    entered_counts b.core c.enter.new.self n r.carried.seat c.deref.result.now (kepts_of records) (length records) (swaps_of b.core) (swaps_of c.enter.new.self) entered_as (sym (length-map records kept_of)) counted

@@ -1,16 +1,22 @@
-use Rattle.std.proofs.Common.{sym, subst}
+use Rattle.std.proofs.Common.{List, ap, sym, subst}
+use Rattle.history.specs.Records as theory
 use Rattle.heap.specs.State.{State}
 use Rattle.post.specs.MessageView.{published_of}
 use Rattle.worldcells.specs.Events.{learn}
 use Rattle.worldcells.specs.World.{vat_state}
+use Rattle.worldcells.specs.Theory.{cells}
 use Rattle.event.specs.Learning.{Learns}
 use Rattle.event.specs.Effects.{BringsLearnt, Happens}
+use Rattle.journal.specs.Items.{Item}
+use Rattle.journal.specs.Lines.{lines_of}
+use Rattle.undo.specs.CoreView.{items_of, swaps_of}
 use Rattle.desk.specs.DeskView.{out_of}
 use Rattle.book.specs.Books.{Book}
 use Rattle.book.specs.BookView.{book_of}
 use Rattle.book.specs.Calls.{EntersNext}
 use Rattle.book.proofs.Admitting.{learnt_happens}
 use Rattle.book.proofs.Entering.{stands_same, book_same}
+use Rattle.book.proofs.Counting.{counts_from}
 use Rattle.book.proofs.Noting.{noted_same}
 use Rattle.book.proofs.Within.{within_same}
 use Rattle.book.proofs.book.Book.learn_at_as.Goals as goal
@@ -61,3 +67,9 @@ returns-clause-ok c =
     let h = learnt_happens b.world v p e q c.in_ok-effects.effects c.in_ok-event.ensures.ok.can (c.in_ok-effects.ensures b.world q learns) in
     let enters = c.in_ok-enter.ensures.ok h.0 (subst (λ (k : Book). Happens (record { name = e; act = learn v p }) h.0 k.world c.in_ok-effects.effects) (sym same) h.1) in
     (c.in_ok-event.ensures.ok.refusal, (h.0, subst (λ (k : Book). EntersNext (record { name = e; act = learn v p }) h.0 c.args.seat k (book_of c.enter.new.self)) same enters))
+
+pub returns-clause-counted : goal.returns-clause-counted
+returns-clause-counted c =
+    let b = c.args.self.now in
+    let same = ap (λ (j : List Item × theory.State cells). lines_of j.0) c.share_vat.ensures.shown in
+    counts_from (lines_of (items_of b.core)) (lines_of (items_of c.share_vat.new.self)) (book_of c.enter.new.self).journal (swaps_of b.core) (swaps_of c.share_vat.new.self) (swaps_of c.enter.new.self.core) same c.share_vat.ensures.counted c.in_ok-enter.ensures.counted

@@ -1,5 +1,5 @@
-use Rattle.std.proofs.Common.{◌≡◌, Some, None, ap, sym, subst}
-use Rattle.std.proofs.lemmas.Result.{IfOk-weaker, IfErr-weaker}
+use Rattle.std.proofs.Common.{◌≡◌, ◌∙◌, Some, None, ap, sym, subst}
+use Rattle.std.proofs.lemmas.Result.{IfOk-weaker, IfErr-weaker, on_ok_weaker, on_err_weaker}
 use Rattle.kernele.specs.Tree.{Name}
 use Rattle.post.specs.MessageView.{vat_of}
 use Rattle.worldcells.specs.Events.{learn}
@@ -7,12 +7,13 @@ use Rattle.worldcells.specs.World.{vat_in, vat_named}
 use Rattle.event.specs.Events.{Foot}
 use Rattle.agenda.specs.Agendas.{KnownAs, can_learn}
 use Rattle.book.specs.Books.{Book}
-use Rattle.book.specs.BookView.{book_of}
+use Rattle.book.specs.BookView.{book_of, swaps_of}
 use Rattle.book.specs.Calls.{EntersNext}
 use Rattle.book.specs.Fault.{Tells}
 use Rattle.book.specs.Learning.{TellsNamed}
 use Rattle.book.specs.Refusals.{learning_refusal}
 use Rattle.book.specs.declared.fault.BookFault.TheVariants as fault
+use Rattle.book.proofs.Counting.{counts_from}
 use Rattle.book.proofs.Learnings.{tells_nameless, tells_unknown, tells_known, learns_known}
 use Rattle.book.proofs.book.Book.learn_named.Goals as goal
 
@@ -53,3 +54,14 @@ returns-in-Some-2-clause-ok c =
     IfOk-weaker c.learn_at_as.result _ _ (λ e h.
     let k = subst (λ (o : Book). (learning_refusal o v.number p ≡ None) × ((f : Foot) × EntersNext (record { name = e; act = learn v.number p }) f 0 o now)) c.in_ok-promise.ensures.same h in
     learns_known b x c.args.event c.args.index v named p known e now k.0 k.1.0 k.1.1) c.learn_at_as.ensures.ok
+
+pub returns-in-Some-2-clause-counted : goal.returns-in-Some-2-clause-counted
+returns-in-Some-2-clause-counted c =
+    let s = c.args.self.now in
+    let mid = c.known_as.new.self in
+    let now = c.learn_at_as.new.self in
+    let same = ap (λ (b : Book). b.journal) c.in_ok-promise.ensures.same in
+    on_ok_weaker c.learn_at_as.result (counts_from (book_of s).journal (book_of mid).journal (book_of now).journal (swaps_of s) (swaps_of mid) (swaps_of now) same c.known_as.ensures.counted) c.learn_at_as.ensures.counted
+
+pub returns-in-Some-2-clause-none : goal.returns-in-Some-2-clause-none
+returns-in-Some-2-clause-none c = on_err_weaker c.learn_at_as.result (λ e. e ∙ c.known_as.ensures.counted) c.learn_at_as.ensures.none

@@ -10,5 +10,5 @@ invariant_of-result-clause-stands c = blank_stands c.new.result (out_of c.new-2.
 pub invariant_of-result-clause-within : goal.invariant_of-result-clause-within
 invariant_of-result-clause-within c = let none = ap length c.new.ensures.entries in omega (arith, none)
 
-pub returns : goal.returns
-returns c = λ i. record { world = λ k. (c.new.ensures.cells k i).0; journal = lines_of (c.new.ensures.entries i); settled = c.new.ensures.settled i; next = 1; out = c.new-2.ensures i }
+pub returns-clause-blank : goal.returns-clause-blank
+returns-clause-blank c = λ i. record { world = λ k. (c.new.ensures.cells k i).0; journal = lines_of (c.new.ensures.entries i); settled = c.new.ensures.settled i; next = 1; out = c.new-2.ensures i }

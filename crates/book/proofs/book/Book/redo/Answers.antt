@@ -1,8 +1,10 @@
-use Rattle.std.proofs.Common.{rules, arith, true, ◌≡◌, ◌∙◌, ℕ, ◌≤◌, List, All, None, length, sym, ap, ap₂, subst}
+use Rattle.std.proofs.Common.{rules, arith, true, ◌≡◌, ◌∙◌, ℕ, ◌≤◌, List, All, None, length, ◌+◌, ◌%◌, ◌^◌, sym, ap, ap₂, subst}
 use Rattle.std.specs.Vec.{vec_len}
 use Rattle.history.specs.Walks.{walk}
+use Rattle.history.specs.Records.{State}
 use Rattle.ids.specs.declared.names.EventName.{EventName}
-use Rattle.journal.specs.Items.{Item, swap_item}
+use Rattle.worldcells.specs.Theory.{cells}
+use Rattle.journal.specs.Items.{Item, records_at, swap_item}
 use Rattle.journal.specs.Lines.{lines_of}
 use Rattle.causality.specs.Journals.{IsJournal}
 use Rattle.causality.specs.Selections.{places_from}
@@ -10,6 +12,7 @@ use Rattle.journal.specs.Journals.{items_of as journal_items}
 use Rattle.undo.specs.CoreView.{items_of, settled_of, state_of, shown}
 use Rattle.desk.specs.DeskView.{out_of}
 use Rattle.book.specs.Refusals.{redo_refusal}
+use Rattle.book.proofs.Counting.{records_chosen}
 use Rattle.book.proofs.Choosing.{stands_journal, places_within, places_count}
 use Rattle.book.proofs.Entering.{stands_same}
 use Rattle.book.proofs.Redoing.{redone_stands, book_redone}
@@ -85,3 +88,13 @@ returns-clause-ok c =
       book_redone b.core c.redo.new.self b.next (out_of b.desk) events c.deref-2.result.now ok at is b.stands (c.redo.ensures.settled ∙ c.prepare.ensures.settled),
       c.len.ensures ∙ many ∙ ap length (sym c.deref-2.ensures.value ∙ at) ∙ places_count 0 events (lines_of (items_of b.core)),
     )
+
+pub returns-clause-counted : goal.returns-clause-counted
+returns-clause-counted c =
+    let b = c.args.self.now in
+    let events = c.args.events.now in
+    let at : c.deref-2.result.now ≡ places_from 0 events (lines_of (items_of b.core)) =
+    c.deref-2.ensures.value ∙ c.in_ok-positions.ensures.places ∙ ap (λ (names : List EventName). places_from 0 names (lines_of (journal_items c.journal-journal.result))) c.in_ok-names.ensures
+    ∙ ap (λ (items : List Item). places_from 0 events (lines_of items)) c.journal-journal.ensures.items in
+    let items : items_of c.prepare.new.self ≡ items_of b.core = ap (λ (j : List Item × State cells). j.0) c.prepare.ensures.shown in
+    c.redo.ensures.counted ∙ ap₂ (λ s n. (s + n) % 2 ^ 64) c.prepare.ensures.counted (ap₂ records_at items at ∙ records_chosen events (items_of b.core))

@@ -7,13 +7,14 @@ use Rattle.turn.specs.declared.ticket.Out.{Out}
 use Rattle.turn.specs.declared.ticket.Task.{Task}
 use Rattle.turn.specs.declared.ticket.Ran.{Ran}
 use Rattle.book.specs.Books.{Book}
-use Rattle.book.specs.BookView.{book_of}
+use Rattle.book.specs.BookView.{book_of, swaps_of}
 use Rattle.book.specs.Calls.{lent_of, turn_in}
 use Rattle.book.specs.Fault.{Tells, Unturned}
 use Rattle.book.specs.Refusals.{checkout_refusal}
 use Rattle.desk.specs.Desks.{without}
 use Rattle.book.specs.declared.fault.BookFault.{BookFault}
 use Rattle.book.proofs.Committing.{memory_alone, turned, struck}
+use Rattle.book.proofs.Counting.{counts_from}
 use Rattle.book.proofs.TicketsOut.{lent_without}
 use Rattle.book.proofs.book.Book.turn.Goals as goal
 
@@ -76,3 +77,19 @@ returns-in-Err-commit-clause-unchanged c =
     let memory = memory_alone c.args.message c.args.budget 0 t b mid c.in-Ok.ran lent.1 c.in-Ok.ensures.ok c.in-Ok.ensures.found lent.0 c.in-Err-commit.fault c.in-Err-commit.ensures.err in
     subst (λ (f : BookFault). Unturned f b (book_of c.drop_turn-in-Err-commit.new.self)) (sym (c.drop_turn-in-Err-commit.ensures.same ∙ memory))
     (inr (struck c.args.message c.args.budget 0 t b mid _ c.ran.result.now.carried.event lent.1 number back gone))
+
+pub returns-in-Ok-commit-clause-counted : goal.returns-in-Ok-commit-clause-counted
+returns-in-Ok-commit-clause-counted c =
+    let s = c.args.self.now in
+    let mid = c.checkout.new.self in
+    let same = ap (λ (b : Book). b.journal) c.in_ok-ticket.ensures.ok.1.lent in
+    counts_from (book_of s).journal (book_of mid).journal (book_of c.commit.new.self).journal (swaps_of s) (swaps_of mid) (swaps_of c.commit.new.self) same c.checkout.ensures.counted c.in-Ok-commit.ensures.counted
+
+pub returns-in-Err-clause-none : goal.returns-in-Err-clause-none
+returns-in-Err-clause-none c = c.drop_turn.ensures.counted ∙ c.checkout.ensures.counted
+
+pub returns-in_default-clause-none : goal.returns-in_default-clause-none
+returns-in_default-clause-none c = c.drop_turn-in_default.ensures.counted ∙ c.checkout.ensures.counted
+
+pub returns-in-Err-commit-clause-none : goal.returns-in-Err-commit-clause-none
+returns-in-Err-commit-clause-none c = c.drop_turn-in-Err-commit.ensures.counted ∙ c.in-Err-commit.ensures.none ∙ c.checkout.ensures.counted

@@ -73,5 +73,5 @@ returns-clause-counted c =
     let e : Entry = record { event = c.args.deed.event; notes = c.args.deed.notes; seat = c.args.deed.seat; mark = mark.Live; touched = c.in_ok-touched.touched; records = c.args.records } in
     let at : c.len.result + c.len-2.result ≡ length ss + length xs = omega (arith, n) in
     c.swap_entry.ensures.counted
-    ∙ ap (λ k. (c.args.swaps.now + k) % 2 ^ 64) (count_behind ss (map item_of c.push.new.self.items) (c.len.result + c.len-2.result) (length xs) at
+    ∙ ap₂ (λ s k. (s + k) % 2 ^ 64) c.make_rooms.ensures.counted (count_behind ss (map item_of c.push.new.self.items) (c.len.result + c.len-2.result) (length xs) at
     ∙ ap (λ l. records_at (map item_of l) (length xs ∷ [])) c.in_ok-push.ensures.items ∙ count_last xs e ∙ length-map c.args.records.items kept_of)

@@ -13,6 +13,9 @@ use Rattle.undo.proofs.undoing.Core.prepare.Goals as goal
 pub returns-in_err-make_rooms-clause-shown : goal.returns-in_err-make_rooms-clause-shown
 returns-in_err-make_rooms-clause-shown c = λ j. (items_in (c.loop-position.invariant.settled j).items (c.loop-position.invariant.entries j).items, (ap (λ f k. numbered (f k)) c.make_rooms.ensures.seen ∙ c.loop-position.invariant.state) j)
 
+pub returns-in_err-make_rooms-clause-counted : goal.returns-in_err-make_rooms-clause-counted
+returns-in_err-make_rooms-clause-counted c = c.make_rooms.ensures.counted ∙ c.loop-position.invariant.counted
+
 pub loop-position-preserved : goal.loop-position-preserved
 loop-position-preserved c =
     let ps = c.args.positions.now in
@@ -38,6 +41,7 @@ loop-position-preserved c =
     ∙ ap (λ l. all_pass now (kepts_of l)) (sym c.deref.ensures.value) ∙ c.in_ok-make_rooms.ensures.ok in
     record {
       settled = c.loop-position.invariant.settled;
+      counted = c.make_rooms.ensures.counted ∙ c.loop-position.invariant.counted;
       entries = c.loop-position.invariant.entries;
       state = ap (λ f k. numbered (f k)) c.make_rooms.ensures.seen ∙ c.loop-position.invariant.state;
       ready = λ k g. c.make_rooms.ensures.ready k (c.loop-position.invariant.ready k g);

@@ -1,6 +1,6 @@
 use Rattle.std.proofs.Common.{◌<◌, ◌≤◌, ◌+◌, ◌%◌, ◌^◌, true, length, drop, get_or, sym, ap, ◌∙◌, subst, arith}
 use Rattle.history.specs.Walks.{walk}
-use Rattle.undo.specs.CoreView.{items_of, shown, ready_of}
+use Rattle.undo.specs.CoreView.{items_of, shown, ready_of, swaps_of}
 use Rattle.journal.specs.Items.{keys_at, pass, swap_item}
 use Rattle.undo.proofs.Looping.{counted_on}
 use Rattle.undo.proofs.Positions.{pass_at, pass_same, count_same, count_on, walk_on}
@@ -35,7 +35,7 @@ loop-position-preserved c =
       ready = c.swap_entry.ensures.ready ∙ c.loop-position.invariant.ready;
       keys = λ q. c.swap_entry.ensures.keys q ∙ c.loop-position.invariant.keys q;
       rest = ap (walk (swap_item true) (drop (i + 1) ps)) c.swap_entry.ensures.shown ∙ walk_on (swap_item true) ps i (shown c.loop-position.self) h ∙ c.loop-position.invariant.rest;
-      counted = counted_on (2 ^ 64) c.args.swaps.now c.loop-position.swaps c.swap_entry.new.swaps _ _ c.loop-position.invariant.counted
-          (c.swap_entry.ensures.counted ∙ ap (λ n. (c.loop-position.swaps + n) % 2 ^ 64) (count_same (items_of c.loop-position.self) items p (c.loop-position.invariant.keys p)))
-          ∙ ap (λ n. (c.args.swaps.now + n) % 2 ^ 64) (count_on items ps i h);
+      counted = counted_on (2 ^ 64) (swaps_of c.args.self.now) (swaps_of c.loop-position.self) (swaps_of c.swap_entry.new.self) _ _ c.loop-position.invariant.counted
+          (c.swap_entry.ensures.counted ∙ ap (λ n. (swaps_of c.loop-position.self + n) % 2 ^ 64) (count_same (items_of c.loop-position.self) items p (c.loop-position.invariant.keys p)))
+          ∙ ap (λ n. (swaps_of c.args.self.now + n) % 2 ^ 64) (count_on items ps i h);
     }

@@ -5,7 +5,7 @@ use Rattle.history.specs.Walks.{step_at}
 use Rattle.worldcells.specs.Theory.{cells, state_of_world, all_pass}
 use Rattle.journal.specs.Items.{Item, item_of, is_live, swap_item, keys_at, all_ready, records_at}
 use Rattle.journal.specs.Journals.{settled_item}
-use Rattle.undo.specs.CoreView.{ready_of}
+use Rattle.undo.specs.CoreView.{ready_of, swaps_of}
 use Rattle.undo.proofs.Behind.{step_behind, ready_behind, count_behind, keys_stay_behind}
 use Rattle.undo.proofs.Entries.{stepped, ready_within, ready_at, count_at, keys_stay, keys_after}
 use Rattle.undo.proofs.undoing.Core.swap_entry.Goals as goal
@@ -65,5 +65,5 @@ returns-clause-counted c =
     let at : c.args.position ≡ length ss + place = omega (arith, n, m, c.requires.behind) in
     let room : all_ready (ready_of b) (map item_of xs) (place ∷ []) ≡ true = sym (ready_behind (ready_of b) ss (map item_of xs) c.args.position place at) ∙ c.requires.ready in
     c.swap_one.ensures.counted
-    ∙ ap (λ n. (c.args.swaps.now + n) % 2 ^ 64) (ap (λ e. length (item_of e).kept) c.index_mut.ensures.value ∙ sym (count_at xs place c.index_mut.result.now (ready_within (ready_of b) xs place room))
+    ∙ ap (λ n. (swaps_of c.args.self.now + n) % 2 ^ 64) (ap (λ e. length (item_of e).kept) c.index_mut.ensures.value ∙ sym (count_at xs place c.index_mut.result.now (ready_within (ready_of b) xs place room))
     ∙ sym (count_behind ss (map item_of xs) c.args.position place at))

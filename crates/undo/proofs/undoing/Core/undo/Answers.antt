@@ -1,6 +1,6 @@
 use Rattle.std.proofs.Common.{◌<◌, ◌≤◌, ◌+◌, ◌-◌, ◌%◌, ◌^◌, false, length, take, get_or, reverse, sym, ap, ◌∙◌, subst, arith}
 use Rattle.history.specs.Walks.{walk}
-use Rattle.undo.specs.CoreView.{items_of, shown, ready_of}
+use Rattle.undo.specs.CoreView.{items_of, shown, ready_of, swaps_of}
 use Rattle.journal.specs.Items.{keys_at, pass, swap_item}
 use Rattle.undo.proofs.Looping.{counted_on}
 use Rattle.undo.proofs.Positions.{pass_at, pass_same, count_same, count_back, walk_back}
@@ -37,7 +37,7 @@ loop-i-preserved c =
       ready = c.swap_entry.ensures.ready ∙ c.loop-i.invariant.ready;
       keys = λ q. c.swap_entry.ensures.keys q ∙ c.loop-i.invariant.keys q;
       rest = ap (walk (swap_item false) (reverse (take (i - 1) ps))) c.swap_entry.ensures.shown ∙ walk_back (swap_item false) ps i (shown c.loop-i.self) some within ∙ c.loop-i.invariant.rest;
-      counted = counted_on (2 ^ 64) c.args.swaps.now c.loop-i.swaps c.swap_entry.new.swaps _ _ c.loop-i.invariant.counted
-          (c.swap_entry.ensures.counted ∙ ap (λ n. (c.loop-i.swaps + n) % 2 ^ 64) (count_same (items_of c.loop-i.self) items p (c.loop-i.invariant.keys p)))
-          ∙ ap (λ n. (c.args.swaps.now + n) % 2 ^ 64) (count_back items ps i some within);
+      counted = counted_on (2 ^ 64) (swaps_of c.args.self.now) (swaps_of c.loop-i.self) (swaps_of c.swap_entry.new.self) _ _ c.loop-i.invariant.counted
+          (c.swap_entry.ensures.counted ∙ ap (λ n. (swaps_of c.loop-i.self + n) % 2 ^ 64) (count_same (items_of c.loop-i.self) items p (c.loop-i.invariant.keys p)))
+          ∙ ap (λ n. (swaps_of c.args.self.now + n) % 2 ^ 64) (count_back items ps i some within);
     }

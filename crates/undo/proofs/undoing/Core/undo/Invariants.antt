@@ -1,6 +1,7 @@
-use Rattle.std.proofs.Common.{◌≡◌, ◌≤◌, ◌+◌, ◌%◌, ◌^◌, ℕ, false, length, take, drop, reverse}
+use Rattle.std.proofs.Common.{◌≡◌, ◌≤◌, ℕ, false, length, take, drop, reverse}
 use Rattle.history.specs.Walks.{walk}
-use Rattle.undo.specs.CoreView.{items_of, settled_of, shown, ready_of}
+use Rattle.worldcells.specs.View.{RisesBy}
+use Rattle.undo.specs.CoreView.{items_of, settled_of, shown, ready_of, swaps_of}
 use Rattle.journal.specs.Items.{swap_item, keys_at, records_at}
 use Rattle.undo.proofs.undoing.Core.undo.Given as goal
 
@@ -11,7 +12,7 @@ invariant-loop-i l = record {
   ready : ready_of l.self ≡ ready_of l.fn.self;
   keys : (p : ℕ) → keys_at (items_of l.self) p ≡ keys_at (items_of l.fn.self) p;
   rest : walk (swap_item false) (reverse (take l.i l.positions)) (shown l.self) ≡ walk (swap_item false) (reverse l.positions) (shown l.fn.self);
-  counted : l.swaps % 2 ^ 64 ≡ (l.fn.swaps + records_at (items_of l.fn.self) (drop l.i l.positions)) % 2 ^ 64;
+  counted : RisesBy (records_at (items_of l.fn.self) (drop l.i l.positions)) (swaps_of l.fn.self) (swaps_of l.self);
 }
 
 abbrev pub decreases-loop-i : goal.decreases-loop-i

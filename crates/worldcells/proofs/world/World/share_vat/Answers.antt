@@ -9,4 +9,4 @@ pub returns-clause-shared : goal.returns-clause-shared
 returns-clause-shared c = ok_follows c.share.result _ _ c.share.ensures.shared (λ s h. ext _ _ (λ k. ap (λ (x : Seen Content). x.0) (h k) ∙ sym (state_is_seen c.args.self.now c.args.vat k)))
 
 pub returns-clause-seen : goal.returns-clause-seen
-returns-clause-seen c = seen_alike c.args.self.now (record { names = c.args.self.now.names; homes = c.share.new.self; messages = c.args.self.now.messages; board = c.args.self.now.board }) (λ k. refl) (λ k. ap (λ f. f k) c.share.ensures.seen) (λ k. refl) (λ k. refl)
+returns-clause-seen c = seen_alike c.args.self.now (record (c.args.self.now) { homes = c.share.new.self }) (λ k. refl) (λ k. ap (λ f. f k) c.share.ensures.seen) (λ k. refl) (λ k. refl)
