@@ -1,0 +1,129 @@
+"""A person at a terminal: lines are edited, completed by TAB, and kept for the next time."""
+import collections
+import contextlib
+import os
+import readline
+import signal
+from pathlib import Path
+
+from conversation.completion import completions
+
+from .consoles import MARK, MORE, PROMPT, put
+
+MOST_LINES = 2_000
+DELIMITERS = " \t([{,;"
+
+
+def history_file():
+    """Where the lines are kept that were typed."""
+    folder = os.environ.get("XDG_STATE_HOME") or "~/.local/state"
+    return Path(folder).expanduser() / "evats" / "history"
+
+
+class Terminal:
+    """A person at a terminal."""
+
+    is_terminal = True
+
+    def __init__(self, session, usages):
+        self.session, self.usages = session, usages
+        self.pasted, self.history, self.found = collections.deque(), history_file(), []
+        readline.set_auto_history(False)
+        readline.set_completer_delims(DELIMITERS)
+        readline.set_completer(self.complete)
+        readline.parse_and_bind("tab: complete")
+        # What is pasted comes at once, so that no tab in it completes anything.
+        readline.parse_and_bind("set enable-bracketed-paste on")
+        self.read_history()
+
+    def read_history(self):
+        try:
+            self.history.parent.mkdir(parents=True, exist_ok=True)
+            self.history.touch(0o600)
+            readline.set_history_length(MOST_LINES)
+            readline.read_history_file(self.history)
+            if readline.get_current_history_length() >= MOST_LINES:
+                readline.write_history_file(self.history)
+        except OSError as fault:
+            self.fault(f"what is typed is not kept: {self.history}: {fault.strerror}")
+            self.history = None
+
+    def note(self, text):
+        """Keeps what was typed."""
+        last = readline.get_current_history_length()
+        if not text.strip() or last and readline.get_history_item(last) == text:
+            return
+        readline.add_history(text)
+        if self.history:
+            with contextlib.suppress(OSError):
+                readline.append_history_file(1, self.history)
+
+    def taken(self, prompt):
+        """The next line, of what was pasted or is typed; nothing at the end of the input."""
+        if self.pasted:
+            self.show(prompt, self.pasted[0])
+            return self.pasted.popleft()
+        try:
+            text = input(prompt)
+        except EOFError:
+            print()
+            return None
+        lines = text.split("\n")
+        for line in lines:
+            self.note(line)
+        if len(lines) > 1:
+            self.pasted.extend(lines)
+            return self.taken(prompt)
+        return text
+
+    def first(self):
+        return self.taken(PROMPT)
+
+    def more(self):
+        return self.taken(MORE)
+
+    def drop(self):
+        """Forgets what is half typed or pasted."""
+        self.pasted.clear()
+        print()
+
+    def say(self, lines):
+        put(lines)
+
+    def tell(self, lines):
+        put(MARK + line for line in lines)
+
+    def show(self, prompt, line):
+        put([prompt + line])
+
+    def fault(self, text):
+        self.tell([text])
+
+    def agrees(self, question):
+        try:
+            return input(f"{MARK}{question} [y/N] ").strip().lower() in ("y", "yes")
+        except EOFError:
+            print()
+            return False
+
+    @contextlib.contextmanager
+    def waiting(self):
+        """Has control-C end the waits of the session meanwhile, and do nothing else."""
+        reading, writing = os.pipe2(os.O_NONBLOCK | os.O_CLOEXEC)
+        before = signal.signal(signal.SIGINT, lambda *_: os.write(writing, b"."))
+        self.session.stopper = reading
+        try:
+            yield
+        finally:
+            self.session.stopper = None
+            signal.signal(signal.SIGINT, before)
+            os.close(reading)
+            os.close(writing)
+
+    def complete(self, text, place):
+        """The completion at a place, as readline asks for them."""
+        if place == 0:
+            with self.waiting():
+                before = readline.get_line_buffer()[: readline.get_begidx()]
+                self.found = completions(self.session, self.usages, before, text)
+        return self.found[place] if place < len(self.found) else None
