@@ -29,20 +29,19 @@ def program_words(arguments):
     return [str(arguments.program or programs.program_to_try()), *(word for pair in options if pair[1] for word in pair)]
 
 
-def console_for(session, usages):
+def console_for(session):
     """The terminal, where there is one."""
     if not (sys.stdin.isatty() and sys.stdout.isatty()):
         return Pipe()
     # The import alone may write to standard output.
     from .terminal import Terminal
 
-    return Terminal(session, usages)
+    return Terminal(session)
 
 
 def talk(session, file):
     """The whole talk, and the status that it ends with."""
-    talking = Talk(session, None)
-    talking.console = console_for(session, talking.usages)
+    talking = Talk(session, console_for(session))
     if talking.console.is_terminal:
         talking.console.tell(["`help` tells the commands, control-D ends the talk."])
     talking.begin(file)

@@ -25,6 +25,11 @@ def own_usages():
     return usages_in(OWN)
 
 
+def usages_of(session):
+    """The commands of the talk and of the session's program, by their first words."""
+    return {**own_usages(), **session.usages}
+
+
 def row(usage):
     return f"  {usage.words:<25} {usage.does}"
 

@@ -14,6 +14,7 @@ COMPANIONS = Path(__file__).resolve().parents[1]
 # What a terminal is told that is no text: colours, moves of the cursor, modes.
 CONTROL = re.compile(r"\x1b(?:\[[?0-9;]*[A-Za-z]|[=>])|\x07|\r")
 SECONDS = 20
+CONTROL_C = "\x03"
 
 
 class NotSeen(Exception):
@@ -25,7 +26,7 @@ class Person:
 
     def __init__(self, folder, *words):
         self.seen = ""
-        variables = {"PYTHONPATH": str(COMPANIONS), "XDG_STATE_HOME": str(folder), "TERM": "dumb", "INPUTRC": "/dev/null", "COLUMNS": "200"}
+        variables = {"PYTHONPATH": str(COMPANIONS), "XDG_STATE_HOME": str(folder), "TERM": "xterm", "INPUTRC": "/dev/null", "COLUMNS": "200"}
         self.terminal, inner = pty.openpty()
         self.process = subprocess.Popen(
             [sys.executable, "-m", "talk", *words], stdin=inner, stdout=inner, stderr=inner, cwd=folder,
@@ -73,6 +74,14 @@ class Person:
         """Types a line, and waits for a reply behind it."""
         self.types(line + "\n")
         return self.sees(line) and self.sees(reply)
+
+    def interrupts(self, text):
+        """Presses control-C until a text is shown: one that comes while a key is being read waits for the next key."""
+        for _ in range(SECONDS - 1):
+            self.types(CONTROL_C)
+            with contextlib.suppress(NotSeen):
+                return self.sees(text, 1)
+        return self.sees(text, 1)
 
     def ends(self, seconds=SECONDS):
         """What is shown until the talk ends, and its status."""

@@ -14,7 +14,7 @@ from conversation.session import UnknownLabel
 from conversation.typed import NotTyped, Typed, typed, written
 
 from .consoles import File
-from .helping import help_on, own_usages
+from .helping import help_on, usages_of
 
 DOING = {"step", "run", "turn", "work"}
 MOST_TOLD, LONGEST_TOLD = 40, 200
@@ -36,10 +36,6 @@ class Talk:
         self.seen, self.loading, self.faults = set(), [], 0
         ours = (self.help, self.save, self.load, self.labels, self.stop, self.quit)
         self.own = {each.__name__: each for each in ours}
-
-    @property
-    def usages(self):
-        return {**own_usages(), **self.session.usages}
 
     def begin(self, file=None):
         """Does the commands of a file, if one is named, and then those of the console."""
@@ -161,7 +157,7 @@ class Talk:
         return [f"`{shortened(command.line)}` was answered otherwise than before."] if command else []
 
     def help(self, rest):
-        self.console.tell(help_on(rest.split(" ")[0], self.usages))
+        self.console.tell(help_on(rest.split(" ")[0], usages_of(self.session)))
 
     def save(self, rest):
         commands = self.session.accepted()

@@ -9,6 +9,7 @@ from pathlib import Path
 from conversation.completion import completions
 
 from .consoles import MARK, MORE, PROMPT, put
+from .helping import usages_of
 
 MOST_LINES = 2_000
 DELIMITERS = " \t([{,;"
@@ -20,14 +21,26 @@ def history_file():
     return Path(folder).expanduser() / "evats" / "history"
 
 
+@contextlib.contextmanager
+def interruptible(handler=signal.default_int_handler):
+    """Has control-C call this meanwhile; else it raises KeyboardInterrupt."""
+    before = signal.signal(signal.SIGINT, handler)
+    try:
+        yield
+    finally:
+        signal.signal(signal.SIGINT, before)
+
+
 class Terminal:
     """A person at a terminal."""
 
     is_terminal = True
 
-    def __init__(self, session, usages):
-        self.session, self.usages = session, usages
+    def __init__(self, session):
+        self.session = session
         self.pasted, self.history, self.found = collections.deque(), history_file(), []
+        # Where nothing is typed, waited for or shown, control-C does nothing.
+        signal.signal(signal.SIGINT, lambda *_: None)
         readline.set_auto_history(False)
         readline.set_completer_delims(DELIMITERS)
         readline.set_completer(self.complete)
@@ -63,10 +76,8 @@ class Terminal:
         if self.pasted:
             self.show(prompt, self.pasted[0])
             return self.pasted.popleft()
-        try:
-            text = input(prompt)
-        except EOFError:
-            print()
+        text = self.typed(prompt)
+        if text is None:
             return None
         lines = text.split("\n")
         for line in lines:
@@ -75,6 +86,15 @@ class Terminal:
             self.pasted.extend(lines)
             return self.taken(prompt)
         return text
+
+    def typed(self, prompt):
+        """What is typed behind a prompt; nothing at the end of the input."""
+        try:
+            with interruptible():
+                return input(prompt)
+        except EOFError:
+            print()
+            return None
 
     def first(self):
         return self.taken(PROMPT)
@@ -88,10 +108,11 @@ class Terminal:
         print()
 
     def say(self, lines):
-        put(lines)
+        with interruptible():
+            put(lines)
 
     def tell(self, lines):
-        put(MARK + line for line in lines)
+        self.say(MARK + line for line in lines)
 
     def show(self, prompt, line):
         put([prompt + line])
@@ -100,23 +121,18 @@ class Terminal:
         self.tell([text])
 
     def agrees(self, question):
-        try:
-            return input(f"{MARK}{question} [y/N] ").strip().lower() in ("y", "yes")
-        except EOFError:
-            print()
-            return False
+        return (self.typed(f"{MARK}{question} [y/N] ") or "").strip().lower() in ("y", "yes")
 
     @contextlib.contextmanager
     def waiting(self):
         """Has control-C end the waits of the session meanwhile, and do nothing else."""
         reading, writing = os.pipe2(os.O_NONBLOCK | os.O_CLOEXEC)
-        before = signal.signal(signal.SIGINT, lambda *_: os.write(writing, b"."))
         self.session.stopper = reading
         try:
-            yield
+            with interruptible(lambda *_: os.write(writing, b".")):
+                yield
         finally:
             self.session.stopper = None
-            signal.signal(signal.SIGINT, before)
             os.close(reading)
             os.close(writing)
 
@@ -125,5 +141,5 @@ class Terminal:
         if place == 0:
             with self.waiting():
                 before = readline.get_line_buffer()[: readline.get_begidx()]
-                self.found = completions(self.session, self.usages, before, text)
+                self.found = completions(self.session, usages_of(self.session), before, text)
         return self.found[place] if place < len(self.found) else None
