@@ -169,7 +169,7 @@ class Texts(unittest.TestCase):
 class Typing(unittest.TestCase):
     def typed(self, *lines):
         rest = iter(lines[1:])
-        given = typed(lines[0], lambda: next(rest, None))
+        given = typed(lines[0], lambda what: next(rest, None))
         return given.command.lines, given.label, list(rest)
 
     def test_scripts_are_counted(self):
@@ -342,9 +342,9 @@ class Words(unittest.TestCase):
 
     def test_each_command_of_the_help_is_in_the_document(self):
         for word in usages_in(help_of(STAND_IN)):
-            wants, replies, _ = told_of(read_document(), word)
-            self.assertTrue(wants, word)
-            self.assertTrue(replies or word in ("show", "journal", "enabled", "log"), word)
+            self.assertTrue(told_of(read_document(), word)[0], word)
+        wants, replies, refused = told_of(read_document(), "undo")
+        self.assertEqual((len(wants), len(replies), [each.code for each in refused]), (1, 1, ["B12", "B13", "B15", "B22"]))
 
 
 class Helping(unittest.TestCase):
@@ -374,6 +374,14 @@ class Helping(unittest.TestCase):
     def test_what_crosses_goes_first(self):
         text = "vat a () 1\nvar n := 0\nturn e1.m0\nask a n := 1\nask a n\nturn e3.m0\nundo e5\nturn e4.m0\nredo e5\n"
         self.assertIn("`undo-cone e6` first", self.helps(text))
+
+    def test_the_program_says_why_where_it_can(self):
+        self.session.usages = {**self.session.usages, "why": self.session.usages["cone"]}
+        for command in commands_of(lines_of(VARIABLES)):
+            self.session.give(command)
+        self.session.told["why e1 e2"] = ("why e1 e2 1", " e1 e2 msg e1.m0")
+        found = advice(self.session, Command("undo e1"), Refusal("B15", "NotClosed", ("e1", "e2")))
+        self.assertEqual(found[1:], ["`why e1 e2` says:", "  why e1 e2 1", "   e1 e2 msg e1.m0"])
 
     def test_where_a_message_is(self):
         self.assertIn("e1.m0 is at a. `turn e1.m0` may", self.helps("vat a () 0\narrive e1.m0\n"))

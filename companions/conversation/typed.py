@@ -6,6 +6,11 @@ from pathlib import Path
 from .commands import NAME, Command, lines_of, script_length
 from .texts import is_bracketed, is_open, on_one_line, without_label
 
+# What the next lines are, as it is told to who types them.
+SCRIPT = "the script: an empty line outside of brackets ends it"
+COUNTED = "the lines of the script, as many as were said"
+ASKED = "the program goes on until its brackets are closed"
+
 VAT = re.compile(r"(vat[ \t]+\S+[ \t]+\([^()]*\))(?:[ \t]+(.*))?", re.DOTALL)
 ASK = re.compile(rf"(ask[ \t]+{NAME})[ \t]+(.*)", re.DOTALL)
 
@@ -32,7 +37,7 @@ def text_in(file):
 
 def script_of(lines, more):
     """The lines of a script up to an empty one outside of all brackets, or to the end of the input."""
-    while (line := more()) is not None and (line.strip() or is_open("\n".join(lines))):
+    while (line := more(SCRIPT)) is not None and (line.strip() or is_open("\n".join(lines))):
         lines.append(line)
     return tuple(lines)
 
@@ -47,7 +52,7 @@ def with_its_lines(line, more):
     """A vat whose lines were counted by its author."""
     wanted, script = script_length(line), []
     while len(script) < wanted:
-        if (further := more()) is None:
+        if (further := more(COUNTED)) is None:
             raise NotTyped(f"the input ended behind {len(script)} of the {wanted} lines of the script")
         script.append(further)
     return Command(line, tuple(script), wanted)
@@ -66,14 +71,14 @@ def typed_ask(head, text, more):
     if text.startswith("@"):
         file, label = without_label(text)
         return Typed(Command(f"{head} {on_one_line(text_in(file[1:]))}"), label)
-    while is_bracketed(text) and (line := more()) is not None:
+    while is_bracketed(text) and (line := more(ASKED)) is not None:
         text += "\n" + line
     text, label = without_label(text)
     return Typed(Command(f"{head} {on_one_line(text) if chr(10) in text else text}"), label)
 
 
 def typed(line, more):
-    """The command that a line begins; `more` gives the next line of the input, or nothing at its end."""
+    """The command that a line begins; `more` is told what the next line is, and gives it, or nothing at the input's end."""
     line = line.lstrip(" \t")
     if found := VAT.fullmatch(line):
         return typed_vat(found[1], found[2] or "", more)

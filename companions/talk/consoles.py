@@ -34,7 +34,7 @@ class File:
     def first(self):
         return self.taken(PROMPT)
 
-    def more(self):
+    def more(self, what):
         return self.taken(MORE)
 
 
@@ -46,7 +46,8 @@ class Pipe:
     def first(self):
         return decoded(sys.stdin.buffer.readline())
 
-    more = first
+    def more(self, what):
+        return self.first()
 
     def say(self, lines):
         put(lines)

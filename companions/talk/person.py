@@ -13,6 +13,7 @@ from pathlib import Path
 COMPANIONS = Path(__file__).resolve().parents[1]
 # What a terminal is told that is no text: colours, moves of the cursor, modes.
 CONTROL = re.compile(r"\x1b(?:\[[?0-9;]*[A-Za-z]|[=>])|\x07|\r")
+PROMPT = re.compile(r"(?:^|\n)(?:> |\. |# .*\[y/N\] )$")
 SECONDS = 20
 CONTROL_C = "\x03"
 
@@ -69,6 +70,17 @@ class Person:
             self.seen = CONTROL.sub("", self.seen + piece)
         shown, _, self.seen = self.seen.partition(text)
         return shown + text
+
+    def prompted(self, seconds=SECONDS):
+        """Waits until a line is wanted, and gives all that was shown."""
+        limit = time.monotonic() + seconds
+        while not PROMPT.search(self.seen):
+            piece = self.read(limit - time.monotonic())
+            if piece is None:
+                raise NotSeen(f"no line was wanted, but {self.seen!r} was shown")
+            self.seen = CONTROL.sub("", self.seen + piece)
+        shown, self.seen = self.seen, ""
+        return shown
 
     def says(self, line, reply):
         """Types a line, and waits for a reply behind it."""

@@ -17,7 +17,9 @@ from .consoles import File
 from .helping import help_on, usages_of
 
 DOING = {"step", "run", "turn", "work"}
-MOST_TOLD, LONGEST_TOLD = 40, 200
+MOST_TOLD, LONGEST_TOLD = 40, 110
+# Behind so many events the journal takes too long to be asked for after each command.
+MOST_SEEN = 2_000
 
 
 class Quit(Exception):
@@ -35,7 +37,7 @@ class Talk:
         self.session, self.console = session, console
         self.seen, self.loading, self.faults = set(), [], 0
         ours = (self.help, self.save, self.load, self.labels, self.stop, self.quit)
-        self.own = {each.__name__: each for each in ours}
+        self.own = {**{each.__name__: each for each in ours}, "exit": self.quit}
 
     def begin(self, file=None):
         """Does the commands of a file, if one is named, and then those of the console."""
@@ -118,15 +120,25 @@ class Talk:
                 self.console.tell([in_words(refusal) or "A refusal.", *pointed(answered.command, refusal)])
                 self.console.tell(advice(self.session, answered.command, refusal))
             elif answered.command.word in DOING:
-                self.tell_done(set(made), answered.command.word)
+                self.tell_done(made, answered.command.word)
 
     def tell_done(self, made, word):
         """Tells the lines of the journal for the events that a command made."""
-        events = self.session.events() if made or word == "work" else []
-        new = [event for event in events if event.name in made or word == "work" and event.name not in self.seen]
-        self.seen.update(event.name for event in new)
-        more = [f".. and {len(new) - MOST_TOLD} more, which `journal` lists"] if len(new) > MOST_TOLD else []
-        self.console.tell([*(shortened(event.line) for event in new[:MOST_TOLD]), *more])
+        new = self.lines_for(made[:MOST_TOLD], word)
+        more = max(len(made), len(new)) - min(len(new), MOST_TOLD)
+        self.console.tell(map(shortened, new[:MOST_TOLD]))
+        self.console.tell([f"`journal` lists {more} more"] if more else [])
+
+    def lines_for(self, made, word):
+        """The journal's lines for these events; of what workers did, which they do not name, for all that were not seen."""
+        if "event" in self.session.usages and word != "work":
+            return [self.session.ask(f"event {name}")[0] for name in made]
+        if len(self.seen) > MOST_SEEN or not made and word != "work":
+            return []
+        names = {line.split(" ", 2)[1]: line for line in self.session.ask("journal") if not line.startswith("base ")}
+        wanted = [name for name in names if name not in self.seen] if word == "work" else made
+        self.seen.update(names)
+        return [names[name] for name in wanted if name in names]
 
     def agrees_to_undo(self, command):
         """Tells at a terminal what an `undo-cone` would take back, and asks. One that is refused is not asked about."""

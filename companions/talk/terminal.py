@@ -38,7 +38,7 @@ class Terminal:
 
     def __init__(self, session):
         self.session = session
-        self.pasted, self.history, self.found = collections.deque(), history_file(), []
+        self.pasted, self.history, self.found, self.hints = collections.deque(), history_file(), [], set()
         # Where nothing is typed, waited for or shown, control-C does nothing.
         signal.signal(signal.SIGINT, lambda *_: None)
         readline.set_auto_history(False)
@@ -99,7 +99,11 @@ class Terminal:
     def first(self):
         return self.taken(PROMPT)
 
-    def more(self):
+    def more(self, what):
+        """A further line of a command. What it is to be is told the first time."""
+        if what not in self.hints and not self.pasted:
+            self.hints.add(what)
+            self.tell([what])
         return self.taken(MORE)
 
     def drop(self):

@@ -1,5 +1,6 @@
 """Talks at a terminal of its own, and over pipes. The program is the plain interpreter, or the one that EVATS_PROGRAM names."""
 import os
+import re
 import subprocess
 import sys
 import tempfile
@@ -12,6 +13,7 @@ from .helping import help_on, own_usages
 from .person import COMPANIONS, Person
 
 PROGRAM = os.environ.get("EVATS_PROGRAM") or str(Path(conversation.__file__).with_name("stand_in"))
+README = re.compile(r"at its prompt, or paste it:\n\n```\n(.*?)\n```\n\nIt shows:\n\n```\n(.*?)\n```", re.DOTALL)
 ENDLESS = "vat a ()\ndef o { to go() { o <- go() } }\no <- go()\n\n"
 CONTROL_A, CONTROL_D, CONTROL_K, CONTROL_P = "\x01", "\x04", "\x0b", "\x10"
 
@@ -50,11 +52,21 @@ class Terminals(Case):
     def test_a_script_on_several_lines(self):
         person = self.person()
         person.types("vat a ()\ndef o {\n\n to get() { return 7 }\n}\n\n")
-        person.sees("\n. def o {\n. \n.  to get() { return 7 }\n. }\n. \nok e1 e1.m0\n> ")
+        person.sees("\n# the script: an empty line outside of brackets ends it\n. def o {\n. \n.  to get() { return 7 }\n. }\n. \nok e1 e1.m0\n> ")
         person.says("turn e1.m0", "# 2 e2 live turn e1.m0 causes e1\n> ")
         person.types("ask a if (true) {\no.get() }\n")
         person.sees("ok e3 e3.m0\n> ")
         person.says("step", "ok e4 value 7\n# 4 e4 live turn e3.m0 causes e1 e2 e3\n> ")
+
+    def test_what_the_readme_shows(self):
+        typed, shown = README.search((COMPANIONS.parent / "README.md").read_text()).groups()
+        person = Person(self.folder, "--program", PROGRAM)
+        self.addCleanup(person.__exit__)
+        seen = person.prompted()
+        for line in typed.split("\n"):
+            person.types(line + "\n")
+            seen += person.sees(line + "\n") + person.prompted()
+        self.assertEqual("\n".join(line.rstrip() for line in seen.split("\n")), shown + "\n>")
 
     def test_labels(self):
         person = self.with_a_vat()
@@ -161,7 +173,7 @@ class Terminals(Case):
         person.types(CONTROL_D)
         self.assertEqual(person.ends()[1], 0)
         other = self.person()
-        other.types("quit\n")
+        other.types("exit\n")
         self.assertEqual(other.ends()[1], 0)
 
     def test_a_session_is_saved_and_loaded(self):
