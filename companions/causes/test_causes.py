@@ -280,7 +280,7 @@ class Runs(unittest.TestCase):
         self.assertIn("cone", boxes["e8"].get("class").split())
 
     def test_refused_commands_are_counted_and_the_rest_is_drawn(self):
-        svg, refused = drawn(STAND_IN, f"{COMMANDS}ask b 1\nask a \udcff\nvat c () 3\n1\n2\n".encode(errors="surrogateescape"), None)
+        svg, refused = drawn(STAND_IN, COMMANDS.encode() + b"ask b 1\nask a \xff\nvat c () 3\n1\n2\n", None)
         self.assertEqual((refused, len(groups(tree_of(svg), "event"))), (3, 8))
         words = "--program", STAND_IN, "--out", self.folder / "out.svg", self.file("ask b 1\n")
         self.assertEqual(self.run_main(*words), (0, "causes: 1 command was refused\n"))

@@ -50,7 +50,7 @@ def pointed(command, refusal):
 
 
 def unknown_command(session, command, refusal):
-    near = difflib.get_close_matches(command.word, session.usages, 3, 0.5)
+    near = difflib.get_close_matches(command.word, session.words, 1, 0.5)
     return [f"`{near[0]}` is one." if near else "`help` lists them."]
 
 
@@ -64,12 +64,12 @@ def unbound(session, command, refusal):
     if refusal.arguments[:1] == ("__return",):
         return ["`return` stands outside of a function, and outside of a method that begins with `to`."]
     nouns = session.world().nouns.get((words_of(command.line)[1:] or [""])[0], []) if command.word == "ask" else []
-    return [f"The vat has {listed(nouns)}."] if nouns else []
+    return [f"Names that the vat has: {listed(nouns)}."] if nouns else []
 
 
 def no_vat(session, command, refusal):
     vats = session.world().vats
-    return [f"There are {listed(vats)}." if vats else "There is none yet: `help vat` tells how one is made."]
+    return [f"The vats that are there: {listed(vats)}." if vats else "There is none yet: `help vat` tells how one is made."]
 
 
 def enabled_of(session, word):
@@ -79,7 +79,7 @@ def enabled_of(session, word):
 
 def no_message(session, command, refusal):
     found = [f"`{line}`" for line in session.enabled()]
-    return [f"Now there may be done {listed(found)}." if found else "No message waits: `ask` makes one."]
+    return [f"May be done now: {listed(found)}." if found else "No message waits: `ask` makes one."]
 
 
 def elsewhere(session, command, refusal):
@@ -89,13 +89,13 @@ def elsewhere(session, command, refusal):
     place = session.world().messages.get(message)
     told = [f"{message} is {where[place[0]].format(place[1])}."] if place else []
     found = enabled_of(session, message)
-    return told + ([f"{found[0]} may be done now."] if found else [])
+    return told + ([f"May be done now: {found[0]}."] if found else [])
 
 
 def may_be_done(session, command, refusal):
     words = [*refusal.arguments, *words_of(command.line)[1:2]]
     found = list(dict.fromkeys(line for word in words for line in enabled_of(session, word)))
-    return [f"Now there may be done {listed(found)}."] if found else ["`enabled` lists what may be done now."]
+    return [f"May be done now: {listed(found)}."] if found else ["`enabled` lists what may be done now."]
 
 
 def no_event(session, command, refusal):

@@ -59,9 +59,14 @@ def is_of(cell, word):
     return any(spelled.split()[:1] == [word] for spelled in re.findall(r"`([^`]*)`", cell))
 
 
+def alone(cell):
+    """What a cell says without looking at the rows above it."""
+    return "; ".join(part for part in cell.split("; ") if not part.endswith("as above"))
+
+
 def told_of(text, word):
     """What the document says of a command: which words it wants, what it replies, and with which codes it is refused."""
-    wants = [row[1] for head, row in rows(text) if head == WANTS and is_of(row[0], word)]
+    wants = [alone(row[1]) for head, row in rows(text) if head == WANTS and is_of(row[0], word)]
     replies = [row[1] for head, row in rows(text) if head == REPLY and is_of(row[0], word)]
     refused = [meaning for meaning in meanings(text) if is_of(meaning.of, word)]
     return wants, replies, refused

@@ -9,7 +9,7 @@ import tempfile
 import time
 
 # How long the program has to end where it is given nothing more.
-SECONDS = 10
+SECONDS = 60
 GREATEST_EVENT = 4_294_967_295
 
 

@@ -12,7 +12,7 @@ from .world import read_world
 
 LABEL = re.compile(r"\$([A-Za-z_][A-Za-z_0-9]*)")
 # How long a question may take that nobody typed.
-SECONDS = 10
+SECONDS = 60
 
 
 class UnknownLabel(Exception):
@@ -35,10 +35,12 @@ class Session:
     """What was said to a program and by it. Questions that change nothing are asked beside it and not noted."""
 
     def __init__(self, words):
-        self.words, self.program = list(words), Program(words)
+        self.program_words, self.program = list(words), Program(words)
         self.answered, self.labels, self.under_way, self.told = [], {}, None, {}
         # A file that ends each wait once it can be read, if there is one.
         self.stopper = None
+        # The first words of commands that whoever asks answers by itself.
+        self.own_words = ()
 
     def __enter__(self):
         return self
@@ -49,7 +51,12 @@ class Session:
     @functools.cached_property
     def usages(self):
         """The commands that the program's help tells, by their first words."""
-        return usages_in(help_of(self.words[0]))
+        return usages_in(help_of(self.program_words[0]))
+
+    @property
+    def words(self):
+        """The first words of all commands that may be typed."""
+        return [*self.usages, *self.own_words]
 
     @property
     def refusals(self):
@@ -126,7 +133,7 @@ class Session:
         """Ends the program and starts it again with the commands so far. Gives the first one that is answered otherwise than
         before, or nothing."""
         self.program.stop()
-        self.program, self.under_way, self.told = Program(self.words), None, {}
+        self.program, self.under_way, self.told = Program(self.program_words), None, {}
         before, self.answered = self.answered, []
         other = [each.command for each in before if self.give(each.command).reply != each.reply]
         return other[0] if other else None

@@ -42,6 +42,15 @@ SENDS = """\
 6 e6 live forward e3.m1 causes e1 e3
 7 e7 live learn bob e5.p0 causes e2 e5
 """
+# The body of a program that takes its time for a reply.
+SLOW = """\
+for line in sys.stdin:
+    if line.startswith("cone"):
+        print("no B12 NoEvent", line[5:], end="", flush=True)
+    else:
+        time.sleep(0.4)
+        print("done", flush=True)
+"""
 VARIABLES = """\
 vat a () 2
 var red := 1
@@ -188,6 +197,7 @@ class Typing(unittest.TestCase):
     def test_asks(self):
         found = self.typed("ask a def f() {", "return 1", "}; f() as q", "show")
         self.assertEqual(found, (("ask a def f() { return 1 }; f()",), "q", ["show"]))
+        self.assertEqual(self.typed("ask a f(", "1", "", "show"), (("ask a f( 1",), None, ["show"]))
         self.assertEqual(self.typed('ask a  "x', "y"), (('ask a "x',), None, ["y"]))
         self.assertEqual(self.typed("ask a", "y"), (("ask a",), None, ["y"]))
         self.assertEqual(self.typed("ask a x  as q"), (("ask a x",), "q", []))
@@ -225,8 +235,7 @@ class Programs(unittest.TestCase):
             self.assertEqual(program.reply(["ask a \udcff"]), ("no S2 BadWord",))
 
     def test_a_wait_ends_and_goes_on(self):
-        with Program([stub(self.folder, "for line in sys.stdin:\n if line[:4] == 'slow': time.sleep(0.4); print('done', flush=True)\n"
-                                        " elif line[:4] == 'cone': print('no B12 NoEvent', line[5:], end='', flush=True)")]) as program:
+        with Program([stub(self.folder, SLOW)]) as program:
             with self.assertRaises(Stopped):
                 program.reply(["slow"], seconds=0.05)
             self.assertTrue(program.is_busy)
@@ -324,8 +333,8 @@ class Words(unittest.TestCase):
         for meaning in found:
             words = in_words(Refusal(meaning.code, meaning.name, meaning.arguments))
             self.assertTrue(words.endswith("."), meaning)
-            wanted = 0 if meaning.code == "B12" else len(meaning.arguments)
-            self.assertEqual(sum(f"{{{place}}}" in SENTENCES[meaning.code] for place in range(3)), max(wanted, meaning.code == "B12"))
+            named = sum(f"{{{place}}}" in SENTENCES[meaning.code] for place in range(3))
+            self.assertEqual(named, len(meaning.arguments), meaning)
 
     def test_positions(self):
         self.assertIn("position 7", in_words(Refusal("B12", "NoEvent", ("7",))))
@@ -344,6 +353,7 @@ class Words(unittest.TestCase):
         for word in usages_in(help_of(STAND_IN)):
             self.assertTrue(told_of(read_document(), word)[0], word)
         wants, replies, refused = told_of(read_document(), "undo")
+        self.assertEqual(told_of(read_document(), "log")[0], ["just these words"])
         self.assertEqual((len(wants), len(replies), [each.code for each in refused]), (1, 1, ["B12", "B13", "B15", "B22"]))
 
 
@@ -384,14 +394,16 @@ class Helping(unittest.TestCase):
         self.assertEqual(found[1:], ["`why e1 e2` says:", "  why e1 e2 1", "   e1 e2 msg e1.m0"])
 
     def test_where_a_message_is(self):
-        self.assertIn("e1.m0 is at a. `turn e1.m0` may", self.helps("vat a () 0\narrive e1.m0\n"))
+        self.assertIn("e1.m0 is at a. May be done now: `turn e1.m0`.", self.helps("vat a () 0\narrive e1.m0\n"))
         self.assertIn("done: event e2", self.helps("turn e1.m0\nturn e1.m0\n"))
         self.assertIn("No message waits", self.helps("turn e9.m0\n"))
 
     def test_names(self):
         self.assertIn("There is none yet", self.helps("ask a 1\n"))
-        self.assertIn("There are a b.", self.helps("vat a () 0\nvat b () 1\nvar nn := 1\nask c 1\n"))
+        self.assertIn("there: a b.", self.helps("vat a () 0\nvat b () 1\nvar nn := 1\nask c 1\n"))
         self.assertIn("`turn` is one", self.helps("turm e1.m0\n"))
+        self.session.own_words = ("help",)
+        self.assertIn("`help` is one", self.helps("hlep\n"))
         self.assertIn("It is `turn M`", self.helps("turn e1\n"))
         self.assertIn("nn", self.helps("run 2\nask b mm\n"))
         self.assertIn("outside of a function", self.helps("ask b return 1\n"))
@@ -431,8 +443,8 @@ class Helping(unittest.TestCase):
 class Random(unittest.TestCase):
     def test_the_program_takes_the_script_that_is_counted(self):
         chance = random.Random(7)
-        parts = [["vat", "vat", " vat"], ["a", "b", "_", "if", "a1", "1a"], ["()", "(a)", "(a b)", "( a)", "(a", "(a a)", "(b\tc)", "a"],
-                 ["0", "1", "2", "02", "x", "4097", "1 1", ""], ["", "", " ", "\r"]]
+        parts = [["vat", "vat", " vat"], ["a", "b", "_", "if", "a1", "1a"],
+                 ["()", "(a)", "(a b)", "( a)", "(a", "(a a)", "(b\tc)", "a"], ["0", "1", "2", "02", "x", "4097", "1 1", ""], ["", "", " ", "\r"]]
         with Program([STAND_IN]) as program:
             for line in itertools.islice((" ".join(map(chance.choice, parts)) for _ in itertools.count()), 150):
                 reply = program.reply([line, *["run 0"] * script_length(line.removesuffix("\r"))], seconds=10)

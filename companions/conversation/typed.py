@@ -9,7 +9,7 @@ from .texts import is_bracketed, is_open, on_one_line, without_label
 # What the next lines are, as it is told to who types them.
 SCRIPT = "the script: an empty line outside of brackets ends it"
 COUNTED = "the lines of the script, as many as were said"
-ASKED = "the program goes on until its brackets are closed"
+ASKED = "the program goes on until its brackets are closed; an empty line gives it as it is"
 
 VAT = re.compile(r"(vat[ \t]+\S+[ \t]+\([^()]*\))(?:[ \t]+(.*))?", re.DOTALL)
 ASK = re.compile(rf"(ask[ \t]+{NAME})[ \t]+(.*)", re.DOTALL)
@@ -27,12 +27,17 @@ class Typed:
     label: str | None = None
 
 
-def text_in(file):
-    """What a file has, in which bytes that are no text stand for themselves."""
+def bytes_in(file):
+    """What a file has."""
     try:
-        return Path(file).expanduser().read_bytes().decode(errors="surrogateescape")
+        return Path(file).expanduser().read_bytes()
     except OSError as fault:
         raise NotTyped(f"cannot read {file}: {fault.strerror}") from fault
+
+
+def text_in(file):
+    """What a file has, in which bytes that are no text stand for themselves."""
+    return bytes_in(file).decode(errors="surrogateescape")
 
 
 def script_of(lines, more):
@@ -71,7 +76,7 @@ def typed_ask(head, text, more):
     if text.startswith("@"):
         file, label = without_label(text)
         return Typed(Command(f"{head} {on_one_line(text_in(file[1:]))}"), label)
-    while is_bracketed(text) and (line := more(ASKED)) is not None:
+    while is_bracketed(text) and (line := more(ASKED)) is not None and line.strip():
         text += "\n" + line
     text, label = without_label(text)
     return Typed(Command(f"{head} {on_one_line(text) if chr(10) in text else text}"), label)

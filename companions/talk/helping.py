@@ -15,7 +15,7 @@ Commands, one a line:
 WAYS = """\
 How they may be typed:
   vat NAME (EARLIER ..)     without a number: the script is typed behind it, up to an empty line outside of brackets
-  ask NAME PROGRAM          goes on in the next lines as long as a bracket is open
+  ask NAME PROGRAM          goes on in the next lines as long as a bracket is open, or up to an empty one
   @FILE                     in place of the number or the program takes it from a file
   COMMAND as LABEL          names its event: $LABEL stands for it, $LABEL.m0 for its first message
   control-C                 ends the wait for a reply, or drops a line that is half typed"""
@@ -48,7 +48,7 @@ def in_one_line(cell):
 def one_command(usage):
     """The lines on a command of the program or of the talk."""
     wants, replies, refused = told_of(read_document(), usage.word)
-    lines = [row(usage).strip()]
+    lines = [row(usage).strip(), *(way for way in WAYS.split("\n") if way.split()[0] == usage.word)]
     lines += [f"  wants: {in_one_line(each)}" for each in wants]
     lines += [f"  reply: {in_one_line(each)}" for each in replies]
     return lines + [f"  {' '.join(['no', each.code, each.name, *each.arguments])}: {in_one_line(each.when)}" for each in refused]

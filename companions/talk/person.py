@@ -13,8 +13,10 @@ from pathlib import Path
 COMPANIONS = Path(__file__).resolve().parents[1]
 # What a terminal is told that is no text: colours, moves of the cursor, modes.
 CONTROL = re.compile(r"\x1b(?:\[[?0-9;]*[A-Za-z]|[=>])|\x07|\r")
+# A wide terminal, and none of the person's own settings.
+PLAIN = {"TERM": "xterm", "INPUTRC": "/dev/null", "COLUMNS": "200"}
 PROMPT = re.compile(r"(?:^|\n)(?:> |\. |# .*\[y/N\] )$")
-SECONDS = 20
+SECONDS = 60
 CONTROL_C = "\x03"
 
 
@@ -27,7 +29,7 @@ class Person:
 
     def __init__(self, folder, *words):
         self.seen = ""
-        variables = {"PYTHONPATH": str(COMPANIONS), "XDG_STATE_HOME": str(folder), "TERM": "xterm", "INPUTRC": "/dev/null", "COLUMNS": "200"}
+        variables = {"PYTHONPATH": str(COMPANIONS), "XDG_STATE_HOME": str(folder), **PLAIN}
         self.terminal, inner = pty.openpty()
         self.process = subprocess.Popen(
             [sys.executable, "-m", "talk", *words], stdin=inner, stdout=inner, stderr=inner, cwd=folder,

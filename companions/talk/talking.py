@@ -11,7 +11,7 @@ from conversation.program import Ended, Stopped
 from conversation.refusals import in_words
 from conversation.replies import events_in, refusal_in
 from conversation.session import UnknownLabel
-from conversation.typed import NotTyped, Typed, typed, written
+from conversation.typed import NotTyped, Typed, bytes_in, typed, written
 
 from .consoles import File
 from .helping import help_on, usages_of
@@ -38,6 +38,7 @@ class Talk:
         self.seen, self.loading, self.faults = set(), [], 0
         ours = (self.help, self.save, self.load, self.labels, self.stop, self.quit)
         self.own = {**{each.__name__: each for each in ours}, "exit": self.quit}
+        session.own_words = tuple(self.own)
 
     def begin(self, file=None):
         """Does the commands of a file, if one is named, and then those of the console."""
@@ -70,9 +71,7 @@ class Talk:
             if self.loading or not self.console.is_terminal:
                 raise
             self.begin_again(ended)
-        except (NotTyped, UnknownLabel, JournalFault, OSError) as fault:
-            if isinstance(fault, BrokenPipeError):
-                raise
+        except (NotTyped, UnknownLabel, JournalFault) as fault:
             self.fault(str(fault))
         return True
 
@@ -179,7 +178,10 @@ class Talk:
         if path.exists() and not self.console.agrees(f"{rest} is there: write over it?"):
             return None
         text = "".join(map(written, commands))
-        path.write_bytes(text.encode(errors="surrogateescape"))
+        try:
+            path.write_bytes(text.encode(errors="surrogateescape"))
+        except OSError as fault:
+            return self.fault(f"cannot write {rest}: {fault.strerror}")
         return self.console.tell([f"{len(commands)} commands are in {rest}: `./run {rest}` does them again"])
 
     def load(self, rest):
@@ -188,7 +190,7 @@ class Talk:
         path = os.path.realpath(Path(rest).expanduser())
         if path in self.loading:
             return self.fault(f"{rest} is being loaded already")
-        source = File(Path(path).read_bytes(), self.console.show)
+        source = File(bytes_in(rest), self.console.show)
         self.loading.append(path)
         try:
             self.converse(source)

@@ -28,10 +28,11 @@ class Case(unittest.TestCase):
         (self.folder / name).write_text(text)
         return name
 
-    def stub(self, cases):
-        """A program that answers the mark, and else as these cases of a shell say."""
+    def stub(self, cases, told=""):
+        """A program that answers the mark, and else as these cases of a shell say, with a help that tells of commands."""
         mark = 'cone*) echo "no B12 NoEvent ${line#cone }";;'
-        self.file("stub", f'#!/bin/sh\nwhile read line; do case "$line" in {mark} {cases} esac; done\n')
+        helping = f'test "$1" = --help && printf "Commands, one a line:\\n{told}" && exit\n'
+        self.file("stub", f'#!/bin/sh\n{helping}while read line; do case "$line" in {mark} {cases} esac; done\n')
         (self.folder / "stub").chmod(0o755)
         return str(self.folder / "stub")
 
@@ -52,7 +53,8 @@ class Terminals(Case):
     def test_a_script_on_several_lines(self):
         person = self.person()
         person.types("vat a ()\ndef o {\n\n to get() { return 7 }\n}\n\n")
-        person.sees("\n# the script: an empty line outside of brackets ends it\n. def o {\n. \n.  to get() { return 7 }\n. }\n. \nok e1 e1.m0\n> ")
+        person.sees("\n# the script: an empty line outside of brackets ends it\n. def o {\n. \n.  to get()")
+        person.sees("{ return 7 }\n. }\n. \nok e1 e1.m0\n> ")
         person.says("turn e1.m0", "# 2 e2 live turn e1.m0 causes e1\n> ")
         person.types("ask a if (true) {\no.get() }\n")
         person.sees("ok e3 e3.m0\n> ")
@@ -87,7 +89,8 @@ class Terminals(Case):
     def test_an_undo_tells_its_cone_and_asks(self):
         person = self.with_a_vat()
         person.says("turn e1.m0", "> ")
-        person.says("undo-cone $v", "# 1 e1 live birth a causes\n# 2 e2 live turn e1.m0 causes e1\n# take back these 2 events? [y/N] ")
+        person.says("undo-cone $v", "# 1 e1 live birth a causes\n# 2 e2 live turn e1.m0 causes e1\n")
+        person.sees("# take back these 2 events? [y/N] ")
         person.types("n\n")
         person.sees("> ")
         person.says("undo-cone e2", "# take back this event? [y/N] ")
@@ -149,7 +152,7 @@ class Terminals(Case):
         person.sees("ok e1 e1.m0\n> ")
         person.types("run 1000000\n")
         person.sees("run 1000000\n")
-        person.interrupts("# the program is still at `run 1000000`; its reply comes before that of the next command, and `stop` ends it\n> ")
+        person.interrupts("# the program is still at `run 1000000`; its reply comes before that of the next command, and `stop`")
         person.types("turn e1.m0\n")
         person.sees("turn e1.m0\n")
         person.interrupts("# the program is still at `run 1000000`")
@@ -194,12 +197,20 @@ class Terminals(Case):
         person = self.person("again")
         person.sees("# again is being loaded already\n> ")
 
+    def test_the_program_tells_of_an_event_where_it_can(self):
+        cases = 'turn*) echo "ok e2 value 1";; event*) printf "2 e2 live turn e1.m0 causes e1\n wrote msg e1.m0 e1\n";;'
+        person = Person(self.folder, "--program", self.stub(cases, "  event E  what an event is\\n"))
+        self.addCleanup(person.__exit__)
+        person.sees("> ")
+        person.says("turn e1.m0", "ok e2 value 1\n# 2 e2 live turn e1.m0 causes e1\n> ")
+
     def test_the_program_is_started_again(self):
         person = Person(self.folder, "--program", self.stub('die) exit 3;; *) echo ok;;'))
         self.addCleanup(person.__exit__)
         person.sees("> ")
         person.says("one", "ok\n> ")
-        person.says("die", "# The program has ended: it ended with 3.\n# It was started again, with the commands before this one.\n> ")
+        person.says("die", "# The program has ended: it ended with 3.\n")
+        person.sees("# It was started again, with the commands before this one.\n> ")
         person.says("two", "ok\n> ")
 
     def test_help(self):

@@ -8,9 +8,13 @@ import os
 import subprocess
 import sys
 from concurrent.futures import ThreadPoolExecutor
+from dataclasses import replace
 from pathlib import Path
 
 from building.programs import named_or_built
+from conversation.commands import commands_of, lines_of
+from conversation.typed import NotTyped, Typed, typed
+from sessions.cases import Case
 from sessions.differences import differences
 from sessions.finding import ROOT, cases_of
 from sessions.running import run
@@ -18,13 +22,26 @@ from sessions.running import run
 SECONDS = 120
 FOLDERS = [str(ROOT / name) for name in ("tests", "examples")]
 OPTIONS = {"--budget", "--workers"}
-TRUNCATED = b"no S4 Truncated\n"
+
+
+def is_read_alike(text):
+    """Whether the talk reads these commands as the program does: none goes on where the program refuses it, or has a label."""
+    for command in commands_of(lines_of(text.decode(errors="surrogateescape"))):
+        script = iter(command.script)
+        try:
+            given = typed(command.line, lambda what: next(script))
+        except (NotTyped, StopIteration):
+            return False
+        if given != Typed(replace(command, start=0)):
+            return False
+    return True
 
 
 def is_for_talk(case):
-    """Whether a case is a session, by options that the talk has, whose scripts are not cut off: of those the talk itself tells."""
-    options = [word for word in getattr(case, "arguments", ["-"]) if word.startswith("-")]
-    return OPTIONS.issuperset(options) and not case.errors and TRUNCATED not in case.replies and ":" not in case.name
+    """Whether a case is a session that the talk can have, by options which it has."""
+    if ":" in case.name or not isinstance(case, Case) or case.errors:
+        return False
+    return OPTIONS.issuperset(word for word in case.arguments if word.startswith("-")) and is_read_alike(case.commands)
 
 
 def tried(program, case):
