@@ -4,6 +4,7 @@ import difflib
 from .commands import ASK, words_of
 from .journal import between, cone, with_causes
 from .language import read_document, told_of
+from .replies import refusal_in
 
 MOST_NAMES = 12
 
@@ -29,7 +30,8 @@ def why(session, first, second):
     if "why" not in session.usages:
         return []
     line = f"why {first} {second}"
-    return [f"`{line}` says:", *(f"  {each}" for each in session.ask(line))]
+    reply = session.ask(line)
+    return [] if refusal_in(reply) else [f"`{line}` says:", *(f"  {each}" for each in reply)]
 
 
 def evaluated(command):
@@ -140,7 +142,7 @@ def crossed(session, command, refusal):
         told.append(f"`undo-cone {live[0]}` first: it takes {live[0]} back, with what came of it.")
     else:
         told.append(f"Both were to be redone: leave {first} out, or {second}.")
-    return told + why(session, second, first)
+    return told + why(session, first, second)
 
 
 def dependent(session, command, refusal):

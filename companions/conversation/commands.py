@@ -48,22 +48,22 @@ def words_of(line):
     return [word for word in re.split(r"[ \t]+", line) if word]
 
 
-def is_command(line):
-    """Whether a line is neither blank nor a comment."""
-    rest = line.lstrip(" \t")
-    return bool(rest) and not rest.startswith("#")
-
-
-def is_vat_name(word):
-    return re.fullmatch(NAME, word) is not None and word not in RESERVED and len(word) <= MOST_NAME
-
-
 def is_readable(line):
     """Whether the program reads a line, which is a text and not too long."""
     try:
         return len(line.encode()) <= MOST_LINE
     except UnicodeEncodeError:
         return False
+
+
+def is_command(line):
+    """Whether the program answers a line: one that it reads and that is blank or a comment has no answer."""
+    rest = line.lstrip(" \t")
+    return not is_readable(line) or bool(rest) and not rest.startswith("#")
+
+
+def is_vat_name(word):
+    return re.fullmatch(NAME, word) is not None and word not in RESERVED and len(word) <= MOST_NAME
 
 
 def are_earlier(words):

@@ -1,6 +1,5 @@
 """How a word of a command may go on, from what the session has now."""
 import glob
-import re
 
 from .commands import words_of
 from .program import Ended, Stopped
@@ -55,6 +54,12 @@ def words_for(session, usage, words, argument):
     return objects(session) if argument == "O" else []
 
 
+def labels(session, argument):
+    """What may stand for an event or a message by its label."""
+    ending = {"E": "", "F": "", "M": ".m0"}.get(argument)
+    return [] if ending is None else [f"${label}{ending}" for label in session.labels]
+
+
 def paths(text):
     return sorted(glob.glob(glob.escape(text) + "*"))
 
@@ -80,5 +85,4 @@ def completions(session, usages, before, text):
         found = usages if argument == "COMMAND" else words_for(session, usage, words, argument)
     except (Ended, Stopped):
         return []
-    labels = [f"${label}" for label in session.labels] if text.startswith("$") and re.fullmatch("[EFM]", argument) else []
-    return [word for word in [*found, *labels] if word.startswith(text)]
+    return [word for word in [*found, *labels(session, argument)] if word.startswith(text)]

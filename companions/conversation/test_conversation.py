@@ -9,7 +9,7 @@ import unittest
 from pathlib import Path
 
 from .advice import advice, pointed
-from .commands import Command, commands_of, lines_of, script_length
+from .commands import Command, commands_of, is_command, lines_of, script_length
 from .completion import completions
 from .journal import JournalFault, between, cone, read_journal, vats, with_causes
 from .language import meanings, read_document, told_of
@@ -86,6 +86,12 @@ class Lines(unittest.TestCase):
     def test_an_open_script_is_told(self):
         self.assertEqual([each.is_complete for each in commands_of(["show", "vat a () 2", "1"])], [True, False])
         self.assertEqual([each.is_complete for each in commands_of(["vat a () 1", "vat a () 2"])], [True])
+
+    def test_what_is_answered(self):
+        for line in ["show", "  x", "# \udcff", " " * 65_537]:
+            self.assertTrue(is_command(line), line[:9])
+        for line in ["", " \t", "# x", "\t#"]:
+            self.assertFalse(is_command(line), line)
 
     def test_what_a_command_says(self):
         said = [command.text for command in commands_of(["vat a () 2", " var n := 1", "n", "ask a  n + 1", "ask a", "show"])]
@@ -205,6 +211,7 @@ class Typing(unittest.TestCase):
     def test_others(self):
         self.assertEqual(self.typed("  turn $q.m0 as t"), (("turn $q.m0",), "t", []))
         self.assertEqual(self.typed("show # all"), (("show # all",), None, []))
+        self.assertEqual(self.typed("  ask a \udcff {", "}"), (("  ask a \udcff {",), None, ["}"]))
 
     def test_files(self):
         with tempfile.NamedTemporaryFile("w") as file:
@@ -427,7 +434,7 @@ class Helping(unittest.TestCase):
         self.assertEqual(self.completed("redo "), [])
         self.assertEqual(self.completed("settle "), [])
         self.session.labels["q"] = "e4"
-        self.assertEqual(self.completed("cone ", "$"), ["$q"])
+        self.assertEqual((self.completed("cone ", "$"), self.completed("turn ", "$")), (["$q"], ["$q.m0"]))
         self.assertEqual(self.completed("nothing ", "e"), [])
 
     def test_what_a_vat_can_learn(self):

@@ -3,7 +3,7 @@ import re
 from dataclasses import dataclass
 from pathlib import Path
 
-from .commands import NAME, Command, lines_of, script_length
+from .commands import NAME, Command, is_readable, lines_of, script_length
 from .texts import is_bracketed, is_open, on_one_line, without_label
 
 # What the next lines are, as it is told to who types them.
@@ -84,6 +84,8 @@ def typed_ask(head, text, more):
 
 def typed(line, more):
     """The command that a line begins; `more` is told what the next line is, and gives it, or nothing at the input's end."""
+    if not is_readable(line):
+        return Typed(Command(line))
     line = line.lstrip(" \t")
     if found := VAT.fullmatch(line):
         return typed_vat(found[1], found[2] or "", more)

@@ -35,7 +35,7 @@ class Talk:
 
     def __init__(self, session, console):
         self.session, self.console = session, console
-        self.seen, self.loading, self.faults = set(), [], 0
+        self.seen, self.loading, self.faults, self.label = set(), [], 0, None
         ours = (self.help, self.save, self.load, self.labels, self.stop, self.quit)
         self.own = {**{each.__name__: each for each in ours}, "exit": self.quit}
         session.own_words = tuple(self.own)
@@ -83,7 +83,7 @@ class Talk:
         """Does a line that was typed, with those that belong to it."""
         if not is_command(line):
             return
-        words = words_of(line)
+        words = words_of(line) or [""]
         with self.console.waiting():
             self.catch_up(words[0])
         if words[0] in self.own and words[0] not in self.session.usages:
@@ -101,15 +101,20 @@ class Talk:
             self.answer(late)
 
     def give(self, given):
+        self.label = given.label
         with self.console.waiting():
-            answered = self.session.give(given.command)
-            self.answer(answered)
-            if given.label and not self.session.label(given.label, answered):
-                self.console.tell([f"${given.label} stands for nothing: the reply names no event, or several"])
+            self.answer(self.session.give(given.command))
+
+    def name_event(self, answered):
+        """Gives the event of a reply the label that was typed behind its command, if one was."""
+        label, self.label = self.label, None
+        if label and not self.session.label(label, answered):
+            self.console.tell([f"${label} stands for nothing: the reply names no event, or several"])
 
     def answer(self, answered):
         """Shows a reply, and tells what was done, or what a refusal means and what helps next."""
         self.console.say(answered.reply)
+        self.name_event(answered)
         self.seen.update(made := events_in(answered.reply))
         if not self.console.is_terminal:
             return
