@@ -145,8 +145,8 @@ class Talk:
         return [names[name] for name in wanted if name in names]
 
     def agrees_to_undo(self, command):
-        """Tells at a terminal what an `undo-cone` would take back, and asks. One that is refused is not asked about."""
-        if not self.console.is_terminal:
+        """Tells what an `undo-cone` would take back, and asks where it was typed at a terminal and will not be refused."""
+        if not self.console.is_terminal or self.loading:
             return True
         with self.console.waiting():
             reply = self.session.ask(f"cone{command.line.removeprefix('undo-cone')}")

@@ -71,21 +71,18 @@ class Terminal:
             with contextlib.suppress(OSError):
                 readline.append_history_file(1, self.history)
 
-    def taken(self, prompt):
+    def taken(self, prompt, is_kept=True):
         """The next line, of what was pasted or is typed; nothing at the end of the input."""
-        if self.pasted:
-            self.show(prompt, self.pasted[0])
-            return self.pasted.popleft()
-        text = self.typed(prompt)
-        if text is None:
-            return None
-        lines = text.split("\n")
-        for line in lines:
-            self.note(line)
-        if len(lines) > 1:
+        if not self.pasted:
+            text = self.typed(prompt)
+            lines = [] if text is None else text.split("\n")
+            for line in lines if is_kept else []:
+                self.note(line)
+            if len(lines) < 2:
+                return text
             self.pasted.extend(lines)
-            return self.taken(prompt)
-        return text
+        self.show(prompt, self.pasted[0])
+        return self.pasted.popleft()
 
     def typed(self, prompt):
         """What is typed behind a prompt; nothing at the end of the input."""
@@ -125,7 +122,8 @@ class Terminal:
         self.tell([text])
 
     def agrees(self, question):
-        return (self.typed(f"{MARK}{question} [y/N] ") or "").strip().lower() in ("y", "yes")
+        answer = self.taken(f"{MARK}{question} [y/N] ", is_kept=False)
+        return (answer or "").strip().lower() in ("y", "yes")
 
     @contextlib.contextmanager
     def waiting(self):

@@ -133,8 +133,9 @@ class Terminals(Case):
 
     def test_what_is_pasted_comes_at_once(self):
         person = self.person()
-        person.types("\x1b[200~vat a () 1\r\tvar n := 1\rturn e1.m0\r\x1b[201~\n")
+        person.types("\x1b[200~vat a () 1\r\tvar n := 1\rturn e1.m0\rundo-cone e2\ry\r\x1b[201~\n")
         person.sees("> vat a () 1\n. \tvar n := 1\nok e1 e1.m0\n> turn e1.m0\nok e2 value 1\n")
+        person.sees("# take back this event? [y/N] y\nok undone 1\n> ")
 
     def test_control_c_drops_a_half_typed_line(self):
         person = self.with_a_vat()
@@ -193,9 +194,9 @@ class Terminals(Case):
         other.says("load none", "No such file")
 
     def test_a_file_that_loads_itself(self):
-        self.file("again", "run 0\nload again\n")
+        self.file("again", "vat a () 0\nundo-cone e1\nload again\n")
         person = self.person("again")
-        person.sees("# again is being loaded already\n> ")
+        person.sees("undo-cone e1\nok undone 1\n> load again\n# again is being loaded already\n> ")
 
     def test_the_program_tells_of_an_event_where_it_can(self):
         cases = 'turn*) echo "ok e2 value 1";; event*) printf "2 e2 live turn e1.m0 causes e1\n wrote msg e1.m0 e1\n";;'
