@@ -5,5 +5,6 @@ pub mod Entered
 pub mod Fault
 pub mod Good
 pub mod Learning
+pub mod Limits
 pub mod Refusals
 pub mod Standing

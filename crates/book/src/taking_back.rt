@@ -1,5 +1,5 @@
 // Undo, redo, exchange and settling, and what comes of an event: what is asked before each, and what it does.
-ghost use Rattle.std.specs.Prelude.{◌≡◌, ◌≢◌, ◌+◌, ◌<◌, ◌≤◌, true, not, [], ◌∷◌, None, IfOk, IfErr, OnOk, length, map, take, OnErr, filter};
+ghost use Rattle.std.specs.Prelude.{◌≡◌, ◌≢◌, ◌+◌, ◌<◌, ◌≤◌, true, not, [], ◌∷◌, None, IsSome, IfOk, IfErr, OnOk, length, map, take, OnErr, filter};
 ghost use Rattle.std.specs.List.{AllByRecursion};
 ghost use Rattle.journal.specs.Items.{item_of};
 ghost use Rattle.journal.specs.Journals.{items_of};
@@ -9,7 +9,7 @@ ghost use Rattle.causality.specs.Walks.{first_item};
 ghost use Rattle.causality.specs.Exact.{Cone};
 ghost use Rattle.causality.specs.Selections.{chosen};
 ghost use Rattle.book.specs.Calls.{StoodAt, Undoes, Redoes, Exchanges, Settles, BaseGoesOn};
-ghost use Rattle.book.specs.Fault.{Tells};
+ghost use Rattle.book.specs.Fault.{told_by, Tells};
 ghost use Rattle.book.specs.declared.fault.BookFault.TheVariants.{Memory};
 ghost use Rattle.book.specs.Refusals.{first, missing_refusal, undone_refusal, live_refusal, undo_refusal, redo_refusal, cone_refusal, exchange_refusal, refuse_where, not_live, placed_refusal, closed_refusal, settle_refusal};
 
@@ -128,6 +128,7 @@ fn check_exchange(journal: Journal, position: usize) -> Result<(EventName, Event
     ensures ok { OnOk result (placed_refusal (length journal.entry.settled.now) (lines_of (items_of journal.entry)) position ≡ None) }
     ensures err { IfErr result (λ fault. Tells fault (placed_refusal (length journal.entry.settled.now) (lines_of (items_of journal.entry)) position)) }
     ensures without_memory { IfErr result (λ fault. fault ≢ Memory) }
+    ensures told { IfErr result (λ fault. IsSome (told_by fault)) }
 {
     if position == 0 || position > journal.len() {
         return Err(BookFault::NoPosition(position));
@@ -230,6 +231,7 @@ impl Book {
         ensures ok { IfOk result (λ r. (exchange_refusal (book_of self.old).settled (book_of self.old).journal position ≡ None) × Exchanges position (book_of self.old) (book_of self.new) × StoodAt position (book_of self.old).journal r.0 r.1) }
         ensures err { IfErr result (λ fault. Tells fault (exchange_refusal (book_of self.old).settled (book_of self.old).journal position)) }
         ensures without_memory { IfErr result (λ fault. fault ≢ Memory) }
+        ensures told { IfErr result (λ fault. IsSome (told_by fault)) }
         ensures unchanged { OnErr result (book_of self.new ≡ book_of self.old) }
     {
         let (first, second) = check_exchange(self.core.journal(), position)?;

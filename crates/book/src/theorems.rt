@@ -3,6 +3,7 @@ ghost use Rattle.book.specs.Calls.{RedoNextGivesBack};
 ghost use Rattle.book.specs.Good.{IsGood, NamesVatsOnce, live_events};
 ghost use Rattle.book.specs.BookView.{book_of};
 ghost use Rattle.ordering.specs.Theorems.{InOrder};
+ghost use Rattle.book.specs.Limits.{LimitsAreNumbers};
 
 use crate::book::Book;
 
@@ -26,4 +27,10 @@ pub fn turns_are_in_order(book: &Book)
 /// No two names stand for one vat in the world of a book.
 pub fn vats_have_one_name(book: &Book)
     ensures { NamesVatsOnce (book_of book.now).world }
+{}
+
+/// An event is named by at most 4,294,967,295, a journal has at most 1,048,576 entries that are not settled, and a turn is given at most
+/// 1,000,000 steps.
+pub fn limits_are_numbers()
+    ensures { LimitsAreNumbers }
 {}

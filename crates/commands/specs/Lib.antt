@@ -6,3 +6,4 @@ pub mod ScriptView
 pub mod Scripts
 pub mod Words
 pub mod Spells
+pub mod Limits

@@ -2,3 +2,4 @@ pub mod Coming
 pub mod Begun
 pub mod Ending
 pub mod Turns
+pub mod Table

@@ -10,7 +10,9 @@ use Rattle.post.specs.Messages.{Message}
 use Rattle.erules.specs.At.{At}
 use Rattle.erules.specs.Laws.{IsWithin, AgreeOn, with_cells, IsWithinRoom}
 use Rattle.erules.specs.Outcomes.{ejected, halt}
+use Rattle.sends.specs.Table.{among}
 use Rattle.deliveries.specs.Spent.{delivery_nodes, delivery_deepest, delivery_place}
+use Rattle.deliveries.specs.Table.{delivery_foot}
 use Rattle.deliveries.specs.Touched.{delivery_touched, delivery_written}
 use Rattle.deliveries.specs.Turn.{Found, Outcome, Delivers, Begins}
 use Rattle.erules.specs.declared.working.TheConstants.{DEEPEST}
@@ -56,3 +58,8 @@ DeliveriesStayInRoom = (g : Message) (f : Found) (e : EventName) (v : VatNo) (s 
 -- a value on its way to an Escape leaves an evaluation only inside that Escape: so none leaves what a delivery runs
 abbrev pub NoEjectionLeavesATurn : Type 0
 NoEjectionLeavesATurn = (d : Delivery) (f : Found) (e : EventName) (w : VatNo) (s : State) (n : ℕ) (b : At) (j : EjId) (v : Val) → Begins d f e w s n (halt (ejected j v)) b → ⊥
+
+-- a delivery touches and writes just the cells that the table has for it
+abbrev pub TurnsTouchByTheTable : Type 0
+TurnsTouchByTheTable = (g : Message) (f : Found) (e : EventName) (v : VatNo) (s : State) (n : ℕ) (o : Outcome) (r : Delivers g f e v s n o) (c : Cell)
+    → (delivery_touched r c ≡ among (delivery_foot r).touched c) × (delivery_written r c ≡ among (delivery_foot r).written c)

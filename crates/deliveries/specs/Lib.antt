@@ -2,4 +2,5 @@ pub mod Turn
 pub mod Touched
 pub mod Spent
 pub mod Outcomes
+pub mod Table
 pub mod Laws

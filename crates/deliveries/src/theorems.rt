@@ -1,5 +1,5 @@
 // What holds of deliveries.
-ghost use Rattle.deliveries.specs.Laws.{AtMostOneDelivery, EachDeliveryHasAnOutcome, WritesAreTouched, DeliveryFrame, OthersStayInTurns, WithinBudget, BudgetIsNodes, NoDeliveryRunsTooDeep, DeliveriesStayInRoom, NoEjectionLeavesATurn};
+ghost use Rattle.deliveries.specs.Laws.{AtMostOneDelivery, EachDeliveryHasAnOutcome, WritesAreTouched, DeliveryFrame, OthersStayInTurns, WithinBudget, BudgetIsNodes, NoDeliveryRunsTooDeep, DeliveriesStayInRoom, NoEjectionLeavesATurn, TurnsTouchByTheTable};
 
 /// A delivery has exactly one outcome. What it writes it touches. It depends on no cell but those that it touches, and leaves each that it does
 /// not write. It takes a step of its budget for each node that begins, runs no node past level 1,000, and makes at most 4,096 slots, as many
@@ -15,4 +15,9 @@ pub fn turns_are_lawful()
     ensures none_runs_too_deep { NoDeliveryRunsTooDeep }
     ensures stays_in_room { DeliveriesStayInRoom }
     ensures no_ejection_leaves { NoEjectionLeavesATurn }
+{}
+
+/// A turn touches and writes just the cells that the table has for it: by how it begins, what it runs, and how it ends.
+pub fn cells_are_those_of_the_table()
+    ensures { TurnsTouchByTheTable }
 {}

@@ -10,6 +10,7 @@ use Rattle.ereader.specs.Brackets.{IsTooDeep}
 use Rattle.ereader.specs.declared.fault.ReadFault.{ReadFault}
 use Rattle.ereader.specs.Texts.{ReadAs}
 use Rattle.etoken.specs.declared.tokens.TheConstants.{MAX_BYTES, MAX_TOKENS}
+use Rattle.ereader.specs.declared.depth.TheConstants.{MOST_OPEN}
 
 -- a text that is read as a program is read as nothing else
 abbrev pub OneReading : Type 0
@@ -37,3 +38,7 @@ ReadsItself = (ts : Trees) → AreSpellable ts → IsWithinLimits ts → ReadAs 
 -- so a program that was read is read again
 abbrev pub ReadsAgain : Type 0
 ReadsAgain = (text : List ℕ) (ts : Trees) → ReadAs text (Ok ts) → IsWithinLimits ts → ReadAs (spelling ts) (Ok ts)
+
+-- the limit on brackets, as a number
+abbrev pub LimitsAreNumbers : Type 0
+LimitsAreNumbers = MOST_OPEN ≡ 100

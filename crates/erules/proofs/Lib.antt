@@ -21,3 +21,4 @@ pub mod Spent
 pub mod Steps
 pub mod Total
 pub mod Locals
+pub mod Table

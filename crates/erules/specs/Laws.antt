@@ -9,6 +9,7 @@ use Rattle.erules.specs.At.{At}
 use Rattle.erules.specs.Outcomes.{End, value, ejected, halt}
 use Rattle.erules.specs.Rules.{Ends, is_open}
 use Rattle.erules.specs.Derivations.{nodes, deepest}
+use Rattle.erules.specs.Table.{Leads, foot}
 use Rattle.erules.specs.declared.working.TheConstants.{DEEPEST, MAX_SLOTS, MAX_OBJECTS, MAX_MESSAGES}
 
 -- the same place in another state, of a turn that began with yet another one
@@ -97,3 +98,11 @@ DefinitionsAreAdded = (k : ℕ) (t : Tree) (a b : At) (v : Val) → Ends k t a (
 -- a value on its way to an Escape leaves a tree only where that Escape is being evaluated around the tree
 abbrev pub EjectionsAreOpen : Type 0
 EjectionsAreOpen = (k : ℕ) (t : Tree) (a b : At) (j : EjId) (v : Val) → Ends k t a (halt (ejected j v)) b → is_open j a.opened ≡ true
+
+-- a tree touches and writes just the cells of its nodes by the table, beside those that were touched and written before
+abbrev pub TreesTouchByTheTable : Type 0
+TreesTouchByTheTable = (k : ℕ) (t : Tree) (a b : At) (o : End) (r : Ends k t a o b) → Leads (foot r) a b
+
+-- the limits of a turn, as numbers
+abbrev pub LimitsAreNumbers : Type 0
+LimitsAreNumbers = (DEEPEST ≡ 1000) × (MAX_SLOTS ≡ 4096) × (MAX_OBJECTS ≡ 4096) × (MAX_MESSAGES ≡ 4096)

@@ -8,6 +8,7 @@ pub mod Rules
 pub mod Derivations
 pub mod View
 pub mod Answered
+pub mod Table
 pub mod Laws
 pub mod Locals
 pub mod Doings

@@ -1,5 +1,5 @@
 // What holds of evaluation.
-ghost use Rattle.erules.specs.Laws.{AtMostOneOutcome, EachTreeHasAnOutcome, TouchedGrows, Frame, OthersStay, WritesAlike, BeginningStays, StepsOnlyFall, PromisesArePaidFor, StepsAreNodes, NoneRunsTooDeep, RoomIsKept, NamesAreOnlyAdded, DefinitionsAreAdded, EjectionsAreOpen};
+ghost use Rattle.erules.specs.Laws.{AtMostOneOutcome, EachTreeHasAnOutcome, TouchedGrows, Frame, OthersStay, WritesAlike, BeginningStays, StepsOnlyFall, PromisesArePaidFor, StepsAreNodes, NoneRunsTooDeep, RoomIsKept, NamesAreOnlyAdded, DefinitionsAreAdded, EjectionsAreOpen, TreesTouchByTheTable, LimitsAreNumbers};
 
 /// A tree has exactly one outcome. It depends on no cell but those that it touches, and leaves each that it does not write.
 /// It takes a step for each node that begins, and gives none back; each promise that it makes is paid for by a step. No node runs
@@ -22,4 +22,14 @@ pub fn evaluation_is_lawful()
     ensures names_are_only_added { NamesAreOnlyAdded }
     ensures definitions_are_added { DefinitionsAreAdded }
     ensures ejections_are_open { EjectionsAreOpen }
+{}
+
+/// A tree touches and writes just the cells that the table has for its nodes, beside those that were touched and written before.
+pub fn cells_are_those_of_the_table()
+    ensures { TreesTouchByTheTable }
+{}
+
+/// No node begins past level 1,000; a turn makes at most 4,096 slots, 4,096 objects and 4,096 messages.
+pub fn limits_are_numbers()
+    ensures { LimitsAreNumbers }
 {}

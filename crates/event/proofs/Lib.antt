@@ -17,3 +17,4 @@ pub mod Adding
 pub mod Bringing
 pub mod Noted
 pub mod Naming
+pub mod Table

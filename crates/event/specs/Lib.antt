@@ -4,6 +4,7 @@ pub mod Events
 pub mod ReadyView
 pub mod Learning
 pub mod Forwarding
+pub mod Table
 pub mod Laws
 pub mod Runs
 pub mod Effects

@@ -16,14 +16,9 @@ use Rattle.ids.specs.KeyLaws.{same_two, same_three, exact_slot, exact_object, ex
 use Rattle.ids.specs.contracts.reference.ReferencePartialEq.TheImpl as test
 use Rattle.ids.specs.declared.reference.Reference.{Reference}
 use Rattle.ids.specs.declared.reference.Reference.TheVariants as reference
-use Rattle.ids.specs.CellKeys.{same_key, SameIsEqual, EventsTellApart}
+use Rattle.ids.specs.CellKeys.{same_key, SameIsEqual}
 use Rattle.ids.specs.declared.cells.CellKey.{CellKey}
 use Rattle.ids.specs.declared.cells.CellKey.TheVariants as key
-
--- a test that leads to equality answers no where that fails
-told_apart : {A : Type 0} (b : Bool) (a c : A) → (b ≡ true → a ≡ c) → (a ≡ c → ⊥) → b ≡ false
-told_apart true a c h g = absurd (g (h refl))
-told_apart false a c h g = refl
 
 two_self : (e i : ℕ) → same_two e e i i ≡ true
 two_self e i = ap₂ (λ a b. a && b) (eq-eqb e e refl) (eq-eqb i i refl)
@@ -60,14 +55,6 @@ same_self (key.Board p) = promise_self p
 
 pub same_is_equal : SameIsEqual
 same_is_equal k d = (same_exact k d, same_self k)
-
-pub events_tell_apart : EventsTellApart
-events_tell_apart = (
-  λ s t h. told_apart _ s t (λ e. exact_slots s t (equal (slot_cmp s t) e)) (λ e. h (ap (λ x. x.event.0) e)),
-  λ i j h. told_apart _ i j (λ e. exact_objects i j (equal (object_cmp i j) e)) (λ e. h (ap (λ x. x.event.0) e)),
-  λ m n h. told_apart _ m n (λ e. exact_messages m n (equal (message_cmp m n) e)) (λ e. h (ap (λ x. x.event.0) e)),
-  λ p q h. told_apart _ p q (λ e. exact_promises p q (equal (promise_cmp p q) e)) (λ e. h (ap (λ x. x.event.0) e)),
-)
 
 -- two tests that both tell whether two things are equal agree
 agree : (p q : Bool) → (p ≡ true → q ≡ true) → (q ≡ true → p ≡ true) → p ≡ q

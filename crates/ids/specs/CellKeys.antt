@@ -1,13 +1,9 @@
 -- When two keys of cells are the same, and what holds of keys.
-use Rattle.std.specs.Prelude.{◌≡◌, ◌≢◌, Bool, true, false, ◌&&◌}
+use Rattle.std.specs.Prelude.{◌≡◌, Bool, true, false, ◌&&◌}
 use Rattle.std.specs.Str.{bytes_eq}
 use Rattle.std.specs.Ordering.{is_eq}
 use Rattle.ids.specs.Cells.{vat_cmp, message_cmp, promise_cmp, slot_cmp, object_cmp}
 use Rattle.ids.specs.References.{same_reference}
-use Rattle.ids.specs.declared.names.SlotId.{SlotId}
-use Rattle.ids.specs.declared.names.ObjId.{ObjId}
-use Rattle.ids.specs.declared.names.MsgId.{MsgId}
-use Rattle.ids.specs.declared.names.PromId.{PromId}
 use Rattle.ids.specs.declared.cells.CellKey.{CellKey}
 use Rattle.ids.specs.declared.cells.CellKey.TheVariants as key
 
@@ -25,11 +21,3 @@ same_key _ _ = false
 -- keys that are the same are one key, and each is the same as itself
 abbrev pub SameIsEqual : Type 0
 SameIsEqual = (k d : CellKey) → (same_key k d ≡ true → k ≡ d) × (same_key k k ≡ true)
-
--- what different events made has different names
-abbrev pub EventsTellApart : Type 0
-EventsTellApart =
-    ((s t : SlotId) → s.event.0 ≢ t.event.0 → is_eq (slot_cmp s t) ≡ false)
-    × ((i j : ObjId) → i.event.0 ≢ j.event.0 → is_eq (object_cmp i j) ≡ false)
-    × ((m n : MsgId) → m.event.0 ≢ n.event.0 → is_eq (message_cmp m n) ≡ false)
-    × ((p q : PromId) → p.event.0 ≢ q.event.0 → is_eq (promise_cmp p q) ≡ false)

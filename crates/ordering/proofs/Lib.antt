@@ -11,3 +11,4 @@ pub mod Awaiting
 pub mod Turned
 pub mod Steps
 pub mod Runs
+pub mod Sending

@@ -40,7 +40,7 @@ all_do e w f (forwards is at its to) = (_, do_forward)
 all_do e w f (learns h is l) = (_, do_learn is)
 all_do e w f (turns {t = t} h l) = (_, do_turn (ap message_in h.waiting) h.delivers.0)
 
-runs_do : {es : List Event} {w : World} → Run events empty es w → (ps : List (Event × Deed)) × RanFromNothing es w ps
+pub runs_do : {es : List Event} {w : World} → Run events empty es w → (ps : List (Event × Deed)) × RanFromNothing es w ps
 runs_do run_none = ([], record { events = refl; ran = refl })
 runs_do (run_more {e = e} {w = w} {f = f} r does) =
     let h = runs_do r in
@@ -97,7 +97,7 @@ does_keep {w = w} e (turns {e = d} {m = m} {t = t} {left = left} h l) n none i =
     ∙ passed boards last w (key.Msg k) (board_passes_messages (counted w t.outcome.out.publications) k)
     ∙ there_case w m k t.message g (ap message_in h.waiting) (none i) (same_message m k) refl
 
-names_run : (ps : List (Event × Deed)) (w : World) → Ran book empty ps w → (e : EventName) → AllByRecursion (λ d. d.name ≡ e → ⊥) (map (λ p. p.0) ps) → HasNoMessage e w
+pub names_run : (ps : List (Event × Deed)) (w : World) → Ran book empty ps w → (e : EventName) → AllByRecursion (λ d. d.name ≡ e → ⊥) (map (λ p. p.0) ps) → HasNoMessage e w
 names_run [] w r e h = λ i. ap (λ (u : World). u (key.Msg (record { event = e; index = i }))) r
 names_run (p ∷ ps) w (x, r, (f, does, its, d)) e h = subst (HasNoMessage e) (sym its) (does_keep e does h.0 (names_run ps x r e h.1))
 

@@ -4,3 +4,4 @@ pub mod Reading
 pub mod Laws
 pub mod Deeds
 pub mod Theorems
+pub mod Sending

@@ -2,6 +2,7 @@
 ghost use Rattle.eorder.specs.Worlds.{StepLaw};
 ghost use Rattle.ordering.specs.Deeds.{happening};
 ghost use Rattle.ordering.specs.Laws.{DeliveriesAct, LearningActs};
+ghost use Rattle.ordering.specs.Sending.{OthersSendNothingOfIt, SendsAreNew, NewTurnsWantReadyMessages};
 ghost use Rattle.ordering.specs.Theorems.{RunsAreDeeds, RunsKeepOrder, RunsAreInOrder, JournalsKeepOrder};
 
 /// What a delivery does to the fences of its vat, and the fences in what it makes, are just what its acts make of the fences from
@@ -24,4 +25,12 @@ pub fn turns_keep_the_order_of_messages()
     ensures runs { RunsKeepOrder }
     ensures in_order { RunsAreInOrder }
     ensures journals { JournalsKeepOrder }
+{}
+
+/// In the world of a run from the empty world, a turn of an event that has a new name sends messages that are new there, whatever it
+/// sends. So it can happen exactly where its message is ready.
+pub fn turns_send_new_messages()
+    ensures messages { OthersSendNothingOfIt }
+    ensures sends { SendsAreNew }
+    ensures turns { NewTurnsWantReadyMessages }
 {}

@@ -6,3 +6,7 @@ pub mod Finding
 pub mod Constructs
 pub mod Methods
 pub mod Told
+pub mod Past
+pub mod Meanings
+pub mod Says
+pub mod Lawful

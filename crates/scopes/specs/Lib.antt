@@ -1,3 +1,4 @@
+pub mod Bindings
 pub mod Check
 pub mod Found
 pub mod Free

@@ -266,6 +266,10 @@ checked_program ts s =
     if nat_lt MOST_NODES (nodes_in ts) then Err too_long
     else (if nat_lt GREATEST_DEPTH (depth_in ts) then Err too_deep else checked_all ts s)
 
+-- the limits of a tree, as numbers
+abbrev pub LimitsAreNumbers : Type 0
+LimitsAreNumbers = (MOST_NODES ≡ 16384) × (GREATEST_DEPTH ≡ 200)
+
 -- the name that a definition adds
 abbrev pub name_of : Pattern → List TopName
 name_of (pattern.Name x) = defined_name x ∷ []

@@ -6,7 +6,9 @@ mod count;
 mod free;
 mod naming;
 mod parts;
+mod theorems;
 
 pub use checking::{CheckFault, Outer, check};
 pub use free::{captured_by_when, captured_names, checks_free_names};
 pub use naming::{Kind, TopName, adds_own_names, top_names};
+pub use theorems::{limits_are_numbers, scopes_are_lawful};

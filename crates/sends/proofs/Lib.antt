@@ -1,6 +1,9 @@
 pub mod Playing
 pub mod Followed
 pub mod Settled
+pub mod Feet
+pub mod Table
+pub mod Made
 pub mod Did
 pub mod Steps
 pub mod Looking

@@ -1,5 +1,6 @@
 pub mod Vats
 pub mod Making
 pub mod Playing
+pub mod Table
 pub mod Laws
 pub mod View

@@ -1,6 +1,7 @@
 -- From what the parts answer to what the definition allows.
 use Rattle.std.proofs.Common.{◌≡◌, inl, inr, ℕ, ◌+◌, List, Option, Some, None, Result, Ok, Err, true, false, ◌||◌, refl, subst, sym, ap, ◌∙◌}
-use Rattle.std.specs.Prelude.{codes, IfOk, Bool}
+use Rattle.std.specs.Prelude.{codes, IfOk, IsSome, Bool}
+use Rattle.std.proofs.lemmas.Bool.{false≢true}
 use Rattle.kernele.specs.Tree.{Trees}
 use Rattle.ereader.specs.Texts.{ReadAs}
 use Rattle.ereader.specs.Texts as texts
@@ -35,7 +36,7 @@ use Rattle.commands.specs.Commands as commands
 use Rattle.commands.specs.Commands.{Spelled, fault_text}
 use Rattle.commands.specs.Scripts.{script_of, behind_lines}
 use Rattle.commands.specs.declared.command.LineFault.{LineFault}
-use Rattle.stepper.specs.Replies.{refused, Answers, ask_without_memory, asked_without_memory, asked_unread, ask_refused, Moves, move_without_memory, arrival_refused, arrives, forwarding_refused, forwards, turn_without_memory_named, turn_refused, turns, learning_refused, learns, learn_without_memory, learn_refused, learn_accepted, EnabledIn, enabled, enabled_without_memory, done_text, count_of, undone_text, redone_text, listed, logged, logged_text, cone_found, undo_cone_found, cone_without_memory, cone_refused, undo_without_memory, undo_refused, undo_accepted, undo_cone_without_memory, undo_cone_refused, redo_without_memory, redo_refused, redo_accepted, exchange_without_memory, exchange_refused, exchange_accepted, settle_without_memory, settle_refused, settle_accepted, exchanged_text, settled_text, AnswersBirth, birth_without_memory, script_without_memory, script_unread, birth_refused, birth_accepted, ask_accepted, queued_text, turned_text, FirstReply, born, answered, script_refused}
+use Rattle.stepper.specs.Replies.{refused, Answers, ask_without_memory, asked_without_memory, asked_unread, ask_refused, Moves, move_without_memory, arrival_refused, arrives, forwarding_refused, forwards, turn_without_memory_named, turn_refused, turns, learning_refused, learns, learn_without_memory, learn_refused, learn_accepted, EnabledIn, enabled, enabled_without_memory, done_text, count_of, undone_text, redone_text, listed, logged, logged_text, cone_found, undo_cone_found, cone_without_memory, cone_refused, undo_without_memory, undo_refused, undo_accepted, undo_cone_without_memory, undo_cone_refused, redo_without_memory, redo_refused, redo_accepted, exchange_refused, exchange_accepted, settle_without_memory, settle_refused, settle_accepted, exchanged_text, settled_text, AnswersBirth, birth_without_memory, script_without_memory, script_unread, birth_refused, birth_accepted, ask_accepted, queued_text, turned_text, FirstReply, born, answered, script_refused}
 use Rattle.causewaylog.specs.Turns.{live_in}
 use Rattle.causewaylog.specs.Log.{log_text}
 pub use Rattle.printing.proofs.Listings.{on_ok}
@@ -50,6 +51,11 @@ told_so None o T h g m = m
 
 pub told : (f : BookFault) (o : Option Refusal) (T : List ℕ → Type 0) → Tells f o → ((r : Refusal) → o ≡ Some r → T (refusal_text r)) → T (codes "B20 Memory") → T (book.fault_text f)
 told f o T h g m = told_so (told_by f) o T h g m
+
+-- a fault that is no want of memory is written as the refusal that it tells
+told_why : (is o : Option Refusal) (T : List ℕ → Type 0) → IsSome is → TellsThat is o → ((r : Refusal) → o ≡ Some r → T (refusal_text r)) → T (words_of is)
+told_why (Some r) o T some h g = g r h
+told_why None o T some h g = absurd (false≢true some)
 
 -- a fault of reading is written as the text's refusal, or as want of memory
 pub unread : (f : ReadFault) (text : List ℕ) (T : List ℕ → Type 0) → texts.Answers text (Err f) → (ReadAs text (Err f) → T (reading.shown f)) → T (codes "L7 Memory") → T (reading.shown f)
@@ -207,11 +213,11 @@ module _ (budget : ℕ) (b : Book) where
       → Answers budget b (commands.redo events) (redone_text count) false d
   redo_done {events = events} {d = d} (none, redoes, same) = subst (λ n. Answers budget b (commands.redo events) (redone_text n) false d) (sym same) (redo_accepted none redoes)
 
-  exchange_told : (position : ℕ) (f : BookFault) → Tells f (exchange_refusal b.settled b.journal position) → Answers budget b (commands.exchange position) (refused (book.fault_text f)) true b
-  exchange_told position f t = told f (exchange_refusal b.settled b.journal position) (λ words. Answers budget b (commands.exchange position) (refused words) true b) t (λ r h. exchange_refused h) exchange_without_memory
+  exchange_told : (position : ℕ) (f : BookFault) → IsSome (told_by f) → Tells f (exchange_refusal b.settled b.journal position) → Answers budget b (commands.exchange position) (refused (book.fault_text f)) true b
+  exchange_told position f some t = told_why (told_by f) (exchange_refusal b.settled b.journal position) (λ words. Answers budget b (commands.exchange position) (refused words) true b) some t (λ r h. exchange_refused h)
 
-  pub exchange_fails : {position : ℕ} (f : BookFault) {d : Book} → Tells f (exchange_refusal b.settled b.journal position) → d ≡ b → Answers budget b (commands.exchange position) (refused (book.fault_text f)) true d
-  exchange_fails {position = position} f t stays = subst (λ z. Answers budget b (commands.exchange position) (refused (book.fault_text f)) true z) (sym stays) (exchange_told position f t)
+  pub exchange_fails : {position : ℕ} (f : BookFault) {d : Book} → IsSome (told_by f) → Tells f (exchange_refusal b.settled b.journal position) → d ≡ b → Answers budget b (commands.exchange position) (refused (book.fault_text f)) true d
+  exchange_fails {position = position} f some t stays = subst (λ z. Answers budget b (commands.exchange position) (refused (book.fault_text f)) true z) (sym stays) (exchange_told position f some t)
 
   pub exchange_done : {position : ℕ} {e f : EventName} {d : Book} → (exchange_refusal b.settled b.journal position ≡ None) × Exchanges position b d × StoodAt position b.journal e f
       → Answers budget b (commands.exchange position) (exchanged_text e f) false d

@@ -27,7 +27,8 @@ use Rattle.book.specs.Calls.{Tells, Enters, EntersNext, EntersTurn, TurnsNext}
 use Rattle.book.proofs.Sets.{World-set}
 use Rattle.stepper.specs.Replies.{told_text, turned_text}
 use Rattle.stepper.specs.Laws.{SameLine, SameLines, SameBook}
-use Rattle.stepper.proofs.SameBooks.{lines_more, same_causes}
+use Rattle.stepper.proofs.SameBooks.{same_causes}
+use Rattle.stepper.proofs.SameLines.{lines_more}
 
 bools : IsSet Bool
 bools = hlevel props

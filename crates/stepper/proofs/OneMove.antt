@@ -29,6 +29,19 @@ pub record SameMove (r : List ℕ) (q : Bool) (b : Book) (s : List ℕ) (p : Boo
 pub answered : {r s : List ℕ} {q p : Bool} {b d : Book} → SameMove r q b s p d → SameAnswer r q b s p d
 answered {r = r} h = record { reply = subst (SameReply r) (sym h.reply) one_reply; refusal = h.refusal; book = h.book }
 
+pub answer_once : {r s : List ℕ} {q : Bool} {d e : Book} → s ≡ r → SameBook d e → SameAnswer r q d s q e
+answer_once {r = r} same h = record { reply = subst (SameReply r) (sym same) one_reply; refusal = refl; book = h }
+
+pub refused_once : {o p : Option Refusal} {r s : Refusal} {b c : Book} → SameBook b c → p ≡ o → o ≡ Some r → p ≡ Some s → SameAnswer (refused (refusal_text r)) true b (refused (refusal_text s)) true c
+refused_once {r = r} {s = s} same alike h k = let one : s ≡ r = cc in answer_once (ap (λ z. refused (refusal_text z)) one) same
+
+-- what is refused in one book is not accepted in the same
+pub not_refused : {A : Type 0} {o p : Option Refusal} {r : Refusal} → p ≡ o → o ≡ Some r → p ≡ None → A
+not_refused alike h k = absurd (cc)
+
+pub not_accepted : {A : Type 0} {o p : Option Refusal} {r : Refusal} → p ≡ o → o ≡ None → p ≡ Some r → A
+not_accepted alike h k = absurd (cc)
+
 pub not_both : {P A : Type 0} {o : Option A} {x : A} → o ≡ Some x → o ≡ None → P
 not_both h k = absurd (cc)
 

@@ -1,5 +1,5 @@
 -- What books that are the same have in common: what they refuse, what may be done first, and the causes of what is entered.
-use Rattle.std.proofs.Common.{◌≡◌, ℕ, suc, ◌-◌, Bool, true, false, List, [], ◌∷◌, ◌++◌, length, Option, Some, None, map, filter, refl, sym, ap, subst, ◌∙◌, cond}
+use Rattle.std.proofs.Common.{◌≡◌, ℕ, ◌-◌, Bool, true, false, List, [], ◌∷◌, Option, Some, None, map, filter, refl, sym, ap, subst, ◌∙◌, cond}
 use Rattle.std.specs.Prelude.{◌&&◌, ◌||◌, not, is_some, nat_lt, nat_le, reverse}
 use Rattle.std.specs.List.{list_any}
 use Rattle.std.specs.Option.{option_map}
@@ -12,35 +12,25 @@ use Rattle.ids.specs.declared.cells.CellKey.{CellKey}
 use Rattle.ids.specs.declared.names.MsgId.{MsgId}
 use Rattle.ids.specs.declared.names.PromId.{PromId}
 use Rattle.ids.specs.declared.names.VatNo.{VatNo}
-use Rattle.worldcells.specs.World.{World, message_of}
+use Rattle.kernele.specs.Tree.{Name, Trees}
+use Rattle.scopes.specs.Scope.{checked_program, script_scopes, asked_scopes}
+use Rattle.post.specs.Messages.{Vat}
+use Rattle.worldcells.specs.World.{World, vat_named, message_of}
 use Rattle.event.specs.Ready.{lost, early, place_of}
 use Rattle.agenda.specs.Agendas.{can_learn}
-use Rattle.agenda.specs.Enabled.{First}
+use Rattle.agenda.specs.Enabled.{First, Enabled}
 use Rattle.agenda.specs.declared.agenda.Step.{Step}
 use Rattle.desk.specs.Desks.{Lent, has_vat}
 use Rattle.journal.specs.Lines.{plain, Line, entries_in}
 use Rattle.journal.proofs.Reversed.{map-reverse, filter-reverse}
 use Rattle.journal.proofs.Touching.{same_truth}
 use Rattle.causality.proofs.Writers.{plain_laws}
-use Rattle.book.specs.Refusals.{first, refuse_where, full, full_refusal, nothing_to_learn, vat_out, arrival_refusal_by, arrival_refusal, refusal_of, onward_refusal, forward_refusal, learning_refusal, budget_refusal, message_out, checkout_refusal}
+use Rattle.book.specs.Refusals.{first, refuse_where, full, full_refusal, nothing_to_learn, vat_out, arrival_refusal_by, arrival_refusal, refusal_of, onward_refusal, forward_refusal, learning_refusal, budget_refusal, message_out, checkout_refusal, check_refusal, taken_refusal, named_refusal, birth_refusal, ask_refusal_by, ask_refusal, learn_refusal_by, learn_refusal}
 use Rattle.book.specs.Books.{Book}
-use Rattle.stepper.specs.Replies.{FirstIn}
+use Rattle.stepper.specs.Replies.{FirstIn, EnabledIn}
 use Rattle.stepper.specs.Laws.{SameLine, SameLines, SameBook}
+use Rattle.stepper.proofs.SameLines.{same_length, same_lines_back}
 use Rattle.book.specs.declared.book.TheConstants.{MOST_ENTRIES}
-
--- ---- lines
-
-same_length : (ls ms : List Line) → SameLines ls ms → length ms ≡ length ls
-same_length [] [] h = refl
-same_length [] (m ∷ ms) h = absurd h
-same_length (l ∷ ls) [] h = absurd h
-same_length (l ∷ ls) (m ∷ ms) h = ap suc (same_length ls ms h.1)
-
-pub lines_more : (ls ms : List Line) (l m : Line) → SameLines ls ms → SameLine l m → SameLines (ls ++ l ∷ []) (ms ++ m ∷ [])
-lines_more [] [] l m h one = (one, tt)
-lines_more [] (y ∷ ys) l m h one = absurd h
-lines_more (x ∷ xs) [] l m h one = absurd h
-lines_more (x ∷ xs) (y ∷ ys) l m h one = (h.0, lines_more xs ys l m h.1 one)
 
 -- ---- causes
 
@@ -67,7 +57,7 @@ written_too : (test : CellKey → Bool) (f g : Foot plain) → ((k : CellKey) �
 written_too test f g same h = let k = some_written test f.writes h in any_written plain plain_laws test g.writes k.0 tt (some_unit _ (same k.0 ∙ k.2)) k.1
 
 module _ (f g : Foot plain) (alike : (k : CellKey) → touches plain g k ≡ touches plain f k) where
-  same_meets : (l m : Line) → SameLine l m → meets plain m.entry.foot g ≡ meets plain l.entry.foot f
+  pub same_meets : (l m : Line) → SameLine l m → meets plain m.entry.foot g ≡ meets plain l.entry.foot f
   same_meets l m h =
       (λ i. list_any (λ p. alike p.0 i) m.entry.foot.writes)
       ∙ same_truth _ _ (written_too (touches plain f) m.entry.foot l.entry.foot (λ k. sym (h.written k))) (written_too (touches plain f) l.entry.foot m.entry.foot h.written)
@@ -125,7 +115,34 @@ module _ {b c : Book} (h : SameBook b c) where
       (first (refuse_where (message_out (message_of (h.world i) m) (h.out i)) vat_out)
       (first (option_map (refusal_of m) (early (h.world i) m)) (same_full i))))
 
+  asked_by : (o : Option Vat) (x : Name) (program : Trees) → ask_refusal_by o c x program ≡ ask_refusal_by o b x program
+  asked_by None x program = refl
+  asked_by (Some v) x program = ap (first (check_refusal (checked_program program (asked_scopes v.earlier v.tops)))) same_full
+
+  pub same_ask : (x : Name) (program : Trees) → ask_refusal c x program ≡ ask_refusal b x program
+  same_ask x program = asked_by (vat_named c.world x) x program ∙ ap (λ (w : World). ask_refusal_by (vat_named w x) b x program) h.world
+
+  pub same_birth : (x : Name) (earlier : List Name) (script : Trees) → birth_refusal c x earlier script ≡ birth_refusal b x earlier script
+  same_birth x earlier script = λ i.
+      first (taken_refusal x (vat_named (h.world i) x))
+      (first (named_refusal (h.world i) earlier) (first (check_refusal (checked_program script (script_scopes earlier))) (same_full i)))
+
+  learnt_by : (o : Option Vat) (x : Name) (p : PromId) → learn_refusal_by o c x p ≡ learn_refusal_by o b x p
+  learnt_by None x p = refl
+  learnt_by (Some v) x p = same_learning v.number p
+
+  pub same_learn : (x : Name) (p : PromId) → learn_refusal c x p ≡ learn_refusal b x p
+  same_learn x p = learnt_by (vat_named c.world x) x p ∙ ap (λ (w : World). learn_refusal_by (vat_named w x) b x p) h.world
+
   -- ---- what may be done first
 
   pub same_first : (o : Option Step) → FirstIn c o → FirstIn b o
   same_first o f = subst (λ (x : World × List Lent). First x.0 (λ v. has_vat v x.1) o) (λ i. (h.world i, h.out i)) f
+
+  pub same_enabled : (found : List Step) → EnabledIn c found → EnabledIn b found
+  same_enabled found f = subst (λ (x : World × List Lent). Enabled x.0 (λ v. has_vat v x.1) found) (λ i. (h.world i, h.out i)) f
+
+  -- ---- the other way round
+
+  pub same_book_back : SameBook c b
+  same_book_back = record { world = sym h.world; settled = sym h.settled; next = sym h.next; out = sym h.out; journal = same_lines_back b.journal c.journal h.journal }

@@ -1,17 +1,18 @@
--- What holds of replies: each is a function of the book and the command, but for want of memory, the place of `L5` and the work of threads.
-use Rattle.std.specs.Prelude.{◌≡◌, ℕ, List, [], ◌∷◌, ◌++◌, Bool, is_some, Result}
+-- What holds of replies: each is a function of the book and the command, and all are one of the input, but for want of memory, the place of
+-- `L5` and the work of threads.
+use Rattle.std.specs.Prelude.{◌≡◌, ℕ, List, [], ◌∷◌, ◌++◌, Bool, is_some, Option, Some, Result, Ok}
 use Rattle.history.specs.Subject.{touches, new}
 use Rattle.ids.specs.declared.cells.CellKey.{CellKey}
 use Rattle.ereader.specs.Shown as reading
 use Rattle.scopes.specs.Words.{no_memory}
 use Rattle.ereader.specs.declared.fault.ReadFault.TheVariants as read_fault
 use Rattle.journal.specs.Lines.{plain, Line}
-use Rattle.book.specs.Books.{Book}
+use Rattle.book.specs.Books.{Book, blank}
 use Rattle.book.specs.Good.{IsGood}
 use Rattle.commands.specs.Commands as command
 use Rattle.commands.specs.Commands.{Spelled}
 use Rattle.commands.specs.declared.command.LineFault.{LineFault}
-use Rattle.stepper.specs.Replies.{refused, Answers, AnswersBirth}
+use Rattle.stepper.specs.Replies.{refused, Answers, AnswersBirth, said, Replies, no_more, first_and_more, RepliesBefore}
 
 -- two lines of a journal tell the same: one event from one seat, live or undone, with the same causes, which touched and wrote the same cells
 pub record SameLine (l m : Line) : Type 0 where
@@ -65,12 +66,42 @@ abbrev pub IsTold : Spelled → Type 0
 IsTold (command.work k n) = ⊥
 IsTold _ = Unit {0}
 
--- a command has one answer at most in a good book, where memory does not run out
+-- books that are the same, and good, have one answer at most to a command, where memory does not run out; each book is the same as itself
 abbrev pub OneAnswer : Type 0
-OneAnswer = (budget : ℕ) (b : Book) (c : Spelled) (r s : List ℕ) (q p : Bool) (d e : Book) → IsGood b → IsTold c → Answers budget b c r q d → Answers budget b c s p e
+OneAnswer = (budget : ℕ) (b c : Book) (x : Spelled) (r s : List ℕ) (q p : Bool) (d e : Book) → IsGood b → SameBook b c → IsTold x → Answers budget b x r q d → Answers budget c x s p e
     → ¬ EndsForWant r → ¬ EndsForWant s → SameAnswer r q d s p e
 
 -- so has a new vat
 abbrev pub OneBirth : Type 0
-OneBirth = (b : Book) (x : List ℕ) (earlier : List (List ℕ)) (script : Result (List ℕ) LineFault) (r s : List ℕ) (q p : Bool) (d e : Book) → AnswersBirth b x earlier script r q d
-    → AnswersBirth b x earlier script s p e → ¬ EndsForWant r → ¬ EndsForWant s → SameAnswer r q d s p e
+OneBirth = (b c : Book) (x : List ℕ) (earlier : List (List ℕ)) (script : Result (List ℕ) LineFault) (r s : List ℕ) (q p : Bool) (d e : Book) → SameBook b c → AnswersBirth b x earlier script r q d
+    → AnswersBirth c x earlier script s p e → ¬ EndsForWant r → ¬ EndsForWant s → SameAnswer r q d s p e
+
+-- what a line says is no `work`
+abbrev pub IsToldLine : Result (Option Spelled) LineFault → Type 0
+IsToldLine (Ok (Some x)) = IsTold x
+IsToldLine _ = Unit {0}
+
+-- of the replies to a whole input: none ends for want of memory, and none is to `work`
+abbrev pub AllTold : {budget : ℕ} {b d : Book} {input replies : List ℕ} {refusal : Bool} → Replies budget b input replies refusal d → Type 0
+AllTold no_more = Unit {0}
+AllTold (first_and_more {input = input} {reply = reply} some first more) = IsToldLine (said input) × (¬ EndsForWant reply) × AllTold more
+
+-- two texts are one, reply by reply
+pub data SameReplies : List ℕ → List ℕ → Type 0 where
+  no_replies : SameReplies [] []
+  same_and_more : {r s rs ss : List ℕ} → SameReply r s → SameReplies rs ss → SameReplies (r ++ rs) (s ++ ss)
+
+-- the replies to two runs are the same: the texts, whether one is a refusal, and the books in the end
+pub record SameRun (rs : List ℕ) (q : Bool) (b : Book) (ss : List ℕ) (p : Bool) (d : Book) : Type 0 where
+  pub replies : SameReplies rs ss
+  pub refusal : p ≡ q
+  pub book : SameBook b d
+
+-- A whole input has one text of replies at most, where none ends for want of memory and none is to `work`: from the blank book on, each reply,
+-- and in the end the book, is a function of the input.
+abbrev pub InputsHaveOneText : Type 0
+InputsHaveOneText = (budget : ℕ) (input rs ss : List ℕ) (q p : Bool) (d e : Book) (h : Replies budget blank input rs q d) (k : Replies budget blank input ss p e) → AllTold h → AllTold k → SameRun rs q d ss p e
+
+-- the replies to whole commands, behind which nothing is left, are those to a whole input
+abbrev pub WholeOnesAreAll : Type 0
+WholeOnesAreAll = (budget : ℕ) (b d : Book) (input replies : List ℕ) (refusal : Bool) → RepliesBefore budget b input replies refusal d [] → Replies budget b input replies refusal d

@@ -178,7 +178,6 @@ pub data Answers (budget : ℕ) : Book → Spelled → List ℕ → Bool → Boo
   redo_refused : {b : Book} {events : List EventName} {r : Refusal} → redo_refusal b.settled b.journal events ≡ Some r → Answers budget b (command.redo events) (refused (refusal_text r)) true b
   redo_accepted : {b d : Book} {events : List EventName} → redo_refusal b.settled b.journal events ≡ None → Redoes events b d
       → Answers budget b (command.redo events) (redone_text (count_of events b.journal)) false d
-  exchange_without_memory : {b : Book} {position : ℕ} → Answers budget b (command.exchange position) (refused (no_memory)) true b
   exchange_refused : {b : Book} {position : ℕ} {r : Refusal} → exchange_refusal b.settled b.journal position ≡ Some r → Answers budget b (command.exchange position) (refused (refusal_text r)) true b
   exchange_accepted : {b d : Book} {position : ℕ} {e f : EventName} → exchange_refusal b.settled b.journal position ≡ None → Exchanges position b d → StoodAt position b.journal e f
       → Answers budget b (command.exchange position) (exchanged_text e f) false d

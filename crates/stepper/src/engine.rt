@@ -288,7 +288,7 @@ impl Engine {
     {
         match self.book.exchange(position) {
             Ok((event, other)) => self.written.exchanged(event, other),
-            Err(fault) => self.written.refuse_call(&fault),
+            Err(refusal) => self.written.refuse_call(&refusal),
         }
     }
 

@@ -5,6 +5,7 @@ use Rattle.values.specs.Same.{same_as}
 use Rattle.values.specs.Replies.{Table, no_method, data_reply}
 use Rattle.values.specs.Verbs.{text_of, word_of}
 use Rattle.values.specs.declared.verb.Word.{Word}
+use Rattle.values.specs.declared.limits.TheConstants.{MOST_WEIGHT, MOST_DEPTH}
 
 -- each value is the same as itself
 abbrev pub SameAsItself : Type 0
@@ -38,3 +39,7 @@ lacking _ = no_method
 -- another text is a verb in no table
 abbrev pub NoOtherVerbs : Type 0
 NoOtherVerbs = (v : Val) (s : List ℕ) (vs : Vals) → word_of s ≡ None → data_reply v s vs ≡ lacking v s vs
+
+-- the limits of values, as numbers
+abbrev pub LimitsAreNumbers : Type 0
+LimitsAreNumbers = (MOST_WEIGHT ≡ 65536) × (MOST_DEPTH ≡ 64)

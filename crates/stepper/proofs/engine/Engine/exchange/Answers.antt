@@ -9,4 +9,4 @@ returns-in-Ok c = on_ok c.exchanged.result
 
 pub returns-in-Err : goal.returns-in-Err
 returns-in-Err c = on_ok c.refuse_call.result
-    (λ a. record { reply = _; refusal = true; allowed = exchange_fails c.args.self.now.budget (book_of c.args.self.now.book) c.in-Err.fault c.in-Err.ensures.err c.in-Err.ensures.unchanged; adds = a; budget = refl }) c.refuse_call.ensures
+    (λ a. record { reply = _; refusal = true; allowed = exchange_fails c.args.self.now.budget (book_of c.args.self.now.book) c.in-Err.refusal c.in-Err.ensures.told c.in-Err.ensures.err c.in-Err.ensures.unchanged; adds = a; budget = refl }) c.refuse_call.ensures
