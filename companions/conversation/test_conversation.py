@@ -20,7 +20,6 @@ from .session import Session, UnknownLabel
 from .texts import is_bracketed, is_open, on_one_line, without_label
 from .typed import NotTyped, typed, written
 from .usages import usages_in
-from .world import read_world
 
 STAND_IN = str(Path(__file__).with_name("stand_in"))
 JOURNAL = """\
@@ -450,8 +449,9 @@ class Helping(unittest.TestCase):
 class Random(unittest.TestCase):
     def test_the_program_takes_the_script_that_is_counted(self):
         chance = random.Random(7)
-        parts = [["vat", "vat", " vat"], ["a", "b", "_", "if", "a1", "1a"],
-                 ["()", "(a)", "(a b)", "( a)", "(a", "(a a)", "(b\tc)", "a"], ["0", "1", "2", "02", "x", "4097", "1 1", ""], ["", "", " ", "\r"]]
+        earlier = ["()", "(a)", "(a b)", "( a)", "(a", "(a a)", "(b\tc)", "a"]
+        numbers = ["0", "1", "2", "02", "x", "4097", "1 1", ""]
+        parts = [["vat", "vat", " vat"], ["a", "b", "_", "if", "a1", "1a"], earlier, numbers, ["", "", " ", "\r"]]
         with Program([STAND_IN]) as program:
             for line in itertools.islice((" ".join(map(chance.choice, parts)) for _ in itertools.count()), 150):
                 reply = program.reply([line, *["run 0"] * script_length(line.removesuffix("\r"))], seconds=10)
