@@ -1,4 +1,4 @@
-"""Looks at what is known of a session. No built program is run, but the plain interpreter and stubs."""
+"""Looks at what is known of a session. The program is the plain interpreter, or the one that EVATS_PROGRAM names."""
 import itertools
 import os
 import random
@@ -21,7 +21,7 @@ from .texts import is_bracketed, is_open, on_one_line, without_label
 from .typed import NotTyped, typed, written
 from .usages import usages_in
 
-STAND_IN = str(Path(__file__).with_name("stand_in"))
+PROGRAM = os.environ.get("EVATS_PROGRAM") or str(Path(__file__).with_name("stand_in"))
 JOURNAL = """\
 1 e1 live birth a causes
 2 e2 live turn e1.m0 causes e1
@@ -232,7 +232,7 @@ class Programs(unittest.TestCase):
         self.folder = folder.name
 
     def test_a_reply_is_whole_however_many_lines_it_has(self):
-        with Program([STAND_IN]) as program:
+        with Program([PROGRAM]) as program:
             self.assertEqual(program.reply(["show"]), ())
             self.assertEqual(program.reply(["vat a () 1", "cone e4294967295"]), ("no L5 Unexpected 5",))
             self.assertEqual(program.reply(["cone e4294967295"]), ("no B12 NoEvent e4294967295",))
@@ -272,7 +272,7 @@ class Programs(unittest.TestCase):
 
 class Sessions(unittest.TestCase):
     def setUp(self):
-        self.session = Session([STAND_IN])
+        self.session = Session([PROGRAM])
         self.addCleanup(lambda: self.session.program.stop())
 
     def give(self, text):
@@ -348,7 +348,7 @@ class Words(unittest.TestCase):
         self.assertEqual(in_words(Refusal("X1", "Strange", ())), "")
 
     def test_the_help_of_the_program(self):
-        usages = usages_in(help_of(STAND_IN))
+        usages = usages_in(help_of(PROGRAM))
         self.assertEqual(usages["vat"].arguments, ("NAME", "EARLIER..", "N"))
         self.assertEqual([usages["undo"].argument(place) for place in (0, 5)], ["E..", "E.."])
         self.assertEqual((usages["show"].arguments, usages["learn"].argument(1), usages["learn"].argument(2)), ((), "P", ""))
@@ -356,7 +356,7 @@ class Words(unittest.TestCase):
         self.assertNotIn("turn", usages_in("turn M   not in the list\n"))
 
     def test_each_command_of_the_help_is_in_the_document(self):
-        for word in usages_in(help_of(STAND_IN)):
+        for word in usages_in(help_of(PROGRAM)):
             self.assertTrue(told_of(read_document(), word)[0], word)
         wants, replies, refused = told_of(read_document(), "undo")
         self.assertEqual(told_of(read_document(), "log")[0], ["just these words"])
@@ -365,7 +365,7 @@ class Words(unittest.TestCase):
 
 class Helping(unittest.TestCase):
     def setUp(self):
-        self.session = Session([STAND_IN])
+        self.session = Session([PROGRAM])
         self.addCleanup(lambda: self.session.program.stop())
 
     def helps(self, text):
@@ -452,9 +452,9 @@ class Random(unittest.TestCase):
         earlier = ["()", "(a)", "(a b)", "( a)", "(a", "(a a)", "(b\tc)", "a"]
         numbers = ["0", "1", "2", "02", "x", "4097", "1 1", ""]
         parts = [["vat", "vat", " vat"], ["a", "b", "_", "if", "a1", "1a"], earlier, numbers, ["", "", " ", "\r"]]
-        with Program([STAND_IN]) as program:
+        with Program([PROGRAM]) as program:
             for line in itertools.islice((" ".join(map(chance.choice, parts)) for _ in itertools.count()), 150):
-                reply = program.reply([line, *["run 0"] * script_length(line.removesuffix("\r"))], seconds=10)
+                reply = program.reply([line, *["run 0"] * script_length(line.removesuffix("\r"))], seconds=60)
                 self.assertEqual(len(reply), 1, line)
 
 

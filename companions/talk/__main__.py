@@ -4,6 +4,7 @@ Without a terminal, commands are read from standard input, and only the program'
 tells the commands, and what the talk adds to them.
 """
 import argparse
+import signal
 import sys
 
 from building import crates, programs
@@ -48,8 +49,15 @@ def talk(session, file):
     return 0 if talking.console.is_terminal else int(bool(session.refusals or talking.faults))
 
 
+def end_by(number, _):
+    """Ends the talk, and the program with it, where the terminal is closed or the talk is asked to end."""
+    sys.exit(128 + number)
+
+
 def main(words=None):
     arguments = words_of(words)
+    for number in (signal.SIGHUP, signal.SIGTERM):
+        signal.signal(number, end_by)
     try:
         with Session(program_words(arguments)) as session:
             return talk(session, arguments.file)

@@ -4,7 +4,6 @@ import os
 import pty
 import re
 import select
-import signal
 import subprocess
 import sys
 import time
@@ -16,7 +15,7 @@ CONTROL = re.compile(r"\x1b(?:\[[?0-9;]*[A-Za-z]|[=>])|\x07|\r")
 # A wide terminal, and none of the person's own settings.
 PLAIN = {"TERM": "xterm", "INPUTRC": "/dev/null", "COLUMNS": "200"}
 PROMPT = re.compile(r"(?:^|\n)(?:> |\. |# .*\[y/N\] )$")
-SECONDS = 60
+SECONDS, PATIENCE = 60, 5
 CONTROL_C = "\x03"
 
 
@@ -47,10 +46,13 @@ class Person:
         return self
 
     def __exit__(self, *_):
-        with contextlib.suppress(ProcessLookupError):
-            os.killpg(self.process.pid, signal.SIGKILL)
-        self.process.wait()
+        """Closes the terminal, which ends the talk."""
         os.close(self.terminal)
+        try:
+            self.process.wait(SECONDS)
+        except subprocess.TimeoutExpired:
+            self.process.kill()
+            self.process.wait()
 
     def types(self, keys):
         os.write(self.terminal, keys.encode())
@@ -91,11 +93,11 @@ class Person:
 
     def interrupts(self, text):
         """Presses control-C until a text is shown: one that comes while a key is being read waits for the next key."""
-        for _ in range(SECONDS - 1):
+        for _ in range(SECONDS // PATIENCE):
             self.types(CONTROL_C)
             with contextlib.suppress(NotSeen):
-                return self.sees(text, 1)
-        return self.sees(text, 1)
+                return self.sees(text, PATIENCE)
+        return self.sees(text, 0)
 
     def ends(self, seconds=SECONDS):
         """What is shown until the talk ends, and its status."""

@@ -53,16 +53,22 @@ class Talk:
             pass
 
     def converse_once(self, source):
-        """Does the next command; tells whether there was one."""
+        """Does the next command; tells whether there was one. Control-C drops it, or the whole file that is being loaded."""
+        try:
+            return self.done_next(source)
+        except KeyboardInterrupt:
+            if not self.console.is_terminal or self.loading:
+                raise
+            self.console.drop()
+            return True
+
+    def done_next(self, source):
+        """Does the next command, and tells what is wrong with it; gives whether there was one."""
         try:
             line = source.first()
             if line is None:
                 return False
             self.do(line, source.more)
-        except KeyboardInterrupt:
-            if not self.console.is_terminal or self.loading:
-                raise
-            self.console.drop()
         except Stopped:
             if self.loading:
                 raise
@@ -165,9 +171,9 @@ class Talk:
 
     def begin_again(self, ended):
         """Starts the program again that has ended."""
-        self.console.tell([f"The program has ended: {ended}."])
         other = self.session.begin_anew()
-        self.console.tell(["It was started again, with the commands before this one.", *self.otherwise(other)])
+        told = [f"The program has ended: {ended}.", "It was started again, with the commands before this one."]
+        self.console.tell([*told, *self.otherwise(other)])
 
     def otherwise(self, command):
         return [f"`{shortened(command.line)}` was answered otherwise than before."] if command else []

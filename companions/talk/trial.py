@@ -1,4 +1,5 @@
-"""Tries `./talk` on the built program: at a terminal of its own, and over pipes, where its replies must be those of the program.
+"""Tries `./talk` on the built program: by its tests, at a terminal too, and over pipes, where its replies must be those of the
+program.
 
 usage: tests/talk [PROGRAM]     (without PROGRAM: the one that ./run proved, else that of ./run --unproved)
 
@@ -52,7 +53,7 @@ def tried(program, case):
 def main(words):
     program = str(Path(named_or_built(words[0] if words else None)).resolve())
     terminal = subprocess.run(
-        [sys.executable, "-m", "unittest", "-q", "talk.test_talk"], cwd=ROOT / "companions",
+        [sys.executable, "-m", "unittest", "-q", "conversation.test_conversation", "talk.test_talk"], cwd=ROOT / "companions",
         env={**os.environ, "EVATS_PROGRAM": program}, check=False,
     )
     cases = [case for case in cases_of(FOLDERS) if is_for_talk(case)]
