@@ -92,7 +92,9 @@ class Person:
         return self.sees(line) and self.sees(reply)
 
     def interrupts(self, text):
-        """Presses control-C until a text is shown: one that comes while a key is being read waits for the next key."""
+        """Presses control-C until a text is shown: one that comes while a key is being read waits for the next key, and one that
+        comes just behind a line drops that line."""
+        time.sleep(0.5)
         for _ in range(SECONDS // PATIENCE):
             self.types(CONTROL_C)
             with contextlib.suppress(NotSeen):
