@@ -6,14 +6,15 @@ each vat, and in it the events from left to right in the journal's order.
 import argparse
 import pathlib
 import re
-import subprocess
 import sys
 
 from building import crates, programs
+from conversation.commands import commands_of, lines_of
+from conversation.journal import JournalFault
+from conversation.program import Ended
+from conversation.session import Session
 
-from .journal import JournalFault, last_journal, read_journal
 from .picture import picture
-from .session import Command, commands_of, lines_of, refusals, said, without_open_script
 
 
 class Fault(Exception):
@@ -35,19 +36,6 @@ def program_named(word):
         raise Fault(str(fault)) from fault
 
 
-def replies_to(program, commands):
-    """The lines that the program replies to these lines of commands."""
-    text = "".join(f"{line}\n" for line in commands).encode(errors="surrogateescape")
-    try:
-        done = subprocess.run([program], input=text, capture_output=True, check=False)
-    except OSError as fault:
-        raise Fault(f"cannot run {program}: {fault.strerror}; ./run builds the program") from fault
-    # 1 says that a command was refused.
-    if done.returncode not in (0, 1):
-        raise Fault(f"{program} ended with {done.returncode}: {done.stderr.decode(errors='replace').strip()}")
-    return lines_of(done.stdout.decode(errors="replace"))
-
-
 def checked_cone(events, name):
     """The event as the journal spells its name, which must be live there."""
     if name is None:
@@ -63,17 +51,26 @@ def checked_cone(events, name):
     return name
 
 
-def drawn(program, text, cone_of):
-    """The picture of a session, and how many of its commands were refused."""
-    lines = lines_of(text.decode(errors="surrogateescape"))
-    whole = without_open_script(lines)
-    replies = replies_to(program, [*whole, "journal"])
+def session_of(program, commands):
+    """The events of a session of these commands, what each has to say, and how many commands were refused."""
     try:
-        events = read_journal(last_journal(replies))
-    except JournalFault as fault:
+        with Session([program]) as session:
+            for command in commands:
+                session.give(command)
+            return session.events(seconds=None), session.said(), session.refusals
+    except (Ended, JournalFault) as fault:
         raise Fault(str(fault)) from fault
-    texts = said(commands_of([*whole, "journal"]), replies)
-    return picture(events, texts, checked_cone(events, cone_of)), refusals(replies) + (whole != lines)
+
+
+def drawn(program, text, cone_of):
+    """The picture of a session, and how many of its commands were refused.
+
+    The program refuses a vat whose script the input's end cuts off.
+    """
+    commands = commands_of(lines_of(text.decode(errors="surrogateescape")))
+    whole = [command for command in commands if command.is_complete]
+    events, texts, refused = session_of(program, whole)
+    return picture(events, texts, checked_cone(events, cone_of)), refused + len(commands) - len(whole)
 
 
 def put(file, text):

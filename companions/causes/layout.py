@@ -7,7 +7,9 @@ the box of another event.
 from collections import defaultdict
 from dataclasses import dataclass
 
-from .journal import MAKING_A_MESSAGE, UNKNOWN, arrows, vats
+from conversation.journal import MAKING_A_MESSAGE, UNKNOWN, vats
+
+from .arrows import arrows
 
 # Lengths are in pixels; those of texts are in characters, and what one takes is a little more than most fonts need.
 MARGIN = 20

@@ -2,7 +2,8 @@
 import re
 import xml.etree.ElementTree as ElementTree
 
-from .journal import UNKNOWN, cone
+from conversation.journal import UNKNOWN, cone
+
 from .layout import BOX_HEIGHT, LONGEST_LABEL, MARGIN, PADDING, layout, shortened
 
 SANS = "DejaVu Sans, Verdana, Helvetica, Arial, sans-serif"

@@ -1,4 +1,4 @@
-"""Looks at the parts of pictures. No program is run but a stub that replies what it is given."""
+"""Looks at the parts of pictures. No program is run but stubs, and the plain interpreter where a session is needed."""
 import contextlib
 import io
 import os
@@ -8,12 +8,16 @@ import unittest
 import xml.etree.ElementTree as ElementTree
 from pathlib import Path
 
-from .__main__ import Fault, checked_cone, drawn, main, read_input, replies_to
-from .journal import JournalFault, arrows, cone, is_journal_line, last_journal, read_journal, vats
+import conversation
+from conversation.commands import lines_of
+from conversation.journal import read_journal
+
+from .__main__ import Fault, checked_cone, drawn, main, read_input
+from .arrows import arrows
 from .layout import BOX_HEIGHT, layout
 from .picture import picture
-from .session import commands_of, lines_of, refusals, said, without_open_script
 
+STAND_IN = str(Path(conversation.__file__).with_name("stand_in"))
 COMMANDS = """\
 vat a () 2
 var red := 1
@@ -38,17 +42,6 @@ JOURNAL = """\
 7 e7 live ask a causes e1
 8 e8 live turn e7.m0 causes e1 e2 e6 e7
 """
-REPLIES = f"""\
-ok e1 e1.m0
-ok e2 value 1
-ok e3 e3.m0
-ok e4 value 10
-ok e5 e5.m0
-ok e6 value 20
-ok undone 2
-ok e7 e7.m0
-ok e8 value 21
-{JOURNAL}"""
 SENDS = """\
 1 e1 live birth alice causes
 2 e2 live birth bob causes
@@ -100,29 +93,7 @@ def random_journal(seed, length):
     return "".join(f"{line}\n" for line in lines)
 
 
-class Journals(unittest.TestCase):
-    def test_a_line_is_read(self):
-        (event,) = read_journal(["1 e7 undone ask causes causes"])
-        self.assertEqual((event.name, event.is_live, event.kind), ("e7", False, "ask"))
-        self.assertEqual((event.arguments, event.causes), (("causes",), ()))
-
-    def test_what_is_no_line(self):
-        for line in ["ok e1 value 1", "e1 live birth a causes", "1 e1 gone birth a causes", "1 e1 live birth a causes e"]:
-            self.assertFalse(is_journal_line(line), line)
-
-    def test_the_last_journal_is_taken(self):
-        earlier = lines_of(JOURNAL)[:5]
-        self.assertEqual(last_journal([*earlier, *lines_of(JOURNAL)]), lines_of(JOURNAL))
-        self.assertEqual(last_journal(["ok e1 e1.m0"]), [])
-
-    def test_a_cause_stands_before(self):
-        with self.assertRaises(JournalFault):
-            read_journal(["1 e1 live birth a causes e2"])
-
-    def test_vats(self):
-        self.assertEqual(set(vats(events_of(JOURNAL)).values()), {"a"})
-        self.assertEqual(list(vats(events_of(SENDS)).values()), ["alice", "bob", "alice", "?", "?", "?", "bob"])
-
+class Arrows(unittest.TestCase):
     def test_arrows_leave_out_what_follows(self):
         found = [(arrow.kind, arrow.source) for arrow in arrows(events_of(JOURNAL)) if arrow.target == "e8"]
         self.assertEqual(found, [("message", "e7"), ("cause", "e6")])
@@ -142,52 +113,9 @@ class Journals(unittest.TestCase):
         found = [(arrow.source, arrow.target) for arrow in arrows(events_of(SENDS)) if arrow.kind == "message"]
         self.assertEqual(found, [("e1", "e3"), ("e3", "e4"), ("e3", "e5"), ("e3", "e6")])
 
-    def test_a_cone_has_live_events(self):
-        events = events_of(JOURNAL)
-        self.assertEqual(cone(events, "e5"), {"e5", "e6", "e8"})
-        self.assertEqual(cone(events, "e1"), {"e1", "e2", "e5", "e6", "e7", "e8"})
-
-
-class Sessions(unittest.TestCase):
-    def said_of(self, commands, replies):
-        return said(commands_of(lines_of(commands)), lines_of(replies))
-
-    def test_events_say_their_texts_and_ends(self):
-        texts = self.said_of(COMMANDS, REPLIES)
-        self.assertEqual(texts["e1"], "var red := 1; var blue := 1")
-        self.assertEqual(texts["e4"], "value 10")
-        self.assertEqual(texts["e7"], "blue := blue + 1")
-        self.assertEqual(len(texts), 8)
-
-    def test_refused_commands_say_nothing(self):
-        replies = "no B1 NoVat a\nno S1 UnknownCommand\nok e1 e1.m0\nok e2 e2.m0\n"
-        texts = self.said_of("ask a 1\nfrob\nvat a () 0\nask a 2\n", replies)
-        self.assertEqual(texts, {"e1": "", "e2": "2"})
-
-    def test_listings_are_passed_over(self):
-        listed = "vat a e1\n noun n = 1\nmsg e1.m0 done e2\nboard e1.p0 = 1\n"
-        texts = self.said_of("show\njournal\nshow\nask a n\njournal\n", f"{listed}{JOURNAL}{listed}ok e9 e9.m0\n{JOURNAL}")
-        self.assertEqual(texts, {"e9": "n"})
-
-    def test_replies_of_other_commands_say_nothing(self):
-        fitting = "ok e2 e2.m0\nok e3 value 1\n"
-        self.assertEqual(self.said_of("ask a 1\nturn e2.m0\n", fitting), {"e2": "1", "e3": "value 1"})
-        for replies in ["", "ok e2 e2.m0\n", f"cone e1\n{fitting}", f"{fitting}ok undone 1\n"]:
-            self.assertEqual(self.said_of("ask a 1\nturn e2.m0\n", replies), {})
-
-    def test_scripts_are_no_commands(self):
-        script = "# vat b () 9\n\nvat a () 2\nask a 1\n# 2\n"
-        others = "\tturn e1.m0\r\nvat if () 1\nvat b () 4097\nvat b (a) 1\n7\n"
-        commands = commands_of(lines_of(script + others))
-        self.assertEqual([command.word for command in commands], ["vat", "turn", "vat", "vat", "vat"])
-        self.assertEqual([command.script for command in commands], [("ask a 1", "# 2"), (), (), (), ("7",)])
-
-    def test_an_open_script_is_left_out(self):
-        self.assertEqual(without_open_script(["show", "vat a () 2", "1"]), ["show"])
-        self.assertEqual(without_open_script(["show", "vat a () 1", "vat a () 2"]), ["show", "vat a () 1", "vat a () 2"])
-
-    def test_refusals_are_counted(self):
-        self.assertEqual(refusals(["no B1 NoVat a", "ok e1 value \"no B1\"", "no K4 TooDeep", "cone e1"]), 2)
+    def test_settled_causes_have_no_arrows(self):
+        events = read_journal(["base 2", "3 e3 live ask a causes e1", "4 e4 live turn e3.m0 causes e1 e2 e3"])
+        self.assertEqual([(arrow.source, arrow.target) for arrow in arrows(events)], [("e3", "e4")])
 
 
 class Pictures(unittest.TestCase):
@@ -322,11 +250,10 @@ class Runs(unittest.TestCase):
         self.addCleanup(folder.cleanup)
         self.folder = Path(folder.name)
 
-    def stub(self, replies, status=0):
-        """A program that notes its input and replies this."""
-        (self.folder / "replies").write_text(replies)
+    def failing(self):
+        """A program that ends at once, with a fault."""
         program = self.folder / "program"
-        program.write_text(f'#!/bin/sh\ncat > "{self.folder}/input"\ncat "{self.folder}/replies"\nexit {status}\n')
+        program.write_text("#!/bin/sh\necho no memory >&2\nexit 2\n")
         os.chmod(program, 0o755)
         return str(program)
 
@@ -343,13 +270,9 @@ class Runs(unittest.TestCase):
         path.write_text(text)
         return path
 
-    def test_the_journal_is_asked_for(self):
-        drawn(self.stub(JOURNAL), b"show\r\nask a \xff", None)
-        self.assertEqual((self.folder / "input").read_bytes(), b"show\nask a \xff\njournal\n")
-
     def test_a_session_becomes_a_file(self):
         out = self.folder / "out.svg"
-        words = "--program", self.stub(REPLIES + JOURNAL), "--cone", "e05", "--out", out, self.file(COMMANDS)
+        words = "--program", STAND_IN, "--cone", "e05", "--out", out, self.file(COMMANDS)
         status, told = self.run_main(*words)
         self.assertEqual((status, told), (0, ""))
         boxes = events_by_name(tree_of(out.read_text(encoding="utf-8")))
@@ -357,15 +280,18 @@ class Runs(unittest.TestCase):
         self.assertIn("cone", boxes["e8"].get("class").split())
 
     def test_refused_commands_are_counted_and_the_rest_is_drawn(self):
-        program = self.stub("no B1 NoVat b\n" + JOURNAL, 1)
-        svg, refused = drawn(program, b"ask b 1\nvat c () 3\n1\n2\n", None)
-        self.assertEqual((refused, len(groups(tree_of(svg), "event"))), (2, 8))
-        self.assertEqual((self.folder / "input").read_text(), "ask b 1\njournal\n")
-        words = "--program", program, "--out", self.folder / "out.svg", self.file("ask b 1\n")
+        svg, refused = drawn(STAND_IN, COMMANDS.encode() + b"ask b 1\nask a \xff\nvat c () 3\n1\n2\n", None)
+        self.assertEqual((refused, len(groups(tree_of(svg), "event"))), (3, 8))
+        words = "--program", STAND_IN, "--out", self.folder / "out.svg", self.file("ask b 1\n")
         self.assertEqual(self.run_main(*words), (0, "causes: 1 command was refused\n"))
 
+    def test_what_is_not_settled_is_drawn(self):
+        svg, refused = drawn(STAND_IN, b"vat a () 0\nturn e1.m0\nsettle 2\nask a 7\nturn e3.m0\n", None)
+        boxes = events_by_name(tree_of(svg))
+        self.assertEqual((refused, [text_of(box, "caption") for box in boxes.values()]), (0, ["7", "value 7"]))
+
     def test_a_file_that_cannot_be_read(self):
-        status, told = self.run_main("--program", self.stub(""), self.folder / "none")
+        status, told = self.run_main("--program", STAND_IN, self.folder / "none")
         self.assertEqual(status, 2)
         self.assertIn("cannot read", told)
         with self.assertRaises(Fault):
@@ -378,10 +304,10 @@ class Runs(unittest.TestCase):
 
     def test_a_program_that_fails(self):
         with self.assertRaises(Fault):
-            replies_to(self.stub(JOURNAL, 2), [])
+            drawn(self.failing(), b"show\n", None)
 
     def test_a_picture_that_cannot_be_written(self):
-        words = "--program", self.stub(JOURNAL), "--out", self.folder / "none" / "out.svg", self.file(COMMANDS)
+        words = "--program", STAND_IN, "--out", self.folder / "none" / "out.svg", self.file(COMMANDS)
         status, told = self.run_main(*words)
         self.assertEqual(status, 2)
         self.assertIn("cannot write", told)

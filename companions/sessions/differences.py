@@ -2,7 +2,7 @@
 import re
 import signal
 
-from causes.session import commands_of, lines_of
+from conversation.commands import commands_of, lines_of
 
 WIDTH = 160
 RUN = re.compile(r"run[ \t]+(\d+)[ \t]*")

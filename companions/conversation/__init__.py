@@ -1,0 +1,1 @@
+"""Speaks with the program, and knows the session so far; `./talk` and `./causes` stand on it."""

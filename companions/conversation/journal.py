@@ -1,0 +1,89 @@
+"""What the lines of a journal say: events, their vats, and what came of an event."""
+import re
+from dataclasses import dataclass
+
+# Where the journal does not tell the vat of an event.
+UNKNOWN = "?"
+
+LINE = re.compile(r"(\d+) (e\d+) (live|undone) (\S+)(.*) causes((?: e\d+)*)")
+BASE = re.compile(r"base (\d+)")
+
+NAMING_A_VAT = {"birth", "ask", "learn"}
+MAKING_A_MESSAGE = {"birth", "ask"}
+TAKING_A_MESSAGE = {"turn", "arrive", "forward"}
+
+
+class JournalFault(Exception):
+    """A journal that no run of the program prints."""
+
+
+@dataclass(frozen=True)
+class Event:
+    """An entry of the journal."""
+
+    name: str
+    is_live: bool
+    kind: str
+    arguments: tuple
+    causes: tuple
+    line: str
+
+    @property
+    def message(self):
+        """The message that the event takes, if it takes one."""
+        return self.arguments[0] if self.kind in TAKING_A_MESSAGE and self.arguments else None
+
+
+def read_event(line):
+    found = LINE.fullmatch(line)
+    if not found:
+        raise JournalFault(f"this is no line of a journal: {line}")
+    _, name, mark, kind, arguments, causes = found.groups()
+    return Event(name, mark == "live", kind, tuple(arguments.split()), tuple(causes.split()), line)
+
+
+def read_journal(lines):
+    """The events of a journal, in its order. Causes stand before what came of them, or are settled and so not listed."""
+    has_base = bool(lines) and BASE.fullmatch(lines[0]) is not None
+    events, names = [], set()
+    for line in lines[has_base:]:
+        event = read_event(line)
+        if not has_base and not names.issuperset(event.causes):
+            raise JournalFault(f"a cause does not stand before its event: {line}")
+        events.append(event)
+        names.add(event.name)
+    return events
+
+
+def vats(events):
+    """The vat of each event."""
+    receivers = {f"{event.name}.m0": event.arguments[0] for event in events if event.kind in MAKING_A_MESSAGE}
+    return {
+        event.name: event.arguments[0] if event.kind in NAMING_A_VAT else receivers.get(event.message, UNKNOWN)
+        for event in events
+    }
+
+
+def cone(events, name):
+    """The event of this name with all live events that came of it."""
+    members = {name}
+    for event in events:
+        if event.is_live and not members.isdisjoint(event.causes):
+            members.add(event.name)
+    return members
+
+
+def between(events, first, last):
+    """The events that came of one event and are causes of another one, in the journal's order."""
+    by_name = {event.name: event for event in events}
+    causes = by_name[last].causes if last in by_name else ()
+    return [name for name in causes if name in by_name and first in by_name[name].causes]
+
+
+def with_causes(events, names):
+    """The events of these names with all undone causes of theirs, in the journal's order."""
+    members = set(names)
+    for event in reversed(events):
+        if event.name in members:
+            members.update(event.causes)
+    return [event.name for event in events if event.name in members and (event.name in names or not event.is_live)]

@@ -1,0 +1,462 @@
+"""Looks at what is known of a session. The program is the plain interpreter, or the one that EVATS_PROGRAM names."""
+import itertools
+import os
+import random
+import signal
+import sys
+import tempfile
+import unittest
+from pathlib import Path
+
+from .advice import advice, pointed
+from .commands import Command, commands_of, is_command, lines_of, script_length
+from .completion import completions
+from .journal import JournalFault, between, cone, read_journal, vats, with_causes
+from .language import meanings, read_document, told_of
+from .program import Ended, Program, Stopped, help_of
+from .refusals import SENTENCES, in_words
+from .replies import Refusal, ends_in, events_in, refusal_in
+from .session import Session, UnknownLabel
+from .texts import is_bracketed, is_open, on_one_line, without_label
+from .typed import NotTyped, typed, written
+from .usages import usages_in
+
+PROGRAM = os.environ.get("EVATS_PROGRAM") or str(Path(__file__).with_name("stand_in"))
+JOURNAL = """\
+1 e1 live birth a causes
+2 e2 live turn e1.m0 causes e1
+3 e3 undone ask a causes e1
+4 e4 undone turn e3.m0 causes e1 e2 e3
+5 e5 live ask a causes e1
+6 e6 live turn e5.m0 causes e1 e2 e5
+7 e7 live ask a causes e1
+8 e8 live turn e7.m0 causes e1 e2 e6 e7
+"""
+SENDS = """\
+1 e1 live birth alice causes
+2 e2 live birth bob causes
+3 e3 live turn e1.m0 causes e1
+4 e4 live arrive e3.m0 causes e1 e3
+5 e5 live turn e3.m0 causes e1 e2 e3 e4
+6 e6 live forward e3.m1 causes e1 e3
+7 e7 live learn bob e5.p0 causes e2 e5
+"""
+# The body of a program that takes its time for a reply.
+SLOW = """\
+for line in sys.stdin:
+    if line.startswith("cone"):
+        print("no B12 NoEvent", line[5:], end="", flush=True)
+    else:
+        time.sleep(0.4)
+        print("done", flush=True)
+"""
+VARIABLES = """\
+vat a () 2
+var red := 1
+var blue := 1
+turn e1.m0
+ask a red := 10
+turn e3.m0
+ask a blue := 20
+turn e5.m0
+"""
+
+
+def events_of(text):
+    return read_journal(lines_of(text))
+
+
+def stub(folder, body):
+    """A program in Python that stands for the built one."""
+    path = Path(folder, "program")
+    path.write_text(f"#!{sys.executable}\nimport os, signal, sys, time\n{body}\n")
+    path.chmod(0o755)
+    return str(path)
+
+
+class Lines(unittest.TestCase):
+    def test_scripts_are_no_commands(self):
+        script = "# vat b () 9\n\nvat a () 2\nask a 1\n# 2\n"
+        others = "\tturn e1.m0\r\nvat if () 1\nvat b () 4097\nvat b (a) 1\n7\n"
+        commands = commands_of(lines_of(script + others))
+        self.assertEqual([command.word for command in commands], ["vat", "turn", "vat", "vat", "vat"])
+        self.assertEqual([command.script for command in commands], [("ask a 1", "# 2"), (), (), (), ("7",)])
+
+    def test_an_open_script_is_told(self):
+        self.assertEqual([each.is_complete for each in commands_of(["show", "vat a () 2", "1"])], [True, False])
+        self.assertEqual([each.is_complete for each in commands_of(["vat a () 1", "vat a () 2"])], [True])
+
+    def test_what_is_answered(self):
+        for line in ["show", "  x", "# \udcff", " " * 65_537]:
+            self.assertTrue(is_command(line), line[:9])
+        for line in ["", " \t", "# x", "\t#"]:
+            self.assertFalse(is_command(line), line)
+
+    def test_what_a_command_says(self):
+        said = [command.text for command in commands_of(["vat a () 2", " var n := 1", "n", "ask a  n + 1", "ask a", "show"])]
+        self.assertEqual(said, ["var n := 1; n", "n + 1", "", ""])
+
+    def test_which_scripts_the_program_takes(self):
+        for line in ["vat a () 3", "vat\ta\t()\t3 ", "vat a (b) 3", "vat a (b \t c) 0003", f"vat {'a' * 64} () 3"]:
+            self.assertEqual(script_length(line), 3, line)
+        strange = ["vat a ( b) 3", "vat a (b ) 3", "vat a ( ) 3", "vat a (b b) 3", "vat a (if) 3", "vat _ () 3", "vat 1a () 3"]
+        strange += [f"vat {'a' * 65} () 3", "vat a () 4097", "vat a () 3 4", "vat a () +3", "vat a 3", "vat () 3", "Vat a () 3"]
+        strange += ["vat a () \udcff3", f"vat a () {'0' * 65_536}3", "vat a () ٣", "vat a (b,c) 3", "vat a () 3\v"]
+        for line in strange:
+            self.assertEqual(script_length(line), 0, line)
+
+
+class Replies(unittest.TestCase):
+    def test_refusals(self):
+        self.assertEqual(refusal_in(("no B15 NotClosed e1 e2",)), Refusal("B15", "NotClosed", ("e1", "e2")))
+        self.assertEqual(refusal_in(("ok e1", "no B8 Full")), Refusal("B8", "Full", ()))
+        for reply in [(), ('ok e1 value "no B1"',), ("cone e1",), ("no B1 NoVat a", "idle")]:
+            self.assertIsNone(refusal_in(reply), reply)
+
+    def test_events(self):
+        reply = ("ok e1 e1.m0", "ok e2", 'ok e3 value "ok e9 value 1"', "ok undone 2", "ok exchanged e4 e5", "idle")
+        self.assertEqual(events_in(reply), ["e1", "e2", "e3"])
+        self.assertEqual(ends_in(reply), {"e3": 'value "ok e9 value 1"'})
+
+
+class Journals(unittest.TestCase):
+    def test_a_line_is_read(self):
+        (event,) = read_journal(["1 e7 undone ask causes causes"])
+        self.assertEqual((event.name, event.is_live, event.kind), ("e7", False, "ask"))
+        self.assertEqual((event.arguments, event.causes), (("causes",), ()))
+
+    def test_what_is_no_line(self):
+        for line in ["ok e1 value 1", "e1 live birth a causes", "1 e1 gone birth a causes", "1 e1 live birth a causes e"]:
+            with self.assertRaises(JournalFault, msg=line):
+                read_journal([line])
+
+    def test_a_cause_stands_before_or_is_settled(self):
+        with self.assertRaises(JournalFault):
+            read_journal(["1 e1 live birth a causes e2"])
+        (event,) = read_journal(["base 2", "3 e3 live ask a causes e1"])
+        self.assertEqual(event.causes, ("e1",))
+
+    def test_vats(self):
+        self.assertEqual(set(vats(events_of(JOURNAL)).values()), {"a"})
+        self.assertEqual(list(vats(events_of(SENDS)).values()), ["alice", "bob", "alice", "?", "?", "?", "bob"])
+
+    def test_a_cone_has_live_events(self):
+        events = events_of(JOURNAL)
+        self.assertEqual(cone(events, "e5"), {"e5", "e6", "e8"})
+        self.assertEqual(cone(events, "e1"), {"e1", "e2", "e5", "e6", "e7", "e8"})
+
+    def test_what_lies_between(self):
+        self.assertEqual(between(events_of(JOURNAL), "e1", "e8"), ["e2", "e6", "e7"])
+        self.assertEqual(between(events_of(JOURNAL), "e7", "e8"), [])
+
+    def test_undone_causes_come_with_what_is_redone(self):
+        self.assertEqual(with_causes(events_of(JOURNAL), ["e4"]), ["e3", "e4"])
+        self.assertEqual(with_causes(events_of(JOURNAL), ["e3"]), ["e3"])
+
+
+class Texts(unittest.TestCase):
+    def test_what_goes_on(self):
+        for text in ["{", "f(", "[1, {2}", "def o { # }", '("a)"']:
+            self.assertTrue(is_bracketed(text), text)
+        for text in ["", "{}", "f(])", '"{', '"a{b"', "# {", "}{}"]:
+            self.assertFalse(is_bracketed(text), text)
+        self.assertTrue(is_open('"a'))
+
+    def test_line_feeds_end_items_as_in_a_script(self):
+        lines = {
+            "a\nb": "a; b", "a\n\n # c\n b": "a; b", "a\n+ b": "a + b", "a +\nb": "a + b", "f(\na,\nb\n)": "f( a, b )",
+            "{\na\nb }": "{ a; b }", "[a\nb]": "[a b]", "def x := 1\n(x)": "def x := 1; (x)", "x\n.m()": "x .m()",
+            "if (a) { b }\nelse { c }": "if (a) { b } else { c }", "try { a }\n catch _ { b }": "try { a } catch _ { b }",
+            "return\n}": "return }", '"a\nb"\nc': '"a\\nb"; c', "a # b\n": "a", "1\n-2": "1; -2", "_\na": "_ a", "a\r\nb": "a; b",
+        }
+        for text, line in lines.items():
+            self.assertEqual(on_one_line(text), line, text)
+
+    def test_labels(self):
+        self.assertEqual(without_label("a b as q"), ("a b", "q"))
+        self.assertEqual(without_label("as q "), ("", "q"))
+        self.assertEqual(without_label('"x" as q'), ('"x"', "q"))
+        for text in ["", "q", "as", "a as", '"x as q"', "1 # as q", "has q", "x.as q"]:
+            self.assertEqual(without_label(text), (text, None), text)
+
+
+class Typing(unittest.TestCase):
+    def typed(self, *lines):
+        rest = iter(lines[1:])
+        given = typed(lines[0], lambda what: next(rest, None))
+        return given.command.lines, given.label, list(rest)
+
+    def test_scripts_are_counted(self):
+        found = self.typed("vat a (b c) as v", "def o {", "", "}", "", "show")
+        self.assertEqual(found, (("vat a (b c) 3", "def o {", "", "}"), "v", ["show"]))
+        self.assertEqual(self.typed("vat a ()"), (("vat a () 0",), None, []))
+        self.assertEqual(self.typed("vat if ()", "1", "", "show"), (("vat if () 1",), None, ["show"]))
+
+    def test_scripts_that_were_counted(self):
+        self.assertEqual(self.typed("vat a () 2 as v", "1", "", "3"), (("vat a () 2", "1", ""), "v", ["3"]))
+        self.assertEqual(self.typed("vat a ( ) 2", "1"), (("vat a ( ) 2",), None, ["1"]))
+        self.assertEqual(self.typed("vat a b 2", "1"), (("vat a b 2",), None, ["1"]))
+        with self.assertRaises(NotTyped):
+            self.typed("vat a () 2", "1")
+
+    def test_asks(self):
+        found = self.typed("ask a def f() {", "return 1", "}; f() as q", "show")
+        self.assertEqual(found, (("ask a def f() { return 1 }; f()",), "q", ["show"]))
+        self.assertEqual(self.typed("ask a f(", "1", "", "show"), (("ask a f( 1",), None, ["show"]))
+        self.assertEqual(self.typed('ask a  "x', "y"), (('ask a "x',), None, ["y"]))
+        self.assertEqual(self.typed("ask a", "y"), (("ask a",), None, ["y"]))
+        self.assertEqual(self.typed("ask a x  as q"), (("ask a x",), "q", []))
+
+    def test_others(self):
+        self.assertEqual(self.typed("  turn $q.m0 as t"), (("turn $q.m0",), "t", []))
+        self.assertEqual(self.typed("show # all"), (("show # all",), None, []))
+        self.assertEqual(self.typed("  ask a \udcff {", "}"), (("  ask a \udcff {",), None, ["}"]))
+
+    def test_files(self):
+        with tempfile.NamedTemporaryFile("w") as file:
+            file.write("var n := 1\n\nn\n")
+            file.flush()
+            self.assertEqual(self.typed(f"vat a () @{file.name} as v")[0], ("vat a () 3", "var n := 1", "", "n"))
+            self.assertEqual(self.typed(f"ask a @{file.name} as q")[:2], (("ask a var n := 1; n",), "q"))
+        with self.assertRaises(NotTyped):
+            self.typed("ask a @/none/such")
+
+    def test_written(self):
+        self.assertEqual(written(Command("vat a () 1", ("7",), 1)), "vat a () 1\n7\n")
+
+
+class Programs(unittest.TestCase):
+    def setUp(self):
+        folder = tempfile.TemporaryDirectory()
+        self.addCleanup(folder.cleanup)
+        self.folder = folder.name
+
+    def test_a_reply_is_whole_however_many_lines_it_has(self):
+        with Program([PROGRAM]) as program:
+            self.assertEqual(program.reply(["show"]), ())
+            self.assertEqual(program.reply(["vat a () 1", "cone e4294967295"]), ("no L5 Unexpected 5",))
+            self.assertEqual(program.reply(["cone e4294967295"]), ("no B12 NoEvent e4294967295",))
+            self.assertEqual(program.reply(["vat a () 0"]), ("ok e1 e1.m0",))
+            self.assertEqual(len(program.reply(["show"])), 2)
+            self.assertEqual(program.reply(["ask a \udcff"]), ("no S2 BadWord",))
+
+    def test_a_wait_ends_and_goes_on(self):
+        with Program([stub(self.folder, SLOW)]) as program:
+            with self.assertRaises(Stopped):
+                program.reply(["slow"], seconds=0.05)
+            self.assertTrue(program.is_busy)
+            self.assertEqual(program.hear(), ("done",))
+            reading, writing = os.pipe()
+            os.write(writing, b".")
+            with self.assertRaises(Stopped):
+                program.reply(["slow"], stopper=reading)
+            self.assertEqual(program.hear(), ("done",))
+            os.close(reading)
+            os.close(writing)
+
+    def test_how_a_program_ends(self):
+        endings = {"sys.exit('no room')": "it ended with 1: no room", "sys.exit(2)": "it ended with 2",
+                   "os.kill(os.getpid(), signal.SIGKILL)": "signal 9 ended it (Killed)"}
+        for body, told in endings.items():
+            with Program([stub(self.folder, body)]) as program, self.assertRaises(Ended) as ended:
+                program.reply(["show"])
+            self.assertEqual(str(ended.exception), told)
+        with self.assertRaises(Ended):
+            Program([self.folder])
+
+    def test_a_program_that_is_stopped_is_gone(self):
+        with Program([stub(self.folder, f"signal.signal({signal.SIGINT:d}, signal.SIG_IGN)\ntime.sleep(100)")]) as program:
+            pass
+        self.assertEqual(program.process.returncode, -signal.SIGKILL)
+
+
+class Sessions(unittest.TestCase):
+    def setUp(self):
+        self.session = Session([PROGRAM])
+        self.addCleanup(lambda: self.session.program.stop())
+
+    def give(self, text):
+        return [self.session.give(command) for command in commands_of(lines_of(text))]
+
+    def test_what_was_said(self):
+        self.give(VARIABLES + "ask b 1\nask a 1 + 1\nstep\nshow\n")
+        self.assertEqual(self.session.refusals, 1)
+        self.assertEqual(self.session.said()["e1"], "var red := 1; var blue := 1")
+        self.assertEqual((self.session.said()["e7"], self.session.said()["e8"]), ("1 + 1", "value 2"))
+        self.assertEqual("".join(map(written, self.session.accepted())), VARIABLES + "ask a 1 + 1\nstep\nshow\n")
+
+    def test_questions_are_not_noted(self):
+        self.give("vat a () 0\n")
+        self.assertEqual(self.session.enabled(), ("turn e1.m0",))
+        self.give("turn e1.m0\n")
+        self.assertEqual(self.session.enabled(), ())
+        self.assertEqual([event.kind for event in self.session.events()], ["birth", "turn"])
+        self.assertEqual(len(self.session.answered), 2)
+
+    def test_the_world(self):
+        self.give("vat a () 2\nvar n := 1\ndef o { }\nvat b (a) 1\na <- run()\nrun 2\n")
+        world = self.session.world()
+        self.assertEqual((world.vats, world.nouns), ({"a": "e1", "b": "e2"}, {"a": ["n", "o"], "b": ["a"]}))
+        self.assertEqual((world.messages["e1.m0"], world.messages["e4.m0"]), (("done", "e3"), ("flying", "a")))
+        self.assertEqual((world.objects["a"], world.open["b"]), (["e3.o0"], ["e1.p0", "e4.p0"]))
+        self.assertEqual(world.promises["e1.p0"], "<e3.o0>")
+
+    def test_labels(self):
+        made, turned, shown = self.give("vat a () 0\nturn e1.m0\nshow\n")
+        self.assertTrue(self.session.label("v", made) and self.session.label("t", turned))
+        self.assertFalse(self.session.label("s", shown))
+        self.assertEqual(self.session.resolved("undo $t $v $v.m0"), "undo e2 e1 e1.m0")
+        with self.assertRaises(UnknownLabel):
+            self.session.resolved("undo $s")
+
+    def test_it_begins_anew(self):
+        self.give(VARIABLES)
+        self.assertIsNone(self.session.begin_anew())
+        self.assertEqual((len(self.session.answered), len(self.session.events())), (6, 6))
+        before, self.session.answered[5] = self.session.answered[5], self.session.answered[4]
+        self.session.answered[5] = type(before)(before.command, ("ok e6 value 21",))
+        self.assertEqual(self.session.begin_anew(), before.command)
+
+    def test_a_reply_that_comes_late_is_noted(self):
+        self.give("vat a () 1\ndef go(n) { return n }\nturn e1.m0\n")
+        self.session.program.give(["ask a go(1)"])
+        self.session.under_way = Command("ask a go(1)")
+        with self.assertRaises(Stopped):
+            self.session.ask("journal")
+        self.assertEqual(self.session.catch_up().reply, ("ok e3 e3.m0",))
+        self.assertIsNone(self.session.catch_up())
+        self.assertEqual(len(self.session.answered), 3)
+
+
+class Words(unittest.TestCase):
+    def test_each_refusal_has_a_sentence(self):
+        found = meanings(read_document())
+        self.assertGreater(len(found), 35)
+        codes = {meaning.code for meaning in found}
+        self.assertEqual(codes - set(SENTENCES), set())
+        # A later version of the program has that one.
+        self.assertEqual(set(SENTENCES) - codes - {"B23"}, set())
+        for meaning in found:
+            words = in_words(Refusal(meaning.code, meaning.name, meaning.arguments))
+            self.assertTrue(words.endswith("."), meaning)
+            named = sum(f"{{{place}}}" in SENTENCES[meaning.code] for place in range(3))
+            self.assertEqual(named, len(meaning.arguments), meaning)
+
+    def test_positions(self):
+        self.assertIn("position 7", in_words(Refusal("B12", "NoEvent", ("7",))))
+        self.assertIn("event e7", in_words(Refusal("B12", "NoEvent", ("e7",))))
+        self.assertEqual(in_words(Refusal("X1", "Strange", ())), "")
+
+    def test_the_help_of_the_program(self):
+        usages = usages_in(help_of(PROGRAM))
+        self.assertEqual(usages["vat"].arguments, ("NAME", "EARLIER..", "N"))
+        self.assertEqual([usages["undo"].argument(place) for place in (0, 5)], ["E..", "E.."])
+        self.assertEqual((usages["show"].arguments, usages["learn"].argument(1), usages["learn"].argument(2)), ((), "P", ""))
+        self.assertGreater(len(usages), 18)
+        self.assertNotIn("turn", usages_in("turn M   not in the list\n"))
+
+    def test_each_command_of_the_help_is_in_the_document(self):
+        for word in usages_in(help_of(PROGRAM)):
+            self.assertTrue(told_of(read_document(), word)[0], word)
+        wants, replies, refused = told_of(read_document(), "undo")
+        self.assertEqual(told_of(read_document(), "log")[0], ["just these words"])
+        self.assertEqual((len(wants), len(replies), [each.code for each in refused]), (1, 1, ["B12", "B13", "B15", "B22"]))
+
+
+class Helping(unittest.TestCase):
+    def setUp(self):
+        self.session = Session([PROGRAM])
+        self.addCleanup(lambda: self.session.program.stop())
+
+    def helps(self, text):
+        """What helps behind the last of these commands."""
+        for command in commands_of(lines_of(text)):
+            answered = self.session.give(command)
+        self.assertIsNotNone(answered.refusal, answered)
+        return " ".join(advice(self.session, answered.command, answered.refusal))
+
+    def completed(self, before, text=""):
+        return [word.strip() for word in completions(self.session, self.session.usages, before, text)]
+
+    def test_an_undo_takes_its_cone(self):
+        self.assertIn("`undo-cone e1` would do: it takes back e1 e2 e3 e4 e5 e6.", self.helps(VARIABLES + "undo e1\n"))
+        self.assertIn("`undo e3 e4 e5 e6` would do", self.helps("undo e3 e5\n"))
+
+    def test_a_redo_takes_the_causes(self):
+        self.assertIn("`redo e3 e4` has", self.helps(VARIABLES + "undo-cone e3\nredo e4\n"))
+        self.assertIn("`redo e3` would", self.helps("undo e3\n"))
+        self.assertIn("`redo e3` leaves out", self.helps("redo e3 e5\n"))
+
+    def test_what_crosses_goes_first(self):
+        text = "vat a () 1\nvar n := 0\nturn e1.m0\nask a n := 1\nask a n\nturn e3.m0\nundo e5\nturn e4.m0\nredo e5\n"
+        self.assertIn("`undo-cone e6` first", self.helps(text))
+
+    def test_the_program_says_why_where_it_can(self):
+        self.session.usages = {**self.session.usages, "why": self.session.usages["cone"]}
+        for command in commands_of(lines_of(VARIABLES)):
+            self.session.give(command)
+        self.session.told["why e1 e2"] = ("why e1 e2 1", " e1 e2 msg e1.m0")
+        found = advice(self.session, Command("undo e1"), Refusal("B15", "NotClosed", ("e1", "e2")))
+        self.assertEqual(found[1:], ["`why e1 e2` says:", "  why e1 e2 1", "   e1 e2 msg e1.m0"])
+
+    def test_where_a_message_is(self):
+        self.assertIn("e1.m0 is at a. May be done now: `turn e1.m0`.", self.helps("vat a () 0\narrive e1.m0\n"))
+        self.assertIn("done: event e2", self.helps("turn e1.m0\nturn e1.m0\n"))
+        self.assertIn("No message waits", self.helps("turn e9.m0\n"))
+
+    def test_names(self):
+        self.assertIn("There is none yet", self.helps("ask a 1\n"))
+        self.assertIn("there: a b.", self.helps("vat a () 0\nvat b () 1\nvar nn := 1\nask c 1\n"))
+        self.assertIn("`turn` is one", self.helps("turm e1.m0\n"))
+        self.session.own_words = ("help",)
+        self.assertIn("`help` is one", self.helps("hlep\n"))
+        self.assertIn("It is `turn M`", self.helps("turn e1\n"))
+        self.assertIn("nn", self.helps("run 2\nask b mm\n"))
+        self.assertIn("outside of a function", self.helps("ask b return 1\n"))
+        self.assertIn("positions 1 to 4", self.helps("settle 7\n"))
+
+    def test_a_place_in_a_text(self):
+        refusal = Refusal("L5", "Unexpected", ("6",))
+        self.assertEqual(pointed(Command("ask a ä b c"), refusal), ["  ä b c", "       ^"])
+        self.assertEqual(pointed(Command("vat a () 2", ("7 8", "\t) 9"), 2), refusal), ["  \t) 9", "  \t ^"])
+        self.assertEqual(pointed(Command("ask a x"), Refusal("K1", "Unbound", ("x",))), [])
+
+    def test_how_words_go_on(self):
+        self.helps("vat bank () 1\nvar total := 0\nvat ann (bank) 1\nbank <- run()\nstep\nask bank total\nask c 1\n")
+        self.assertEqual(self.completed("", "u"), ["undo", "undo-cone"])
+        self.assertEqual(self.completed("ask ", "b"), ["bank"])
+        self.assertEqual(self.completed("ask bank 1 + ", "to"), ["total"])
+        self.assertEqual(self.completed("vat c ("), ["bank", "ann"])
+        self.assertEqual(self.completed("vat c (bank) "), [])
+        self.assertEqual(self.completed("turn "), ["e2.m0", "e4.m0"])
+        self.assertEqual(self.completed("undo e1 ", "e"), ["e1", "e2", "e3", "e4"])
+        self.assertEqual(self.completed("redo "), [])
+        self.assertEqual(self.completed("settle "), [])
+        self.session.labels["q"] = "e4"
+        self.assertEqual((self.completed("cone ", "$"), self.completed("turn ", "$")), (["$q"], ["$q.m0"]))
+        self.assertEqual(self.completed("nothing ", "e"), [])
+
+    def test_what_a_vat_can_learn(self):
+        self.helps("vat a () 0\nvat b (a) 0\nrun 2\nask c 1\n")
+        self.assertEqual((self.completed("learn "), self.completed("learn b ")), (["a", "b"], ["e1.p0"]))
+
+    def test_files(self):
+        with tempfile.TemporaryDirectory() as folder:
+            Path(folder, "bank.e").write_text("1\n")
+            self.assertEqual(self.completed("vat a () ", f"@{folder}/b"), [f"@{folder}/bank.e"])
+
+
+class Random(unittest.TestCase):
+    def test_the_program_takes_the_script_that_is_counted(self):
+        chance = random.Random(7)
+        earlier = ["()", "(a)", "(a b)", "( a)", "(a", "(a a)", "(b\tc)", "a"]
+        numbers = ["0", "1", "2", "02", "x", "4097", "1 1", ""]
+        parts = [["vat", "vat", " vat"], ["a", "b", "_", "if", "a1", "1a"], earlier, numbers, ["", "", " ", "\r"]]
+        with Program([PROGRAM]) as program:
+            for line in itertools.islice((" ".join(map(chance.choice, parts)) for _ in itertools.count()), 150):
+                reply = program.reply([line, *["run 0"] * script_length(line.removesuffix("\r"))], seconds=60)
+                self.assertEqual(len(reply), 1, line)
+
+
+if __name__ == "__main__":
+    unittest.main()

@@ -1,0 +1,1 @@
+"""The program at a terminal. The command is `./talk`."""
