@@ -262,6 +262,10 @@ module _ (first made place : ℕ) (began : List Entered) (v w : View) (old now :
       rest_among
 
 -- ---- seats are made and come back
+-- what is at most a number is below the next one
+pub below_next : {A : Type 0} (f : A → ℕ) (n : ℕ) (xs : List A) → All (λ x. f x ≤ n) xs → All (λ x. f x < n + 1) xs
+below_next f n xs all k d h = let a = all k d h in omega (arith, a)
+
 pub no_desk : (first : ℕ) (began : List Entered) (v : View) (b : Book) → v ≡ knower [] → entered_in b.journal ≡ began → All (λ l. l.seat < first) b.journal → All (λ t. t.seat < first) b.out → IsDesk first 0 began v b
 no_desk first began v b is same entries tickets =
     let none : v.all ≡ [] = ap (λ w. w.all) is in

@@ -16,7 +16,7 @@ use Rattle.journal.specs.Lines.{Line, line_of, lines_of, in_order}
 use Rattle.journal.specs.declared.settled.Settled.{Settled}
 use Rattle.journal.proofs.Settling.{item_behind}
 use Rattle.journal.specs.declared.entry.Entry as code
-use Rattle.desk.specs.Desks.{without, is_out}
+use Rattle.desk.specs.Desks.{Lent, without, is_out}
 use Rattle.undo.specs.CoreView.{items_of}
 use Rattle.book.specs.Books.{Book}
 use Rattle.book.specs.BookView.{book_of}
@@ -226,7 +226,7 @@ pub one_open : {e : Entered} (b : code-book.Book) (now : Book) → Grows e (book
 one_open b now grows same = let l = lines_in b in let m = grows.more in omega (arith, l, m, same)
 
 -- ---- a ticket is abandoned, whether or not it was out
-pub abandoned : {T : Type 0} (r : Result T BookFault) (n : EventName) (old now : Book) → OnOk r (now ≡ record old { out = without n old.out }) → OnErr r (now ≡ old)
-    → IfErr r (λ f. (f ≡ NoTicket) × (is_out n old.out ≡ false)) → (now.journal ≡ old.journal) × (now.out ≡ without n old.out)
-abandoned (Ok x) n old now gone same err = (ap (λ b. b.journal) gone, ap (λ b. b.out) gone)
-abandoned (Err f) n old now gone same err = (ap (λ b. b.journal) same, ap (λ b. b.out) same ∙ sym (not_out n old.out err.1))
+pub let_go : {T : Type 0} (r : Result T BookFault) (n : EventName) (old now : Book) → OnOk r (now ≡ record old { out = without n old.out }) → OnErr r (now ≡ old)
+    → IfErr r (λ f. (f ≡ NoTicket) × (is_out n old.out ≡ false)) → now ≡ record old { out = without n old.out }
+let_go (Ok x) n old now gone same err = gone
+let_go (Err f) n old now gone same err = same ∙ ap (λ (o : List Lent). record old { out = o }) (sym (not_out n old.out err.1))

@@ -1,5 +1,5 @@
 -- What commands do, to a book and to the seat that they come through.
-use Rattle.std.specs.Prelude.{◌≡◌, ℕ, false, not, Option, Some, None}
+use Rattle.std.specs.Prelude.{◌≡◌, ◌≢◌, ◌⊎◌, ℕ, false, not, Option, Some, None}
 use Rattle.ids.specs.declared.names.EventName.{EventName}
 use Rattle.ids.specs.declared.names.MsgId.{MsgId}
 use Rattle.ids.specs.declared.names.VatNo.{VatNo}
@@ -17,8 +17,8 @@ use Rattle.book.specs.Books.{Book}
 use Rattle.book.specs.Calls.{EntersNext, Lends, Undoes, Redoes, Exchanges}
 use Rattle.book.specs.Fault.{Tells}
 use Rattle.book.specs.declared.fault.BookFault.{BookFault}
-use Rattle.book.specs.declared.fault.BookFault.TheVariants.{NoTicket}
-use Rattle.book.specs.Refusals.{Refusal, birth_refusal, ask_refusal, arrival_refusal, forward_refusal, learn_refusal, undo_refusal, redo_refusal, exchange_refusal, refuse_where, no_ticket}
+use Rattle.book.specs.declared.fault.BookFault.TheVariants.{NoTicket, Memory}
+use Rattle.book.specs.Refusals.{Refusal, first, budget_refusal, full_refusal, birth_refusal, ask_refusal, arrival_refusal, forward_refusal, learn_refusal, undo_refusal, redo_refusal, exchange_refusal, refuse_where, no_ticket}
 use Rattle.pact.specs.declared.Act as pact
 use Rattle.pact.specs.declared.Act.TheVariants.{Nothing, Opens, Closes}
 use Rattle.bench.specs.declared.command.Command.{Command}
@@ -61,9 +61,10 @@ command_refusal (command.Undo names) b = undo_refusal b.settled b.journal names.
 command_refusal (command.Redo names) b = redo_refusal b.settled b.journal names.items
 command_refusal (command.Exchange position) b = exchange_refusal b.settled b.journal position
 
--- a fault tells why a command is refused, unless it is want of memory, of which an abandoned ticket takes none
+-- a fault tells why a command is refused, unless it is want of memory, of which an abandoned ticket and an exchange take none
 abbrev pub Refuses : Command → Book → BookFault → Type 0
 Refuses (command.Abandon n) b fault = (fault ≡ NoTicket) × (is_out n b.out ≡ false)
+Refuses (command.Exchange position) b fault = (fault ≢ Memory) × Tells fault (exchange_refusal b.settled b.journal position)
 Refuses c b fault = Tells fault (command_refusal c b)
 
 -- what an accepted command does to a book, from a seat; it answers the name of a new event, where it enters one
@@ -114,6 +115,15 @@ abbrev pub Picks : ℕ → ℕ → Pick → Book → Book → Type 0
 Picks budget seat pick.Nothing old now = FirstIn old None × (now ≡ old)
 Picks budget seat (pick.Moved e) old now = (s : Step) × (act : Act) × FirstIn old (Some s) × IsStep s act × EntersAct e act seat old now
 Picks budget seat (pick.Turn t) old now = (m : MsgId) × FirstIn old (Some (step.Turn m)) × Lends m budget seat t old now
+
+-- there is no room for the first that may be done: names are used up, or the journal has no room; of a turn the budget is tried first
+abbrev pub no_room : ℕ → Step → Book → Option Refusal
+no_room budget (step.Turn m) b = first (budget_refusal budget) (full_refusal b)
+no_room budget s b = full_refusal b
+
+-- a fault tells why nothing is picked: there is no room for the first that may be done, or there is want of memory
+abbrev pub RefusesPick : ℕ → Book → BookFault → Type 0
+RefusesPick budget b fault = (fault ≡ Memory) ⊎ ((s : Step) × FirstIn b (Some s) × Tells fault (no_room budget s b))
 
 -- what that does to the seat: an arrival, a forwarding or what a vat learns is added, or the ticket is open
 abbrev pub Picked : Pick → Held → Held → Type 0

@@ -1,15 +1,17 @@
 -- What lies under the lock, and how the lists of the seats stand to it.
-use Rattle.std.specs.Prelude.{◌≡◌, ℕ, ◌+◌, ◌==◌, ◌<◌, Bool, true, false, List, [], ◌∷◌, ◌++◌, map, length, slice_index_or, All, IsPermutation, refl}
+use Rattle.std.specs.Prelude.{◌≡◌, ℕ, ◌+◌, ◌==◌, ◌≤◌, nat_lt, ◌&&◌, Bool, true, false, List, [], ◌∷◌, ◌++◌, map, length, slice_index_or, All, IsPermutation, refl}
 use Rattle.std.specs.Coded.{Coded, code_by, coded×, coded_ℕ}
 use Rattle.std.specs.List.{AllByRecursion, list_any}
 use Rattle.ids.specs.declared.names.EventName.{EventName}
 use Rattle.worldcells.specs.Events.{Event}
 use Rattle.worldcells.specs.EventView.{event_of}
 use Rattle.worldcells.specs.declared.event.Event as code
-use Rattle.desk.specs.Desks.{Lent}
+use Rattle.desk.specs.Desks.{Lent, without}
 use Rattle.book.specs.Books.{Book}
 use Rattle.book.specs.declared.fault.BookFault.{BookFault}
 use Rattle.book.specs.declared.fault.BookFault.TheVariants as fault
+use Rattle.book.specs.declared.fault.WorkFault.{WorkFault}
+use Rattle.book.specs.declared.fault.WorkFault.TheVariants as work
 use Rattle.pact.specs.declared.View.{View}
 use Rattle.pact.specs.contracts.Deeds as deeds
 use Rattle.pact.specs.declared.Deeds.{Deeds}
@@ -18,6 +20,7 @@ use Rattle.pact.specs.declared.Act.TheVariants.{Nothing, Enters, Gives, Opens, C
 use Rattle.pact.specs.Agree.{blank, after, IsKeeper, IsHolder, strike}
 use Rattle.book.specs.Entered.{Entered, entered_in, IsAmong}
 use Rattle.bench.specs.Seats.{events_by, is_turn, turns_in}
+use Rattle.bench.specs.declared.under_lock.TheConstants.{LAST_SEAT}
 
 -- a seat, as contracts see it: its number, its place among the seats of its Bench, and what it has done
 pub record Held : Type 0 where
@@ -95,6 +98,22 @@ abbrev pub refused : BookFault → EventName → Held → Held
 refused fault.Stale n h = held h (Closes n)
 refused _ n h = h
 
--- what a Bench begins with: the name of its cell, the book, and the greatest seat of its entries and tickets
-abbrev pub AreBelow : ℕ → Book → Type 0
-AreBelow first b = All (λ l. l.seat < first) b.journal × All (λ t. t.seat < first) b.out
+-- what a refused ticket leaves of the book: a stale one is let go, and nothing else changes
+abbrev pub left_by : BookFault → EventName → Book → Book
+left_by fault.Stale n b = record b { out = without n b.out }
+left_by _ n b = b
+
+-- the greatest seat of an entry or of a ticket that is out; 0 where there is none
+pub record IsGreatestSeat (seat : ℕ) (b : Book) : Type 0 where
+  pub entries : All (λ l. l.seat ≤ seat) b.journal
+  pub tickets : All (λ t. t.seat ≤ seat) b.out
+  pub least : (n : ℕ) → All (λ l. l.seat ≤ n) b.journal → All (λ t. t.seat ≤ n) b.out → seat ≤ n
+
+-- there is one more seat: the ledger has a part for it, and a number is left, above the greatest one from before
+abbrev pub has_seat : (before made seats : ℕ) → Bool
+has_seat before made seats = nat_lt made seats && nat_lt (before + made) LAST_SEAT
+
+-- why workers did nothing: none could be started, or there was no memory for the list of their seats
+abbrev pub StopsWork : WorkFault → Type 0
+StopsWork work.NoWorker = Unit {0}
+StopsWork (work.Book f) = f ≡ fault.Memory

@@ -1,8 +1,9 @@
 //! Work on a book that nobody else has.
-ghost use Rattle.std.specs.Prelude.{◌≡◌, ◌<◌, ◌≤◌};
+ghost use Rattle.std.specs.Prelude.{◌≡◌, ◌<◌, ◌≤◌, IfErr};
 ghost use Rattle.book.specs.BookView.{book_of};
 ghost use Rattle.book.specs.Entered.{entered_in, IsAmong};
 ghost use Rattle.book.specs.declared.book.TheConstants.{MOST_STEPS};
+ghost use Rattle.bench.specs.Desk.{StopsWork};
 
 use crate::Bench;
 use crate::seat::Opening;
@@ -30,7 +31,8 @@ pub fn work_once<G: Gate + Sync, R: Threads + Wait + Sync>(
     gate: &G,
 ) -> (Book, Result<u64, WorkFault>)
     requires { (0 < budget) × (budget ≤ MOST_STEPS) }
-    ensures { IsAmong (entered_in (book_of book).journal) (entered_in (book_of result.0).journal) }
+    ensures still { IsAmong (entered_in (book_of book).journal) (entered_in (book_of result.0).journal) }
+    ensures err { IfErr result.1 (λ fault. StopsWork fault) }
 {
     let parts = workers as u64;
     match Begun::new(alloc, book) {
@@ -64,7 +66,8 @@ fn work_on<L: Opening + Send + Sync, G: Gate + Sync, R: Threads + Wait + Sync>(
     requires budget { (0 < budget) × (budget ≤ MOST_STEPS) }
     requires ledger { (blank.name ≡ L.name) × (blank.parts ≡ L.parts) × (L.parts ≡ L.seats) × (parts ≡ L.seats) }
     requires book { (begun.table ≡ L.table) × (entered_in (book_of begun.book).journal ≡ L.began) × (begun.before ≡ L.before) }
-    ensures { IsAmong (entered_in (book_of begun.book).journal) (entered_in (book_of result.0).journal) }
+    ensures still { IsAmong (entered_in (book_of begun.book).journal) (entered_in (book_of result.0).journal) }
+    ensures err { IfErr result.1 (λ fault. StopsWork fault) }
 {
     let bench = Bench::<L>::new(begun, budget, blank, parts);
     match bench.work(rt, alloc, workers, turns, gate) {

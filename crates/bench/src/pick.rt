@@ -1,7 +1,7 @@
 // What is picked to be done next.
-ghost use Rattle.std.specs.Prelude.{◌≡◌, IfOk, OnErr};
+ghost use Rattle.std.specs.Prelude.{◌≡◌, IfOk, IfErr, OnErr};
 ghost use Rattle.book.specs.BookView.{book_of};
-ghost use Rattle.bench.specs.Author.{Picks};
+ghost use Rattle.bench.specs.Author.{Picks, RefusesPick};
 
 use agenda::agenda::Step;
 use book::book::Book;
@@ -22,6 +22,7 @@ pub enum Pick {
 /// Picks the first that may be done, for a seat. Fails for want of memory, or where the journal has no room or names are used up.
 pub(crate) fn pick_first(book: &mut Book, budget: u32, seat: u64) -> Result<Pick, BookFault>
     ensures ok { IfOk result (λ p. Picks budget seat p (book_of book.old) (book_of book.new)) }
+    ensures err { IfErr result (λ fault. RefusesPick budget (book_of book.old) fault) }
     ensures unchanged { OnErr result (book_of book.new ≡ book_of book.old) }
 {
     let Some(step) = book.next()? else {

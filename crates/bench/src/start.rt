@@ -1,8 +1,8 @@
 //! A book with the cell of a Bench that no type stands for yet.
-ghost use Rattle.std.specs.Prelude.{◌≡◌, ◌≤◌, ◌<◌, ◌+◌, IfOk, IfErr};
+ghost use Rattle.std.specs.Prelude.{◌≡◌, ◌≤◌, IfOk, IfErr};
 ghost use Rattle.book.specs.BookView.{book_of};
 ghost use Rattle.book.specs.Entered.{entered_in};
-ghost use Rattle.bench.specs.Desk.{AreBelow};
+ghost use Rattle.bench.specs.Desk.{IsGreatestSeat};
 
 use crate::seat::Opening;
 use crate::under_lock::Desk;
@@ -22,11 +22,11 @@ pub struct Begun {
 }
 
 impl Model for Begun {
-    ghost use Rattle.std.specs.Prelude.{◌≡◌, ◌+◌, []};
+    ghost use Rattle.std.specs.Prelude.{◌≡◌, []};
     ghost use Rattle.crossbeam_utils.specs.Seq.{cell_view};
     ghost use Rattle.book.specs.BookView.{book_of};
     ghost use Rattle.pact.specs.Agree.{knower};
-    ghost use Rattle.bench.specs.Desk.{AreBelow};
+    ghost use Rattle.bench.specs.Desk.{IsGreatestSeat};
     ghost use Rattle.bench.specs.DeskView.{Start, start_code};
 
     ghost Value = { Start };
@@ -35,13 +35,13 @@ impl Model for Begun {
 
     ghost view = { λ o. record { table = o.cell.table.shared.table_id; book = o.book; before = o.before } };
 
-    ghost invariant = { λ o. (o.keeper.table_id ≡ o.cell.table.shared.table_id) × (cell_view o.keeper ≡ knower []) × AreBelow (o.before + 1) (book_of o.book) };
+    ghost invariant = { λ o. (o.keeper.table_id ≡ o.cell.table.shared.table_id) × (cell_view o.keeper ≡ knower []) × IsGreatestSeat o.before (book_of o.book) };
 }
 
 impl Begun {
     /// Fails only for want of memory, and then the book comes back.
     pub fn new(alloc: Global, book: Book) -> Result<Begun, (Book, AllocError)>
-        ensures ok { IfOk result (λ o. (o.book ≡ book) × AreBelow (o.before + 1) (book_of book)) }
+        ensures ok { IfOk result (λ o. (o.book ≡ book) × IsGreatestSeat o.before (book_of book)) }
         ensures err { IfErr result (λ e. e.0 ≡ book) }
     {
         let before = book.greatest_seat();

@@ -1,15 +1,16 @@
 //! What lies under the lock: the book, and what is known of the seats.
-ghost use Rattle.std.specs.Prelude.{◌≡◌, ◌≢◌, ◌<◌, ◌≤◌, ◌+◌, ◌↔◌, [], All, IsTrue, IfOk, IfErr, IfSome, Err, true, length, sum_by, vec_len};
+ghost use Rattle.std.specs.Prelude.{◌≡◌, ◌≢◌, ◌<◌, ◌≤◌, ◌+◌, ◌↔◌, [], All, IsTrue, IfOk, IfErr, IfSome, IfNone, Err, true, is_some, length, sum_by, vec_len};
 ghost use Rattle.crossbeam_utils.specs.Seq.{cell_view};
 ghost use Rattle.book.specs.BookView.{book_of};
 ghost use Rattle.book.specs.Calls.{Commits};
+ghost use Rattle.desk.specs.Desks.{without};
 ghost use Rattle.book.specs.Fault.{TellsCommit};
 ghost use Rattle.book.specs.declared.fault.BookFault.TheVariants.{NoTicket};
 ghost use Rattle.pact.specs.declared.Act.TheVariants.{Closes};
 ghost use Rattle.pact.specs.Agree.{blank, knower};
 ghost use Rattle.book.specs.Entered.{entered_in, IsAmong};
-ghost use Rattle.bench.specs.Desk.{held, refused, Answers, AreBelow, Returns};
-ghost use Rattle.bench.specs.Author.{Obeys, Authored, Refuses, mark_of, turn_of, Picks, Picked};
+ghost use Rattle.bench.specs.Desk.{held, refused, left_by, has_seat, Answers, IsGreatestSeat, Returns};
+ghost use Rattle.bench.specs.Author.{Obeys, Authored, Refuses, mark_of, turn_of, Picks, Picked, RefusesPick};
 
 use crate::command::{Command, obey};
 use crate::last::last_event;
@@ -73,7 +74,7 @@ impl<L: Opening> Desk<L> {
         requires ledger { (blank.name ≡ L.name) × (blank.parts ≡ L.parts) × (L.parts ≡ L.seats) × (parts ≡ L.seats) }
         requires keeper { (keeper.table_id ≡ L.table) × (cell_view keeper ≡ knower []) }
         requires began { (entered_in (book_of book).journal ≡ L.began) × (before ≡ L.before) }
-        requires below { AreBelow (L.before + 1) (book_of book) }
+        requires greatest { IsGreatestSeat before (book_of book) }
         ensures { (result.book ≡ book) × (result.budget ≡ budget) × (result.made ≡ 0) }
     {
         let (entries, rest) = blank.open::<L>();
@@ -90,10 +91,12 @@ impl<L: Opening> Desk<L> {
         }
     }
 
-    /// A new seat, with the next number; none where numbers or the parts of the ledger are used up.
+    /// A new seat, with the next number; none just where numbers or the parts of the ledger are used up, and then nothing changes.
     pub fn seat<R: Wait>(&mut self, rt: &R, cell: &Cell) -> Option<Seat<L>>
         requires { cell.now.table.shared.table_id ≡ L.table }
-        ensures book { self.new.book ≡ self.old.book }
+        ensures kept { (self.new.book ≡ self.old.book) × (self.new.budget ≡ self.old.budget) }
+        ensures there { is_some result ≡ has_seat L.before self.old.made L.seats }
+        ensures none { IfNone result (self.new ≡ self.old) }
         ensures seat { IfSome result (λ s. (s.number ≡ L.before + 1 + self.old.made) × (s.deeds ≡ blank) × (self.new.made ≡ self.old.made + 1)) }
     {
         if self.left == 0 || self.before >= LAST_SEAT || self.made >= LAST_SEAT - self.before {
@@ -121,6 +124,7 @@ impl<L: Opening> Desk<L> {
         requires { cell.now.table.shared.table_id ≡ L.table }
         ensures ok { IfOk result (λ o. Obeys command seat.old.number o (book_of self.old.book) (book_of self.new.book) × Authored command seat.old o seat.new) }
         ensures err { IfErr result (λ fault. Refuses command (book_of self.old.book) fault × (seat.new ≡ held seat.old (mark_of command)) × (book_of self.new.book ≡ book_of self.old.book)) }
+        ensures kept { (self.new.budget ≡ self.old.budget) × (self.new.made ≡ self.old.made) }
     {
         let mark = command.mark();
         match obey(&mut self.book, command, seat.number()) {
@@ -158,7 +162,8 @@ impl<L: Opening> Desk<L> {
     ) -> Result<Pick, BookFault>
         requires { cell.now.table.shared.table_id ≡ L.table }
         ensures ok { IfOk result (λ p. Picks self.old.budget seat.old.number p (book_of self.old.book) (book_of self.new.book) × Picked p seat.old seat.new) }
-        ensures err { IfErr result (λ fault. (seat.new ≡ seat.old) × (book_of self.new.book ≡ book_of self.old.book)) }
+        ensures err { IfErr result (λ fault. RefusesPick self.old.budget (book_of self.old.book) fault × (seat.new ≡ seat.old) × (book_of self.new.book ≡ book_of self.old.book)) }
+        ensures kept { (self.new.budget ≡ self.old.budget) × (self.new.made ≡ self.old.made) }
     {
         match pick_first(&mut self.book, self.budget, seat.number())? {
             Pick::Nothing => Ok(Pick::Nothing),
@@ -201,7 +206,9 @@ impl<L: Opening> Desk<L> {
         requires { cell.now.table.shared.table_id ≡ L.table }
         ensures ok { IfOk result (λ e. (e ≡ ticket.carried.event) × (ticket.carried.seat ≡ seat.old.number) × Commits ticket (book_of self.old.book) (book_of self.new.book) × Returns (turn_of ticket) seat.old seat.new) }
         ensures err { IfErr result (λ r. (r.0 ≡ ticket) × (seat.new ≡ refused r.1 ticket.carried.event seat.old) × (ticket.carried.seat ≡ seat.old.number → TellsCommit r.1 (book_of self.old.book) ticket)) }
-        ensures strange { ticket.carried.seat ≢ seat.old.number → (result ≡ Err (ticket, NoTicket)) × (book_of self.new.book ≡ book_of self.old.book) }
+        ensures left { IfErr result (λ r. book_of self.new.book ≡ left_by r.1 ticket.carried.event (book_of self.old.book)) }
+        ensures strange { ticket.carried.seat ≢ seat.old.number → result ≡ Err (ticket, NoTicket) }
+        ensures kept { (self.new.budget ≡ self.old.budget) × (self.new.made ≡ self.old.made) }
     {
         if ticket.ran().carried.seat != seat.number() {
             return Err((ticket, BookFault::NoTicket));
@@ -218,19 +225,40 @@ impl<L: Opening> Desk<L> {
                 );
                 Ok(event)
             }
-            Err((ticket, BookFault::Stale)) => {
+            Err((ticket, fault)) => {
                 let number = ticket.ran().carried.event;
-                self.close_ticket(rt, cell, number, seat);
-                Err((ticket, BookFault::Stale))
+                self.let_stale_go(rt, cell, number, &fault, seat);
+                Err((ticket, fault))
             }
-            Err(refused) => Err(refused),
         }
     }
 
-    /// A ticket is no longer out, nor open with the seat.
+    /// Lets go of a ticket that is refused for being stale; after another fault nothing changes.
+    fn let_stale_go<R: Wait>(
+        &mut self,
+        rt: &R,
+        cell: &Cell,
+        number: EventName,
+        fault: &BookFault,
+        seat: &mut Seat<L>,
+    )
+        requires { cell.now.table.shared.table_id ≡ L.table }
+        ensures seat { seat.new ≡ refused fault.now number seat.old }
+        ensures left { book_of self.new.book ≡ left_by fault.now number (book_of self.old.book) }
+        ensures kept { (self.new.budget ≡ self.old.budget) × (self.new.made ≡ self.old.made) }
+    {
+        match fault {
+            BookFault::Stale => self.close_ticket(rt, cell, number, seat),
+            _ => {}
+        }
+    }
+
+    /// A ticket is no longer out, nor open with the seat. Nothing else changes.
     fn close_ticket<R: Wait>(&mut self, rt: &R, cell: &Cell, number: EventName, seat: &mut Seat<L>)
         requires { cell.now.table.shared.table_id ≡ L.table }
-        ensures { seat.new ≡ held seat.old (Closes number) }
+        ensures seat { seat.new ≡ held seat.old (Closes number) }
+        ensures gone { book_of self.new.book ≡ record (book_of self.old.book) { out = without number (book_of self.old.book).out } }
+        ensures kept { (self.new.budget ≡ self.old.budget) × (self.new.made ≡ self.old.made) }
     {
         let _ = self.book.abandon(number);
         seat.note(

@@ -1,9 +1,9 @@
 //! Workers in threads of their own, whose results one committer gives: the thread that calls `work`.
 //!
 //! What is known of a seat goes through a channel in the type of the message, since nothing else is known of what comes through one.
-ghost use Rattle.std.specs.Prelude.{◌≡◌, ◌∷◌, [], All, IfOk, sum_by};
+ghost use Rattle.std.specs.Prelude.{◌≡◌, ◌∷◌, [], All, IfOk, IfErr, sum_by};
 ghost use Rattle.bench.specs.Seats.{turns_in};
-ghost use Rattle.bench.specs.Desk.{events_of};
+ghost use Rattle.bench.specs.Desk.{events_of, StopsWork};
 
 use crate::Bench;
 use crate::command::Command;
@@ -303,6 +303,7 @@ impl<L: Opening + Send + Sync> Bench<L> {
     ) -> Result<Worked<L>, WorkFault>
         ensures open { IfOk result (λ w. All (λ s. s.deeds.tickets ≡ []) w.seats.items) }
         ensures turns { IfOk result (λ w. w.turns ≡ sum_by (λ s. turns_in (events_of s.deeds)) w.seats.items) }
+        ensures err { IfErr result (λ fault. StopsWork fault) }
     {
         let Ok(pile) = Pile::with_room(alloc, workers) else {
             return Err(WorkFault::Book(BookFault::Memory));

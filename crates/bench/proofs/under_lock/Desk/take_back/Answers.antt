@@ -1,6 +1,6 @@
-use Rattle.std.proofs.Common.{◌∙◌, ap, refl, subst, sym, rules}
+use Rattle.std.proofs.Common.{refl, rules}
 use Rattle.book.specs.BookView.{book_of}
-use Rattle.bench.proofs.Agrees.{rests_same, desk_rested, counted_same, few_events, met}
+use Rattle.bench.proofs.Agrees.{rests_same, desk_rested, counted_same, few_events}
 use Rattle.bench.proofs.Moves.{journal_within}
 use Rattle.bench.proofs.under_lock.Desk.take_back.Goals as goal
 
