@@ -2,3 +2,4 @@ pub mod Seats
 pub mod Desk
 pub mod DeskView
 pub mod Author
+pub mod Workshop

@@ -1,5 +1,6 @@
 // An author who waits for each reply.
 
+use crew::crew::Nobody;
 use crate::fakes::{ORDER, SUM, Talk, ending_of, replies_within};
 use std::alloc::Global;
 use std::io;
@@ -7,7 +8,7 @@ use std::io::{Error, ErrorKind, Read, Write};
 use std::process::Abort;
 use std::sync::Arc;
 use std::sync::atomic::{AtomicU64, Ordering};
-use stepper::{Limits, Nobody, run};
+use stepper::{Limits, run};
 use streams::lines::Lines;
 use streams::outlet::Outlet;
 

@@ -3,10 +3,10 @@ use bench::once::work_once;
 use bench::work::NoGate;
 use book::book::{Book, MOST_STEPS};
 use book::fault::{BookFault, WorkFault};
+use crew::crew::{Crew, Order};
 use std::alloc::Global;
 use std::sync::Wait;
 use std::thread::Threads;
-use stepper::{Crew, Order};
 
 /// A crew of threads, which share the book by a Bench.
 #[derive(Drop)]

@@ -22,7 +22,7 @@ use Rattle.stepper.proofs.Answered.{happens_as, answered_at, born_at, or_false}
 module _ {R W : Type 0} (remaining : R → Option (List ℕ)) (contents : W → Option (List ℕ)) (source : Lines R) (sink : Outlet W) (sound : IsSound remaining source) where
   -- no line is taken for what happens
   pub does_here : {old new : Engine} {says : Result (Option Spelled) LineFault} → script_lines says ≡ 0
-      → Happens old new (λ b r s d. (more : List ℕ) → FirstReply old.budget b says more r s d more) → Does remaining contents old new source source sink sink says
+      → Happens old new (λ b r s d. (more : List ℕ) → FirstReply old.limits b says more r s d more) → Does remaining contents old new source source sink sink says
   does_here {says = says} none h = record {
     bytes = [];
     taken = Consumes-nil (unread remaining source);
@@ -35,28 +35,28 @@ module _ {R W : Type 0} (remaining : R → Option (List ℕ)) (contents : W → 
 
   -- a command that has no script
   pub does_alone : {A E : Type 0} {old new now : Engine} (c a : Spelled) (r : Result A E) {s : Result A E} {x : A} → c ≡ a → script_lines (Ok (Some a)) ≡ 0 → s ≡ r → s ≡ Ok x → now ≡ new
-      → OnOk r (Happens old new (λ b r s d. Answers old.budget b a r s d)) → Does remaining contents old now source source sink sink (Ok (Some c))
+      → OnOk r (Happens old new (λ b r s d. Answers old.limits b a r s d)) → Does remaining contents old now source source sink sink (Ok (Some c))
   does_alone {old = old} c a (Ok y) spelled none is was same h =
       subst (λ (z : Engine). Does remaining contents old z source source sink sink (Ok (Some c))) (sym same)
-      (does_here (ap (λ (z : Spelled). script_lines (Ok (Some z))) spelled ∙ none) (happens_as (λ b r s d k more. answered_at old.budget b d c a more r s spelled k) h))
+      (does_here (ap (λ (z : Spelled). script_lines (Ok (Some z))) spelled ∙ none) (happens_as (λ b r s d k more. answered_at old.limits b d c a more r s spelled k) h))
   does_alone c a (Err e) spelled none is was same h = absurd (cc)
 
   -- a line that says nothing, and one that is refused
   pub does_nothing : (e : Engine) {says : Result (Option Spelled) LineFault} → says ≡ Ok None → Does remaining contents e e source source sink sink says
   does_nothing e same =
       subst (Does remaining contents e e source source sink sink) (sym same)
-      (does_here refl (record { reply = []; refusal = false; allowed = λ more. skipped; adds = record { text = sym (append-nil (string_bytes e.written.text)); refused = or_false e.written.refused }; budget = refl }))
+      (does_here refl (record { reply = []; refusal = false; allowed = λ more. skipped; adds = record { text = sym (append-nil (string_bytes e.written.text)); refused = or_false e.written.refused }; limits = refl }))
 
-  pub does_refuse : {old new : Engine} (f : LineFault) {says : Result (Option Spelled) LineFault} → says ≡ Err f → book_of new.book ≡ book_of old.book → new.budget ≡ old.budget
+  pub does_refuse : {old new : Engine} (f : LineFault) {says : Result (Option Spelled) LineFault} → says ≡ Err f → book_of new.book ≡ book_of old.book → new.limits ≡ old.limits
       → Adds old.written new.written (refused (fault_text f)) true → Does remaining contents old new source source sink sink says
-  does_refuse {old = old} {new = new} f same kept budget adds =
+  does_refuse {old = old} {new = new} f same kept limits adds =
       subst (Does remaining contents old new source source sink sink) (sym same)
       (does_here refl (record {
         reply = refused (fault_text f);
         refusal = true;
-        allowed = λ more. subst (λ (d : Book). FirstReply old.budget (book_of old.book) (Err f) more (refused (fault_text f)) true d more) (sym kept) no_command;
+        allowed = λ more. subst (λ (d : Book). FirstReply old.limits (book_of old.book) (Err f) more (refused (fault_text f)) true d more) (sym kept) no_command;
         adds = adds;
-        budget = budget;
+        limits = limits;
       }))
 
   -- memory runs out where no line was taken
@@ -75,9 +75,9 @@ module _ {R W : Type 0} (remaining : R → Option (List ℕ)) (contents : W → 
     stays = t.stays;
     gives = t.gives;
     happens = happens_as (λ b r s d k. record {
-      here = born_at old.budget b d c x earlier lines t.bytes [] r s script e t.text (sym t.left) k;
+      here = born_at old.limits b d c x earlier lines t.bytes [] r s script e t.text (sym t.left) k;
       lines = λ unended. subst (λ (z : Spelled). script_lines (Ok (Some z)) ≤ line_feeds t.bytes) (sym e) (t.whole unended);
-      before = λ unended more. born_at old.budget b d c x earlier lines (t.bytes ++ more) more r s script e (t.before unended more).0 (t.before unended more).1 k;
+      before = λ unended more. born_at old.limits b d c x earlier lines (t.bytes ++ more) more r s script e (t.before unended more).0 (t.before unended more).1 k;
     }) h;
   }
 

@@ -25,6 +25,7 @@ use Rattle.stepper.specs.declared.fault.Fault.{Fault}
 use Rattle.stepper.specs.declared.fault.Fault.TheVariants.{Reader, Writer, Memory}
 use Rattle.stepper.proofs.Whole.{said_in, reads_said, no_whole_line, of_one_command, of_one_part}
 use Rattle.stepper.proofs.Story.{Story, story_begins, story_so_far, story_all, story_more, at_piece, before_piece, whole_piece, not_whole_piece, some_piece}
+use Rattle.stepper.specs.declared.engine.Limits.{Limits}
 
 -- what was consumed first
 consumes_front : (a b : Option (List ℕ)) (xs ys : List ℕ) → Consumes a b (xs ++ ys) → Consumes a (prepend_known ys b) xs
@@ -52,20 +53,20 @@ module _ {R W : Type 0} (remaining : R → Option (List ℕ)) (contents : W → 
         none_failed = d.none_failed;
         gives = d.gives;
         refusal = d.happens.refusal;
-        here = subst (λ (z : List ℕ). FirstReply old.budget (book_of old.book) (said (bytes ++ d.bytes)) (behind_line (bytes ++ d.bytes)) z d.happens.refusal (book_of new.book) []) same
-            (at_piece old.budget (book_of old.book) (book_of new.book) bytes d.bytes reply [] d.happens.refusal (is_ended source) (is_ended later) said_so one meant d.stays d.happens.allowed.here);
+        here = subst (λ (z : List ℕ). FirstReply old.limits (book_of old.book) (said (bytes ++ d.bytes)) (behind_line (bytes ++ d.bytes)) z d.happens.refusal (book_of new.book) []) same
+            (at_piece old.limits (book_of old.book) (book_of new.book) bytes d.bytes reply [] d.happens.refusal (is_ended source) (is_ended later) said_so one meant d.stays d.happens.allowed.here);
         whole = λ unended more. whole_piece bytes d.bytes more (is_ended source) (is_ended later) said_so one meant d.stays unended (d.happens.allowed.lines unended);
         before = λ unended more.
-            subst (λ (z : List ℕ). FirstReply old.budget (book_of old.book) (said ((bytes ++ d.bytes) ++ more)) (behind_line ((bytes ++ d.bytes) ++ more)) z d.happens.refusal (book_of new.book) more) same
-            (before_piece old.budget (book_of old.book) (book_of new.book) bytes d.bytes more reply d.happens.refusal (is_ended source) (is_ended later) said_so one meant d.stays unended (d.happens.allowed.before unended more));
+            subst (λ (z : List ℕ). FirstReply old.limits (book_of old.book) (said ((bytes ++ d.bytes) ++ more)) (behind_line ((bytes ++ d.bytes) ++ more)) z d.happens.refusal (book_of new.book) more) same
+            (before_piece old.limits (book_of old.book) (book_of new.book) bytes d.bytes more reply d.happens.refusal (is_ended source) (is_ended later) said_so one meant d.stays unended (d.happens.allowed.before unended more));
         refused = d.happens.adds.refused;
-        budget = d.happens.budget;
+        limits = d.happens.limits;
       }
 
-  -- an engine with the same book, budget and refusals answers the same
-  line_from : {old mid new : Engine} {source later : Lines R} {sink after : Outlet W} {line : List ℕ} → mid.budget ≡ old.budget → book_of mid.book ≡ book_of old.book → mid.written.refused ≡ old.written.refused
+  -- an engine with the same book, limits and refusals answers the same
+  line_from : {old mid new : Engine} {source later : Lines R} {sink after : Outlet W} {line : List ℕ} → mid.limits ≡ old.limits → book_of mid.book ≡ book_of old.book → mid.written.refused ≡ old.written.refused
       → AnswersLine remaining contents mid new source later sink after line → AnswersLine remaining contents old new source later sink after line
-  line_from {old = old} {mid = mid} {new = new} {line = line} budget book refused a = record {
+  line_from {old = old} {mid = mid} {new = new} {line = line} limits book refused a = record {
     bytes = a.bytes;
     taken = a.taken;
     sound = a.sound;
@@ -76,14 +77,14 @@ module _ {R W : Type 0} (remaining : R → Option (List ℕ)) (contents : W → 
     whole = a.whole;
     before = λ unended more. from_mid ((line ++ a.bytes) ++ more) more (a.before unended more);
     refused = a.refused ∙ ap (λ (q : Bool). q || a.refusal) refused;
-    budget = a.budget ∙ budget;
+    limits = a.limits ∙ limits;
   }
     where
-      from_mid : (input rest : List ℕ) → FirstReply mid.budget (book_of mid.book) (said input) (behind_line input) (string_bytes new.written.text) a.refusal (book_of new.book) rest
-          → FirstReply old.budget (book_of old.book) (said input) (behind_line input) (string_bytes new.written.text) a.refusal (book_of new.book) rest
+      from_mid : (input rest : List ℕ) → FirstReply mid.limits (book_of mid.book) (said input) (behind_line input) (string_bytes new.written.text) a.refusal (book_of new.book) rest
+          → FirstReply old.limits (book_of old.book) (said input) (behind_line input) (string_bytes new.written.text) a.refusal (book_of new.book) rest
       from_mid input rest h =
-          subst (λ (n : ℕ). FirstReply n (book_of old.book) (said input) (behind_line input) (string_bytes new.written.text) a.refusal (book_of new.book) rest) budget
-          (subst (λ (b : Book). FirstReply mid.budget b (said input) (behind_line input) (string_bytes new.written.text) a.refusal (book_of new.book) rest) book h)
+          subst (λ (n : ℕ). FirstReply n (book_of old.book) (said input) (behind_line input) (string_bytes new.written.text) a.refusal (book_of new.book) rest) limits
+          (subst (λ (b : Book). FirstReply mid.limits b (said input) (behind_line input) (string_bytes new.written.text) a.refusal (book_of new.book) rest) book h)
 
   -- a fault behind the line of a command
   pub stops_line : (source later : Lines R) (sink after : Outlet W) (line : Line) (bytes : List ℕ) (said_so : Result (Option Spelled) LineFault) (fault : Fault)
@@ -108,36 +109,36 @@ module _ {R W : Type 0} (remaining : R → Option (List ℕ)) (contents : W → 
 
   -- what came of a line, by what it says
   pub line_answered : {A : Type 0} (old mid new : Engine) (source later : Lines R) (sink after : Outlet W) (line : Line) (said_so : Result (Option Spelled) LineFault) (r : Result A Fault)
-      → mid.budget ≡ old.budget → book_of mid.book ≡ book_of old.book → mid.written.refused ≡ old.written.refused → string_bytes mid.written.text ≡ [] → said_so ≡ said_in line
+      → mid.limits ≡ old.limits → book_of mid.book ≡ book_of old.book → mid.written.refused ≡ old.written.refused → string_bytes mid.written.text ≡ [] → said_so ≡ said_in line
       → MatchResult r (λ _. Does remaining contents mid new source later sink after said_so) (StopsWithin remaining contents source later sink after (script_lines said_so))
       → (bytes : List ℕ) → Reads line bytes → IsOneLine bytes (is_ended source)
       → MatchResult r (λ _. AnswersLine remaining contents old new source later sink after bytes) (StopsLine remaining contents source later sink after bytes)
-  line_answered old mid new source later sink after line said_so (Ok x) budget book refused empty says h bytes reads one =
-      line_from budget book refused (answers_line mid new source later sink after line bytes said_so reads one says empty h)
-  line_answered old mid new source later sink after line said_so (Err f) budget book refused empty says h bytes reads one = stops_line source later sink after line bytes said_so f reads one says h
+  line_answered old mid new source later sink after line said_so (Ok x) limits book refused empty says h bytes reads one =
+      line_from limits book refused (answers_line mid new source later sink after line bytes said_so reads one says empty h)
+  line_answered old mid new source later sink after line said_so (Err f) limits book refused empty says h bytes reads one = stops_line source later sink after line bytes said_so f reads one says h
 
   -- how far a run is
-  pub record Going (budget : ℕ) (source now : Lines R) (sink then : Outlet W) (engine : Engine) : Type 0 where
+  pub record Going (limits : Limits) (source now : Lines R) (sink then : Outlet W) (engine : Engine) : Type 0 where
     pub taken : List ℕ
     pub consumed : Consumes (unread remaining source) (unread remaining now) taken
     pub sound : IsSound remaining now
     pub none_failed : reads_failed now ≡ reads_failed source
     pub text : List ℕ
     pub gives : Gives contents sink then text
-    pub story : Story budget taken text (is_ended now) engine.written.refused (book_of engine.book)
-    pub same_budget : engine.budget ≡ budget
+    pub story : Story limits taken text (is_ended now) engine.written.refused (book_of engine.book)
+    pub same_budget : engine.limits ≡ limits
 
   -- before the first command
-  pub run_begins : (budget : ℕ) (source : Lines R) (sink : Outlet W) (engine : Engine) → IsSound remaining source → Gives contents sink sink [] → book_of engine.book ≡ blank → engine.written.refused ≡ false → engine.budget ≡ budget
-      → Going budget source source sink sink engine
-  run_begins budget source sink engine s g e f h = record {
+  pub run_begins : (limits : Limits) (source : Lines R) (sink : Outlet W) (engine : Engine) → IsSound remaining source → Gives contents sink sink [] → book_of engine.book ≡ blank → engine.written.refused ≡ false → engine.limits ≡ limits
+      → Going limits source source sink sink engine
+  run_begins limits source sink engine s g e f h = record {
     taken = [];
     consumed = Consumes-nil (unread remaining source);
     sound = s;
     none_failed = refl;
     text = [];
     gives = g;
-    story = story_begins budget (is_ended source) engine.written.refused (book_of engine.book) e f;
+    story = story_begins limits (is_ended source) engine.written.refused (book_of engine.book) e f;
     same_budget = h;
   }
 
@@ -148,9 +149,9 @@ module _ {R W : Type 0} (remaining : R → Option (List ℕ)) (contents : W → 
   cut_so : (sink then after : Outlet W) (text : List ℕ) → Gives contents sink then text → IsCutShort contents then after [] → IsCutShort contents sink after text
   cut_so sink then after text g s = subst (IsCutShort contents sink after) (append-nil text) (cut_behind contents sink then after text [] g s)
 
-  module _ (budget : ℕ) (source now later : Lines R) (sink then after : Outlet W) (engine : Engine) (g : Going budget source now sink then engine) where
+  module _ (limits : Limits) (source now later : Lines R) (sink then after : Outlet W) (engine : Engine) (g : Going limits source now sink then engine) where
     -- no line is left
-    pub run_ends : HasNoLine remaining now later → Gives contents then after [] → RunsToEnd remaining contents budget source later sink after engine.written.refused
+    pub run_ends : HasNoLine remaining now later → Gives contents then after [] → RunsToEnd remaining contents limits source later sink after engine.written.refused
     run_ends none s = record {
       input = g.taken;
       read = Consumes-kept _ _ _ g.taken g.consumed none.kept;
@@ -162,12 +163,12 @@ module _ {R W : Type 0} (remaining : R → Option (List ℕ)) (contents : W → 
       none_failed = none.none_failed ∙ g.none_failed;
     }
 
-    open_story : is_ended now ≡ false → Story budget g.taken g.text false engine.written.refused (book_of engine.book)
-    open_story unended = subst (λ (z : Bool). Story budget g.taken g.text z engine.written.refused (book_of engine.book)) unended g.story
+    open_story : is_ended now ≡ false → Story limits g.taken g.text false engine.written.refused (book_of engine.book)
+    open_story unended = subst (λ (z : Bool). Story limits g.taken g.text z engine.written.refused (book_of engine.book)) unended g.story
 
     -- a read fails behind these bytes, in which no command is whole
     pub read_fails : (left : List ℕ) → is_ended now ≡ false → Consumes (unread remaining now) (unread remaining later) left → held later ≡ [] → ¬ IsWhole left → IsOneMore (reads_failed now) (reads_failed later)
-        → Gives contents then after [] → RunsToFailedRead remaining contents budget source later sink after
+        → Gives contents then after [] → RunsToFailedRead remaining contents limits source later sink after
     read_fails left unended read none_held none_whole one s = record {
       input = g.taken;
       left = left;
@@ -183,7 +184,7 @@ module _ {R W : Type 0} (remaining : R → Option (List ℕ)) (contents : W → 
     }
 
     -- a write fails
-    pub write_fails : IsCutShort contents then after [] → RunsToFailedWrite remaining contents budget source later sink after
+    pub write_fails : IsCutShort contents then after [] → RunsToFailedWrite remaining contents limits source later sink after
     write_fails s = record {
       input = g.taken;
       rest = unread remaining now;
@@ -197,7 +198,7 @@ module _ {R W : Type 0} (remaining : R → Option (List ℕ)) (contents : W → 
 
     -- memory runs out behind these bytes, which are of one command
     pub memory_fails : (left : List ℕ) → is_ended now ≡ false → Consumes (unread remaining now) (unread remaining later) left → IsOfOne left → reads_failed later ≡ reads_failed now
-        → Gives contents then after [] → RunsOutOfMemory remaining contents budget source later sink after
+        → Gives contents then after [] → RunsOutOfMemory remaining contents limits source later sink after
     memory_fails left unended read of_one none_failed s = record {
       input = g.taken;
       left = left;
@@ -212,29 +213,29 @@ module _ {R W : Type 0} (remaining : R → Option (List ℕ)) (contents : W → 
     }
 
     -- a fault where the next line was to be taken
-    pub run_stops_at_line : (fault : Fault) → StopsAtLine remaining contents now later then after fault → RunsTo remaining contents budget source later sink after fault
+    pub run_stops_at_line : (fault : Fault) → StopsAtLine remaining contents now later then after fault → RunsTo remaining contents limits source later sink after fault
     run_stops_at_line Reader (f, s) = read_fails f.part.bytes f.part.was_open f.part.taken f.none_held (no_whole_line f.part.bytes f.part.feedless) f.one_failed s
     run_stops_at_line Writer s = write_fails s
     run_stops_at_line Memory (f, s) = memory_fails f.part.bytes f.part.was_open f.part.taken (of_one_part f.part.bytes f.part.feedless) f.none_failed s
 
-  module _ (budget : ℕ) (source now mid later : Lines R) (sink then one two : Outlet W) (engine next : Engine) (line : Line) (g : Going budget source now sink then engine) (t : TakesLine remaining now mid line) (s : Gives contents then one []) where
+  module _ (limits : Limits) (source now mid later : Lines R) (sink then one two : Outlet W) (engine next : Engine) (line : Line) (g : Going limits source now sink then engine) (t : TakesLine remaining now mid line) (s : Gives contents then one []) where
     -- a fault behind the line of a command
-    pub run_stops_behind : (fault : Fault) → StopsLine remaining contents mid later one two t.bytes fault → RunsTo remaining contents budget source later sink two fault
+    pub run_stops_behind : (fault : Fault) → StopsLine remaining contents mid later one two t.bytes fault → RunsTo remaining contents limits source later sink two fault
     run_stops_behind Reader f =
-        read_fails budget source now later sink then two engine g (t.bytes ++ f.bytes) t.not_ended (Consumes-trans _ _ _ t.bytes f.bytes t.taken f.taken) f.none_held f.none_whole
+        read_fails limits source now later sink then two engine g (t.bytes ++ f.bytes) t.not_ended (Consumes-trans _ _ _ t.bytes f.bytes t.taken f.taken) f.none_held f.none_whole
         (subst (λ n. IsOneMore n (reads_failed later)) t.none_failed f.one_failed) (gives_both contents then one two [] [] s f.gives)
-    run_stops_behind Writer f = write_fails budget source now later sink then two engine g (cut_behind contents then one two [] [] s f)
+    run_stops_behind Writer f = write_fails limits source now later sink then two engine g (cut_behind contents then one two [] [] s f)
     run_stops_behind Memory f =
-        memory_fails budget source now later sink then two engine g (t.bytes ++ f.bytes) t.not_ended (Consumes-trans _ _ _ t.bytes f.bytes t.taken f.taken) f.of_one (f.none_failed ∙ t.none_failed)
+        memory_fails limits source now later sink then two engine g (t.bytes ++ f.bytes) t.not_ended (Consumes-trans _ _ _ t.bytes f.bytes t.taken f.taken) f.of_one (f.none_failed ∙ t.none_failed)
         (gives_both contents then one two [] [] s f.gives)
 
     module _ (a : AnswersLine remaining contents engine next mid later one two t.bytes) where
       abbrev reply : List ℕ
       reply = string_bytes next.written.text
 
-      next_story : Story budget (g.taken ++ (t.bytes ++ a.bytes)) (g.text ++ reply) (is_ended later) next.written.refused (book_of next.book)
-      next_story = subst (λ (z : Bool). Story budget (g.taken ++ (t.bytes ++ a.bytes)) (g.text ++ reply) (is_ended later) z (book_of next.book)) (sym a.refused)
-          (story_more (t.bytes ++ a.bytes) (open_story budget source now later sink then two engine g t.not_ended) (some_piece t.bytes a.bytes (is_ended mid) t.one)
+      next_story : Story limits (g.taken ++ (t.bytes ++ a.bytes)) (g.text ++ reply) (is_ended later) next.written.refused (book_of next.book)
+      next_story = subst (λ (z : Bool). Story limits (g.taken ++ (t.bytes ++ a.bytes)) (g.text ++ reply) (is_ended later) z (book_of next.book)) (sym a.refused)
+          (story_more (t.bytes ++ a.bytes) (open_story limits source now later sink then two engine g t.not_ended) (some_piece t.bytes a.bytes (is_ended mid) t.one)
           (subst (λ (n : ℕ). FirstReply n (book_of engine.book) (said (t.bytes ++ a.bytes)) (behind_line (t.bytes ++ a.bytes)) reply a.refusal (book_of next.book) []) g.same_budget a.here)
           a.whole
           (λ unended more. subst (λ (n : ℕ). FirstReply n (book_of engine.book) (said ((t.bytes ++ a.bytes) ++ more)) (behind_line ((t.bytes ++ a.bytes) ++ more)) reply a.refusal (book_of next.book) more) g.same_budget (a.before unended more)))
@@ -246,7 +247,7 @@ module _ {R W : Type 0} (remaining : R → Option (List ℕ)) (contents : W → 
       two_given = given_so sink then two g.text g.gives (gives_both contents then one two [] [] s a.gives)
 
       -- the reply is given
-      pub run_goes_on : (three : Outlet W) → Gives contents two three reply → Going budget source later sink three next
+      pub run_goes_on : (three : Outlet W) → Gives contents two three reply → Going limits source later sink three next
       run_goes_on three w = record {
         taken = g.taken ++ (t.bytes ++ a.bytes);
         consumed = next_taken;
@@ -255,11 +256,11 @@ module _ {R W : Type 0} (remaining : R → Option (List ℕ)) (contents : W → 
         text = g.text ++ reply;
         gives = gives_both contents sink two three g.text reply two_given w;
         story = next_story;
-        same_budget = a.budget ∙ g.same_budget;
+        same_budget = a.limits ∙ g.same_budget;
       }
 
       -- the reply is cut short
-      pub run_is_cut : (three : Outlet W) → IsCutShort contents two three reply → RunsToFailedWrite remaining contents budget source later sink three
+      pub run_is_cut : (three : Outlet W) → IsCutShort contents two three reply → RunsToFailedWrite remaining contents limits source later sink three
       run_is_cut three w = record {
         input = g.taken ++ (t.bytes ++ a.bytes);
         rest = unread remaining later;
@@ -272,8 +273,8 @@ module _ {R W : Type 0} (remaining : R → Option (List ℕ)) (contents : W → 
       }
 
   -- more commands came than can be counted
-  pub run_is_endless : (budget : ℕ) (source now : Lines R) (sink then : Outlet W) (engine : Engine) → Going budget source now sink then engine → RunsTo remaining contents budget source now sink then Memory
-  run_is_endless budget source now sink then engine g = record {
+  pub run_is_endless : (limits : Limits) (source now : Lines R) (sink then : Outlet W) (engine : Engine) → Going limits source now sink then engine → RunsTo remaining contents limits source now sink then Memory
+  run_is_endless limits source now sink then engine g = record {
     input = g.taken;
     left = [];
     taken = subst (Consumes (unread remaining source) (unread remaining now)) (sym (append-nil g.taken)) g.consumed;
@@ -287,9 +288,9 @@ module _ {R W : Type 0} (remaining : R → Option (List ℕ)) (contents : W → 
   }
 
   -- what was answered goes out at last
-  pub ends_sent : (budget : ℕ) (source later : Lines R) (sink one two : Outlet W) (refused : Bool) → RunsToEnd remaining contents budget source later sink one refused → Gives contents one two []
-      → RunsToEnd remaining contents budget source later sink two refused
-  ends_sent budget source later sink one two refused r s = record {
+  pub ends_sent : (limits : Limits) (source later : Lines R) (sink one two : Outlet W) (refused : Bool) → RunsToEnd remaining contents limits source later sink one refused → Gives contents one two []
+      → RunsToEnd remaining contents limits source later sink two refused
+  ends_sent limits source later sink one two refused r s = record {
     input = r.input;
     read = r.read;
     end = r.end;
@@ -300,9 +301,9 @@ module _ {R W : Type 0} (remaining : R → Option (List ℕ)) (contents : W → 
     none_failed = r.none_failed;
   }
 
-  pub fails_sent : (budget : ℕ) (source later : Lines R) (sink one two : Outlet W) (fault : Fault) → (fault ≡ Writer → ⊥) → RunsTo remaining contents budget source later sink one fault → Gives contents one two []
-      → RunsTo remaining contents budget source later sink two fault
-  fails_sent budget source later sink one two Reader n r s = record {
+  pub fails_sent : (limits : Limits) (source later : Lines R) (sink one two : Outlet W) (fault : Fault) → (fault ≡ Writer → ⊥) → RunsTo remaining contents limits source later sink one fault → Gives contents one two []
+      → RunsTo remaining contents limits source later sink two fault
+  fails_sent limits source later sink one two Reader n r s = record {
     input = r.input;
     left = r.left;
     read = r.read;
@@ -315,8 +316,8 @@ module _ {R W : Type 0} (remaining : R → Option (List ℕ)) (contents : W → 
     gives = given_so sink one two r.text r.gives s;
     one_failed = r.one_failed;
   }
-  fails_sent budget source later sink one two Writer n r s = absurd (n refl)
-  fails_sent budget source later sink one two Memory n r s = record {
+  fails_sent limits source later sink one two Writer n r s = absurd (n refl)
+  fails_sent limits source later sink one two Memory n r s = record {
     input = r.input;
     left = r.left;
     taken = r.taken;
@@ -330,9 +331,9 @@ module _ {R W : Type 0} (remaining : R → Option (List ℕ)) (contents : W → 
   }
 
   -- the last send fails
-  pub ends_cut : (budget : ℕ) (source later : Lines R) (sink one two : Outlet W) (refused : Bool) → RunsToEnd remaining contents budget source later sink one refused → IsCutShort contents one two []
-      → RunsTo remaining contents budget source later sink two Writer
-  ends_cut budget source later sink one two refused r s = record {
+  pub ends_cut : (limits : Limits) (source later : Lines R) (sink one two : Outlet W) (refused : Bool) → RunsToEnd remaining contents limits source later sink one refused → IsCutShort contents one two []
+      → RunsTo remaining contents limits source later sink two Writer
+  ends_cut limits source later sink one two refused r s = record {
     input = r.input;
     rest = unread remaining later;
     begins = r.read;
@@ -343,9 +344,9 @@ module _ {R W : Type 0} (remaining : R → Option (List ℕ)) (contents : W → 
     cut = cut_so sink one two r.text r.gives s;
   }
 
-  pub fails_cut : (budget : ℕ) (source later : Lines R) (sink one two : Outlet W) (fault : Fault) → (fault ≡ Writer → ⊥) → RunsTo remaining contents budget source later sink one fault → IsCutShort contents one two []
-      → RunsTo remaining contents budget source later sink two Writer
-  fails_cut budget source later sink one two Reader n r s = record {
+  pub fails_cut : (limits : Limits) (source later : Lines R) (sink one two : Outlet W) (fault : Fault) → (fault ≡ Writer → ⊥) → RunsTo remaining contents limits source later sink one fault → IsCutShort contents one two []
+      → RunsTo remaining contents limits source later sink two Writer
+  fails_cut limits source later sink one two Reader n r s = record {
     input = r.input;
     rest = prepend_known r.left (unread remaining later);
     begins = consumes_front (unread remaining source) (unread remaining later) r.input r.left r.read;
@@ -355,8 +356,8 @@ module _ {R W : Type 0} (remaining : R → Option (List ℕ)) (contents : W → 
     replies = whole_ones r.replies;
     cut = cut_so sink one two r.text r.gives s;
   }
-  fails_cut budget source later sink one two Writer n r s = absurd (n refl)
-  fails_cut budget source later sink one two Memory n r s = record {
+  fails_cut limits source later sink one two Writer n r s = absurd (n refl)
+  fails_cut limits source later sink one two Memory n r s = record {
     input = r.input;
     rest = prepend_known r.left (unread remaining later);
     begins = consumes_front (unread remaining source) (unread remaining later) r.input r.left r.taken;

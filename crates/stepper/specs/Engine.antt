@@ -13,8 +13,8 @@ pub record Happens (old new : Engine) (Allowed : books.Book → List ℕ → Boo
   pub refusal : Bool
   pub allowed : Allowed (book_of old.book) reply refusal (book_of new.book)
   pub adds : Adds old.written new.written reply refusal
-  pub budget : new.budget ≡ old.budget
+  pub limits : new.limits ≡ old.limits
 
 -- something was done, or was refused
 abbrev pub Moved : Engine → Engine → Step → Bool → Type 0
-Moved old new step done = Happens old new (λ b r s d. (s ≡ not done) × Moves old.budget b step r s d)
+Moved old new step done = Happens old new (λ b r s d. (s ≡ not done) × Moves old.limits b step r s d)

@@ -15,7 +15,7 @@ ghost use Rattle.stepper.specs.Taking.{Does, DoesOrStops, AnswersOrStops};
 ghost use Rattle.stepper.specs.Runs.{RunsToEnd, RunsTo};
 ghost use Rattle.stepper.specs.declared.fault.Fault.TheVariants.{Writer};
 
-use crate::crew::{Crew, Order};
+use crew::crew::{Crew, Order};
 use crate::fault::Fault;
 use crate::input::{next_line, take_script};
 use crate::reply::Written;
@@ -61,10 +61,7 @@ pub struct Summary {
 #[derive(Drop)]
 struct Engine {
     alloc: Global,
-    /// The most steps of a turn.
-    budget: u32,
-    /// The most workers.
-    workers: u32,
+    limits: Limits,
     book: Book,
     written: Written,
 }
@@ -73,7 +70,7 @@ impl Engine {
     ghost use Rattle.stepper.specs.Engine.{Happens, Moved};
 
     fn ask_program(&mut self, name: &str, program: Program) -> Result<(), AllocError>
-        ensures { (text : List ℕ) → ReadAs text (Ok (program_of program)) → OnOk result (Happens self.old self.new (λ b r s d. Answers self.old.budget b (commands.ask name.now text) r s d)) }
+        ensures { (text : List ℕ) → ReadAs text (Ok (program_of program)) → OnOk result (Happens self.old self.new (λ b r s d. Answers self.old.limits b (commands.ask name.now text) r s d)) }
     {
         let Ok(name) = Text::new(self.alloc, name) else {
             return self.written.refuse_call(&BookFault::Memory);
@@ -85,7 +82,7 @@ impl Engine {
     }
 
     fn ask(&mut self, name: &str, text: &str) -> Result<(), AllocError>
-        ensures { OnOk result (Happens self.old self.new (λ b r s d. Answers self.old.budget b (commands.ask name.now text.now) r s d)) }
+        ensures { OnOk result (Happens self.old self.new (λ b r s d. Answers self.old.limits b (commands.ask name.now text.now) r s d)) }
     {
         match read(self.alloc, text) {
             Ok(program) => self.ask_program(name, program),
@@ -94,7 +91,7 @@ impl Engine {
     }
 
     fn learn(&mut self, name: &str, promise: PromiseName) -> Result<(), AllocError>
-        ensures { OnOk result (Happens self.old self.new (λ b r s d. Answers self.old.budget b (commands.learn name.now promise) r s d)) }
+        ensures { OnOk result (Happens self.old self.new (λ b r s d. Answers self.old.limits b (commands.learn name.now promise) r s d)) }
     {
         let Ok(name) = Text::new(self.alloc, name) else {
             return self.written.refuse_call(&BookFault::Memory);
@@ -126,7 +123,7 @@ impl Engine {
     fn turn(&mut self, message: MsgId) -> Result<bool, AllocError>
         ensures { IfOk result (λ done. Moved self.old self.new (Step.Turn message) done) }
     {
-        match self.book.turn(message, self.budget) {
+        match self.book.turn(message, self.limits.budget) {
             Ok(Turned { event, ended }) => self.written.turned(event, &ended),
             Err(fault) => self.written.not_moved(&fault),
         }
@@ -156,7 +153,7 @@ impl Engine {
 
     /// Does what a command of one message says.
     fn obey(&mut self, step: Step) -> Result<(), AllocError>
-        ensures { OnOk result (Happens self.old self.new (λ b r s d. Moves self.old.budget b step r s d)) }
+        ensures { OnOk result (Happens self.old self.new (λ b r s d. Moves self.old.limits b step r s d)) }
     {
         self.make_move(step)?;
         Ok(())
@@ -164,7 +161,7 @@ impl Engine {
 
     /// Does the first that may be done. Answers whether a next step may follow: something was found, and it was not refused.
     fn try_step(&mut self) -> Result<bool, AllocError>
-        ensures { IfOk result (λ more. Happens self.old self.new (λ b r s d. Steps self.old.budget b r s d more)) }
+        ensures { IfOk result (λ more. Happens self.old self.new (λ b r s d. Steps self.old.limits b r s d more)) }
     {
         match self.book.next() {
             Ok(Some(step)) => self.make_move(step),
@@ -174,7 +171,7 @@ impl Engine {
     }
 
     fn step(&mut self) -> Result<(), AllocError>
-        ensures { OnOk result (Happens self.old self.new (λ b r s d. Answers self.old.budget b commands.step r s d)) }
+        ensures { OnOk result (Happens self.old self.new (λ b r s d. Answers self.old.limits b commands.step r s d)) }
     {
         self.try_step()?;
         Ok(())
@@ -182,7 +179,7 @@ impl Engine {
 
     /// Steps, at most so many, up to one that finds nothing to do or is refused.
     fn run(&mut self, most: u32) -> Result<(), AllocError>
-        ensures { OnOk result (Happens self.old self.new (λ b r s d. Answers self.old.budget b (commands.run most) r s d)) }
+        ensures { OnOk result (Happens self.old self.new (λ b r s d. Answers self.old.limits b (commands.run most) r s d)) }
     {
         let mut left = most;
         'steps: while left > 0 {
@@ -198,11 +195,11 @@ impl Engine {
     /// Hands the book to the crew, and takes it back.
     fn work<C: Crew>(&mut self, crew: &mut C, workers: u32, turns: u32) -> Result<(), AllocError>
         requires crew { C.ready }
-        ensures { OnOk result (Happens self.old self.new (λ b r s d. Answers self.old.budget b (commands.work workers turns) r s d)) }
+        ensures { OnOk result (Happens self.old self.new (λ b r s d. Answers self.old.limits b (commands.work workers turns) r s d)) }
     {
         let order = Order {
-            budget: self.budget,
-            workers: workers.min(self.workers),
+            budget: self.limits.budget,
+            workers: workers.min(self.limits.workers),
             turns,
         };
         let book = mem::replace(&mut self.book, Book::new(self.alloc));
@@ -215,7 +212,7 @@ impl Engine {
     }
 
     fn enabled(&mut self) -> Result<(), AllocError>
-        ensures { OnOk result (Happens self.old self.new (λ b r s d. Answers self.old.budget b commands.enabled r s d)) }
+        ensures { OnOk result (Happens self.old self.new (λ b r s d. Answers self.old.limits b commands.enabled r s d)) }
     {
         match self.book.enabled() {
             Ok(steps) => self.written.enabled(self.alloc, self.book.world(), &steps),
@@ -224,20 +221,20 @@ impl Engine {
     }
 
     fn show(&mut self) -> Result<(), AllocError>
-        ensures { OnOk result (Happens self.old self.new (λ b r s d. Answers self.old.budget b commands.show r s d)) }
+        ensures { OnOk result (Happens self.old self.new (λ b r s d. Answers self.old.limits b commands.show r s d)) }
     {
         self.written.world(self.alloc, self.book.world())
     }
 
     fn journal(&mut self) -> Result<(), AllocError>
-        ensures { OnOk result (Happens self.old self.new (λ b r s d. Answers self.old.budget b commands.journal r s d)) }
+        ensures { OnOk result (Happens self.old self.new (λ b r s d. Answers self.old.limits b commands.journal r s d)) }
     {
         self.written.journal(self.alloc, self.book.journal())
     }
 
     /// The log of the turns of the vat of this name.
     fn log(&mut self, name: &str) -> Result<(), AllocError>
-        ensures { OnOk result (Happens self.old self.new (λ b r s d. Answers self.old.budget b (commands.log name.now) r s d)) }
+        ensures { OnOk result (Happens self.old self.new (λ b r s d. Answers self.old.limits b (commands.log name.now) r s d)) }
     {
         match log_of(self.alloc, &self.book, name) {
             Ok(text) => self.written.log(text.as_str()),
@@ -246,7 +243,7 @@ impl Engine {
     }
 
     fn cone(&mut self, event: EventName) -> Result<(), AllocError>
-        ensures { OnOk result (Happens self.old self.new (λ b r s d. Answers self.old.budget b (commands.cone event) r s d)) }
+        ensures { OnOk result (Happens self.old self.new (λ b r s d. Answers self.old.limits b (commands.cone event) r s d)) }
     {
         match self.book.cone(event) {
             Ok(events) => self.written.cone(&events),
@@ -255,7 +252,7 @@ impl Engine {
     }
 
     fn undo(&mut self, events: &[EventName]) -> Result<(), AllocError>
-        ensures { OnOk result (Happens self.old self.new (λ b r s d. Answers self.old.budget b (commands.undo events.now) r s d)) }
+        ensures { OnOk result (Happens self.old self.new (λ b r s d. Answers self.old.limits b (commands.undo events.now) r s d)) }
     {
         match self.book.undo(events) {
             Ok(count) => self.written.undone(count),
@@ -265,7 +262,7 @@ impl Engine {
 
     /// Undoes an event with its cone.
     fn undo_cone(&mut self, event: EventName) -> Result<(), AllocError>
-        ensures { OnOk result (Happens self.old self.new (λ b r s d. Answers self.old.budget b (commands.undo_cone event) r s d)) }
+        ensures { OnOk result (Happens self.old self.new (λ b r s d. Answers self.old.limits b (commands.undo_cone event) r s d)) }
     {
         match self.book.cone(event) {
             Ok(events) => self.undo(&events),
@@ -274,7 +271,7 @@ impl Engine {
     }
 
     fn redo(&mut self, events: &[EventName]) -> Result<(), AllocError>
-        ensures { OnOk result (Happens self.old self.new (λ b r s d. Answers self.old.budget b (commands.redo events.now) r s d)) }
+        ensures { OnOk result (Happens self.old self.new (λ b r s d. Answers self.old.limits b (commands.redo events.now) r s d)) }
     {
         match self.book.redo(events) {
             Ok(count) => self.written.redone(count),
@@ -284,7 +281,7 @@ impl Engine {
 
     /// Lets the entry at a position and the one behind it change places.
     fn exchange(&mut self, position: usize) -> Result<(), AllocError>
-        ensures { OnOk result (Happens self.old self.new (λ b r s d. Answers self.old.budget b (commands.exchange position) r s d)) }
+        ensures { OnOk result (Happens self.old self.new (λ b r s d. Answers self.old.limits b (commands.exchange position) r s d)) }
     {
         match self.book.exchange(position) {
             Ok((event, other)) => self.written.exchanged(event, other),
@@ -294,7 +291,7 @@ impl Engine {
 
     /// Settles all entries up to a position.
     fn settle(&mut self, position: usize) -> Result<(), AllocError>
-        ensures { OnOk result (Happens self.old self.new (λ b r s d. Answers self.old.budget b (commands.settle position) r s d)) }
+        ensures { OnOk result (Happens self.old self.new (λ b r s d. Answers self.old.limits b (commands.settle position) r s d)) }
     {
         match self.book.settle(position) {
             Ok(()) => self.written.settled(position),
@@ -448,8 +445,8 @@ impl Engine {
         requires sound { IsSound R.remaining source.old }
         requires crew { C.ready }
         ensures { MatchResult result
-            (λ _. RunsToEnd R.remaining W.contents self.old.budget source.old source.new sink.old sink.new self.new.written.refused)
-            (RunsTo R.remaining W.contents self.old.budget source.old source.new sink.old sink.new) }
+            (λ _. RunsToEnd R.remaining W.contents self.old.limits source.old source.new sink.old sink.new self.new.written.refused)
+            (RunsTo R.remaining W.contents self.old.limits source.old source.new sink.old sink.new) }
     {
         'commands: for _ in 0..u64::MAX {
             match next_line(source, sink)? {
@@ -489,14 +486,13 @@ pub fn run<R: Read, W: Write, C: Crew>(
 ) -> Result<Summary, Fault>
     requires sound { IsSound R.remaining source.old }
     requires crew { C.ready }
-    ensures ok { IfOk result (λ summary. RunsToEnd R.remaining W.contents limits.budget source.old source.new sink.old sink.new summary.refused) }
-    ensures err { IfErr result (RunsTo R.remaining W.contents limits.budget source.old source.new sink.old sink.new) }
+    ensures ok { IfOk result (λ summary. RunsToEnd R.remaining W.contents limits source.old source.new sink.old sink.new summary.refused) }
+    ensures err { IfErr result (RunsTo R.remaining W.contents limits source.old source.new sink.old sink.new) }
     ensures all_out { waiting sink.new ≡ [] }
 {
     let mut engine = Engine {
         alloc,
-        budget: limits.budget,
-        workers: limits.workers,
+        limits,
         book: Book::new(alloc),
         written: Written::new(alloc),
     };

@@ -1,7 +1,6 @@
 //! Answers commands on vats: one reply for each.
 #![tactic(auto)]
 
-mod crew;
 mod ended;
 mod engine;
 mod fault;
@@ -9,7 +8,6 @@ mod input;
 mod reply;
 pub mod theorems;
 
-pub use crew::{Crew, Nobody, Order};
 pub use ended::{Ended, status};
 pub use engine::{Limits, STACK, Summary, run};
 pub use fault::Fault;

@@ -8,7 +8,7 @@ use Rattle.pact.specs.declared.Act.{Act}
 use Rattle.pact.specs.Agree.{after, entered_by, knower}
 use Rattle.bench.specs.Author.{Obeys}
 use Rattle.bench.specs.DeskView.{Desked}
-use Rattle.bench.specs.Seats.{is_turn}
+use Rattle.crew.specs.Work.{is_turn}
 use Rattle.bench.proofs.Acts.{Entering, entering, mark_enters_none}
 use Rattle.bench.proofs.Agrees.{desk_entered, counted_more, counted_same, few_events}
 use Rattle.bench.proofs.Moves.{journal_within, marked, one_open, refused_marked}

@@ -13,7 +13,7 @@ use Rattle.bench.specs.declared.pick.Pick.{Pick}
 use Rattle.bench.specs.declared.pick.Pick.TheVariants as pick
 use Rattle.bench.specs.Author.{Picks}
 use Rattle.bench.specs.DeskView.{Desked}
-use Rattle.bench.specs.Seats.{is_turn}
+use Rattle.crew.specs.Work.{is_turn}
 use Rattle.bench.proofs.Acts.{Moving, moving}
 use Rattle.bench.proofs.Agrees.{desk_entered, desk_opened, rests_same, counted_more, counted_same, few_events}
 use Rattle.bench.proofs.Moves.{journal_within, one_open}

@@ -10,7 +10,7 @@ use Rattle.book.specs.BookView.{book_of}
 use Rattle.desk.specs.Desks.{without}
 use Rattle.bench.proofs.Agrees.{desk_given, counted_more, few_events}
 use Rattle.bench.proofs.Moves.{grows, journal_within, one_open}
-use Rattle.bench.specs.Seats.{is_turn}
+use Rattle.crew.specs.Work.{is_turn}
 use Rattle.bench.proofs.under_lock.Desk.give.Goals as goal
 
 pub last_event-given-requires : goal.last_event-given-requires

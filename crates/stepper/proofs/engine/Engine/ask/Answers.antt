@@ -8,4 +8,4 @@ returns-in-Ok c = c.ask_program.ensures c.args.text.now c.in-Ok.ensures
 
 pub returns-in-Err : goal.returns-in-Err
 returns-in-Err c = on_ok c.refuse_text.result
-    (λ a. record { reply = _; refusal = true; allowed = ask_not_read c.args.self.now.budget (book_of c.args.self.now.book) c.args.name.now c.args.text.now c.in-Err.fault c.in-Err.ensures; adds = a; budget = refl }) c.refuse_text.ensures
+    (λ a. record { reply = _; refusal = true; allowed = ask_not_read c.args.self.now.limits (book_of c.args.self.now.book) c.args.name.now c.args.text.now c.in-Err.fault c.in-Err.ensures; adds = a; limits = refl }) c.refuse_text.ensures

@@ -11,4 +11,4 @@ returns-in-Ok c = on_ok c.birth_text.result
 
 pub returns-in-Err : goal.returns-in-Err
 returns-in-Err c = on_ok c.refuse_line.result
-    (λ a. record { reply = _; refusal = true; allowed = refused_at (book_of c.args.self.now.book) c.args.name.now _ c.in-Err.fault (script_text c.args.script.now) (ap script_text c.in-Err.is); adds = a; budget = refl }) c.refuse_line.ensures
+    (λ a. record { reply = _; refusal = true; allowed = refused_at (book_of c.args.self.now.book) c.args.name.now _ c.in-Err.fault (script_text c.args.script.now) (ap script_text c.in-Err.is); adds = a; limits = refl }) c.refuse_line.ensures

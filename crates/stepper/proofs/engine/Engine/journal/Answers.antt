@@ -5,4 +5,4 @@ use Rattle.stepper.proofs.engine.Engine.journal.Goals as goal
 
 pub returns : goal.returns
 returns c = on_ok c.journal-2.result
-    (λ a. record { reply = _; refusal = false; allowed = all_listed c.args.self.now.budget (book_of c.args.self.now.book) c.journal.ensures.settled c.journal.ensures.lines; adds = a; budget = refl }) c.journal-2.ensures
+    (λ a. record { reply = _; refusal = false; allowed = all_listed c.args.self.now.limits (book_of c.args.self.now.book) c.journal.ensures.settled c.journal.ensures.lines; adds = a; limits = refl }) c.journal-2.ensures

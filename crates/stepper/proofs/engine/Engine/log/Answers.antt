@@ -6,7 +6,7 @@ use Rattle.stepper.proofs.engine.Engine.log.Goals as goal
 
 pub returns-in-Ok : goal.returns-in-Ok
 returns-in-Ok c = on_ok c.log.result
-    (λ a. record { reply = _; refusal = false; allowed = vat_logged c.args.self.now.budget (book_of c.args.self.now.book) c.as_str.ensures.value c.in-Ok.ensures; adds = a; budget = refl }) c.log.ensures
+    (λ a. record { reply = _; refusal = false; allowed = vat_logged c.args.self.now.limits (book_of c.args.self.now.book) c.as_str.ensures.value c.in-Ok.ensures; adds = a; limits = refl }) c.log.ensures
 
 pub returns-in-Err : goal.returns-in-Err
-returns-in-Err c = on_ok c.refuse_call.result (λ a. record { reply = _; refusal = true; allowed = log_without_memory; adds = a; budget = refl }) c.refuse_call.ensures
+returns-in-Err c = on_ok c.refuse_call.result (λ a. record { reply = _; refusal = true; allowed = log_without_memory; adds = a; limits = refl }) c.refuse_call.ensures

@@ -6,4 +6,4 @@ use Rattle.stepper.proofs.engine.Engine.show.Goals as goal
 
 pub returns : goal.returns
 returns c = on_ok c.world-2.result
-    (λ a. record { reply = a.0; refusal = false; allowed = shown (subst (λ w. Shows w a.0) c.world.ensures.same a.1); adds = record { text = a.2; refused = no_refusal a.3 }; budget = refl }) c.world-2.ensures
+    (λ a. record { reply = a.0; refusal = false; allowed = shown (subst (λ w. Shows w a.0) c.world.ensures.same a.1); adds = record { text = a.2; refused = no_refusal a.3 }; limits = refl }) c.world-2.ensures

@@ -1,5 +1,4 @@
-//! Who does what may be done in a book, for the command `work`.
-
+// The book goes to a crew, and comes back.
 use book::book::Book;
 use book::fault::WorkFault;
 use std::alloc::Global;
@@ -17,17 +16,22 @@ pub struct Order {
 
 /// Takes the book for `work`, and gives it back. It alone may wait.
 pub trait Crew {
+    ghost use Rattle.std.specs.Prelude.{◌≡◌, IfOk, IfErr};
     ghost use Rattle.book.specs.BookView.{book_of};
-    ghost use Rattle.book.specs.Entered.{entered_in, IsAmong};
+    ghost use Rattle.crew.specs.Work.{Worked, RefusesWork};
 
     /// What it takes for workers to start, which whoever has the crew shows: of threads, that they may share what starts them.
     ghost ready: { Type 0 } = { Unit {0} };
 
     /// Has workers do what may be done in a book, until so many turns were taken or nothing may be done. Answers the book, with how many
     /// of their turns were entered.
+    ///
+    /// # Errors
+    /// `NoWorker` where none could be started, `Memory`, and `BadBudget` where a turn may not have so many steps. The book is as it was.
     fn work(&mut self, alloc: Global, book: Book, order: Order) -> (Book, Result<u64, WorkFault>)
         requires { Self.ready }
-        ensures { IsAmong (entered_in (book_of book).journal) (entered_in (book_of result.0).journal) };
+        ensures ok { IfOk result.1 (λ turns. Worked order.workers order.turns turns (book_of book) (book_of result.0)) }
+        ensures err { IfErr result.1 (λ fault. RefusesWork order.budget fault × (book_of result.0 ≡ book_of book)) };
 }
 
 /// A crew of nobody: no worker can be started.
