@@ -22,6 +22,7 @@ pub mod pick;
 pub mod pile;
 pub mod seat;
 pub mod start;
+pub mod theorems;
 pub mod under_lock;
 mod under_work;
 pub mod work;
