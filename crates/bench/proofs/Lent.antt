@@ -27,7 +27,7 @@ by_front before t ts = sum_by-cons (weight before) t ts
 pub none_lent : (before : ℕ) (out : List Lent) → All (λ t. t.seat ≤ before) out → lent_after before out ≡ 0
 none_lent before [] h = refl
 none_lent before (t ∷ ts) h =
-    let here = ap (λ b. cond b 1 0) (not_above before t.seat (All-head (λ (u : Lent). u.seat ≤ before) t ts h)) in
+    let here : weight before t ≡ 0 = ap (λ b. cond b 1 0) (not_above before t.seat (All-head (λ (u : Lent). u.seat ≤ before) t ts h)) in
     let rest = none_lent before ts (All-tail (λ (u : Lent). u.seat ≤ before) t ts h) in
     let whole = by_front before t ts in
     omega (arith, here, rest, whole)
@@ -52,7 +52,7 @@ no_more_lent before n (t ∷ ts) =
 
 pub one_less_lent : (before : ℕ) (u : Lent) (out : List Lent) → before < u.seat → Contains out u → lent_after before (without u.number out) + 1 ≤ lent_after before out
 one_less_lent before u [] h c = absurd (in_none u c)
-one_less_lent before u (t ∷ ts) h c = ⊎_elim here there (in_cases t u ts c)
+one_less_lent before u (t ∷ ts) h c = ⊎_elim here (there (one_less_lent before u ts h)) (in_cases t u ts c)
   where
     here : t ≡ u → lent_after before (without u.number (t ∷ ts)) + 1 ≤ lent_after before (t ∷ ts)
     here e =
@@ -63,9 +63,9 @@ one_less_lent before u (t ∷ ts) h c = ⊎_elim here there (in_cases t u ts c)
         let whole = by_front before t ts in
         omega (arith, less, one, rest, whole)
 
-    there : Contains ts u → lent_after before (without u.number (t ∷ ts)) + 1 ≤ lent_after before (t ∷ ts)
-    there k =
-        let rest = one_less_lent before u ts h k in
+    there : (Contains ts u → lent_after before (without u.number ts) + 1 ≤ lent_after before ts) → Contains ts u → lent_after before (without u.number (t ∷ ts)) + 1 ≤ lent_after before (t ∷ ts)
+    there less k =
+        let rest = less k in
         let front = kept (not (t.number.0 == u.number.0)) before t (without u.number ts) in
         let whole = by_front before t ts in
         omega (arith, rest, front, whole)

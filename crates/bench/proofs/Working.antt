@@ -1,5 +1,5 @@
 -- What becomes of a book that workers alone have.
-use Rattle.std.proofs.Common.{◌≡◌, ℕ, ◌+◌, ◌<◌, ◌≤◌, Bool, true, false, List, [], ◌∷◌, ◌++◌, append-nil, append_assoc, All, Contains, ⊎_elim, refl, sym, ap, ◌∙◌, subst, arith}
+use Rattle.std.proofs.Common.{◌≡◌, ℕ, ◌+◌, ◌<◌, ◌≤◌, Bool, true, false, List, [], ◌∷◌, ◌++◌, get_or, append-nil, append_assoc, All, Contains, ⊎_elim, refl, sym, ap, ◌∙◌, subst, arith}
 use Rattle.std.proofs.lemmas.Bool.{false≢true}
 use Rattle.std.proofs.lemmas.Bool.Decides.{eqb_tells, leb_tells}
 use Rattle.std.proofs.lemmas.List.Elements.{All-nil, All-push, All-weaker, All-contains, All-contains_itself}
@@ -25,8 +25,25 @@ use Rattle.bench.specs.Desk.{left_by}
 use Rattle.bench.specs.Workshop.{IsLent, IsWorkshop, lent_after}
 use Rattle.bench.proofs.Lent.{none_lent, one_more_lent, no_more_lent, one_less_lent}
 
-one_of : Line → ℕ
+abbrev one_of : Line → ℕ
 one_of l = cond (is_turn (event_in l.entry.event).act) 1 0
+
+-- what was not all used is less
+loosened : (before seats most : ℕ) (began : Book) (left less given first behind : ℕ) (untouched : Bool) (b : Book) → less ≤ left
+    → IsWorkshop before seats most began left given first behind untouched b → IsWorkshop before seats most began less given first behind false b
+loosened before seats most began left less given first behind untouched b le h = record {
+  greatest = h.greatest;
+  lines = h.lines;
+  appended = h.appended;
+  each = h.each;
+  counted = h.counted;
+  same_settled = h.same_settled;
+  out = h.out;
+  allowed = let fits = h.allowed in omega (arith, fits, le);
+  ordered = h.ordered;
+  drawn = h.drawn;
+  same = λ e. absurd (false≢true e);
+}
 
 -- nothing was done
 pub shop_begins : (before seats most : ℕ) (began : Book) → IsGreatestSeat before began → IsWorkshop before seats most began most 0 0 0 true began
@@ -146,7 +163,7 @@ module _ (before seats most : ℕ) (began : Book) (left given first behind : ℕ
 
   -- nothing changes
   pub shop_touched : now ≡ old → IsWorkshop before seats most began left given first behind false now
-  shop_touched same = subst (IsWorkshop before seats most began left given first behind false) (sym same) (record h { same = λ e. absurd (false≢true e) })
+  shop_touched same = subst (IsWorkshop before seats most began left given first behind false) (sym same) (loosened before seats most began left left given first behind untouched old (omega arith) h)
 
   -- a ticket is refused
   pub shop_refused : (f : BookFault) (n : EventName) → now ≡ left_by f n old → IsWorkshop before seats most began left given first behind false now
@@ -171,7 +188,7 @@ shop_closes before seats most began given k behind old now n h is more gone =
       each = h.each;
       counted = h.counted;
       same_settled = h.same_settled;
-      out = λ i d lt. let was = stays i d lt in let other = others i d lt in ((λ a. (differs k n _ is other (was.0 a).0, (was.0 a).1)), was.1);
+      out = λ i d lt. let was = stays i d lt in let other = others i d lt in ((λ a. (differs k n (get_or (without n old.out) i d) is other (was.0 a).0, (was.0 a).1)), was.1);
       allowed = let fits = h.allowed in let less = no_more_lent before n old.out in omega (arith, fits, less);
       ordered = omega (arith, more);
       drawn = h.drawn;
@@ -180,7 +197,7 @@ shop_closes before seats most began given k behind old now n h is more gone =
 
 pub shop_closing : (before seats most : ℕ) (began : Book) (left given first behind : ℕ) (untouched : Bool) (b : Book)
     → IsWorkshop before seats most began left given first behind untouched b → IsWorkshop before seats most began 0 given first behind false b
-shop_closing before seats most began left given first behind untouched b h = record h { allowed = let fits = h.allowed in omega (arith, fits); same = λ e. absurd (false≢true e) }
+shop_closing before seats most began left given first behind untouched b h = loosened before seats most began left 0 given first behind untouched b (omega arith) h
 
 -- then no ticket is out with a worker
 pub shop_closed : (before seats most : ℕ) (began : Book) (given k behind : ℕ) (b : Book)
