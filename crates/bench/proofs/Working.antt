@@ -1,5 +1,5 @@
 -- What becomes of a book that workers alone have.
-use Rattle.std.proofs.Common.{◌≡◌, ℕ, ◌+◌, ◌<◌, ◌≤◌, Bool, true, false, List, [], ◌∷◌, ◌++◌, get_or, append-nil, append_assoc, All, Contains, ⊎_elim, refl, sym, ap, ◌∙◌, subst, arith}
+use Rattle.std.proofs.Common.{◌≡◌, ℕ, ◌+◌, ◌<◌, ◌≤◌, Bool, true, false, List, [], ◌∷◌, ◌++◌, map, get_or, append-nil, append_assoc, All, Contains, ⊎_elim, refl, sym, ap, ◌∙◌, subst, arith}
 use Rattle.std.proofs.lemmas.Bool.{false≢true}
 use Rattle.std.proofs.lemmas.Bool.Decides.{eqb_tells, leb_tells}
 use Rattle.std.proofs.lemmas.List.Elements.{All-nil, All-push, All-weaker, All-contains, All-contains_itself}
@@ -8,7 +8,13 @@ use Rattle.std.proofs.lemmas.List.Sums.{sum_by_push}
 use Rattle.std.specs.Prelude.{cond, not, ◌==◌}
 use Rattle.ids.specs.declared.names.EventName.{EventName}
 use Rattle.ids.specs.declared.names.MsgId.{MsgId}
-use Rattle.worldcells.specs.Events.{Act, Noted, event_in, with_notes}
+use Rattle.std.proofs.lemmas.List.{map-append}
+use Rattle.history.proofs.Lists.{all_append}
+use Rattle.worldcells.specs.Events.{Act, Event, Noted, event_in}
+use Rattle.worldcells.specs.EventView.{event_of}
+use Rattle.worldcells.specs.declared.event.Event as code
+use Rattle.agenda.specs.declared.agenda.Step.{Step}
+use Rattle.agenda.specs.declared.agenda.Step.TheVariants as step
 use Rattle.event.specs.Events.{Foot}
 use Rattle.turn.specs.Tasks.{task_of}
 use Rattle.turn.specs.declared.ticket.Out.{Out}
@@ -21,7 +27,13 @@ use Rattle.book.specs.Good.{IsGood}
 use Rattle.book.specs.declared.fault.BookFault.{BookFault}
 use Rattle.book.specs.declared.fault.BookFault.TheVariants as fault
 use Rattle.crew.specs.Work.{IsWork, IsFromWorker, IsGreatestSeat, Worked, is_turn, turns_among}
-use Rattle.bench.specs.Desk.{left_by}
+use Rattle.pact.specs.declared.Act.TheVariants.{Closes}
+use Rattle.bench.specs.declared.pick.Pick.{Pick}
+use Rattle.bench.specs.declared.pick.Pick.TheVariants as pick
+use Rattle.bench.specs.Author.{IsStep, Picked, Picks, turn_of}
+use Rattle.bench.specs.Desk.{Held, Returns, events_of, held, left_by, refused}
+use Rattle.bench.specs.Seats.{AreWork}
+use Rattle.bench.proofs.Moves.{step_no_turn}
 use Rattle.bench.specs.Workshop.{IsLent, IsWorkshop, lent_after}
 use Rattle.bench.proofs.Lent.{none_lent, one_more_lent, no_more_lent, one_less_lent}
 
@@ -214,3 +226,46 @@ shop_closed before seats most began given k behind b h done good = record {
   out = All-weaker (IsLent before k behind began.out) (Contains began.out) (λ t is. ⊎_elim (λ low. is.1 low.1) (λ a. let low = (is.0 a.1).0 in let high = (is.0 a.1).1 in absurd (omega (arith, low, high, done))) (leb_tells t.seat before)) b.out h.out;
   good = good;
 }
+
+-- ---- what is picked
+step_is_work : (s : Step) (act : Act) → IsStep s act → IsWork act
+step_is_work (step.Arrive m) act h = subst IsWork (sym h) tt
+step_is_work (step.Forward m) act h = subst IsWork (sym h) tt
+step_is_work (step.Learn v p) act h = subst IsWork (sym h) tt
+step_is_work (step.Turn m) act h = absurd h
+
+module _ (before seats most : ℕ) (began : Book) (left given first behind : ℕ) (untouched : Bool) (old now : Book)
+    (h : IsWorkshop before seats most began left given first behind untouched old) (budget seat : ℕ) (above : before < seat) (within : seat ≤ before + seats) where
+  pub shop_picked_moved : (e : EventName) → Picks budget seat (pick.Moved e) old now → IsWorkshop before seats most began left given first behind false now
+  shop_picked_moved e p =
+      let enters = p.4.enters in
+      shop_moved before seats most began left given first behind untouched old now h _ _ seat enters.enters (step_is_work p.0 p.1 p.3) (step_no_turn p.0 p.1 p.3) above within enters.same_settled enters.drawn enters.same_out
+
+  pub shop_picked_turn : (t : Out) → Picks budget seat (pick.Turn t) old now → (left' first' : ℕ) → left ≡ left' + 1 → first' ≤ old.next → ((k : ℕ) → first ≤ k → k < behind → first' ≤ k)
+      → IsWorkshop before seats most began left' given first' (t.event.0 + 1) false now
+  shop_picked_turn t p left' first' one_left low covers =
+      let lends = p.2 in
+      subst (λ n. IsWorkshop before seats most began left' given first' (n + 1) false now) (sym lends.named)
+      (shop_lent before seats most began left given first behind untouched old now h p.0 budget seat left' first' t lends above one_left low covers)
+
+-- ---- the lists of seats hold only what workers do
+added_work : (e : Event) (old now : List code.Event) (added : code.Event) → event_of added ≡ e → IsWork e.act → now ≡ old ++ added ∷ [] → AreWork (map event_of old) → AreWork (map event_of now)
+added_work e old now added is work grows all =
+    subst (λ (es : List code.Event). AreWork (map event_of es)) (sym grows)
+    (subst AreWork (sym (map-append event_of old (added ∷ []))) (all_append (λ (x : Event). IsWork x.act) (map event_of old) (event_of added ∷ []) all (subst (λ (x : Event). IsWork x.act) (sym is) work, tt)))
+
+pub picked_work : (p : Pick) (old now : Held) → Picked p old now → AreWork (events_of old.deeds) → AreWork (events_of now.deeds)
+picked_work pick.Nothing old now is all = subst (λ (x : Held). AreWork (events_of x.deeds)) (sym is) all
+picked_work (pick.Moved e) old now (s, act, is, adds) all =
+    added_work (record { name = e; act = act }) old.deeds.events now.deeds.events adds.added adds.event (step_is_work s act is) (ap (λ (x : Held). x.deeds.events) adds.seat) all
+picked_work (pick.Turn t) old now (same, is) all = subst (λ (x : Held). AreWork (events_of x.deeds)) (sym is) all
+
+pub given_work : (r : Ran) (old now : Held) → Returns (turn_of r) old now → AreWork (events_of old.deeds) → AreWork (events_of now.deeds)
+given_work r old now returns all = added_work (turn_of r) old.deeds.events now.deeds.events returns.added returns.event tt (ap (λ (x : Held). x.deeds.events) returns.seat) all
+
+pub refused_work : (f : BookFault) (n : EventName) (old now : Held) → now ≡ refused f n old → AreWork (events_of old.deeds) → AreWork (events_of now.deeds)
+refused_work fault.Stale n old now is all = subst (λ (x : Held). AreWork (events_of x.deeds)) (sym is) all
+refused_work _ n old now is all = subst (λ (x : Held). AreWork (events_of x.deeds)) (sym is) all
+
+pub closed_work : (n : EventName) (old now : Held) → now ≡ held old (Closes n) → AreWork (events_of old.deeds) → AreWork (events_of now.deeds)
+closed_work n old now is all = subst (λ (x : Held). AreWork (events_of x.deeds)) (sym is) all
