@@ -5,11 +5,10 @@ use Rattle.std.proofs.lemmas.Bool.Decides.{eqb_tells, leb_tells}
 use Rattle.std.proofs.lemmas.List.Elements.{All-nil, All-push, All-weaker, All-contains, All-contains_itself}
 use Rattle.std.proofs.lemmas.List.Elements as elements
 use Rattle.std.proofs.lemmas.List.Sums.{sum_by_push}
-use Rattle.std.specs.Prelude.{cond, not, ◌==◌}
+use Rattle.std.specs.Prelude.{cond, not, ◌==◌, Result, Ok, Err, IfOk, IfErr, Option, Some, None}
 use Rattle.ids.specs.declared.names.EventName.{EventName}
 use Rattle.ids.specs.declared.names.MsgId.{MsgId}
 use Rattle.std.proofs.lemmas.List.{map-append}
-use Rattle.history.proofs.Lists.{all_append}
 use Rattle.worldcells.specs.Events.{Act, Event, Noted, event_in}
 use Rattle.worldcells.specs.EventView.{event_of}
 use Rattle.worldcells.specs.declared.event.Event as code
@@ -26,11 +25,12 @@ use Rattle.book.specs.Calls.{Enters, Lends, Commits, Tells, lent_of}
 use Rattle.book.specs.Good.{IsGood}
 use Rattle.book.specs.declared.fault.BookFault.{BookFault}
 use Rattle.book.specs.declared.fault.BookFault.TheVariants as fault
-use Rattle.crew.specs.Work.{IsWork, IsFromWorker, IsGreatestSeat, Worked, is_turn, turns_among}
+use Rattle.crew.specs.Work.{is_work, IsFromWorker, IsGreatestSeat, Worked, is_turn, turns_among}
 use Rattle.pact.specs.declared.Act.TheVariants.{Closes}
 use Rattle.bench.specs.declared.pick.Pick.{Pick}
 use Rattle.bench.specs.declared.pick.Pick.TheVariants as pick
-use Rattle.bench.specs.Author.{IsStep, Picked, Picks, turn_of}
+use Rattle.bench.specs.declared.command.Command.TheVariants as command
+use Rattle.bench.specs.Author.{IsStep, Obeys, Picked, Picks, turn_of}
 use Rattle.bench.specs.Desk.{Held, Returns, events_of, held, left_by, refused}
 use Rattle.bench.specs.Seats.{AreWork}
 use Rattle.bench.proofs.Moves.{step_no_turn}
@@ -76,16 +76,16 @@ shop_begins before seats most began greatest = record {
 module _ (before seats most : ℕ) (began : Book) (left given first behind : ℕ) (untouched : Bool) (old now : Book)
     (h : IsWorkshop before seats most began left given first behind untouched old) where
   -- a line that a worker entered
-  line_of_worker : (e : Noted) (f : Foot) (seat : ℕ) (l : Line) → Tells e f seat old.journal l → IsWork (event_in e).act → before < seat → seat ≤ before + seats → IsFromWorker before seats l
+  line_of_worker : (e : Noted) (f : Foot) (seat : ℕ) (l : Line) → Tells e f seat old.journal l → is_work (event_in e).act ≡ true → before < seat → seat ≤ before + seats → IsFromWorker before seats l
   line_of_worker e f seat l tells work above within = record {
     live = tells.live;
-    work = subst (λ (n : Noted). IsWork (event_in n).act) (sym tells.event) work;
+    work = ap (λ (n : Noted). is_work (event_in n).act) tells.event ∙ work;
     above = subst (λ s. before < s) (sym tells.same_seat) above;
     within = subst (λ s. s ≤ before + seats) (sym tells.same_seat) within;
   }
 
   -- an event is entered, which is no turn, or is one
-  pub shop_entered : (e : Noted) (f : Foot) (seat more : ℕ) → Enters e f seat old now → IsWork (event_in e).act → before < seat → seat ≤ before + seats
+  pub shop_entered : (e : Noted) (f : Foot) (seat more : ℕ) → Enters e f seat old now → is_work (event_in e).act ≡ true → before < seat → seat ≤ before + seats
       → cond (is_turn (event_in e).act) 1 0 ≡ more → now.settled ≡ old.settled → old.next ≤ now.next
       → All (IsLent before first behind began.out) now.out → (given + more) + lent_after before now.out + left ≤ most
       → IsWorkshop before seats most began left (given + more) first behind false now
@@ -110,7 +110,7 @@ module _ (before seats most : ℕ) (began : Book) (left given first behind : ℕ
       }
 
   -- an event that is no turn
-  pub shop_moved : (e : Noted) (f : Foot) (seat : ℕ) → Enters e f seat old now → IsWork (event_in e).act → is_turn (event_in e).act ≡ false → before < seat → seat ≤ before + seats
+  pub shop_moved : (e : Noted) (f : Foot) (seat : ℕ) → Enters e f seat old now → is_work (event_in e).act ≡ true → is_turn (event_in e).act ≡ false → before < seat → seat ≤ before + seats
       → now.settled ≡ old.settled → now.next ≡ old.next + 1 → now.out ≡ old.out → IsWorkshop before seats most began left given first behind false now
   shop_moved e f seat enters work no_turn above within settled next out =
       let fits = h.allowed in
@@ -127,7 +127,7 @@ module _ (before seats most : ℕ) (began : Book) (left given first behind : ℕ
       let fits = h.allowed in
       let same = ap (lent_after before) commits.out in
       let less = one_less_lent before (lent_of r.carried) old.out above commits.known.out in
-      shop_entered _ _ r.carried.seat 1 commits.enters.enters tt above within refl commits.same_settled (let next = commits.same_next in omega (arith, next))
+      shop_entered _ _ r.carried.seat 1 commits.enters.enters refl above within refl commits.same_settled (let next = commits.same_next in omega (arith, next))
       (subst (λ (o : List Lent). All (IsLent before first behind began.out) o) (sym commits.out) (elements.All-filter (λ (t : Lent). not (t.number.0 == n.0)) (IsLent before first behind began.out) old.out h.out))
       (omega (arith, fits, same, less))
 
@@ -228,10 +228,10 @@ shop_closed before seats most began given k behind b h done good = record {
 }
 
 -- ---- what is picked
-step_is_work : (s : Step) (act : Act) → IsStep s act → IsWork act
-step_is_work (step.Arrive m) act h = subst IsWork (sym h) tt
-step_is_work (step.Forward m) act h = subst IsWork (sym h) tt
-step_is_work (step.Learn v p) act h = subst IsWork (sym h) tt
+step_is_work : (s : Step) (act : Act) → IsStep s act → is_work act ≡ true
+step_is_work (step.Arrive m) act h = ap is_work h
+step_is_work (step.Forward m) act h = ap is_work h
+step_is_work (step.Learn v p) act h = ap is_work h
 step_is_work (step.Turn m) act h = absurd h
 
 module _ (before seats most : ℕ) (began : Book) (left given first behind : ℕ) (untouched : Bool) (old now : Book)
@@ -249,10 +249,10 @@ module _ (before seats most : ℕ) (began : Book) (left given first behind : ℕ
       (shop_lent before seats most began left given first behind untouched old now h p.0 budget seat left' first' t lends above one_left low covers)
 
 -- ---- the lists of seats hold only what workers do
-added_work : (e : Event) (old now : List code.Event) (added : code.Event) → event_of added ≡ e → IsWork e.act → now ≡ old ++ added ∷ [] → AreWork (map event_of old) → AreWork (map event_of now)
+added_work : (e : Event) (old now : List code.Event) (added : code.Event) → event_of added ≡ e → is_work e.act ≡ true → now ≡ old ++ added ∷ [] → AreWork (map event_of old) → AreWork (map event_of now)
 added_work e old now added is work grows all =
     subst (λ (es : List code.Event). AreWork (map event_of es)) (sym grows)
-    (subst AreWork (sym (map-append event_of old (added ∷ []))) (all_append (λ (x : Event). IsWork x.act) (map event_of old) (event_of added ∷ []) all (subst (λ (x : Event). IsWork x.act) (sym is) work, tt)))
+    (subst AreWork (sym (map-append event_of old (added ∷ []))) (All-push (λ (x : Event). is_work x.act ≡ true) (map event_of old) (event_of added) all (ap (λ (x : Event). is_work x.act) is ∙ work)))
 
 pub picked_work : (p : Pick) (old now : Held) → Picked p old now → AreWork (events_of old.deeds) → AreWork (events_of now.deeds)
 picked_work pick.Nothing old now is all = subst (λ (x : Held). AreWork (events_of x.deeds)) (sym is) all
@@ -261,7 +261,7 @@ picked_work (pick.Moved e) old now (s, act, is, adds) all =
 picked_work (pick.Turn t) old now (same, is) all = subst (λ (x : Held). AreWork (events_of x.deeds)) (sym is) all
 
 pub given_work : (r : Ran) (old now : Held) → Returns (turn_of r) old now → AreWork (events_of old.deeds) → AreWork (events_of now.deeds)
-given_work r old now returns all = added_work (turn_of r) old.deeds.events now.deeds.events returns.added returns.event tt (ap (λ (x : Held). x.deeds.events) returns.seat) all
+given_work r old now returns all = added_work (turn_of r) old.deeds.events now.deeds.events returns.added returns.event refl (ap (λ (x : Held). x.deeds.events) returns.seat) all
 
 pub refused_work : (f : BookFault) (n : EventName) (old now : Held) → now ≡ refused f n old → AreWork (events_of old.deeds) → AreWork (events_of now.deeds)
 refused_work fault.Stale n old now is all = subst (λ (x : Held). AreWork (events_of x.deeds)) (sym is) all
@@ -269,3 +269,31 @@ refused_work _ n old now is all = subst (λ (x : Held). AreWork (events_of x.dee
 
 pub closed_work : (n : EventName) (old now : Held) → now ≡ held old (Closes n) → AreWork (events_of old.deeds) → AreWork (events_of now.deeds)
 closed_work n old now is all = subst (λ (x : Held). AreWork (events_of x.deeds)) (sym is) all
+
+
+-- ---- of either answer of a call
+pub if_ok : {A E : Type 0} {P Q : A → Type 0} (r : Result A E) → ((a : A) → P a → Q a) → IfOk r P → IfOk r Q
+if_ok (Ok a) f h = f a h
+if_ok (Err e) f h = tt
+
+pub if_err : {A E : Type 0} {P Q : E → Type 0} (r : Result A E) → ((e : E) → P e → Q e) → IfErr r P → IfErr r Q
+if_err (Ok a) f h = tt
+if_err (Err e) f h = f e h
+
+pub checked_out_work : (r : Result Pick BookFault) (old now : Held) → IfOk r (λ p. Picked p old now) → IfErr r (λ f. now ≡ old)
+    → AreWork (events_of old.deeds) → AreWork (events_of now.deeds)
+checked_out_work (Ok p) old now ok err all = picked_work p old now ok all
+checked_out_work (Err f) old now ok err all = subst (λ (x : Held). AreWork (events_of x.deeds)) (sym err) all
+
+pub given_back_work : {A : Type 0} (r : Result A (Ran × BookFault)) (t : Ran) (old now : Held) → IfOk r (λ e. Returns (turn_of t) old now) → IfErr r (λ x. now ≡ refused x.1 t.carried.event old)
+    → AreWork (events_of old.deeds) → AreWork (events_of now.deeds)
+given_back_work (Ok e) t old now ok err all = given_work t old now ok all
+given_back_work (Err x) t old now ok err all = refused_work x.1 t.carried.event old now err all
+
+module _ (before seats most : ℕ) (began : Book) (left given first behind : ℕ) (untouched : Bool) (old now : Book)
+    (h : IsWorkshop before seats most began left given first behind untouched old) where
+  pub shop_abandoned : (n : EventName) (seat : ℕ) (r : Result (Option EventName) BookFault)
+      → IfOk r (λ o. Obeys (command.Abandon n) seat o old now) → IfErr r (λ f. now ≡ old) → IsWorkshop before seats most began left given first behind false now
+  shop_abandoned n seat (Ok (Some e)) ok err = absurd ok.1.1
+  shop_abandoned n seat (Ok None) ok err = shop_let_go before seats most began left given first behind untouched old now h n ok.1
+  shop_abandoned n seat (Err f) ok err = shop_touched before seats most began left given first behind untouched old now h err

@@ -1,9 +1,8 @@
 -- What was entered from each seat.
-use Rattle.std.specs.Prelude.{ℕ, ◌==◌, List, map, filter, count_by}
-use Rattle.std.specs.List.{AllByRecursion}
+use Rattle.std.specs.Prelude.{◌≡◌, ℕ, ◌==◌, true, List, map, filter, count_by, All}
 use Rattle.worldcells.specs.Events.{Event}
 use Rattle.book.specs.Entered.{Entered}
-use Rattle.crew.specs.Work.{is_turn, IsWork}
+use Rattle.crew.specs.Work.{is_turn, is_work}
 
 -- the events of a seat
 abbrev pub events_by : ℕ → List Entered → List Event
@@ -15,4 +14,4 @@ turns_in events = count_by (λ e. is_turn e.act) events
 
 -- each of the events is one that workers do
 abbrev pub AreWork : List Event → Type 0
-AreWork events = AllByRecursion (λ e. IsWork e.act) events
+AreWork events = All (λ e. is_work e.act ≡ true) events

@@ -1,5 +1,5 @@
 //! What lies under the lock of a workshop: the desk of its book, and what became of the book since work began.
-ghost use Rattle.std.specs.Prelude.{◌≡◌, IfOk, IfErr, IfSome, true};
+ghost use Rattle.std.specs.Prelude.{◌≡◌, ℕ, ◌<◌, ◌≤◌, IfOk, IfErr, IfSome, true};
 ghost use Rattle.book.specs.BookView.{book_of};
 ghost use Rattle.pact.specs.declared.Act.TheVariants.{Closes};
 ghost use Rattle.pact.specs.Agree.{blank};
@@ -51,6 +51,15 @@ impl<L: Shift> Model for WorkDesk<L> {
     ghost invariant = { λ d. IsWorkshop L.before L.seats L.most L.book d.left d.given d.first d.behind d.untouched (book_of d.desk.book) };
 }
 
+/// The first number that was lent, when this one is lent too.
+fn first_lent(first: u64, behind: u64, number: u64) -> u64
+    requires { (first ≤ behind) × (behind ≤ number) }
+    ensures low { result ≤ number }
+    ensures covers { (k : ℕ) → first ≤ k → k < behind → result ≤ k }
+{
+    if first == behind { number } else { first }
+}
+
 impl<L: Shift> WorkDesk<L> {
     /// Nothing was done yet.
     pub fn new(desk: Desk<L>, turns: u64) -> WorkDesk<L>
@@ -96,9 +105,7 @@ impl<L: Shift> WorkDesk<L> {
             Pick::Moved(_) => self.untouched = false,
             Pick::Turn(ticket) => {
                 let number = ticket.out().event.0;
-                if self.first == self.behind {
-                    self.first = number;
-                }
+                self.first = first_lent(self.first, self.behind, number);
                 self.behind = number + 1;
                 self.left -= 1;
                 self.untouched = false;

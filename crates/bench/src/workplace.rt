@@ -39,6 +39,6 @@ pub(crate) trait Workplace<L: Opening> {
 
     /// The ticket of this number is no longer out, nor open with the seat.
     fn abandon<R: Wait>(&self, rt: &R, number: EventName, seat: &mut Seat<L>)
-        ensures { seat.new ≡ held seat.old (Closes number) }
+        ensures closed { seat.new ≡ held seat.old (Closes number) }
         ensures work { AreWork (events_of seat.old.deeds) → AreWork (events_of seat.new.deeds) };
 }

@@ -10,13 +10,13 @@ use Rattle.book.specs.declared.fault.WorkFault.{WorkFault}
 use Rattle.book.specs.declared.fault.WorkFault.TheVariants as work
 
 -- workers have messages arrive and go on, and vats learn and take turns; they bear no vat and ask nothing
-abbrev pub IsWork : Act → Type 0
-IsWork (arrive m) = Unit {0}
-IsWork (forward m) = Unit {0}
-IsWork (learn v p) = Unit {0}
-IsWork (turn v m budget) = Unit {0}
-IsWork (birth x earlier script) = ⊥
-IsWork (ask x program) = ⊥
+abbrev pub is_work : Act → Bool
+is_work (arrive m) = true
+is_work (forward m) = true
+is_work (learn v p) = true
+is_work (turn v m budget) = true
+is_work (birth x earlier script) = false
+is_work (ask x program) = false
 
 -- how many of the lines are turns
 abbrev pub is_turn : Act → Bool
@@ -39,7 +39,7 @@ pub record IsGreatestSeat (seat : ℕ) (b : Book) : Type 0 where
 -- a line that a worker entered: it is live, of an event that workers do, and from one of so many seats above this one
 pub record IsFromWorker (before workers : ℕ) (l : Line) : Type 0 where
   pub live : l.entry.live ≡ true
-  pub work : IsWork (event_in l.entry.event).act
+  pub work : is_work (event_in l.entry.event).act ≡ true
   pub above : before < l.seat
   pub within : l.seat ≤ before + workers
 
