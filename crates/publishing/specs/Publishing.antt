@@ -1,0 +1,40 @@
+-- No promise is published twice in the world of a run.
+use Rattle.std.specs.Prelude.{◌≡◌, ℕ, List, [], ◌∷◌, Some, None}
+use Rattle.std.specs.List.{AllByRecursion}
+use Rattle.history.specs.Subject.{after}
+use Rattle.ids.specs.declared.names.EventName.{EventName}
+use Rattle.ids.specs.declared.names.MsgId.{MsgId}
+use Rattle.ids.specs.declared.names.PromId.{PromId}
+use Rattle.post.specs.Messages.{Published}
+use Rattle.worldcells.specs.Events.{Event}
+use Rattle.worldcells.specs.World.{World, published_as}
+use Rattle.event.specs.Events.{events, Foot, Turn, Turns, counted, Does}
+use Rattle.ordering.specs.Sending.{RanWithout}
+use Rattle.ordering.specs.Theorems.{HaveOwnNames}
+
+-- from the empty world these events ran to this one, the newest first, each with a name of its own, and none of them has this name
+abbrev pub RanApartFrom : EventName → List Event → World → Type 0
+RanApartFrom e es w = RanWithout e es w × HaveOwnNames es
+
+-- in a world none of these promises was published
+abbrev pub AreUnpublished : World → List (PromId × Published) → Type 0
+AreUnpublished w bs = AllByRecursion (λ b. published_as w b.0 ≡ None) bs
+
+-- no promise stands twice among these publications
+abbrev pub EachOnce : List (PromId × Published) → Type 0
+EachOnce [] = Unit {0}
+EachOnce (b ∷ bs) = AllByRecursion (λ d. d.0 ≡ b.0 → ⊥) bs × EachOnce bs
+
+-- what a turn of this name publishes there was not published before, and each promise is published once
+abbrev pub PublishesNewPromises : Type 0
+PublishesNewPromises = (e : EventName) (es : List Event) (w : World) → RanApartFrom e es w → (m : MsgId) (budget : ℕ) (t : Turn) → Turns e w m budget t
+    → AreUnpublished w t.outcome.out.publications × EachOnce t.outcome.out.publications
+
+-- so all of it counts
+abbrev pub AllCounts : Type 0
+AllCounts = (e : EventName) (es : List Event) (w : World) → RanApartFrom e es w → (m : MsgId) (budget : ℕ) (t : Turn) → Turns e w m budget t
+    → counted w t.outcome.out.publications ≡ t.outcome.out.publications
+
+-- and what was published stays as it was published, whatever happens
+abbrev pub PublicationsStay : Type 0
+PublicationsStay = (e : Event) (w : World) (f : Foot) → Does e w f → (p : PromId) (b : Published) → published_as w p ≡ Some b → published_as (after events f w) p ≡ Some b
