@@ -1,23 +1,19 @@
 -- What is done to the cells of a vat makes no resolver, and what the vat knows of promises it knows for ever.
-use Rattle.std.proofs.Common.{◌≡◌, Bool, true, false, cond, is_some, List, [], ◌∷◌, Option, Some, None, true≢false, refl, sym, ap, ◌∙◌, subst, inl, inr, ◌⊎◌}
-use Rattle.ids.proofs.Keys.{object_equal}
-use Rattle.ids.specs.Cells.{object_cmp}
-use Rattle.std.specs.Ordering.{is_eq}
-use Rattle.ids.specs.declared.names.VatNo.{VatNo}
+use Rattle.std.proofs.Common.{◌≡◌, Bool, true, false, cond, is_some, List, [], ◌∷◌, Option, Some, None, true≢false, refl, sym, ap, ◌∙◌, subst}
 use Rattle.ids.specs.declared.names.MsgId.{MsgId}
 use Rattle.ids.specs.declared.names.PromId.{PromId}
 use Rattle.ids.specs.declared.names.ObjId.{ObjId}
 use Rattle.ids.specs.declared.reference.Reference.{Reference}
 use Rattle.ids.specs.declared.reference.Reference.TheVariants as reference
-use Rattle.cells.specs.Doing.{over, reads, writes, Under, touching, holding, play, and_then}
+use Rattle.cells.specs.Doing.{over, Under, touching, holding, play, and_then}
 use Rattle.cells.proofs.Doings.{one_after_another}
 use Rattle.eorder.specs.Carried.{Carried}
-use Rattle.values.specs.Data.{Val, list, null, bool, int, text, object, ejector, promise, broken, Vals, no_vals, and_val}
-use Rattle.heap.specs.State.{Cell, view_cell, object_cell, fence_cell, pending, resolved, Plain, plain, resolver, Content, made, viewed, State, write, same_cell}
+use Rattle.values.specs.Data.{Val, Vals, no_vals, and_val}
+use Rattle.heap.specs.State.{Cell, view_cell, object_cell, pending, resolved, Plain, plain, resolver, Content, made, viewed, State, write, same_cell}
 use Rattle.heap.proofs.Cells.{cell_exact, cell_self}
 use Rattle.refs.specs.Settling.{settling}
 use Rattle.refs.specs.Walks.{walked}
-use Rattle.sends.specs.Vats.{Vat, Nothing, ended, settled, settled_behind, all_settled, reference_in, references_in, value_of, each_once, names_for, leaving, carried, fence_of, fence_joined, end_joined, entrance, comes_in, brought, all_brought, received, coming_in, entered, sent_after, resolution_in}
+use Rattle.sends.specs.Vats.{Vat, ended, settled, settled_behind, all_settled, reference_in, value_of, each_once, names_for, leaving, fence_of, fence_joined, end_joined, entrance, comes_in, brought, all_brought, received, coming_in, entered, sent_after, resolution_in}
 use Rattle.sends.specs.Playing.{views_in}
 use Rattle.sends.proofs.Playing.{looked_state}
 use Rattle.sends.proofs.Followed.{ends_are_followed}
@@ -40,8 +36,8 @@ pub record Calm (ks : PromId → Bool) (rs : ObjId → PromId → Type 0) (ls : 
 abbrev pub CalmIn : State → State → Type 0
 CalmIn s t = Calm (knows s) (HasResolver s) (knows t) (HasResolver t)
 
-pub calm : {ks : PromId → Bool} {rs : ObjId → PromId → Type 0} → Calm ks rs ks rs
-calm = record { known = λ p h. h; resolvers = λ i p h. h }
+pub all_calm : {ks : PromId → Bool} {rs : ObjId → PromId → Type 0} → Calm ks rs ks rs
+all_calm = record { known = λ p h. h; resolvers = λ i p h. h }
 
 pub calm_then : {ks ls ms : PromId → Bool} {rs ts us : ObjId → PromId → Type 0} → Calm ks rs ls ts → Calm ls ts ms us → Calm ks rs ms us
 calm_then f g = record { known = λ p h. g.known p (f.known p h); resolvers = λ i p h. f.resolvers i p (g.resolvers i p h) }
@@ -87,8 +83,8 @@ calmly_then {A} {B} d f h g u =
     subst (λ y. CalmIn u.state y.1.state) (sym (one_after_another Cell Content A B same_cell d f u)) (calm_then (h u) (g q.0 q.1))
 
 -- where no cell is written
-pub still_calm : {s t : State} → t ≡ s → CalmIn s t
-still_calm {s = s} e = subst (CalmIn s) (sym e) calm
+pub still_calm : (s t : State) → t ≡ s → CalmIn s t
+still_calm s t e = subst (CalmIn s) (sym e) all_calm
 
 pub ended_state : (v : Val) (u : Under Cell Content) → (play same_cell (ended v) u).1.state ≡ u.state
 ended_state v u = ap (λ q. q.1.state) (ends_are_followed u v) ∙ looked_state (walked (views_in u.state) v) u
@@ -97,55 +93,55 @@ pub settled_state : (v : Val) (u : Under Cell Content) → (play same_cell (sett
 settled_state v u = ap (λ q. q.1.state) (settled_alike u v) ∙ looked_state (settling (views_in u.state) v).through u
 
 pub ended_calm : (v : Val) → Calmly (ended v)
-ended_calm v u = still_calm (ended_state v u)
+ended_calm v u = still_calm u.state (play same_cell (ended v) u).1.state (ended_state v u)
 
 pub settled_calm : (v : Val) → Calmly (settled v)
-settled_calm v u = still_calm (settled_state v u)
+settled_calm v u = still_calm u.state (play same_cell (settled v) u).1.state (settled_state v u)
 
 behind_calm : (o : Option Val) (rest : Val → Vat (Option Vals)) → ((w : Val) → Calmly (rest w)) → Calmly (settled_behind rest o)
-behind_calm None rest h u = calm
-behind_calm (Some w) rest h u = calmly_then (rest w) (λ o. over _) (h w) (λ o u. calm) u
+behind_calm None rest h u = all_calm
+behind_calm (Some w) rest h u = calmly_then (rest w) (λ o. over _) (h w) (λ o u. all_calm) u
 
 pub all_settled_calm : (vs : Vals) → Calmly (all_settled vs)
-all_settled_calm no_vals u = calm
+all_settled_calm no_vals u = all_calm
 all_settled_calm (and_val v vs) u = calmly_then (settled v) (settled_behind (λ w. all_settled vs)) (settled_calm v) (λ o. behind_calm o (λ w. all_settled vs) (λ w. all_settled_calm vs)) u
 
 pub leaving_state : (rs : List Reference) (u : Under Cell Content) → (play same_cell (leaving rs) u).1.state ≡ u.state
 leaving_state rs u = carried_state [] (each_once [] rs) u
 
 pub leaving_calm : (rs : List Reference) → Calmly (leaving rs)
-leaving_calm rs u = still_calm (leaving_state rs u)
+leaving_calm rs u = still_calm u.state (play same_cell (leaving rs) u).1.state (leaving_state rs u)
 
 entrance_calm : (p : PromId) (x : Option Content) (u : Under Cell Content) → u.state (view_cell p) ≡ x → CalmIn u.state (play same_cell (entrance p x) u).1.state
 entrance_calm p None u e = opened_calm u.state p e
-entrance_calm p (Some x) u e = calm
+entrance_calm p (Some x) u e = all_calm
 
 pub comes_in_calm : (p : PromId) → Calmly (comes_in p)
 comes_in_calm p u = entrance_calm p (u.state (view_cell p)) (touching same_cell (view_cell p) u) refl
 
 joined_calm : (o : Option Reference) (f : List MsgId) → Calmly (fence_joined o f)
-joined_calm None f u = calm
-joined_calm (Some t) [] u = calm
-joined_calm (Some t) (m ∷ f) u = calm
+joined_calm None f u = all_calm
+joined_calm (Some t) [] u = all_calm
+joined_calm (Some t) (m ∷ f) u = all_calm
 
 end_joined_calm : (v : Val) (f : List MsgId) → Calmly (end_joined v f)
 end_joined_calm v f =
     calmly_then (ended v) (λ w. and_then (fence_joined (reference_in w) f) (λ n. over (reference_in w))) (ended_calm v)
-    (λ w. calmly_then (fence_joined (reference_in w) f) (λ n. over (reference_in w)) (joined_calm (reference_in w) f) (λ n u. calm))
+    (λ w. calmly_then (fence_joined (reference_in w) f) (λ n. over (reference_in w)) (joined_calm (reference_in w) f) (λ n u. all_calm))
 
 -- ---- what comes in
 
 brought_calm : (r : Reference) → Calmly (brought r)
 brought_calm (reference.Promise p) = comes_in_calm p
-brought_calm (reference.Object i) = λ u. calm
-brought_calm (reference.Ejector j) = λ u. calm
+brought_calm (reference.Object i) = λ u. all_calm
+brought_calm (reference.Ejector j) = λ u. all_calm
 
 all_brought_calm : (rs : List Reference) → Calmly (all_brought rs)
-all_brought_calm [] = λ u. calm
+all_brought_calm [] = λ u. all_calm
 all_brought_calm (r ∷ rs) = calmly_then (brought r) (λ n. all_brought rs) (brought_calm r) (λ n. all_brought_calm rs)
 
 received_calm : (c : Carried) (rs : List Reference) → Calmly (received c rs)
-received_calm c [] = λ u. calm
+received_calm c [] = λ u. all_calm
 received_calm c (r ∷ rs) = calmly_then (end_joined (value_of r) (names_for c r)) (λ t. received c rs) (end_joined_calm (value_of r) (names_for c r)) (λ t. received_calm c rs)
 
 pub coming_in_calm : (c : Carried) (rs : List Reference) → Calmly (coming_in c rs)
@@ -155,7 +151,7 @@ coming_in_calm c rs = calmly_then (all_brought (each_once [] rs)) (λ n. receive
 
 -- behind the write of its view
 entering_calm : (p : PromId) (v : Val) → Calmly (and_then (fence_of (reference.Promise p)) (end_joined v))
-entering_calm p v = calmly_then (fence_of (reference.Promise p)) (end_joined v) (λ u. calm) (λ f. end_joined_calm v f)
+entering_calm p v = calmly_then (fence_of (reference.Promise p)) (end_joined v) (λ u. all_calm) (λ f. end_joined_calm v f)
 
 pub entered_calm : (p : PromId) (v : Val) → Calmly (entered p v)
 entered_calm p v u = calm_then (resolved_calm u.state p v) (entering_calm p v (holding same_cell (view_cell p) (viewed (resolved v)) u))
@@ -166,5 +162,5 @@ entered_knows p v u =
     (entering_calm p v (holding same_cell (view_cell p) (viewed (resolved v)) u)).known p (ap (λ b. is_some (resolution_in (cond b (Some (viewed (resolved v))) (u.state (view_cell p))))) (cell_self (view_cell p)))
 
 pub sent_after_calm : (m : MsgId) (o : Option Reference) → Calmly (sent_after m o)
-sent_after_calm m None = λ u. calm
-sent_after_calm m (Some t) = λ u. calm
+sent_after_calm m None = λ u. all_calm
+sent_after_calm m (Some t) = λ u. all_calm

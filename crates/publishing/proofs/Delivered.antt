@@ -4,18 +4,17 @@ use Rattle.std.specs.List.{AllByRecursion}
 use Rattle.history.proofs.Lists.{all_map}
 use Rattle.ids.specs.declared.names.EventName.{EventName}
 use Rattle.ids.specs.declared.names.VatNo.{VatNo}
-use Rattle.ids.specs.declared.names.MsgId.{MsgId}
 use Rattle.ids.specs.declared.names.PromId.{PromId}
 use Rattle.ids.specs.declared.names.ObjId.{ObjId}
 use Rattle.eorder.specs.Carried.{Carried}
 use Rattle.kernele.specs.Tree.{Name}
-use Rattle.values.specs.Data.{Val, null, bool, int, text, list, object, ejector, promise, broken, Reply, gives as gives_value, throws}
+use Rattle.values.specs.Data.{Val, null, bool, int, text, list, object, ejector, promise, broken, gives as gives_value, throws}
 use Rattle.heap.specs.State.{State, Nouns, fixed}
 use Rattle.post.specs.Delivery.{Call, Handler, When, Delivery}
 use Rattle.post.specs.Messages.{Message}
 use Rattle.post.specs.Messages as post
 use Rattle.post.specs.declared.earlier.Earlier.{Earlier}
-use Rattle.sends.specs.Vats.{Vat, ended, settled, references_in, comes_in, coming_in}
+use Rattle.sends.specs.Vats.{ended, settled, references_in, comes_in, coming_in}
 use Rattle.sends.specs.Making.{Published, told as told_value, ending}
 use Rattle.erules.specs.At.{At}
 use Rattle.erules.specs.Doings.{under, given_by, behind}
@@ -24,7 +23,7 @@ use Rattle.erules.specs.Outcomes.{End, value, halt, values}
 use Rattle.erules.specs.Rules.{Target, binding, called, target_of}
 use Rattle.deliveries.specs.Turn.{start, knowing, Found, list_coming, call_coming, handled, when_met, Led, led_gives, led_uses, led_enters, Begins, opens, asks, calls, waits, Told, told, lost, telling, telling_at, ending_at, outcome_by, Outcome, Delivers, delivers}
 use Rattle.publishing.specs.Publishing.{EachOnce}
-use Rattle.publishing.proofs.Calm.{knows, HasResolver, CalmIn, calm, Calmly, calmly_then, ended_calm, settled_calm, comes_in_calm, coming_in_calm}
+use Rattle.publishing.proofs.Calm.{knows, HasResolver, CalmIn, all_calm, Calmly, calmly_then, ended_calm, settled_calm, comes_in_calm, coming_in_calm}
 use Rattle.publishing.proofs.Made.{publishing_calm}
 use Rattle.publishing.proofs.Quiet.{QuietAt, quiet_then, behind_quiet, bound_quiet, called_quiet, same}
 use Rattle.publishing.proofs.Orderly.{Letters, Rise, Paired, Resolved, IsResolved, OrderlyAt, quietly, published_once, all_published}
@@ -43,15 +42,15 @@ abbrev pub TurnedIn : EventName → VatNo → State → PromId → State → Out
 TurnedIn e v s result t o = Turned e v s result (knows t) (HasResolver t) o.promises o.letters o.publications
 
 list_calm : (fs : Carried) (w : Val) → Calmly (list_coming fs w)
-list_calm fs null u = calm
-list_calm fs (bool b) u = calm
-list_calm fs (int z) u = calm
-list_calm fs (text x) u = calm
+list_calm fs null u = all_calm
+list_calm fs (bool b) u = all_calm
+list_calm fs (int z) u = all_calm
+list_calm fs (text x) u = all_calm
 list_calm fs (list vs) u = coming_in_calm fs (references_in vs) u
-list_calm fs (object i) u = calm
-list_calm fs (ejector j) u = calm
-list_calm fs (promise p) u = calm
-list_calm fs (broken x) u = calm
+list_calm fs (object i) u = all_calm
+list_calm fs (ejector j) u = all_calm
+list_calm fs (promise p) u = all_calm
+list_calm fs (broken x) u = all_calm
 
 call_calm : (c : Call) (f : Found) → Calmly (call_coming c f)
 call_calm c f = calmly_then (coming_in c.fences (references_in c.arguments)) (λ n. list_coming f.fences f.end) (coming_in_calm c.fences (references_in c.arguments)) (λ n. list_calm f.fences f.end)
@@ -61,7 +60,7 @@ knowing_quiet [] a = same
 knowing_quiet (x ∷ xs) a =
     let b : At = behind (comes_in x.opening) a in
     let c : At = binding x.name (fixed (promise x.opening)) b in
-    quiet_then {a} {b} {knowing xs c} (behind_quiet (comes_in x.opening) a (comes_in_calm x.opening)) (quiet_then {b} {c} {knowing xs c} (bound_quiet b.own_scope x.name (fixed (promise x.opening)) b) (knowing_quiet xs c))
+    quiet_then (behind_quiet (comes_in x.opening) a (comes_in_calm x.opening)) (quiet_then (bound_quiet b.own_scope x.name (fixed (promise x.opening)) b) (knowing_quiet xs c))
 
 module _ (e : EventName) (v : VatNo) (s : State) where
   abbrev Is : At → Type 0
@@ -123,25 +122,25 @@ module _ (e : EventName) (v : VatNo) (s : State) where
   ended_turned result (lost why) b h = record { known = λ p k. k; resolvers = λ i p r. inl r; letters = omega arith; published = (inl refl, tt); once = (tt, tt) }
 
   begun_turned : (result : PromId) (o : End) (b : At) → Is b → TurnedIn e v s result (outcome_by s result (telling o b) (ending_at result (telling o b) (telling_at o b))).state (outcome_by s result (telling o b) (ending_at result (telling o b) (telling_at o b))).out
-  begun_turned result o b h = ended_turned result (telling o b) (telling_at o b) (quietly e v s {b} {telling_at o b} (telling_quiet o b) h)
+  begun_turned result o b h = ended_turned result (telling o b) (telling_at o b) (quietly e v s (telling_quiet o b) h)
 
 begun_orderly : {d : Delivery} {f : Found} {e : EventName} {v : VatNo} {s : State} {n : ℕ} {o : End} {b : At} → Begins d f e v s n o b → OrderlyAt e v s b
 begun_orderly (opens {earlier = earlier} {e = e} {v = v} {s = s} {n = n} r) =
     let a : At = start true e v s n in
-    items_orderly e v s r (quietly e v s {a} {knowing earlier a} (knowing_quiet earlier a) (begins_orderly e v s true n))
+    items_orderly e v s r (quietly e v s (knowing_quiet earlier a) (begins_orderly e v s true n))
 begun_orderly (asks {e = e} {v = v} {s = s} {n = n} r) = items_orderly e v s r (begins_orderly e v s false n)
 begun_orderly (calls {c = c} {f = f} {e = e} {v = v} {s = s} {n = n} r) =
     let a : At = start false e v s n in
     let x : At = behind (call_coming c f) a in
     let z : At = called f.end c.verb (values c.arguments) x in
     let q : QuietAt x z = called_quiet f.end c.verb (values c.arguments) x in
-    let h : OrderlyAt e v s x = quietly e v s {a} {x} (behind_quiet (call_coming c f) a (call_calm c f)) (begins_orderly e v s false n) in
+    let h : OrderlyAt e v s x = quietly e v s (behind_quiet (call_coming c f) a (call_calm c f)) (begins_orderly e v s false n) in
     let t : Target = target_of f.end c.verb (values c.arguments) x in
-    led_orderly e v s r (subst (λ (o : Outbox). TargetOwns e v s o.promises o.letters t) (sym q.out) (target_owns e v s f.end c.verb (values c.arguments) x h)) (quietly e v s {x} {z} q h)
+    led_orderly e v s r (subst (λ (o : Outbox). TargetOwns e v s o.promises o.letters t) (sym q.out) (target_owns e v s f.end c.verb (values c.arguments) x h)) (quietly e v s q h)
 begun_orderly (waits {w = w} {e = e} {v = v} {s = s} {n = n} r) =
     let a : At = start false e v s n in
     let x : At = behind (ended w.value) a in
-    led_orderly e v s r (when_owns e v s x w (given_by (ended w.value) a)) (quietly e v s {a} {x} (behind_quiet (ended w.value) a (ended_calm w.value)) (begins_orderly e v s false n))
+    led_orderly e v s r (when_owns e v s x w (given_by (ended w.value) a)) (quietly e v s (behind_quiet (ended w.value) a (ended_calm w.value)) (begins_orderly e v s false n))
 
 pub delivery_turned : {g : Message} {f : Found} {e : EventName} {v : VatNo} {s : State} {n : ℕ} {o : Outcome} → Delivers g f e v s n o → TurnedIn e v s g.result o.state o.out
 delivery_turned (delivers {g = g} {e = e} {v = v} {s = s} {o = o} {b = b} r) = begun_turned e v s g.result o b (begun_orderly r)

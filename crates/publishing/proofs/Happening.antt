@@ -1,5 +1,5 @@
 -- What events that are no turns do to messages, resolvers, views and the board.
-use Rattle.std.proofs.Common.{◌≡◌, Bool, true, false, cond, List, [], ◌++◌, map, Option, Some, None, option_map, is_some, true≢false, inl, inr, ◌⊎◌, ⊎_elim, refl, sym, ap, ◌∙◌, subst, append-nil}
+use Rattle.std.proofs.Common.{◌≡◌, Bool, true, false, cond, List, [], map, Option, Some, None, option_map, is_some, inl, inr, ◌⊎◌, ⊎_elim, refl, sym, ap, ◌∙◌, subst, append-nil}
 use Rattle.std.specs.List.{list_any}
 use Rattle.history.specs.Subject.{written}
 use Rattle.ids.specs.declared.names.EventName.{EventName}
@@ -8,7 +8,6 @@ use Rattle.ids.specs.declared.names.MsgId.{MsgId}
 use Rattle.ids.specs.declared.names.PromId.{PromId}
 use Rattle.ids.specs.declared.names.ObjId.{ObjId}
 use Rattle.ids.specs.declared.cells.CellKey.TheVariants as key
-use Rattle.cells.specs.Doing.{and_then}
 use Rattle.cells.proofs.Doings.{cells_only_grow}
 use Rattle.eorder.specs.Places.{same_message}
 use Rattle.eorder.proofs.Places.{message_equal}
@@ -16,12 +15,12 @@ use Rattle.heap.specs.State as heap
 use Rattle.heap.specs.State.{Cell, same_cell}
 use Rattle.post.specs.Messages.{Message, Published, Place, flying, at_vat, done, is_done, flies_to, waits_at, arrived}
 use Rattle.sends.specs.Vats.{Nothing, references, entered, coming_in, resolution_in}
-use Rattle.worldcells.specs.World.{Content, message, World, cell_content, message_in, message_of, published_in, published_as, vat_state}
+use Rattle.worldcells.specs.World.{message, World, cell_content, message_in, message_of, published_in, vat_state}
 use Rattle.event.specs.Events.{events, first_message, in_world, Leaves, learning, untouched, learnt}
 use Rattle.ordering.proofs.Written.{passed, all_pass, not_message, not_board}
 use Rattle.publishing.proofs.Calm.{CalmIn, Calmly, calmly_then, entered_calm, coming_in_calm}
 use Rattle.publishing.proofs.Left.{vat_resolver, resolver_left, knows_on}
-use Rattle.publishing.proofs.Worlds.{ResolverAt, Had, Happens}
+use Rattle.publishing.proofs.Worlds.{Had, Happens}
 
 -- no promise
 abbrev pub Never : PromId → Type 0

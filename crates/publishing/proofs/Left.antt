@@ -1,5 +1,5 @@
 -- What a world has in the cells of a vat behind what the vat left there.
-use Rattle.std.proofs.Common.{◌≡◌, Bool, true, false, cond, ◌||◌, ◌&&◌, List, [], ◌∷◌, ◌++◌, map, Option, Some, None, option_map, is_some, true≢false, inl, inr, ◌⊎◌, ⊎_elim, eqb-true, refl, sym, ap, ◌∙◌, subst}
+use Rattle.std.proofs.Common.{◌≡◌, ℕ, Bool, true, false, cond, ◌||◌, ◌&&◌, List, [], ◌∷◌, ◌++◌, map, Option, Some, None, option_map, is_some, true≢false, inl, inr, ◌⊎◌, ⊎_elim, eqb-true, refl, sym, ap, ◌∙◌, subst}
 use Rattle.std.specs.List.{list_any, AllByRecursion}
 use Rattle.std.specs.Ordering.{is_eq}
 use Rattle.history.specs.Subject.{written}
@@ -17,7 +17,7 @@ use Rattle.heap.specs.State.{Cell, top, slot_cell, object_cell, view_cell, fence
 use Rattle.heap.proofs.Cells.{cell_exact}
 use Rattle.sends.specs.Vats.{resolution_in}
 use Rattle.worldcells.specs.World.{Content, vat, bound, held, made, viewed, fenced, message, published, World, content_of, cell_content, cell_key, vat_state}
-use Rattle.worldcells.specs.World as world
+use Rattle.erules.specs.Doings.{same_vat as same_home}
 use Rattle.event.specs.Events.{events, in_world}
 use Rattle.event.proofs.Listing.{one_cell}
 use Rattle.ordering.proofs.Written.{Writes, passed, all_pass}
@@ -49,10 +49,10 @@ resolver_there (Some (published b)) p h = absurd (cc)
 
 -- a resolver of a vat is one of the world, and lives in the vat
 pub vat_resolver : (w : World) (v : VatNo) (i : ObjId) (p : PromId) → HasResolver (vat_state w v) i p → ResolverAt w i p × (i.vat ≡ v)
-vat_resolver w v i p h = go (world.same_vat i.vat v) refl h
+vat_resolver w v i p h = go (same_home i.vat v) refl h
   where
-    go : (q : Bool) → world.same_vat i.vat v ≡ q → cond q (cell_content (w (key.Object i))) None ≡ Some (heap.made (resolver p)) → ResolverAt w i p × (i.vat ≡ v)
-    go true e h = (resolver_there (w (key.Object i)) p h, ap (λ n. record { 0 = record { 0 = n } }) (eqb-true i.vat.0.0 v.0.0 e))
+    go : (q : Bool) → same_home i.vat v ≡ q → cond q (cell_content (w (key.Object i))) None ≡ Some (heap.made (resolver p)) → ResolverAt w i p × (i.vat ≡ v)
+    go true e h = (resolver_there (w (key.Object i)) p h, ap (λ (n : ℕ). record { 0 = record { 0 = n } }) (eqb-true i.vat.0.0 v.0.0 e))
     go false e h = absurd (cc)
 
 -- ---- keys
@@ -109,5 +109,5 @@ module _ (w : World) (v : VatNo) (t : State) (rest : Writes) where
       knows_on known x p = go (same_vat v x) refl
         where
           go : (q : Bool) → same_vat v x ≡ q → knows_at w x p ≡ true → knows_at (after_all left) x p ≡ true
-          go true e = subst (λ y. knows_at w y p ≡ true → knows_at (after_all left) y p ≡ true) (vat_equal v x e) (λ k. knows_left p ∙ known p k)
+          go true e k = subst (λ y. knows_at w y p ≡ true → knows_at (after_all left) y p ≡ true) (vat_equal v x e) (λ j. knows_left p ∙ known p j) k
           go false e k = ap (λ o. is_some (resolution_in (cell_content o))) (passed (in_world v left) rest w (key.View x p) (all_pass v left (key.View x p) (not_view v x p e)) ∙ views x p) ∙ k

@@ -15,18 +15,17 @@ use Rattle.values.specs.Data.{Val, broken, Vals}
 use Rattle.values.specs.Replies.{text_in}
 use Rattle.ids.specs.declared.reference.Reference.{Reference}
 use Rattle.heap.specs.State.{Cell, view_cell, object_cell, pending, resolved, resolver, Content, bound, held, made, viewed, fenced, same_cell}
-use Rattle.heap.proofs.Cells.{cell_self}
-use Rattle.sends.specs.Vats.{Vat, Nothing, ended, settled, all_settled, reference_in, references, references_in, leaving, comes_in, entered, sent_after, goes_to, resolution_in}
+use Rattle.sends.specs.Vats.{Vat, Nothing, ended, settled, all_settled, reference_in, references, references_in, leaving, comes_in, sent_after, goes_to, resolution_in}
 use Rattle.sends.specs.Making.{Making, refused, makes, of_settled, with_room, Sent, send_placed, sending, condition, waiting, promising, Published, entered_at, entered_if_come, publishing, first_use, used, resolving, smashed_by, smashing}
-use Rattle.publishing.proofs.Calm.{knows, HasResolver, Calm, CalmIn, calm, calm_then, Calmly, calmly_then, ended_state, settled_state, ended_calm, settled_calm, all_settled_calm, leaving_state, leaving_calm, comes_in_calm, entered_calm, entered_knows, sent_after_calm}
+use Rattle.publishing.proofs.Calm.{knows, HasResolver, Calm, CalmIn, all_calm, Calmly, calmly_then, ended_state, settled_state, ended_calm, settled_calm, all_settled_calm, leaving_state, leaving_calm, comes_in_calm, entered_calm, entered_knows, sent_after_calm}
 
 of_settled_calm : {A R : Type 0} (make : A → Vat (Making R)) (o : Option A) → ((x : A) → Calmly (make x)) → Calmly (of_settled make o)
-of_settled_calm make None h u = calm
+of_settled_calm make None h u = all_calm
 of_settled_calm make (Some x) h u = h x u
 
 room_calm : {R : Type 0} (room : Bool) (make : Vat (Making R)) → Calmly make → Calmly (with_room room make)
 room_calm true make h u = h u
-room_calm false make h u = calm
+room_calm false make h u = all_calm
 
 -- ---- a send
 
@@ -37,7 +36,7 @@ module _ (here : VatNo) (m : MsgId) (result : VatNo → PromId) where
       let last : List MsgId → Carried → Nothing → Vat (Making Sent) = λ after c n. over (makes (record { target = t; arguments = us; fences = c; after = after; result = p })) in
       let rest : List MsgId → Carried → Vat (Making Sent) = λ after c. and_then (comes_in p) (last after c) in
       calmly_then (sent_after m (reference_in t)) (λ after. and_then (leaving (references_in us)) (rest after)) (sent_after_calm m (reference_in t))
-      (λ after. calmly_then (leaving (references_in us)) (rest after) (leaving_calm (references_in us)) (λ c. calmly_then (comes_in p) (last after c) (comes_in_calm p) (λ n u. calm)))
+      (λ after. calmly_then (leaving (references_in us)) (rest after) (leaving_calm (references_in us)) (λ c. calmly_then (comes_in p) (last after c) (comes_in_calm p) (λ n u. all_calm)))
 
   pub sending_calm : (room : Bool) (v : Val) (vs : Vals) → Calmly (sending here m room result v vs)
   sending_calm room v vs =
@@ -89,7 +88,7 @@ pub waiting_calm : (room : Bool) (result : PromId) (v : Val) → Calmly (waiting
 waiting_calm room result v =
     let make : Val → Vat (Making PromId) = λ w. and_then (comes_in result) (λ n. over (makes (condition result w))) in
     calmly_then (ended v) (λ w. with_room room (make w)) (ended_calm v)
-    (λ w. room_calm room (make w) (calmly_then (comes_in result) (λ n. over (makes (condition result w))) (comes_in_calm result) (λ n u. calm)))
+    (λ w. room_calm room (make w) (calmly_then (comes_in result) (λ n. over (makes (condition result w))) (comes_in_calm result) (λ n u. all_calm)))
 
 -- ---- a promise and its resolver
 
@@ -108,7 +107,7 @@ same_resolver e = cc
 
 pub promising_pairs : (room : Bool) (p : PromId) (o : ObjId) (u : Under Cell Content)
     → PairedIn o p (knows u.state) (HasResolver u.state) (play same_cell (promising room p o) u).0 (knows (play same_cell (promising room p o) u).1.state) (HasResolver (play same_cell (promising room p o) u).1.state)
-promising_pairs false p o u = calm
+promising_pairs false p o u = all_calm
 promising_pairs true p o u =
     let made_one : Nothing → Vat (Making ObjId) = λ n. writes (object_cell o) (made (resolver p)) (over (makes o)) in
     let w : Under Cell Content = (play same_cell (comes_in p) u).1 in
@@ -128,7 +127,7 @@ abbrev published_rest : PromId → Val → Carried → Vat Published
 published_rest p v c = and_then (entered_if_come p v) (λ t. over (record { value = v; fences = c; joined = t }))
 
 if_come_calm : (p : PromId) (v : Val) (x : Option Content) → Calmly (entered_at p v x)
-if_come_calm p v None u = calm
+if_come_calm p v None u = all_calm
 if_come_calm p v (Some x) u = entered_calm p v u
 
 entered_if_come_calm : (p : PromId) (v : Val) → Calmly (entered_if_come p v)
@@ -137,7 +136,7 @@ entered_if_come_calm p v u = if_come_calm p v (u.state (view_cell p)) (touching 
 pub publishing_calm : (p : PromId) (v : Val) → Calmly (publishing p v)
 publishing_calm p v =
     calmly_then (leaving (references v)) (published_rest p v) (leaving_calm (references v))
-    (λ c. calmly_then (entered_if_come p v) (λ t. over (record { value = v; fences = c; joined = t })) (entered_if_come_calm p v) (λ t u. calm))
+    (λ c. calmly_then (entered_if_come p v) (λ t. over (record { value = v; fences = c; joined = t })) (entered_if_come_calm p v) (λ t u. all_calm))
 
 -- behind it a promise that had come is known
 if_come_knows : (p : PromId) (v : Val) (x : Option Content) (u : Under Cell Content) → is_some x ≡ true → knows (play same_cell (entered_at p v x) u).1.state p ≡ true
@@ -174,13 +173,13 @@ once_behind {A} p d f h g u =
     (subst (λ s. UsedIn p (knows s) (play same_cell (f q.0) q.1).0 (knows (play same_cell (f q.0) q.1).1.state)) (h u) (g q.0 q.1))
 
 first_calm : (p : PromId) (v : Val) (x : Option Content) → Calmly (first_use p v x)
-first_calm p v None u = calm
-first_calm p v (Some (bound b)) u = calm
-first_calm p v (Some (held w)) u = calm
-first_calm p v (Some (made o)) u = calm
-first_calm p v (Some (viewed pending)) u = calmly_then (publishing p v) (λ b. over (makes b)) (publishing_calm p v) (λ b u. calm) u
-first_calm p v (Some (viewed (resolved w))) u = calm
-first_calm p v (Some (fenced f)) u = calm
+first_calm p v None u = all_calm
+first_calm p v (Some (bound b)) u = all_calm
+first_calm p v (Some (held w)) u = all_calm
+first_calm p v (Some (made o)) u = all_calm
+first_calm p v (Some (viewed pending)) u = calmly_then (publishing p v) (λ b. over (makes b)) (publishing_calm p v) (λ b u. all_calm) u
+first_calm p v (Some (viewed (resolved w))) u = all_calm
+first_calm p v (Some (fenced f)) u = all_calm
 
 first_once : (p : PromId) (v : Val) (x : Option Content) (u : Under Cell Content) → u.state (view_cell p) ≡ x → UsedIn p (knows u.state) (play same_cell (first_use p v x) u).0 (knows (play same_cell (first_use p v x) u).1.state)
 first_once p v None u e = tt
@@ -200,7 +199,7 @@ used_once p v = record {
 }
 
 settled_once : (p : PromId) (o : Option Val) → Uses p (of_settled (used p) o)
-settled_once p None = record { calm = λ u. calm; once = λ u. tt }
+settled_once p None = record { calm = λ u. all_calm; once = λ u. tt }
 settled_once p (Some v) = used_once p v
 
 pub resolving_uses : (p : PromId) (v : Val) → Uses p (resolving p v)
@@ -210,7 +209,7 @@ resolving_uses p v = record {
 }
 
 smashed_once : (p : PromId) (w : Val) (o : Option Name) → Uses p (smashed_by p w o)
-smashed_once p w None = record { calm = λ u. calm; once = λ u. tt }
+smashed_once p w None = record { calm = λ u. all_calm; once = λ u. tt }
 smashed_once p w (Some words) = used_once p (broken words)
 
 pub smashing_uses : (p : PromId) (v : Val) → Uses p (smashing p v)

@@ -1,8 +1,8 @@
 -- What holds all through a turn: which promises it made, which resolvers it has, and what it published.
-use Rattle.std.proofs.Common.{◌≡◌, ℕ, ◌+◌, ◌<◌, ◌≤◌, Bool, true, false, cond, not, List, [], ◌∷◌, ◌++◌, Option, Some, None, true≢false, inl, inr, ◌⊎◌, ⊎_elim, nat_eq, eq-eqb, refl, sym, ap, ◌∙◌, subst, arith}
+use Rattle.std.proofs.Common.{◌≡◌, ℕ, ◌+◌, ◌<◌, ◌≤◌, Bool, true, false, cond, List, [], ◌∷◌, ◌++◌, true≢false, inl, inr, ◌⊎◌, ⊎_elim, nat_eq, eq-eqb, refl, sym, ap, ◌∙◌, subst, arith}
 use Rattle.std.specs.List.{AllByRecursion}
 use Rattle.std.proofs.lemmas.Bool.{and_from}
-use Rattle.history.proofs.Lists.{all_map, all_both}
+use Rattle.history.proofs.Lists.{all_map}
 use Rattle.ids.specs.declared.names.EventName.{EventName}
 use Rattle.ids.specs.declared.names.VatNo.{VatNo}
 use Rattle.ids.specs.declared.names.MsgId.{MsgId}
@@ -15,8 +15,8 @@ use Rattle.erules.specs.At.{At}
 use Rattle.erules.specs.Outbox.{Note, is_published, and_publication, Outbox}
 use Rattle.erules.specs.Doings.{posted, noted}
 use Rattle.publishing.specs.Publishing.{EachOnce}
-use Rattle.publishing.proofs.Calm.{knows, HasResolver, CalmIn}
-use Rattle.publishing.proofs.Quiet.{QuietAt}
+use Rattle.publishing.proofs.Calm.{knows, HasResolver}
+use Rattle.publishing.proofs.Quiet.{Quiet}
 
 -- ---- lists
 
@@ -34,11 +34,11 @@ same_itself p = and_from (nat_eq p.event.0 p.event.0) _ (eq-eqb p.event.0 p.even
 -- a promise that was not published is none of those that were
 others : (p : PromId) (bs : List (PromId × Published)) → is_published p bs ≡ false → AllByRecursion (λ b. p ≡ b.0 → ⊥) bs
 others p [] h = tt
-others p (b ∷ bs) h = go (same_promise p b.0) refl h
+others p (b ∷ bs) h = go (same_promise p b.0) refl h (others p bs)
   where
-    go : (q : Bool) → same_promise p b.0 ≡ q → cond q true (is_published p bs) ≡ false → AllByRecursion (λ b. p ≡ b.0 → ⊥) (b ∷ bs)
-    go true e h = absurd (true≢false h)
-    go false e h = (λ i. true≢false (sym (subst (λ q. same_promise p q ≡ true) i (same_itself p)) ∙ e), others p bs h)
+    go : (q : Bool) → same_promise p b.0 ≡ q → cond q true (is_published p bs) ≡ false → (is_published p bs ≡ false → AllByRecursion (λ b. p ≡ b.0 → ⊥) bs) → AllByRecursion (λ b. p ≡ b.0 → ⊥) (b ∷ bs)
+    go true e h more = absurd (true≢false h)
+    go false e h more = (λ i. true≢false (sym (subst (λ q. same_promise p q ≡ true) i (same_itself p)) ∙ e), more h)
 
 -- so it may be published behind them
 once_more : (bs : List (PromId × Published)) (p : PromId) (x : Published) → AllByRecursion (λ b. p ≡ b.0 → ⊥) bs → EachOnce bs → EachOnce (bs ++ (p, x) ∷ [])
@@ -143,14 +143,14 @@ module _ (e : EventName) (v : VatNo) (s : State) where
   abbrev pub OrderlyAt : At → Type 0
   OrderlyAt a = Orderly e v s a.event a.vat (knows a.state) (HasResolver a.state) a.out
 
-  pub quietly : {a b : At} → QuietAt a b → OrderlyAt a → OrderlyAt b
-  quietly {a} {b} q h = subst (Orderly e v s b.event b.vat (knows b.state) (HasResolver b.state)) (sym q.out) (record {
+  pub quietly : {n k : EventName} {u x : VatNo} {ks ls : PromId → Bool} {rs ts : ObjId → PromId → Type 0} {o p : Outbox} → Quiet ks rs n u o ls ts k x p → Orderly e v s n u ks rs o → Orderly e v s k x ls ts p
+  quietly {k = k} {x = x} {ks = ks} {ls = ls} {ts = ts} {o = o} q h = subst (Orderly e v s k x ls ts) (sym q.out) (record {
     event = q.event ∙ h.event;
     vat = q.vat ∙ h.vat;
     known = λ p k. q.calm.known p (h.known p k);
     resolvers = λ i p r. h.resolvers i p (q.calm.resolvers i p r);
     letters = h.letters;
-    published = all_map (IsResolved e v s (knows a.state) a.out.promises a.out.letters) (IsResolved e v s (knows b.state) a.out.promises a.out.letters) a.out.publications (λ b r. record { owned = r.owned; open_before = r.open_before; known_now = q.calm.known b.0 r.known_now }) h.published;
+    published = all_map (IsResolved e v s ks o.promises o.letters) (IsResolved e v s ls o.promises o.letters) o.publications (λ b r. record { owned = r.owned; open_before = r.open_before; known_now = q.calm.known b.0 r.known_now }) h.published;
     once = h.once;
   })
 

@@ -1,52 +1,58 @@
 -- No promise is published twice in the world of a run.
-use Rattle.std.proofs.Common.{◌≡◌, Bool, true, false, cond, List, [], ◌∷◌, ◌++◌, Option, Some, None, is_some, true≢false, inl, inr, ◌⊎◌, ⊎_elim, refl, sym, ap, ◌∙◌, subst, append-nil}
+use Rattle.std.proofs.Common.{◌≡◌, false, cond, List, [], ◌∷◌, ◌++◌, map, Option, Some, None, is_some, true≢false, ◌⊎◌, ⊎_elim, refl, sym, ap, ◌∙◌, append-nil}
 use Rattle.std.specs.List.{AllByRecursion}
 use Rattle.std.proofs.Math.Logic.{∥∥₁_elim, ∥∥₁_map}
 use Rattle.std.proofs.Props.{props}
 use Rattle.history.specs.Subject.{Run, run_none, run_more, written, after}
-use Rattle.history.proofs.Lists.{all_map}
+use Rattle.history.specs.Journal.{live_set}
+use Rattle.history.specs.Records.{contents, entries_of}
 use Rattle.ids.specs.declared.names.EventName.{EventName}
-use Rattle.ids.specs.declared.names.VatNo.{VatNo}
-use Rattle.ids.specs.declared.names.MsgId.{MsgId}
 use Rattle.ids.specs.declared.names.PromId.{PromId}
 use Rattle.ids.specs.declared.cells.CellKey.TheVariants as key
-use Rattle.heap.specs.State as heap
-use Rattle.heap.specs.State.{Cell}
 use Rattle.post.specs.Messages.{Message, Published, flying, done}
-use Rattle.worldcells.specs.Events.{Event}
+use Rattle.worldcells.specs.Events.{Event, event_in}
 use Rattle.worldcells.specs.World.{World, empty, message, published_in, published_as}
-use Rattle.event.specs.Events.{events, Foot, opening_message, known_as, asked_message, first_promise, in_world, letters_from, on_the_board, counted, Turn, Turns, Does, births, asks, arrives, forwards, learns, turns}
-use Rattle.deliveries.specs.Turn.{Outcome}
+use Rattle.event.specs.Events.{events, Foot, opening_message, known_as, birth_foot, asked_message, ask_foot, moved_foot, in_world, letters_from, on_the_board, counted, made_by, Does, births, asks, arrives, forwards, learns, turns, noted_events}
+use Rattle.event.proofs.Noted.{live_run}
+use Rattle.event.specs.Walks.{board_walk}
 use Rattle.ordering.specs.Sending.{IsNewName}
-use Rattle.ordering.specs.Theorems.{HaveOwnNames}
-use Rattle.ordering.proofs.Written.{Writes, Passes, passed, all_pass, not_board, letters_pass_boards}
-use Rattle.publishing.specs.Publishing.{RanApartFrom, AreUnpublished, EachOnce, PublishesNewPromises, AllCounts, PublicationsStay}
+use Rattle.ordering.specs.Theorems.{HaveOwnNames, live_events}
+use Rattle.ordering.proofs.Runs.{own_names}
+use Rattle.ordering.proofs.Written.{Writes, passed, all_pass, not_board, letters_pass_boards}
+use Rattle.publishing.specs.Publishing.{AreUnpublished, PublishesNewPromises, AllCounts, JournalsPublishNewPromises, PublicationsStay}
 use Rattle.publishing.proofs.Calm.{none≢some}
 use Rattle.publishing.proofs.Delivered.{delivery_turned}
-use Rattle.publishing.proofs.Worlds.{Sound, Happens, sound_after}
-use Rattle.publishing.proofs.Happening.{Never, IsFirst, first_happens, NoMessage, moved_happens, waits_undone, arrived_same, learns_happens}
+use Rattle.publishing.proofs.Worlds.{Sound, sound_after}
+use Rattle.publishing.proofs.Happening.{Never, OnlyMessages, IsFirst, first_happens, NoMessage, moved_happens, waits_undone, arrived_same, learns_happens}
 use Rattle.publishing.proofs.Turned.{board_passes, all_unpublished, turn_happens}
 
 -- ---- each event keeps it
 
 sound_step : (old : EventName → Type 0) {d : Event} {w : World} {f : Foot} → Does d w f → Sound old w → (old d.name → ⊥) → Sound (λ n. old n ⊎ (n ≡ d.name)) (after events f w)
-sound_step old {w = w} {f = f} (births {e = e} {earlier = xs} vats {script = ts} h a) s new =
-    sound_after old e w (after events f w) _ Never Never s new
-    (first_happens e w (after events f w) (opening_message e (known_as xs vats) ts) refl (record { objects = λ i. refl; boards = λ p. refl; views = λ v p. refl }) (λ n. refl))
-sound_step old {w = w} {f = f} (asks {e = e} {program = ts} {v = v} h) s new =
-    sound_after old e w (after events f w) _ Never Never s new
-    (first_happens e w (after events f w) (asked_message e v.number ts) refl (record { objects = λ i. refl; boards = λ p. refl; views = λ v p. refl }) (λ n. refl))
-sound_step old {w = w} {f = f} (arrives {e = e} {m = m} {g = g} {h = h} is to) s new =
+sound_step old {w = w} (births {e = e} {x = x} {earlier = xs} vats {script = ts} h a) s new =
+    let u : World = after events (birth_foot e x xs vats ts) w in
+    let g : Message = opening_message e (known_as xs vats) ts in
+    let only : OnlyMessages w u = record { objects = λ i. refl; boards = λ p. refl; views = λ v p. refl } in
+    sound_after old e w u (IsFirst e g) Never Never s new (first_happens e w u g refl only (λ n. refl))
+sound_step old {w = w} (asks {e = e} {x = x} {program = ts} {v = v} h) s new =
+    let u : World = after events (ask_foot e x v.number ts) w in
+    let g : Message = asked_message e v.number ts in
+    let only : OnlyMessages w u = record { objects = λ i. refl; boards = λ p. refl; views = λ v p. refl } in
+    sound_after old e w u (IsFirst e g) Never Never s new (first_happens e w u g refl only (λ n. refl))
+sound_step old {w = w} (arrives {e = e} {m = m} {g = g} {h = h} is to) s new =
+    let u : World = after events (moved_foot [] m h) w in
+    let only : OnlyMessages w u = record { objects = λ i. refl; boards = λ p. refl; views = λ v p. refl } in
     let x = arrived_same g h to in
-    sound_after old e w (after events f w) NoMessage Never Never s new
-    (moved_happens e w (after events f w) m g h is x.0 x.1 (record { objects = λ i. refl; boards = λ p. refl; views = λ v p. refl }) (λ n. refl))
-sound_step old {w = w} {f = f} (forwards {e = e} {m = m} {g = g} {v = v} {u = u} is at its to) s new =
-    sound_after old e w (after events f w) NoMessage Never Never s new
-    (moved_happens e w (after events f w) m g (record g { place = flying u }) is refl (waits_undone g.place v at) (record { objects = λ i. refl; boards = λ p. refl; views = λ v p. refl }) (λ n. refl))
-sound_step old {w = w} {f = f} (learns {e = e} {v = v} {p = p} {b = b} {cells = cells} {left = left} h is l) s new =
-    sound_after old e w (after events f w) NoMessage Never Never s new (learns_happens e w v p b cells left l)
-sound_step old {w = w} {f = f} (turns {e = e} {m = m} {budget = n} {t = t} {cells = cells} {left = left} h l) s new =
-    sound_after old e w (after events f w) _ _ _ s new (turn_happens old e w m n t h s new cells left l)
+    sound_after old e w u NoMessage Never Never s new (moved_happens e w u m g h is x.0 x.1 only (λ n. refl))
+sound_step old {w = w} (forwards {e = e} {m = m} {g = g} {c = c} {v = v} {u = to} is at its on) s new =
+    let h : Message = record g { place = flying to } in
+    let u : World = after events (moved_foot (map key.Board (board_walk w c.target).through) m h) w in
+    let only : OnlyMessages w u = record { objects = λ i. refl; boards = λ p. refl; views = λ v p. refl } in
+    sound_after old e w u NoMessage Never Never s new (moved_happens e w u m g h is refl (waits_undone g.place v at) only (λ n. refl))
+sound_step old {w = w} (learns {e = e} {v = v} {p = p} {b = b} {cells = cells} {left = left} h is l) s new =
+    sound_after old e w (written events (in_world v left) w) NoMessage Never Never s new (learns_happens e w v p b cells left l)
+sound_step old {w = w} (turns {e = e} {m = m} {budget = n} {t = t} {cells = cells} {left = left} h l) s new =
+    sound_after old e w (written events (in_world t.vat left ++ made_by e w m t.message t.outcome) w) _ _ _ s new (turn_happens old e w m n t h s new cells left l)
 
 -- ---- runs
 
@@ -95,6 +101,11 @@ all_count w (b ∷ bs) h = ap (λ o. cond (is_some o) (counted w bs) (b ∷ coun
 
 pub all_counts : AllCounts
 all_counts e es w ran m n t h = all_count w t.outcome.out.publications (new_promises e es w ran m n t h).0
+
+pub journals_publish : JournalsPublishNewPromises
+journals_publish next rows state h e new m n t does =
+    let own : HaveOwnNames (live_events rows) = own_names noted_events event_in (λ e. refl) (live_set noted_events) (entries_of rows) h.named.distinct in
+    (new_promises e (live_events rows) (contents noted_events state) ((∣ live_run h ∣₁, new), own) m n t does).0
 
 -- ---- what was published stays
 

@@ -21,7 +21,7 @@ use Rattle.erules.specs.Rules.{Capture, captured, missing, handled_names, when_c
 use Rattle.publishing.proofs.Calm.{knows, HasResolver, CalmIn}
 use Rattle.publishing.proofs.Made.{sending_calm, IsOne, sending_gives, waiting_calm, PairedIn, promising_pairs, UsedIn, Uses, resolving_uses, smashing_uses}
 use Rattle.publishing.proofs.Quiet.{QuietAt, behind_quiet, captures_quiet, receiver_quiet, called_quiet}
-use Rattle.publishing.proofs.Orderly.{Letters, Owns, Orderly, OrderlyAt, quietly, posted_orderly, paired_orderly, resolved_orderly}
+use Rattle.publishing.proofs.Orderly.{Letters, Owns, OrderlyAt, quietly, posted_orderly, paired_orderly, resolved_orderly}
 
 module _ (e : EventName) (v : VatNo) (s : State) where
   abbrev Is : At → Type 0
@@ -37,7 +37,7 @@ module _ (e : EventName) (v : VatNo) (s : State) where
   pub sent_orderly : (verb : Name) (w : Val) (g : Gather) (a : At) → Is a → Is (sent_at verb w g a)
   sent_orderly verb w (values vs) a r =
       out_orderly verb (given_by (send_of w vs a) a) (behind (send_of w vs a) a) (sending_gives a.vat (next_message a) (next_promise a) (has_message_room a) w vs (under a))
-      (quietly e v s {a} {behind (send_of w vs a) a} (behind_quiet (send_of w vs a) a (sending_calm a.vat (next_message a) (next_promise a) (has_message_room a) w vs)) r)
+      (quietly e v s (behind_quiet (send_of w vs a) a (sending_calm a.vat (next_message a) (next_promise a) (has_message_room a) w vs)) r)
   sent_orderly verb w (halted h) a r = r
 
   -- ---- a when
@@ -49,19 +49,19 @@ module _ (e : EventName) (v : VatNo) (s : State) where
   waited_orderly : (c : Capture) (body : Trees) (handler : Option Handler) (w : Val) (a : At) → Is a → Is (waited c body handler w a)
   waited_orderly (captured ns) body handler w a r =
       waits_orderly (record { value = w; captured = ns; block = body; handler = handler }) (given_by (wait_of w a) a) (behind (wait_of w a) a)
-      (quietly e v s {a} {behind (wait_of w a) a} (behind_quiet (wait_of w a) a (waiting_calm (has_message_room a) (next_promise a a.vat) w)) r)
+      (quietly e v s (behind_quiet (wait_of w a) a (waiting_calm (has_message_room a) (next_promise a a.vat) w)) r)
   waited_orderly (missing x) body handler w a r = r
 
   pub when_orderly : (body : Trees) (handler : Option Handler) (o : End) (a : At) → Is a → Is (when_made body handler o a)
   when_orderly body handler (value w) a r =
       waited_orderly (when_capture body handler a) body handler w (when_capturing body handler a)
-      (quietly e v s {a} {when_capturing body handler a} (captures_quiet (captured []) (handled_names body handler) a) r)
+      (quietly e v s (captures_quiet (captured []) (handled_names body handler) a) r)
   when_orderly body handler (halt h) a r = r
 
   -- ---- a promise with its resolver
 
   pairs_orderly : (m : Making ObjId) (w : Under Cell Content) (a : At) → PairedIn (next_object a) (next_promise a a.vat) (knows a.state) (HasResolver a.state) m (knows w.state) (HasResolver w.state) → Is a → Is (pair_out m (with_under w a))
-  pairs_orderly (refused why) w a h r = quietly e v s {a} {with_under w a} (record { calm = h; event = refl; vat = refl; out = refl }) r
+  pairs_orderly (refused why) w a h r = quietly e v s (record { calm = h; event = refl; vat = refl; out = refl }) r
   pairs_orderly (makes n) w a h r = paired_orderly e v s (next_object a) (next_promise a a.vat) a.out r.vat r.event refl r.vat h.known h.resolvers r
 
   pub pair_orderly : (a : At) → Is a → Is (pair_out (given_by (promise_pair a) a) (behind (promise_pair a) a))
@@ -70,7 +70,7 @@ module _ (e : EventName) (v : VatNo) (s : State) where
   -- ---- the use of a resolver
 
   uses_orderly : (p : PromId) (m : Making Published) (w : Under Cell Content) (a : At) → Owns e v s a.out.promises a.out.letters p → CalmIn a.state w.state → UsedIn p (knows a.state) m (knows w.state) → Is a → Is (resolver_out p m (with_under w a))
-  uses_orderly p (refused why) w a owned c h r = quietly e v s {a} {with_under w a} (record { calm = c; event = refl; vat = refl; out = refl }) r
+  uses_orderly p (refused why) w a owned c h r = quietly e v s (record { calm = c; event = refl; vat = refl; out = refl }) r
   uses_orderly p (makes b) w a owned c h r = resolved_orderly e v s p (record { value = b.value; fences = b.fences }) (resolved_note p ∷ []) a.out owned h.0 h.1 c.known c.resolvers r
 
   pub used_orderly : (p : PromId) (d : Vat (Making Published)) (a : At) → Owns e v s a.out.promises a.out.letters p → Uses p d → Is a → Is (resolver_out p (given_by d a) (behind d a))
@@ -119,7 +119,7 @@ module _ (e : EventName) (v : VatNo) (s : State) where
 
   pub target_owns : (w : Val) (verb : Name) (g : Gather) (a : At) → Is a → TargetOwns a.out.promises a.out.letters (target_of w verb g a)
   target_owns w verb (values vs) a r =
-      callee_owns (callee_of a.vat (receiver w a)) (receiver w a) verb vs (receiver_read w a) (quietly e v s {a} {receiver_read w a} (receiver_quiet w a) r)
+      callee_owns (callee_of a.vat (receiver w a)) (receiver w a) verb vs (receiver_read w a) (quietly e v s (receiver_quiet w a) r)
   target_owns w verb (halted h) a r = tt
 
   -- where a call came to a resolver, that is used
@@ -129,4 +129,4 @@ module _ (e : EventName) (v : VatNo) (s : State) where
       let c : At = called w verb g a in
       let q : QuietAt a c = called_quiet w verb g a in
       let t : TargetOwns a.out.promises a.out.letters (uses p d) = subst (TargetOwns a.out.promises a.out.letters) is (target_owns w verb g a r) in
-      used_orderly p d c (subst (λ o. Owns e v s o.promises o.letters p) (sym q.out) t.0) t.1 (quietly e v s {a} {c} q r)
+      used_orderly p d c (subst (λ o. Owns e v s o.promises o.letters p) (sym q.out) t.0) t.1 (quietly e v s q r)

@@ -1,5 +1,5 @@
 -- What a turn does to messages, resolvers, views and the board.
-use Rattle.std.proofs.Common.{◌≡◌, ℕ, ◌+◌, ◌≤◌, Bool, true, false, cond, not, ◌&&◌, List, [], ◌∷◌, ◌++◌, map, Option, Some, None, is_some, true≢false, inl, inr, ◌⊎◌, ⊎_elim, refl, sym, ap, ◌∙◌, subst, arith}
+use Rattle.std.proofs.Common.{◌≡◌, ℕ, ◌+◌, ◌≤◌, Bool, true, false, cond, not, ◌&&◌, List, [], ◌∷◌, ◌++◌, map, Some, None, is_some, true≢false, inl, inr, ◌⊎◌, ⊎_elim, refl, sym, ap, ◌∙◌, subst, arith}
 use Rattle.std.specs.List.{list_any, AllByRecursion}
 use Rattle.std.specs.Ordering.{is_eq}
 use Rattle.history.specs.Subject.{written}
@@ -17,13 +17,13 @@ use Rattle.eorder.proofs.Places.{message_equal}
 use Rattle.heap.specs.State as heap
 use Rattle.heap.specs.State.{Cell, Cells, State, same_cell}
 use Rattle.post.specs.Messages.{Message, Published, done, is_done, is_done}
-use Rattle.worldcells.specs.World.{Content, message, World, message_in, message_of, published_in, published_as, vat_state}
+use Rattle.worldcells.specs.World.{message, World, message_in, message_of, published_in, published_as, vat_state}
 use Rattle.deliveries.specs.Turn.{Found, Told, told, lost, Outcome, Delivers, delivers, telling, finish, outcome_by}
 use Rattle.deliveries.proofs.Turns.{delivery_un}
 use Rattle.erules.specs.At.{At}
 use Rattle.event.specs.Events.{events, in_world, letters_from, on_the_board, counted, is_lost, Turn, Turns, TurnLeaves}
 use Rattle.ordering.proofs.Written.{Writes, Passes, passed, all_pass, not_message, not_board, letters_pass_boards, board_passes_messages}
-use Rattle.publishing.proofs.Calm.{knows, HasResolver}
+use Rattle.publishing.proofs.Calm.{knows}
 use Rattle.publishing.proofs.Orderly.{is_false, Letters, Rise, Paired, Resolved}
 use Rattle.publishing.proofs.Delivered.{TurnedIn, delivery_turned}
 use Rattle.publishing.proofs.Left.{vat_resolver, resolver_left, knows_left, knows_on}
@@ -69,12 +69,13 @@ some_message e = cc
 -- a message is one of these, or was written behind them
 letter_there : (e : EventName) (more : Writes) (w : World) (n : MsgId) (h : Message) (i : ℕ) (ls : Letters) → message_in (written events (letters_from e i ls ++ more) w (key.Msg n)) ≡ Some h → IsLetter e i ls n h ⊎ (message_in (written events more w (key.Msg n)) ≡ Some h)
 letter_there e more w n h i [] is = inr is
-letter_there e more w n h i (l ∷ ls) is = go (same_message (record { event = e; index = i }) n) refl is
+letter_there e more w n h i (l ∷ ls) is = go (same_message (record { event = e; index = i }) n) refl is (letter_there e more w n h (i + 1) ls)
   where
     go : (q : Bool) → same_message (record { event = e; index = i }) n ≡ q → message_in (cond q (Some (message l.1)) (written events (letters_from e (i + 1) ls ++ more) w (key.Msg n))) ≡ Some h
+        → (message_in (written events (letters_from e (i + 1) ls ++ more) w (key.Msg n)) ≡ Some h → IsLetter e (i + 1) ls n h ⊎ (message_in (written events more w (key.Msg n)) ≡ Some h))
         → (((n ≡ record { event = e; index = i }) × (h ≡ l.1)) ⊎ IsLetter e (i + 1) ls n h) ⊎ (message_in (written events more w (key.Msg n)) ≡ Some h)
-    go true t is = inl (inl (sym (message_equal (record { event = e; index = i }) n t), some_message is))
-    go false t is = ⊎_elim (λ x. inl (inr x)) inr (letter_there e more w n h (i + 1) ls is)
+    go true t is ih = inl (inl (sym (message_equal (record { event = e; index = i }) n t), some_message is))
+    go false t is ih = ⊎_elim (λ x. inl (inr x)) inr (ih is)
 
 letters_pass_objects : (e : EventName) (i : ℕ) (ls : Letters) (j : ObjId) → Passes (key.Object j) (letters_from e i ls)
 letters_pass_objects e i [] j = tt
@@ -97,11 +98,11 @@ board_passes_views (b ∷ bs) v p = (refl, board_passes_views bs v p)
 -- a promise that is none of these, if it counts, is not written
 pub board_passes : (w : World) (bs : List (PromId × Published)) (p : PromId) → AllByRecursion (λ b. is_some (published_as w b.0) ≡ false → b.0 ≡ p → ⊥) bs → Passes (key.Board p) (on_the_board (counted w bs))
 board_passes w [] p h = tt
-board_passes w (b ∷ bs) p h = go (is_some (published_as w b.0)) refl
+board_passes w (b ∷ bs) p h = go (is_some (published_as w b.0)) refl (board_passes w bs p h.1)
   where
-    go : (q : Bool) → is_some (published_as w b.0) ≡ q → Passes (key.Board p) (on_the_board (cond q (counted w bs) (b ∷ counted w bs)))
-    go true e = board_passes w bs p h.1
-    go false e = (is_false (is_eq (promise_cmp b.0 p)) (λ t. h.0 e (exact_promises b.0 p (equal (promise_cmp b.0 p) t))), board_passes w bs p h.1)
+    go : (q : Bool) → is_some (published_as w b.0) ≡ q → Passes (key.Board p) (on_the_board (counted w bs)) → Passes (key.Board p) (on_the_board (cond q (counted w bs) (b ∷ counted w bs)))
+    go true e more = more
+    go false e more = (is_false (is_eq (promise_cmp b.0 p)) (λ t. h.0 e (exact_promises b.0 p (equal (promise_cmp b.0 p) t))), more)
 
 -- ---- cells that it did not write
 

@@ -1,16 +1,18 @@
 -- No promise is published twice in the world of a run.
 use Rattle.std.specs.Prelude.{◌≡◌, ℕ, List, [], ◌∷◌, Some, None}
 use Rattle.std.specs.List.{AllByRecursion}
+use Rattle.history.specs.Records.{Row, State, contents}
+use Rattle.history.specs.Stands.{Stands}
 use Rattle.history.specs.Subject.{after}
 use Rattle.ids.specs.declared.names.EventName.{EventName}
 use Rattle.ids.specs.declared.names.MsgId.{MsgId}
 use Rattle.ids.specs.declared.names.PromId.{PromId}
 use Rattle.post.specs.Messages.{Published}
 use Rattle.worldcells.specs.Events.{Event}
-use Rattle.worldcells.specs.World.{World, published_as}
-use Rattle.event.specs.Events.{events, Foot, Turn, Turns, counted, Does}
-use Rattle.ordering.specs.Sending.{RanWithout}
-use Rattle.ordering.specs.Theorems.{HaveOwnNames}
+use Rattle.worldcells.specs.World.{World, empty, published_as}
+use Rattle.event.specs.Events.{events, Foot, Turn, Turns, counted, Does, noted_events}
+use Rattle.ordering.specs.Sending.{IsNewName, RanWithout}
+use Rattle.ordering.specs.Theorems.{HaveOwnNames, live_events}
 
 -- from the empty world these events ran to this one, the newest first, each with a name of its own, and none of them has this name
 abbrev pub RanApartFrom : EventName → List Event → World → Type 0
@@ -34,6 +36,11 @@ PublishesNewPromises = (e : EventName) (es : List Event) (w : World) → RanApar
 abbrev pub AllCounts : Type 0
 AllCounts = (e : EventName) (es : List Event) (w : World) → RanApartFrom e es w → (m : MsgId) (budget : ℕ) (t : Turn) → Turns e w m budget t
     → counted w t.outcome.out.publications ≡ t.outcome.out.publications
+
+-- so it is in the world of each journal that stands, also after an undo, a redo or an exchange
+abbrev pub JournalsPublishNewPromises : Type 0
+JournalsPublishNewPromises = (next : ℕ) (rows : List (Row noted_events)) (state : State noted_events) → Stands noted_events empty next rows state → (e : EventName) → IsNewName e (live_events rows)
+    → (m : MsgId) (budget : ℕ) (t : Turn) → Turns e (contents noted_events state) m budget t → AreUnpublished (contents noted_events state) t.outcome.out.publications
 
 -- and what was published stays as it was published, whatever happens
 abbrev pub PublicationsStay : Type 0
