@@ -12,13 +12,11 @@ use Rattle.values.specs.Data.{Val, Vals, no_vals, and_val}
 use Rattle.heap.specs.State.{Cell, view_cell, object_cell, pending, resolved, Plain, plain, resolver, Content, made, viewed, State, write, same_cell}
 use Rattle.heap.proofs.Cells.{cell_exact, cell_self}
 use Rattle.refs.specs.Settling.{settling}
-use Rattle.refs.specs.Walks.{walked}
 use Rattle.sends.specs.Vats.{Vat, ended, settled, settled_behind, all_settled, reference_in, value_of, each_once, names_for, leaving, fence_of, fence_joined, end_joined, entrance, comes_in, brought, all_brought, received, coming_in, entered, sent_after, resolution_in}
 use Rattle.sends.specs.Playing.{views_in}
 use Rattle.sends.proofs.Playing.{looked_state}
-use Rattle.sends.proofs.Followed.{ends_are_followed}
 use Rattle.sends.proofs.Settled.{settled_alike}
-use Rattle.sends.proofs.Table.{carried_state}
+use Rattle.ordering.proofs.Effects.{ended_state, leaving_state}
 
 -- whether a vat in this state knows what a promise was resolved to
 abbrev pub knows : State → PromId → Bool
@@ -43,9 +41,6 @@ pub calm_then : {ks ls ms : PromId → Bool} {rs ts us : ObjId → PromId → Ty
 calm_then f g = record { known = λ p h. g.known p (f.known p h); resolvers = λ i p h. f.resolvers i p (g.resolvers i p h) }
 
 -- ---- writes
-
-pub none≢some : {A : Type 0} {x : A} → None ≡ Some x → ⊥
-none≢some e = cc
 
 -- a promise that had not come comes, and is open
 pub opened_calm : (s : State) (p : PromId) → s (view_cell p) ≡ None → CalmIn s (write s (view_cell p) (viewed pending))
@@ -86,9 +81,6 @@ calmly_then {A} {B} d f h g u =
 pub still_calm : (s t : State) → t ≡ s → CalmIn s t
 still_calm s t e = subst (CalmIn s) (sym e) all_calm
 
-pub ended_state : (v : Val) (u : Under Cell Content) → (play same_cell (ended v) u).1.state ≡ u.state
-ended_state v u = ap (λ q. q.1.state) (ends_are_followed u v) ∙ looked_state (walked (views_in u.state) v) u
-
 pub settled_state : (v : Val) (u : Under Cell Content) → (play same_cell (settled v) u).1.state ≡ u.state
 settled_state v u = ap (λ q. q.1.state) (settled_alike u v) ∙ looked_state (settling (views_in u.state) v).through u
 
@@ -105,9 +97,6 @@ behind_calm (Some w) rest h u = calmly_then (rest w) (λ o. over _) (h w) (λ o 
 pub all_settled_calm : (vs : Vals) → Calmly (all_settled vs)
 all_settled_calm no_vals u = all_calm
 all_settled_calm (and_val v vs) u = calmly_then (settled v) (settled_behind (λ w. all_settled vs)) (settled_calm v) (λ o. behind_calm o (λ w. all_settled vs) (λ w. all_settled_calm vs)) u
-
-pub leaving_state : (rs : List Reference) (u : Under Cell Content) → (play same_cell (leaving rs) u).1.state ≡ u.state
-leaving_state rs u = carried_state [] (each_once [] rs) u
 
 pub leaving_calm : (rs : List Reference) → Calmly (leaving rs)
 leaving_calm rs u = still_calm u.state (play same_cell (leaving rs) u).1.state (leaving_state rs u)

@@ -66,9 +66,9 @@ IsFirst e g n h = (n ≡ first_message e) × (h ≡ g)
 
 pub first_happens : (e : EventName) (w u : World) (g : Message) → g.result.event ≡ e → OnlyMessages w u → ((n : MsgId) → u (key.Msg n) ≡ cond (same_message (first_message e) n) (Some (message g)) (w (key.Msg n))) → Happens e w u (IsFirst e g) Never Never
 first_happens e w u g its only one = only_messages e w u (IsFirst e g) only
-  (λ n h is. ⊎_elim inl (λ x. inr (was_there x)) (written_message w (first_message e) n g h (sym (ap message_in (one n)) ∙ is)))
-  (λ n h s. (ap (λ (m : MsgId). m.event) s.0, ap (λ (m : Message). m.result.event) s.1 ∙ its))
-  (λ n k h f s t same. s.0 ∙ sym t.0)
+    (λ n h is. ⊎_elim inl (λ x. inr (was_there x)) (written_message w (first_message e) n g h (sym (ap message_in (one n)) ∙ is)))
+    (λ n h s. (ap (λ (m : MsgId). m.event) s.0, ap (λ (m : Message). m.result.event) s.1 ∙ its))
+    (λ n k h f s t same. s.0 ∙ sym t.0)
 
 -- a message is elsewhere
 abbrev pub NoMessage : MsgId → Message → Type 0
@@ -77,11 +77,11 @@ NoMessage n h = ⊥
 pub moved_happens : (e : EventName) (w u : World) (m : MsgId) (g h : Message) → message_of w m ≡ Some g → h.result ≡ g.result → is_done g.place ≡ false → OnlyMessages w u
     → ((n : MsgId) → u (key.Msg n) ≡ cond (same_message m n) (Some (message h)) (w (key.Msg n))) → Happens e w u NoMessage Never Never
 moved_happens e w u m g h is same undone only one = only_messages e w u NoMessage only
-  (λ n f also. inr (⊎_elim
+    (λ n f also. inr (⊎_elim
     (λ x. record { before = g; there = ap (λ k. message_of w k) x.0 ∙ is; result = ap (λ (y : Message). y.result) x.1 ∙ same; undone = λ d. undone })
     (λ x. was_there x) (written_message w m n h f (sym (ap message_in (one n)) ∙ also))))
-  (λ n f s. absurd s)
-  (λ n k f g s t same. absurd s)
+    (λ n f s. absurd s)
+    (λ n k f g s t same. absurd s)
 
 pub flies_undone : (p : Place) (v : VatNo) → flies_to p ≡ Some v → is_done p ≡ false
 flies_undone (flying x) v i = refl

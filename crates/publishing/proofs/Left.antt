@@ -1,5 +1,6 @@
 -- What a world has in the cells of a vat behind what the vat left there.
 use Rattle.std.proofs.Common.{◌≡◌, ℕ, Bool, true, false, cond, ◌||◌, ◌&&◌, List, [], ◌∷◌, ◌++◌, map, Option, Some, None, option_map, is_some, true≢false, inl, inr, ◌⊎◌, ⊎_elim, eqb-true, refl, sym, ap, ◌∙◌, subst}
+use Rattle.std.proofs.lemmas.Bool.{false_from_ne_true}
 use Rattle.std.specs.List.{list_any, AllByRecursion}
 use Rattle.std.specs.Ordering.{is_eq}
 use Rattle.history.specs.Subject.{written}
@@ -22,7 +23,6 @@ use Rattle.event.specs.Events.{events, in_world}
 use Rattle.event.proofs.Listing.{one_cell}
 use Rattle.ordering.proofs.Written.{Writes, passed, all_pass}
 use Rattle.publishing.proofs.Calm.{knows, HasResolver}
-use Rattle.publishing.proofs.Orderly.{is_false}
 use Rattle.publishing.proofs.Worlds.{ResolverAt, knows_at}
 
 -- ---- contents
@@ -79,7 +79,7 @@ module _ (w : World) (v : VatNo) (t : State) (rest : Writes) where
   left_there (p ∷ left) c a = go (same_key (cell_key v p.0) (cell_key v c)) refl (left_there left c a.1)
     where
       other : same_key (cell_key v p.0) (cell_key v c) ≡ false → same_cell c p.0 ≡ false
-      other e = is_false (same_cell c p.0) (λ h. true≢false (sym (key_self (cell_key v c)) ∙ ap (λ d. same_key (cell_key v d) (cell_key v c)) (cell_exact c p.0 h) ∙ e))
+      other e = false_from_ne_true (same_cell c p.0) (λ h. true≢false (sym (key_self (cell_key v c)) ∙ ap (λ d. same_key (cell_key v d) (cell_key v c)) (cell_exact c p.0 h) ∙ e))
 
       go : (q : Bool) → same_key (cell_key v p.0) (cell_key v c) ≡ q → IsLeft left c
           → (cond q (Some (content_of p.1)) (after_all left (cell_key v c)) ≡ option_map content_of (t c))
@@ -91,14 +91,14 @@ module _ (w : World) (v : VatNo) (t : State) (rest : Writes) where
     -- a resolver is one that was left, or that was there
     pub resolver_left : ((i : ObjId) → written events rest w (key.Object i) ≡ w (key.Object i)) → (i : ObjId) (p : PromId) → ResolverAt (after_all left) i p → HasResolver t i p ⊎ ResolverAt w i p
     resolver_left objects i p r = ⊎_elim
-      (λ h. inl (sym (comes_back (t (object_cell i))) ∙ ap cell_content (sym h ∙ r)))
-      (λ h. inr (sym (objects i) ∙ sym h.1 ∙ r)) (left_there left (object_cell i) contents)
+        (λ h. inl (sym (comes_back (t (object_cell i))) ∙ ap cell_content (sym h ∙ r)))
+        (λ h. inr (sym (objects i) ∙ sym h.1 ∙ r)) (left_there left (object_cell i) contents)
 
     module _ (stays : (c : Cell) → list_any (same_cell c) (map (λ p. p.0) left) ≡ false → t c ≡ vat_state w v c) (views : (x : VatNo) (p : PromId) → written events rest w (key.View x p) ≡ w (key.View x p)) where
       own_view : (p : PromId) → vat_state (after_all left) v (view_cell p) ≡ t (view_cell p)
       own_view p = ⊎_elim
-        (λ h. ap cell_content h ∙ comes_back (t (view_cell p)))
-        (λ h. ap cell_content (h.1 ∙ views v p) ∙ sym (stays (view_cell p) h.0)) (left_there left (view_cell p) contents)
+          (λ h. ap cell_content h ∙ comes_back (t (view_cell p)))
+          (λ h. ap cell_content (h.1 ∙ views v p) ∙ sym (stays (view_cell p) h.0)) (left_there left (view_cell p) contents)
 
       -- the vat knows what it knew as it left
       pub knows_left : (p : PromId) → knows_at (after_all left) v p ≡ knows t p

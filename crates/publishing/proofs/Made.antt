@@ -17,7 +17,8 @@ use Rattle.ids.specs.declared.reference.Reference.{Reference}
 use Rattle.heap.specs.State.{Cell, view_cell, object_cell, pending, resolved, resolver, Content, bound, held, made, viewed, fenced, same_cell}
 use Rattle.sends.specs.Vats.{Vat, Nothing, ended, settled, all_settled, reference_in, references, references_in, leaving, comes_in, sent_after, goes_to, resolution_in}
 use Rattle.sends.specs.Making.{Making, refused, makes, of_settled, with_room, Sent, send_placed, sending, condition, waiting, promising, Published, entered_at, entered_if_come, publishing, first_use, used, resolving, smashed_by, smashing}
-use Rattle.publishing.proofs.Calm.{knows, HasResolver, Calm, CalmIn, all_calm, Calmly, calmly_then, ended_state, settled_state, ended_calm, settled_calm, all_settled_calm, leaving_state, leaving_calm, comes_in_calm, entered_calm, entered_knows, sent_after_calm}
+use Rattle.ordering.proofs.Effects.{ended_state, leaving_state}
+use Rattle.publishing.proofs.Calm.{knows, HasResolver, Calm, CalmIn, all_calm, Calmly, calmly_then, settled_state, ended_calm, settled_calm, all_settled_calm, leaving_calm, comes_in_calm, entered_calm, entered_knows, sent_after_calm}
 
 of_settled_calm : {A R : Type 0} (make : A → Vat (Making R)) (o : Option A) → ((x : A) → Calmly (make x)) → Calmly (of_settled make o)
 of_settled_calm make None h u = all_calm

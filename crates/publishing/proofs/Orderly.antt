@@ -1,7 +1,7 @@
 -- What holds all through a turn: which promises it made, which resolvers it has, and what it published.
 use Rattle.std.proofs.Common.{◌≡◌, ℕ, ◌+◌, ◌<◌, ◌≤◌, Bool, true, false, cond, List, [], ◌∷◌, ◌++◌, true≢false, inl, inr, ◌⊎◌, ⊎_elim, nat_eq, eq-eqb, refl, sym, ap, ◌∙◌, subst, arith}
 use Rattle.std.specs.List.{AllByRecursion}
-use Rattle.std.proofs.lemmas.Bool.{and_from}
+use Rattle.std.proofs.lemmas.Bool.{and_from, false_from_ne_true}
 use Rattle.history.proofs.Lists.{all_map}
 use Rattle.ids.specs.declared.names.EventName.{EventName}
 use Rattle.ids.specs.declared.names.VatNo.{VatNo}
@@ -14,19 +14,12 @@ use Rattle.post.specs.Messages.{Message, Published}
 use Rattle.erules.specs.At.{At}
 use Rattle.erules.specs.Outbox.{Note, is_published, and_publication, Outbox}
 use Rattle.erules.specs.Doings.{posted, noted}
+use Rattle.ordering.proofs.Acted.{all_append}
 use Rattle.publishing.specs.Publishing.{EachOnce}
 use Rattle.publishing.proofs.Calm.{knows, HasResolver}
 use Rattle.publishing.proofs.Quiet.{Quiet}
 
 -- ---- lists
-
-pub all_append : {A : Type 0} (P : A → Type 0) (xs ys : List A) → AllByRecursion P xs → AllByRecursion P ys → AllByRecursion P (xs ++ ys)
-all_append P [] ys h g = g
-all_append P (x ∷ xs) ys h g = (h.0, all_append P xs ys h.1 g)
-
-pub is_false : (b : Bool) → (b ≡ true → ⊥) → b ≡ false
-is_false true h = absurd (h refl)
-is_false false h = refl
 
 same_itself : (p : PromId) → same_promise p p ≡ true
 same_itself p = and_from (nat_eq p.event.0 p.event.0) _ (eq-eqb p.event.0 p.event.0 refl) (and_from (nat_eq p.index p.index) _ (eq-eqb p.index p.index refl) (eq-eqb p.home.0.0 p.home.0.0 refl))
@@ -197,6 +190,6 @@ module _ (e : EventName) (v : VatNo) (s : State) where
     letters = h.letters;
     published = all_published (IsResolved e v s ls o.promises o.letters) o.publications p x
         (all_map (IsResolved e v s ks o.promises o.letters) (IsResolved e v s ls o.promises o.letters) o.publications (λ b r. record { owned = r.owned; open_before = r.open_before; known_now = known b.0 r.known_now }) h.published)
-        (record { owned = owned; open_before = is_false (knows s p) (λ k. true≢false (sym (h.known p k) ∙ was)); known_now = is });
+        (record { owned = owned; open_before = false_from_ne_true (knows s p) (λ k. true≢false (sym (h.known p k) ∙ was)); known_now = is });
     once = published_once o.publications p x h.once;
   }

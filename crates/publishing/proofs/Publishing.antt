@@ -20,11 +20,13 @@ use Rattle.ordering.specs.Theorems.{HaveOwnNames, live_events}
 use Rattle.ordering.proofs.Runs.{own_names}
 use Rattle.ordering.proofs.Written.{Writes, passed, all_pass, not_board, letters_pass_boards}
 use Rattle.publishing.specs.Publishing.{AreUnpublished, PublishesNewPromises, AllCounts, JournalsPublishNewPromises, PublicationsStay}
-use Rattle.publishing.proofs.Calm.{none≢some}
 use Rattle.publishing.proofs.Delivered.{delivery_turned}
 use Rattle.publishing.proofs.Worlds.{Sound, sound_after}
 use Rattle.publishing.proofs.Happening.{Never, OnlyMessages, IsFirst, first_happens, NoMessage, moved_happens, waits_undone, arrived_same, learns_happens}
 use Rattle.publishing.proofs.Turned.{board_passes, all_unpublished, turn_happens}
+
+none≢some : {A : Type 0} {x : A} → None ≡ Some x → ⊥
+none≢some e = cc
 
 -- ---- each event keeps it
 

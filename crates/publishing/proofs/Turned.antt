@@ -1,5 +1,6 @@
 -- What a turn does to messages, resolvers, views and the board.
 use Rattle.std.proofs.Common.{◌≡◌, ℕ, ◌+◌, ◌≤◌, Bool, true, false, cond, not, ◌&&◌, List, [], ◌∷◌, ◌++◌, map, Some, None, is_some, true≢false, inl, inr, ◌⊎◌, ⊎_elim, refl, sym, ap, ◌∙◌, subst, arith}
+use Rattle.std.proofs.lemmas.Bool.{false_from_ne_true}
 use Rattle.std.specs.List.{list_any, AllByRecursion}
 use Rattle.std.specs.Ordering.{is_eq}
 use Rattle.history.specs.Subject.{written}
@@ -16,7 +17,7 @@ use Rattle.eorder.specs.Places.{same_message}
 use Rattle.eorder.proofs.Places.{message_equal}
 use Rattle.heap.specs.State as heap
 use Rattle.heap.specs.State.{Cell, Cells, State, same_cell}
-use Rattle.post.specs.Messages.{Message, Published, done, is_done, is_done}
+use Rattle.post.specs.Messages.{Message, Published, done, is_done}
 use Rattle.worldcells.specs.World.{message, World, message_in, message_of, published_in, published_as, vat_state}
 use Rattle.deliveries.specs.Turn.{Found, Told, told, lost, Outcome, Delivers, delivers, telling, finish, outcome_by}
 use Rattle.deliveries.proofs.Turns.{delivery_un}
@@ -24,7 +25,7 @@ use Rattle.erules.specs.At.{At}
 use Rattle.event.specs.Events.{events, in_world, letters_from, on_the_board, counted, is_lost, Turn, Turns, TurnLeaves}
 use Rattle.ordering.proofs.Written.{Writes, Passes, passed, all_pass, not_message, not_board, letters_pass_boards, board_passes_messages}
 use Rattle.publishing.proofs.Calm.{knows}
-use Rattle.publishing.proofs.Orderly.{is_false, Letters, Rise, Paired, Resolved}
+use Rattle.publishing.proofs.Orderly.{Letters, Rise, Paired, Resolved}
 use Rattle.publishing.proofs.Delivered.{TurnedIn, delivery_turned}
 use Rattle.publishing.proofs.Left.{vat_resolver, resolver_left, knows_left, knows_on}
 use Rattle.publishing.proofs.Worlds.{ResolverAt, Sound, Had, Resolves, IsResult, Happens}
@@ -43,12 +44,12 @@ letter_event e i (l ∷ ls) n h s = ⊎_elim (λ x. ap (λ (m : MsgId). m.event)
 letter_result : (e : EventName) (i j k : ℕ) (ls : Letters) (n : MsgId) (h : Message) → Rise e j k ls → IsLetter e i ls n h → (h.result.event ≡ e) × (j ≤ h.result.index)
 letter_result e i j k [] n h r s = absurd s
 letter_result e i j k (l ∷ ls) n h r s = ⊎_elim
-  (λ x. subst (λ (g : Message). (g.result.event ≡ e) × (j ≤ g.result.index)) (sym x.1) (r.0, r.1))
-  (λ x. let y = letter_result e (i + 1) (l.1.result.index + 1) k ls n h r.2 x in (y.0, omega (arith, r.1, y.1))) s
+    (λ x. subst (λ (g : Message). (g.result.event ≡ e) × (j ≤ g.result.index)) (sym x.1) (r.0, r.1))
+    (λ x. let y = letter_result e (i + 1) (l.1.result.index + 1) k ls n h r.2 x in (y.0, omega (arith, r.1, y.1))) s
 
 letter_alone : (e : EventName) (i : ℕ) (ls : Letters) (n : MsgId) (h : Message) (p : PromId) → AllByRecursion (λ l. l.1.result ≡ p → ⊥) ls → IsLetter e i ls n h → h.result ≡ p → ⊥
 letter_alone e i [] n h p a s = absurd s
-letter_alone e i (l ∷ ls) n h p a s = ⊎_elim (λ x. λ same. a.0 (ap (λ (g : Message). g.result) (sym x.1) ∙ same)) (λ x. letter_alone e (i + 1) ls n h p a.1 x) s
+letter_alone e i (l ∷ ls) n h p a s = ⊎_elim (λ x same. a.0 (ap (λ (g : Message). g.result) (sym x.1) ∙ same)) (λ x. letter_alone e (i + 1) ls n h p a.1 x) s
 
 -- a later message has a later result
 not_later : (e : EventName) (i k : ℕ) (l : MsgId × Message) (ls : Letters) (n : MsgId) (h g : Message) → Rise e (l.1.result.index + 1) k ls → h ≡ l.1 → IsLetter e i ls n g → h.result ≡ g.result → ⊥
@@ -60,8 +61,8 @@ not_later e i k l ls n h g r same s eq =
 letter_apart : (e : EventName) (i j k : ℕ) (ls : Letters) (n m : MsgId) (h g : Message) → Rise e j k ls → IsLetter e i ls n h → IsLetter e i ls m g → h.result ≡ g.result → n ≡ m
 letter_apart e i j k [] n m h g r s t eq = absurd s
 letter_apart e i j k (l ∷ ls) n m h g r s t eq = ⊎_elim
-  (λ x. ⊎_elim (λ y. x.0 ∙ sym y.0) (λ y. absurd (not_later e (i + 1) k l ls m h g r.2 x.1 y eq)) t)
-  (λ x. ⊎_elim (λ y. absurd (not_later e (i + 1) k l ls n g h r.2 y.1 x (sym eq))) (λ y. letter_apart e (i + 1) (l.1.result.index + 1) k ls n m h g r.2 x y eq) t) s
+    (λ x. ⊎_elim (λ y. x.0 ∙ sym y.0) (λ y. absurd (not_later e (i + 1) k l ls m h g r.2 x.1 y eq)) t)
+    (λ x. ⊎_elim (λ y. absurd (not_later e (i + 1) k l ls n g h r.2 y.1 x (sym eq))) (λ y. letter_apart e (i + 1) (l.1.result.index + 1) k ls n m h g r.2 x y eq) t) s
 
 some_message : {x y : Message} → Some x ≡ Some y → y ≡ x
 some_message e = cc
@@ -102,7 +103,7 @@ board_passes w (b ∷ bs) p h = go (is_some (published_as w b.0)) refl (board_pa
   where
     go : (q : Bool) → is_some (published_as w b.0) ≡ q → Passes (key.Board p) (on_the_board (counted w bs)) → Passes (key.Board p) (on_the_board (cond q (counted w bs) (b ∷ counted w bs)))
     go true e more = more
-    go false e more = (is_false (is_eq (promise_cmp b.0 p)) (λ t. h.0 e (exact_promises b.0 p (equal (promise_cmp b.0 p) t))), more)
+    go false e more = (false_from_ne_true (is_eq (promise_cmp b.0 p)) (λ t. h.0 e (exact_promises b.0 p (equal (promise_cmp b.0 p) t))), more)
 
 -- ---- cells that it did not write
 
@@ -148,8 +149,8 @@ module _ (old : EventName → Type 0) (e : EventName) (w : World) (m : MsgId) (n
   -- what it publishes was not published
   unpublished : (p : PromId) → Publishes p → published_as w p ≡ None
   unpublished p x = ⊎_elim
-    (λ same. subst (λ q. published_as w q ≡ None) (sym same) (sound.waiting m t.message is_there (ap is_done h.there)))
-    (λ r. ⊎_elim
+      (λ same. subst (λ q. published_as w q ≡ None) (sym same) (sound.waiting m t.message is_there (ap is_done h.there)))
+      (λ r. ⊎_elim
       (λ y. let z = vat_resolver w t.vat y.0 p y.1 in sound.unused y.0 p z.0 (ap (λ v. knows (vat_state w v) p) ((sound.resolvers y.0 p z.0).1 ∙ z.1) ∙ r.open_before))
       (λ y. sound.board p (λ o. new (subst old y.event o))) r.owned) x
 
@@ -183,7 +184,7 @@ module _ (old : EventName → Type 0) (e : EventName) (w : World) (m : MsgId) (n
     -- a message was sent, or is the last one or an older one
     message_there : (k : MsgId) (f : Message) → message_of world k ≡ Some f → IsLetter e 0 sends k f ⊎ (message_in (cond (same_message m k) (Some (message done_message)) (w (key.Msg k))) ≡ Some f)
     message_there k f is = ⊎_elim inl (λ x. inr (sym (ap message_in (behind_letters k)) ∙ x))
-      (letter_there e (boards ++ last) w k f 0 sends (sym (ap message_in (passed (in_world t.vat left) rest w (key.Msg k) (all_pass t.vat left (key.Msg k) (not_message t.vat k)))) ∙ is))
+        (letter_there e (boards ++ last) w k f 0 sends (sym (ap message_in (passed (in_world t.vat left) rest w (key.Msg k) (all_pass t.vat left (key.Msg k) (not_message t.vat k)))) ∙ is))
 
     had : (k : MsgId) (f : Message) (q : Bool) → same_message m k ≡ q → message_in (cond q (Some (message done_message)) (w (key.Msg k))) ≡ Some f → Had w k f
     had k f true i is =
@@ -202,8 +203,8 @@ module _ (old : EventName → Type 0) (e : EventName) (w : World) (m : MsgId) (n
     -- its message is done
     is_done_now : (f : Message) → message_of world m ≡ Some f → is_done f.place ≡ true
     is_done_now f is = ⊎_elim
-      (λ x. absurd (new (subst old (letter_event e 0 sends m f x) (sound.named m t.message is_there).0)))
-      (λ x. ap (λ (y : Message). is_done y.place) (some_message {x = done_message} {y = f} (sym (ap (λ b. message_in (cond b (Some (message done_message)) (w (key.Msg m)))) (message_self m)) ∙ x))) (message_there m f is)
+        (λ x. absurd (new (subst old (letter_event e 0 sends m f x) (sound.named m t.message is_there).0)))
+        (λ x. ap (λ (y : Message). is_done y.place) (some_message {x = done_message} {y = f} (sym (ap (λ b. message_in (cond b (Some (message done_message)) (w (key.Msg m)))) (message_self m)) ∙ x))) (message_there m f is)
 
     -- ---- resolvers and views
 
@@ -224,8 +225,8 @@ module _ (old : EventName → Type 0) (e : EventName) (w : World) (m : MsgId) (n
 
     resolvers : (i : ObjId) (p : PromId) → ResolverAt world i p → ResolverAt w i p ⊎ (IsPaired p × (p.home ≡ i.vat))
     resolvers i p r = ⊎_elim
-      (λ x. ⊎_elim (λ y. inl (vat_resolver w t.vat i p y).0) (λ y. inr (y.1, y.1.home ∙ sym y.0)) (turned.resolvers i p x))
-      inl (resolver_left w t.vat t.outcome.state rest left l.contents rest_objects i p r)
+        (λ x. ⊎_elim (λ y. inl (vat_resolver w t.vat i p y).0) (λ y. inr (y.1, y.1.home ∙ sym y.0)) (turned.resolvers i p x))
+        inl (resolver_left w t.vat t.outcome.state rest left l.contents rest_objects i p r)
 
     -- ---- the board
 

@@ -1,5 +1,6 @@
 -- What holds of promises in the world of a run, and that each event keeps it.
 use Rattle.std.proofs.Common.{◌≡◌, Bool, true, false, Some, None, true≢false, inl, inr, ◌⊎◌, ⊎_elim, refl, sym, ap, ◌∙◌, subst}
+use Rattle.std.proofs.lemmas.Bool.{false_from_ne_true}
 use Rattle.ids.specs.declared.names.EventName.{EventName}
 use Rattle.ids.specs.declared.names.VatNo.{VatNo}
 use Rattle.ids.specs.declared.names.MsgId.{MsgId}
@@ -10,7 +11,6 @@ use Rattle.heap.specs.State.{resolver}
 use Rattle.post.specs.Messages.{Message, is_done}
 use Rattle.worldcells.specs.World.{made, World, message_of, published_as, vat_state}
 use Rattle.publishing.proofs.Calm.{knows}
-use Rattle.publishing.proofs.Orderly.{is_false}
 
 -- the object resolves the promise
 abbrev pub ResolverAt : World → ObjId → PromId → Type 0
@@ -81,22 +81,22 @@ module _ (old : EventName → Type 0) (e : EventName) (w u : World) (Sent : MsgI
 
   named : (n : MsgId) (f : Message) → message_of u n ≡ Some f → AlsoNow n.event × (f.result.event ≡ n.event)
   named n f is = ⊎_elim
-    (λ s. let x = h.sent n f s in (inr x.0, x.1 ∙ sym x.0))
-    (λ d. let x = sound.named n d.before d.there in (inl x.0, ap (λ (q : PromId). q.event) d.result ∙ x.1)) (h.messages n f is)
+      (λ s. let x = h.sent n f s in (inr x.0, x.1 ∙ sym x.0))
+      (λ d. let x = sound.named n d.before d.there in (inl x.0, ap (λ (q : PromId). q.event) d.result ∙ x.1)) (h.messages n f is)
 
   sent_not_had : (n k : MsgId) (f g : Message) → Sent n f → Had w k g → f.result ≡ g.result → ⊥
   sent_not_had n k f g s d same = not_old f.result (h.sent n f s).1 (had_old k g f.result d (sym same))
 
   apart : (n k : MsgId) (f g : Message) → message_of u n ≡ Some f → message_of u k ≡ Some g → f.result ≡ g.result → n ≡ k
   apart n k f g is also same = ⊎_elim
-    (λ s. ⊎_elim (λ t. h.apart n k f g s t same) (λ d. absurd (sent_not_had n k f g s d same)) (h.messages k g also))
-    (λ d. ⊎_elim (λ t. absurd (sent_not_had k n g f t d (sym same))) (λ c. sound.apart n k d.before c.before d.there c.there (sym d.result ∙ same ∙ c.result)) (h.messages k g also)) (h.messages n f is)
+      (λ s. ⊎_elim (λ t. h.apart n k f g s t same) (λ d. absurd (sent_not_had n k f g s d same)) (h.messages k g also))
+      (λ d. ⊎_elim (λ t. absurd (sent_not_had k n g f t d (sym same))) (λ c. sound.apart n k d.before c.before d.there c.there (sym d.result ∙ same ∙ c.result)) (h.messages k g also)) (h.messages n f is)
 
   -- what is published has an old name, or the event's
   published_named : (p : PromId) → Published p → AlsoNow p.event
   published_named p b = ⊎_elim
-    (λ r. ⊎_elim (λ x. inl (sound.resolvers x.0 p x.1).0) (λ x. inr (h.paired p x)) r.owned)
-    (λ q. inl (result_old q.message q.before p q.there q.result)) (h.published p b)
+      (λ r. ⊎_elim (λ x. inl (sound.resolvers x.0 p x.1).0) (λ x. inr (h.paired p x)) r.owned)
+      (λ q. inl (result_old q.message q.before p q.there q.result)) (h.published p b)
 
   board : (p : PromId) → (AlsoNow p.event → ⊥) → published_as u p ≡ None
   board p none = h.board p (λ b. none (published_named p b)) (sound.board p (λ o. none (inl o)))
@@ -115,8 +115,8 @@ module _ (old : EventName → Type 0) (e : EventName) (w u : World) (Sent : MsgI
       (λ b. ⊎_elim
       (λ r. ⊎_elim (λ y. sound.no_results y.0 f.result n d.before y.1 d.there (sym d.result)) (λ y. not_old f.result (h.paired f.result y) (had_old n f f.result d refl)) r.owned)
       (λ q.
-        let one : q.message ≡ n = sound.apart q.message n q.before d.before q.there d.there (q.result ∙ d.result) in
-        true≢false (sym (q.done f (subst (λ k. message_of u k ≡ Some f) (sym one) is)) ∙ undone)) (h.published f.result b))
+      let one : q.message ≡ n = sound.apart q.message n q.before d.before q.there d.there (q.result ∙ d.result) in
+      true≢false (sym (q.done f (subst (λ k. message_of u k ≡ Some f) (sym one) is)) ∙ undone)) (h.published f.result b))
       (subst (λ p. published_as w p ≡ None) (sym d.result) (sound.waiting n d.before d.there (d.undone undone)))
 
   waiting : (n : MsgId) (f : Message) → message_of u n ≡ Some f → is_done f.place ≡ false → published_as u f.result ≡ None
@@ -127,15 +127,15 @@ module _ (old : EventName → Type 0) (e : EventName) (w u : World) (Sent : MsgI
 
   no_results : (i : ObjId) (p : PromId) (n : MsgId) (f : Message) → ResolverAt u i p → message_of u n ≡ Some f → f.result ≡ p → ⊥
   no_results i p n f r is same = ⊎_elim
-    (λ q. ⊎_elim (λ s. not_old p (sym (ap (λ (q : PromId). q.event) same) ∙ (h.sent n f s).1) (sound.resolvers i p q).0) (λ d. sound.no_results i p n d.before q d.there (sym d.result ∙ same)) (h.messages n f is))
-    (λ x. ⊎_elim (λ s. (h.sent n f s).2 (subst Paired (sym same) x.0)) (λ d. not_old p (h.paired p x.0) (had_old n f p d same)) (h.messages n f is)) (h.resolvers i p r)
+      (λ q. ⊎_elim (λ s. not_old p (sym (ap (λ (q : PromId). q.event) same) ∙ (h.sent n f s).1) (sound.resolvers i p q).0) (λ d. sound.no_results i p n d.before q d.there (sym d.result ∙ same)) (h.messages n f is))
+      (λ x. ⊎_elim (λ s. (h.sent n f s).2 (subst Paired (sym same) x.0)) (λ d. not_old p (h.paired p x.0) (had_old n f p d same)) (h.messages n f is)) (h.resolvers i p r)
 
   unused : (i : ObjId) (p : PromId) → ResolverAt u i p → knows_at u p.home p ≡ false → published_as u p ≡ None
   unused i p r open_still = ⊎_elim
-    (λ q. h.board p (λ b. ⊎_elim (λ x. true≢false (sym x.known ∙ open_still)) (λ x. sound.no_results i p x.message x.before q x.there x.result) (h.published p b))
-    (sound.unused i p q (is_false (knows_at w p.home p) (λ k. true≢false (sym (h.views p.home p k) ∙ open_still)))))
-    (λ y. h.board p (λ b. ⊎_elim (λ x. true≢false (sym x.known ∙ open_still)) (λ x. not_old p (h.paired p y.0) (result_old x.message x.before p x.there x.result)) (h.published p b))
-    (sound.board p (not_old p (h.paired p y.0)))) (h.resolvers i p r)
+      (λ q. h.board p (λ b. ⊎_elim (λ x. true≢false (sym x.known ∙ open_still)) (λ x. sound.no_results i p x.message x.before q x.there x.result) (h.published p b))
+      (sound.unused i p q (false_from_ne_true (knows_at w p.home p) (λ k. true≢false (sym (h.views p.home p k) ∙ open_still)))))
+      (λ y. h.board p (λ b. ⊎_elim (λ x. true≢false (sym x.known ∙ open_still)) (λ x. not_old p (h.paired p y.0) (result_old x.message x.before p x.there x.result)) (h.published p b))
+      (sound.board p (not_old p (h.paired p y.0)))) (h.resolvers i p r)
 
   pub sound_after : Sound AlsoNow u
   sound_after = record { named = named; apart = apart; waiting = waiting; resolvers = resolvers; no_results = no_results; board = board; unused = unused }
