@@ -107,7 +107,7 @@ all_counts e es w ran m n t h = all_count w t.outcome.out.publications (new_prom
 pub journals_publish : JournalsPublishNewPromises
 journals_publish next rows state h e new m n t does =
     let own : HaveOwnNames (live_events rows) = own_names noted_events event_in (λ e. refl) (live_set noted_events) (entries_of rows) h.named.distinct in
-    (new_promises e (live_events rows) (contents noted_events state) ((∣ live_run h ∣₁, new), own) m n t does).0
+    new_promises e (live_events rows) (contents noted_events state) ((∣ live_run h ∣₁, new), own) m n t does
 
 -- ---- what was published stays
 

@@ -27,21 +27,24 @@ abbrev pub EachOnce : List (PromId × Published) → Type 0
 EachOnce [] = Unit {0}
 EachOnce (b ∷ bs) = AllByRecursion (λ d. d.0 ≡ b.0 → ⊥) bs × EachOnce bs
 
--- what a turn of this name publishes there was not published before, and each promise is published once
-abbrev pub PublishesNewPromises : Type 0
-PublishesNewPromises = (e : EventName) (es : List Event) (w : World) → RanApartFrom e es w → (m : MsgId) (budget : ℕ) (t : Turn) → Turns e w m budget t
-    → AreUnpublished w t.outcome.out.publications × EachOnce t.outcome.out.publications
+-- what a turn publishes was not published before, and each promise is published once
+abbrev pub PublishesNew : World → Turn → Type 0
+PublishesNew w t = AreUnpublished w t.outcome.out.publications × EachOnce t.outcome.out.publications
 
--- so all of it counts
+-- so it is of each turn of this name there
+abbrev pub PublishesNewPromises : Type 0
+PublishesNewPromises = (e : EventName) (es : List Event) (w : World) → RanApartFrom e es w → (m : MsgId) (budget : ℕ) (t : Turn) → Turns e w m budget t → PublishesNew w t
+
+-- and all that it publishes counts
 abbrev pub AllCounts : Type 0
 AllCounts = (e : EventName) (es : List Event) (w : World) → RanApartFrom e es w → (m : MsgId) (budget : ℕ) (t : Turn) → Turns e w m budget t
     → counted w t.outcome.out.publications ≡ t.outcome.out.publications
 
--- so it is in the world of each journal that stands, also after an undo, a redo or an exchange
+-- so it is of each turn of a new name in the world of a journal that stands, also after an undo, a redo or an exchange
 abbrev pub JournalsPublishNewPromises : Type 0
 JournalsPublishNewPromises = (next : ℕ) (rows : List (Row noted_events)) (state : State noted_events) → Stands noted_events empty next rows state → (e : EventName) → IsNewName e (live_events rows)
-    → (m : MsgId) (budget : ℕ) (t : Turn) → Turns e (contents noted_events state) m budget t → AreUnpublished (contents noted_events state) t.outcome.out.publications
+    → (m : MsgId) (budget : ℕ) (t : Turn) → Turns e (contents noted_events state) m budget t → PublishesNew (contents noted_events state) t
 
--- and what was published stays as it was published, whatever happens
+-- what was published stays as it is, whatever happens
 abbrev pub PublicationsStay : Type 0
 PublicationsStay = (e : Event) (w : World) (f : Foot) → Does e w f → (p : PromId) (b : Published) → published_as w p ≡ Some b → published_as (after events f w) p ≡ Some b
