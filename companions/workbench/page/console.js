@@ -1,0 +1,150 @@
+// The transcript, and the line in which commands are typed: with history, completion, and further lines.
+
+import { byId, linked, make, plural } from "./elements.js";
+import { read } from "./server.js";
+
+const DELIMITER = /[ \t([{,;\n]/;
+const LONGEST = 30;
+
+// A row of the transcript: what was given, the reply, and what helps.
+function rowNode(row, redo) {
+  const [line = "", ...script] = row.lines;
+  const given = line && make("div", { class: "given" }, make("b", {}, "> "), linked(line), script.length > 0 && scriptNode(script));
+  const isLong = row.reply.length > LONGEST;
+  const reply = make("div", { class: row.code ? "reply refused" : "reply" }, row.reply.map((each) => make("div", {}, linked(each))));
+  return make("div", { class: "row" }, given,
+    isLong ? make("details", { open: true }, make("summary", {}, plural(row.reply.length, "line")), reply) : row.reply.length > 0 && reply,
+    row.told.length > 0 && make("div", { class: row.code ? "told refused" : "told" }, row.told.map((each) => make("div", {}, linked(each)))),
+    row.undone.length > 0 && make("button", { type: "button", class: "small", click: () => redo(row.undone) }, `Redo ${row.undone.length === 1 ? "it" : `these ${row.undone.length}`}`));
+}
+
+function scriptNode(script) {
+  const text = make("pre", {}, script.join("\n"));
+  return script.length > 6 ? make("details", {}, make("summary", {}, plural(script.length, "line")), text) : text;
+}
+
+function commonStart(words) {
+  return words.reduce((start, word) => {
+    let length = 0;
+    while (length < start.length && start[length] === word[length]) length += 1;
+    return start.slice(0, length);
+  });
+}
+
+export class Console {
+  constructor({ send, redo }) {
+    Object.assign(this, { send, redo, input: byId("command"), transcript: byId("transcript"), choices: byId("choices") });
+    this.count = 0;
+    this.history = [];
+    this.place = 0;
+    this.input.addEventListener("keydown", (event) => this.key(event));
+    this.input.addEventListener("input", () => this.changed());
+    byId("line").addEventListener("submit", (event) => {
+      event.preventDefault();
+      this.enter();
+    });
+    read("history").then((lines) => {
+      this.history = [...lines, ...this.history];
+      this.place = this.history.length;
+    }, () => {});
+  }
+
+  // Adds the rows behind those that are there; where there are fewer than before, begins anew.
+  show(state) {
+    if (state.count < this.count) this.clear();
+    const isAtEnd = this.transcript.scrollHeight - this.transcript.scrollTop - this.transcript.clientHeight < 40;
+    this.transcript.append(...state.rows.map((row) => rowNode(row, this.redo)));
+    this.count = state.count;
+    if (isAtEnd || state.rows.length) this.transcript.scrollTop = this.transcript.scrollHeight;
+  }
+
+  clear() {
+    this.transcript.replaceChildren();
+    this.count = 0;
+  }
+
+  changed() {
+    this.choices.hidden = true;
+    this.input.rows = Math.min(12, this.input.value.split("\n").length);
+  }
+
+  put(text) {
+    this.input.value = text;
+    this.changed();
+    this.input.focus();
+  }
+
+  // Gives what was typed; where it is not whole, the server tells what its next lines are.
+  async enter() {
+    const text = this.input.value;
+    if (!text.trim()) return;
+    const more = await this.send(text);
+    if (more === null) return;
+    if (more) {
+      this.input.setRangeText("\n", text.length, text.length, "end");
+      this.changed();
+      this.tell(more);
+      return;
+    }
+    if (this.history.at(-1) !== text) this.history.push(text);
+    this.place = this.history.length;
+    this.put("");
+  }
+
+  tell(text) {
+    this.choices.replaceChildren(text);
+    this.choices.hidden = false;
+  }
+
+  key(event) {
+    if (event.key === "Enter" && !event.shiftKey && !event.isComposing) {
+      event.preventDefault();
+      this.enter();
+    } else if (event.key === "Tab" && !event.shiftKey && this.input.value) {
+      event.preventDefault();
+      this.complete();
+    } else if (event.key === "ArrowUp" && !this.input.value.slice(0, this.input.selectionStart).includes("\n")) {
+      this.recall(event, -1);
+    } else if (event.key === "ArrowDown" && !this.input.value.slice(this.input.selectionEnd).includes("\n")) {
+      this.recall(event, 1);
+    } else if (event.key === "Escape") {
+      event.stopPropagation();
+      if (this.choices.hidden) this.input.blur();
+      this.choices.hidden = true;
+    }
+  }
+
+  recall(event, by) {
+    const place = this.place + by;
+    if (place < 0 || place > this.history.length) return;
+    event.preventDefault();
+    this.place = place;
+    this.put(this.history[place] ?? "");
+  }
+
+  async complete() {
+    const line = this.input.value.slice(0, this.input.selectionStart).split("\n").at(-1);
+    let begin = line.length;
+    while (begin > 0 && !DELIMITER.test(line[begin - 1])) begin -= 1;
+    const text = line.slice(begin), words = await read("words", { before: line.slice(0, begin), text }).catch(() => []);
+    if (!words.length) {
+      this.tell("Nothing goes on so.");
+      return;
+    }
+    const start = words.length === 1 ? words[0] : commonStart(words);
+    this.input.setRangeText(start, this.input.selectionStart - text.length, this.input.selectionStart, "end");
+    this.changed();
+    if (words.length > 1) {
+      this.choices.replaceChildren(...words.slice(0, 60).map((word) => make("button", { type: "button", class: "small", click: () => this.take(start, word) }, word)),
+        words.length > 60 ? ` and ${words.length - 60} more` : "");
+      this.choices.hidden = false;
+    }
+  }
+
+  take(start, word) {
+    const end = this.input.selectionStart;
+    this.input.setRangeText(word, end - start.length, end, "end");
+    this.changed();
+    this.input.focus();
+  }
+}
