@@ -1,4 +1,5 @@
 """Serves the page on the loopback: to whoever has the token in the address, and to no page but this one."""
+import contextlib
 import json
 import secrets
 import threading
@@ -56,7 +57,15 @@ def picture_of(desk, words):
 
 
 def since(words):
-    return int(words["since"]) if words.get("since", "").isdigit() else 0
+    """How many rows of the transcript the page has."""
+    count = str(words.get("since", 0))
+    return int(count) if count.isdigit() else 0
+
+
+def text_of(words):
+    if not isinstance(words["text"], str):
+        raise ValueError(words["text"])
+    return words["text"]
 
 
 def pulse(desk, words):
@@ -69,17 +78,19 @@ def do(desk, words):
     """Does what was typed; tells what more lines it wants where it is not whole."""
     if desk.ended is not None:
         raise Refused("The program has ended.")
-    more = desk.type(words["text"], words.get("whole", True))
+    text = text_of(words)
+    more = desk.type(text, words.get("whole", True))
     if more is None and words.get("kept"):
-        keep(words["text"])
+        keep(text)
     desk.advance()
     return {"more": more}
 
 
 def load(desk, words):
     """Does the commands of a file, in a session of their own."""
+    text = text_of(words)
     desk.clear()
-    desk.type(words["text"])
+    desk.type(text)
     desk.advance()
 
 
@@ -138,6 +149,7 @@ class Handler(BaseHTTPRequestHandler):
             told = {"fault": "The program has ended."}
             status, kind, body = HTTPStatus.CONFLICT, "application/json", json.dumps(told).encode()
         except (KeyError, ValueError):
+            self.close_connection = True
             status, kind, body = HTTPStatus.BAD_REQUEST, "text/plain", b"this is no request of the page"
         self.put(status, kind, body)
 
@@ -145,8 +157,10 @@ class Handler(BaseHTTPRequestHandler):
         self.send_response(status)
         for name, value in {**HEADERS, "Content-Type": f"{kind}; charset=utf-8", "Content-Length": str(len(body))}.items():
             self.send_header(name, value)
-        self.end_headers()
-        self.wfile.write(body)
+        # A page that was left hears nothing.
+        with contextlib.suppress(ConnectionError):
+            self.end_headers()
+            self.wfile.write(body)
 
     def checked(self):
         """What is asked for, and its words; refused are other hosts, other pages, and whoever has not the token."""
@@ -175,15 +189,18 @@ class Handler(BaseHTTPRequestHandler):
 
     def done(self, name, words):
         """Does something. A page has to name its origin, and to say that it sends JSON, which no form of another page can."""
-        length = int(self.headers.get("Content-Length", ""))
         if self.headers.get("Origin") != self.server.origin or self.headers.get("Content-Type") != "application/json":
             raise Forbidden("another page asks this")
+        length = int(self.headers.get("Content-Length", ""))
         if length > MOST_BYTES:
             raise ValueError(length)
-        words = {**words, **json.loads(self.rfile.read(length) or b"{}")}
+        told = json.loads(self.rfile.read(length) or b"{}")
+        if not isinstance(told, dict):
+            raise ValueError(told)
+        words.update(told)
         with self.server.lock:
             told = DONE[name](self.server.desk, words) or {}
-            state = self.server.desk.state(int(words.get("since", 0)))
+            state = self.server.desk.state(since(words))
         return "application/json", json.dumps({**state, **told}).encode()
 
     def log_message(self, *_):

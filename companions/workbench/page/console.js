@@ -37,6 +37,8 @@ export class Console {
     this.count = 0;
     this.history = [];
     this.place = 0;
+    // Where what is being given ends, and what waits behind it.
+    this.ends = [];
     this.input.addEventListener("keydown", (event) => this.key(event));
     this.input.addEventListener("input", () => this.changed());
     byId("line").addEventListener("submit", (event) => {
@@ -74,21 +76,38 @@ export class Console {
     this.input.focus();
   }
 
-  // Gives what was typed; where it is not whole, the server tells what its next lines are.
+  // Gives what was typed up to here, behind what is being given. Whoever types on meanwhile loses nothing.
   async enter() {
-    const text = this.input.value;
-    if (!text.trim()) return;
-    const more = await this.send(text);
-    if (more === null) return;
-    if (more) {
-      this.input.setRangeText("\n", text.length, text.length, "end");
-      this.changed();
-      this.tell(more);
-      return;
+    this.ends.push(this.input.value.length);
+    if (this.ends.length > 1) return;
+    while (this.ends.length) {
+      const end = this.ends[0], text = this.input.value.slice(0, end);
+      const more = text.trim() ? await this.send(text) : "";
+      if (more === null) {
+        this.ends = [];
+      } else if (more) {
+        this.replace(end, end, "\n");
+        this.tell(more);
+      } else {
+        this.replace(0, end, "");
+        this.keep(text);
+      }
     }
-    if (this.history.at(-1) !== text) this.history.push(text);
+  }
+
+  // Puts a text in place of a part of what is typed, and leaves the cursor where it is in the rest.
+  replace(begin, end, text) {
+    const shift = text.length - (end - begin), cursor = this.input.selectionEnd;
+    this.input.setRangeText(text, begin, end);
+    const moved = cursor >= end ? cursor + shift : Math.min(cursor, begin);
+    this.input.setSelectionRange(moved, moved);
+    this.ends = this.ends.slice(1).map((each) => each + shift);
+    this.changed();
+  }
+
+  keep(text) {
+    if (text.trim() && this.history.at(-1) !== text) this.history.push(text);
     this.place = this.history.length;
-    this.put("");
   }
 
   tell(text) {

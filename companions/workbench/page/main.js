@@ -82,6 +82,7 @@ async function take(answer) {
 function show(now) {
   const isOther = now.version !== state.version;
   state = now;
+  document.body.dataset.version = now.version;
   lines.show(now);
   const undone = now.rows.findLast((row) => row.undone.length > 0);
   if (undone) lastUndone = undone.undone;
@@ -125,6 +126,7 @@ async function renew(isForced = false) {
     const data = await read("picture", options).catch(() => null);
     if (data) {
       pictured = data.version;
+      document.body.dataset.pictured = pictured;
       picture.show(data);
       byId("count").textContent = data.events.length ? plural(data.events.length + Object.keys(data.hosts).length, "event") : "";
     }
@@ -144,7 +146,8 @@ function select(name, isSecond) {
 
 // Shows what has a name, or how the second of two events came of the first.
 async function open(names, { isAgain = false } = {}) {
-  isChoosingSecond = false;
+  if (isChoosingSecond && !isAgain) tellState(state);
+  isChoosingSecond &&= isAgain;
   const isWhy = names.length === 2, isEvent = !names[0].includes(".");
   const asked = isWhy ? read("why", { first: names[0], second: names[1] }) : read("told", { name: names[0] });
   const told = isAgain ? await asked.catch(() => null) : await asked.catch((fault) => ({ title: names[0], words: [fault.message], lines: [], notes: [], text: [] }));
@@ -163,6 +166,7 @@ async function open(names, { isAgain = false } = {}) {
 }
 
 function clear() {
+  if (isChoosingSecond) tellState(state);
   chosen = [];
   shown = null;
   isChoosingSecond = false;

@@ -94,7 +94,8 @@ export class Picture {
   }
 
   toEnd() {
-    this.x = -Infinity;
+    this.x = -this.data.width * this.zoom;
+    this.clamp();
     this.request();
   }
 
