@@ -1,4 +1,5 @@
-"""A browser that is driven, for tests: Chromium without a window, its driver, and Selenium, as Debian has them."""
+"""A browser that is driven, for tests: Chromium without a window, its driver, and Selenium, as Debian has them. Run by itself it
+names the packages that are missing."""
 import os
 import shutil
 import sys
@@ -38,6 +39,11 @@ def missing():
     return [name for name, is_there in found.items() if not is_there]
 
 
+def main():
+    """Names the packages that are missing."""
+    print(*missing())
+
+
 def start(folder, width=1440, height=960):
     """A browser that keeps what it saves in a folder."""
     driver = selenium().webdriver
@@ -54,3 +60,7 @@ def start(folder, width=1440, height=960):
     browser = driver.Chrome(service=Service(shutil.which("chromedriver")), options=options)
     browser.set_script_timeout(SECONDS)
     return browser
+
+
+if __name__ == "__main__":
+    main()

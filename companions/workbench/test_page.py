@@ -46,21 +46,21 @@ Promise.all([attempt({{ mode: "no-cors" }}), attempt({{ headers: {{ "Content-Typ
 
 
 def setUpModule():
+    """Starts one browser for all."""
     if MISSING:
-        print(f"test_page: THE PAGE WAS NOT TRIED: {', '.join(MISSING)} not found (.ci/tools installs them)", file=sys.stderr)
+        print(f"test_page: THE PAGE WAS NOT TRIED: {' '.join(MISSING)} not found; .ci/tools installs what is missing", file=sys.stderr)
+        return
+    folder = tempfile.TemporaryDirectory()
+    unittest.addModuleCleanup(folder.cleanup)
+    Page.saved, Page.browser = Path(folder.name), browser.start(folder.name)
+    unittest.addModuleCleanup(Page.browser.quit)
 
 
-@unittest.skipIf(MISSING, f"the page was not tried: {', '.join(MISSING)} not found")
+@unittest.skipIf(MISSING, f"the page was not tried: {' '.join(MISSING)} not found")
 class Page(Served):
-    """A page that is served, and a visitor of it. One browser is for all."""
+    """A page that is served, and a visitor of it."""
 
-    @classmethod
-    def setUpClass(cls):
-        folder = tempfile.TemporaryDirectory()
-        cls.addClassCleanup(folder.cleanup)
-        cls.saved = Path(folder.name)
-        cls.browser = browser.start(cls.saved)
-        cls.addClassCleanup(cls.browser.quit)
+    saved = browser = None
 
     def visit(self, text=""):
         """Comes to the page of a session of these commands."""
