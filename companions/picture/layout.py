@@ -8,7 +8,9 @@ from bisect import bisect_left, insort
 from collections import defaultdict
 from dataclasses import dataclass, field
 
-from .arrows import cause_arrows, message_arrows
+from conversation.journal import Event, maker_of, origins
+
+from .arrows import Arrow, cause_arrows, message_arrows
 
 # Lengths are in pixels; those of texts are in characters, and what one takes is a little more than most fonts need.
 STEP, GAP = 28, 14
@@ -27,8 +29,12 @@ LEAVING = {"message": 22, "cause": 30}
 ARRIVING = {"message": 11, "cause": 4}
 
 ABOVE, BELOW = 0, 1
-IN_UPPER_ROW = {"birth", "ask", "arrive"}
+IN_UPPER_ROW = {"birth", "ask", "arrive", "waits", "flies"}
 FOLDED = {"arrive", "forward", "learn"}
+# The kinds of what is still to come, messages that are not done; how many stand in a lane at most; and how much further from the
+# edge their texts are, which is round.
+WAITING = {"waits", "flies"}
+MOST_WAITING, ROUND = 12, 6
 
 
 def shortened(text, length):
@@ -118,14 +124,15 @@ class Layout:
 
 @dataclass
 class Scene:
-    """What a picture is of: the events of a journal with the vat of each, the vats from above, and what events have to say."""
+    """What a picture is of: the events of a journal with the vat of each, the vats from above, and what events have to say;
+    the turns into which what vats learn is folded; and the messages that are not done, as what is still to come of events."""
 
     events: list
     homes: dict
     lanes: list
     texts: dict = field(default_factory=dict)
-    # The turns into which what vats learn is folded.
     publishers: dict = field(default_factory=dict)
+    waiting: list = field(default_factory=list)
 
 
 def scene_of(session):
@@ -134,7 +141,26 @@ def scene_of(session):
     by_name = {event.name: event for event in events}
     learnt = [event for event in events if event.kind == "learn"]
     publishers = {event.name: session.places.publisher(event, by_name) for event in learnt}
-    return Scene(events, homes, session.places.lanes(homes), session.said(), publishers)
+    waiting = waiting_messages(events, homes, session.world().messages)
+    return Scene(events, homes, session.places.lanes(homes), session.said(), publishers, waiting)
+
+
+def waiting_messages(events, homes, messages):
+    """The messages that wait at a vat or are on their way to one, as events that are still to come; of each vat the first ones.
+    Their vats are noted."""
+    movers, makers = {}, {event.name for event in events}
+    for event in events:
+        if event.is_live and event.kind in ("arrive", "forward"):
+            movers[event.message] = event.name
+    found, counts = [], defaultdict(int)
+    for name, (place, vat) in messages.items():
+        source = movers.get(name, maker_of(name))
+        if place != "done" and source in makers and counts[vat] < MOST_WAITING and vat in homes.values():
+            counts[vat] += 1
+            homes[name] = vat
+            kind = "waits" if place == "at" else "flies"
+            found.append(Event(name, True, kind, (f"{'at' if place == 'at' else 'to'} {vat}",), (source,), name))
+    return found
 
 
 def caption_of(event, texts):
@@ -147,23 +173,41 @@ def box_of(event, scene):
     caption = caption_of(event, scene.texts)
     widths = CHARACTER * len(caption), HEADING_CHARACTER * len(f"{event.name} {event.kind}")
     row = ABOVE if event.kind in IN_UPPER_ROW else BELOW
-    return Box(event, scene.homes[event.name], row, caption, max(LEAST_BOX_WIDTH, *widths) + 2 * PADDING)
+    inset = PADDING + (ROUND if event.kind in WAITING else 0)
+    return Box(event, scene.homes[event.name], row, caption, max(LEAST_BOX_WIDTH, *widths) + 2 * inset)
 
 
 def hosts_of(scene, is_folded):
     """The event in whose box each event is: itself, or the turn into which it is folded. What moved a message is folded into
-    the turn that took it, what a vat learns into the turn that published it; no live event is folded into an undone one."""
+    the turn that took it, or into the message where it is not done, what a vat learns into the turn that published it; no live
+    event is folded into an undone one."""
     lives = {event.name: event.is_live for event in scene.events}
     turns = {}
     for event in scene.events:
         if event.kind == "turn" and not (event.message in turns and lives[turns[event.message]]):
             turns[event.message] = event.name
-    hosts = {}
+    waiting, hosts = {message.name for message in scene.waiting}, {}
     for event in scene.events:
         host = scene.publishers.get(event.name) if event.kind == "learn" else turns.get(event.message)
-        is_within = is_folded and event.kind in FOLDED and host and (lives[host] or not event.is_live)
+        if event.is_live and event.message in waiting:
+            host = event.message
+        is_within = is_folded and event.kind in FOLDED and host and (lives.get(host, True) or not event.is_live)
         hosts[event.name] = host if is_within else event.name
     return hosts
+
+
+def arrows_to_waiting(scene, boxes):
+    """An arrow to each message that is not done, from the event that brought it where it is, or where that is folded into the
+    message from the one before."""
+    sources, found = origins(scene.events), []
+    for message in scene.waiting:
+        folded, (source,) = [], message.causes
+        while source not in boxes and source in sources:
+            folded.append(source)
+            source = sources[source]
+        if source in boxes:
+            found.append(Arrow("message", source, message.name, True, tuple(reversed(folded))))
+    return found
 
 
 def crossed_rows(source, target, order):
@@ -269,11 +313,12 @@ def place_lanes(lanes, boxes, ways):
 def layout(scene, is_folded=True, has_causes=False):
     """The picture of a scene: with arrivals, forwardings and what vats learn folded, or not; with arrows of causes, or not."""
     hosts = hosts_of(scene, is_folded)
-    boxes = {event.name: box_of(event, scene) for event in scene.events if hosts[event.name] == event.name}
+    shown = [event for event in scene.events if hosts[event.name] == event.name] + scene.waiting
+    boxes = {event.name: box_of(event, scene) for event in shown}
     for name, host in hosts.items():
         if name != host:
             boxes[host].folded.append(name)
-    messages = message_arrows(scene.events, boxes)
+    messages = message_arrows(scene.events, boxes) + arrows_to_waiting(scene, boxes)
     place_boxes(boxes, messages, scene.lanes)
     order = {vat: place for place, vat in enumerate(scene.lanes)}
     causes = cause_arrows(scene.events, boxes) if has_causes else []

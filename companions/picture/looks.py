@@ -19,6 +19,8 @@ class Look:
     boxes: dict
 
     def box(self, kind):
+        if kind in ("waits", "flies"):
+            return self.message, self.lane
         return self.boxes.get(kind, self.boxes["move"])
 
 

@@ -4,7 +4,7 @@ import xml.etree.ElementTree as ElementTree
 
 from conversation.journal import cone
 
-from .layout import BOX_HEIGHT, PADDING, layout, shortened
+from .layout import BOX_HEIGHT, PADDING, ROUND, WAITING, layout, shortened
 from .looks import LIGHT
 from .paths import dots, head, number, shaft
 
@@ -69,18 +69,22 @@ class Drawing:
     def draw_frame(self, parent, left, top, width, height, kind, is_live, is_in_cone):
         line, fill = (self.look.cone, self.look.cone_fill) if is_in_cone else self.look.box(kind)
         dashes, thickness = None if is_live else DASHES, 2.4 if is_in_cone else 1.3
-        add(parent, "rect", x=left, y=top, width=width, height=height, rx=7, fill=fill if is_live else self.look.lane,
+        corner = height / 2 if kind in WAITING else 7
+        add(parent, "rect", x=left, y=top, width=width, height=height, rx=corner, fill=fill if is_live else self.look.lane,
             stroke=line, stroke_width=thickness, stroke_dasharray=dashes)
 
     def draw_event(self, parent, box, texts):
         event, is_in_cone = box.event, box.event.name in self.members
-        words = classes("event", event.kind, "live" if event.is_live else "undone", is_in_cone and "cone")
+        # What is still to come is no event.
+        word = "waiting" if event.kind in WAITING else "event"
+        words = classes(word, event.kind, "live" if event.is_live else "undone", is_in_cone and "cone")
         group = add(parent, "g", class_=words, data_event=event.name, data_vat=box.vat)
         learnt = f"folded into it: {' '.join(box.folded)}" if box.folded else None
         entitle(group, "\n".join(part for part in (event.line, texts.get(event.name), learnt) if part))
         self.draw_frame(group, box.left, box.top, box.width, BOX_HEIGHT, event.kind, event.is_live, is_in_cone)
         ink = self.look.ink if event.is_live else self.look.faint
-        left, right = box.left + PADDING, box.right - PADDING
+        inset = PADDING + (ROUND if event.kind in WAITING else 0)
+        left, right = box.left + inset, box.right - inset
         self.write(group, event.name, left, box.top + 16, font_size="12.5", font_weight="bold", fill=ink, class_="name")
         self.write(group, event.kind, right, box.top + 16, font_size="11.5", text_anchor="end", fill=self.look.faint, class_="kind")
         self.write(group, box.caption, left, box.top + 32, font_size="11", font_family=MONO, fill=ink, class_="caption")
@@ -97,8 +101,8 @@ class Drawing:
                    text_anchor="middle", class_="label")
 
     def draw_sample(self, parent, x, y, shape, is_live, is_in_cone):
-        if shape == "box":
-            self.draw_frame(parent, x, y - 8, 28, 16, "turn", is_live, is_in_cone)
+        if shape in ("box", "pill"):
+            self.draw_frame(parent, x, y - 8, 28, 16, "turn" if shape == "box" else "waits", is_live, is_in_cone)
         elif shape == "dot":
             add(parent, "circle", cx=x + 14, cy=y, r=2.6, fill=self.look.boxes["move"][0])
         else:
@@ -125,16 +129,20 @@ def told_of(way):
     if arrow.kind == "cause":
         return f"{arrow.target} came of {arrow.source}"
     way_there = f" by {', '.join(arrow.folded)}" if arrow.folded else ""
+    if way.target.event.kind in WAITING:
+        return f"the message {arrow.target}, which came from {arrow.source}{way_there}, {way.target.event.kind} {way.target.caption}"
     return f"{arrow.target} took {way.target.event.message}, which came from {arrow.source}{way_there}"
 
 
 def legend_items(plan, cone_of):
-    """The words of the legend, each with what its sample shows: a box, a dot or an arrow, whether live, whether in the cone."""
+    """The words of the legend, each with what its sample shows: a box, a pill, a dot or an arrow, whether live, whether in the cone."""
     items = [
         ("event", "box", True, False),
         ("undone event", "box", False, False),
         ("message, to the event that took it", "message", True, False),
     ]
+    if any(box.event.kind in WAITING for box in plan.boxes):
+        items.append(("message that is not done yet", "pill", True, False))
     if any(way.arrow.folded for way in plan.ways):
         items.append(("arrived or went on", "dot", True, False))
     if any(way.arrow.kind == "cause" for way in plan.ways):

@@ -9,7 +9,7 @@ from conversation.commands import lines_of
 from conversation.journal import read_journal
 
 from .arrows import cause_arrows, direct_causes, message_arrows
-from .layout import BOX_HEIGHT, MOST_TRACKS, Scene, layout
+from .layout import BOX_HEIGHT, MOST_TRACKS, MOST_WAITING, Scene, layout, waiting_messages
 from .looks import DARK, LIGHT, LOOKS
 from .svg import picture
 
@@ -145,6 +145,26 @@ class Pictures(unittest.TestCase):
         dots = {group.get("data-to"): len(group.findall("circle")) for group in groups(root, "arrow")}
         self.assertEqual(dots, {"e3": 0, "e5": 1, "e6": 0})
         self.assertTrue(events_by_name(root)["e5"].find("title").text.endswith("folded into it: e4 e7"))
+
+    def test_messages_that_are_not_done(self):
+        lines = SENDS.replace("5 e5 live turn e3.m0 causes e1 e2 e3 e4\n", "").replace(" e5", "").replace("e4 live arrive", "e4 live arrive")
+        events = events_of(lines.replace("6 e6 live forward e3.m1 causes e1 e3\n", ""))
+        scene = Scene(events, dict(HOMES), ["alice", "bob"])
+        scene.waiting = waiting_messages(events, scene.homes, {"e3.m0": ("at", "bob"), "e3.m1": ("flying", "bob"), "e2.m0": ("done", "e9")})
+        root = tree_of(picture(scene, has_causes=False))
+        found = {box.get("data-event"): (text_of(box, "kind"), text_of(box, "caption"), box.get("data-vat")) for box in groups(root, "waiting")}
+        self.assertEqual(found, {"e3.m0": ("waits", "at bob", "bob"), "e3.m1": ("flies", "to bob", "bob")})
+        # The arrival is folded into the message that waits.
+        self.assertNotIn("e4", events_by_name(root))
+        dots = {group.get("data-to"): len(group.findall("circle")) for group in groups(root, "arrow")}
+        self.assertEqual((dots["e3.m0"], dots["e3.m1"]), (1, 0))
+        whole = tree_of(picture(scene, has_causes=False, is_folded=False))
+        self.assertIn(("e4", "e3.m0"), ends(whole, "message"))
+
+    def test_a_lane_has_few_messages_that_wait(self):
+        scene = scene_of(JOURNAL)
+        found = waiting_messages(scene.events, scene.homes, {f"e2.m{number}": ("at", "a") for number in range(100)})
+        self.assertEqual(len(found), MOST_WAITING)
 
     def test_a_dark_picture_has_the_dark_colours(self):
         light, dark = self.drawn(JOURNAL), self.drawn(JOURNAL, look=DARK)

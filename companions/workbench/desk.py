@@ -10,10 +10,11 @@ from conversation.commands import is_command, words_of
 from conversation.completion import completions
 from conversation.helping import help_on, row
 from conversation.journal import undone_cone, with_causes
+from conversation.places import MOST_LOOKED_AT
 from conversation.program import Ended, Stopped
 from conversation.questions import answer_to, way_by_causes, why_in
 from conversation.refusals import in_words
-from conversation.replies import refusal_in
+from conversation.replies import events_in, refusal_in
 from conversation.session import UnknownLabel
 from conversation.telling import births, event_told, message_told, thing_told
 from conversation.typed import NotTyped, Typed, text_in, typed, written
@@ -36,7 +37,7 @@ Commands, one a line:
 SLICE = 0.5
 # How much of a reply is shown, and how many ways a word may go on.
 MOST_LINES = 400
-TAKING_BACK = {"undo", "undo-cone"}
+TAKING_BACK, DOING = {"undo", "undo-cone"}, {"step", "run"}
 
 
 class Refused(Exception):
@@ -145,12 +146,20 @@ class Desk:
         marks = [word for word in refusal.arguments if word[:1] == "e" and word[1:].isdigit()] if refusal else []
         undone = [] if refusal else self.undone
         self.rows.append({"lines": answered.command.lines, "reply": reply, "told": told, "code": refusal and refusal.code,
-                          "marks": marks, "undone": undone})
+                          "marks": marks, "undone": undone, "did": self.done_by(answered)})
         self.label, self.undone = None, []
+
+    def done_by(self, answered):
+        """What the events of a reply were that its command does not name; nothing in a long session, or amid other commands."""
+        made = events_in(answered.reply)[:MOST_LINES]
+        if answered.command.word not in DOING or not made or self.waiting or self.session.places.count > MOST_LOOKED_AT:
+            return {}
+        return {event.name: " ".join((event.kind, *event.arguments)) for event in self.session.events() if event.name in made}
 
     def tell(self, lines, told, is_fault=False):
         """Adds what the workbench itself says."""
-        self.rows.append({"lines": lines, "reply": [], "told": told, "code": "fault" if is_fault else None, "marks": [], "undone": []})
+        self.rows.append({"lines": lines, "reply": [], "told": told, "code": "fault" if is_fault else None, "marks": [], "undone": [],
+                          "did": {}})
 
     def end(self, ended):
         """The program has ended: nothing is asked of it until it is begun again."""
@@ -270,7 +279,10 @@ class Desk:
     def cone(self, name):
         """The events of a cone, or why there is none."""
         self.asking()
-        reply = self.session.ask(f"cone {name}")
+        try:
+            reply = self.session.ask(f"cone {self.session.resolved(name)}")
+        except UnknownLabel as fault:
+            raise Refused(str(fault)) from fault
         refusal = refusal_in(reply)
         return {"events": [] if refusal else reply[0].split()[1:], "told": in_words(refusal) if refusal else None}
 

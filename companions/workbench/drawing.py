@@ -1,11 +1,14 @@
 """The picture as the page gets it: places and paths, as lists without names, since there may be many."""
+from picture.layout import WAITING
 from picture.paths import dots, head, shaft
 from picture.svg import told_of
 
 
 def event_row(box, lanes):
     event = box.event
-    return [event.name, event.position, event.is_live, event.kind, lanes[box.vat], round(box.left, 1), round(box.top, 1),
+    # What is still to come has no place in the journal.
+    position = None if event.kind in WAITING else event.position
+    return [event.name, position, event.is_live, event.kind, lanes[box.vat], round(box.left, 1), round(box.top, 1),
             round(box.width, 1), box.caption, box.folded]
 
 

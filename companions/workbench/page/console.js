@@ -11,7 +11,9 @@ function rowNode(row, redo) {
   const [line = "", ...script] = row.lines;
   const given = line && make("div", { class: "given" }, make("b", {}, "> "), linked(line), script.length > 0 && scriptNode(script));
   const isLong = row.reply.length > LONGEST;
-  const reply = make("div", { class: row.code ? "reply refused" : "reply" }, row.reply.map((each) => make("div", {}, linked(each))));
+  const did = (line) => row.did[/^ok (e\d+)/.exec(line)?.[1]];
+  const reply = make("div", { class: row.code ? "reply refused" : "reply" },
+    row.reply.map((line) => make("div", {}, linked(line), did(line) && make("small", {}, linked(did(line))))));
   return make("div", { class: "row" }, given,
     isLong ? make("details", { open: true }, make("summary", {}, plural(row.reply.length, "line")), reply) : row.reply.length > 0 && reply,
     row.told.length > 0 && make("div", { class: row.code ? "told refused" : "told" }, row.told.map((each) => make("div", {}, linked(each)))),

@@ -50,10 +50,11 @@ export function eventDetails(told, folded, acts) {
   ];
 }
 
-export function thingDetails(told) {
+export function thingDetails(told, enabled, acts) {
   const shown = (told.shown ?? []).map(([vat, line]) => make("li", {}, vat ? make("b", {}, `${vat}: `) : null, linked(line)));
   return [
     make("h2", {}, told.title), paragraphs(told.words), program(told.text ?? []),
+    enabled.length > 0 && make("div", { class: "acts" }, enabled.map((line) => button(`${DOES[line.split(" ")[0]]}: ${line}`, () => acts.run(line)))),
     told.lines.length > 0 && part("What the program says of it", make("pre", { tabindex: 0 }, told.lines.flatMap((line) => [...linked(line), "\n"]))),
     shown.length > 0 && part("Where it stands now", make("ul", {}, shown)), notes(told.notes),
   ];
@@ -86,7 +87,7 @@ export function nextPanel(state, acts) {
     title: `${DOES[line.split(" ")[0]]}${index < 9 ? `. Key: ${index + 1}` : ""}`, click: () => acts.run(line) },
   make("span", {}, line), place && make("small", {}, place));
   const count = make("input", { id: "steps", type: "number", min: 0, max: 1000000, value: acts.steps.count, "aria-label": "How many steps",
-    input: (event) => acts.steps.count = event.target.value });
+    input: (event) => acts.steps.count = event.target.value, keydown: (event) => event.key === "Enter" && acts.run(`run ${count.value || 0}`) });
   return [
     make("h2", {}, "What may be done next", make("small", {}, isIdle ? "" : plural(state.enabled.length, "thing"))),
     make("div", { class: "acts" },

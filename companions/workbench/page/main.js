@@ -4,7 +4,7 @@ import { Console } from "./console.js";
 import { eventDetails, nextPanel, thingDetails, whyDetails } from "./details.js";
 import { askDialog, helpDialog, question, vatDialog } from "./dialogs.js";
 import { byId, linked, make, plural } from "./elements.js";
-import { Picture } from "./picture.js";
+import { Picture, isWaiting } from "./picture.js";
 import { Gone, done, read, saved } from "./server.js";
 
 const PULSE = 2000;
@@ -57,7 +57,7 @@ function notice(text, acts, kind = "fault") {
 async function give(text, words = {}) {
   const undo = /^\s*undo-cone\s+(\S+)\s*$/.exec(text);
   if (undo && !words.isAgreed) {
-    askUndo(undo[1].replace(/^\$(.*)/, "$1"), text);
+    askUndo(undo[1], text, words);
     return "";
   }
   const answer = await heard(done("do", { text, kept: words.kept ?? 0, whole: words.kept ? 0 : 1, since: lines.count }));
@@ -65,8 +65,6 @@ async function give(text, words = {}) {
   if (!answer.more) await take(answer);
   return answer.more ?? "";
 }
-
-const agreed = (text) => give(text, { isAgreed: true });
 
 // Takes what the server says now, and asks on as long as the program is at work.
 async function take(answer) {
@@ -128,7 +126,8 @@ async function renew(isForced = false) {
       pictured = data.version;
       document.body.dataset.pictured = pictured;
       picture.show(data);
-      byId("count").textContent = data.events.length ? plural(data.events.length + Object.keys(data.hosts).length, "event") : "";
+      const count = data.events.filter((row) => !isWaiting(row)).length + Object.keys(data.hosts).length;
+      byId("count").textContent = count ? plural(count, "event") : "";
     }
   }
   if (shown && !state.ended) await open(shown.names, { isAgain: true });
@@ -137,7 +136,7 @@ async function renew(isForced = false) {
 function select(name, isSecond) {
   if (name === null) {
     if (!isChoosingSecond) clear();
-  } else if ((isSecond || isChoosingSecond) && chosen.length && chosen[0] !== name) {
+  } else if ((isSecond || isChoosingSecond) && chosen.length && chosen[0] !== name && !`${chosen[0]}${name}`.includes(".")) {
     open([chosen[0], name]);
   } else {
     open([name]);
@@ -153,10 +152,10 @@ async function open(names, { isAgain = false } = {}) {
   const told = isAgain ? await asked.catch(() => null) : await asked.catch((fault) => ({ title: names[0], words: [fault.message], lines: [], notes: [], text: [] }));
   if (!told) return;
   shown = { names, kind: isWhy ? "why" : "thing" };
-  chosen = isEvent ? names : chosen;
+  if (isEvent || picture.rows.has(names[0])) chosen = names;
   picture.choose(chosen);
   const details = byId("details");
-  const nodes = isWhy ? whyDetails(names[0], names[1], told, acts) : told.line ? eventDetails(told, picture.rows.get(names[0])?.row[9] ?? [], acts) : thingDetails(told);
+  const nodes = isWhy ? whyDetails(names[0], names[1], told, acts) : told.line ? eventDetails(told, picture.rows.get(names[0])?.row[9] ?? [], acts) : thingDetails(told, state.enabled.map(([line]) => line).filter((line) => line.split(" ").includes(names[0])), acts);
   details.replaceChildren(...nodes.flat(Infinity).filter(Boolean));
   if (isWhy) picture.overlay(told.steps.map(([source, target, cell]) => [source, target, cell]), told.kind === "crossed" ? "refusal" : "why");
   if (isAgain) return;
@@ -185,7 +184,7 @@ function introduction() {
 
 async function hover(name) {
   if (confirming) return;
-  if (name === null || state.ended) return picture.light([]);
+  if (name === null || name.includes(".") || state.ended) return picture.light([]);
   const answer = await read("cone", { name }).catch(() => null);
   if (!confirming) picture.light(answer?.events ?? []);
 }
@@ -213,14 +212,15 @@ function leave() {
   byId("picture").focus();
 }
 
-async function askUndo(name, line = `undo-cone ${name}`) {
+async function askUndo(name, line = `undo-cone ${name}`, words = {}) {
+  const agreed = () => give(line, { ...words, isAgreed: true });
   const answer = await heard(read("cone", { name }));
   if (!answer) return;
   const names = answer.events;
-  if (!names.length) return agreed(line);
+  if (!names.length) return agreed();
   const some = names.length > 24 ? `${names.slice(0, 24).join(" ")} and ${names.length - 24} more` : names.join(" ");
   confirm(names.length === 1 ? `This takes back ${name} alone: nothing came of it.` : `This takes back ${names.length} events, ${name} and what came of it: ${some}.`,
-    names.length === 1 ? "Undo it" : `Undo these ${names.length}`, () => agreed(line), names);
+    names.length === 1 ? "Undo it" : `Undo these ${names.length}`, agreed, names);
 }
 
 async function redo(name, how) {
@@ -235,7 +235,7 @@ const acts = {
   undo: (name) => askUndo(name),
   exchange: (position) => give(`exchange ${position}`),
   settle: (name, position) => confirm(`This settles all events up to ${name}: they can no longer be taken back, redone or moved.`, "Settle them", () => give(`settle ${position}`),
-    picture.data.events.filter((row) => row[1] <= position).map((row) => row[0])),
+    picture.data.events.filter((row) => !isWaiting(row) && row[1] <= position).map((row) => row[0])),
   startWhy: (name) => {
     chosen = [name];
     isChoosingSecond = true;
@@ -302,7 +302,7 @@ function key(event) {
   const isOnButton = event.target.closest("button, summary, label");
   const row = picture.rows.get(picture.current)?.row;
   const act = event.key === "Escape" ? (confirming ? leave : clear)
-    : (!isOnButton && document.activeElement === byId("picture") && IN_PICTURE[event.key]) || (row && OF_AN_EVENT[event.key] && (() => OF_AN_EVENT[event.key](row))) ||
+    : (!isOnButton && document.activeElement === byId("picture") && IN_PICTURE[event.key]) || (row && !isWaiting(row) && OF_AN_EVENT[event.key] && (() => OF_AN_EVENT[event.key](row))) ||
       ANYWHERE[event.key] || (/^[1-9]$/.test(event.key) && state.enabled[event.key - 1] && (() => give(state.enabled[event.key - 1][0])));
   if (act) {
     event.preventDefault();

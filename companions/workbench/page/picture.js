@@ -11,6 +11,9 @@ const SLOW = 140;
 const [NAME, POSITION, LIVE, KIND, LANE, LEFT, TOP, WIDTH, CAPTION, FOLDED] = Array(10).keys();
 const [SORT, SOURCE, TARGET, ARROW_LIVE, FROM, TO, PATH, HEAD, DOTS, TOLD] = Array(10).keys();
 
+// A message that is not done has no place in the journal.
+export const isWaiting = (row) => row[POSITION] === null;
+
 const EMPTY = { width: 0, height: 0, lanes: [], events: [], arrows: [], hosts: {} };
 
 function clamped(value, least, most) {
@@ -208,14 +211,14 @@ export class Picture {
   }
 
   eventNode(row) {
-    const width = row[WIDTH], learnt = row[FOLDED].length;
+    const width = row[WIDTH], learnt = row[FOLDED].length, inset = isWaiting(row) ? 15 : 9;
     const node = draw("g", { id: `event-${row[NAME]}`, "data-event": row[NAME], role: "img", transform: `translate(${row[LEFT]} ${row[TOP]})`,
       "aria-label": `${row[NAME]}, ${row[KIND]} of ${this.data.lanes[row[LANE]][0]}, ${row[LIVE] ? "live" : "undone"}, ${row[CAPTION]}` },
-    draw("rect", { class: "ring", x: -4, y: -4, width: width + 8, height: BOX + 8, rx: 10 }),
-    draw("rect", { class: "box", width, height: BOX, rx: 7 }),
-    draw("text", { class: "title", x: 9, y: 16 }, row[NAME]),
-    draw("text", { class: "kind", x: width - 9, y: 16 }, row[KIND]),
-    draw("text", { class: "caption", x: 9, y: 32 }, row[CAPTION]));
+    draw("rect", { class: "ring", x: -4, y: -4, width: width + 8, height: BOX + 8, rx: isWaiting(row) ? 24 : 10 }),
+    draw("rect", { class: "box", width, height: BOX, rx: isWaiting(row) ? 20 : 7 }),
+    draw("text", { class: "title", x: inset, y: 16 }, row[NAME]),
+    draw("text", { class: "kind", x: width - inset, y: 16 }, row[KIND]),
+    draw("text", { class: "caption", x: inset, y: 32 }, row[CAPTION]));
     if (learnt) node.append(draw("g", { class: "folded", transform: `translate(${width} ${BOX})` }, draw("circle", { r: 8 }), draw("text", { y: 3.5 }, learnt)));
     node.append(draw("title", {}, learnt ? `Folded into it: ${row[FOLDED].join(" ")}` : `${row[NAME]} ${row[KIND]}`));
     this.decorate(node, row);
@@ -224,7 +227,7 @@ export class Picture {
 
   decorate(node, row) {
     const name = row[NAME], all = [name, ...row[FOLDED]];
-    const words = ["event", row[KIND], row[LIVE] ? "live" : "undone"];
+    const words = [isWaiting(row) ? "waiting" : "event", row[KIND], row[LIVE] ? "live" : "undone"];
     if (all.some((each) => this.cone.has(each))) words.push("cone");
     if (all.some((each) => this.marked.has(each))) words.push("marked");
     if (this.chosen.some((each) => all.includes(each))) words.push("chosen");
@@ -293,9 +296,22 @@ export class Picture {
     const reach = isBeside ? Math.max(24, (u - x) / 2) : Math.max(20, Math.abs(v - y) / 2), down = isBelow ? reach : -reach;
     const path = isBeside ? `M ${x} ${y} C ${x + reach} ${y} ${u - reach} ${v} ${u} ${v}` : `M ${x} ${y} C ${x} ${y + down} ${u} ${v - down} ${u} ${v}`;
     const label = kind === "refusal" ? text : `${place + 1}${text ? ` · ${text}` : ""}`, width = label.length * 6.7 + 14;
+    const ends = isBeside ? [[x, y], [x + reach, y], [u - reach, v], [u, v]] : [[x, y], [x, y + down], [u, v - down], [u, v]];
+    const [across, along] = this.freePlace(ends, width);
     return draw("g", { class: `step ${kind}`, "data-step": place }, draw("path", { d: path, "marker-end": "url(#tip)" }),
-      draw("g", { transform: `translate(${(x + u) / 2} ${(y + v) / 2})` }, draw("rect", { x: -width / 2, y: -10, width, height: 20, rx: 10 }),
+      draw("g", { transform: `translate(${across} ${along})` }, draw("rect", { x: -width / 2, y: -10, width, height: 20, rx: 10 }),
         draw("text", { y: 4 }, label)));
+  }
+
+  // A place on a curve where a label hides no event, as near to its middle as there is one.
+  freePlace(ends, width) {
+    const at = (part) => [0, 1].map((axis) => {
+      const [a, b, c, d] = ends.map((end) => end[axis]), rest = 1 - part;
+      return rest ** 3 * a + 3 * rest ** 2 * part * b + 3 * rest * part ** 2 * c + part ** 3 * d;
+    });
+    const places = [0.5, 0.42, 0.58, 0.34, 0.66, 0.26, 0.74, 0.18, 0.82].map(at);
+    const isFree = ([x, y]) => !this.eventsBetween(x - width / 2, x + width / 2).some((row) => row[LEFT] + row[WIDTH] > x - width / 2 && row[TOP] < y + 12 && row[TOP] + BOX > y - 12);
+    return places.find(isFree) ?? places[0];
   }
 
   // Brings an event into view.
