@@ -20,9 +20,9 @@ LONGEST_CAPTION = 18
 CHARACTER, HEADING_CHARACTER = 6.7, 7.4
 PADDING = 9
 TRACK, MOST_TRACKS = 9, 8
-TRACK_MARGIN = 15
-LEAST_BETWEEN, LEAST_OUTSIDE = 24, 14
-LANE_GAP = 10
+TRACK_MARGIN = 14
+LEAST_BETWEEN, LEAST_OUTSIDE = 22, 11
+LANE_GAP = 9
 
 # How far from its left edge the arrows of a kind leave a box, and arrive at one.
 LEAVING = {"message": 22, "cause": 30}

@@ -113,6 +113,33 @@ class Sessions(Page):
         visitor.element("#details [data-name='e6.m1']").click()
         visitor.reads("#details", "message e6.m1", "e6 made it.", "e14 took it.")
 
+    def test_a_message_that_waits_is_in_the_picture(self):
+        visitor = self.visit(THREE.replace("run 100", "run 3"))
+        waiting = "return [...document.querySelectorAll('#picture .waiting')].map((node) => [node.dataset.event, node.querySelector('.caption').textContent])"
+        self.assertEqual(visitor.run(waiting), [["e5.m0", "to bank"], ["e6.m0", "to ann"], ["e6.m1", "to ann"]])
+        visitor.clicks("e5.m0")
+        visitor.reads("#details", "message e5.m0", "It is on its way to bank.")
+        visitor.presses("Let it arrive: arrive e5.m0")
+        visitor.reads("#transcript", "arrive e5.m0", "ok e7")
+        visitor.waits()
+        self.assertIn(["e5.m0", "at bank"], visitor.run(waiting))
+        visitor.presses("Have its turn: turn e5.m0")
+        visitor.reads("#transcript", "ok e8 value <e8.o0>")
+
+    def test_what_is_refused_can_be_mended_in_its_window(self):
+        visitor = self.visit("vat a () 0\nstep")
+        visitor.presses("Ask a vat…")
+        visitor.element("#ask-program").send_keys("[1, 2")
+        visitor.presses("Ask")
+        visitor.reads("#ask .refusal", "What stands at byte 5 cannot follow")
+        visitor.element("#ask-program").send_keys("]")
+        visitor.presses("Ask")
+        visitor.reads("#transcript", "ask a [1, 2]", "ok e3 e3.m0")
+
+    def test_a_turn_that_ended_with_a_problem_is_marked(self):
+        visitor = self.visit('vat a () 1\nthrow("no")\nstep\nask a 1\nstep')
+        self.assertEqual([name for name, words in visitor.events().items() if "fault" in words], ["e2"])
+
     def test_a_cone_is_undone_and_redone(self):
         visitor = self.visit(THREE)
         visitor.clicks("e8")
@@ -219,7 +246,7 @@ class Lines(Page):
     def test_all_of_it_by_keys(self):
         visitor = self.visit("vat a () 1\nvar n := 1")
         visitor.key("n")
-        visitor.reads("#transcript", "ok e2 value 1")
+        visitor.reads("#transcript", "ok e2 value 1", "turn e1.m0")
         visitor.waits()
         visitor.key("a")
         visitor.element("#ask-program").send_keys("n := 2", visitor.keys.CONTROL + visitor.keys.ENTER)

@@ -183,6 +183,12 @@ class Sessions(Served):
         self.assertEqual(state["enabled"][0], ["arrive e5.m0", "bank"])
         self.assertIn(["learn ann e1.p0", ""], state["enabled"])
 
+    def test_replies_say_what_their_events_were(self):
+        rows = self.do(THREE.replace("run 100", "run 3\nrun 100\nstep"))["rows"]
+        self.assertEqual([row["did"] for row in rows[-3:-1]], [{}, {}])
+        row = self.do("undo-cone e9\nrun 1")["rows"][-1]
+        self.assertEqual(row["did"], {"e21": "arrive e6.m0"})
+
     def test_rows_are_told_once(self):
         self.do("vat a () 0\nstep")
         self.assertEqual([row["reply"] for row in self.read("state", since=1)["rows"]], [["ok e2 value null"]])

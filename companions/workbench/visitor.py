@@ -73,7 +73,7 @@ class Visitor:
         return dict(sorted(self.run(script), key=lambda each: int(each[0][1:])))
 
     def box(self, name):
-        return self.element(f"[data-event={name}] .box")
+        return self.element(f"[data-event='{name}'] .box")
 
     def clicks(self, name):
         self.box(name).click()

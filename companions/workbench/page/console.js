@@ -16,7 +16,7 @@ function rowNode(row, redo) {
     row.reply.map((line) => make("div", {}, linked(line), did(line) && make("small", {}, linked(did(line))))));
   return make("div", { class: "row" }, given,
     isLong ? make("details", { open: true }, make("summary", {}, plural(row.reply.length, "line")), reply) : row.reply.length > 0 && reply,
-    row.told.length > 0 && make("div", { class: row.code ? "told refused" : "told" }, row.told.map((each) => make("div", {}, linked(each)))),
+    row.told.length > 0 && make("div", { class: row.code ? "told refused" : "told" }, row.told.map((each) => make("div", { class: each.startsWith("  ") ? "exact" : null }, linked(each)))),
     row.undone.length > 0 && make("button", { type: "button", class: "small", click: () => redo(row.undone) }, `Redo ${row.undone.length === 1 ? "it" : `these ${row.undone.length}`}`));
 }
 

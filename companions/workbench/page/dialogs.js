@@ -24,32 +24,43 @@ function programField(id, rows, form) {
   } });
 }
 
-export function vatDialog(vats, send) {
+// What was told where the program refused what the window had.
+const refusal = (told) => told && make("div", { class: "refusal", role: "alert" }, told.map((line) => make("div", {}, line.replaceAll("`", ""))));
+
+// A window for a new vat; where the program refuses it, it is there again with what was typed.
+export function vatDialog(vats, send, was = { name: "", known: [], script: "" }) {
   let form = null;
-  const name = make("input", { id: "vat-name", required: true, maxlength: 64, pattern: NAME.source, autocomplete: "off", spellcheck: "false" });
-  const earlier = vats.map((vat) => make("label", {}, make("input", { type: "checkbox", value: vat }), vat));
+  const name = make("input", { id: "vat-name", required: true, maxlength: 64, pattern: NAME.source, autocomplete: "off", spellcheck: "false", value: was.name });
+  const earlier = vats.map((vat) => make("label", {}, make("input", { type: "checkbox", value: vat, checked: was.known.includes(vat) }), vat));
   const script = programField("vat-script", 12, () => form);
-  const opened = openDialog("vat", "A new vat", make("label", { class: "field" }, "Its name", name),
+  script.value = was.script;
+  const opened = openDialog("vat", "A new vat", refusal(was.told), make("label", { class: "field" }, "Its name", name),
     vats.length > 0 && make("fieldset", {}, make("legend", {}, "Vats that its script knows, by their names"), earlier),
     make("label", { class: "field" }, "Its script", script), make("p", { class: "note" }, "The script runs in the vat's first turn. What its last line gives is what others get of the vat."),
     make("div", { class: "acts" }, make("button", { class: "main" }, "Make it"), cancel("vat")));
   form = opened.form;
-  form.addEventListener("submit", () => {
+  form.addEventListener("submit", async () => {
     const known = [...form.querySelectorAll("input:checked")].map((box) => box.value);
     const lines = script.value === "" ? [] : script.value.replace(/\n$/, "").split("\n");
-    send([`vat ${name.value} (${known.join(" ")}) ${lines.length}`, ...lines].join("\n"));
+    const told = await send([`vat ${name.value} (${known.join(" ")}) ${lines.length}`, ...lines].join("\n"));
+    if (told) vatDialog(vats, send, { name: name.value, known, script: script.value, told });
   });
 }
 
-export function askDialog(vats, chosen, send) {
+// A window to ask a vat; where the program refuses it, it is there again with what was typed.
+export function askDialog(vats, chosen, send, was = { program: "" }) {
   let form = null;
   const vat = make("select", { id: "ask-vat" }, vats.map((each) => make("option", { value: each, selected: each === chosen }, each)));
   const program = programField("ask-program", 5, () => form);
-  const opened = openDialog("ask", "Ask a vat", make("label", { class: "field" }, "The vat", vat), make("label", { class: "field" }, "A program for it", program),
+  program.value = was.program;
+  const opened = openDialog("ask", "Ask a vat", refusal(was.told), make("label", { class: "field" }, "The vat", vat), make("label", { class: "field" }, "A program for it", program),
     make("p", { class: "note" }, "It waits as a message, and has a turn of its own."),
     make("div", { class: "acts" }, make("button", { class: "main" }, "Ask"), cancel("ask")));
   form = opened.form;
-  form.addEventListener("submit", () => send(`ask ${vat.value} ${program.value}\n`));
+  form.addEventListener("submit", async () => {
+    const told = await send(`ask ${vat.value} ${program.value}\n`);
+    if (told) askDialog(vats, vat.value, send, { program: program.value, told });
+  });
   program.focus();
 }
 

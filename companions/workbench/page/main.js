@@ -27,7 +27,7 @@ vat bob (ann) 1
 `;
 
 let state = { version: -1, count: 0, rows: [], enabled: [], vats: [], ended: null, busy: null, waiting: 0, asked: 0, commands: 0, about: {} };
-let chosen = [], shown = null, isChoosingSecond = false, lastUndone = [], confirming = null, pictured = -1, isGone = false;
+let lastRow = null, chosen = [], shown = null, isChoosingSecond = false, lastUndone = [], confirming = null, pictured = -1, isGone = false;
 const steps = { count: 10 };
 
 const picture = new Picture(byId("picture"), byId("rail"), { select, hover });
@@ -82,6 +82,7 @@ function show(now) {
   state = now;
   document.body.dataset.version = now.version;
   lines.show(now);
+  lastRow = now.rows.at(-1) ?? lastRow;
   const undone = now.rows.findLast((row) => row.undone.length > 0);
   if (undone) lastUndone = undone.undone;
   byId("standing").textContent = STANDINGS[now.about.standing] ?? "";
@@ -242,9 +243,15 @@ const acts = {
     notice(`Why? Choose a second event: click it, or go to it with the arrow keys and press Enter.`, [make("button", { type: "button", click: clear }, "Leave it")], "busy");
     byId("picture").focus();
   },
-  vat: () => vatDialog(state.vats, give),
-  ask: () => state.vats.length && askDialog(state.vats, vatOfChosen(), give),
+  vat: () => vatDialog(state.vats, attempt),
+  ask: () => state.vats.length && askDialog(state.vats, vatOfChosen() ?? state.vats.at(-1), attempt),
 };
+
+// Gives what a window has; answers what is told of it where it was refused.
+async function attempt(text) {
+  await give(text);
+  return lastRow?.code ? lastRow.told : null;
+}
 
 function vatOfChosen() {
   const row = picture.rows.get(picture.host(chosen.at(-1)))?.row;
@@ -280,7 +287,7 @@ function theme() {
 
 const ANYWHERE = {
   "/": () => byId("command").focus(), p: () => byId("picture").focus(), n: () => give("step"), g: () => give("run 1000000"), v: acts.vat, a: acts.ask,
-  f: () => picture.fit(), "+": () => picture.zoomAt(1.25), "=": () => picture.zoomAt(1.25), "-": () => picture.zoomAt(0.8),
+  f: () => picture.fit(true), "+": () => picture.zoomAt(1.25), "=": () => picture.zoomAt(1.25), "-": () => picture.zoomAt(0.8),
   l: () => byId("all").click(), c: () => byId("causes").click(), "?": helpDialog,
   z: () => lastUndone.length && give(`redo ${lastUndone.join(" ")}`),
 };
@@ -327,7 +334,7 @@ function listen() {
   click("help", helpDialog);
   click("in", () => picture.zoomAt(1.25));
   click("out", () => picture.zoomAt(0.8));
-  click("fit", () => picture.fit());
+  click("fit", () => picture.fit(true));
   click("end", () => picture.toEnd());
   for (const id of ["all", "causes"]) byId(id).addEventListener("change", () => renew(true));
   document.addEventListener("click", (event) => {

@@ -2,7 +2,8 @@
 
 import { draw } from "./elements.js";
 
-const LEAST = 0.1, MOST = 2.5, LEGIBLE = 0.42;
+// How small and how large the picture gets; below what no text is drawn, from what on it is read well, and how large it gets by itself.
+const LEAST = 0.1, MOST = 2.5, LEGIBLE = 0.42, READABLE = 0.75, LARGEST = 1.15;
 const LABEL = 96, MARGIN = 24, BOX = 40;
 // How many arrows that only pass through are drawn at most.
 const MOST_PASSING = 300;
@@ -10,6 +11,9 @@ const SLOW = 140;
 
 const [NAME, POSITION, LIVE, KIND, LANE, LEFT, TOP, WIDTH, CAPTION, FOLDED] = Array(10).keys();
 const [SORT, SOURCE, TARGET, ARROW_LIVE, FROM, TO, PATH, HEAD, DOTS, TOLD] = Array(10).keys();
+
+// What a turn says that ended with a problem, or was abandoned.
+const FAULT = /^(problem|abandoned) /;
 
 // A message that is not done has no place in the journal.
 export const isWaiting = (row) => row[POSITION] === null;
@@ -42,7 +46,7 @@ export class Picture {
     this.labels = draw("g", { class: "labels" });
     svg.append(this.scene, this.labels);
     this.listen();
-    new ResizeObserver(() => (this.isFitted ? this.fit() : this.request())).observe(svg);
+    new ResizeObserver(() => (this.isFitted ? this.fit(this.isWhole) : this.request())).observe(svg);
   }
 
   // What the server laid out, in place of what was there. As long as nobody chose how large it is, it fits; where the latest
@@ -59,9 +63,9 @@ export class Picture {
     this.layers.arrows.replaceChildren();
     this.drawLanes();
     this.overlay(this.steps, this.stepKind);
-    if (this.isFitted) this.fit();
+    if (this.isFitted) this.fit(this.isWhole);
     else if (atEnd) this.toEnd();
-    else this.request();
+    this.draw();
   }
 
   drawLanes() {
@@ -88,22 +92,21 @@ export class Picture {
     return this.x + this.data.width * this.zoom <= this.size.width - LABEL + MARGIN;
   }
 
-  fit() {
-    this.isFitted = true;
+  // Makes all of it fit in, however small; without that, as much of it as can be read, with the latest events in view.
+  fit(isWhole = false) {
+    Object.assign(this, { isFitted: true, isWhole });
     const { width, height } = this.size;
-    const wanted = Math.min((width - LABEL - 4 * MARGIN) / this.data.width, (height - 2 * MARGIN) / this.data.height, 1.15);
-    this.zoom = clamped(wanted || 1, Math.max(LEAST, Math.min(0.5, (height - 2 * MARGIN) / this.data.height || 1)), MOST);
+    const across = (width - LABEL - 4 * MARGIN) / (this.data.width || 1), along = (height - 2 * MARGIN) / (this.data.height || 1);
+    const wanted = Math.min(across, along, LARGEST);
+    this.zoom = clamped(wanted, isWhole ? LEAST : READABLE, MOST);
     this.toEnd();
   }
 
   toEnd() {
+    const last = this.data.events.at(-1);
     this.x = -this.data.width * this.zoom;
     this.clamp();
-    this.request();
-  }
-
-  toBegin() {
-    this.x = MARGIN;
+    if (last) this.reveal(last[NAME]);
     this.request();
   }
 
@@ -228,6 +231,7 @@ export class Picture {
   decorate(node, row) {
     const name = row[NAME], all = [name, ...row[FOLDED]];
     const words = [isWaiting(row) ? "waiting" : "event", row[KIND], row[LIVE] ? "live" : "undone"];
+    if (FAULT.test(row[CAPTION]) && row[KIND] === "turn") words.push("fault");
     if (all.some((each) => this.cone.has(each))) words.push("cone");
     if (all.some((each) => this.marked.has(each))) words.push("marked");
     if (this.chosen.some((each) => all.includes(each))) words.push("chosen");
