@@ -74,7 +74,7 @@ class Runs(unittest.TestCase):
     def test_captions_behind_a_run(self):
         svg, _ = drawn(STAND_IN, HANDOVER.read_bytes())
         boxes = events_by_name(tree_of(svg))
-        self.assertEqual([text_of(boxes[name], "caption") for name in ("e13", "e14")], ['value ["put", "fr…', 'value ["put", "fr…'])
+        self.assertEqual([text_of(boxes[name], "caption") for name in ("e8", "e13")], ["value <e8.p0>", 'value ["put", "fr…'])
         self.assertLess(float(tree_of(svg).get("width")), 1200)
 
     def test_refused_commands_are_counted_and_the_rest_is_drawn(self):

@@ -538,7 +538,8 @@ class Homes(Watched):
         events, _ = session.look()
         by_name = {event.name: event for event in events}
         found = {event.arguments: session.places.publisher(event, by_name) for event in events if event.kind == "learn"}
-        wanted = {("ann", "e1.p0"): "e4", ("ann", "e5.p0"): "e8", ("bob", "e2.p0"): "e5", ("bob", "e6.p0"): "e10", ("bob", "e6.p1"): "e14"}
+        wanted = {("ann", "e1.p0"): "e4", ("ann", "e5.p0"): "e8", ("bob", "e2.p0"): "e5", ("bob", "e6.p0"): "e10"}
+        wanted["bob", "e6.p1"] = "e14"
         self.assertEqual({each: found[each] for each in wanted}, wanted)
 
     def test_ends_of_turns_that_no_reply_told(self):
@@ -589,7 +590,8 @@ class Questions(Watched):
         vats = {"e1": "carol"}
         words = {
             "noun e1 n": "the name n in carol", "slot e3.s0": "the variable e3.s0", "object e2.o0": "the object e2.o0",
-            "view e1 e2.p0": "what carol knows of e2.p0", "msg e1.m0": "the message e1.m0", "board e1.p0": "what e1.p0 was published as",
+            "view e1 e2.p0": "what carol knows of e2.p0", "msg e1.m0": "the message e1.m0",
+            "board e1.p0": "what e1.p0 was published as",
             "fence e1 e2.o0": "what comes before the next message on e2.o0 from carol", "vat ann": "the name ann of a vat",
             "view e9 e2.p0": "what e9 knows of e2.p0", "other x": "other x", "noun": "noun",
         }
@@ -600,7 +602,8 @@ class Questions(Watched):
 
     def test_an_event_in_words(self):
         told = self.told(self.asked, "e14")
-        self.assertEqual(told["words"], ["The vat carol took the message e10.m0 and ran it to its end.", "e10 made that message.", "It ended with the value 2."])
+        took = "The vat carol took the message e10.m0 and ran it to its end."
+        self.assertEqual(told["words"], [took, "e10 made that message.", "It ended with the value 2."])
         self.assertIn((True, "the message e10.m0", "msg e10.m0", "e11"), told["cells"])
         self.assertEqual((told["message"]["lines"][2], told["notes"]), (" sent <e1.p0> <- w()", []))
         self.assertEqual(told["log"], ["took the message e10.m0", "resolved the promise e10.p0"])
@@ -617,7 +620,8 @@ class Questions(Watched):
     def test_a_message_in_words(self):
         told = message_told(self.asked, "e8.m0")
         self.assertEqual((told["words"], told["lines"][1:]), (["e8 made it.", "e13 took it."], [" after", " sent <e1.p0> <- x()"]))
-        self.assertEqual(message_told(self.plain, "e8.m0")["notes"], ["This program cannot tell more: it does not know the command `message`."])
+        cannot = "This program cannot tell more: it does not know the command `message`."
+        self.assertEqual(message_told(self.plain, "e8.m0")["notes"], [cannot])
         self.assertEqual(message_told(self.plain, "e7.m0")["text"], ["carol <- x(); bob <- y(carol)"])
         self.assertEqual(message_told(self.plain, "e9.m0")["words"], ["e9 made it.", "It is not in the world now."])
 

@@ -86,7 +86,8 @@ class Drawing:
         inset = PADDING + (ROUND if event.kind in WAITING else 0)
         left, right = box.left + inset, box.right - inset
         self.write(group, event.name, left, box.top + 16, font_size="12.5", font_weight="bold", fill=ink, class_="name")
-        self.write(group, event.kind, right, box.top + 16, font_size="11.5", text_anchor="end", fill=self.look.faint, class_="kind")
+        self.write(group, event.kind, right, box.top + 16, font_size="11.5", text_anchor="end", fill=self.look.faint,
+                   class_="kind")
         self.write(group, box.caption, left, box.top + 32, font_size="11", font_family=MONO, fill=ink, class_="caption")
 
     def draw_lane(self, parent, lane, label_width, right):
@@ -129,13 +130,16 @@ def told_of(way):
     if arrow.kind == "cause":
         return f"{arrow.target} came of {arrow.source}"
     way_there = f" by {', '.join(arrow.folded)}" if arrow.folded else ""
-    if way.target.event.kind in WAITING:
-        return f"the message {arrow.target}, which came from {arrow.source}{way_there}, {way.target.event.kind} {way.target.caption}"
-    return f"{arrow.target} took {way.target.event.message}, which came from {arrow.source}{way_there}"
+    came = f"which came from {arrow.source}{way_there}"
+    target = way.target.event
+    if target.kind in WAITING:
+        return f"the message {target.name}, {came}, {target.kind} {way.target.caption}"
+    return f"{target.name} took {target.message}, {came}"
 
 
 def legend_items(plan, cone_of):
-    """The words of the legend, each with what its sample shows: a box, a pill, a dot or an arrow, whether live, whether in the cone."""
+    """The words of the legend, each with what its sample shows: a box, a pill, a dot or an arrow; whether it is live, and in the
+    cone."""
     items = [
         ("event", "box", True, False),
         ("undone event", "box", False, False),

@@ -40,6 +40,9 @@ MOST_LINES = 400
 TAKING_BACK, DOING = {"undo", "undo-cone"}, {"step", "run"}
 
 
+BY_CAUSES = "This program does not know the command `why`: the steps are causes of the journal, without cells."
+
+
 class Refused(Exception):
     """Why a request has no answer, in words."""
 
@@ -158,8 +161,8 @@ class Desk:
 
     def tell(self, lines, told, is_fault=False):
         """Adds what the workbench itself says."""
-        self.rows.append({"lines": lines, "reply": [], "told": told, "code": "fault" if is_fault else None, "marks": [], "undone": [],
-                          "did": {}})
+        code = "fault" if is_fault else None
+        self.rows.append({"lines": lines, "reply": [], "told": told, "code": code, "marks": [], "undone": [], "did": {}})
 
     def end(self, ended):
         """The program has ended: nothing is asked of it until it is begun again."""
@@ -298,7 +301,7 @@ class Desk:
         reply, refusal = answer_to(self.session, f"why {first} {second}")
         if refusal:
             return {"kind": "refused", "steps": [], "told": in_words(refusal)}
-        told = None if reply else "This program does not know the command `why`: the steps are causes of the journal, without cells."
+        told = None if reply else BY_CAUSES
         found = why_in(reply) if reply else way_by_causes(self.seen()[1].events, first, second)
         names = births(self.session)
         steps = [(each.source, each.target, str(each.cell or ""), each.cell.in_words(names) if each.cell else "")

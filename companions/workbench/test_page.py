@@ -18,7 +18,6 @@ from .test_workbench import COMPANIONS, PROGRAM, RECORDED, SECONDS, THREE, Serve
 from .visitor import Visitor
 
 MANY = str(Path(__file__).with_name("many"))
-MISSING = browser.missing()
 FRAMES = 120
 # Pans the picture in each frame, and gives how many frames there were, and how many events were drawn at most.
 PANS = """
@@ -36,27 +35,29 @@ function frame() {
 requestAnimationFrame(frame);
 """
 # What another page can try.
-FOREIGN = """<!doctype html><title>another</title><form method="post" action="{address}do"><input name="text" value="vat evil () 0"></form>
+FOREIGN = """<!doctype html><title>another</title>
+<form method="post" action="ADDRESSdo"><input name="text" value="vat evil () 0"></form>
 <script>
-const tried = [];
-const attempt = (words) => fetch("{address}do", {{ method: "POST", body: '{{"text": "vat evil () 0"}}', ...words }}).then(() => tried.push("answered"), () => tried.push("refused"));
-Promise.all([attempt({{ mode: "no-cors" }}), attempt({{ headers: {{ "Content-Type": "application/json" }} }}), fetch("{address}state").then(() => tried.push("read"), () => tried.push("refused"))])
-  .then(() => document.title = tried.join(" "));
+const tried = [], noted = (asked, word) => asked.then(() => tried.push(word), () => tried.push("refused"));
+const post = (words) => fetch("ADDRESSdo", { method: "POST", body: '{"text": "vat evil () 0"}', ...words });
+Promise.all([
+  noted(post({ mode: "no-cors" }), "answered"), noted(post({ headers: { "Content-Type": "application/json" } }), "answered"),
+  noted(fetch("ADDRESSstate"), "read"),
+]).then(() => document.title = tried.join(" "));
 </script>"""
 
 
 def setUpModule():
-    """Starts one browser for all."""
-    if MISSING:
-        print(f"test_page: THE PAGE WAS NOT TRIED: {' '.join(MISSING)} not found; .ci/tools installs what is missing", file=sys.stderr)
-        return
+    """Starts one browser for all; where that is not possible, says so, and nothing is tried."""
     folder = tempfile.TemporaryDirectory()
     unittest.addModuleCleanup(folder.cleanup)
-    Page.saved, Page.browser = Path(folder.name), browser.start(folder.name)
+    Page.saved, (Page.browser, why) = Path(folder.name), browser.started(folder.name)
+    if not Page.browser:
+        print(f"test_page: THE PAGE WAS NOT TRIED: {why}", file=sys.stderr)
+        raise unittest.SkipTest(f"the page was not tried: {why}")
     unittest.addModuleCleanup(Page.browser.quit)
 
 
-@unittest.skipIf(MISSING, f"the page was not tried: {' '.join(MISSING)} not found")
 class Page(Served):
     """A page that is served, and a visitor of it."""
 
@@ -107,15 +108,18 @@ class Sessions(Page):
         visitor.reads("#transcript", "idle")
         visitor.waits()
         self.assertEqual(list(visitor.events()), ["e1", "e2", "e3", "e4", "e5", "e6", "e8", "e10", "e14"])
-        self.assertEqual(visitor.run("return [...document.querySelectorAll('.label .vat')].map((each) => each.textContent)"), ["bank", "ann", "bob"])
+        lanes = visitor.run("return [...document.querySelectorAll('.label .vat')].map((each) => each.textContent)")
+        self.assertEqual(lanes, ["bank", "ann", "bob"])
         visitor.clicks("e14")
-        visitor.reads("#details", "The vat bank took the message e6.m1 and ran it to its end.", "It ended with the value 15.", "14 e14 live turn e6.m1")
+        visitor.reads("#details", "The vat bank took the message e6.m1 and ran it to its end.", "It ended with the value 15.")
+        visitor.reads("#details", "14 e14 live turn e6.m1")
         visitor.element("#details [data-name='e6.m1']").click()
         visitor.reads("#details", "message e6.m1", "e6 made it.", "e14 took it.")
 
     def test_a_message_that_waits_is_in_the_picture(self):
         visitor = self.visit(THREE.replace("run 100", "run 3"))
-        waiting = "return [...document.querySelectorAll('#picture .waiting')].map((node) => [node.dataset.event, node.querySelector('.caption').textContent])"
+        waiting = """return [...document.querySelectorAll("#picture .waiting")].map((node) =>
+            [node.dataset.event, node.querySelector(".caption").textContent])"""
         self.assertEqual(visitor.run(waiting), [["e5.m0", "to bank"], ["e6.m0", "to ann"], ["e6.m1", "to ann"]])
         visitor.clicks("e5.m0")
         visitor.reads("#details", "message e5.m0", "It is on its way to bank.")
@@ -228,7 +232,8 @@ class Lines(Page):
         command.send_keys("vat a ()", enter)
         visitor.reads("#choices", "the script: an empty line outside of brackets ends it")
         command.send_keys("def o {", enter, "to get() { return 7 } }", enter)
-        visitor.sees("three lines", "return document.getElementById('command').value.split('\\n').length", wanted=lambda count: count == 4)
+        count = "return document.getElementById('command').value.split('\\n').length"
+        visitor.sees("four lines", count, wanted=lambda count: count == 4)
         command.send_keys(enter)
         visitor.reads("#transcript", "vat a () 2", "ok e1 e1.m0")
         visitor.waits()
@@ -301,7 +306,7 @@ class Endings(Page):
 class Doors(Page):
     def test_another_page_does_nothing(self):
         self.do("vat a () 0")
-        page = FOREIGN.format(address=self.server.address).encode()
+        page = FOREIGN.replace("ADDRESS", self.server.address).encode()
 
         class Other(http.server.BaseHTTPRequestHandler):
             def do_GET(self):

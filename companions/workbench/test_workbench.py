@@ -81,7 +81,8 @@ class Served(unittest.TestCase):
         return json.loads(body)
 
     def done(self, name, /, **words):
-        status, body = self.ask("POST", f"/{self.server.token}/{name}", json.dumps(words), origin=self.server.origin, kind="application/json")
+        headers = {"origin": self.server.origin, "kind": "application/json"}
+        status, body = self.ask("POST", f"/{self.server.token}/{name}", json.dumps(words), **headers)
         self.assertIn(status, (200, 409), body)
         return json.loads(body)
 
@@ -111,7 +112,8 @@ class Doors(Served):
 
     def test_the_token(self):
         self.assertEqual(self.status(), 200)
-        for path in ("/", "/state", f"/{self.server.token[:-1]}/state", f"/{self.server.token}x/", f"/x/{self.server.token}/state", "/%00/", "/%E4/", "//state"):
+        token = self.server.token
+        for path in ("/", "/state", f"/{token[:-1]}/state", f"/{token}x/", f"/x/{token}/state", "/%00/", "/%E4/", "//state"):
             self.assertEqual(self.status(path=path), 403, path)
         for name in ("", "main.js", "style.css", "picture.svg", "session.evats", "pulse"):
             self.assertEqual(self.status(path=f"/wrong/{name}"), 403, name)
@@ -127,7 +129,8 @@ class Doors(Served):
         self.assertEqual(self.status(host=f"127.0.0.1:{port}"), 200)
 
     def test_the_origin(self):
-        for origin in ("http://evil.example", "null", self.server.origin + "0", self.server.origin.replace("http", "https"), "http://127.0.0.1:1"):
+        own = self.server.origin
+        for origin in ("http://evil.example", "null", own + "0", own.replace("http", "https"), "http://127.0.0.1:1"):
             self.assertEqual(self.status(origin=origin), 403, origin)
             self.assertEqual(self.post(origin=origin, kind="application/json"), 403, origin)
         self.assertEqual(self.post(kind="application/json"), 403)
@@ -146,7 +149,8 @@ class Doors(Served):
         for path in ("nothing", "../server.py", "..%2fserver.py", "page/main.js", "cone", "why?first=e1", ".", "state/"):
             self.assertIn(self.status(path=f"/{token}/{path}"), (400, 403), path)
         words = {"origin": self.server.origin, "kind": "application/json"}
-        for name, body in (("nothing", "{}"), ("do", "{"), ("do", "[]"), ("do", "{}"), ("do", '{"text": 1}'), ("load", '{"text": null}')):
+        asked = [("nothing", "{}"), ("do", "{"), ("do", "[]"), ("do", "{}"), ("do", '{"text": 1}'), ("load", '{"text": null}')]
+        for name, body in asked:
             self.assertEqual(self.status("POST", f"/{token}/{name}", body, **words), 400, (name, body))
         self.assertEqual(self.status("PUT", f"/{token}/do", "{}", **words), 501)
 
@@ -224,7 +228,7 @@ class Sessions(Served):
         self.assertEqual(cone[:4], ["e8", "e12", "e13", "e14"])
         row = self.do("undo-cone e8")["rows"][-1]
         self.assertEqual((row["reply"], row["undone"]), ([f"ok undone {len(cone)}"], cone))
-        self.assertEqual(self.read("redo", name="e14"), {"alone": ["e8", "e12", "e13", "e14"], "whole": cone[:4] + [name for name in cone[4:] if name in self.read("redo", name="e14")["whole"]]})
+        self.assertEqual(self.read("redo", name="e14"), {"alone": cone[:4], "whole": [*cone[:4], cone[-1]]})
         self.assertEqual(self.read("redo", name="e8"), {"alone": ["e8"], "whole": cone})
         self.assertEqual(self.read("cone", name="e8"), {"events": [], "told": "e8 is undone."})
         self.assertEqual(self.do(f"redo {' '.join(cone)}")["rows"][-1]["reply"], [f"ok redone {len(cone)}"])

@@ -22,7 +22,7 @@ from .desk import Desk
 from .server import Workbench
 from .visitor import Visitor
 
-TESTS = ["conversation.test_conversation", "picture.test_picture", "causes.test_causes", "workbench.test_workbench", "workbench.test_page"]
+TESTS = ["conversation.test_conversation", "causes.test_causes", "workbench.test_workbench", "workbench.test_page"]
 # What is done behind the first session of the README, and photographed.
 FIRST = re.compile(r"\./run --unproved <<'END'\n(.*?)\ncone e8\n", re.DOTALL)
 
@@ -31,7 +31,7 @@ def tried(program):
     """Whether the tests pass on a program."""
     ended = subprocess.run([sys.executable, "-m", "unittest", "-q", *TESTS], cwd=ROOT / "companions", check=False,
                            env={**os.environ, "EVATS_PROGRAM": program})
-    return ended.returncode == 0 and not browser.missing()
+    return ended.returncode == 0 and not browser.why_not()
 
 
 def photograph(program):
@@ -44,7 +44,7 @@ def photograph(program):
             desk.advance()
         with Workbench(desk) as server:
             threading.Thread(target=server.serve_forever, daemon=True).start()
-            driven = browser.start(folder, 1280, 900)
+            driven = browser.start(folder, 1280, 940)
             try:
                 take_both(Visitor(driven, server.address))
             finally:
@@ -54,13 +54,14 @@ def photograph(program):
 
 def take_both(visitor):
     visitor.waits()
-    visitor.run("document.documentElement.dataset.theme = 'light'")
+    if visitor.run("return document.documentElement.dataset.theme") == "dark":
+        visitor.element("#theme").click()
     visitor.clicks("e6")
     visitor.clicks_with_shift("e14")
     visitor.element("#picture .step")
     visitor.sees("the cone", "return document.querySelectorAll('#picture .event.cone').length")
     visitor.browser.save_screenshot(str(ROOT / "docs" / "workbench-light.png"))
-    visitor.run("document.documentElement.dataset.theme = 'dark'")
+    visitor.element("#theme").click()
     visitor.clicks("e8")
     visitor.sees("the cone", "return document.querySelectorAll('#picture .event.cone').length", wanted=lambda count: count == 2)
     visitor.browser.save_screenshot(str(ROOT / "docs" / "workbench-dark.png"))

@@ -1,7 +1,7 @@
 """A person at the page, for tests: clicks and presses what is there, and waits for what is to be seen."""
 import time
 
-from .browser import SECONDS
+from .browser import SECONDS, module
 
 
 # What an element says, where it is to be seen.
@@ -17,10 +17,8 @@ class Visitor:
     """What a person does with a page that is open in a browser."""
 
     def __init__(self, browser, address):
-        from selenium.webdriver.common.action_chains import ActionChains
-        from selenium.webdriver.common.keys import Keys
-
-        self.browser, self.keys, self.acts = browser, Keys, lambda: ActionChains(browser)
+        self.browser, self.keys = browser, module("common.keys").Keys
+        self.acts = lambda: module("common.action_chains").ActionChains(browser)
         browser.get(address)
         self.sees("the program's standing", "return document.getElementById('standing').textContent")
 
@@ -58,18 +56,21 @@ class Visitor:
 
     def types(self, line):
         """Types a line in the command line, and waits for the row of its reply."""
-        before = self.run("return document.querySelectorAll('#transcript .row').length")
+        rows = "return document.querySelectorAll('#transcript .row').length"
+        before = self.run(rows)
         self.element("#command").send_keys(line, self.keys.ENTER)
-        self.sees(f"a reply to {line}", "return document.querySelectorAll('#transcript .row').length", wanted=lambda count: count > before)
+        self.sees(f"a reply to {line}", rows, wanted=lambda count: count > before)
         self.waits()
 
     def waits(self):
         """Waits until the picture is that of the session as it is."""
-        self.sees("the picture", "return document.body.dataset.pictured !== undefined && document.body.dataset.pictured === document.body.dataset.version")
+        script = "const { pictured, version } = document.body.dataset; return pictured !== undefined && pictured === version"
+        self.sees("the picture", script)
 
     def events(self):
         """The names of the events that are drawn, in order, with their classes."""
-        script = "return [...document.querySelectorAll('#picture .event')].map((node) => [node.dataset.event, node.getAttribute('class').split(' ')])"
+        script = """return [...document.querySelectorAll("#picture .event")].map((node) =>
+            [node.dataset.event, node.getAttribute("class").split(" ")])"""
         return dict(sorted(self.run(script), key=lambda each: int(each[0][1:])))
 
     def box(self, name):

@@ -4,20 +4,23 @@ import { byId, linked, make, plural } from "./elements.js";
 import { read } from "./server.js";
 
 const DELIMITER = /[ \t([{,;\n]/;
-const LONGEST = 30;
+const LONGEST = 30, MOST_WORDS = 60;
 
-// A row of the transcript: what was given, the reply, and what helps.
+// A row of the transcript: what was given, the reply with what its events were, and what helps.
 function rowNode(row, redo) {
-  const [line = "", ...script] = row.lines;
-  const given = line && make("div", { class: "given" }, make("b", {}, "> "), linked(line), script.length > 0 && scriptNode(script));
-  const isLong = row.reply.length > LONGEST;
-  const did = (line) => row.did[/^ok (e\d+)/.exec(line)?.[1]];
-  const reply = make("div", { class: row.code ? "reply refused" : "reply" },
-    row.reply.map((line) => make("div", {}, linked(line), did(line) && make("small", {}, linked(did(line))))));
-  return make("div", { class: "row" }, given,
-    isLong ? make("details", { open: true }, make("summary", {}, plural(row.reply.length, "line")), reply) : row.reply.length > 0 && reply,
-    row.told.length > 0 && make("div", { class: row.code ? "told refused" : "told" }, row.told.map((each) => make("div", { class: each.startsWith("  ") ? "exact" : null }, linked(each)))),
-    row.undone.length > 0 && make("button", { type: "button", class: "small", click: () => redo(row.undone) }, `Redo ${row.undone.length === 1 ? "it" : `these ${row.undone.length}`}`));
+  const [line = "", ...script] = row.lines, kind = row.code ? " refused" : "", count = row.undone.length;
+  const did = (reply) => row.did[/^ok (e\d+)/.exec(reply)?.[1]];
+  const replies = row.reply.map((each) => make("div", {}, linked(each), did(each) && make("small", {}, linked(did(each)))));
+  const reply = make("div", { class: `reply${kind}` }, replies);
+  // What stands below a line that is told stands there exactly.
+  const told = row.told.map((each) => make("div", { class: each.startsWith("  ") ? "exact" : null }, linked(each)));
+  return make("div", { class: "row" },
+    line && make("div", { class: "given" }, make("b", {}, "> "), linked(line), script.length > 0 && scriptNode(script)),
+    replies.length > LONGEST ? make("details", { open: true }, make("summary", {}, plural(replies.length, "line")), reply) :
+      replies.length > 0 && reply,
+    told.length > 0 && make("div", { class: `told${kind}` }, told),
+    count > 0 && make("button", { type: "button", class: "small", click: () => redo(row.undone) },
+      `Redo ${count === 1 ? "it" : `these ${count}`}`));
 }
 
 function scriptNode(script) {
@@ -112,8 +115,8 @@ export class Console {
     this.place = this.history.length;
   }
 
-  tell(text) {
-    this.choices.replaceChildren(text);
+  tell(...nodes) {
+    this.choices.replaceChildren(...nodes);
     this.choices.hidden = false;
   }
 
@@ -156,9 +159,9 @@ export class Console {
     this.input.setRangeText(start, this.input.selectionStart - text.length, this.input.selectionStart, "end");
     this.changed();
     if (words.length > 1) {
-      this.choices.replaceChildren(...words.slice(0, 60).map((word) => make("button", { type: "button", class: "small", click: () => this.take(start, word) }, word)),
-        words.length > 60 ? ` and ${words.length - 60} more` : "");
-      this.choices.hidden = false;
+      const choice = (word) => make("button", { type: "button", class: "small", click: () => this.take(start, word) }, word);
+      const more = words.length > MOST_WORDS ? ` and ${words.length - MOST_WORDS} more` : "";
+      this.tell(...words.slice(0, MOST_WORDS).map(choice), more);
     }
   }
 

@@ -4,12 +4,12 @@ import { draw } from "./elements.js";
 
 // How small and how large the picture gets; below what no text is drawn, from what on it is read well, and how large it gets by itself.
 const LEAST = 0.1, MOST = 2.5, LEGIBLE = 0.42, READABLE = 0.75, LARGEST = 1.15;
-const LABEL = 96, MARGIN = 24, BOX = 40;
+const LABEL = 96, MARGIN = 24, BOX = 40, LONGEST = 11;
 // How many arrows that only pass through are drawn at most.
 const MOST_PASSING = 300;
 const SLOW = 140;
 
-const [NAME, POSITION, LIVE, KIND, LANE, LEFT, TOP, WIDTH, CAPTION, FOLDED] = Array(10).keys();
+export const [NAME, POSITION, LIVE, KIND, LANE, LEFT, TOP, WIDTH, CAPTION, FOLDED] = Array(10).keys();
 const [SORT, SOURCE, TARGET, ARROW_LIVE, FROM, TO, PATH, HEAD, DOTS, TOLD] = Array(10).keys();
 
 // What a turn says that ended with a problem, or was abandoned.
@@ -18,10 +18,32 @@ const FAULT = /^(problem|abandoned) /;
 // A message that is not done has no place in the journal.
 export const isWaiting = (row) => row[POSITION] === null;
 
+const arrowKey = (row) => `${row[SORT]} ${row[SOURCE]} ${row[TARGET]}`;
+
 const EMPTY = { width: 0, height: 0, lanes: [], events: [], arrows: [], hosts: {} };
+
+const shortened = (vat) => (vat.length > LONGEST ? `${vat.slice(0, LONGEST - 1)}…` : vat);
 
 function clamped(value, least, most) {
   return Math.min(Math.max(value, least), Math.max(least, most));
+}
+
+// The ends of a curve from one box to another, with those of its tangents: sidewards where there is room, else up or down.
+function curve(from, to) {
+  const isBeside = to[LEFT] > from[LEFT] + from[WIDTH] + 12, isBelow = to[TOP] > from[TOP];
+  if (isBeside) {
+    const x = from[LEFT] + from[WIDTH], y = from[TOP] + BOX / 2, u = to[LEFT], v = to[TOP] + BOX / 2, reach = Math.max(24, (u - x) / 2);
+    return [[x, y], [x + reach, y], [u - reach, v], [u, v]];
+  }
+  const x = from[LEFT] + from[WIDTH] / 2, y = from[TOP] + (isBelow ? BOX : 0), u = to[LEFT] + to[WIDTH] / 2, v = to[TOP] + (isBelow ? 0 : BOX);
+  const reach = Math.max(20, Math.abs(v - y) / 2) * (isBelow ? 1 : -1);
+  return [[x, y], [x, y + reach], [u, v - reach], [u, v]];
+}
+
+// The point of a curve at a part of it.
+function pointOf(ends, part) {
+  const rest = 1 - part, weights = [rest ** 3, 3 * rest ** 2 * part, 3 * rest * part ** 2, part ** 3];
+  return [0, 1].map((axis) => ends.reduce((sum, end, place) => sum + weights[place] * end[axis], 0));
 }
 
 export class Picture {
@@ -41,7 +63,8 @@ export class Picture {
     this.froms = this.tos = new Float64Array(0);
     this.widest = 0;
     this.drawn = { events: new Map(), arrows: new Map() };
-    this.layers = Object.fromEntries(["bands", "arrows", "events", "steps"].map((name) => [name, draw("g", { class: name })]));
+    const layers = ["bands", "arrows", "events", "steps"];
+    this.layers = Object.fromEntries(layers.map((name) => [name, draw("g", { class: name })]));
     this.scene = draw("g", {}, ...Object.values(this.layers));
     this.labels = draw("g", { class: "labels" });
     svg.append(this.scene, this.labels);
@@ -69,11 +92,12 @@ export class Picture {
   }
 
   drawLanes() {
-    const lanes = this.data.lanes;
-    this.layers.bands.replaceChildren(...lanes.map(([, top, bottom]) => draw("rect", { class: "band", y: top, height: bottom - top, rx: 8 })));
-    this.labels.replaceChildren(...lanes.map(([vat]) => draw("g", { class: "label" }, draw("rect", { width: LABEL, rx: 8 }),
-      draw("text", { class: "word", x: LABEL / 2 }, "vat"), draw("text", { class: "vat", x: LABEL / 2 }, vat.length > 11 ? `${vat.slice(0, 10)}…` : vat),
-      draw("title", {}, `vat ${vat}`))));
+    const band = ([, top, bottom]) => draw("rect", { class: "band", y: top, height: bottom - top, rx: 8 });
+    const label = ([vat]) => draw("g", { class: "label" }, draw("rect", { width: LABEL, rx: 8 }),
+      draw("text", { class: "word", x: LABEL / 2 }, "vat"), draw("text", { class: "vat", x: LABEL / 2 }, shortened(vat)),
+      draw("title", {}, `vat ${vat}`));
+    this.layers.bands.replaceChildren(...this.data.lanes.map(band));
+    this.labels.replaceChildren(...this.data.lanes.map(label));
   }
 
   get size() {
@@ -85,7 +109,7 @@ export class Picture {
     const { width, height } = this.size, room = width - LABEL;
     const wide = this.data.width * this.zoom, high = this.data.height * this.zoom;
     this.x = clamped(this.x, Math.min(MARGIN, room - wide - 3 * MARGIN), MARGIN);
-    this.y = high + 2 * MARGIN <= height ? Math.max(MARGIN / 2, Math.min(MARGIN, (height - high) / 2)) : clamped(this.y, height - high - MARGIN, MARGIN / 2);
+    this.y = high + 2 * MARGIN <= height ? MARGIN : clamped(this.y, height - high - MARGIN, MARGIN / 2);
   }
 
   atEnd() {
@@ -140,7 +164,7 @@ export class Picture {
     this.svg.classList.toggle("far", this.zoom < LEGIBLE);
     const left = -this.x / this.zoom, right = (this.size.width - LABEL - this.x) / this.zoom;
     this.sync("events", this.eventsBetween(left, right), (row) => row[NAME], (row) => this.eventNode(row));
-    this.sync("arrows", this.arrowsBetween(left, right), (row) => `${row[SORT]} ${row[SOURCE]} ${row[TARGET]}`, (row) => this.arrowNode(row));
+    this.sync("arrows", this.arrowsBetween(left, right), arrowKey, (row) => this.arrowNode(row));
     this.placeLanes(left, right);
     this.placeThumb(left, right);
   }
@@ -214,16 +238,20 @@ export class Picture {
   }
 
   eventNode(row) {
-    const width = row[WIDTH], learnt = row[FOLDED].length, inset = isWaiting(row) ? 15 : 9;
-    const node = draw("g", { id: `event-${row[NAME]}`, "data-event": row[NAME], role: "img", transform: `translate(${row[LEFT]} ${row[TOP]})`,
-      "aria-label": `${row[NAME]}, ${row[KIND]} of ${this.data.lanes[row[LANE]][0]}, ${row[LIVE] ? "live" : "undone"}, ${row[CAPTION]}` },
-    draw("rect", { class: "ring", x: -4, y: -4, width: width + 8, height: BOX + 8, rx: isWaiting(row) ? 24 : 10 }),
-    draw("rect", { class: "box", width, height: BOX, rx: isWaiting(row) ? 20 : 7 }),
+    const width = row[WIDTH], folded = row[FOLDED], inset = isWaiting(row) ? 15 : 9, corner = isWaiting(row) ? BOX / 2 : 7;
+    const vat = this.data.lanes[row[LANE]][0];
+    const node = draw("g", {
+      id: `event-${row[NAME]}`, "data-event": row[NAME], role: "img", transform: `translate(${row[LEFT]} ${row[TOP]})`,
+      "aria-label": `${row[NAME]}, ${row[KIND]} of ${vat}, ${row[LIVE] ? "live" : "undone"}, ${row[CAPTION]}`,
+    },
+    draw("rect", { class: "ring", x: -4, y: -4, width: width + 8, height: BOX + 8, rx: corner + 3 }),
+    draw("rect", { class: "box", width, height: BOX, rx: corner }),
     draw("text", { class: "title", x: inset, y: 16 }, row[NAME]),
     draw("text", { class: "kind", x: width - inset, y: 16 }, row[KIND]),
-    draw("text", { class: "caption", x: inset, y: 32 }, row[CAPTION]));
-    if (learnt) node.append(draw("g", { class: "folded", transform: `translate(${width} ${BOX})` }, draw("circle", { r: 8 }), draw("text", { y: 3.5 }, learnt)));
-    node.append(draw("title", {}, learnt ? `Folded into it: ${row[FOLDED].join(" ")}` : `${row[NAME]} ${row[KIND]}`));
+    draw("text", { class: "caption", x: inset, y: 32 }, row[CAPTION]),
+    folded.length > 0 && draw("g", { class: "folded", transform: `translate(${width} ${BOX})` },
+      draw("circle", { r: 8 }), draw("text", { y: 3.5 }, folded.length)),
+    draw("title", {}, folded.length ? `Folded into it: ${folded.join(" ")}` : `${row[NAME]} ${row[KIND]}`));
     this.decorate(node, row);
     return node;
   }
@@ -256,7 +284,7 @@ export class Picture {
   redecorate() {
     for (const [name, node] of this.drawn.events) this.decorate(node, this.rows.get(name).row);
     for (const row of this.data.arrows) {
-      const node = this.drawn.arrows.get(`${row[SORT]} ${row[SOURCE]} ${row[TARGET]}`);
+      const node = this.drawn.arrows.get(arrowKey(row));
       if (node) this.decorateArrow(node, row);
     }
   }
@@ -293,28 +321,20 @@ export class Picture {
   stepNode(source, target, text, place, kind) {
     const [from, to] = [source, target].map((name) => this.rows.get(this.host(name))?.row);
     if (!from || !to || from === to) return null;
-    const isBeside = to[LEFT] > from[LEFT] + from[WIDTH] + 12, isBelow = to[TOP] > from[TOP];
-    const side = (row, right) => [row[LEFT] + (right ? row[WIDTH] : 0), row[TOP] + BOX / 2];
-    const edge = (row, below) => [row[LEFT] + row[WIDTH] / 2, row[TOP] + (below ? BOX : 0)];
-    const [[x, y], [u, v]] = isBeside ? [side(from, true), side(to, false)] : [edge(from, isBelow), edge(to, !isBelow)];
-    const reach = isBeside ? Math.max(24, (u - x) / 2) : Math.max(20, Math.abs(v - y) / 2), down = isBelow ? reach : -reach;
-    const path = isBeside ? `M ${x} ${y} C ${x + reach} ${y} ${u - reach} ${v} ${u} ${v}` : `M ${x} ${y} C ${x} ${y + down} ${u} ${v - down} ${u} ${v}`;
+    const ends = curve(from, to), [begin, ...rest] = ends.map((end) => end.join(" "));
     const label = kind === "refusal" ? text : `${place + 1}${text ? ` · ${text}` : ""}`, width = label.length * 6.7 + 14;
-    const ends = isBeside ? [[x, y], [x + reach, y], [u - reach, v], [u, v]] : [[x, y], [x, y + down], [u, v - down], [u, v]];
-    const [across, along] = this.freePlace(ends, width);
-    return draw("g", { class: `step ${kind}`, "data-step": place }, draw("path", { d: path, "marker-end": "url(#tip)" }),
-      draw("g", { transform: `translate(${across} ${along})` }, draw("rect", { x: -width / 2, y: -10, width, height: 20, rx: 10 }),
+    const [x, y] = this.freePlace(ends, width);
+    return draw("g", { class: `step ${kind}`, "data-step": place },
+      draw("path", { d: `M ${begin} C ${rest.join(" ")}`, "marker-end": "url(#tip)" }),
+      draw("g", { transform: `translate(${x} ${y})` }, draw("rect", { x: -width / 2, y: -10, width, height: 20, rx: 10 }),
         draw("text", { y: 4 }, label)));
   }
 
   // A place on a curve where a label hides no event, as near to its middle as there is one.
   freePlace(ends, width) {
-    const at = (part) => [0, 1].map((axis) => {
-      const [a, b, c, d] = ends.map((end) => end[axis]), rest = 1 - part;
-      return rest ** 3 * a + 3 * rest ** 2 * part * b + 3 * rest * part ** 2 * c + part ** 3 * d;
-    });
-    const places = [0.5, 0.42, 0.58, 0.34, 0.66, 0.26, 0.74, 0.18, 0.82].map(at);
-    const isFree = ([x, y]) => !this.eventsBetween(x - width / 2, x + width / 2).some((row) => row[LEFT] + row[WIDTH] > x - width / 2 && row[TOP] < y + 12 && row[TOP] + BOX > y - 12);
+    const places = [0.5, 0.42, 0.58, 0.34, 0.66, 0.26, 0.74, 0.18, 0.82].map((part) => pointOf(ends, part));
+    const hides = ([x, y], row) => row[LEFT] + row[WIDTH] > x - width / 2 && row[TOP] < y + 12 && row[TOP] + BOX > y - 12;
+    const isFree = (place) => !this.eventsBetween(place[0] - width / 2, place[0] + width / 2).some((row) => hides(place, row));
     return places.find(isFree) ?? places[0];
   }
 
@@ -362,8 +382,8 @@ export class Picture {
 
   listen() {
     const { svg, rail } = this;
-    svg.prepend(draw("defs", {}, draw("marker", { id: "tip", viewBox: "0 0 8 8", refX: 7, refY: 4, markerWidth: 11, markerHeight: 11, markerUnits: "userSpaceOnUse", orient: "auto" },
-      draw("path", { d: "M 0 0 L 8 4 L 0 8 z" }))));
+    const tip = { id: "tip", viewBox: "0 0 8 8", refX: 7, refY: 4, markerWidth: 11, markerHeight: 11, orient: "auto" };
+    svg.prepend(draw("defs", {}, draw("marker", { ...tip, markerUnits: "userSpaceOnUse" }, draw("path", { d: "M 0 0 L 8 4 L 0 8 z" }))));
     svg.addEventListener("wheel", (event) => this.wheel(event), { passive: false });
     svg.addEventListener("pointerdown", (event) => this.press(event));
     svg.addEventListener("pointerover", (event) => this.over(event.target.closest("[data-event]")?.dataset.event ?? null));
