@@ -203,6 +203,16 @@ class Sessions(Page):
         visitor.waits()
         self.assertEqual((self.session.ask("journal"), len(self.session.answered)), (journal, 5))
 
+    def test_what_another_page_does_is_seen(self):
+        visitor = self.visit(THREE)
+        self.do("ask ann 1")
+        visitor.reads("#transcript", "ask ann 1", "ok e21 e21.m0")
+        self.whole(self.done("load", text="vat other () 0"))
+        visitor.reads("#transcript", "vat other () 0", "ok e1 e1.m0")
+        visitor.waits()
+        self.assertNotIn("ask ann 1", visitor.text("#transcript"))
+        self.assertEqual(list(visitor.events()), ["e1"])
+
     def test_the_picture_is_saved(self):
         visitor = self.visit(THREE)
         visitor.presses("Picture as SVG")

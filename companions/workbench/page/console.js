@@ -56,9 +56,8 @@ export class Console {
     }, () => {});
   }
 
-  // Adds the rows behind those that are there; where there are fewer than before, begins anew.
+  // Adds the rows behind those that are there.
   show(state) {
-    if (state.count < this.count) this.clear();
     const isAtEnd = this.transcript.scrollHeight - this.transcript.scrollTop - this.transcript.clientHeight < 40;
     this.transcript.append(...state.rows.map((row) => rowNode(row, this.redo)));
     this.count = state.count;

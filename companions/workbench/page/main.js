@@ -81,6 +81,11 @@ async function attempt(text) {
 // Takes what the server says, and asks on as long as the program is at work.
 async function take(answer) {
   for (let now = answer; now; now = await heard(done("wait", { since: lines.count }))) {
+    if (now.count < lines.count) {
+      // Another page began another session.
+      lines.clear();
+      continue;
+    }
     show(now);
     if (now.ended || (now.busy === null && now.waiting === 0)) break;
   }

@@ -28,22 +28,19 @@ function clamped(value, least, most) {
   return Math.min(Math.max(value, least), Math.max(least, most));
 }
 
-// The ends of a curve from one box to another, with those of its tangents: sidewards where there is room, else up or down.
+// Where on a path its label may stand, the best place first.
+const PLACES = [0.5, 0.44, 0.56, 0.38, 0.62, 0.32, 0.68, 0.26, 0.74, 0.2, 0.8];
+
+// A curve from one box to another: sidewards where there is room, else up or down.
 function curve(from, to) {
   const isBeside = to[LEFT] > from[LEFT] + from[WIDTH] + 12, isBelow = to[TOP] > from[TOP];
   if (isBeside) {
     const x = from[LEFT] + from[WIDTH], y = from[TOP] + BOX / 2, u = to[LEFT], v = to[TOP] + BOX / 2, reach = Math.max(24, (u - x) / 2);
-    return [[x, y], [x + reach, y], [u - reach, v], [u, v]];
+    return `M ${x} ${y} C ${x + reach} ${y} ${u - reach} ${v} ${u} ${v}`;
   }
   const x = from[LEFT] + from[WIDTH] / 2, y = from[TOP] + (isBelow ? BOX : 0), u = to[LEFT] + to[WIDTH] / 2, v = to[TOP] + (isBelow ? 0 : BOX);
   const reach = Math.max(20, Math.abs(v - y) / 2) * (isBelow ? 1 : -1);
-  return [[x, y], [x, y + reach], [u, v - reach], [u, v]];
-}
-
-// The point of a curve at a part of it.
-function pointOf(ends, part) {
-  const rest = 1 - part, weights = [rest ** 3, 3 * rest ** 2 * part, 3 * rest * part ** 2, part ** 3];
-  return [0, 1].map((axis) => ends.reduce((sum, end, place) => sum + weights[place] * end[axis], 0));
+  return `M ${x} ${y} C ${x} ${y + reach} ${u} ${v - reach} ${u} ${v}`;
 }
 
 export class Picture {
@@ -321,20 +318,20 @@ export class Picture {
   stepNode(source, target, text, place, kind) {
     const [from, to] = [source, target].map((name) => this.rows.get(this.host(name))?.row);
     if (!from || !to || from === to) return null;
-    const ends = curve(from, to), [begin, ...rest] = ends.map((end) => end.join(" "));
+    const arrow = this.data.arrows.find((row) => row[SOURCE] === from[NAME] && row[TARGET] === to[NAME]);
+    const path = draw("path", { d: arrow ? arrow[PATH] : curve(from, to), "marker-end": "url(#tip)" });
     const label = kind === "refusal" ? text : `${place + 1}${text ? ` · ${text}` : ""}`, width = label.length * 6.7 + 14;
-    const [x, y] = this.freePlace(ends, width);
-    return draw("g", { class: `step ${kind}`, "data-step": place },
-      draw("path", { d: `M ${begin} C ${rest.join(" ")}`, "marker-end": "url(#tip)" }),
+    const { x, y } = this.freePlace(path, width);
+    return draw("g", { class: `step ${kind}`, "data-step": place }, path,
       draw("g", { transform: `translate(${x} ${y})` }, draw("rect", { x: -width / 2, y: -10, width, height: 20, rx: 10 }),
         draw("text", { y: 4 }, label)));
   }
 
-  // A place on a curve where a label hides no event, as near to its middle as there is one.
-  freePlace(ends, width) {
-    const places = [0.5, 0.42, 0.58, 0.34, 0.66, 0.26, 0.74, 0.18, 0.82].map((part) => pointOf(ends, part));
-    const hides = ([x, y], row) => row[LEFT] + row[WIDTH] > x - width / 2 && row[TOP] < y + 12 && row[TOP] + BOX > y - 12;
-    const isFree = (place) => !this.eventsBetween(place[0] - width / 2, place[0] + width / 2).some((row) => hides(place, row));
+  // A place on a path where a label hides no event, as near to its middle as there is one.
+  freePlace(path, width) {
+    const length = path.getTotalLength(), places = PLACES.map((part) => path.getPointAtLength(part * length));
+    const hides = ({ x, y }, row) => row[LEFT] + row[WIDTH] > x - width / 2 && row[TOP] < y + 12 && row[TOP] + BOX > y - 12;
+    const isFree = (place) => !this.eventsBetween(place.x - width / 2, place.x + width / 2).some((row) => hides(place, row));
     return places.find(isFree) ?? places[0];
   }
 
