@@ -172,6 +172,7 @@ class Sessions(Page):
         self.assertIn("e8 cannot be taken back alone: e12 came of it and is live.", said)
         self.assertEqual([name for name, words in visitor.events().items() if "marked" in words], ["e8", "e14"])
         visitor.element("#picture .step.refusal")
+        visitor.reads("#refused", "e8 cannot be taken back alone: e12 came of it and is live.", "would do: it takes back")
         visitor.presses("undo-cone e8")
         self.assertEqual(visitor.run("return document.getElementById('command').value"), "undo-cone e8")
 

@@ -42,8 +42,9 @@ export class Console {
     this.count = 0;
     this.history = [];
     this.place = 0;
-    // Where what is being given ends, and what waits behind it.
+    // Where what is being given ends, and what waits behind it; what is told of the lines that it wants.
     this.ends = [];
+    this.wanted = null;
     this.input.addEventListener("keydown", (event) => this.key(event));
     this.input.addEventListener("input", () => this.changed());
     byId("line").addEventListener("submit", (event) => {
@@ -70,11 +71,14 @@ export class Console {
   }
 
   changed() {
-    this.choices.hidden = true;
+    // What the next lines are is told as long as they are typed.
+    if (this.wanted) this.tell(this.wanted);
+    else this.choices.hidden = true;
     this.input.rows = Math.min(12, this.input.value.split("\n").length);
   }
 
   put(text) {
+    this.wanted = null;
     this.input.value = text;
     this.changed();
     this.input.focus();
@@ -90,9 +94,10 @@ export class Console {
       if (more === null) {
         this.ends = [];
       } else if (more) {
+        this.wanted = more;
         this.replace(end, end, "\n");
-        this.tell(more);
       } else {
+        this.wanted = null;
         this.replace(0, end, "");
         this.keep(text);
       }

@@ -107,6 +107,11 @@ function show(now) {
   if (isOther) tellRefusal(now.rows.at(-1));
 }
 
+function forgetRefusal() {
+  byId("refused").hidden = true;
+  picture.mark([]);
+}
+
 function tellState({ ended, busy, waiting, asked, commands }) {
   if (ended) {
     notice(`The program has ended: ${ended}.`, [
@@ -121,9 +126,12 @@ function tellState({ ended, busy, waiting, asked, commands }) {
   }
 }
 
-// Where the last command was refused, the events that the refusal names are marked in the picture.
+// Where the last command was refused, it is said why over the picture, and the events that the refusal names are marked there.
 function tellRefusal(row) {
   const marks = row?.marks ?? [];
+  const [reason = "", ...rest] = row?.code ? row.told : [], help = rest.find((line) => line.includes("`")) ?? "";
+  byId("refused").replaceChildren(make("p", {}, linked(reason)), make("p", {}, linked(help)));
+  byId("refused").hidden = !reason;
   picture.mark(marks);
   if (marks.length) {
     const name = row.reply.at(-1).split(" ").slice(1, 3).join(" ");
@@ -183,6 +191,7 @@ async function open(names, isAgain = false) {
   if (isWhy) picture.overlay(told.steps ?? [], told.kind === "crossed" ? "refusal" : "why");
   if (isAgain) return;
   byId("details").scrollTop = 0;
+  forgetRefusal();
   if (!isWhy) picture.overlay([]);
   picture.reveal(names.at(-1));
 }
@@ -200,9 +209,9 @@ function clear() {
   shown = null;
   isChoosingSecond = false;
   leave();
+  forgetRefusal();
   picture.choose([]);
   picture.overlay([]);
-  picture.mark([]);
   picture.light([]);
   byId("details").replaceChildren(...introduction());
 }
@@ -216,6 +225,7 @@ async function hover(name) {
 
 // A bar over the picture that asks before something is done.
 function confirm(text, word, act, names) {
+  forgetRefusal();
   confirming = { act };
   picture.light(names);
   const main = button(word, agree, "main");

@@ -5,6 +5,8 @@ import { draw } from "./elements.js";
 // How small and how large the picture gets; below what no text is drawn, from what on it is read well, and how large it gets by itself.
 const LEAST = 0.1, MOST = 2.5, LEGIBLE = 0.42, READABLE = 0.75, LARGEST = 1.15;
 const LABEL = 96, MARGIN = 24, BOX = 40, LONGEST = 11;
+// How far below their row the arrows of steps run.
+const BELOW = 46;
 // How many arrows that only pass through are drawn at most.
 const MOST_PASSING = 300;
 const SLOW = 140;
@@ -31,8 +33,12 @@ function clamped(value, least, most) {
 // Where on a path its label may stand, the best place first.
 const PLACES = [0.5, 0.44, 0.56, 0.38, 0.62, 0.32, 0.68, 0.26, 0.74, 0.2, 0.8];
 
-// A curve from one box to another: sidewards where there is room, else up or down.
+// A curve from one box to another: below them where they stand in one row, sidewards where there is room, else up or down.
 function curve(from, to) {
+  if (from[TOP] === to[TOP]) {
+    const [x, u] = [from, to].map((row) => row[LEFT] + row[WIDTH] / 2), y = from[TOP] + BOX;
+    return `M ${x} ${y} C ${x} ${y + BELOW} ${u} ${y + BELOW} ${u} ${y}`;
+  }
   const isBeside = to[LEFT] > from[LEFT] + from[WIDTH] + 12, isBelow = to[TOP] > from[TOP];
   if (isBeside) {
     const x = from[LEFT] + from[WIDTH], y = from[TOP] + BOX / 2, u = to[LEFT], v = to[TOP] + BOX / 2, reach = Math.max(24, (u - x) / 2);
