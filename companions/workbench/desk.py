@@ -1,4 +1,4 @@
-"""A session as the page has it: what was typed waits in a row, replies are told with what helps, and the picture is kept."""
+"""A session as the page has it: what was typed waits in a row, and replies are told with what helps."""
 import functools
 import time
 from collections import deque
@@ -7,23 +7,14 @@ from pathlib import Path
 
 from conversation.advice import advice, pointed
 from conversation.commands import is_command, words_of
-from conversation.completion import completions
 from conversation.helping import help_on, row
-from conversation.journal import undone_cone, with_causes
 from conversation.places import MOST_LOOKED_AT
 from conversation.program import Ended, Stopped
-from conversation.questions import answer_to, way_by_causes, why_in
 from conversation.refusals import in_words
 from conversation.replies import events_in, refusal_in
 from conversation.session import UnknownLabel
-from conversation.telling import births, event_told, message_told, thing_told
 from conversation.typed import NotTyped, Typed, text_in, typed, written
 from conversation.usages import usages_in
-from picture.layout import layout, scene_of
-from picture.looks import LOOKS
-from picture.svg import picture
-
-from .drawing import drawn
 
 OWN = """\
 Commands, one a line:
@@ -35,12 +26,9 @@ Commands, one a line:
 """
 # How long a request may last, before the page hears that the program is still at work.
 SLICE = 0.5
-# How much of a reply is shown, and how many ways a word may go on.
+# How much of a reply is shown.
 MOST_LINES = 400
 TAKING_BACK, DOING = {"undo", "undo-cone"}, {"step", "run"}
-
-
-BY_CAUSES = "This program does not know the command `why`: the steps are causes of the journal, without cells."
 
 
 class Refused(Exception):
@@ -53,8 +41,8 @@ class Desk:
     def __init__(self, session, about):
         self.session, self.about = session, about
         self.waiting, self.asked, self.rows, self.version, self.label = deque(), 0, [], 0, None
-        # How the program ended, if it did; what it said last of what may be done; the scene, and what was drawn of it.
-        self.ended, self.now, self.scene, self.drawings, self.undone = None, {"enabled": [], "vats": []}, None, {}, []
+        # How the program ended, if it did; what it said last of what may be done; what the command in hand takes back.
+        self.ended, self.now, self.undone = None, {"enabled": [], "vats": []}, []
         self.own = {each.__name__: each for each in (self.help, self.save, self.load, self.labels, self.stop)}
         session.own_words = tuple(self.own)
 
@@ -77,6 +65,11 @@ class Desk:
         self.waiting.extend(taken)
         self.asked += len(taken)
         return None
+
+    @property
+    def usages(self):
+        """The commands of the workbench and of its program, by their first words."""
+        return {**usages_in(OWN), **self.session.usages}
 
     def read(self, line, more):
         """What a line begins: a command of the program, one of the workbench, or a fault."""
@@ -196,9 +189,7 @@ class Desk:
         self.ended, self.version, self.asked, self.rows = None, self.version + 1, 0, []
 
     def help(self, word):
-        own = usages_in(OWN)
-        usages = {**own, **self.session.usages}
-        lines = help_on(word.split(" ")[0], usages) if word else [row(each) for each in usages.values()]
+        lines = help_on(word.split(" ")[0], self.usages) if word else [row(each) for each in self.usages.values()]
         self.tell([f"help {word}".strip()], lines)
 
     def labels(self, _):
@@ -237,13 +228,6 @@ class Desk:
         """The commands so far that were not refused, as `./run` takes them."""
         return "".join(map(written, self.session.accepted())).encode(errors="surrogateescape")
 
-    def asking(self):
-        """Sees that the program can be asked something."""
-        if self.ended is not None:
-            raise Refused("The program has ended.")
-        if self.is_at_work:
-            raise Refused("The program is at work.")
-
     def state(self, since=0):
         """What the page has to know now, with the rows of the transcript behind so many."""
         if self.ended is None and not self.is_at_work:
@@ -255,73 +239,4 @@ class Desk:
             **self.now, "version": self.version, "rows": self.rows[since:], "count": len(self.rows), "ended": self.ended,
             "busy": under_way.line if under_way else None, "asked": self.asked, "waiting": len(self.waiting),
             "commands": len(self.session.accepted()), "about": self.about,
-            "unknown": [word for word in ("why", "event", "message", "object") if word not in self.session.usages],
         }
-
-    def seen(self):
-        """The scene as it is now; while the program is at work, or has ended, as it was before."""
-        if (self.scene is None or self.scene[0] != self.version) and self.ended is None and not self.is_at_work:
-            self.scene, self.drawings = (self.version, scene_of(self.session)), {}
-        if self.scene is None:
-            raise Refused("There is no picture yet.")
-        return self.scene
-
-    def picture(self, is_folded=True, has_causes=False):
-        """The picture for the page."""
-        version, scene = self.seen()
-        options = is_folded, has_causes
-        if options not in self.drawings:
-            self.drawings[options] = {"version": version, **drawn(layout(scene, *options))}
-        return self.drawings[options]
-
-    def svg(self, look="light", cone_of=None, is_folded=True, has_causes=False):
-        _, scene = self.seen()
-        is_there = any(event.name == cone_of and event.is_live for event in scene.events)
-        return picture(scene, cone_of if is_there else None, is_folded, has_causes, LOOKS.get(look, LOOKS["light"]))
-
-    def cone(self, name):
-        """The events of a cone, or why there is none."""
-        self.asking()
-        try:
-            reply = self.session.ask(f"cone {self.session.resolved(name)}")
-        except UnknownLabel as fault:
-            raise Refused(str(fault)) from fault
-        refusal = refusal_in(reply)
-        return {"events": [] if refusal else reply[0].split()[1:], "told": in_words(refusal) if refusal else None}
-
-    def redo(self, name):
-        """What a redo of an event has to redo with it, and what it may: what came of it."""
-        _, scene = self.seen()
-        alone = with_causes(scene.events, [name])
-        return {"alone": alone, "whole": with_causes(scene.events, undone_cone(scene.events, name) | set(alone))}
-
-    def why(self, first, second):
-        """How one event came of another."""
-        self.asking()
-        reply, refusal = answer_to(self.session, f"why {first} {second}")
-        if refusal:
-            return {"kind": "refused", "steps": [], "told": in_words(refusal)}
-        told = None if reply else BY_CAUSES
-        found = why_in(reply) if reply else way_by_causes(self.seen()[1].events, first, second)
-        names = births(self.session)
-        steps = [(each.source, each.target, str(each.cell or ""), each.cell.in_words(names) if each.cell else "")
-                 for each in found.steps]
-        return {"kind": found.kind, "steps": steps, "told": told}
-
-    def told_of(self, name):
-        """All that is known of what has this name."""
-        self.asking()
-        _, scene = self.seen()
-        if "." in name:
-            letter = name.partition(".")[2][0]
-            return message_told(self.session, name) if letter == "m" else thing_told(self.session, name)
-        found = [event for event in scene.events if event.name == name]
-        if not found:
-            raise Refused(f"The journal has no event {name} that is not settled.")
-        return event_told(self.session, found[0], scene.homes[name])
-
-    def words_for(self, before, text):
-        """How a word may go on."""
-        if self.ended is not None or self.is_at_work:
-            return []
-        return completions(self.session, {**usages_in(OWN), **self.session.usages}, before, text)[:MOST_LINES]

@@ -1,6 +1,7 @@
 """Serves the page on the loopback: to whoever has the token in the address, and to no page but this one."""
 import contextlib
 import json
+import re
 import secrets
 import threading
 from http import HTTPStatus
@@ -13,11 +14,13 @@ from conversation.journal import JournalFault
 from conversation.program import Ended, Stopped
 
 from .desk import Refused
+from .view import View
 
 HOST = "127.0.0.1"
 PAGE = Path(__file__).with_name("page")
 KINDS = {".html": "text/html", ".js": "text/javascript", ".css": "text/css", ".svg": "image/svg+xml"}
 MOST_BYTES = 64 << 20
+NAME = re.compile(r"e\d+(\.[mposj]\d+)?|\$\w+", re.ASCII)
 HEADERS = {
     "Content-Security-Policy": "default-src 'none'; script-src 'self'; style-src 'self'; img-src 'self' data:; "
     "connect-src 'self'; base-uri 'none'; form-action 'none'; frame-ancestors 'none'",
@@ -37,7 +40,8 @@ class Workbench(ThreadingHTTPServer):
 
     def __init__(self, desk, port=0):
         super().__init__((HOST, port), Handler)
-        self.desk, self.lock, self.token = desk, threading.RLock(), secrets.token_urlsafe(24)
+        self.desk, self.view = desk, View(desk)
+        self.lock, self.token = threading.RLock(), secrets.token_urlsafe(24)
 
     @property
     def origin(self):
@@ -52,8 +56,11 @@ def is_set(words, name):
     return words.get(name) == "1"
 
 
-def picture_of(desk, words):
-    return desk.picture(not is_set(words, "all"), is_set(words, "causes"))
+def named(words, key="name"):
+    """The name of something, or a label, which stands alone in a command."""
+    if not NAME.fullmatch(words[key]):
+        raise ValueError(words[key])
+    return words[key]
 
 
 def since(words):
@@ -68,17 +75,20 @@ def text_of(words):
     return words["text"]
 
 
-def pulse(desk, words):
+def pulse(bench, words):
     """Whether the program runs, and how much has happened."""
+    desk = bench.desk
     desk.look_whether_it_runs()
     return {"ended": desk.ended, "version": desk.version, "count": len(desk.rows), "atWork": desk.is_at_work}
 
 
-def do(desk, words):
-    """Does what was typed; tells what more lines it wants where it is not whole."""
+def do(bench, words):
+    """Does what was typed; tells what more lines it wants where it is not whole. A `stop` waits for nothing."""
+    desk, text = bench.desk, text_of(words)
     if desk.ended is not None:
         raise Refused("The program has ended.")
-    text = text_of(words)
+    if text.strip() == "stop":
+        return desk.stop("")
     more = desk.type(text, words.get("whole", True))
     if more is None and words.get("kept"):
         keep(text)
@@ -86,42 +96,43 @@ def do(desk, words):
     return {"more": more}
 
 
-def load(desk, words):
+def load(bench, words):
     """Does the commands of a file, in a session of their own."""
     text = text_of(words)
-    desk.clear()
-    desk.type(text)
-    desk.advance()
+    bench.desk.clear()
+    bench.desk.type(text)
+    bench.desk.advance()
 
 
-# What is read: the answer to each by its name. What is done: each answers with the state of then.
+def picture_of(bench, words):
+    return bench.view.picture(not is_set(words, "all"), is_set(words, "causes"))
+
+
+def svg_of(bench, words):
+    options = not is_set(words, "all"), is_set(words, "causes")
+    return bench.view.svg(words.get("look", "light"), words.get("cone"), *options).encode()
+
+
+# What is read: the answer to each by its name. What is done: each answers with the state of then. What is saved.
 READ = {
     "pulse": pulse,
-    "state": lambda desk, words: desk.state(since(words)),
+    "state": lambda bench, words: bench.desk.state(since(words)),
     "picture": picture_of,
-    "cone": lambda desk, words: desk.cone(words["name"]),
-    "redo": lambda desk, words: desk.redo(words["name"]),
-    "why": lambda desk, words: desk.why(words["first"], words["second"]),
-    "told": lambda desk, words: desk.told_of(words["name"]),
-    "words": lambda desk, words: desk.words_for(words["before"], words["text"]),
-    "history": lambda desk, words: kept_lines(),
+    "cone": lambda bench, words: bench.view.cone(named(words)),
+    "redo": lambda bench, words: bench.view.redo(named(words)),
+    "why": lambda bench, words: bench.view.why(named(words, "first"), named(words, "second")),
+    "told": lambda bench, words: bench.view.told_of(named(words)),
+    "words": lambda bench, words: bench.view.words_for(words["before"], words["text"]),
+    "history": lambda bench, words: kept_lines(),
 }
 DONE = {
     "do": do,
-    "wait": lambda desk, words: desk.advance(),
-    "stop": lambda desk, words: desk.stop(""),
-    "again": lambda desk, words: desk.begin_again(),
-    "clear": lambda desk, words: desk.clear(),
+    "wait": lambda bench, words: bench.desk.advance(),
+    "stop": lambda bench, words: bench.desk.stop(""),
+    "again": lambda bench, words: bench.desk.begin_again(),
     "load": load,
 }
-
-
-def svg_of(desk, words):
-    text = desk.svg(words.get("look", "light"), words.get("cone"), not is_set(words, "all"), is_set(words, "causes"))
-    return text.encode()
-
-
-FILES = {"session.evats": ("text/plain", lambda desk, words: desk.saved()), "picture.svg": ("image/svg+xml", svg_of)}
+FILES = {"session.evats": ("text/plain", lambda bench, words: bench.desk.saved()), "picture.svg": ("image/svg+xml", svg_of)}
 
 
 class Handler(BaseHTTPRequestHandler):
@@ -180,8 +191,8 @@ class Handler(BaseHTTPRequestHandler):
             with self.server.lock:
                 if name in FILES:
                     kind, how = FILES[name]
-                    return kind, how(self.server.desk, words)
-                return "application/json", json.dumps(READ[name](self.server.desk, words)).encode()
+                    return kind, how(self.server, words)
+                return "application/json", json.dumps(READ[name](self.server, words)).encode()
         file = PAGE / (name or "index.html")
         if file.parent != PAGE or not file.is_file():
             raise KeyError(name)
@@ -199,7 +210,7 @@ class Handler(BaseHTTPRequestHandler):
             raise ValueError(told)
         words.update(told)
         with self.server.lock:
-            told = DONE[name](self.server.desk, words) or {}
+            told = DONE[name](self.server, words) or {}
             state = self.server.desk.state(since(words))
         return "application/json", json.dumps({**state, **told}).encode()
 

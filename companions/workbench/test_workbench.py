@@ -146,7 +146,8 @@ class Doors(Served):
 
     def test_what_is_no_request_of_the_page(self):
         token = self.server.token
-        for path in ("nothing", "../server.py", "..%2fserver.py", "page/main.js", "cone", "why?first=e1", ".", "state/"):
+        names = ["told?name=e1%0Ashow", "cone?name=", "told?name=e1.x0", "why?first=e1&second=e1%20e2", "cone", "why?first=e1"]
+        for path in [*names, "nothing", "../server.py", "..%2fserver.py", "page/main.js", ".", "state/"]:
             self.assertIn(self.status(path=f"/{token}/{path}"), (400, 403), path)
         words = {"origin": self.server.origin, "kind": "application/json"}
         asked = [("nothing", "{}"), ("do", "{"), ("do", "[]"), ("do", "{}"), ("do", '{"text": 1}'), ("load", '{"text": null}')]
@@ -345,9 +346,11 @@ class Busy(Served):
         self.assertEqual((state["busy"], state["waiting"], state["asked"]), ("run 1000", 1, 2))
         self.assertEqual(self.read("told", name="e1"), {"fault": "The program is at work."})
         self.assertEqual(self.done("wait")["busy"], "run 1000")
-        state = self.done("stop")
-        self.assertEqual((state["busy"], state["waiting"], state["commands"]), (None, 0, 0))
-        self.assertEqual(state["rows"][-1]["told"], ["`run 1000` was ended: all is as before it."])
+        for way in (lambda: self.done("stop"), lambda: self.done("do", text="stop", kept=1, whole=0)):
+            state = way()
+            self.assertEqual((state["busy"], state["waiting"], state["commands"]), (None, 0, 0))
+            self.assertEqual(state["rows"][-1]["told"], ["`run 1000` was ended: all is as before it."])
+            self.assertEqual(self.done("do", text="run 1000")["busy"], "run 1000")
 
 
 class Recorded(Served):
