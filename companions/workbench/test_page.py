@@ -14,7 +14,7 @@ import unittest
 from pathlib import Path
 
 from . import browser
-from .test_workbench import COMPANIONS, PROGRAM, RECORDED, SECONDS, THREE, Served
+from .test_workbench import COMPANIONS, PROGRAM, RECORDED, SECONDS, SLOW, THREE, Served
 from .visitor import Visitor
 
 MANY = str(Path(__file__).with_name("many"))
@@ -312,6 +312,22 @@ class Endings(Page):
             visitor.reads("#notice", "The workbench does not answer: it has ended.")
         self.browser.get("about:blank")
         self.browser.get_log("browser")
+
+
+class Busy(Page):
+    def program_file(self):
+        path = self.folder / "slow"
+        path.write_text(SLOW)
+        path.chmod(0o755)
+        return str(path)
+
+    def test_a_command_that_takes_long_is_stopped(self):
+        visitor = self.visit()
+        visitor.element("#command").send_keys("run 1000", visitor.keys.ENTER)
+        visitor.reads("#notice", "The program is at work: run 1000")
+        visitor.presses("Stop")
+        visitor.reads("#transcript", "run 1000 was ended: all is as before it.")
+        self.assertEqual(visitor.text("#notice"), "")
 
 
 class Doors(Page):

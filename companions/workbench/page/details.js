@@ -128,7 +128,8 @@ export function nextPanel(state, acts) {
     type: "button", class: `do ${line.split(" ")[0]}`, disabled: isBlocked, "data-line": line,
     title: `${does(line)}${index < 9 ? `. Key: ${index + 1}` : ""}`, click: () => acts.run(line),
   }, make("span", {}, line), place && make("small", {}, place));
-  const other = (text, key, isThere, click) => make("button", { type: "button", disabled: isBlocked || !isThere, title: `Key: ${key}`, click }, text);
+  const other = (text, key, isThere, click) => make("button",
+    { type: "button", disabled: isBlocked || !isThere, title: `Key: ${key}`, click }, text);
   return [
     make("h2", {}, "What may be done next", enabled.length > 0 && make("small", {}, plural(enabled.length, "thing"))),
     stepButtons(isBlocked || enabled.length === 0, acts),

@@ -38,8 +38,10 @@ function refusal(told) {
 
 // A window for a new vat; where the program refuses it, it is there again with what was typed.
 export function vatDialog(vats, send, was = { name: "", known: [], script: "" }) {
-  const name = make("input", { id: "vat-name", required: true, maxlength: 64, pattern: NAME, autocomplete: "off", spellcheck: "false", value: was.name });
-  const known = vats.map((vat) => make("label", {}, make("input", { type: "checkbox", value: vat, checked: was.known.includes(vat) }), vat));
+  const rules = { required: true, maxlength: 64, pattern: NAME, autocomplete: "off", spellcheck: "false" };
+  const name = make("input", { id: "vat-name", ...rules, value: was.name });
+  const known = vats.map((vat) => make("label", {},
+    make("input", { type: "checkbox", value: vat, checked: was.known.includes(vat) }), vat));
   const script = programField("vat-script", 12, was.script);
   const form = openDialog("vat", "A new vat", refusal(was.told), field("Its name", name),
     vats.length > 0 && make("fieldset", {}, make("legend", {}, "Vats that its script knows, by their names"), known),

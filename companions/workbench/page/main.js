@@ -5,7 +5,8 @@ import { eventDetails, introduction, nextPanel, thingDetails, whyDetails } from 
 import { askDialog, helpDialog, question, vatDialog } from "./dialogs.js";
 import { byId, linked, make, plural } from "./elements.js";
 import { listenToKeys } from "./keys.js";
-import { FOLDED, LANE, NAME, POSITION, Picture, isWaiting } from "./picture.js";
+import { Picture } from "./picture.js";
+import { FOLDED, LANE, NAME, POSITION, isWaiting } from "./rows.js";
 import { Gone, done, read, saved } from "./server.js";
 
 const PULSE = 2000;

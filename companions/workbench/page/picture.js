@@ -1,52 +1,21 @@
 // The picture: what is in view of the events and arrows that the server laid out. Only that is drawn.
 
 import { draw } from "./elements.js";
+import { arrowNode, arrowWords, bandNode, eventNode, eventWords, labelNode, stepNode, tipNode } from "./nodes.js";
+import { BOX, FROM, HEIGHT_OF_LABEL, LABEL, LEFT, NAME, TO, TOP, WIDTH, arrowKey } from "./rows.js";
 
 // How small and how large the picture gets; below what no text is drawn, from what on it is read well, and how large it gets by itself.
 const LEAST = 0.1, MOST = 2.5, LEGIBLE = 0.42, READABLE = 0.75, LARGEST = 1.15;
-const LABEL = 96, MARGIN = 24, BOX = 40, LONGEST = 11;
-// How far below their row the arrows of steps run.
-const BELOW = 46;
+const MARGIN = 24;
 // How many arrows that only pass through are drawn at most.
 const MOST_PASSING = 300;
+// How long the pointer rests on an event before it is asked what came of it, in milliseconds.
 const SLOW = 140;
-
-export const [NAME, POSITION, LIVE, KIND, LANE, LEFT, TOP, WIDTH, CAPTION, FOLDED] = Array(10).keys();
-const [SORT, SOURCE, TARGET, ARROW_LIVE, FROM, TO, PATH, HEAD, DOTS, TOLD] = Array(10).keys();
-
-// What a turn says that ended with a problem, or was abandoned.
-const FAULT = /^(problem|abandoned) /;
-
-// A message that is not done has no place in the journal.
-export const isWaiting = (row) => row[POSITION] === null;
-
-const arrowKey = (row) => `${row[SORT]} ${row[SOURCE]} ${row[TARGET]}`;
 
 const EMPTY = { width: 0, height: 0, lanes: [], events: [], arrows: [], hosts: {} };
 
-const shortened = (vat) => (vat.length > LONGEST ? `${vat.slice(0, LONGEST - 1)}…` : vat);
-
 function clamped(value, least, most) {
   return Math.min(Math.max(value, least), Math.max(least, most));
-}
-
-// Where on a path its label may stand, the best place first.
-const PLACES = [0.5, 0.44, 0.56, 0.38, 0.62, 0.32, 0.68, 0.26, 0.74, 0.2, 0.8];
-
-// A curve from one box to another: below them where they stand in one row, sidewards where there is room, else up or down.
-function curve(from, to) {
-  if (from[TOP] === to[TOP]) {
-    const [x, u] = [from, to].map((row) => row[LEFT] + row[WIDTH] / 2), y = from[TOP] + BOX;
-    return `M ${x} ${y} C ${x} ${y + BELOW} ${u} ${y + BELOW} ${u} ${y}`;
-  }
-  const isBeside = to[LEFT] > from[LEFT] + from[WIDTH] + 12, isBelow = to[TOP] > from[TOP];
-  if (isBeside) {
-    const x = from[LEFT] + from[WIDTH], y = from[TOP] + BOX / 2, u = to[LEFT], v = to[TOP] + BOX / 2, reach = Math.max(24, (u - x) / 2);
-    return `M ${x} ${y} C ${x + reach} ${y} ${u - reach} ${v} ${u} ${v}`;
-  }
-  const x = from[LEFT] + from[WIDTH] / 2, y = from[TOP] + (isBelow ? BOX : 0), u = to[LEFT] + to[WIDTH] / 2, v = to[TOP] + (isBelow ? 0 : BOX);
-  const reach = Math.max(20, Math.abs(v - y) / 2) * (isBelow ? 1 : -1);
-  return `M ${x} ${y} C ${x} ${y + reach} ${u} ${v - reach} ${u} ${v}`;
 }
 
 export class Picture {
@@ -87,20 +56,12 @@ export class Picture {
     for (const nodes of Object.values(this.drawn)) nodes.clear();
     this.layers.events.replaceChildren();
     this.layers.arrows.replaceChildren();
-    this.drawLanes();
+    this.layers.bands.replaceChildren(...data.lanes.map(bandNode));
+    this.labels.replaceChildren(...data.lanes.map(labelNode));
     this.overlay(this.steps, this.stepKind);
     if (this.isFitted) this.fit(this.isWhole);
     else if (atEnd) this.toEnd();
     this.draw();
-  }
-
-  drawLanes() {
-    const band = ([, top, bottom]) => draw("rect", { class: "band", y: top, height: bottom - top, rx: 8 });
-    const label = ([vat]) => draw("g", { class: "label" }, draw("rect", { width: LABEL, rx: 8 }),
-      draw("text", { class: "word", x: LABEL / 2 }, "vat"), draw("text", { class: "vat", x: LABEL / 2 }, shortened(vat)),
-      draw("title", {}, `vat ${vat}`));
-    this.layers.bands.replaceChildren(...this.data.lanes.map(band));
-    this.labels.replaceChildren(...this.data.lanes.map(label));
   }
 
   get size() {
@@ -166,8 +127,8 @@ export class Picture {
     this.scene.setAttribute("transform", `translate(${LABEL + this.x} ${this.y}) scale(${this.zoom})`);
     this.svg.classList.toggle("far", this.zoom < LEGIBLE);
     const left = -this.x / this.zoom, right = (this.size.width - LABEL - this.x) / this.zoom;
-    this.sync("events", this.eventsBetween(left, right), (row) => row[NAME], (row) => this.eventNode(row));
-    this.sync("arrows", this.arrowsBetween(left, right), arrowKey, (row) => this.arrowNode(row));
+    this.sync("events", this.eventsBetween(left, right), (row) => row[NAME], (row) => eventNode(row, this.data.lanes, this));
+    this.sync("arrows", this.arrowsBetween(left, right), arrowKey, (row) => arrowNode(row, this));
     this.placeLanes(left, right);
     this.placeThumb(left, right);
   }
@@ -181,10 +142,10 @@ export class Picture {
     [...this.labels.children].forEach((label, place) => {
       const [, top, bottom] = this.data.lanes[place], height = (bottom - top) * this.zoom;
       label.setAttribute("transform", `translate(0 ${this.y + top * this.zoom})`);
-      label.classList.toggle("low", height < 44);
+      label.classList.toggle("low", height < HEIGHT_OF_LABEL);
       label.children[0].setAttribute("height", height);
       label.children[1].setAttribute("y", height / 2 - 7);
-      label.children[2].setAttribute("y", height / 2 + (height < 44 ? 5 : 11));
+      label.children[2].setAttribute("y", height / 2 + (height < HEIGHT_OF_LABEL ? 5 : 11));
     });
   }
 
@@ -240,56 +201,9 @@ export class Picture {
     }
   }
 
-  eventNode(row) {
-    const width = row[WIDTH], folded = row[FOLDED], inset = isWaiting(row) ? 15 : 9, corner = isWaiting(row) ? BOX / 2 : 7;
-    const vat = this.data.lanes[row[LANE]][0];
-    const node = draw("g", {
-      id: `event-${row[NAME]}`, "data-event": row[NAME], role: "img", transform: `translate(${row[LEFT]} ${row[TOP]})`,
-      "aria-label": `${row[NAME]}, ${row[KIND]} of ${vat}, ${row[LIVE] ? "live" : "undone"}, ${row[CAPTION]}`,
-    },
-    draw("rect", { class: "ring", x: -4, y: -4, width: width + 8, height: BOX + 8, rx: corner + 3 }),
-    draw("rect", { class: "box", width, height: BOX, rx: corner }),
-    draw("text", { class: "title", x: inset, y: 16 }, row[NAME]),
-    draw("text", { class: "kind", x: width - inset, y: 16 }, row[KIND]),
-    draw("text", { class: "caption", x: inset, y: 32 }, row[CAPTION]),
-    folded.length > 0 && draw("g", { class: "folded", transform: `translate(${width} ${BOX})` },
-      draw("circle", { r: 8 }), draw("text", { y: 3.5 }, folded.length)),
-    draw("title", {}, folded.length ? `Folded into it: ${folded.join(" ")}` : `${row[NAME]} ${row[KIND]}`));
-    this.decorate(node, row);
-    return node;
-  }
-
-  decorate(node, row) {
-    const name = row[NAME], all = [name, ...row[FOLDED]];
-    const words = [isWaiting(row) ? "waiting" : "event", row[KIND], row[LIVE] ? "live" : "undone"];
-    if (FAULT.test(row[CAPTION]) && row[KIND] === "turn") words.push("fault");
-    if (all.some((each) => this.cone.has(each))) words.push("cone");
-    if (all.some((each) => this.marked.has(each))) words.push("marked");
-    if (this.chosen.some((each) => all.includes(each))) words.push("chosen");
-    if (name === this.current) words.push("current");
-    node.setAttribute("class", words.join(" "));
-  }
-
-  arrowNode(row) {
-    const node = draw("g", {}, draw("path", { d: row[PATH] }), draw("polygon", { points: row[HEAD] }),
-      row[DOTS].map(([x, y]) => draw("circle", { cx: x, cy: y, r: 2.6 })), draw("title", {}, row[TOLD]));
-    this.decorateArrow(node, row);
-    return node;
-  }
-
-  decorateArrow(node, row) {
-    const words = ["arrow", row[SORT], row[ARROW_LIVE] ? "live" : "undone"];
-    if (this.cone.has(row[SOURCE]) && this.cone.has(row[TARGET])) words.push("cone");
-    if (this.chosen.some((name) => name === row[SOURCE] || name === row[TARGET])) words.push("near");
-    node.setAttribute("class", words.join(" "));
-  }
-
   redecorate() {
-    for (const [name, node] of this.drawn.events) this.decorate(node, this.rows.get(name).row);
-    for (const row of this.data.arrows) {
-      const node = this.drawn.arrows.get(arrowKey(row));
-      if (node) this.decorateArrow(node, row);
-    }
+    for (const [name, node] of this.drawn.events) node.setAttribute("class", eventWords(this.rows.get(name).row, this));
+    for (const row of this.data.arrows) this.drawn.arrows.get(arrowKey(row))?.setAttribute("class", arrowWords(row, this));
   }
 
   // The event in whose box one is drawn, or nothing where none is.
@@ -317,28 +231,12 @@ export class Picture {
   // Arrows with texts over all, from event to event: the steps of a why, or what a refusal names.
   overlay(steps, kind = "why") {
     Object.assign(this, { steps, stepKind: kind });
-    const nodes = steps.map(([source, target, text], place) => this.stepNode(source, target, text, place, kind));
+    const nodes = steps.map(([source, target, text], place) => {
+      const [from, to] = [source, target].map((name) => this.rows.get(this.host(name))?.row);
+      const label = kind === "refusal" ? text : `${place + 1}${text ? ` · ${text}` : ""}`;
+      return from && to && from !== to ? stepNode(from, to, label, kind, this) : null;
+    });
     this.layers.steps.replaceChildren(...nodes.filter(Boolean));
-  }
-
-  stepNode(source, target, text, place, kind) {
-    const [from, to] = [source, target].map((name) => this.rows.get(this.host(name))?.row);
-    if (!from || !to || from === to) return null;
-    const arrow = this.data.arrows.find((row) => row[SOURCE] === from[NAME] && row[TARGET] === to[NAME]);
-    const path = draw("path", { d: arrow ? arrow[PATH] : curve(from, to), "marker-end": "url(#tip)" });
-    const label = kind === "refusal" ? text : `${place + 1}${text ? ` · ${text}` : ""}`, width = label.length * 6.7 + 14;
-    const { x, y } = this.freePlace(path, width);
-    return draw("g", { class: `step ${kind}`, "data-step": place }, path,
-      draw("g", { transform: `translate(${x} ${y})` }, draw("rect", { x: -width / 2, y: -10, width, height: 20, rx: 10 }),
-        draw("text", { y: 4 }, label)));
-  }
-
-  // A place on a path where a label hides no event, as near to its middle as there is one.
-  freePlace(path, width) {
-    const length = path.getTotalLength(), places = PLACES.map((part) => path.getPointAtLength(part * length));
-    const hides = ({ x, y }, row) => row[LEFT] + row[WIDTH] > x - width / 2 && row[TOP] < y + 12 && row[TOP] + BOX > y - 12;
-    const isFree = (place) => !this.eventsBetween(place.x - width / 2, place.x + width / 2).some((row) => hides(place, row));
-    return places.find(isFree) ?? places[0];
   }
 
   // Brings an event into view.
@@ -385,8 +283,7 @@ export class Picture {
 
   listen() {
     const { svg, rail } = this;
-    const tip = { id: "tip", viewBox: "0 0 8 8", refX: 7, refY: 4, markerWidth: 11, markerHeight: 11, orient: "auto" };
-    svg.prepend(draw("defs", {}, draw("marker", { ...tip, markerUnits: "userSpaceOnUse" }, draw("path", { d: "M 0 0 L 8 4 L 0 8 z" }))));
+    svg.prepend(tipNode());
     svg.addEventListener("wheel", (event) => this.wheel(event), { passive: false });
     svg.addEventListener("pointerdown", (event) => this.press(event));
     svg.addEventListener("pointerover", (event) => this.over(event.target.closest("[data-event]")?.dataset.event ?? null));
