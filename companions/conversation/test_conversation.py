@@ -26,8 +26,9 @@ from .typed import NotTyped, typed, written
 from .usages import usages_in
 
 PROGRAM = os.environ.get("EVATS_PROGRAM") or str(Path(__file__).with_name("stand_in"))
-# A program that answers the four questions, of one session.
-RECORDED = str(Path(__file__).with_name("recorded"))
+# One that does not know the commands why, event, message and object, and one that does, of one session.
+UNASKED = [str(Path(__file__).with_name("stand_in")), "--unasked"]
+RECORDED = [str(Path(__file__).with_name("recorded"))]
 ASKED_OF_IT = """\
 vat carol () 1
 def _ { method x() { 1 } method w() { 2 } }
@@ -489,8 +490,8 @@ class Helping(unittest.TestCase):
 
 
 class Watched(unittest.TestCase):
-    def session(self, text, program=PROGRAM):
-        session = Session([program], is_watched=True)
+    def session(self, text, words=(PROGRAM,)):
+        session = Session(words, is_watched=True)
         self.addCleanup(session.__exit__)
         for command in commands_of(lines_of(text)):
             session.give(command)
@@ -555,7 +556,7 @@ class Homes(Watched):
 class Questions(Watched):
     def setUp(self):
         self.asked = self.session(ASKED_OF_IT, RECORDED)
-        self.plain = self.session(ASKED_OF_IT)
+        self.plain = self.session(ASKED_OF_IT, UNASKED)
 
     def told(self, session, name):
         events, homes = session.look()

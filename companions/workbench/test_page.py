@@ -315,11 +315,11 @@ class Endings(Page):
 
 
 class Busy(Page):
-    def program_file(self):
+    def program_words(self):
         path = self.folder / "slow"
         path.write_text(SLOW)
         path.chmod(0o755)
-        return str(path)
+        return [str(path)]
 
     def test_a_command_that_takes_long_is_stopped(self):
         visitor = self.visit()
@@ -369,7 +369,7 @@ class Doors(Page):
 
 
 class Recorded(Page):
-    program = RECORDED
+    words = (RECORDED,)
 
     def test_two_events_are_chosen(self):
         text = Path(RECORDED).with_name("recorded.replies").read_text().split("> journal")[0]
@@ -387,7 +387,7 @@ class Recorded(Page):
 
 
 class Many(Page):
-    program = MANY
+    words = (MANY,)
 
     def test_ten_thousand_events_are_panned(self):
         visitor = self.visit()

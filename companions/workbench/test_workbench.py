@@ -22,7 +22,8 @@ from .desk import Desk
 from .server import PAGE, Workbench
 
 COMPANIONS = Path(__file__).resolve().parents[1]
-PROGRAM = os.environ.get("EVATS_PROGRAM") or str(Path(conversation.__file__).with_name("stand_in"))
+STAND_IN = str(Path(conversation.__file__).with_name("stand_in"))
+PROGRAM = os.environ.get("EVATS_PROGRAM") or STAND_IN
 RECORDED = str(Path(conversation.__file__).with_name("recorded"))
 SECONDS = 120
 THREE = """\
@@ -46,7 +47,7 @@ esac; done
 class Served(unittest.TestCase):
     """A workbench that is served, and a client of it."""
 
-    program = PROGRAM
+    words = (PROGRAM,)
 
     def setUp(self):
         folder = tempfile.TemporaryDirectory()
@@ -55,7 +56,7 @@ class Served(unittest.TestCase):
         patched = unittest.mock.patch.dict(os.environ, {"XDG_STATE_HOME": folder.name})
         patched.start()
         self.addCleanup(patched.stop)
-        self.session = Session([self.program_file()], is_watched=True)
+        self.session = Session(self.program_words(), is_watched=True)
         self.addCleanup(self.session.__exit__)
         self.desk = Desk(self.session, {"program": "tried", "standing": "named"})
         self.server = Workbench(self.desk)
@@ -63,8 +64,8 @@ class Served(unittest.TestCase):
         self.addCleanup(self.server.server_close)
         self.addCleanup(self.server.shutdown)
 
-    def program_file(self):
-        return self.program
+    def program_words(self):
+        return self.words
 
     def ask(self, method, path, body=None, **headers):
         """The status and the body that the server answers with, whatever is said of it."""
@@ -261,12 +262,6 @@ class Sessions(Served):
         self.assertIn(["bank", "object e8.o0 _"], self.read("told", name="e8.o0")["shown"])
         self.assertEqual(self.read("told", name="e99"), {"fault": "The journal has no event e99 that is not settled."})
 
-    def test_why_by_the_journal_alone(self):
-        self.do(THREE)
-        why = self.read("why", first="e5", second="e14")
-        self.assertEqual((why["kind"], why["steps"][0][0], why["steps"][-1][1]), ("chain", "e5", "e14"))
-        self.assertIn("does not know the command `why`", why["told"])
-
     def test_words_go_on(self):
         self.do("vat bank () 0")
         self.assertEqual(self.read("words", before="", text="undo"), ["undo ", "undo-cone "])
@@ -335,11 +330,11 @@ class Endings(Served):
 
 
 class Busy(Served):
-    def program_file(self):
+    def program_words(self):
         path = self.folder / "slow"
         path.write_text(SLOW)
         path.chmod(0o755)
-        return str(path)
+        return [str(path)]
 
     def test_a_command_that_takes_long_can_be_stopped(self):
         state = self.done("do", text="run 1000\nenabled")
@@ -354,7 +349,7 @@ class Busy(Served):
 
 
 class Recorded(Served):
-    program = RECORDED
+    words = (RECORDED,)
 
     def setUp(self):
         super().setUp()
@@ -374,6 +369,23 @@ class Recorded(Served):
 
     def test_an_object(self):
         self.assertEqual(self.read("told", name="e4.o0")["lines"][-1], " method y(c) { c <- w() }")
+
+
+class Unasked(Served):
+    words = (STAND_IN, "--unasked")
+
+    def test_why_by_the_journal_alone(self):
+        self.do(THREE)
+        why = self.read("why", first="e5", second="e14")
+        self.assertEqual((why["kind"], why["steps"][0][0], why["steps"][-1][1]), ("chain", "e5", "e14"))
+        self.assertIn("does not know the command `why`", why["told"])
+
+    def test_what_the_program_cannot_tell(self):
+        self.do(THREE)
+        cannot = "This program cannot tell more: it does not know the command `{}`."
+        self.assertEqual(self.read("told", name="e14")["notes"], [cannot.format("event")])
+        self.assertEqual(self.read("told", name="e6.m1")["notes"], [cannot.format("message")])
+        self.assertEqual(self.read("told", name="e8.o0")["notes"], [cannot.format("object")])
 
 
 class Commands(unittest.TestCase):
