@@ -9,7 +9,7 @@ from .world import read_world
 
 # Commands behind which the program no longer tells what it told before.
 HIDING = {"undo", "undo-cone", "settle"}
-# Behind so many events the journal takes too long to be asked for before each of these commands.
+# Behind so many events the journal takes too long to be asked for before each of these commands, and what follows takes too long.
 MOST_LOOKED_AT = 2_000
 # How many forwardings are taken back at most, one after another, to see where they were.
 MOST_TRIED = 50
@@ -35,7 +35,7 @@ class Places:
         self.note_turns(session, events, world)
         self.note_messages(events, world)
         self.spread(events)
-        if self.try_forwardings(session, events):
+        if self.count <= MOST_LOOKED_AT and self.try_forwardings(session, events):
             self.spread(events)
 
     def note_named(self, session, events, world):
