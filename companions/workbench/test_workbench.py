@@ -4,6 +4,7 @@ import http.client
 import json
 import os
 import re
+import shutil
 import signal
 import subprocess
 import sys
@@ -410,6 +411,32 @@ class Commands(unittest.TestCase):
         ended = subprocess.run(words, cwd=COMPANIONS, capture_output=True, text=True, check=False, timeout=SECONDS)
         self.assertEqual(ended.returncode, 2)
         self.assertIn("workbench: cannot run /nowhere/program", ended.stderr)
+
+
+class Tools(unittest.TestCase):
+    """What .ci/tools says on a machine without a browser."""
+
+    def said(self, installer=None):
+        with tempfile.TemporaryDirectory() as folder:
+            for name in ("bash", "env", "dirname", "mktemp", "timeout", "tail", "rm", "sh"):
+                os.symlink(shutil.which(name), Path(folder, name))
+            os.symlink(sys.executable, Path(folder, "python3"))
+            for name, told in {"id": "0", **({"apt-get": installer} if installer else {})}.items():
+                Path(folder, name).write_text(f"#!/bin/sh\necho {told}\n[ {name} = id ]\n")
+                Path(folder, name).chmod(0o755)
+            ran = subprocess.run([COMPANIONS.parent / ".ci" / "tools"], env={"PATH": folder}, capture_output=True, text=True,
+                                 check=False, timeout=SECONDS)
+        self.assertEqual((ran.returncode, ran.stderr), (0, ""))
+        return ran.stdout
+
+    def test_nothing_is_installed_where_that_is_not_possible(self):
+        self.assertIn("tools: not found, so the page of ./workbench will not be tried: chromium", self.said())
+
+    def test_an_installation_that_fails_is_told(self):
+        said = self.said("no network")
+        self.assertIn("tools: installing chromium chromium-driver", said)
+        self.assertIn("tools: installing failed; apt-get said:\nno network\n", said)
+        self.assertIn("tools: not found, so the page of ./workbench will not be tried: chromium", said)
 
 
 if __name__ == "__main__":
