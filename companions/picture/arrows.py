@@ -32,9 +32,9 @@ def direct_causes(events):
     return direct
 
 
-def hops(event, sources, shown):
-    """The event on the picture from which a message came to the event that took it, and those on the way that are not shown."""
-    folded, source = [], sources[event.name]
+def hops(source, sources, shown):
+    """The event on the picture from which a message came that a source brought, and those on the way that are not shown."""
+    folded = []
     while source not in shown and source in sources:
         folded.append(source)
         source = sources[source]
@@ -47,9 +47,19 @@ def message_arrows(events, shown):
     found = []
     for event in events:
         if event.name in shown and event.message:
-            source, folded = hops(event, sources, shown)
+            source, folded = hops(sources[event.name], sources, shown)
             if source in shown:
                 found.append(Arrow("message", source, event.name, event.is_live and lives[source], folded))
+    return found
+
+
+def arrows_to_waiting(waiting, events, shown):
+    """An arrow to each message that is not done, from the event that brought it where it is."""
+    sources, found = origins(events), []
+    for message in waiting:
+        source, folded = hops(message.causes[0], sources, shown)
+        if source in shown:
+            found.append(Arrow("message", source, message.name, True, folded))
     return found
 
 

@@ -6,11 +6,11 @@ rows, and leave a box where no other one stands in their way: no message runs th
 """
 from bisect import bisect_left, insort
 from collections import defaultdict
-from dataclasses import dataclass, field
+from dataclasses import dataclass, field, replace
 
-from conversation.journal import Event, maker_of, origins
+from conversation.journal import Event, maker_of
 
-from .arrows import Arrow, cause_arrows, message_arrows
+from .arrows import arrows_to_waiting, cause_arrows, message_arrows
 
 # Lengths are in pixels; those of texts are in characters, and what one takes is a little more than most fonts need.
 STEP, GAP = 28, 14
@@ -146,21 +146,30 @@ def scene_of(session):
 
 
 def waiting_messages(events, homes, messages):
-    """The messages that wait at a vat or are on their way to one, as events that are still to come; of each vat the first ones.
-    Their vats are noted."""
+    """The messages that wait at a vat or are on their way to one, as events that are still to come; of each vat the first ones,
+    and of the others how many there are. Their vats are noted."""
     movers, makers = {}, {event.name for event in events}
     for event in events:
         if event.is_live and event.kind in ("arrive", "forward"):
             movers[event.message] = event.name
-    found, counts = [], defaultdict(int)
+    found, vats = defaultdict(list), set(homes.values())
     for name, (place, vat) in messages.items():
         source = movers.get(name, maker_of(name))
-        if place != "done" and source in makers and counts[vat] < MOST_WAITING and vat in homes.values():
-            counts[vat] += 1
-            homes[name] = vat
-            kind = "waits" if place == "at" else "flies"
-            found.append(Event(name, True, kind, (f"{'at' if place == 'at' else 'to'} {vat}",), (source,), name))
-    return found
+        if place != "done" and source in makers and vat in vats:
+            kind, where = ("waits", f"at {vat}") if place == "at" else ("flies", f"to {vat}")
+            found[vat].append(Event(name, True, kind, (where,), (source,), name))
+    shown = [message for waiting in found.values() for message in first_of(waiting)]
+    homes.update((message.name, vat) for vat, waiting in found.items() for message in waiting)
+    return shown
+
+
+def first_of(waiting):
+    """The first messages that wait in a lane, of which the last one says how many more there are."""
+    more = len(waiting) - MOST_WAITING
+    if more <= 0:
+        return waiting
+    *first, last = waiting[:MOST_WAITING]
+    return [*first, replace(last, arguments=(f"and {more} more",))]
 
 
 def caption_of(event, texts):
@@ -194,20 +203,6 @@ def hosts_of(scene, is_folded):
         is_within = is_folded and event.kind in FOLDED and host and (lives.get(host, True) or not event.is_live)
         hosts[event.name] = host if is_within else event.name
     return hosts
-
-
-def arrows_to_waiting(scene, boxes):
-    """An arrow to each message that is not done, from the event that brought it where it is, or where that is folded into the
-    message from the one before."""
-    sources, found = origins(scene.events), []
-    for message in scene.waiting:
-        folded, (source,) = [], message.causes
-        while source not in boxes and source in sources:
-            folded.append(source)
-            source = sources[source]
-        if source in boxes:
-            found.append(Arrow("message", source, message.name, True, tuple(reversed(folded))))
-    return found
 
 
 def crossed_rows(source, target, order):
@@ -318,7 +313,7 @@ def layout(scene, is_folded=True, has_causes=False):
     for name, host in hosts.items():
         if name != host:
             boxes[host].folded.append(name)
-    messages = message_arrows(scene.events, boxes) + arrows_to_waiting(scene, boxes)
+    messages = message_arrows(scene.events, boxes) + arrows_to_waiting(scene.waiting, scene.events, boxes)
     place_boxes(boxes, messages, scene.lanes)
     order = {vat: place for place, vat in enumerate(scene.lanes)}
     causes = cause_arrows(scene.events, boxes) if has_causes else []

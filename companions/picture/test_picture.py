@@ -166,7 +166,7 @@ class Pictures(unittest.TestCase):
     def test_a_lane_has_few_messages_that_wait(self):
         scene = scene_of(JOURNAL)
         found = waiting_messages(scene.events, scene.homes, {f"e2.m{number}": ("at", "a") for number in range(100)})
-        self.assertEqual(len(found), MOST_WAITING)
+        self.assertEqual((len(found), found[0].arguments, found[-1].arguments), (MOST_WAITING, ("at a",), ("and 88 more",)))
 
     def test_a_dark_picture_has_the_dark_colours(self):
         light, dark = self.drawn(JOURNAL), self.drawn(JOURNAL, look=DARK)
