@@ -382,6 +382,8 @@ class Recorded(Page):
         labels = visitor.run("return [...document.querySelectorAll('#picture .step text')].map((each) => each.textContent)")
         self.assertEqual(labels, ["1 · msg e7.m0", "2 · msg e8.m0", "3 · msg e8.m0", "4 · msg e8.m0"])
         self.assertEqual([name for name, words in visitor.events().items() if "chosen" in words], ["e7", "e14"])
+        visitor.acts().move_to_element(visitor.element("#details li:nth-child(2)")).perform()
+        visitor.element("#picture .step.pointed[data-step='1']")
         visitor.clicks("e14")
         visitor.reads("#details", "what carol knows of e10.p0", "sent <e1.p0> <- w()")
 

@@ -59,6 +59,7 @@ def take_both(visitor):
     visitor.clicks("e6")
     visitor.clicks_with_shift("e14")
     visitor.element("#picture .step")
+    visitor.sees("the step", "return document.getAnimations().length", wanted=lambda count: count == 0)
     visitor.sees("the cone", "return document.querySelectorAll('#picture .event.cone').length")
     visitor.browser.save_screenshot(str(ROOT / "docs" / "workbench-light.png"))
     visitor.element("#theme").click()

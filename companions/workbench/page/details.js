@@ -88,7 +88,8 @@ const KINDS = {
 };
 
 export function whyDetails(first, second, why, acts) {
-  const step = ([source, target, , words]) => make("li", {}, linked(source), " → ", linked(target), words ? [" by ", linked(words)] : null);
+  const step = ([source, target, , words], place) => make("li", { mouseenter: () => acts.point(place), mouseleave: () => acts.point(null) },
+    linked(source), " → ", linked(target), words ? [" by ", linked(words)] : null);
   // Where the program was not asked, nothing is known of cells.
   const isUnknown = why.kind === "none" && why.told;
   return [

@@ -189,7 +189,7 @@ async function open(names, isAgain = false) {
   if (!name.includes(".") || picture.rows.has(name)) chosen = names;
   picture.choose(chosen);
   byId("details").replaceChildren(...detailsOf(names, told).flat(Infinity).filter(Boolean));
-  if (isWhy) picture.overlay(told.steps ?? [], told.kind === "crossed" ? "refusal" : "why");
+  if (isWhy) picture.overlay(told.steps ?? [], told.kind === "crossed" ? "refusal" : "why", !isAgain);
   if (isAgain) return;
   byId("details").scrollTop = 0;
   forgetRefusal();
@@ -288,6 +288,7 @@ const acts = {
   steps, clear, redo, settle, startWhy,
   run: (line) => give(line),
   open: (name) => open([name]),
+  point: (place) => picture.point(place),
   undo: (name) => askUndo(name),
   exchange: (position) => give(`exchange ${position}`),
   vat: () => vatDialog(state.vats, attempt),

@@ -11,6 +11,8 @@ const CHARACTER = 6.7;
 // How far below their row the arrows of steps run, and where on one its label may stand, the best place first.
 const BELOW = 46;
 const PLACES = [0.5, 0.44, 0.56, 0.38, 0.62, 0.32, 0.68, 0.26, 0.74, 0.2, 0.8];
+// How long a step comes after the one before it, in seconds.
+const DELAY = 0.35;
 // What a turn says that ended with a problem, or was abandoned.
 const FAULT = /^(problem|abandoned) /;
 
@@ -91,10 +93,12 @@ function freePlace(path, width, eventsBetween) {
 }
 
 // A step from one event to another with its label: along their arrow where there is one.
-export function stepNode(from, to, label, kind, picture) {
+export function stepNode(from, to, label, kind, place, picture) {
   const arrow = picture.data.arrows.find((row) => row[SOURCE] === from[NAME] && row[TARGET] === to[NAME]);
   const path = draw("path", { d: arrow ? arrow[PATH] : curve(from, to), "marker-end": "url(#tip)" });
   const width = label.length * CHARACTER + 14, { x, y } = freePlace(path, width, (left, right) => picture.eventsBetween(left, right));
-  return draw("g", { class: `step ${kind}` }, path, draw("g", { transform: `translate(${x} ${y})` },
+  const node = draw("g", { class: `step ${kind}`, "data-step": place }, path, draw("g", { transform: `translate(${x} ${y})` },
     draw("rect", { x: -width / 2, y: -10, width, height: 20, rx: 10 }), draw("text", { y: 4 }, label)));
+  node.style.animationDelay = `${place * DELAY}s`;
+  return node;
 }

@@ -228,15 +228,22 @@ export class Picture {
     this.redecorate();
   }
 
-  // Arrows with texts over all, from event to event: the steps of a why, or what a refusal names.
-  overlay(steps, kind = "why") {
+  // Arrows with texts over all, from event to event: the steps of a why, which come one after another where they are new, or what
+  // a refusal names.
+  overlay(steps, kind = "why", isNew = false) {
     Object.assign(this, { steps, stepKind: kind });
+    this.layers.steps.classList.toggle("coming", isNew);
     const nodes = steps.map(([source, target, text], place) => {
       const [from, to] = [source, target].map((name) => this.rows.get(this.host(name))?.row);
       const label = kind === "refusal" ? text : `${place + 1}${text ? ` · ${text}` : ""}`;
-      return from && to && from !== to ? stepNode(from, to, label, kind, this) : null;
+      return from && to && from !== to ? stepNode(from, to, label, kind, place, this) : null;
     });
     this.layers.steps.replaceChildren(...nodes.filter(Boolean));
+  }
+
+  // Has one of the steps stand out, or none.
+  point(place) {
+    for (const step of this.layers.steps.children) step.classList.toggle("pointed", step.dataset.step === String(place));
   }
 
   // Brings an event into view.
