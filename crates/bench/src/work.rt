@@ -82,13 +82,15 @@ struct Channels<L: Opening> {
 }
 
 fn idle<L: Opening>(seat: Seat<L>) -> Free<L>
-    requires { (seat.deeds.tickets ≡ []) × AreWork (events_of seat.deeds) }
+    requires tickets { seat.deeds.tickets ≡ [] }
+    requires work { AreWork (events_of seat.deeds) }
 {
     Free { seat }
 }
 
 fn loaded<L: Opening>(worker: usize, seat: Seat<L>, returned: Returned) -> Busy<L>
-    requires { (seat.deeds.tickets ≡ returned.carried.event ∷ []) × AreWork (events_of seat.deeds) }
+    requires tickets { seat.deeds.tickets ≡ returned.carried.event ∷ [] }
+    requires work { AreWork (events_of seat.deeds) }
 {
     Busy {
         worker,
@@ -104,7 +106,8 @@ fn let_go<L: Opening, P: Workplace<L>, R: Wait>(
     seat: Seat<L>,
     number: EventName,
 ) -> Free<L>
-    requires { (seat.deeds.tickets ≡ number ∷ []) × AreWork (events_of seat.deeds) }
+    requires tickets { seat.deeds.tickets ≡ number ∷ [] }
+    requires work { AreWork (events_of seat.deeds) }
 {
     let mut seat = seat;
     place.abandon(rt, number, &mut seat);
@@ -118,7 +121,8 @@ fn settle<L: Opening, P: Workplace<L>, R: Wait>(
     seat: Seat<L>,
     ticket: Ticket<Ran>,
 ) -> (Free<L>, bool)
-    requires { (seat.deeds.tickets ≡ ticket.carried.event ∷ []) × AreWork (events_of seat.deeds) }
+    requires tickets { seat.deeds.tickets ≡ ticket.carried.event ∷ [] }
+    requires work { AreWork (events_of seat.deeds) }
 {
     let mut seat = seat;
     match place.give(rt, ticket, &mut seat) {
@@ -144,7 +148,8 @@ fn run_turn<L: Opening, P: Workplace<L>, G: Gate, R: Wait>(
     seat: Seat<L>,
     ticket: Ticket<Out>,
 ) -> Result<Busy<L>, Free<L>>
-    requires { (seat.deeds.tickets ≡ ticket.event ∷ []) × AreWork (events_of seat.deeds) }
+    requires tickets { seat.deeds.tickets ≡ ticket.event ∷ [] }
+    requires work { AreWork (events_of seat.deeds) }
 {
     let message = ticket.out().name;
     gate.before_turn(message);

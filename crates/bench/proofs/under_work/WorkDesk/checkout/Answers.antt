@@ -17,8 +17,8 @@ invariant_of-self-in-Moved g c =
     let picks = subst (λ (p : Pick). Picks budget c.args.seat.now.number p old now) c.in-Moved.is c.in_ok-pick.ensures.ok.0 in
     shop_picked_moved _ _ _ _ _ _ _ _ _ old now c.self.invariant budget c.args.seat.now.number seated.0 seated.1 c.in-Moved.field-0 picks
 
-pub first_lent-requires : goal.first_lent-requires
-first_lent-requires g c =
+pub first_lent-self-inside-requires : goal.first_lent-self-inside-requires
+first_lent-self-inside-requires g c =
     let old = book_of c.self.inside.desk.book in
     let now = book_of c.checkout.new.self.book in
     let budget = c.self.inside.desk.budget in
@@ -38,12 +38,12 @@ invariant_of-self-in-Turn g c =
     let seated = c.checkout.ensures.seated in
     let picks = subst (λ (p : Pick). Picks i.desk.budget c.args.seat.now.number p old now) c.in-Turn.is c.in_ok-pick.ensures.ok.0 in
     let some = c.if-self-eq0.false in
-    let low = c.first_lent.ensures.low in
+    let low = c.first_lent-self-inside.ensures.low in
     let number = ap (λ (o : Out). o.event.0) c.out.ensures ∙ picks.2.named in
     let one_left : i.left ≡ (i.left - 1) + 1 = omega (arith, some) in
-    let first : c.first_lent.result ≤ old.next = omega (arith, low, number) in
-    subst (λ (o : Out). IsWorkshop l.before l.seats s.most s.book (i.left - 1) i.given c.first_lent.result (o.event.0 + 1) false now) (sym c.out.ensures)
-    (shop_picked_turn _ _ _ _ _ _ _ _ _ old now c.self.invariant i.desk.budget c.args.seat.now.number seated.0 seated.1 t picks (i.left - 1) c.first_lent.result one_left first c.first_lent.ensures.covers)
+    let first : c.first_lent-self-inside.result ≤ old.next = omega (arith, low, number) in
+    subst (λ (o : Out). IsWorkshop l.before l.seats s.most s.book (i.left - 1) i.given c.first_lent-self-inside.result (o.event.0 + 1) false now) (sym c.out.ensures)
+    (shop_picked_turn _ _ _ _ _ _ _ _ _ old now c.self.invariant i.desk.budget c.args.seat.now.number seated.0 seated.1 t picks (i.left - 1) c.first_lent-self-inside.result one_left first c.first_lent-self-inside.ensures.covers)
 
 pub returns-clause-work : goal.returns-clause-work
 returns-clause-work g c =

@@ -1,4 +1,4 @@
-use Rattle.std.proofs.Common.{◌≡◌, true, false}
+use Rattle.std.proofs.Common.{◌≡◌, ◌≤◌, true, false}
 use Rattle.book.specs.BookView.{book_of}
 use Rattle.bench.specs.Workshop.{IsWorkshop}
 use Rattle.bench.proofs.under_work.WorkDesk.close.Given as goal
@@ -7,4 +7,4 @@ use Rattle.bench.proofs.under_work.WorkDesk.close.Given as goal
 abbrev pub invariant-loop-number : goal.invariant-loop-number
 invariant-loop-number g l =
     IsWorkshop g.L.Opening.before g.L.Opening.seats g.L.Shift.most g.L.Shift.book 0 l.given l.number l.behind false (book_of l.book)
-    × (l.untouched ≡ true → (book_of l.book ≡ g.L.Shift.book) × (l.first ≡ l.behind))
+    × (l.untouched ≡ true → (book_of l.book ≡ g.L.Shift.book) × (l.behind ≤ l.number))

@@ -5,7 +5,7 @@ use Rattle.bench.proofs.under_work.WorkDesk.give.Goals as goal
 
 pub invariant_of-self : goal.invariant_of-self
 invariant_of-self g c =
-    shop_refused _ _ _ _ _ _ _ _ _ (book_of c.self.inside.desk.book) (book_of c.give.new.self.book) c.self.invariant c.in_err-event.field-0.1 c.args.ticket.carried.event c.in_err-event.ensures.left
+    shop_refused _ _ _ _ _ _ _ _ _ (book_of c.self.inside.desk.book) (book_of c.give.new.self.book) c.self.invariant c.in_err-event.field-0.0.1 c.args.ticket.carried.event c.in_err-event.ensures.left
 
 pub returns-in_err-event-clause-work : goal.returns-in_err-event-clause-work
 returns-in_err-event-clause-work g c =

@@ -1,4 +1,4 @@
-use Rattle.std.proofs.Common.{ℕ, sym, subst}
+use Rattle.std.proofs.Common.{ℕ, true, sym, subst}
 use Rattle.book.specs.Books.{Book}
 use Rattle.bench.specs.Workshop.{IsWorkshop}
 use Rattle.bench.proofs.Working.{shop_begins}
