@@ -68,7 +68,10 @@ fn run<R: Runtime + AllocGlobal + Threads + Wait + Sync>(rt: &R) -> u8 {
 fn main(rt: HostRuntime) -> ExitCode {
     // All is done on a stack whose size the system's limits do not set.
     let own = rt;
-    let status = match Builder::new().stack_size(STACK).spawn(&rt, move || run(&own)) {
+    let status = match Builder::new()
+        .stack_size(STACK)
+        .spawn(&rt, move || run(&own))
+    {
         Ok(thread) => thread.join(&rt),
         Err(_) => end(&rt, &Err(Complaint::NoThread)),
     };
