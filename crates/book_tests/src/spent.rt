@@ -45,6 +45,10 @@ impl Spent {
     /// The smallest request is refused.
     fn expect_refused(&self, rt: &(impl Abort + AllocGlobal)) {
         let asked: Result<Vec<u8>, _> = Vec::with_capacity(rt.alloc(), 1);
-        assert!(rt; asked.is_err(), "a request behind {} blocks is not refused", self.blocks.len());
+        assert!(rt;
+            asked.is_err(),
+            "a request behind {} blocks is not refused",
+            self.blocks.len()
+        );
     }
 }

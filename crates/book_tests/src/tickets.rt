@@ -24,7 +24,12 @@ pub(crate) fn asked(rt: &(impl Abort + AllocGlobal), first: &str) -> Book {
 }
 
 /// The ticket of the first message of an event, whose number is this.
-pub(crate) fn checkout(rt: &(impl Abort + AllocGlobal), book: &mut Book, of: u64, event: u64) -> Ticket<Out> {
+pub(crate) fn checkout(
+    rt: &(impl Abort + AllocGlobal),
+    book: &mut Book,
+    of: u64,
+    event: u64,
+) -> Ticket<Out> {
     match book.checkout(message(of), BUDGET, SEAT) {
         Ok(ticket) => {
             if ticket.out().event != EventName(event) {
