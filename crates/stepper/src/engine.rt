@@ -38,8 +38,8 @@ use streams::lines::Lines;
 use streams::outlet::Outlet;
 
 /// The bytes of the stack on which commands are to be answered: a text may nest thousands of levels deep, and the calls
-/// that read it nest with it.
-pub const STACK: usize = 256 << 20;
+/// that read it nest with it. The deepest text was measured to need 13 MiB of it, and level 1,000 of a turn less than two.
+pub const STACK: usize = 32 << 20;
 
 /// What the author's options allow.
 #[derive(Clone, Copy)]
