@@ -5,7 +5,7 @@ ghost use Rattle.book.specs.Fault as book_fault;
 ghost use Rattle.worldcells.specs.View.{world_of};
 ghost use Rattle.deliveries.specs.Outcomes.{told_of};
 ghost use Rattle.commands.specs.Commands.{fault_text};
-ghost use Rattle.stepper.specs.Replies.{refused, queued_text, done_text, idle_text, turned_text, told_text, undone_text, redone_text, exchanged_text, settled_text, logged_text};
+ghost use Rattle.stepper.specs.Replies.{refused, queued_text, done_text, idle_text, turned_text, told_text, undone_text, redone_text, exchanged_text, settled_text, worked_text, logged_text};
 ghost use Rattle.printing.specs.Listing.{journal_text, cone_text};
 ghost use Rattle.journal.specs.Journals.{items_of};
 ghost use Rattle.journal.specs.Lines.{lines_of};
