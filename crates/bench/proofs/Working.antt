@@ -140,7 +140,7 @@ module _ (before seats most : ℕ) (began : Book) (left given first behind : ℕ
       let named : u.number.0 ≡ old.next = lends.named in
       let d = h.drawn in
       let wide : (v : Lent) → IsLent before first behind began.out v → IsLent before first' (old.next + 1) began.out v
-          = λ v is. ((λ a. (covers v.number.0 (is.0 a).0 (is.0 a).1, (let b = (is.0 a).1 in omega (arith, b, d)))), is.1) in
+      = λ v is. ((λ a. (covers v.number.0 (is.0 a).0 (is.0 a).1, (let b = (is.0 a).1 in omega (arith, b, d)))), is.1) in
       let fresh : IsLent before first' (old.next + 1) began.out u = ((λ a. (omega (arith, low, named), omega (arith, named))), (λ below. let same = lends.same_seat in absurd (omega (arith, same, above, below)))) in
       subst (IsWorkshop before seats most began left' given first' (old.next + 1) false) (sym lent) (record {
         greatest = h.greatest;
@@ -269,7 +269,6 @@ refused_work _ n old now is all = subst (λ (x : Held). AreWork (events_of x.dee
 
 pub closed_work : (n : EventName) (old now : Held) → now ≡ held old (Closes n) → AreWork (events_of old.deeds) → AreWork (events_of now.deeds)
 closed_work n old now is all = subst (λ (x : Held). AreWork (events_of x.deeds)) (sym is) all
-
 
 -- ---- of either answer of a call
 pub if_ok : {A E : Type 0} {P Q : A → Type 0} (r : Result A E) → ((a : A) → P a → Q a) → IfOk r P → IfOk r Q

@@ -362,14 +362,7 @@ fn run_all<
     P: Workplace<L> + Sync,
     G: Gate + Sync,
     R: Threads + Wait + Sync,
->(
-    rt: &R,
-    alloc: Global,
-    place: &P,
-    workers: usize,
-    gate: &G,
-    pile: Pile<L>,
-) -> Option<Pile<L>> {
+>(rt: &R, alloc: Global, place: &P, workers: usize, gate: &G, pile: Pile<L>) -> Option<Pile<L>> {
     let (to, results) = bounded::<Busy<L>, Global>(alloc, workers).ok()?;
     let mut threads = Vec::with_capacity(alloc, workers).ok()?;
     let mut backs = Vec::with_capacity(alloc, workers).ok()?;

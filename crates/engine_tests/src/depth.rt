@@ -1,7 +1,7 @@
 // The deepest calls on a stack smaller than the program's own, as a thread of many would have it.
 
-use crew::crew::Nobody;
 use crate::fakes::{Talk, commands_of, replies_within};
+use crew::crew::Nobody;
 use std::alloc::Global;
 use std::process::Abort;
 use std::rt::Runtime;

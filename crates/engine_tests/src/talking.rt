@@ -1,7 +1,7 @@
 // An author who waits for each reply.
 
-use crew::crew::Nobody;
 use crate::fakes::{ORDER, SUM, Talk, ending_of, replies_within};
+use crew::crew::Nobody;
 use std::alloc::Global;
 use std::io;
 use std::io::{Error, ErrorKind, Read, Write};

@@ -83,7 +83,7 @@ module _ {R W : Type 0} (remaining : R → Option (List ℕ)) (contents : W → 
       from_mid : (input rest : List ℕ) → FirstReply mid.limits (book_of mid.book) (said input) (behind_line input) (string_bytes new.written.text) a.refusal (book_of new.book) rest
           → FirstReply old.limits (book_of old.book) (said input) (behind_line input) (string_bytes new.written.text) a.refusal (book_of new.book) rest
       from_mid input rest h =
-          subst (λ (n : ℕ). FirstReply n (book_of old.book) (said input) (behind_line input) (string_bytes new.written.text) a.refusal (book_of new.book) rest) limits
+          subst (λ (n : Limits). FirstReply n (book_of old.book) (said input) (behind_line input) (string_bytes new.written.text) a.refusal (book_of new.book) rest) limits
           (subst (λ (b : Book). FirstReply mid.limits b (said input) (behind_line input) (string_bytes new.written.text) a.refusal (book_of new.book) rest) book h)
 
   -- a fault behind the line of a command
@@ -126,7 +126,7 @@ module _ {R W : Type 0} (remaining : R → Option (List ℕ)) (contents : W → 
     pub text : List ℕ
     pub gives : Gives contents sink then text
     pub story : Story limits taken text (is_ended now) engine.written.refused (book_of engine.book)
-    pub same_budget : engine.limits ≡ limits
+    pub same_limits : engine.limits ≡ limits
 
   -- before the first command
   pub run_begins : (limits : Limits) (source : Lines R) (sink : Outlet W) (engine : Engine) → IsSound remaining source → Gives contents sink sink [] → book_of engine.book ≡ blank → engine.written.refused ≡ false → engine.limits ≡ limits
@@ -139,7 +139,7 @@ module _ {R W : Type 0} (remaining : R → Option (List ℕ)) (contents : W → 
     text = [];
     gives = g;
     story = story_begins limits (is_ended source) engine.written.refused (book_of engine.book) e f;
-    same_budget = h;
+    same_limits = h;
   }
 
   -- nothing more is given behind a text
@@ -236,9 +236,9 @@ module _ {R W : Type 0} (remaining : R → Option (List ℕ)) (contents : W → 
       next_story : Story limits (g.taken ++ (t.bytes ++ a.bytes)) (g.text ++ reply) (is_ended later) next.written.refused (book_of next.book)
       next_story = subst (λ (z : Bool). Story limits (g.taken ++ (t.bytes ++ a.bytes)) (g.text ++ reply) (is_ended later) z (book_of next.book)) (sym a.refused)
           (story_more (t.bytes ++ a.bytes) (open_story limits source now later sink then two engine g t.not_ended) (some_piece t.bytes a.bytes (is_ended mid) t.one)
-          (subst (λ (n : ℕ). FirstReply n (book_of engine.book) (said (t.bytes ++ a.bytes)) (behind_line (t.bytes ++ a.bytes)) reply a.refusal (book_of next.book) []) g.same_budget a.here)
+          (subst (λ (n : Limits). FirstReply n (book_of engine.book) (said (t.bytes ++ a.bytes)) (behind_line (t.bytes ++ a.bytes)) reply a.refusal (book_of next.book) []) g.same_limits a.here)
           a.whole
-          (λ unended more. subst (λ (n : ℕ). FirstReply n (book_of engine.book) (said ((t.bytes ++ a.bytes) ++ more)) (behind_line ((t.bytes ++ a.bytes) ++ more)) reply a.refusal (book_of next.book) more) g.same_budget (a.before unended more)))
+          (λ unended more. subst (λ (n : Limits). FirstReply n (book_of engine.book) (said ((t.bytes ++ a.bytes) ++ more)) (behind_line ((t.bytes ++ a.bytes) ++ more)) reply a.refusal (book_of next.book) more) g.same_limits (a.before unended more)))
 
       next_taken : Consumes (unread remaining source) (unread remaining later) (g.taken ++ (t.bytes ++ a.bytes))
       next_taken = Consumes-trans _ _ _ g.taken (t.bytes ++ a.bytes) g.consumed (Consumes-trans _ _ _ t.bytes a.bytes t.taken a.taken)
@@ -256,7 +256,7 @@ module _ {R W : Type 0} (remaining : R → Option (List ℕ)) (contents : W → 
         text = g.text ++ reply;
         gives = gives_both contents sink two three g.text reply two_given w;
         story = next_story;
-        same_budget = a.limits ∙ g.same_budget;
+        same_limits = a.limits ∙ g.same_limits;
       }
 
       -- the reply is cut short

@@ -46,7 +46,7 @@ none_so_far most e = record {
 }
 
 -- a step from an engine of the same limits
-along : {n m : ℕ} {b d : Book} {reply : List ℕ} {r more : Bool} → n ≡ m → Steps n b reply r d more → Steps m b reply r d more
+along : {n m : Limits} {b d : Book} {reply : List ℕ} {r more : Bool} → n ≡ m → Steps n b reply r d more → Steps m b reply r d more
 along {b = b} {d = d} {reply = reply} {r = r} {more = more} e h = subst (λ k. Steps k b reply r d more) e h
 
 -- whether another step may follow, in other words
@@ -56,7 +56,7 @@ as_more {old = old} {new = new} e h = subst (λ k. Happens old new (λ b r s d. 
 one_less : (left : ℕ) → 0 < left → suc (left - 1) ≡ left
 one_less left h = omega arith
 
-longer : {limits most : ℕ} {b d : Book} (one two three : List ℕ) (q r s : Bool) → Runs limits most b (one ++ (two ++ three)) (q || (r || s)) d → Runs limits most b ((one ++ two) ++ three) ((q || r) || s) d
+longer : {limits : Limits} {most : ℕ} {b d : Book} (one two three : List ℕ) (q r s : Bool) → Runs limits most b (one ++ (two ++ three)) (q || (r || s)) d → Runs limits most b ((one ++ two) ++ three) ((q || r) || s) d
 longer {limits = limits} {most = most} {b = b} {d = d} one two three q r s h =
     subst (λ (t : List ℕ). Runs limits most b t ((q || r) || s) d) (sym (append_assoc one two three))
     (subst (λ (z : Bool). Runs limits most b (one ++ (two ++ three)) z d) (or_or q r s) h)

@@ -15,7 +15,6 @@ ghost use Rattle.stepper.specs.Taking.{Does, DoesOrStops, AnswersOrStops};
 ghost use Rattle.stepper.specs.Runs.{RunsToEnd, RunsTo};
 ghost use Rattle.stepper.specs.declared.fault.Fault.TheVariants.{Writer};
 
-use crew::crew::{Crew, Order};
 use crate::fault::Fault;
 use crate::input::{next_line, take_script};
 use crate::reply::Written;
@@ -26,6 +25,7 @@ use causewaylog::log::log_of;
 use commands::PromiseName;
 use commands::command::{Command, LineFault, command_of};
 use commands::script::text_of;
+use crew::crew::{Crew, Order};
 use ereader::read;
 use ids::names::{EventName, MsgId, PromId, VatNo};
 use ids::text::Text;
