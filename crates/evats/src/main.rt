@@ -2,13 +2,12 @@
 #![tactic(auto)]
 
 mod complaint;
-mod crew;
 mod edge;
 mod options;
+mod threaded;
 mod words;
 
 use complaint::{Complaint, Outcome, exit_status, outcome};
-use crew::Threaded;
 use edge::answer_commands;
 use options::{Options, Parsed, parse};
 use std::process::ExitCode;
@@ -17,6 +16,7 @@ use std::sync::Wait;
 use std::thread::{Builder, Threads};
 use std::{fs, io};
 use stepper::{Fault, STACK};
+use threaded::Threaded;
 use words::{WordsFault, words};
 
 /// Answers the commands of a file, or of standard input, on standard output.

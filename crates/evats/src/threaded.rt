@@ -8,7 +8,7 @@ use std::alloc::Global;
 use std::sync::Wait;
 use std::thread::Threads;
 
-/// A crew of threads, which share the book by a Bench.
+/// A crew of threads, which share the book by its lock.
 #[derive(Drop)]
 pub(crate) struct Threaded<'a, R> {
     pub rt: &'a R,
