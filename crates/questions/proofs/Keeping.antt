@@ -32,7 +32,7 @@ kept_from newer [] chained ordered own none = tt
 kept_from newer (e ∷ es) (traced, chained) (later, ordered) (own, owns) (none, nones) = (
   all_map _ _ e.lasts (λ p is. is ∙ sym (last_past p.0 (caused plain e) newer (e ∷ es) none ∙ ap (λ b. cond (b && wrote plain p.0 e) (Some (name_of plain e)) (last_writer plain p.0 (caused plain e) es)) own)) traced.lasts,
   subst (λ all. AllByRecursion (Keeps all) es) (append_assoc newer (e ∷ []) es)
-  (kept_from (newer ++ e ∷ []) es chained ordered owns (all_both _ _ _ es (λ a before last. all_append _ newer (e ∷ []) before (last, tt)) nones later)),
+      (kept_from (newer ++ e ∷ []) es chained ordered owns (all_both _ _ _ es (λ a before last. all_append _ newer (e ∷ []) before (last, tt)) nones later)),
 )
 
 cells_each : (es : List (Entry plain)) → Chained plain es → AllByRecursion (λ e. HasCells plain e.foot e.lasts) es

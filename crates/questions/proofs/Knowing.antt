@@ -87,31 +87,31 @@ module _ (lines : List Line) (h : Tells lines) (s : ℕ) where
     rival qs chain = elim (chain_parts lines h chain) [
       | inl e ↦ let same : bound ≡ s = e.0 in absurd (omega arith)
       | inr d ↦
-        let p = d.0 in
-        let ps = d.1 in
-        let step : Step lines p d.2 bound = d.5 in
-        let before : Chain lines s (p ∷ ps) = d.4 in
-        let kept = step_keeps lines h p bound d.2 step in
-        let one : step.to ≡ l = one_item lines bound step.to l step.ends at in
-        let known_from = some_near (known (name_of step.from)) (k.all p ps step.from before (step_rises lines h p bound d.2 step) step.starts) in
-        let y = known_from.0 in
-        let f = k.right (name_of step.from) y known_from.1 in
-        let same : y.place ≡ p = one_name lines h y.place p f.line step.from f.at step.starts (ap (λ (e : EventName). e.0) f.named) in
-        let least : length f.back ≤ length ps = f.nearest.least ps (subst (λ r. Chain lines s (r ∷ ps)) (sym same) before) in
-        let count : length f.back ≡ y.steps = f.count in
-        record {
-          p = p;
-          ps = ps;
-          is = d.3;
-          y = y;
-          i = kept.0;
-          c = kept.1;
-          there = subst (λ (m : Line). slice_get m.entry.lasts kept.0 ≡ Some kept.1) one kept.2;
-          writes = ap (known_writer known) kept.3 ∙ known_from.1;
-          place = same;
-          chain = before;
-          long = omega arith;
-        }
+          let p = d.0 in
+          let ps = d.1 in
+          let step : Step lines p d.2 bound = d.5 in
+          let before : Chain lines s (p ∷ ps) = d.4 in
+          let kept = step_keeps lines h p bound d.2 step in
+          let one : step.to ≡ l = one_item lines bound step.to l step.ends at in
+          let known_from = some_near (known (name_of step.from)) (k.all p ps step.from before (step_rises lines h p bound d.2 step) step.starts) in
+          let y = known_from.0 in
+          let f = k.right (name_of step.from) y known_from.1 in
+          let same : y.place ≡ p = one_name lines h y.place p f.line step.from f.at step.starts (ap (λ (e : EventName). e.0) f.named) in
+          let least : length f.back ≤ length ps = f.nearest.least ps (subst (λ r. Chain lines s (r ∷ ps)) (sym same) before) in
+          let count : length f.back ≡ y.steps = f.count in
+          record {
+            p = p;
+            ps = ps;
+            is = d.3;
+            y = y;
+            i = kept.0;
+            c = kept.1;
+            there = subst (λ (m : Line). slice_get m.entry.lasts kept.0 ≡ Some kept.1) one kept.2;
+            writes = ap (known_writer known) kept.3 ∙ known_from.1;
+            place = same;
+            chain = before;
+            long = omega arith;
+          }
     ]
 
     -- where no writer is known the line is not reached
@@ -197,10 +197,10 @@ module _ (lines : List Line) (h : Tells lines) (s : ℕ) where
                 | inr same_steps ↦ elim (less_or_not r.p b.place) [
                   | inl before ↦ inl before
                   | inr behind ↦
-                    let e : r.y.place ≤ b.place = same_steps.1 in
-                    let one : r.p ≡ b.place = omega arith in
-                    let few : length r.ps ≡ length back = omega arith in
-                    inr (one, near.nearest r.ps (subst (λ z. Chain lines s (z ∷ r.ps)) one r.chain) few)
+                      let e : r.y.place ≤ b.place = same_steps.1 in
+                      let one : r.p ≡ b.place = omega arith in
+                      let few : length r.ps ≡ length back = omega arith in
+                      inr (one, near.nearest r.ps (subst (λ z. Chain lines s (z ∷ r.ps)) one r.chain) few)
                 ]
               ])
 

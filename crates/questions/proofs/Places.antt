@@ -69,8 +69,8 @@ module _ (lines : List Line) (h : Tells lines) where
     | inr le ↦ elim (less_or_not q p) [
       | inl lt ↦ absurd (false≢true (sym (older_at q p b a there at lt).order ∙ is))
       | inr also ↦
-        let same : p ≡ q = omega arith in
-        let one : a ≡ b = one_item lines q a b (subst (λ r. slice_get lines r ≡ Some a) same at) there in
-        absurd (false≢true (sym (all_place _ lines own_lines q b there) ∙ subst (λ (c : Line). caused plain b.entry c.entry ≡ true) one is))
+          let same : p ≡ q = omega arith in
+          let one : a ≡ b = one_item lines q a b (subst (λ r. slice_get lines r ≡ Some a) same at) there in
+          absurd (false≢true (sym (all_place _ lines own_lines q b there) ∙ subst (λ (c : Line). caused plain b.entry c.entry ≡ true) one is))
     ]
   ]

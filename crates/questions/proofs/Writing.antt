@@ -20,7 +20,7 @@ module _ (lines : List Line) where
         decimal (length c.ps) ++ (10 ∷ w.0),
         record { l = c.l; ps = c.ps; are = c.are; steps = w.0; told = subst (λ (xs : List ℕ). Steps lines xs w.0) c.are w.1; whole = refl },
         w.2 ∙ ap (λ t. t ++ w.0) number ∙ append_assoc old (decimal n ++ (10 ∷ [])) w.0 ∙ ap (λ t. old ++ t) (append_assoc (decimal n) (10 ∷ []) w.0)
-          ∙ ap (λ (k : ℕ). old ++ (decimal k ++ (10 ∷ w.0))) steps,
+            ∙ ap (λ (k : ℕ). old ++ (decimal k ++ (10 ∷ w.0))) steps,
       )
 
   -- the nearest one
@@ -59,7 +59,7 @@ module _ (lines : List Line) where
     reason = w.0;
     between = w.1;
     whole =
-      w.2 ∙ ap (λ t. t ++ w.0) (front ∙ ap (λ t. t ++ (codes "why " ++ (event_text e ++ (codes " " ++ (event_text f ++ codes " "))))) none)
-      ∙ append_assoc (codes "why ") (event_text e ++ (codes " " ++ (event_text f ++ codes " "))) w.0
-      ∙ ap (λ t. codes "why " ++ t) (append_assoc (event_text e) (codes " " ++ (event_text f ++ codes " ")) w.0 ∙ ap (λ t. event_text e ++ (codes " " ++ t)) (append_assoc (event_text f) (codes " ") w.0));
+        w.2 ∙ ap (λ t. t ++ w.0) (front ∙ ap (λ t. t ++ (codes "why " ++ (event_text e ++ (codes " " ++ (event_text f ++ codes " "))))) none)
+        ∙ append_assoc (codes "why ") (event_text e ++ (codes " " ++ (event_text f ++ codes " "))) w.0
+        ∙ ap (λ t. codes "why " ++ t) (append_assoc (event_text e) (codes " " ++ (event_text f ++ codes " ")) w.0 ∙ ap (λ t. event_text e ++ (codes " " ++ t)) (append_assoc (event_text f) (codes " ") w.0));
   }

@@ -142,11 +142,7 @@ fn chosen(
 }
 
 #[cycle(unresolve)]
-fn repeated(
-    alloc: Global,
-    condition: &Arc<Code>,
-    body: &Arc<Vec<Code>>,
-) -> Result<Expr, AllocError>
+fn repeated(alloc: Global, condition: &Arc<Code>, body: &Arc<Vec<Code>>) -> Result<Expr, AllocError>
     ensures { IfOk result (λ e. tree_of e ≡ while_tree (tree_of_code condition.now.value) (trees_of_codes body.now.value.items)) }
 {
     let condition = part(alloc, condition)?;
@@ -191,10 +187,7 @@ fn made(
     ensures { IfOk result (λ e. tree_of e ≡ object_tree pattern.now (methods_of_codes methods.now.value.items)) }
 {
     let methods = method_trees(alloc, methods)?;
-    Ok(Expr::Object(
-        pattern.share()?,
-        Arc::new(alloc, methods)?,
-    ))
+    Ok(Expr::Object(pattern.share()?, Arc::new(alloc, methods)?))
 }
 
 #[cycle(unresolve)]
