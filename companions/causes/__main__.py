@@ -8,7 +8,7 @@ import pathlib
 import re
 import sys
 
-from building import crates, programs
+from building import crates, place, programs
 from conversation.commands import commands_of, lines_of
 from conversation.journal import JournalFault
 from conversation.program import Ended
@@ -87,8 +87,8 @@ def put(file, text):
 
 
 def main(words=None):
-    parser = argparse.ArgumentParser(prog="causes", description=__doc__, formatter_class=argparse.RawDescriptionHelpFormatter)
-    parser.add_argument("--program", help="the program; without it the one that ./run proved, else that of ./run --unproved")
+    parser = argparse.ArgumentParser(prog=place.command("causes"), description=__doc__, formatter_class=argparse.RawDescriptionHelpFormatter)
+    parser.add_argument("--program", help=f"the program; without it {place.USUAL}")
     parser.add_argument("--out", metavar="FILE.svg", help="where the picture goes; without it to standard output")
     parser.add_argument("--cone", metavar="E", help="an event, as e3, that is coloured with all that came of it")
     parser.add_argument("--all", action="store_true", help="draws arrivals and learning as events too, and not within others")
