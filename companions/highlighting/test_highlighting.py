@@ -84,13 +84,15 @@ class TextMate(unittest.TestCase):
             self.assertEqual(kinds_of_scopes(text), kinds_in(text), name)
 
     def test_scopes(self):
-        text = 'vat a (b) 3\n# c\ndef o {\n to m(x) { return "t\\n\\q" } }\nask a if (true) { o <- m(12) } else { Ref.promise() } # d\nundo e7\n'
+        script = '# c\ndef o {\n to m(x) { return "t\\n\\q" } }\n'
+        text = f"vat a (b) 3\n{script}ask a if (true) {{ o <- m(12) }} else {{ Ref.promise() }} # d\nundo e7\n"
         wanted = {
             "vat": "keyword.other.command", "# c": "comment.line.number-sign", "def": "storage.type", "o {": "entity.name.function",
-            "m(x)": "entity.name.function", "return": "keyword.control", '"t': "string.quoted.double", "\\n": "constant.character.escape",
-            "\\q": "invalid.illegal.escape", "ask": "keyword.other.command", "a if": "entity.name.namespace.vat", "if (": "keyword.control",
-            "true": "constant.language", "<-": "keyword.operator", "12": "constant.numeric.integer", "Ref": "support.class",
-            "promise": "", "# d": "comment.line.number-sign", "undo": "keyword.other.command", "e7": "variable.other.event",
+            "m(x)": "entity.name.function", "return": "keyword.control", '"t': "string.quoted.double",
+            "\\n": "constant.character.escape", "\\q": "invalid.illegal.escape", "ask": "keyword.other.command",
+            "a if": "entity.name.namespace.vat", "if (": "keyword.control", "true": "constant.language", "<-": "keyword.operator",
+            "12": "constant.numeric.integer", "Ref": "support.class", "promise": "", "# d": "comment.line.number-sign",
+            "undo": "keyword.other.command", "e7": "variable.other.event",
         }
         for piece, scope in wanted.items():
             self.assertEqual(innermost(text, piece), f"{scope}.evats" if scope else "", piece)
@@ -157,7 +159,8 @@ class Words(unittest.TestCase):
         self.assertEqual(set(rows["sign"].split("` and")[0].strip("`").split()), signs())
 
     def test_commands(self):
-        for text in (Grammar(TEXTMATE).repository["line"]["match"], re.search(r"^syn match evatsLine (.*)$", VIM.read_text(), re.M)[1]):
+        of_vim = re.search(r"^syn match evatsLine (.*)$", VIM.read_text(encoding="utf-8"), re.MULTILINE)[1]
+        for text in (Grammar(TEXTMATE).repository["line"]["match"], of_vim):
             listed = max(re.findall(r"[a-z-]+(?:\\?\|[a-z-]+)+", text), key=len)
             self.assertEqual(set(re.split(r"\\?\|", listed)), command_words())
 

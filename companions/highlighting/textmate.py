@@ -51,7 +51,8 @@ class Grammar:
         """The rule that comes next in a line, where it matches, and whether it is the end of the one that is open."""
         inner = open_rules[-1] if open_rules else None
         tried = [(inner, inner["end"], True)] if inner else []
-        tried += [(rule, rule.get("match") or rule["begin"], False) for rule in self.flat(inner.get("patterns", []) if inner else rules)]
+        within = inner.get("patterns", []) if inner else rules
+        tried += [(rule, rule.get("match") or rule["begin"], False) for rule in self.flat(within)]
         found = [(rule, re.compile(pattern).search(line, at, end), closes) for rule, pattern, closes in tried]
         return min((each for each in found if each[1]), key=lambda each: each[1].start(), default=(None, None, False))
 

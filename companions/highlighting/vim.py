@@ -33,8 +33,8 @@ def vim():
 
 
 def shown(editors, folder, texts):
-    """What vim makes of texts, each in a file that ends with .evats: the type of the file, how its comments are written, and for each
-    byte of each line the name of its group."""
+    """What vim makes of texts, each in a file that ends with .evats: the type of the file, how its comments are written, and the
+    name of the group of each byte of each line."""
     names = [str(folder / f"{number}.evats") for number in range(len(texts))]
     for name, text in zip(names, texts):
         with open(name, "w", encoding="utf-8") as file:

@@ -51,7 +51,9 @@ def build_to_install(is_unproved, root=ROOT):
 
 
 def hints(prefix):
-    """What a person may have to do besides, line by line."""
+    """What a person may have to do besides, line by line; nothing where it is installed to be moved."""
+    if prefix.written != prefix.path:
+        return
     path = [os.path.abspath(each) for each in os.environ.get("PATH", "").split(os.pathsep)]
     if str(prefix.path / "bin") not in path:
         yield f"  {prefix.path / 'bin'} is not on the PATH yet"

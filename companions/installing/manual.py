@@ -4,20 +4,20 @@ import re
 from building.crates import PROGRAM
 
 DESCRIPTION = """\
-The program reads commands, one a line, and gives one reply for each: vats are made with scripts in a small language after E, and
-asked; messages between them arrive and have their turns. What happened is kept in a journal with its causes. It can be undone with
-all that came of it, redone, and exchanged with what it has nothing to do with.
+The program reads commands, one a line, and gives one reply for each: vats are made with scripts in a small language after E,
+and asked; messages between them arrive and have their turns. What happened is kept in a journal with its causes. It can be
+undone with all that came of it, redone, and exchanged with what it has nothing to do with.
 """
 PROVED = """\
-The functions of this program were checked against their contracts by the prover of Rattle before it was installed. What that covers,
-and what it does not, is told by docs/PROMISES.md of the repository that it was made from.
+The functions of this program were checked against their contracts by the prover of Rattle before it was installed. What that
+covers, and what it does not, is told by docs/PROMISES.md of the repository that it was made from.
 """
 NOT_PROVED = """\
 Nothing of this program is proved. It was installed by ./install --unproved, which leaves the proofs out.
 """
 COMPANIONS = """\
-{0}-talk is the program at a terminal, with line editing; {0}-workbench shows it in a browser; {0}-causes draws what happened. Each
-tells its options with --help. Of these nothing is proved.
+{0}-talk is the program at a terminal, with line editing; {0}-workbench shows it in a browser; {0}-causes draws what happened.
+Each tells its options with --help. Of these nothing is proved.
 """
 # A row of a list: what it is about, and what is told of it; a further line of that.
 ROW, MORE = re.compile(r" {2,6}(\S+(?: \S+)*)(?: {2,}(\S.*))?"), re.compile(r" {7,}(\S.*)")

@@ -1,4 +1,4 @@
-"""Has bash complete words, as it does where TAB is pressed. The commands are the companions, and a script with the program's help."""
+"""Has bash complete words, as it does where TAB is pressed, for the companions and for a script with the program's help."""
 import subprocess
 import sys
 import tempfile
