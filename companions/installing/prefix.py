@@ -62,14 +62,15 @@ def make_folder(folder):
 def make_file(path, file):
     """Makes a file that was not there, whole or not at all. Who may read and run it is as the person has it for new files."""
     opener = lambda path, flags: os.open(path, flags, 0o777 if file.can_run else 0o666)
-    with open(path, "xb", opener=opener) as out:
+    with open(path, "xb", buffering=0, opener=opener) as out:
         try:
-            out.write(file.data)
-            out.flush()
+            left = memoryview(file.data)
+            while left:
+                left = left[out.write(left) :]
         except BaseException as fault:
             path.unlink()
             if isinstance(fault, OSError):
-                fault.filename = str(path)
+                raise OSError(fault.errno, fault.strerror, str(path)) from fault
             raise
 
 

@@ -5,6 +5,7 @@ import io
 import json
 import os
 import re
+import resource
 import shutil
 import stat
 import subprocess
@@ -326,15 +327,26 @@ class Places(Case):
         self.prefix.chmod(0o555)
         for folder in (self.folder, self.prefix.parent):
             folder.chmod(0o755)
+        # Who is root may write everywhere, and others may not read the repository.
+        self.replace(mock.patch.object(installing, "contents", lambda *_: ({"bin/evats": File(b"")}, "evats 7.8.9")))
         before = os.geteuid()
-        # Who is root may write everywhere.
         os.seteuid(before or 65534)
         try:
-            with self.assertRaisesRegex(Fault, "cannot write .*: Permission denied"):
-                put(Prefix.of(str(self.prefix)), {"bin/evats": File(b"")}, {})
+            status, printed, told = self.run_install(self.prefix)
         finally:
             os.seteuid(before)
-        self.assertEqual(self.below(self.prefix), [])
+        self.assertEqual((status, printed, self.below(self.prefix)), (2, "", []))
+        self.assertEqual(told, f"install: cannot write {self.prefix / 'bin'}: Permission denied\n")
+
+    def test_a_file_that_cannot_be_written_whole(self):
+        before = resource.getrlimit(resource.RLIMIT_FSIZE)
+        resource.setrlimit(resource.RLIMIT_FSIZE, (3_000, before[1]))
+        try:
+            with self.assertRaisesRegex(Fault, f"cannot write {self.prefix / 'bin' / 'evats'}: File too large"):
+                put(Prefix.of(str(self.prefix)), {"bin/evats-talk": File(b"x"), "bin/evats": File(bytes(5_000))}, {})
+        finally:
+            resource.setrlimit(resource.RLIMIT_FSIZE, before)
+        self.assertFalse(self.prefix.parent.exists())
 
     def test_where_it_fails_midway_nothing_stays(self):
         files = {"bin/evats": File(b"x"), "bin/evats-talk": File(b"y"), f"bin/{'x' * 300}": File(b"z")}
