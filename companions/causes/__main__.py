@@ -17,6 +17,8 @@ from picture.layout import scene_of
 from picture.looks import LOOKS
 from picture.svg import picture
 
+NAME = place.command("causes")
+
 
 class Fault(Exception):
     """Why there is no picture."""
@@ -87,7 +89,7 @@ def put(file, text):
 
 
 def main(words=None):
-    parser = argparse.ArgumentParser(prog=place.command("causes"), description=__doc__, formatter_class=argparse.RawDescriptionHelpFormatter)
+    parser = argparse.ArgumentParser(prog=NAME, description=__doc__, formatter_class=argparse.RawDescriptionHelpFormatter)
     parser.add_argument("--program", help=f"the program; without it {place.USUAL}")
     parser.add_argument("--out", metavar="FILE.svg", help="where the picture goes; without it to standard output")
     parser.add_argument("--cone", metavar="E", help="an event, as e3, that is coloured with all that came of it")
@@ -101,10 +103,10 @@ def main(words=None):
         svg, refused = drawn(program_named(arguments.program), text, arguments.cone, is_folded=not arguments.all, look=look)
         put(arguments.out, svg)
     except Fault as fault:
-        print(f"causes: {fault}", file=sys.stderr)
+        print(f"{NAME}: {fault}", file=sys.stderr)
         return 2
     if refused:
-        print(f"causes: {refused} {'command was' if refused == 1 else 'commands were'} refused", file=sys.stderr)
+        print(f"{NAME}: {refused} {'command was' if refused == 1 else 'commands were'} refused", file=sys.stderr)
     return 0
 
 

@@ -146,6 +146,8 @@ class Installing(Case):
             self.assertEqual((ran.returncode, ran.stderr), (0, ""), name)
             self.assertTrue(ran.stdout.startswith(f"usage: evats-{name} "), ran.stdout)
             self.assertIn("without it the installed one", " ".join(ran.stdout.split()))
+            told = self.run_here(self.prefix / "bin" / f"evats-{name}", "--program", "/none/such").stderr
+            self.assertTrue(told.startswith(f"evats-{name}: cannot run /none/such"), told)
 
     def test_companions_take_the_installed_program(self):
         self.installed()

@@ -15,9 +15,11 @@ from conversation.session import Session
 from .desk import Desk
 from .server import Workbench
 
+NAME = place.command("workbench")
+
 
 def words_of(words):
-    parser = argparse.ArgumentParser(prog=place.command("workbench"), description=__doc__, formatter_class=argparse.RawDescriptionHelpFormatter)
+    parser = argparse.ArgumentParser(prog=NAME, description=__doc__, formatter_class=argparse.RawDescriptionHelpFormatter)
     parser.add_argument("--program", help=f"the program; without it {place.USUAL}")
     parser.add_argument("--budget", metavar="N", help="the most steps of a turn")
     parser.add_argument("--workers", metavar="N", help="the most workers that `work` starts")
@@ -64,9 +66,9 @@ def main(words=None):
         with Session(words, is_watched=True) as session:
             serve(session, about, arguments)
     except (Ended, crates.Fault) as fault:
-        print(f"workbench: {fault}", file=sys.stderr)
+        print(f"{NAME}: {fault}", file=sys.stderr)
     except OSError as fault:
-        print(f"workbench: cannot serve the page: {fault.strerror}", file=sys.stderr)
+        print(f"{NAME}: cannot serve the page: {fault.strerror}", file=sys.stderr)
     return 2
 
 
