@@ -13,15 +13,15 @@ DESTDIR is set, as by those who make packages, all goes below DESTDIR/PREFIX, to
 """
 import argparse
 import os
+import shlex
 import sys
-from pathlib import Path
 
 from building.builds import proved_build, unproved_build
 from building.crates import PROGRAM, ROOT, Fault
 from building.processes import Interrupted, interruptions
 from building.programs import NOTHING_PROVED, say, unproved_program
 
-from .contents import COMPLETION, LIBRARY, VIM, contents
+from .contents import COMPLETION, VIM, contents
 from .prefix import Prefix, put, take_away
 
 NOT_BUILT = """\
@@ -57,8 +57,8 @@ def hints(prefix):
     path = [os.path.abspath(each) for each in os.environ.get("PATH", "").split(os.pathsep)]
     if str(prefix.path / "bin") not in path:
         yield f"  {prefix.path / 'bin'} is not on the PATH yet"
-    yield f"  bash: the package bash-completion finds the completion; without it: source '{prefix.path / COMPLETION / PROGRAM}'"
-    yield f"  vim:  set runtimepath^={str(prefix.path / VIM).replace(' ', chr(92) + ' ')}"
+    yield f"  bash: source {shlex.quote(str(prefix.path / COMPLETION / PROGRAM))}, where bash-completion does not find it"
+    yield f"  vim: set runtimepath^={str(prefix.path / VIM).replace(' ', chr(92) + ' ')}"
 
 
 def install(prefix, is_unproved):
