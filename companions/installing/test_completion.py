@@ -38,12 +38,12 @@ class Completion(unittest.TestCase):
         path.write_text(f"#!/bin/sh\n{text}")
         path.chmod(0o755)
 
-    def completed(self, *words, home=None):
+    def completed(self, *words):
         """What the last of these words may become."""
-        path = f"{self.folder / 'bin'}:/usr/bin:/bin:{Path(sys.executable).parent}"
+        path = f"{self.folder / 'bin'}:{Path(sys.executable).parent}:/usr/bin:/bin"
         ran = subprocess.run(
             ["bash", "-c", ASKED, "bash", str(COMPLETION), *words], cwd=self.folder, capture_output=True, text=True, check=True,
-            env={"PATH": path, "HOME": str(home or self.folder)},
+            env={"PATH": path, "HOME": str(self.folder)},
         )
         self.assertEqual(ran.stderr, "")
         return sorted(ran.stdout.splitlines())
