@@ -123,7 +123,8 @@ class Case(unittest.TestCase):
         for name in ("talk", "signal", "conversation"):
             (elsewhere / f"{name}.py").write_text("raise SystemExit('a stranger was started')\n", encoding="utf-8")
         environment = {**os.environ, "XDG_STATE_HOME": str(self.folder / "state"), **variables}
-        environment.pop("PYTHONPATH", None)
+        for name in ("PYTHONPATH", "PYTHONDONTWRITEBYTECODE"):
+            environment.pop(name, None)
         return subprocess.run(
             [str(word) for word in words], input=given, capture_output=True, text=True, cwd=elsewhere, env=environment, check=False,
         )
