@@ -7,6 +7,7 @@ from pathlib import Path
 
 from .builds import locked, proved_build, unproved_build
 from .crates import PROGRAM, ROOT, Fault, lowest_first, read_crates
+from .place import installed
 from .unproved import compile_module, make_module
 
 NOTHING_PROVED = f"{PROGRAM} without its proofs: nothing of it is proved"
@@ -50,14 +51,18 @@ def unproved_program(root=ROOT):
     return build.program
 
 
+def is_proved(program, root=ROOT):
+    """Whether a program that stands here is the one with its proofs."""
+    there = installed(root)
+    return there.is_proved if there else program == proved_build(root).program
+
+
 def program_to_try(root=ROOT):
-    """The program for what runs it: with its proofs where it is built from the sources as they are, else without them."""
-    proved = proved_build(root)
-    if proved.is_current():
-        say(f"the program is {proved.program}, which is proved")
-        return proved.program
-    program = unproved_program(root)
-    say(f"the program is {program}: {NOTHING_PROVED}")
+    """The program for what runs it, which is told: the installed one; in the repository the one with its proofs where it is built
+    from the sources as they are, else the one without them."""
+    there, proved = installed(root), proved_build(root)
+    program = there.program if there else proved.program if proved.is_current() else unproved_program(root)
+    say(f"the program is {program}{', which is proved' if is_proved(program, root) else f': {NOTHING_PROVED}'}")
     return program
 
 

@@ -8,7 +8,7 @@ import pathlib
 import re
 import sys
 
-from building import crates, programs
+from building import crates, place, programs
 from conversation.commands import commands_of, lines_of
 from conversation.journal import JournalFault
 from conversation.program import Ended
@@ -16,6 +16,8 @@ from conversation.session import Session
 from picture.layout import scene_of
 from picture.looks import LOOKS
 from picture.svg import picture
+
+NAME = place.command("causes")
 
 
 class Fault(Exception):
@@ -87,8 +89,8 @@ def put(file, text):
 
 
 def main(words=None):
-    parser = argparse.ArgumentParser(prog="causes", description=__doc__, formatter_class=argparse.RawDescriptionHelpFormatter)
-    parser.add_argument("--program", help="the program; without it the one that ./run proved, else that of ./run --unproved")
+    parser = argparse.ArgumentParser(prog=NAME, description=__doc__, formatter_class=argparse.RawDescriptionHelpFormatter)
+    parser.add_argument("--program", help=f"the program; without it {place.USUAL}")
     parser.add_argument("--out", metavar="FILE.svg", help="where the picture goes; without it to standard output")
     parser.add_argument("--cone", metavar="E", help="an event, as e3, that is coloured with all that came of it")
     parser.add_argument("--all", action="store_true", help="draws arrivals and learning as events too, and not within others")
@@ -101,10 +103,10 @@ def main(words=None):
         svg, refused = drawn(program_named(arguments.program), text, arguments.cone, is_folded=not arguments.all, look=look)
         put(arguments.out, svg)
     except Fault as fault:
-        print(f"causes: {fault}", file=sys.stderr)
+        print(f"{NAME}: {fault}", file=sys.stderr)
         return 2
     if refused:
-        print(f"causes: {refused} {'command was' if refused == 1 else 'commands were'} refused", file=sys.stderr)
+        print(f"{NAME}: {refused} {'command was' if refused == 1 else 'commands were'} refused", file=sys.stderr)
     return 0
 
 

@@ -96,5 +96,5 @@ def typed(line, more):
 
 
 def written(command):
-    """The lines of a command as `./run` takes them."""
+    """The lines of a command as the program takes them."""
     return "".join(f"{line}\n" for line in command.lines)

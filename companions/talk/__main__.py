@@ -7,17 +7,19 @@ import argparse
 import signal
 import sys
 
-from building import crates, programs
+from building import crates, place, programs
 from conversation.program import Ended
 from conversation.session import Session
 
 from .consoles import Pipe
 from .talking import Talk
 
+NAME = place.command("talk")
+
 
 def words_of(words):
-    parser = argparse.ArgumentParser(prog="talk", description=__doc__, formatter_class=argparse.RawDescriptionHelpFormatter)
-    parser.add_argument("--program", help="the program; without it the one that ./run proved, else that of ./run --unproved")
+    parser = argparse.ArgumentParser(prog=NAME, description=__doc__, formatter_class=argparse.RawDescriptionHelpFormatter)
+    parser.add_argument("--program", help=f"the program; without it {place.USUAL}")
     parser.add_argument("--budget", metavar="N", help="the most steps of a turn")
     parser.add_argument("--workers", metavar="N", help="the most workers that `work` starts")
     parser.add_argument("file", metavar="FILE", nargs="?", help="commands that are done first")
@@ -62,7 +64,7 @@ def main(words=None):
         with Session(program_words(arguments)) as session:
             return talk(session, arguments.file)
     except (Ended, crates.Fault) as fault:
-        print(f"talk: {fault}", file=sys.stderr)
+        print(f"{NAME}: {fault}", file=sys.stderr)
     except BrokenPipeError:
         sys.stderr.close()
     except KeyboardInterrupt:

@@ -3,6 +3,8 @@ import contextlib
 import io
 import sys
 
+from building.place import command
+
 PROMPT, MORE = "> ", ". "
 MARK = "# "
 
@@ -59,7 +61,7 @@ class Pipe:
         """No commands are shown."""
 
     def fault(self, text):
-        put([f"talk: {text}"], sys.stderr)
+        put([f"{command('talk')}: {text}"], sys.stderr)
 
     def agrees(self, question):
         return True

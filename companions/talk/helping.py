@@ -1,12 +1,13 @@
 """What `help` tells: the commands of the program and of the talk, how they may be typed, one command, or a refusal."""
+from building.place import RUN
 from conversation import helping
 from conversation.helping import row
 from conversation.usages import usages_in
 
-OWN = """\
+OWN = f"""\
 Commands, one a line:
   help [COMMAND]            all commands; or one, or a refusal by its code, as `help B15`
-  save FILE                 writes the commands so far that were not refused, as `./run FILE` takes them
+  save FILE                 writes the commands so far that were not refused, as `{RUN} FILE` takes them
   load FILE                 does the commands of a file
   labels                    lists the labels of events
   stop                      ends a command that is still at work, as if it had not been given

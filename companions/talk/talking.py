@@ -4,6 +4,7 @@ import os
 from dataclasses import replace
 from pathlib import Path
 
+from building.place import RUN
 from conversation.advice import advice, pointed
 from conversation.commands import is_command, words_of
 from conversation.journal import JournalFault
@@ -193,7 +194,7 @@ class Talk:
             path.write_bytes(text.encode(errors="surrogateescape"))
         except OSError as fault:
             return self.fault(f"cannot write {rest}: {fault.strerror}")
-        return self.console.tell([f"{len(commands)} commands are in {rest}: `./run {rest}` does them again"])
+        return self.console.tell([f"{len(commands)} commands are in {rest}: `{RUN} {rest}` does them again"])
 
     def load(self, rest):
         if not rest:

@@ -4,23 +4,23 @@ The page is served on this machine alone, at an address with a token that nobody
 it, and the program with it.
 """
 import argparse
-import os
 import signal
 import sys
 from pathlib import Path
 
-from building import crates, programs
-from building.builds import proved_build
+from building import crates, place, programs
 from conversation.program import Ended
 from conversation.session import Session
 
 from .desk import Desk
 from .server import Workbench
 
+NAME = place.command("workbench")
+
 
 def words_of(words):
-    parser = argparse.ArgumentParser(prog="workbench", description=__doc__, formatter_class=argparse.RawDescriptionHelpFormatter)
-    parser.add_argument("--program", help="the program; without it the one that ./run proved, else that of ./run --unproved")
+    parser = argparse.ArgumentParser(prog=NAME, description=__doc__, formatter_class=argparse.RawDescriptionHelpFormatter)
+    parser.add_argument("--program", help=f"the program; without it {place.USUAL}")
     parser.add_argument("--budget", metavar="N", help="the most steps of a turn")
     parser.add_argument("--workers", metavar="N", help="the most workers that `work` starts")
     parser.add_argument("--port", metavar="N", type=int, default=0, help="the port; without it one that is free")
@@ -28,12 +28,17 @@ def words_of(words):
     return parser.parse_args(words)
 
 
+def shown(program):
+    """The path of a program, short where it stands in the repository."""
+    path = Path(program)
+    return str(path.relative_to(crates.ROOT) if path.is_relative_to(crates.ROOT) else path)
+
+
 def program_words(arguments):
     """The program with its options, and what the page says of it."""
     program = arguments.program or programs.program_to_try()
-    is_proved = not arguments.program and Path(program) == proved_build(crates.ROOT).program
-    about = {"program": os.path.relpath(program, crates.ROOT) if not arguments.program else str(program),
-             "standing": "named" if arguments.program else "proved" if is_proved else "unproved"}
+    standing = "named" if arguments.program else "proved" if programs.is_proved(program) else "unproved"
+    about = {"program": shown(program), "standing": standing}
     options = [(f"--{name}", getattr(arguments, name)) for name in ("budget", "workers")]
     return [str(program), *(word for pair in options if pair[1] for word in pair)], about
 
@@ -61,9 +66,9 @@ def main(words=None):
         with Session(words, is_watched=True) as session:
             serve(session, about, arguments)
     except (Ended, crates.Fault) as fault:
-        print(f"workbench: {fault}", file=sys.stderr)
+        print(f"{NAME}: {fault}", file=sys.stderr)
     except OSError as fault:
-        print(f"workbench: cannot serve the page: {fault.strerror}", file=sys.stderr)
+        print(f"{NAME}: cannot serve the page: {fault.strerror}", file=sys.stderr)
     return 2
 
 

@@ -5,6 +5,7 @@ from collections import deque
 from dataclasses import replace
 from pathlib import Path
 
+from building.place import RUN
 from conversation.advice import advice, pointed
 from conversation.commands import is_command, words_of
 from conversation.helping import help_on, row
@@ -16,10 +17,10 @@ from conversation.session import UnknownLabel
 from conversation.typed import NotTyped, Typed, text_in, typed, written
 from conversation.usages import usages_in
 
-OWN = """\
+OWN = f"""\
 Commands, one a line:
   help [COMMAND]            all commands; or one, or a refusal by its code, as `help B15`
-  save FILE                 writes the commands so far that were not refused, as `./run FILE` takes them
+  save FILE                 writes the commands so far that were not refused, as `{RUN} FILE` takes them
   load FILE                 does the commands of a file
   labels                    lists the labels of events
   stop                      ends a command that is still at work, as if it had not been given
@@ -200,7 +201,7 @@ class Desk:
         try:
             with open(path, "xb") as file:
                 file.write(self.saved())
-            self.tell([f"save {rest}"], [f"the commands are in {rest}: `./run {rest}` does them again"])
+            self.tell([f"save {rest}"], [f"the commands are in {rest}: `{RUN} {rest}` does them again"])
         except OSError as fault:
             self.tell([f"save {rest}"], [f"cannot write {rest or 'a file without a name'}: {fault.strerror}"], is_fault=True)
 
@@ -225,7 +226,7 @@ class Desk:
         self.tell(["stop"], told + ([f"`{other.line}` was answered otherwise than before."] if other else []))
 
     def saved(self):
-        """The commands so far that were not refused, as `./run` takes them."""
+        """The commands so far that were not refused, as the program takes them."""
         return "".join(map(written, self.session.accepted())).encode(errors="surrogateescape")
 
     def state(self, since=0):

@@ -16,7 +16,7 @@ async function answer(url, options) {
   try {
     reply = await fetch(url, options);
   } catch {
-    throw new Gone("The workbench does not answer: it has ended. Start ./workbench again.");
+    throw new Gone("The workbench does not answer: it has ended. Start it again.");
   }
   if (reply.ok) return reply.json();
   const text = await reply.text();
