@@ -7,3 +7,4 @@ pub mod Replies
 pub mod Runs
 pub mod Taking
 pub mod Written
+pub mod Words

@@ -8,6 +8,7 @@ mod fault;
 mod input;
 mod reply;
 pub mod theorems;
+mod words;
 
 pub use crew::{Crew, Nobody, Order};
 pub use ended::{Ended, status};

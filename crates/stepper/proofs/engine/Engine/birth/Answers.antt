@@ -1,14 +1,17 @@
-use Rattle.std.proofs.Common.{true, refl, subst, sym, ap, ◌∙◌, Ok, List, ℕ, map}
+use Rattle.std.proofs.Common.{refl, subst, sym, ap, ◌∙◌, Ok, List, ℕ}
 use Rattle.book.specs.BookView.{book_of}
-use Rattle.commands.specs.ScriptView.{script_text}
+use Rattle.commands.specs.Words.{words_in}
+use Rattle.commands.specs.ScriptView.{IsScript}
 use Rattle.stepper.specs.Replies.{AnswersBirth}
-use Rattle.stepper.proofs.Answered.{on_ok, happens_as, refused_at}
+use Rattle.stepper.proofs.Answered.{happens_as, refuses}
+use Rattle.stepper.proofs.Scripts.{held_script, lost_script, faulty_script}
 use Rattle.stepper.proofs.engine.Engine.birth.Goals as goal
 
-pub returns-in-Ok : goal.returns-in-Ok
-returns-in-Ok c = on_ok c.birth_text.result
-    (happens_as (λ b r s d k. subst (λ z. AnswersBirth b c.args.name.now (map (λ x. x.now) c.args.earlier.now) z r s d) (ap (λ (t : List ℕ). Ok t) c.as_str.ensures.value ∙ sym (ap script_text c.in-Ok.is)) k)) c.birth_text.ensures
+pub returns-in-Ok-Some : goal.returns-in-Ok-Some
+returns-in-Ok-Some g c = λ script is. happens_as (λ b r s d k. held_script b c.args.name.now (words_in c.args.earlier.now) c.args.script.now _ c.as_str.result.now script r s d ? c.as_str.ensures.value is k) c.birth_text.ensures
+
+pub returns-in-Ok-None : goal.returns-in-Ok-None
+returns-in-Ok-None g c = λ script is. refuses (lost_script (book_of c.args.self.now.book) c.args.name.now (words_in c.args.earlier.now) c.args.script.now script ? is) c.refuse_call.ensures refl
 
 pub returns-in-Err : goal.returns-in-Err
-returns-in-Err c = on_ok c.refuse_line.result
-    (λ a. record { reply = _; refusal = true; allowed = refused_at (book_of c.args.self.now.book) c.args.name.now _ c.in-Err.fault (script_text c.args.script.now) (ap script_text c.in-Err.is); adds = a; budget = refl }) c.refuse_line.ensures
+returns-in-Err g c = λ script is. refuses (faulty_script (book_of c.args.self.now.book) c.args.name.now (words_in c.args.earlier.now) c.args.script.now c.in-Err.fault script c.in-Err.is is) c.refuse_line.ensures refl
