@@ -30,9 +30,10 @@ def program_for(is_unproved):
 
 def become(program, words):
     """Runs the program in place of this process, with its input and output."""
-    # Python ignores these, and the program would inherit that.
-    for number in (signal.SIGPIPE, signal.SIGXFSZ):
-        signal.signal(number, signal.SIG_DFL)
+    # Python ignores two signals, and the program inherits that: of a pipe that is closed it should not, of a file that may not
+    # grow it should, since it cannot ignore that signal by itself, and says then that writing failed.
+    signal.signal(signal.SIGPIPE, signal.SIG_DFL)
+    signal.signal(signal.SIGXFSZ, signal.SIG_IGN)
     os.execv(program, [str(program), *words])
 
 

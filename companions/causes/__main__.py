@@ -1,7 +1,7 @@
 """Draws the events of a session with their causes and messages, as a picture in SVG.
 
-Runs the commands of FILE (without FILE: standard input) on the built program, and then `journal`. The picture has a lane for
-each vat, and in it the events from left to right in the journal's order.
+Runs the commands of FILE (without FILE: standard input) on the built program, and asks it what happened. The picture has a lane
+for each vat, and in it the events from left to right in the journal's order.
 """
 import argparse
 import pathlib
@@ -13,8 +13,9 @@ from conversation.commands import commands_of, lines_of
 from conversation.journal import JournalFault
 from conversation.program import Ended
 from conversation.session import Session
-
-from .picture import picture
+from picture.layout import scene_of
+from picture.looks import LOOKS
+from picture.svg import picture
 
 
 class Fault(Exception):
@@ -52,25 +53,26 @@ def checked_cone(events, name):
 
 
 def session_of(program, commands):
-    """The events of a session of these commands, what each has to say, and how many commands were refused."""
+    """What there is to be drawn of a session of these commands, and how many of them were refused."""
     try:
-        with Session([program]) as session:
+        with Session([program], is_watched=True) as session:
             for command in commands:
                 session.give(command)
-            return session.events(seconds=None), session.said(), session.refusals
+            return scene_of(session), session.refusals
     except (Ended, JournalFault) as fault:
         raise Fault(str(fault)) from fault
 
 
-def drawn(program, text, cone_of):
+def drawn(program, text, cone_of=None, **options):
     """The picture of a session, and how many of its commands were refused.
 
     The program refuses a vat whose script the input's end cuts off.
     """
     commands = commands_of(lines_of(text.decode(errors="surrogateescape")))
     whole = [command for command in commands if command.is_complete]
-    events, texts, refused = session_of(program, whole)
-    return picture(events, texts, checked_cone(events, cone_of)), refused + len(commands) - len(whole)
+    scene, refused = session_of(program, whole)
+    svg = picture(scene, checked_cone(scene.events, cone_of), **options)
+    return svg, refused + len(commands) - len(whole)
 
 
 def put(file, text):
@@ -89,11 +91,14 @@ def main(words=None):
     parser.add_argument("--program", help="the program; without it the one that ./run proved, else that of ./run --unproved")
     parser.add_argument("--out", metavar="FILE.svg", help="where the picture goes; without it to standard output")
     parser.add_argument("--cone", metavar="E", help="an event, as e3, that is coloured with all that came of it")
+    parser.add_argument("--all", action="store_true", help="draws arrivals and learning as events too, and not within others")
+    parser.add_argument("--dark", action="store_true", help="draws on a dark ground")
     parser.add_argument("file", metavar="FILE", nargs="?", help="the commands; without it standard input is read")
     arguments = parser.parse_args(words)
     try:
         text = read_input(arguments.file)
-        svg, refused = drawn(program_named(arguments.program), text, arguments.cone)
+        look = LOOKS["dark" if arguments.dark else "light"]
+        svg, refused = drawn(program_named(arguments.program), text, arguments.cone, is_folded=not arguments.all, look=look)
         put(arguments.out, svg)
     except Fault as fault:
         print(f"causes: {fault}", file=sys.stderr)

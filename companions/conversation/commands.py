@@ -2,6 +2,8 @@
 import re
 from dataclasses import dataclass
 
+from .texts import on_one_line
+
 NAME = r"[A-Za-z_][A-Za-z_0-9]*"
 ASK = re.compile(rf"ask[ \t]+{NAME}(?:[ \t]+(.*))?", re.DOTALL)
 RESERVED = set(
@@ -35,7 +37,7 @@ class Command:
     def text(self):
         """What is to be evaluated, on one line."""
         asked = ASK.fullmatch(self.line)
-        return asked[1] or "" if asked else "; ".join(line.strip() for line in self.script if line.strip())
+        return asked[1] or "" if asked else on_one_line("\n".join(self.script))
 
 
 def lines_of(text):

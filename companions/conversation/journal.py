@@ -1,11 +1,10 @@
-"""What the lines of a journal say: events, their vats, and what came of an event."""
+"""What the lines of a journal say: events, where their messages came from, and what came of an event."""
 import re
+import sys
 from dataclasses import dataclass
 
-# Where the journal does not tell the vat of an event.
-UNKNOWN = "?"
-
-LINE = re.compile(r"(\d+) (e\d+) (live|undone) (\S+)(.*) causes((?: e\d+)*)")
+HEAD = re.compile(r"(\d+) (e\d+) (live|undone) (\S+)(.*)")
+CAUSES = re.compile(r"(?: e\d+)*")
 BASE = re.compile(r"base (\d+)")
 
 NAMING_A_VAT = {"birth", "ask", "learn"}
@@ -29,17 +28,24 @@ class Event:
     line: str
 
     @property
+    def position(self):
+        return int(self.line.split(" ", 1)[0])
+
+    @property
     def message(self):
         """The message that the event takes, if it takes one."""
         return self.arguments[0] if self.kind in TAKING_A_MESSAGE and self.arguments else None
 
 
 def read_event(line):
-    found = LINE.fullmatch(line)
-    if not found:
+    # A line may be long: the causes of an event may be nearly all before it.
+    head, _, causes = line.rpartition(" causes")
+    found = HEAD.fullmatch(head)
+    if not found or not CAUSES.fullmatch(causes):
         raise JournalFault(f"this is no line of a journal: {line}")
-    _, name, mark, kind, arguments, causes = found.groups()
-    return Event(name, mark == "live", kind, tuple(arguments.split()), tuple(causes.split()), line)
+    _, name, mark, kind, arguments = found.groups()
+    # A name stands in many lines, and is kept once.
+    return Event(sys.intern(name), mark == "live", kind, tuple(arguments.split()), tuple(map(sys.intern, causes.split())), line)
 
 
 def read_journal(lines):
@@ -55,13 +61,22 @@ def read_journal(lines):
     return events
 
 
-def vats(events):
-    """The vat of each event."""
-    receivers = {f"{event.name}.m0": event.arguments[0] for event in events if event.kind in MAKING_A_MESSAGE}
-    return {
-        event.name: event.arguments[0] if event.kind in NAMING_A_VAT else receivers.get(event.message, UNKNOWN)
-        for event in events
-    }
+def maker_of(message):
+    """The event that made a message."""
+    return message.partition(".")[0]
+
+
+def origins(events):
+    """Of each event that takes a message, the event that brought it there: the last arrival or forwarding of it among the
+    causes, else what made it."""
+    moves, found = {}, {}
+    for event in events:
+        if event.message:
+            movers = (mover for mover in reversed(moves.get(event.message, [])) if mover in event.causes)
+            found[event.name] = next(movers, maker_of(event.message))
+            if event.kind in ("arrive", "forward"):
+                moves.setdefault(event.message, []).append(event.name)
+    return found
 
 
 def cone(events, name):
@@ -69,6 +84,15 @@ def cone(events, name):
     members = {name}
     for event in events:
         if event.is_live and not members.isdisjoint(event.causes):
+            members.add(event.name)
+    return members
+
+
+def undone_cone(events, name):
+    """The event of this name with all undone events that came of it."""
+    members = {name}
+    for event in events:
+        if not event.is_live and not members.isdisjoint(event.causes):
             members.add(event.name)
     return members
 

@@ -3,8 +3,9 @@ import functools
 import re
 from dataclasses import dataclass
 
-from .commands import Command
+from .commands import Command, words_of
 from .journal import read_journal
+from .places import Places
 from .program import Program, Stopped, help_of
 from .replies import ends_in, events_in, refusal_in
 from .usages import usages_in
@@ -34,9 +35,12 @@ class Answered:
 class Session:
     """What was said to a program and by it. Questions that change nothing are asked beside it and not noted."""
 
-    def __init__(self, words):
+    def __init__(self, words, is_watched=False):
         self.program_words, self.program = list(words), Program(words)
-        self.answered, self.labels, self.under_way, self.told = [], {}, None, {}
+        self.labels = {}
+        self.forget()
+        # Where events happen; it is looked for only in a session of which a picture is wanted.
+        self.is_watched = is_watched
         # A file that ends each wait once it can be read, if there is one.
         self.stopper = None
         # The first words of commands that whoever asks answers by itself.
@@ -47,6 +51,13 @@ class Session:
 
     def __exit__(self, *_):
         self.program.stop()
+
+    def forget(self):
+        """Forgets all that was said."""
+        self.answered, self.under_way, self.told = [], None, {}
+        self.texts, self.authored, self.places = {}, {}, Places()
+        # The journal as it was asked for last, and its events.
+        self.journal = None, []
 
     @functools.cached_property
     def usages(self):
@@ -66,6 +77,8 @@ class Session:
     def give(self, command, seconds=None):
         """Gives a command, and notes it with its reply."""
         self.catch_up(seconds)
+        if self.is_watched:
+            self.places.look_before(self, command)
         self.under_way, self.told = command, {}
         self.program.give(command.lines)
         return self.catch_up(seconds)
@@ -78,8 +91,17 @@ class Session:
         command, self.under_way = self.under_way, None
         if command is None:
             return None
-        self.answered.append(Answered(command, reply))
+        self.note(Answered(command, reply))
         return self.answered[-1]
+
+    def note(self, answered):
+        """Notes a command with its reply: what a birth or an ask says, and what turns end with."""
+        self.answered.append(answered)
+        command, made = answered.command, events_in(answered.reply)
+        if command.word in ("vat", "ask") and made:
+            self.texts[made[0]] = command.text
+            self.authored[made[0]] = words_of(command.line)[1]
+        self.texts.update(ends_in(answered.reply))
 
     def ask(self, line, seconds=SECONDS):
         """The reply to a question, which is kept until the next command. Nothing is asked while the program is at work."""
@@ -91,7 +113,10 @@ class Session:
 
     def events(self, seconds=SECONDS):
         """The events of the journal that are not settled, in its order."""
-        return read_journal(self.ask("journal", seconds))
+        lines = self.ask("journal", seconds)
+        if self.journal[0] is not lines:
+            self.journal = lines, read_journal(lines)
+        return self.journal[1]
 
     def world(self):
         """What `show` says."""
@@ -117,13 +142,13 @@ class Session:
 
     def said(self):
         """What each event has to say: a birth or an ask its text, a turn its end."""
-        texts = {}
-        for each in self.answered:
-            made = events_in(each.reply)
-            if each.command.word in ("vat", "ask") and made:
-                texts[made[0]] = each.command.text
-            texts.update(ends_in(each.reply))
-        return texts
+        return {**self.places.ends, **self.texts}
+
+    def look(self):
+        """The events of the journal with the vat of each."""
+        self.places.look(self)
+        events = self.events()
+        return events, self.places.homes(events)
 
     def accepted(self):
         """The commands so far that were not refused."""
@@ -133,7 +158,8 @@ class Session:
         """Ends the program and starts it again with the commands so far. Gives the first one that is answered otherwise than
         before, or nothing."""
         self.program.stop()
-        self.program, self.under_way, self.told = Program(self.program_words), None, {}
-        before, self.answered = self.answered, []
+        before = self.answered
+        self.program = Program(self.program_words)
+        self.forget()
         other = [each.command for each in before if self.give(each.command).reply != each.reply]
         return other[0] if other else None

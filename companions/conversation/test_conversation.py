@@ -6,22 +6,63 @@ import signal
 import sys
 import tempfile
 import unittest
+import unittest.mock
 from pathlib import Path
 
 from .advice import advice, pointed
 from .commands import Command, commands_of, is_command, lines_of, script_length
 from .completion import completions
-from .journal import JournalFault, between, cone, read_journal, vats, with_causes
+from .history import keep, kept_lines
+from .journal import JournalFault, between, cone, origins, read_journal, undone_cone, with_causes
 from .language import meanings, read_document, told_of
 from .program import Ended, Program, Stopped, help_of
+from .questions import answer_to, cell_of, cells_in, way_by_causes, why_in
 from .refusals import SENTENCES, in_words
 from .replies import Refusal, ends_in, events_in, refusal_in
 from .session import Session, UnknownLabel
+from .telling import event_told, message_told, thing_told
 from .texts import is_bracketed, is_open, on_one_line, without_label
 from .typed import NotTyped, typed, written
 from .usages import usages_in
 
 PROGRAM = os.environ.get("EVATS_PROGRAM") or str(Path(__file__).with_name("stand_in"))
+# One that does not know the commands why, event, message and object, and one that does, of one session.
+UNASKED = [str(Path(__file__).with_name("stand_in")), "--unasked"]
+RECORDED = [str(Path(__file__).with_name("recorded"))]
+ASKED_OF_IT = """\
+vat carol () 1
+def _ { method x() { 1 } method w() { 2 } }
+turn e1.m0
+vat bob () 1
+def _ { method y(c) { c <- w() } }
+turn e3.m0
+vat alice (carol bob) 0
+turn e5.m0
+ask alice carol <- x(); bob <- y(carol)
+turn e7.m0
+arrive e8.m1
+turn e8.m1
+arrive e10.m0
+arrive e8.m0
+turn e8.m0
+turn e10.m0
+"""
+# Three vats: a message goes on from one to another, and what it caused is taken back and redone.
+FORWARDED = """\
+vat bank () 5
+def bank {
+  to open(balance) {
+    return def _ { to plus(n) { return balance + n } }
+  }
+}
+vat ann (bank) 2
+def account := bank <- open(10)
+def ann { to account() { return account } }
+vat bob (ann) 1
+(ann <- account()) <- plus(5)
+run 100
+"""
+BANK, ANN, BOB = ["e1", "e4", "e7", "e8", "e13", "e14"], ["e2", "e5", "e9", "e10", "e11", "e12", "e15", "e16"], ["e3", "e6", "e17"]
 JOURNAL = """\
 1 e1 live birth a causes
 2 e2 live turn e1.m0 causes e1
@@ -136,9 +177,11 @@ class Journals(unittest.TestCase):
         (event,) = read_journal(["base 2", "3 e3 live ask a causes e1"])
         self.assertEqual(event.causes, ("e1",))
 
-    def test_vats(self):
-        self.assertEqual(set(vats(events_of(JOURNAL)).values()), {"a"})
-        self.assertEqual(list(vats(events_of(SENDS)).values()), ["alice", "bob", "alice", "?", "?", "?", "bob"])
+    def test_where_a_message_was_before(self):
+        self.assertEqual(origins(events_of(SENDS)), {"e3": "e1", "e4": "e3", "e5": "e4", "e6": "e3"})
+
+    def test_an_undone_cone_has_undone_events(self):
+        self.assertEqual(undone_cone(events_of(JOURNAL), "e3"), {"e3", "e4"})
 
     def test_a_cone_has_live_events(self):
         events = events_of(JOURNAL)
@@ -444,6 +487,165 @@ class Helping(unittest.TestCase):
         with tempfile.TemporaryDirectory() as folder:
             Path(folder, "bank.e").write_text("1\n")
             self.assertEqual(self.completed("vat a () ", f"@{folder}/b"), [f"@{folder}/bank.e"])
+
+
+class Watched(unittest.TestCase):
+    def session(self, text, words=(PROGRAM,)):
+        session = Session(words, is_watched=True)
+        self.addCleanup(session.__exit__)
+        for command in commands_of(lines_of(text)):
+            session.give(command)
+        return session
+
+
+class Homes(Watched):
+    def expect_homes(self, session, bank=BANK, ann=ANN, bob=BOB):
+        _, homes = session.look()
+        wanted = {**dict.fromkeys(bank, "bank"), **dict.fromkeys(ann, "ann"), **dict.fromkeys(bob, "bob")}
+        self.assertEqual({name: homes.get(name) for name in wanted}, wanted)
+        return homes
+
+    def test_each_event_has_its_vat(self):
+        session = self.session(FORWARDED)
+        before = session.ask("journal"), session.ask("show")
+        homes = self.expect_homes(session)
+        self.assertEqual((len(homes), session.places.lanes(homes)), (20, ["bank", "ann", "bob"]))
+        # A forwarding was taken back to see where its message was, and redone.
+        session.told.clear()
+        self.assertEqual((session.ask("journal"), session.ask("show")), before)
+
+    def test_undone_events_keep_their_vats(self):
+        for text in ("undo-cone e8\n", "undo-cone e5\n", "undo-cone e1\nundo-cone e3\n"):
+            self.expect_homes(self.session(FORWARDED + text))
+
+    def test_settled_events_keep_their_vats(self):
+        self.expect_homes(self.session(FORWARDED + "settle 13\n"), ["e14"], ["e15", "e16"], ["e17"])
+
+    def test_what_was_seen_once_stays_where_the_program_is_begun_anew(self):
+        session = self.session(FORWARDED + "undo-cone e5\n")
+        session.begin_anew()
+        self.expect_homes(session)
+
+    def test_a_message_that_waits_tells_where_it_was_taken(self):
+        session = self.session("vat a () 1\ndef o { method m() { 1 } }\nrun 1\nask a o <- m()\nrun 1\nturn e4.m0\n")
+        session.places.count = 10_000
+        session.give(Command("undo-cone e4"))
+        session.give(Command("redo e4"))
+        self.assertEqual(session.look()[1], dict.fromkeys(["e1", "e2", "e3", "e4", "e5"], "a"))
+        self.assertEqual(session.places.vats.get("e5"), "a")
+
+    def test_the_turn_that_published_what_is_learnt(self):
+        session = self.session(FORWARDED)
+        events, _ = session.look()
+        by_name = {event.name: event for event in events}
+        found = {event.arguments: session.places.publisher(event, by_name) for event in events if event.kind == "learn"}
+        wanted = {("ann", "e1.p0"): "e4", ("ann", "e5.p0"): "e8", ("bob", "e2.p0"): "e5", ("bob", "e6.p0"): "e10"}
+        wanted["bob", "e6.p1"] = "e14"
+        self.assertEqual({each: found[each] for each in wanted}, wanted)
+
+    def test_ends_of_turns_that_no_reply_told(self):
+        session = self.session("vat a () 1\n1 + 2\nask a throw(\"no\")\nask a [1, \"x\"]\nwork 1 10\n")
+        session.look()
+        ends = {name: text for name, text in session.said().items() if text.startswith(("value", "problem"))}
+        self.assertEqual(sorted(ends.values()), ['problem "no"', "value 3", 'value [1, "x"]'])
+
+    def test_captions_of_a_run(self):
+        self.assertEqual(self.session(FORWARDED).said()["e14"], "value 15")
+
+
+class Questions(Watched):
+    def setUp(self):
+        self.asked = self.session(ASKED_OF_IT, RECORDED)
+        self.plain = self.session(ASKED_OF_IT, UNASKED)
+
+    def told(self, session, name):
+        events, homes = session.look()
+        return event_told(session, next(event for event in events if event.name == name), homes[name])
+
+    def test_a_program_that_does_not_know_them(self):
+        self.assertEqual(answer_to(self.plain, "why e1 e2"), (None, None))
+        self.assertEqual(answer_to(self.plain, "cone e99")[1].code, "B12")
+
+    def test_why(self):
+        why = why_in(answer_to(self.asked, "why e7 e14")[0])
+        self.assertEqual((why.kind, [(each.source, each.target, str(each.cell)) for each in why.steps]), ("chain", [
+            ("e7", "e8", "msg e7.m0"), ("e8", "e12", "msg e8.m0"), ("e12", "e13", "msg e8.m0"), ("e13", "e14", "msg e8.m0"),
+        ]))
+        self.assertEqual(why_in(answer_to(self.asked, "why e4 e2")[0]).kind, "none")
+        crossed = why_in(["why e17 e10 crossed", " e10 e17 view e3 e1.p0"])
+        self.assertEqual((crossed.kind, str(crossed.steps[0].cell)), ("crossed", "view e3 e1.p0"))
+
+    def test_a_way_by_causes(self):
+        events = self.plain.events()
+        for pair in (("e7", "e14"), ("e14", "e7")):
+            why = way_by_causes(events, *pair)
+            self.assertEqual((why.kind, why.steps[0].source, why.steps[-1].target), ("chain", "e7", "e14"))
+            by_name = {event.name: event for event in events}
+            for each in why.steps:
+                self.assertIn(each.source, by_name[each.target].causes)
+        self.assertEqual(str(way_by_causes(events, "e7", "e8").steps[0].cell), "msg e7.m0")
+        for pair in (("e4", "e2"), ("e2", "e2")):
+            self.assertEqual(way_by_causes(events, *pair).kind, "none")
+
+    def test_cells_in_words(self):
+        vats = {"e1": "carol"}
+        words = {
+            "noun e1 n": "the name n in carol", "slot e3.s0": "the variable e3.s0", "object e2.o0": "the object e2.o0",
+            "view e1 e2.p0": "what carol knows of e2.p0", "msg e1.m0": "the message e1.m0",
+            "board e1.p0": "what e1.p0 was published as",
+            "fence e1 e2.o0": "what comes before the next message on e2.o0 from carol", "vat ann": "the name ann of a vat",
+            "view e9 e2.p0": "what e9 knows of e2.p0", "other x": "other x", "noun": "noun",
+        }
+        self.assertEqual({text: cell_of(text).in_words(vats) for text in words}, words)
+        reply = ["5 e5 live learn bob e1.p0 causes e3 e4", " wrote view e2 e1.p0 e4", " read fence e2 e1.p0 -", " strange"]
+        found = [(str(cell), cell.is_written, cell.writer) for cell in cells_in(reply)]
+        self.assertEqual(found, [("view e2 e1.p0", True, "e4"), ("fence e2 e1.p0", False, None)])
+
+    def test_an_event_in_words(self):
+        told = self.told(self.asked, "e14")
+        took = "The vat carol took the message e10.m0 and ran it to its end."
+        self.assertEqual(told["words"], [took, "e10 made that message.", "It ended with the value 2."])
+        self.assertIn((True, "the message e10.m0", "msg e10.m0", "e11"), told["cells"])
+        self.assertEqual((told["message"]["lines"][2], told["notes"]), (" sent <e1.p0> <- w()", []))
+        self.assertEqual(told["log"], ["took the message e10.m0", "resolved the promise e10.p0"])
+
+    def test_an_event_of_which_the_program_cannot_tell_more(self):
+        told = self.told(self.plain, "e14")
+        self.assertEqual((told["title"], told["position"], told["causes"][:2]), ("turn of carol", 14, ("e2", "e8")))
+        self.assertEqual(told["words"], self.told(self.asked, "e14")["words"])
+        self.assertEqual((told["cells"], told["log"]), ([], ["took the message e10.m0", "resolved the promise e10.p0"]))
+        self.assertEqual(told["notes"], ["This program cannot tell more: it does not know the command `event`."])
+        self.assertEqual(self.told(self.plain, "e1")["text"], ["def _ { method x() { 1 } method w() { 2 } }"])
+        self.assertEqual(self.told(self.plain, "e7")["text"], ["carol <- x(); bob <- y(carol)"])
+
+    def test_a_message_in_words(self):
+        told = message_told(self.asked, "e8.m0")
+        self.assertEqual((told["words"], told["lines"][1:]), (["e8 made it.", "e13 took it."], [" after", " sent <e1.p0> <- x()"]))
+        cannot = "This program cannot tell more: it does not know the command `message`."
+        self.assertEqual(message_told(self.plain, "e8.m0")["notes"], [cannot])
+        self.assertEqual(message_told(self.plain, "e7.m0")["text"], ["carol <- x(); bob <- y(carol)"])
+        self.assertEqual(message_told(self.plain, "e9.m0")["words"], ["e9 made it.", "It is not in the world now."])
+
+    def test_other_things_in_words(self):
+        self.assertEqual(thing_told(self.asked, "e4.o0")["lines"][1:], [" at bob", " method y(c) { c <- w() }"])
+        self.assertEqual(thing_told(self.plain, "e4.o0")["shown"], [("bob", "object e4.o0 _"), (None, "board e3.p0 = <e4.o0>")])
+        promise = thing_told(self.plain, "e8.p1")
+        self.assertEqual((promise["words"], promise["notes"]), (["e8 made it.", "It was published as <e10.p0>."], []))
+
+
+class History(unittest.TestCase):
+    def test_lines_are_kept(self):
+        with tempfile.TemporaryDirectory() as folder, unittest.mock.patch.dict(os.environ, {"XDG_STATE_HOME": folder}):
+            self.assertEqual(kept_lines(), [])
+            keep("show\n\njournal")
+            keep("step")
+            self.assertEqual(kept_lines(), ["show", "journal", "step"])
+            self.assertEqual(os.stat(Path(folder, "evats", "history")).st_mode & 0o777, 0o600)
+
+    def test_where_nothing_can_be_kept(self):
+        with unittest.mock.patch.dict(os.environ, {"XDG_STATE_HOME": "/dev/null"}):
+            keep("show")
+            self.assertEqual(kept_lines(), [])
 
 
 class Random(unittest.TestCase):

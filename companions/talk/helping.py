@@ -1,6 +1,6 @@
 """What `help` tells: the commands of the program and of the talk, how they may be typed, one command, or a refusal."""
-from conversation.language import meanings, read_document, told_of
-from conversation.refusals import SENTENCES
+from conversation import helping
+from conversation.helping import row
 from conversation.usages import usages_in
 
 OWN = """\
@@ -30,10 +30,6 @@ def usages_of(session):
     return {**own_usages(), **session.usages}
 
 
-def row(usage):
-    return f"  {usage.words:<25} {usage.does}"
-
-
 def all_commands(usages):
     """The lines on all commands."""
     own = own_usages()
@@ -41,33 +37,6 @@ def all_commands(usages):
     return [*lines, "Commands of the talk:", *map(row, own.values()), *WAYS.split("\n")]
 
 
-def in_one_line(cell):
-    return cell.replace("`", "")
-
-
-def one_command(usage):
-    """The lines on a command of the program or of the talk."""
-    wants, replies, refused = told_of(read_document(), usage.word)
-    lines = [row(usage).strip(), *(way for way in WAYS.split("\n") if way.split()[0] == usage.word)]
-    lines += [f"  wants: {in_one_line(each)}" for each in wants]
-    lines += [f"  reply: {in_one_line(each)}" for each in replies]
-    return lines + [f"  {' '.join(['no', each.code, each.name, *each.arguments])}: {in_one_line(each.when)}" for each in refused]
-
-
-def one_refusal(code):
-    """The lines on a refusal."""
-    found = [each for each in meanings(read_document()) if each.code == code]
-    names = [*(found[0].arguments if found else ()), "..", ".."]
-    lines = [f"  no {' '.join([code, each.name, *each.arguments])}: {in_one_line(each.when)}" for each in found]
-    return [SENTENCES[code].format(*names), *lines]
-
-
 def help_on(word, usages):
     """What is told of a word, or of all commands where there is none."""
-    if not word:
-        return all_commands(usages)
-    if word in usages:
-        return one_command(usages[word])
-    if word.upper() in SENTENCES:
-        return one_refusal(word.upper())
-    return [f"There is no command {word} and no refusal of that code; `help` lists the commands."]
+    return helping.help_on(word, usages, WAYS.split("\n")) if word else all_commands(usages)

@@ -4,21 +4,14 @@ import contextlib
 import os
 import readline
 import signal
-from pathlib import Path
 
 from conversation.completion import completions
+from conversation.history import MOST_LINES, history_file
 
 from .consoles import MARK, MORE, PROMPT, put
 from .helping import usages_of
 
-MOST_LINES = 2_000
 DELIMITERS = " \t([{,;"
-
-
-def history_file():
-    """Where the lines are kept that were typed."""
-    folder = os.environ.get("XDG_STATE_HOME") or "~/.local/state"
-    return Path(folder).expanduser() / "evats" / "history"
 
 
 @contextlib.contextmanager

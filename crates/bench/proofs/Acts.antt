@@ -10,7 +10,7 @@ use Rattle.pact.specs.Agree.{strike, entered_by}
 use Rattle.bench.specs.declared.command.Command.{Command}
 use Rattle.bench.specs.declared.command.Command.TheVariants as command
 use Rattle.bench.specs.declared.pick.Pick.TheVariants as pick
-use Rattle.bench.specs.Seats.{is_turn}
+use Rattle.crew.specs.Work.{is_turn}
 use Rattle.bench.specs.Desk.{Held, Returns}
 use Rattle.bench.specs.Author.{IsActOf, IsStep, Obeys, Picks, mark_of}
 use Rattle.bench.proofs.Agrees.{Grows}

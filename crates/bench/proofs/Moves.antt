@@ -33,7 +33,8 @@ use Rattle.std.specs.Prelude.{slice_set}
 use Rattle.bench.specs.declared.command.Command.{Command}
 use Rattle.bench.specs.declared.command.Command.TheVariants as command
 use Rattle.book.specs.Entered.{Entered, entered_in}
-use Rattle.bench.specs.Seats.{events_by, is_turn}
+use Rattle.crew.specs.Work.{is_turn}
+use Rattle.bench.specs.Seats.{events_by}
 use Rattle.bench.specs.Desk.{IsDesk}
 use Rattle.bench.specs.Author.{IsEntered, IsActOf, IsStep, EntersAct, Marks, EntersNone, Refuses, command_refusal, mark_of}
 use Rattle.bench.proofs.Agrees.{entry, Grows, grown, Rests, rests_same, desk_rested, desk_closed}

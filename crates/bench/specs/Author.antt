@@ -1,5 +1,5 @@
 -- What commands do, to a book and to the seat that they come through.
-use Rattle.std.specs.Prelude.{◌≡◌, ◌≢◌, ◌⊎◌, ℕ, false, not, Option, Some, None}
+use Rattle.std.specs.Prelude.{◌≡◌, ◌⊎◌, ℕ, false, not, Option, Some, None, IsSome}
 use Rattle.ids.specs.declared.names.EventName.{EventName}
 use Rattle.ids.specs.declared.names.MsgId.{MsgId}
 use Rattle.ids.specs.declared.names.VatNo.{VatNo}
@@ -15,7 +15,7 @@ use Rattle.desk.specs.Desks.{has_vat, is_out, without}
 use Rattle.turn.specs.declared.ticket.Ran.{Ran}
 use Rattle.book.specs.Books.{Book}
 use Rattle.book.specs.Calls.{EntersNext, Lends, Undoes, Redoes, Exchanges}
-use Rattle.book.specs.Fault.{Tells}
+use Rattle.book.specs.Fault.{Tells, told_by}
 use Rattle.book.specs.declared.fault.BookFault.{BookFault}
 use Rattle.book.specs.declared.fault.BookFault.TheVariants.{NoTicket, Memory}
 use Rattle.book.specs.Refusals.{Refusal, first, budget_refusal, full_refusal, birth_refusal, ask_refusal, arrival_refusal, forward_refusal, learn_refusal, undo_refusal, redo_refusal, exchange_refusal, refuse_where, no_ticket}
@@ -64,7 +64,7 @@ command_refusal (command.Exchange position) b = exchange_refusal b.settled b.jou
 -- a fault tells why a command is refused, unless it is want of memory, of which an abandoned ticket and an exchange take none
 abbrev pub Refuses : Command → Book → BookFault → Type 0
 Refuses (command.Abandon n) b fault = (fault ≡ NoTicket) × (is_out n b.out ≡ false)
-Refuses (command.Exchange position) b fault = (fault ≢ Memory) × Tells fault (exchange_refusal b.settled b.journal position)
+Refuses (command.Exchange position) b fault = IsSome (told_by fault) × Tells fault (exchange_refusal b.settled b.journal position)
 Refuses c b fault = Tells fault (command_refusal c b)
 
 -- what an accepted command does to a book, from a seat; it answers the name of a new event, where it enters one

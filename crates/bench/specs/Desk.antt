@@ -1,5 +1,5 @@
 -- What lies under the lock, and how the lists of the seats stand to it.
-use Rattle.std.specs.Prelude.{◌≡◌, ℕ, ◌+◌, ◌==◌, ◌≤◌, nat_lt, ◌&&◌, Bool, true, false, List, [], ◌∷◌, ◌++◌, map, length, slice_index_or, All, IsPermutation, refl}
+use Rattle.std.specs.Prelude.{◌≡◌, ℕ, ◌+◌, ◌==◌, ◌≤◌, nat_lt, ◌&&◌, Bool, true, false, List, [], ◌∷◌, ◌++◌, map, length, slice_index_or, IsPermutation, refl}
 use Rattle.std.specs.Coded.{Coded, code_by, coded×, coded_ℕ}
 use Rattle.std.specs.List.{AllByRecursion, list_any}
 use Rattle.ids.specs.declared.names.EventName.{EventName}
@@ -10,8 +10,6 @@ use Rattle.desk.specs.Desks.{Lent, without}
 use Rattle.book.specs.Books.{Book}
 use Rattle.book.specs.declared.fault.BookFault.{BookFault}
 use Rattle.book.specs.declared.fault.BookFault.TheVariants as fault
-use Rattle.book.specs.declared.fault.WorkFault.{WorkFault}
-use Rattle.book.specs.declared.fault.WorkFault.TheVariants as work
 use Rattle.pact.specs.declared.View.{View}
 use Rattle.pact.specs.contracts.Deeds as deeds
 use Rattle.pact.specs.declared.Deeds.{Deeds}
@@ -19,7 +17,8 @@ use Rattle.pact.specs.declared.Act.{Act}
 use Rattle.pact.specs.declared.Act.TheVariants.{Nothing, Enters, Gives, Opens, Closes}
 use Rattle.pact.specs.Agree.{blank, after, IsKeeper, IsHolder, strike}
 use Rattle.book.specs.Entered.{Entered, entered_in, IsAmong}
-use Rattle.bench.specs.Seats.{events_by, is_turn, turns_in}
+use Rattle.crew.specs.Work.{is_turn}
+use Rattle.bench.specs.Seats.{events_by, turns_in}
 use Rattle.bench.specs.declared.under_lock.TheConstants.{LAST_SEAT}
 
 -- a seat, as contracts see it: its number, its place among the seats of its Bench, and what it has done
@@ -103,17 +102,6 @@ abbrev pub left_by : BookFault → EventName → Book → Book
 left_by fault.Stale n b = record b { out = without n b.out }
 left_by _ n b = b
 
--- the greatest seat of an entry or of a ticket that is out; 0 where there is none
-pub record IsGreatestSeat (seat : ℕ) (b : Book) : Type 0 where
-  pub entries : All (λ l. l.seat ≤ seat) b.journal
-  pub tickets : All (λ t. t.seat ≤ seat) b.out
-  pub least : (n : ℕ) → All (λ l. l.seat ≤ n) b.journal → All (λ t. t.seat ≤ n) b.out → seat ≤ n
-
 -- there is one more seat: the ledger has a part for it, and a number is left, above the greatest one from before
 abbrev pub has_seat : (before made seats : ℕ) → Bool
 has_seat before made seats = nat_lt made seats && nat_lt (before + made) LAST_SEAT
-
--- why workers did nothing: none could be started, or there was no memory for the list of their seats
-abbrev pub StopsWork : WorkFault → Type 0
-StopsWork work.NoWorker = Unit {0}
-StopsWork (work.Book f) = f ≡ fault.Memory

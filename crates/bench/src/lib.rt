@@ -15,14 +15,19 @@ ghost use Rattle.bench.specs.Author.{Authored, mark_of, turn_of, Picked};
 ghost use Rattle.book.specs.declared.book.TheConstants.{MOST_STEPS};
 
 pub mod command;
+mod errand;
 mod last;
 pub mod once;
 pub mod pick;
 pub mod pile;
 pub mod seat;
 pub mod start;
+pub mod theorems;
 pub mod under_lock;
+mod under_work;
 pub mod work;
+mod workplace;
+mod workshop;
 
 use crate::command::Command;
 use crate::pick::Pick;

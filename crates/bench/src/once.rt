@@ -1,14 +1,13 @@
 //! Work on a book that nobody else has.
-ghost use Rattle.std.specs.Prelude.{◌≡◌, ◌<◌, ◌≤◌, IfErr};
+ghost use Rattle.std.specs.Prelude.{◌≡◌, ◌<◌, ◌≤◌, IfOk, IfErr};
 ghost use Rattle.book.specs.BookView.{book_of};
-ghost use Rattle.book.specs.Entered.{entered_in, IsAmong};
+ghost use Rattle.book.specs.Entered.{entered_in};
 ghost use Rattle.book.specs.declared.book.TheConstants.{MOST_STEPS};
-ghost use Rattle.bench.specs.Desk.{StopsWork};
+ghost use Rattle.crew.specs.Work.{StopsWork, Worked};
 
-use crate::Bench;
-use crate::seat::Opening;
 use crate::start::Begun;
-use crate::work::{Gate, Worked};
+use crate::work::{Gate, work_at};
+use crate::workshop::{Shift, Workshop};
 use book::book::Book;
 use book::fault::{BookFault, WorkFault};
 use std::alloc::Global;
@@ -20,7 +19,7 @@ use std::thread::Threads;
 /// Has workers do what may be done in a book, as `Bench::work` says, and gives the book back. Answers how many turns they entered.
 ///
 /// # Errors
-/// As `Bench::work`; `Memory` also where there is none for the Bench.
+/// As `Bench::work`; `Memory` also where there is none for the workshop. The book is as it was.
 pub fn work_once<G: Gate + Sync, R: Threads + Wait + Sync>(
     rt: &R,
     alloc: Global,
@@ -31,8 +30,8 @@ pub fn work_once<G: Gate + Sync, R: Threads + Wait + Sync>(
     gate: &G,
 ) -> (Book, Result<u64, WorkFault>)
     requires { (0 < budget) × (budget ≤ MOST_STEPS) }
-    ensures still { IsAmong (entered_in (book_of book).journal) (entered_in (book_of result.0).journal) }
-    ensures err { IfErr result.1 (λ fault. StopsWork fault) }
+    ensures ok { IfOk result.1 (λ done. Worked workers turns done (book_of book) (book_of result.0)) }
+    ensures err { IfErr result.1 (λ fault. StopsWork fault × (book_of result.0 ≡ book_of book)) }
 {
     let parts = workers as u64;
     match Begun::new(alloc, book) {
@@ -51,8 +50,8 @@ pub fn work_once<G: Gate + Sync, R: Threads + Wait + Sync>(
     }
 }
 
-/// The same at a Bench of its own.
-fn work_on<L: Opening + Send + Sync, G: Gate + Sync, R: Threads + Wait + Sync>(
+/// The same in a workshop of its own.
+fn work_on<L: Shift + Send + Sync, G: Gate + Sync, R: Threads + Wait + Sync>(
     rt: &R,
     alloc: Global,
     begun: Begun,
@@ -65,13 +64,16 @@ fn work_on<L: Opening + Send + Sync, G: Gate + Sync, R: Threads + Wait + Sync>(
 ) -> (Book, Result<u64, WorkFault>)
     requires budget { (0 < budget) × (budget ≤ MOST_STEPS) }
     requires ledger { (blank.name ≡ L.name) × (blank.parts ≡ L.parts) × (L.parts ≡ L.seats) × (parts ≡ L.seats) }
-    requires book { (begun.table ≡ L.table) × (entered_in (book_of begun.book).journal ≡ L.began) × (begun.before ≡ L.before) }
-    ensures still { IsAmong (entered_in (book_of begun.book).journal) (entered_in (book_of result.0).journal) }
-    ensures err { IfErr result.1 (λ fault. StopsWork fault) }
+    requires book { (begun.table ≡ L.table) × (book_of begun.book ≡ L.book) × (entered_in (book_of begun.book).journal ≡ L.began) × (begun.before ≡ L.before) }
+    requires most { (workers ≡ L.seats) × (turns ≡ L.most) }
+    ensures ok { IfOk result.1 (λ done. Worked workers turns done (book_of begun.book) (book_of result.0)) }
+    ensures err { IfErr result.1 (λ fault. StopsWork fault × (book_of result.0 ≡ book_of begun.book)) }
 {
-    let bench = Bench::<L>::new(begun, budget, blank, parts);
-    match bench.work(rt, alloc, workers, turns, gate) {
-        Ok(Worked { seats, turns }) => (bench.close(rt, seats).0, Ok(turns)),
-        Err(fault) => (bench.close(rt, Vec::new(alloc)).0, Err(fault)),
+    let workshop = Workshop::<L>::new(begun, budget, blank, parts, turns);
+    let worked = work_at(rt, alloc, &workshop, workers, turns, gate);
+    let (book, given, untouched) = workshop.close();
+    match (worked, untouched) {
+        (Err(fault), true) => (book, Err(fault)),
+        _ => (book, Ok(given)),
     }
 }

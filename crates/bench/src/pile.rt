@@ -1,6 +1,6 @@
 //! The seats that came back, with the number of turns in their lists.
-ghost use Rattle.std.specs.Prelude.{◌≡◌, [], All, IfOk, sum_by};
-ghost use Rattle.bench.specs.Seats.{turns_in};
+ghost use Rattle.std.specs.Prelude.{◌≡◌, ◌≤◌, [], All, IfOk, sum_by};
+ghost use Rattle.bench.specs.Seats.{turns_in, AreWork};
 ghost use Rattle.bench.specs.Desk.{events_of};
 
 use crate::seat::{Opening, Seat};
@@ -17,7 +17,7 @@ pub struct Pile<L: Opening> {
 
 impl<L: Opening> Model for Pile<L> {
     ghost use Rattle.std.specs.Prelude.{◌≡◌, List, [], All, sum_by};
-    ghost use Rattle.bench.specs.Seats.{turns_in};
+    ghost use Rattle.bench.specs.Seats.{turns_in, AreWork};
     ghost use Rattle.std.specs.Coded.{coded_list};
     ghost use Rattle.bench.specs.Desk.{Held, held_code, events_of};
 
@@ -27,7 +27,7 @@ impl<L: Opening> Model for Pile<L> {
 
     ghost view = { λ p. p.seats.items };
 
-    ghost invariant = { λ p. All (λ s. s.deeds.tickets ≡ []) p.seats.items × (p.turns ≡ sum_by (λ s. turns_in (events_of s.deeds)) p.seats.items) };
+    ghost invariant = { λ p. All (λ s. (s.deeds.tickets ≡ []) × AreWork (events_of s.deeds)) p.seats.items × (p.turns ≡ sum_by (λ s. turns_in (events_of s.deeds)) p.seats.items) };
 }
 
 impl<L: Opening> Pile<L> {
@@ -49,11 +49,16 @@ impl<L: Opening> Pile<L> {
         }
     }
 
-    pub fn into_worked(self) -> Worked<L>
-        ensures open { All (λ s. s.deeds.tickets ≡ []) result.seats.items }
-        ensures turns { result.turns ≡ sum_by (λ s. turns_in (events_of s.deeds)) result.seats.items }
+    /// The seats, with the number of turns in their lists. Were these more than `most`, all would be let go.
+    pub fn into_worked(self, most: u64) -> Worked<L>
+        ensures open { All (λ s. (s.deeds.tickets ≡ []) × AreWork (events_of s.deeds)) result.seats.items }
+        ensures turns { (result.turns ≡ sum_by (λ s. turns_in (events_of s.deeds)) result.seats.items) × (result.turns ≤ most) }
     {
-        let Pile { seats, turns } = self;
-        Worked { seats, turns }
+        let Pile { mut seats, turns } = self;
+        if turns <= most {
+            return Worked { seats, turns };
+        }
+        seats.clear();
+        Worked { seats, turns: 0 }
     }
 }

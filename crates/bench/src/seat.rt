@@ -1,5 +1,5 @@
 //! A seat, which one thread holds.
-ghost use Rattle.std.specs.Prelude.{◌≡◌, [], ◌+◌, ◌^◌, ◌<◌, Some, length, slice_get, slice_set};
+ghost use Rattle.std.specs.Prelude.{◌≡◌, [], ◌+◌, ◌^◌, ◌<◌, ◌≤◌, Some, length, slice_get, slice_set};
 ghost use Rattle.crossbeam_utils.specs.Seq.{cell_view};
 ghost use Rattle.pact.specs.Agree.{blank, holder, knower, after, entered_by, IsKeeper};
 ghost use Rattle.bench.specs.Desk.{IsFit, events_of, held};
@@ -55,7 +55,7 @@ pub struct Seat<L: Opening> {
 }
 
 impl<L: Opening> Model for Seat<L> {
-    ghost use Rattle.std.specs.Prelude.{◌≡◌, ◌+◌, []};
+    ghost use Rattle.std.specs.Prelude.{◌≡◌, ◌+◌, ◌<◌, []};
     ghost use Rattle.crossbeam_utils.specs.Seq.{cell_view};
     ghost use Rattle.bench.specs.Desk.{Held, held_code, IsSeat};
 
@@ -65,7 +65,7 @@ impl<L: Opening> Model for Seat<L> {
 
     ghost view = { λ s. record { number = s.number; place = (cell_view s.token).place; deeds = (cell_view s.token).deeds } };
 
-    ghost invariant = { λ s. (s.token.table_id ≡ L.table) × (s.token.me.1 ≡ []) × (s.share.parts ≡ 1) × (s.share.amount ≡ s.tally) × IsSeat (L.before + 1) s.number s.tally s.turns (cell_view s.token) };
+    ghost invariant = { λ s. (s.token.table_id ≡ L.table) × (s.token.me.1 ≡ []) × (s.share.parts ≡ 1) × (s.share.amount ≡ s.tally) × ((cell_view s.token).place < L.seats) × IsSeat (L.before + 1) s.number s.tally s.turns (cell_view s.token) };
 }
 
 impl<L: Opening> Seat<L> {
@@ -73,7 +73,7 @@ impl<L: Opening> Seat<L> {
     pub(crate) fn new(number: u64, token: Token, share: Share<L>) -> Seat<L>
         requires token { (token.table_id ≡ L.table) × (token.me.1 ≡ []) × (cell_view token ≡ holder (cell_view token).place blank) }
         requires share { (share.parts ≡ 1) × (share.amount ≡ 0) }
-        requires number { number ≡ L.before + 1 + (cell_view token).place }
+        requires number { (number ≡ L.before + 1 + (cell_view token).place) × ((cell_view token).place < L.seats) }
         ensures { result ≡ record { number = number; place = (cell_view token).place; deeds = blank } }
     {
         Seat {
@@ -87,7 +87,8 @@ impl<L: Opening> Seat<L> {
     }
 
     pub fn number(&self) -> u64
-        ensures { result ≡ self.now.number }
+        ensures is { result ≡ self.now.number }
+        ensures there { (L.before < result) × (result ≤ L.before + L.seats) }
     {
         self.number
     }

@@ -2,7 +2,7 @@
 ghost use Rattle.std.specs.Prelude.{◌≡◌, ◌≤◌, IfOk, IfErr};
 ghost use Rattle.book.specs.BookView.{book_of};
 ghost use Rattle.book.specs.Entered.{entered_in};
-ghost use Rattle.bench.specs.Desk.{IsGreatestSeat};
+ghost use Rattle.crew.specs.Work.{IsGreatestSeat};
 
 use crate::seat::Opening;
 use crate::under_lock::Desk;
@@ -26,7 +26,7 @@ impl Model for Begun {
     ghost use Rattle.crossbeam_utils.specs.Seq.{cell_view};
     ghost use Rattle.book.specs.BookView.{book_of};
     ghost use Rattle.pact.specs.Agree.{knower};
-    ghost use Rattle.bench.specs.Desk.{IsGreatestSeat};
+    ghost use Rattle.crew.specs.Work.{IsGreatestSeat};
     ghost use Rattle.bench.specs.DeskView.{Start, start_code};
 
     ghost Value = { Start };
@@ -65,7 +65,9 @@ impl Begun {
     ) -> (Cell, Desk<L>)
         requires ledger { (blank.name ≡ L.name) × (blank.parts ≡ L.parts) × (L.parts ≡ L.seats) × (parts ≡ L.seats) }
         requires book { (self.table ≡ L.table) × (entered_in (book_of self.book).journal ≡ L.began) × (self.before ≡ L.before) }
-        ensures { result.0.table.shared.table_id ≡ L.table }
+        ensures cell { result.0.table.shared.table_id ≡ L.table }
+        ensures desk { result.1.book ≡ self.book }
+        ensures greatest { IsGreatestSeat L.before (book_of self.book) }
     {
         let Begun {
             cell,

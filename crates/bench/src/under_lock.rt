@@ -9,7 +9,8 @@ ghost use Rattle.book.specs.declared.fault.BookFault.TheVariants.{NoTicket};
 ghost use Rattle.pact.specs.declared.Act.TheVariants.{Closes};
 ghost use Rattle.pact.specs.Agree.{blank, knower};
 ghost use Rattle.book.specs.Entered.{entered_in, IsAmong};
-ghost use Rattle.bench.specs.Desk.{held, refused, left_by, has_seat, Answers, IsGreatestSeat, Returns};
+ghost use Rattle.bench.specs.Desk.{held, refused, left_by, has_seat, Answers, Returns};
+ghost use Rattle.crew.specs.Work.{IsGreatestSeat};
 ghost use Rattle.bench.specs.Author.{Obeys, Authored, Refuses, mark_of, turn_of, Picks, Picked, RefusesPick};
 
 use crate::command::{Command, obey};
@@ -161,6 +162,7 @@ impl<L: Opening> Desk<L> {
         seat: &mut Seat<L>,
     ) -> Result<Pick, BookFault>
         requires { cell.now.table.shared.table_id ≡ L.table }
+        ensures seated { (L.before < seat.old.number) × (seat.old.number ≤ L.before + L.seats) }
         ensures ok { IfOk result (λ p. Picks self.old.budget seat.old.number p (book_of self.old.book) (book_of self.new.book) × Picked p seat.old seat.new) }
         ensures err { IfErr result (λ fault. RefusesPick self.old.budget (book_of self.old.book) fault × (seat.new ≡ seat.old) × (book_of self.new.book ≡ book_of self.old.book)) }
         ensures kept { (self.new.budget ≡ self.old.budget) × (self.new.made ≡ self.old.made) }
@@ -204,6 +206,7 @@ impl<L: Opening> Desk<L> {
         seat: &mut Seat<L>,
     ) -> Result<EventName, (Ticket<Ran>, BookFault)>
         requires { cell.now.table.shared.table_id ≡ L.table }
+        ensures seated { (L.before < seat.old.number) × (seat.old.number ≤ L.before + L.seats) }
         ensures ok { IfOk result (λ e. (e ≡ ticket.carried.event) × (ticket.carried.seat ≡ seat.old.number) × Commits ticket (book_of self.old.book) (book_of self.new.book) × Returns (turn_of ticket) seat.old seat.new) }
         ensures err { IfErr result (λ r. (r.0 ≡ ticket) × (seat.new ≡ refused r.1 ticket.carried.event seat.old) × (ticket.carried.seat ≡ seat.old.number → TellsCommit r.1 (book_of self.old.book) ticket)) }
         ensures left { IfErr result (λ r. book_of self.new.book ≡ left_by r.1 ticket.carried.event (book_of self.old.book)) }
@@ -279,6 +282,24 @@ impl<L: Opening> Desk<L> {
     {
         seat.note(rt, cell, &mut self.keeper, &mut self.entries, &Act::Nothing);
         all.merge(seat.into_share());
+    }
+
+    /// The book, where no seat is to be handed in.
+    pub fn into_book(self) -> Book
+        ensures { result ≡ self.book }
+    {
+        let Desk {
+            book,
+            budget: _,
+            keeper: _,
+            entries: _,
+            rest: _,
+            left: _,
+            made: _,
+            before: _,
+            of: _,
+        } = self;
+        book
     }
 
     /// Ends the work. Of each seat that is handed in, the entries with its number are just its list, each once, and its tickets out are open.

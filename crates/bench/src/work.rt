@@ -1,21 +1,22 @@
 //! Workers in threads of their own, whose results one committer gives: the thread that calls `work`.
 //!
 //! What is known of a seat goes through a channel in the type of the message, since nothing else is known of what comes through one.
-ghost use Rattle.std.specs.Prelude.{◌≡◌, ◌∷◌, [], All, IfOk, IfErr, sum_by};
-ghost use Rattle.bench.specs.Seats.{turns_in};
-ghost use Rattle.bench.specs.Desk.{events_of, StopsWork};
+ghost use Rattle.std.specs.Prelude.{◌≡◌, ◌≤◌, ◌∷◌, [], All, IfOk, IfErr, sum_by};
+ghost use Rattle.bench.specs.Seats.{turns_in, AreWork};
+ghost use Rattle.bench.specs.Desk.{events_of};
+ghost use Rattle.crew.specs.Work.{StopsWork};
 
 use crate::Bench;
-use crate::command::Command;
+use crate::errand::Errand;
 use crate::pick::Pick;
 use crate::pile::Pile;
 use crate::seat::{Opening, Seat};
+use crate::workplace::Workplace;
 use book::fault::{BookFault, WorkFault};
 use crossbeam_channel::{Receiver, Sender, bounded};
 use ids::names::{EventName, MsgId};
 use std::alloc::Global;
 use std::sync::Wait;
-use std::sync::atomic::AtomicU64;
 use std::thread;
 use std::thread::{Builder, Threads};
 use turn::ticket::{Out, Ran, Returned, Ticket};
@@ -51,6 +52,7 @@ pub struct Worked<L: Opening> {
 pub struct Free<L: Opening> {
     pub seat: Seat<L>,
     ghost none: { seat.deeds.tickets ≡ [] },
+    ghost work: { AreWork (events_of seat.deeds) },
 }
 
 /// A worker's seat with a ticket that was run, which alone is open with it.
@@ -60,6 +62,7 @@ struct Busy<L: Opening> {
     seat: Seat<L>,
     returned: Returned,
     ghost one: { seat.deeds.tickets ≡ returned.carried.event ∷ [] },
+    ghost work: { AreWork (events_of seat.deeds) },
 }
 
 /// How a worker goes on: it waits for its seat, has it, or ends with it.
@@ -79,13 +82,15 @@ struct Channels<L: Opening> {
 }
 
 fn idle<L: Opening>(seat: Seat<L>) -> Free<L>
-    requires { seat.deeds.tickets ≡ [] }
+    requires tickets { seat.deeds.tickets ≡ [] }
+    requires work { AreWork (events_of seat.deeds) }
 {
     Free { seat }
 }
 
 fn loaded<L: Opening>(worker: usize, seat: Seat<L>, returned: Returned) -> Busy<L>
-    requires { seat.deeds.tickets ≡ returned.carried.event ∷ [] }
+    requires tickets { seat.deeds.tickets ≡ returned.carried.event ∷ [] }
+    requires work { AreWork (events_of seat.deeds) }
 {
     Busy {
         worker,
@@ -95,53 +100,56 @@ fn loaded<L: Opening>(worker: usize, seat: Seat<L>, returned: Returned) -> Busy<
 }
 
 /// The seat whose one open ticket cannot be given: it is abandoned.
-fn let_go<L: Opening, R: Wait>(
+fn let_go<L: Opening, P: Workplace<L>, R: Wait>(
     rt: &R,
-    bench: &Bench<L>,
+    place: &P,
     seat: Seat<L>,
     number: EventName,
 ) -> Free<L>
-    requires { seat.deeds.tickets ≡ number ∷ [] }
+    requires tickets { seat.deeds.tickets ≡ number ∷ [] }
+    requires work { AreWork (events_of seat.deeds) }
 {
     let mut seat = seat;
-    let _ = bench.author(rt, Command::Abandon(number), &mut seat);
+    place.abandon(rt, number, &mut seat);
     idle(seat)
 }
 
 /// Gives a ticket. Where it is refused, it is discarded, and is no longer open. False where its worker is to end.
-fn settle<L: Opening, R: Wait>(
+fn settle<L: Opening, P: Workplace<L>, R: Wait>(
     rt: &R,
-    bench: &Bench<L>,
+    place: &P,
     seat: Seat<L>,
     ticket: Ticket<Ran>,
 ) -> (Free<L>, bool)
-    requires { seat.deeds.tickets ≡ ticket.carried.event ∷ [] }
+    requires tickets { seat.deeds.tickets ≡ ticket.carried.event ∷ [] }
+    requires work { AreWork (events_of seat.deeds) }
 {
     let mut seat = seat;
-    match bench.give(rt, ticket, &mut seat) {
+    match place.give(rt, ticket, &mut seat) {
         Ok(_) => (idle(seat), true),
         Err((ticket, fault)) => {
             let number = ticket.ran().carried.event;
             ticket.discard();
             match fault {
                 BookFault::Stale => (idle(seat), true),
-                BookFault::NoTicket => (let_go(rt, bench, seat, number), true),
-                _ => (let_go(rt, bench, seat, number), false),
+                BookFault::NoTicket => (let_go(rt, place, seat, number), true),
+                _ => (let_go(rt, place, seat, number), false),
             }
         }
     }
 }
 
 /// Runs a turn, with the gate round it. For want of memory its ticket is abandoned.
-fn run_turn<L: Opening, G: Gate, R: Wait>(
+fn run_turn<L: Opening, P: Workplace<L>, G: Gate, R: Wait>(
     rt: &R,
-    bench: &Bench<L>,
+    place: &P,
     gate: &G,
     worker: usize,
     seat: Seat<L>,
     ticket: Ticket<Out>,
 ) -> Result<Busy<L>, Free<L>>
-    requires { seat.deeds.tickets ≡ ticket.event ∷ [] }
+    requires tickets { seat.deeds.tickets ≡ ticket.event ∷ [] }
+    requires work { AreWork (events_of seat.deeds) }
 {
     let message = ticket.out().name;
     gate.before_turn(message);
@@ -152,26 +160,25 @@ fn run_turn<L: Opening, G: Gate, R: Wait>(
         Err((ticket, _)) => {
             let number = ticket.out().event;
             ticket.discard();
-            Err(let_go(rt, bench, seat, number))
+            Err(let_go(rt, place, seat, number))
         }
     }
 }
 
 /// What a worker does once, as far as the channel.
-fn one_turn<L: Opening, G: Gate, R: Wait>(
+fn one_turn<L: Opening, P: Workplace<L>, G: Gate, R: Wait>(
     rt: &R,
-    bench: &Bench<L>,
+    place: &P,
     gate: &G,
-    left: &AtomicU64,
     worker: usize,
     to: &Sender<Busy<L>>,
     at: Free<L>,
 ) -> Next<L> {
     let Free { seat } = at;
     let mut seat = seat;
-    match bench.checkout_one(rt, left, &mut seat) {
-        Ok(Pick::Turn(ticket)) => match run_turn(rt, bench, gate, worker, seat, ticket) {
-            Ok(busy) => hand_over(rt, bench, to, busy),
+    match place.checkout(rt, &mut seat) {
+        Ok(Pick::Turn(ticket)) => match run_turn(rt, place, gate, worker, seat, ticket) {
+            Ok(busy) => hand_over(rt, place, to, busy),
             Err(free) => Next::Ends(free),
         },
         Ok(Pick::Moved(_)) => Next::Has(idle(seat)),
@@ -181,15 +188,15 @@ fn one_turn<L: Opening, G: Gate, R: Wait>(
 }
 
 /// Sends a result to the committer. Where that is refused, the worker opens and gives by itself.
-fn hand_over<L: Opening, R: Wait>(
+fn hand_over<L: Opening, P: Workplace<L>, R: Wait>(
     rt: &R,
-    bench: &Bench<L>,
+    place: &P,
     to: &Sender<Busy<L>>,
     busy: Busy<L>,
 ) -> Next<L> {
     match to.send(rt, busy) {
         Ok(()) => Next::Sent,
-        Err(refused) => match give_here(rt, bench, refused.into_inner()) {
+        Err(refused) => match give_here(rt, place, refused.into_inner()) {
             (free, true) => Next::Has(free),
             (free, false) => Next::Ends(free),
         },
@@ -197,28 +204,31 @@ fn hand_over<L: Opening, R: Wait>(
 }
 
 /// Opens a result and gives it.
-fn give_here<L: Opening, R: Wait>(rt: &R, bench: &Bench<L>, busy: Busy<L>) -> (Free<L>, bool) {
+fn give_here<L: Opening, P: Workplace<L>, R: Wait>(
+    rt: &R,
+    place: &P,
+    busy: Busy<L>,
+) -> (Free<L>, bool) {
     let Busy {
         worker: _,
         seat,
         returned,
     } = busy;
-    settle(rt, bench, seat, returned.unseal())
+    settle(rt, place, seat, returned.unseal())
 }
 
 /// A worker, to its end. It answers its seat where it has it then.
-fn run_worker<L: Opening, G: Gate, R: Wait>(
+fn run_worker<L: Opening, P: Workplace<L>, G: Gate, R: Wait>(
     rt: &R,
-    bench: &Bench<L>,
+    place: &P,
     gate: &G,
-    left: &AtomicU64,
     worker: usize,
     to: Sender<Busy<L>>,
     mine: Receiver<Free<L>>,
 ) -> Option<Free<L>> {
-    let mut at = idle(bench.seat(rt)?);
+    let mut at = idle(place.seat(rt)?);
     for _ in rt.forever() {
-        match one_turn(rt, bench, gate, left, worker, &to, at) {
+        match one_turn(rt, place, gate, worker, &to, at) {
             Next::Sent => match mine.recv(rt) {
                 Ok(free) => at = free,
                 Err(_) => return None,
@@ -246,15 +256,15 @@ fn send_back<L: Opening, R: Wait>(
 }
 
 /// One result: it is given, and its seat goes back, or stays here and its worker ends.
-fn take_result<L: Opening, R: Wait>(
+fn take_result<L: Opening, P: Workplace<L>, R: Wait>(
     rt: &R,
-    bench: &Bench<L>,
+    place: &P,
     backs: &mut Vec<Option<Sender<Free<L>>>>,
     pile: &mut Pile<L>,
     busy: Busy<L>,
 ) {
     let worker = busy.worker;
-    let (free, goes_on) = give_here(rt, bench, busy);
+    let (free, goes_on) = give_here(rt, place, busy);
     let Some(back) = backs.get_mut(worker) else {
         pile.add(free);
         return;
@@ -271,9 +281,9 @@ fn take_result<L: Opening, R: Wait>(
 }
 
 /// Gives each result until the workers are gone.
-fn commit_all<L: Opening, R: Wait>(
+fn commit_all<L: Opening, P: Workplace<L>, R: Wait>(
     rt: &R,
-    bench: &Bench<L>,
+    place: &P,
     results: Receiver<Busy<L>>,
     backs: Vec<Option<Sender<Free<L>>>>,
     pile: &mut Pile<L>,
@@ -283,13 +293,43 @@ fn commit_all<L: Opening, R: Wait>(
         let Ok(busy) = results.recv(rt) else {
             break;
         };
-        take_result(rt, bench, &mut backs, pile, busy);
+        take_result(rt, place, &mut backs, pile, busy);
     }
+}
+
+/// Has workers, as many as this if they can be started, do what may be done at their place, each with a seat of its own.
+///
+/// # Errors
+/// As `Bench::work`.
+pub(crate) fn work_at<
+    L: Opening + Send + Sync,
+    P: Workplace<L> + Sync,
+    G: Gate + Sync,
+    R: Threads + Wait + Sync,
+>(
+    rt: &R,
+    alloc: Global,
+    place: &P,
+    workers: usize,
+    turns: u64,
+    gate: &G,
+) -> Result<Worked<L>, WorkFault>
+    ensures open { IfOk result (λ w. All (λ s. (s.deeds.tickets ≡ []) × AreWork (events_of s.deeds)) w.seats.items) }
+    ensures turns { IfOk result (λ w. (w.turns ≡ sum_by (λ s. turns_in (events_of s.deeds)) w.seats.items) × (w.turns ≤ turns)) }
+    ensures err { IfErr result (λ fault. StopsWork fault) }
+{
+    let Ok(pile) = Pile::with_room(alloc, workers) else {
+        return Err(WorkFault::Book(BookFault::Memory));
+    };
+    let Some(pile) = run_all(rt, alloc, place, workers, gate, pile) else {
+        return Err(WorkFault::NoWorker);
+    };
+    Ok(pile.into_worked(turns))
 }
 
 impl<L: Opening + Send + Sync> Bench<L> {
     /// Has workers, as many as this if they can be started, do what may be done until this many turns were checked out or nothing may be
-    /// done. Each has a seat of its own.
+    /// done. Each has a seat of its own. Others may be at the Bench: what is said is said of the workers' seats.
     ///
     /// # Errors
     /// `Memory`, where there is none for the list of their seats; `NoWorker`, where none could be started.
@@ -301,17 +341,11 @@ impl<L: Opening + Send + Sync> Bench<L> {
         turns: u64,
         gate: &G,
     ) -> Result<Worked<L>, WorkFault>
-        ensures open { IfOk result (λ w. All (λ s. s.deeds.tickets ≡ []) w.seats.items) }
-        ensures turns { IfOk result (λ w. w.turns ≡ sum_by (λ s. turns_in (events_of s.deeds)) w.seats.items) }
+        ensures open { IfOk result (λ w. All (λ s. (s.deeds.tickets ≡ []) × AreWork (events_of s.deeds)) w.seats.items) }
+        ensures turns { IfOk result (λ w. (w.turns ≡ sum_by (λ s. turns_in (events_of s.deeds)) w.seats.items) × (w.turns ≤ turns)) }
         ensures err { IfErr result (λ fault. StopsWork fault) }
     {
-        let Ok(pile) = Pile::with_room(alloc, workers) else {
-            return Err(WorkFault::Book(BookFault::Memory));
-        };
-        let Some(pile) = run_all(rt, alloc, self, workers, turns, gate, pile) else {
-            return Err(WorkFault::NoWorker);
-        };
-        Ok(pile.into_worked())
+        work_at(rt, alloc, &Errand::new(self, turns), workers, turns, gate)
     }
 }
 
@@ -323,20 +357,15 @@ fn channels_of<L: Opening>(alloc: Global, to: &Sender<Busy<L>>) -> Option<Channe
 }
 
 /// Starts workers and gives what they send until they are gone. None where no worker could be started.
-fn run_all<L: Opening + Send + Sync, G: Gate + Sync, R: Threads + Wait + Sync>(
-    rt: &R,
-    alloc: Global,
-    bench: &Bench<L>,
-    workers: usize,
-    turns: u64,
-    gate: &G,
-    pile: Pile<L>,
-) -> Option<Pile<L>> {
+fn run_all<
+    L: Opening + Send + Sync,
+    P: Workplace<L> + Sync,
+    G: Gate + Sync,
+    R: Threads + Wait + Sync,
+>(rt: &R, alloc: Global, place: &P, workers: usize, gate: &G, pile: Pile<L>) -> Option<Pile<L>> {
     let (to, results) = bounded::<Busy<L>, Global>(alloc, workers).ok()?;
     let mut threads = Vec::with_capacity(alloc, workers).ok()?;
     let mut backs = Vec::with_capacity(alloc, workers).ok()?;
-    let left = AtomicU64::new(turns);
-    let left = &left;
     thread::scope(thread::scope_env(), rt, move |scope| -> Option<Pile<L>> {
         let mut pile = pile;
         for _ in 0..workers {
@@ -344,7 +373,7 @@ fn run_all<L: Opening + Send + Sync, G: Gate + Sync, R: Threads + Wait + Sync>(
                 continue;
             };
             let worker = backs.len();
-            let run = move || run_worker(rt, bench, gate, left, worker, to, mine);
+            let run = move || run_worker(rt, place, gate, worker, to, mine);
             if let Ok(thread) = Builder::new().stack_size(STACK).spawn_scoped(scope, run) {
                 let _ = threads.push(thread);
                 let _ = backs.push(Some(back));
@@ -354,7 +383,7 @@ fn run_all<L: Opening + Send + Sync, G: Gate + Sync, R: Threads + Wait + Sync>(
         if threads.is_empty() {
             return None;
         }
-        commit_all(rt, bench, results, backs, &mut pile);
+        commit_all(rt, place, results, backs, &mut pile);
         for thread in threads {
             if let Some(free) = thread.join(rt) {
                 pile.add(free);

@@ -1,4 +1,4 @@
-//! What books and plain runs answer where memory is ample: calls with their answers.
+//! What books and plain runs answer where memory is ample, and what takes none where all is taken: calls with their answers.
 #![tactic(auto)]
 
 #[cfg(test)]
@@ -10,4 +10,8 @@ mod plain_runs;
 #[cfg(test)]
 mod several;
 #[cfg(test)]
+mod spent;
+#[cfg(test)]
 mod tickets;
+#[cfg(test)]
+mod without_memory;

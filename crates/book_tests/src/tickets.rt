@@ -14,7 +14,7 @@ use turn::ticket::{Out, Ran, Ticket};
 const SEAT: u64 = 7;
 
 /// A book with a vat `a` that has run its script `var n := 0` in e2, and two questions: e3 sets `n`, and e4 reads it.
-fn asked(rt: &(impl Abort + AllocGlobal), first: &str) -> Book {
+pub(crate) fn asked(rt: &(impl Abort + AllocGlobal), first: &str) -> Book {
     let mut book = Book::new(rt.alloc());
     birth(rt, &mut book, "a", "var n := 0", 1);
     let _ended = turn(rt, &mut book, 1, 2);
@@ -24,7 +24,12 @@ fn asked(rt: &(impl Abort + AllocGlobal), first: &str) -> Book {
 }
 
 /// The ticket of the first message of an event, whose number is this.
-fn checkout(rt: &(impl Abort + AllocGlobal), book: &mut Book, of: u64, event: u64) -> Ticket<Out> {
+pub(crate) fn checkout(
+    rt: &(impl Abort + AllocGlobal),
+    book: &mut Book,
+    of: u64,
+    event: u64,
+) -> Ticket<Out> {
     match book.checkout(message(of), BUDGET, SEAT) {
         Ok(ticket) => {
             if ticket.out().event != EventName(event) {
@@ -38,7 +43,7 @@ fn checkout(rt: &(impl Abort + AllocGlobal), book: &mut Book, of: u64, event: u6
 }
 
 /// The same ticket, once its turn was run.
-fn run(rt: &impl Abort, ticket: Ticket<Out>) -> Ticket<Ran> {
+pub(crate) fn run(rt: &impl Abort, ticket: Ticket<Out>) -> Ticket<Ran> {
     match ticket.run() {
         Ok(ran) => ran,
         Err((ticket, _)) => {
@@ -76,7 +81,7 @@ fn refuse(rt: &impl Abort, book: &mut Book, ticket: Ticket<Ran>) -> (Ticket<Ran>
 }
 
 /// Commits a ticket that no such book lent, and spends it.
-fn refuse_strange(rt: &impl Abort, book: &mut Book, ticket: Ticket<Ran>) {
+pub(crate) fn refuse_strange(rt: &impl Abort, book: &mut Book, ticket: Ticket<Ran>) {
     let (ticket, fault) = refuse(rt, book, ticket);
     ticket.discard();
     assert!(rt; matches!(fault, BookFault::NoTicket));

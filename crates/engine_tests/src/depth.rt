@@ -1,11 +1,12 @@
 // The deepest calls on a stack smaller than the program's own, as a thread of many would have it.
 
 use crate::fakes::{Talk, commands_of, replies_within};
+use crew::crew::Nobody;
 use std::alloc::Global;
 use std::process::Abort;
 use std::rt::Runtime;
 use std::thread::{Builder, Threads};
-use stepper::{Limits, Nobody, run};
+use stepper::{Limits, run};
 use streams::lines::Lines;
 use streams::outlet::Outlet;
 

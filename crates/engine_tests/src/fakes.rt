@@ -1,9 +1,10 @@
 // Readers and writers that give and take little, or fail, and sessions that are run over them.
 
+use crew::crew::Nobody;
 use std::io;
 use std::io::{Error, ErrorKind, Read, Write};
 use std::process::Abort;
-use stepper::{Fault, Limits, Nobody, Summary, run};
+use stepper::{Fault, Limits, Summary, run};
 use streams::lines::Lines;
 use streams::outlet::Outlet;
 

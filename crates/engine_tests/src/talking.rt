@@ -1,13 +1,14 @@
 // An author who waits for each reply.
 
 use crate::fakes::{ORDER, SUM, Talk, ending_of, replies_within};
+use crew::crew::Nobody;
 use std::alloc::Global;
 use std::io;
 use std::io::{Error, ErrorKind, Read, Write};
 use std::process::Abort;
 use std::sync::Arc;
 use std::sync::atomic::{AtomicU64, Ordering};
-use stepper::{Limits, Nobody, run};
+use stepper::{Limits, run};
 use streams::lines::Lines;
 use streams::outlet::Outlet;
 

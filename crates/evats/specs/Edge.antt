@@ -10,6 +10,7 @@ use Rattle.stepper.specs.declared.ended.Ended.TheVariants.{Ran}
 use Rattle.stepper.specs.declared.engine.Summary.{Summary}
 use Rattle.stepper.specs.declared.fault.Fault.{Fault}
 use Rattle.stepper.specs.declared.fault.Fault.TheVariants.{Memory}
+use Rattle.stepper.specs.declared.engine.Limits.{Limits}
 
 -- nothing was read from the reader yet
 pub record IsUnread {R : Type 0} (input : R) (source : Lines R) : Type 0 where
@@ -24,11 +25,11 @@ pub record IsUnwritten {W : Type 0} (output : W) (sink : Outlet W) : Type 0 wher
   pub none_waits : waiting sink ≡ []
   pub none_failed : writes_failed sink ≡ 0
 
-module _ {R W : Type 0} (remaining : R → Option (List ℕ)) (contents : W → Option (List ℕ)) (budget : ℕ) where
+module _ {R W : Type 0} (remaining : R → Option (List ℕ)) (contents : W → Option (List ℕ)) (limits : Limits) where
   -- how a run came to its end, or did not
   abbrev pub RunsAs : Lines R → Lines R → Outlet W → Outlet W → Result Summary Fault → Type 0
-  RunsAs source later sink after (Ok summary) = RunsToEnd remaining contents budget source later sink after summary.refused
-  RunsAs source later sink after (Err fault) = RunsTo remaining contents budget source later sink after fault
+  RunsAs source later sink after (Ok summary) = RunsToEnd remaining contents limits source later sink after summary.refused
+  RunsAs source later sink after (Err fault) = RunsTo remaining contents limits source later sink after fault
 
   -- the commands of a reader are answered on a writer, and nothing waits to be written then; without memory for the first block nothing is read
   pub data EndsAs (input : R) (output : W) : Ended → Type 0 where

@@ -1,2 +1,4 @@
+pub mod Complaint
 pub mod Edge
 pub mod Options
+pub mod Words

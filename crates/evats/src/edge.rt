@@ -1,9 +1,10 @@
 // The engine over a reader and a writer.
 ghost use Rattle.evats.specs.Edge.{EndsAs};
 
+use crew::crew::Crew;
 use std::alloc::Global;
 use std::io::{Read, Write};
-use stepper::{Crew, Ended, Fault, Limits, run};
+use stepper::{Ended, Fault, Limits, run};
 use streams::lines::Lines;
 use streams::outlet::Outlet;
 
@@ -16,7 +17,7 @@ pub(crate) fn answer_commands<I: Read + Drop, O: Write + Drop, C: Crew>(
     crew: &mut C,
 ) -> Ended
     requires { C.ready }
-    ensures { EndsAs I.remaining O.contents limits.budget input output result }
+    ensures { EndsAs I.remaining O.contents limits input output result }
 {
     match Lines::new(alloc, input) {
         Ok(mut source) => {

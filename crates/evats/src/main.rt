@@ -1,104 +1,79 @@
 //! Runs commands on vats, and writes one reply for each, as it is read.
 #![tactic(auto)]
 
-mod crew;
+mod complaint;
 mod edge;
 mod options;
+mod threaded;
+mod words;
 
-use crew::Threaded;
+use complaint::{Complaint, Outcome, exit_status, outcome};
 use edge::answer_commands;
-use options::{Parsed, parse};
-use std::alloc::{AllocError, Global};
+use options::{Options, Parsed, parse};
 use std::process::ExitCode;
 use std::rt::Runtime;
 use std::sync::Wait;
 use std::thread::{Builder, Threads};
 use std::{fs, io};
-use stepper::{Ended, Fault, Limits, STACK, status};
+use stepper::{Fault, STACK};
+use threaded::Threaded;
+use words::{WordsFault, words};
 
 /// Answers the commands of a file, or of standard input, on standard output.
-fn answer<R: Runtime + AllocGlobal + Threads + Wait + Sync>(
+fn answer<'a, R: Runtime + AllocGlobal + Threads + Wait + Sync>(
     rt: &R,
-    file: Option<String>,
-    limits: Limits,
-) -> Ended {
+    options: Options<'a>,
+) -> Outcome<'a> {
+    let Options { limits, file } = options;
     let output = io::writer(rt);
     let mut crew = Threaded { rt };
     match file {
-        Some(path) => match fs::open(rt, path.as_str()) {
-            Ok(input) => answer_commands(rt.alloc(), input, output, limits, &mut crew),
-            Err(_) => Ended::NoFile,
+        Some(name) => match fs::open(rt, name) {
+            Ok(input) => outcome(answer_commands(rt.alloc(), input, output, limits, &mut crew)),
+            Err(_) => Err(Complaint::NoFile(name)),
         },
-        None => answer_commands(rt.alloc(), rt.reader(), output, limits, &mut crew),
+        None => outcome(answer_commands(rt.alloc(), rt.reader(), output, limits, &mut crew)),
     }
 }
 
-/// What the words of the command line ask for.
-#[derive(Drop)]
-enum Plan {
-    /// The commands of a file, or of standard input, are to be answered.
-    Answer {
-        file: Option<String>,
-        limits: Limits,
-    },
-    /// All is done.
-    Stop(Ended),
-}
-
-/// A text of one's own.
-fn owned(alloc: Global, text: Option<&str>) -> Result<Option<String>, AllocError> {
-    match text {
-        Some(text) => Ok(Some(String::from_str(alloc, text)?)),
-        None => Ok(None),
+/// Does what the words ask for, the program's own name first.
+fn obey<'a, R: Runtime + AllocGlobal + Threads + Wait + Sync>(
+    rt: &R,
+    words: &'a [String],
+) -> Outcome<'a> {
+    match parse(rt, words) {
+        Ok(Parsed::Options(options)) => answer(rt, options),
+        Ok(Parsed::Stop(ended)) => Ok(ended),
+        Err(fault) => Err(Complaint::Cut(fault)),
     }
 }
 
-/// Reads the words, and prints the help or what is wrong with them.
-fn read_words<R: Runtime + AllocGlobal>(rt: &R) -> io::Result<Plan> {
-    let words: Vec<String> = std::env::args(rt)?.collect(rt.alloc())?;
-    match parse(rt, words.as_slice())? {
-        Parsed::Options(options) => {
-            let file = owned(rt.alloc(), options.file)?;
-            Ok(Plan::Answer {
-                file,
-                limits: options.limits,
-            })
-        }
-        Parsed::Stop(ended) => Ok(Plan::Stop(ended)),
+/// Says on standard error what is complained of, and gives the exit status. Where it cannot be said, the status alone tells it.
+fn end(rt: &impl Eprint, outcome: &Outcome<'_>) -> u8 {
+    if let Err(complaint) = outcome {
+        let _ = eprintln!(rt; "evats: {complaint}");
     }
+    exit_status(outcome)
 }
 
-/// Says on standard error why a run did not come to its end.
-fn complain(rt: &impl Eprint, ended: &Ended, file: Option<&str>) -> io::Result<()> {
-    match ended {
-        Ended::NoFile => eprintln!(rt; "evats: cannot read {}", file.unwrap_or("")),
-        Ended::Ran(Err(fault)) => eprintln!(rt; "evats: {fault}"),
-        _ => Ok(()),
+/// Does what the words of the command line ask for, and gives the exit status.
+fn run<R: Runtime + AllocGlobal + Threads + Wait + Sync>(rt: &R) -> u8 {
+    match words(rt) {
+        Ok(words) => end(rt, &obey(rt, words.as_slice())),
+        Err(WordsFault::NotText(word)) => end(rt, &Err(Complaint::NotText(&word))),
+        Err(WordsFault::Memory) => end(rt, &Err(Complaint::Cut(Fault::Memory))),
     }
 }
 
 fn main(rt: HostRuntime) -> ExitCode {
-    let Ok(plan) = read_words(&rt) else {
-        // Standard error is closed, or memory ran out before the first command was read.
-        return ExitCode::from(2);
-    };
-    let (file, limits) = match plan {
-        Plan::Answer { file, limits } => (file, limits),
-        Plan::Stop(ended) => return ExitCode::from(status(&ended)),
-    };
-    let Ok(name) = owned(rt.alloc(), file.as_deref()) else {
-        return ExitCode::from(2);
-    };
-    // The commands are answered on a stack of their own.
+    // All is done on a stack whose size the system's limits do not set.
     let own = rt;
-    let answering = move || answer(&own, file, limits);
-    let ended = match Builder::new().stack_size(STACK).spawn(&rt, answering) {
+    let status = match Builder::new()
+        .stack_size(STACK)
+        .spawn(&rt, move || run(&own))
+    {
         Ok(thread) => thread.join(&rt),
-        // The stack is memory too.
-        Err(_) => Ended::Ran(Err(Fault::Memory)),
+        Err(_) => end(&rt, &Err(Complaint::NoThread)),
     };
-    match complain(&rt, &ended, name.as_deref()) {
-        Ok(()) => ExitCode::from(status(&ended)),
-        Err(_) => ExitCode::from(2),
-    }
+    ExitCode::from(status)
 }

@@ -1,15 +1,18 @@
 // The words of the command line.
-ghost use Rattle.std.specs.Prelude.{codes};
+ghost use Rattle.std.specs.Prelude.{◌≡◌, ◌≢◌, ◌⊎◌, Ok, Err, codes};
 ghost use Rattle.std.specs.Option.{option_map};
 ghost use Rattle.clap.specs.Words.{found_of, one_text, first_value};
+ghost use Rattle.clap.specs.Values.{kind_of};
+ghost use Rattle.clap.specs.declared.error.kind.ErrorKind.TheVariants.{OutOfMemory, DisplayHelp, DisplayVersion};
+ghost use Rattle.stepper.specs.declared.ended.Ended.TheVariants.{Help, Usage};
+ghost use Rattle.stepper.specs.declared.fault.Fault.TheVariants.{Writer, Memory};
 ghost use Rattle.evats.specs.Options.{IsNumber, IsFileOf};
 
 use book::book::MOST_STEPS;
+use clap::error::ErrorKind;
 use clap::{Arg, ArgMatches, Command, Error, value_parser};
 use std::alloc::{AllocError, Global};
-use std::io;
-use std::rt::Runtime;
-use stepper::{Ended, Limits};
+use stepper::{Ended, Fault, Limits};
 
 /// What `--version` tells.
 const VERSION: &str = "0.1.0";
@@ -132,20 +135,30 @@ impl<'a> Options<'a> {
 }
 
 /// Prints the help, or what is wrong with the words.
-fn stop<R: Runtime>(rt: &R, error: &Error) -> io::Result<Ended> {
-    error.print(rt)?;
-    if error.exit_code() == 0 {
-        Ok(Ended::Help)
-    } else {
-        Ok(Ended::Usage)
+fn stop<R: Print + Eprint>(rt: &R, error: &Error) -> Result<Ended, Fault>
+    ensures memory { kind_of error.now ≡ OutOfMemory → result ≡ Err Memory }
+    ensures shown { (kind_of error.now ≡ DisplayHelp) ⊎ (kind_of error.now ≡ DisplayVersion) → (result ≡ Ok Help) ⊎ (result ≡ Err Writer) }
+    ensures wrong { kind_of error.now ≢ OutOfMemory → kind_of error.now ≢ DisplayHelp → kind_of error.now ≢ DisplayVersion → result ≡ Ok Usage }
+{
+    match error.kind() {
+        ErrorKind::OutOfMemory => Err(Fault::Memory),
+        ErrorKind::DisplayHelp | ErrorKind::DisplayVersion => match error.print(rt) {
+            Ok(()) => Ok(Ended::Help),
+            Err(_) => Err(Fault::Writer),
+        },
+        _ => {
+            // Where standard error cannot be written the status alone tells it.
+            let _ = error.print(rt);
+            Ok(Ended::Usage)
+        }
     }
 }
 
 /// Reads the words, the program's own name first, and prints the help or what is wrong.
-pub(crate) fn parse<'a, R: Runtime + AllocGlobal>(
+pub(crate) fn parse<'a, R: Print + Eprint + AllocGlobal>(
     rt: &R,
     words: &'a [String],
-) -> io::Result<Parsed<'a>> {
+) -> Result<Parsed<'a>, Fault> {
     match command(rt.alloc())?.try_get_matches_from(words) {
         Ok(matches) => Ok(Parsed::Options(Options::from_matches(&matches))),
         Err(error) => Ok(Parsed::Stop(stop(rt, &error)?)),

@@ -22,7 +22,7 @@ use Rattle.stepper.proofs.Answered.{happens_as, accepts, refuses, answered_at, b
 module _ {R W : Type 0} (remaining : R → Option (List ℕ)) (contents : W → Option (List ℕ)) (source : Lines R) (sink after : Outlet W) (sound : IsSound remaining source) where
   -- no line is taken for what happens
   pub does_here : {old new : Engine} {says : Result (Option Spelled) LineFault} → script_lines says ≡ 0
-      → Happens contents old new sink after (λ b r s d. (more : List ℕ) → FirstReply old.budget b says more r s d more) → Does remaining contents old new source source sink after says
+      → Happens contents old new sink after (λ b r s d. (more : List ℕ) → FirstReply old.limits b says more r s d more) → Does remaining contents old new source source sink after says
   does_here {says = says} none h = record {
     bytes = [];
     taken = Consumes-nil (unread remaining source);
@@ -36,19 +36,19 @@ module _ {R W : Type 0} (remaining : R → Option (List ℕ)) (contents : W → 
 
   -- a command that has no script
   pub does_alone : {old new now : Engine} {later : Lines R} {then : Outlet W} (c a : Spelled) → c ≡ a → script_lines (Ok (Some a)) ≡ 0 → now ≡ new → later ≡ source → then ≡ after
-      → Happens contents old new sink after (λ b r s d. Answers old.budget b a r s d) → Does remaining contents old now source later sink then (Ok (Some c))
+      → Happens contents old new sink after (λ b r s d. Answers old.limits b a r s d) → Does remaining contents old now source later sink then (Ok (Some c))
   does_alone {old = old} {new = new} {now = now} {later = later} {then = then} c a spelled none same same_source same_sink h =
       subst (λ (z : Engine). Does remaining contents old z source later sink then (Ok (Some c))) (sym same)
       (subst (λ (z : Lines R). Does remaining contents old new source z sink then (Ok (Some c))) (sym same_source)
       (subst (λ (z : Outlet W). Does remaining contents old new source source sink z (Ok (Some c))) (sym same_sink)
-      (does_here (ap (λ (z : Spelled). script_lines (Ok (Some z))) spelled ∙ none) (happens_as (λ b r s d k more. answered_at old.budget b d c a more r s spelled k) h))))
+      (does_here (ap (λ (z : Spelled). script_lines (Ok (Some z))) spelled ∙ none) (happens_as (λ b r s d k more. answered_at old.limits b d c a more r s spelled k) h))))
 
   -- a line that is refused
-  pub does_refuse : {old new : Engine} (f : LineFault) {says : Result (Option Spelled) LineFault} → says ≡ Err f → book_of new.book ≡ book_of old.book → new.budget ≡ old.budget
+  pub does_refuse : {old new : Engine} (f : LineFault) {says : Result (Option Spelled) LineFault} → says ≡ Err f → book_of new.book ≡ book_of old.book → new.limits ≡ old.limits
       → Adds contents old.written new.written sink after (refused (fault_text f)) true → Does remaining contents old new source source sink after says
-  does_refuse {old = old} {new = new} f same kept budget adds =
+  does_refuse {old = old} {new = new} f same kept limits adds =
       subst (Does remaining contents old new source source sink after) (sym same)
-      (does_here refl (refuses (λ more. subst (λ (d : Book). FirstReply old.budget (book_of old.book) (Err f) more (refused (fault_text f)) true d more) (sym kept) no_command) adds budget))
+      (does_here refl (refuses (λ more. subst (λ (d : Book). FirstReply old.limits (book_of old.book) (Err f) more (refused (fault_text f)) true d more) (sym kept) no_command) adds limits))
 
 module _ {R W : Type 0} (remaining : R → Option (List ℕ)) (contents : W → Option (List ℕ)) (source : Lines R) (sink : Outlet W) (sound : IsSound remaining source) where
   -- a line that says nothing
@@ -74,12 +74,12 @@ module _ {R W : Type 0} (remaining : R → Option (List ℕ)) (contents : W → 
       reply = h.reply;
       refusal = h.refusal;
       allowed = let k = h.allowed in record {
-        here = born_at old.budget _ _ c x earlier lines t.bytes [] h.reply h.refusal script e t.text (sym t.left) k;
+        here = born_at old.limits _ _ c x earlier lines t.bytes [] h.reply h.refusal script e t.text (sym t.left) k;
         lines = λ unended. subst (λ (z : Spelled). script_lines (Ok (Some z)) ≤ line_feeds t.bytes) (sym e) (t.whole unended);
-        before = λ unended more. born_at old.budget _ _ c x earlier lines (t.bytes ++ more) more h.reply h.refusal script e (t.before unended more).0 (t.before unended more).1 k;
+        before = λ unended more. born_at old.limits _ _ c x earlier lines (t.bytes ++ more) more h.reply h.refusal script e (t.before unended more).0 (t.before unended more).1 k;
       };
       tells = tells_both contents (tells_given contents t.gives uncut stays_open) h.tells;
       refused = h.refused;
-      budget = h.budget;
+      limits = h.limits;
     };
   }

@@ -25,6 +25,7 @@ use Rattle.stepper.specs.declared.fault.Fault.{Fault}
 use Rattle.stepper.specs.declared.fault.Fault.TheVariants.{Reader, Writer, Memory}
 use Rattle.stepper.proofs.Whole.{said_in, reads_said, no_whole_line}
 use Rattle.stepper.proofs.Story.{Story, story_begins, story_so_far, story_all, story_more, at_piece, before_piece, whole_piece, not_whole_piece, some_piece}
+use Rattle.stepper.specs.declared.engine.Limits.{Limits}
 
 -- what was consumed first
 consumes_front : (a b : Option (List ℕ)) (xs ys : List ℕ) → Consumes a b (xs ++ ys) → Consumes a (prepend_known ys b) xs
@@ -50,12 +51,12 @@ module _ {R W : Type 0} (remaining : R → Option (List ℕ)) (contents : W → 
         reply = reply;
         tells = d.happens.tells;
         refusal = d.happens.refusal;
-        here = at_piece old.budget (book_of old.book) (book_of new.book) bytes d.bytes reply [] d.happens.refusal (is_ended source) (is_ended later) said_so one meant d.stays d.happens.allowed.here;
+        here = at_piece old.limits (book_of old.book) (book_of new.book) bytes d.bytes reply [] d.happens.refusal (is_ended source) (is_ended later) said_so one meant d.stays d.happens.allowed.here;
         whole = λ unended more. whole_piece bytes d.bytes more (is_ended source) (is_ended later) said_so one meant d.stays unended (d.happens.allowed.lines unended);
         before = λ unended more.
-            before_piece old.budget (book_of old.book) (book_of new.book) bytes d.bytes more reply d.happens.refusal (is_ended source) (is_ended later) said_so one meant d.stays unended (d.happens.allowed.before unended more);
+            before_piece old.limits (book_of old.book) (book_of new.book) bytes d.bytes more reply d.happens.refusal (is_ended source) (is_ended later) said_so one meant d.stays unended (d.happens.allowed.before unended more);
         refused = d.happens.refused;
-        budget = d.happens.budget;
+        limits = d.happens.limits;
       }
 
   -- a fault behind the line of a command
@@ -92,7 +93,7 @@ module _ {R W : Type 0} (remaining : R → Option (List ℕ)) (contents : W → 
   line_answered old new source later sink after line said_so (Err f) says h bytes reads one = stops_line source later sink after line bytes said_so f reads one says h
 
   -- how far a run is
-  pub record Going (budget : ℕ) (source now : Lines R) (sink then : Outlet W) (engine : Engine) : Type 0 where
+  pub record Going (limits : Limits) (source now : Lines R) (sink then : Outlet W) (engine : Engine) : Type 0 where
     pub taken : List ℕ
     pub consumed : Consumes (unread remaining source) (unread remaining now) taken
     pub sound : IsSound remaining now
@@ -101,13 +102,13 @@ module _ {R W : Type 0} (remaining : R → Option (List ℕ)) (contents : W → 
     pub text : List ℕ
     pub gives : Gives contents sink then text
     pub uncut : is_cut then ≡ false
-    pub story : Story budget taken text (is_ended now) engine.written.refused (book_of engine.book)
-    pub same_budget : engine.budget ≡ budget
+    pub story : Story limits taken text (is_ended now) engine.written.refused (book_of engine.book)
+    pub same_limits : engine.limits ≡ limits
 
   -- before the first command
-  pub run_begins : (budget : ℕ) (source : Lines R) (sink : Outlet W) (engine : Engine) → IsSound remaining source → is_cut sink ≡ false → book_of engine.book ≡ blank → engine.written.refused ≡ false → engine.budget ≡ budget
-      → Going budget source source sink sink engine
-  run_begins budget source sink engine s uncut e f h = record {
+  pub run_begins : (limits : Limits) (source : Lines R) (sink : Outlet W) (engine : Engine) → IsSound remaining source → is_cut sink ≡ false → book_of engine.book ≡ blank → engine.written.refused ≡ false → engine.limits ≡ limits
+      → Going limits source source sink sink engine
+  run_begins limits source sink engine s uncut e f h = record {
     taken = [];
     consumed = Consumes-nil (unread remaining source);
     sound = s;
@@ -116,8 +117,8 @@ module _ {R W : Type 0} (remaining : R → Option (List ℕ)) (contents : W → 
     text = [];
     gives = gives_none contents sink;
     uncut = uncut;
-    story = story_begins budget (is_ended source) engine.written.refused (book_of engine.book) e f;
-    same_budget = h;
+    story = story_begins limits (is_ended source) engine.written.refused (book_of engine.book) e f;
+    same_limits = h;
   }
 
   -- nothing more is given behind a text
@@ -127,9 +128,9 @@ module _ {R W : Type 0} (remaining : R → Option (List ℕ)) (contents : W → 
   cut_so : (sink then after : Outlet W) (text : List ℕ) → Gives contents sink then text → IsCutShort contents then after [] → IsCutShort contents sink after text
   cut_so sink then after text g s = subst (IsCutShort contents sink after) (append-nil text) (cut_behind contents sink then after text [] g s)
 
-  module _ (budget : ℕ) (source now later : Lines R) (sink then after : Outlet W) (engine : Engine) (g : Going budget source now sink then engine) where
+  module _ (limits : Limits) (source now later : Lines R) (sink then after : Outlet W) (engine : Engine) (g : Going limits source now sink then engine) where
     -- no line is left
-    pub run_ends : HasNoLine remaining now later → lines_refused later ≡ lines_refused now → Gives contents then after [] → RunsToEnd remaining contents budget source later sink after engine.written.refused
+    pub run_ends : HasNoLine remaining now later → lines_refused later ≡ lines_refused now → Gives contents then after [] → RunsToEnd remaining contents limits source later sink after engine.written.refused
     run_ends none kept s = record {
       input = g.taken;
       read = Consumes-kept _ _ _ g.taken g.consumed none.kept;
@@ -142,12 +143,12 @@ module _ {R W : Type 0} (remaining : R → Option (List ℕ)) (contents : W → 
       none_refused = kept ∙ g.none_refused;
     }
 
-    open_story : is_ended now ≡ false → Story budget g.taken g.text false engine.written.refused (book_of engine.book)
-    open_story unended = subst (λ (z : Bool). Story budget g.taken g.text z engine.written.refused (book_of engine.book)) unended g.story
+    open_story : is_ended now ≡ false → Story limits g.taken g.text false engine.written.refused (book_of engine.book)
+    open_story unended = subst (λ (z : Bool). Story limits g.taken g.text z engine.written.refused (book_of engine.book)) unended g.story
 
     -- a read fails behind these bytes, in which no command is whole
     pub read_fails : (left : List ℕ) → is_ended now ≡ false → Consumes (unread remaining now) (unread remaining later) left → held later ≡ [] → ¬ IsWhole left → IsOneMore (reads_failed now) (reads_failed later)
-        → lines_refused later ≡ lines_refused now → Gives contents then after [] → RunsToFailedRead remaining contents budget source later sink after
+        → lines_refused later ≡ lines_refused now → Gives contents then after [] → RunsToFailedRead remaining contents limits source later sink after
     read_fails left unended read none_held none_whole one kept s = record {
       input = g.taken;
       left = left;
@@ -164,7 +165,7 @@ module _ {R W : Type 0} (remaining : R → Option (List ℕ)) (contents : W → 
     }
 
     -- a write fails
-    pub write_fails : IsCutShort contents then after [] → RunsToFailedWrite remaining contents budget source later sink after
+    pub write_fails : IsCutShort contents then after [] → RunsToFailedWrite remaining contents limits source later sink after
     write_fails s = record {
       input = g.taken;
       rest = unread remaining now;
@@ -178,7 +179,7 @@ module _ {R W : Type 0} (remaining : R → Option (List ℕ)) (contents : W → 
 
     -- there is no room for a line behind these bytes, in which no command is whole
     pub memory_fails : (left : List ℕ) → is_ended now ≡ false → Consumes (unread remaining now) (unread remaining later) left → ¬ IsWhole left → reads_failed later ≡ reads_failed now
-        → IsOneMore (lines_refused now) (lines_refused later) → Gives contents then after [] → RunsOutOfMemory remaining contents budget source later sink after
+        → IsOneMore (lines_refused now) (lines_refused later) → Gives contents then after [] → RunsOutOfMemory remaining contents limits source later sink after
     memory_fails left unended read none_whole none_failed one s = record {
       input = g.taken;
       left = left;
@@ -194,30 +195,30 @@ module _ {R W : Type 0} (remaining : R → Option (List ℕ)) (contents : W → 
     }
 
     -- a fault where the next line was to be taken
-    pub run_stops_at_line : (fault : Fault) → StopsAtLine remaining contents now later then after fault → RunsTo remaining contents budget source later sink after fault
+    pub run_stops_at_line : (fault : Fault) → StopsAtLine remaining contents now later then after fault → RunsTo remaining contents limits source later sink after fault
     run_stops_at_line Reader (f, kept, s, u) = read_fails f.part.bytes f.part.was_open f.part.taken f.none_held (no_whole_line f.part.bytes f.part.feedless) f.one_failed kept s
     run_stops_at_line Writer s = write_fails s
     run_stops_at_line Memory (f, one, s, u) = memory_fails f.part.bytes f.part.was_open f.part.taken (no_whole_line f.part.bytes f.part.feedless) f.none_failed one s
 
-  module _ (budget : ℕ) (source now mid later : Lines R) (sink then one two : Outlet W) (engine next : Engine) (line : Line) (g : Going budget source now sink then engine) (t : TakesLine remaining now mid line)
+  module _ (limits : Limits) (source now mid later : Lines R) (sink then one two : Outlet W) (engine next : Engine) (line : Line) (g : Going limits source now sink then engine) (t : TakesLine remaining now mid line)
       (kept : lines_refused mid ≡ lines_refused now) (s : Gives contents then one []) where
     -- a fault behind the line of a command
-    pub run_stops_behind : (fault : Fault) → StopsLine remaining contents mid later one two t.bytes fault → RunsTo remaining contents budget source later sink two fault
+    pub run_stops_behind : (fault : Fault) → StopsLine remaining contents mid later one two t.bytes fault → RunsTo remaining contents limits source later sink two fault
     run_stops_behind Reader f =
-        read_fails budget source now later sink then two engine g (t.bytes ++ f.bytes) t.not_ended (Consumes-trans _ _ _ t.bytes f.bytes t.taken f.taken) f.none_held f.none_whole
+        read_fails limits source now later sink then two engine g (t.bytes ++ f.bytes) t.not_ended (Consumes-trans _ _ _ t.bytes f.bytes t.taken f.taken) f.none_held f.none_whole
         (subst (λ n. IsOneMore n (reads_failed later)) t.none_failed f.one_failed) (f.none_refused ∙ kept) (gives_both contents then one two [] [] s f.gives)
-    run_stops_behind Writer f = write_fails budget source now later sink then two engine g (cut_behind contents then one two [] [] s f)
+    run_stops_behind Writer f = write_fails limits source now later sink then two engine g (cut_behind contents then one two [] [] s f)
     run_stops_behind Memory f =
-        memory_fails budget source now later sink then two engine g (t.bytes ++ f.bytes) t.not_ended (Consumes-trans _ _ _ t.bytes f.bytes t.taken f.taken) f.none_whole (f.none_failed ∙ t.none_failed)
+        memory_fails limits source now later sink then two engine g (t.bytes ++ f.bytes) t.not_ended (Consumes-trans _ _ _ t.bytes f.bytes t.taken f.taken) f.none_whole (f.none_failed ∙ t.none_failed)
         (subst (λ n. IsOneMore n (lines_refused later)) kept f.one_refused) (gives_both contents then one two [] [] s f.gives)
 
     module _ (a : AnswersLine remaining contents engine next mid later one two t.bytes) where
-      next_story : Story budget (g.taken ++ (t.bytes ++ a.bytes)) (g.text ++ a.reply) (is_ended later) (engine.written.refused || a.refusal) (book_of next.book)
+      next_story : Story limits (g.taken ++ (t.bytes ++ a.bytes)) (g.text ++ a.reply) (is_ended later) (engine.written.refused || a.refusal) (book_of next.book)
       next_story =
-          story_more (t.bytes ++ a.bytes) (open_story budget source now later sink then two engine g t.not_ended) (some_piece t.bytes a.bytes (is_ended mid) t.one)
-          (subst (λ (n : ℕ). FirstReply n (book_of engine.book) (said (t.bytes ++ a.bytes)) (behind_line (t.bytes ++ a.bytes)) a.reply a.refusal (book_of next.book) []) g.same_budget a.here)
+          story_more (t.bytes ++ a.bytes) (open_story limits source now later sink then two engine g t.not_ended) (some_piece t.bytes a.bytes (is_ended mid) t.one)
+          (subst (λ (n : Limits). FirstReply n (book_of engine.book) (said (t.bytes ++ a.bytes)) (behind_line (t.bytes ++ a.bytes)) a.reply a.refusal (book_of next.book) []) g.same_limits a.here)
           a.whole
-          (λ unended more. subst (λ (n : ℕ). FirstReply n (book_of engine.book) (said ((t.bytes ++ a.bytes) ++ more)) (behind_line ((t.bytes ++ a.bytes) ++ more)) a.reply a.refusal (book_of next.book) more) g.same_budget (a.before unended more))
+          (λ unended more. subst (λ (n : Limits). FirstReply n (book_of engine.book) (said ((t.bytes ++ a.bytes) ++ more)) (behind_line ((t.bytes ++ a.bytes) ++ more)) a.reply a.refusal (book_of next.book) more) g.same_limits (a.before unended more))
 
       next_taken : Consumes (unread remaining source) (unread remaining later) (g.taken ++ (t.bytes ++ a.bytes))
       next_taken = Consumes-trans _ _ _ g.taken (t.bytes ++ a.bytes) g.consumed (Consumes-trans _ _ _ t.bytes a.bytes t.taken a.taken)
@@ -226,7 +227,7 @@ module _ {R W : Type 0} (remaining : R → Option (List ℕ)) (contents : W → 
       one_given = given_so sink then one g.text g.gives s
 
       -- the reply is given
-      pub run_goes_on : is_cut one ≡ false → is_cut two ≡ false → Going budget source later sink two next
+      pub run_goes_on : is_cut one ≡ false → is_cut two ≡ false → Going limits source later sink two next
       run_goes_on uncut stays = record {
         taken = g.taken ++ (t.bytes ++ a.bytes);
         consumed = next_taken;
@@ -236,12 +237,12 @@ module _ {R W : Type 0} (remaining : R → Option (List ℕ)) (contents : W → 
         text = g.text ++ a.reply;
         gives = gives_both contents sink one two g.text a.reply one_given (a.tells.all uncut stays);
         uncut = stays;
-        story = subst (λ (z : Bool). Story budget (g.taken ++ (t.bytes ++ a.bytes)) (g.text ++ a.reply) (is_ended later) z (book_of next.book)) (sym (a.refused stays)) next_story;
-        same_budget = a.budget ∙ g.same_budget;
+        story = subst (λ (z : Bool). Story limits (g.taken ++ (t.bytes ++ a.bytes)) (g.text ++ a.reply) (is_ended later) z (book_of next.book)) (sym (a.refused stays)) next_story;
+        same_limits = a.limits ∙ g.same_limits;
       }
 
       -- the reply is cut short
-      pub run_is_cut : is_cut one ≡ false → is_cut two ≡ true → RunsToFailedWrite remaining contents budget source later sink two
+      pub run_is_cut : is_cut one ≡ false → is_cut two ≡ true → RunsToFailedWrite remaining contents limits source later sink two
       run_is_cut uncut cut = record {
         input = g.taken ++ (t.bytes ++ a.bytes);
         rest = unread remaining later;
@@ -254,9 +255,9 @@ module _ {R W : Type 0} (remaining : R → Option (List ℕ)) (contents : W → 
       }
 
   -- what was answered goes out at last
-  pub ends_sent : (budget : ℕ) (source later : Lines R) (sink one two : Outlet W) (refused : Bool) → RunsToEnd remaining contents budget source later sink one refused → Gives contents one two []
-      → RunsToEnd remaining contents budget source later sink two refused
-  ends_sent budget source later sink one two refused r s = record {
+  pub ends_sent : (limits : Limits) (source later : Lines R) (sink one two : Outlet W) (refused : Bool) → RunsToEnd remaining contents limits source later sink one refused → Gives contents one two []
+      → RunsToEnd remaining contents limits source later sink two refused
+  ends_sent limits source later sink one two refused r s = record {
     input = r.input;
     read = r.read;
     end = r.end;
@@ -268,9 +269,9 @@ module _ {R W : Type 0} (remaining : R → Option (List ℕ)) (contents : W → 
     none_refused = r.none_refused;
   }
 
-  pub fails_sent : (budget : ℕ) (source later : Lines R) (sink one two : Outlet W) (fault : Fault) → (fault ≡ Writer → ⊥) → RunsTo remaining contents budget source later sink one fault → Gives contents one two []
-      → RunsTo remaining contents budget source later sink two fault
-  fails_sent budget source later sink one two Reader n r s = record {
+  pub fails_sent : (limits : Limits) (source later : Lines R) (sink one two : Outlet W) (fault : Fault) → (fault ≡ Writer → ⊥) → RunsTo remaining contents limits source later sink one fault → Gives contents one two []
+      → RunsTo remaining contents limits source later sink two fault
+  fails_sent limits source later sink one two Reader n r s = record {
     input = r.input;
     left = r.left;
     read = r.read;
@@ -284,8 +285,8 @@ module _ {R W : Type 0} (remaining : R → Option (List ℕ)) (contents : W → 
     one_failed = r.one_failed;
     none_refused = r.none_refused;
   }
-  fails_sent budget source later sink one two Writer n r s = absurd (n refl)
-  fails_sent budget source later sink one two Memory n r s = record {
+  fails_sent limits source later sink one two Writer n r s = absurd (n refl)
+  fails_sent limits source later sink one two Memory n r s = record {
     input = r.input;
     left = r.left;
     taken = r.taken;
@@ -300,9 +301,9 @@ module _ {R W : Type 0} (remaining : R → Option (List ℕ)) (contents : W → 
   }
 
   -- the last send fails
-  pub ends_cut : (budget : ℕ) (source later : Lines R) (sink one two : Outlet W) (refused : Bool) → RunsToEnd remaining contents budget source later sink one refused → IsCutShort contents one two []
-      → RunsTo remaining contents budget source later sink two Writer
-  ends_cut budget source later sink one two refused r s = record {
+  pub ends_cut : (limits : Limits) (source later : Lines R) (sink one two : Outlet W) (refused : Bool) → RunsToEnd remaining contents limits source later sink one refused → IsCutShort contents one two []
+      → RunsTo remaining contents limits source later sink two Writer
+  ends_cut limits source later sink one two refused r s = record {
     input = r.input;
     rest = unread remaining later;
     begins = r.read;
@@ -313,9 +314,9 @@ module _ {R W : Type 0} (remaining : R → Option (List ℕ)) (contents : W → 
     cut = cut_so sink one two r.text r.gives s;
   }
 
-  pub fails_cut : (budget : ℕ) (source later : Lines R) (sink one two : Outlet W) (fault : Fault) → (fault ≡ Writer → ⊥) → RunsTo remaining contents budget source later sink one fault → IsCutShort contents one two []
-      → RunsTo remaining contents budget source later sink two Writer
-  fails_cut budget source later sink one two Reader n r s = record {
+  pub fails_cut : (limits : Limits) (source later : Lines R) (sink one two : Outlet W) (fault : Fault) → (fault ≡ Writer → ⊥) → RunsTo remaining contents limits source later sink one fault → IsCutShort contents one two []
+      → RunsTo remaining contents limits source later sink two Writer
+  fails_cut limits source later sink one two Reader n r s = record {
     input = r.input;
     rest = prepend_known r.left (unread remaining later);
     begins = consumes_front (unread remaining source) (unread remaining later) r.input r.left r.read;
@@ -325,8 +326,8 @@ module _ {R W : Type 0} (remaining : R → Option (List ℕ)) (contents : W → 
     replies = whole_ones r.replies;
     cut = cut_so sink one two r.text r.gives s;
   }
-  fails_cut budget source later sink one two Writer n r s = absurd (n refl)
-  fails_cut budget source later sink one two Memory n r s = record {
+  fails_cut limits source later sink one two Writer n r s = absurd (n refl)
+  fails_cut limits source later sink one two Memory n r s = record {
     input = r.input;
     rest = prepend_known r.left (unread remaining later);
     begins = consumes_front (unread remaining source) (unread remaining later) r.input r.left r.taken;
@@ -338,9 +339,9 @@ module _ {R W : Type 0} (remaining : R → Option (List ℕ)) (contents : W → 
   }
 
   -- what was given before the first command
-  pub ends_from : (budget : ℕ) (source later : Lines R) (zero sink after : Outlet W) (refused : Bool) → Gives contents zero sink [] → RunsToEnd remaining contents budget source later sink after refused
-      → RunsToEnd remaining contents budget source later zero after refused
-  ends_from budget source later zero sink after refused s r = record {
+  pub ends_from : (limits : Limits) (source later : Lines R) (zero sink after : Outlet W) (refused : Bool) → Gives contents zero sink [] → RunsToEnd remaining contents limits source later sink after refused
+      → RunsToEnd remaining contents limits source later zero after refused
+  ends_from limits source later zero sink after refused s r = record {
     input = r.input;
     read = r.read;
     end = r.end;
@@ -352,9 +353,9 @@ module _ {R W : Type 0} (remaining : R → Option (List ℕ)) (contents : W → 
     none_refused = r.none_refused;
   }
 
-  pub fails_from : (budget : ℕ) (source later : Lines R) (zero sink after : Outlet W) (fault : Fault) → Gives contents zero sink [] → RunsTo remaining contents budget source later sink after fault
-      → RunsTo remaining contents budget source later zero after fault
-  fails_from budget source later zero sink after Reader s r = record {
+  pub fails_from : (limits : Limits) (source later : Lines R) (zero sink after : Outlet W) (fault : Fault) → Gives contents zero sink [] → RunsTo remaining contents limits source later sink after fault
+      → RunsTo remaining contents limits source later zero after fault
+  fails_from limits source later zero sink after Reader s r = record {
     input = r.input;
     left = r.left;
     read = r.read;
@@ -368,7 +369,7 @@ module _ {R W : Type 0} (remaining : R → Option (List ℕ)) (contents : W → 
     one_failed = r.one_failed;
     none_refused = r.none_refused;
   }
-  fails_from budget source later zero sink after Writer s r = record {
+  fails_from limits source later zero sink after Writer s r = record {
     input = r.input;
     rest = r.rest;
     begins = r.begins;
@@ -378,7 +379,7 @@ module _ {R W : Type 0} (remaining : R → Option (List ℕ)) (contents : W → 
     replies = r.replies;
     cut = cut_behind contents zero sink after [] r.text s r.cut;
   }
-  fails_from budget source later zero sink after Memory s r = record {
+  fails_from limits source later zero sink after Memory s r = record {
     input = r.input;
     left = r.left;
     taken = r.taken;

@@ -11,10 +11,11 @@ use Rattle.stepper.proofs.Entered.{same_book}
 use Rattle.stepper.proofs.OneMove.{answer_once}
 use Rattle.stepper.proofs.OneAnswer.{no_birth, answer_once_told, one_birth}
 use Rattle.stepper.proofs.Reached.{Reached, blank_reached, reached_once, reached_first}
+use Rattle.stepper.specs.declared.engine.Limits.{Limits}
 
 -- the first line has one answer, and one rest of the input is behind it
-first_once : {budget : ℕ} {b c d e : Book} {says : Result (Option Spelled) LineFault} {input rest left r s : List ℕ} {q p : Bool} → Reached b → SameBook b c → IsToldLine says
-    → FirstReply budget b says input r q d rest → FirstReply budget c says input s p e left → ¬ EndsForWant r → ¬ EndsForWant s → SameAnswer r q d s p e × (left ≡ rest)
+first_once : {limits : Limits} {b c d e : Book} {says : Result (Option Spelled) LineFault} {input rest left r s : List ℕ} {q p : Bool} → Reached b → SameBook b c → IsToldLine says
+    → FirstReply limits b says input r q d rest → FirstReply limits c says input s p e left → ¬ EndsForWant r → ¬ EndsForWant s → SameAnswer r q d s p e × (left ≡ rest)
 first_once b same told skipped skipped n m = (answer_once refl same, refl)
 first_once b same told no_command no_command n m = (answer_once refl same, refl)
 first_once b same told (born h) (born k) n m = (one_birth _ _ _ _ _ _ _ _ _ _ _ same h k n m, refl)
@@ -26,26 +27,26 @@ first_once b same told (answered {c = x} h) (answered k) n m = (answer_once_told
 nothing : {A : Type 0} → 0 < length {A = ℕ} [] → A
 nothing h = absurd (omega (arith, h))
 
-input_once : {budget : ℕ} {b c d e : Book} {input rs ss : List ℕ} {q p : Bool} → Reached b → SameBook b c → (h : Replies budget b input rs q d) (k : Replies budget c input ss p e) → AllTold h → AllTold k → SameRun rs q d ss p e
+input_once : {limits : Limits} {b c d e : Book} {input rs ss : List ℕ} {q p : Bool} → Reached b → SameBook b c → (h : Replies limits b input rs q d) (k : Replies limits c input ss p e) → AllTold h → AllTold k → SameRun rs q d ss p e
 input_once reached same no_more no_more told also = record { replies = no_replies; refusal = refl; book = same }
 input_once reached same no_more (first_and_more some y k) told also = nothing some
 input_once reached same (first_and_more some x h) no_more told also = nothing some
-input_once {budget = budget} {d = d} {e = e} reached same (first_and_more {replies = rs} {s = q} some x h) (first_and_more {c = c} {replies = ss} {s = p} more y k) told also =
+input_once {limits = limits} {d = d} {e = e} reached same (first_and_more {replies = rs} {s = q} some x h) (first_and_more {c = c} {replies = ss} {s = p} more y k) told also =
     let one = first_once reached same told.0 x y told.1 also.1 in
-    let rest = subst (λ (left : List ℕ). (k : Replies budget c left ss p e) → AllTold k → SameRun rs q d ss p e) (sym one.1) (λ k its. input_once (reached_first reached told.0 x) one.0.book h k told.2 its) k also.2 in
+    let rest = subst (λ (left : List ℕ). (k : Replies limits c left ss p e) → AllTold k → SameRun rs q d ss p e) (sym one.1) (λ k its. input_once (reached_first reached told.0 x) one.0.book h k told.2 its) k also.2 in
     record { replies = same_and_more one.0.reply rest.replies; refusal = λ i. one.0.refusal i || rest.refusal i; book = rest.book }
 
 pub inputs_have_one_text : InputsHaveOneText
-inputs_have_one_text budget input rs ss q p d e h k told also = input_once blank_reached (same_book blank) h k told also
+inputs_have_one_text limits input rs ss q p d e h k told also = input_once blank_reached (same_book blank) h k told also
 
 -- what is whole is something
 some_bytes : (input : List ℕ) → IsWhole input → 0 < length input
 some_bytes [] w = absurd (false≢true w.line)
 some_bytes (x ∷ xs) w = omega arith
 
-whole_so : {budget : ℕ} {b d : Book} {input replies left : List ℕ} {refusal : Bool} → RepliesBefore budget b input replies refusal d left → left ≡ [] → Replies budget b input replies refusal d
-whole_so {budget = budget} {b = b} {input = input} none_yet e = subst (λ (z : List ℕ). Replies budget b z [] false b) (sym e) no_more
+whole_so : {limits : Limits} {b d : Book} {input replies left : List ℕ} {refusal : Bool} → RepliesBefore limits b input replies refusal d left → left ≡ [] → Replies limits b input replies refusal d
+whole_so {limits = limits} {b = b} {input = input} none_yet e = subst (λ (z : List ℕ). Replies limits b z [] false b) (sym e) no_more
 whole_so {input = input} (whole_and_more w first more) e = first_and_more (some_bytes input w) first (whole_so more e)
 
 pub whole_ones_are_all : WholeOnesAreAll
-whole_ones_are_all budget b d input replies refusal h = whole_so h refl
+whole_ones_are_all limits b d input replies refusal h = whole_so h refl

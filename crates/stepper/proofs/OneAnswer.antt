@@ -23,17 +23,18 @@ use Rattle.stepper.proofs.OneText.{enabled_once, shows_once, shows_enabled_once}
 use Rattle.stepper.proofs.OneQuestion.{one_ask, birth_but}
 use Rattle.stepper.proofs.OneLearning.{one_learning}
 use Rattle.stepper.proofs.OneChange.{one_undo, one_redo, one_exchange, one_settling, one_cone_undone, one_cone}
+use Rattle.stepper.specs.declared.engine.Limits.{Limits}
 
 -- ---- what is told of a book
 
-one_enabled : {budget : ℕ} {b c d e : Book} {r t : List ℕ} {q p : Bool} → NamesVatsOnce b.world → SameBook b c → Answers budget b command.enabled r q d → Answers budget c command.enabled t p e
+one_enabled : {limits : Limits} {b c d e : Book} {r t : List ℕ} {q p : Bool} → NamesVatsOnce b.world → SameBook b c → Answers limits b command.enabled r q d → Answers limits c command.enabled t p e
     → ¬ IsForWant r → ¬ IsForWant t → SameAnswer r q d t p e
 one_enabled once same enabled_without_memory k n m = absurd (n book_without_memory)
 one_enabled once same h enabled_without_memory n m = absurd (m book_without_memory)
 one_enabled once same (enabled h x) (enabled {found = found} {text = text} k y) n m =
     answer_once (shows_enabled_once once (enabled_once h (same_enabled same found k)) x (subst (λ (w : World). ShowsEnabled w found text) same.world y)) same
 
-one_log : {budget : ℕ} {b c d e : Book} {x : List ℕ} {r t : List ℕ} {q p : Bool} → SameBook b c → Answers budget b (command.log x) r q d → Answers budget c (command.log x) t p e
+one_log : {limits : Limits} {b c d e : Book} {x : List ℕ} {r t : List ℕ} {q p : Bool} → SameBook b c → Answers limits b (command.log x) r q d → Answers limits c (command.log x) t p e
     → ¬ IsForWant r → ¬ IsForWant t → SameAnswer r q d t p e
 one_log same log_without_memory k n m = absurd (n book_without_memory)
 one_log same h log_without_memory n m = absurd (m book_without_memory)
@@ -41,13 +42,13 @@ one_log {b = b} {c = c} {x = x} same logged logged n m =
     answer_once (ap (λ k. logged_text (log_text x (live_in (take k c.journal)) (live_in (drop k c.journal)))) same.settled
     ∙ (λ i. logged_text (log_text x (same_live_in _ _ (same_take b.settled b.journal c.journal same.journal) i) (same_live_in _ _ (same_drop b.settled b.journal c.journal same.journal) i)))) same
 
-one_listing : {budget : ℕ} {b c d e : Book} {r t : List ℕ} {q p : Bool} → SameBook b c → Answers budget b command.journal r q d → Answers budget c command.journal t p e
+one_listing : {limits : Limits} {b c d e : Book} {r t : List ℕ} {q p : Bool} → SameBook b c → Answers limits b command.journal r q d → Answers limits c command.journal t p e
     → ¬ IsForWant r → ¬ IsForWant t → SameAnswer r q d t p e
 one_listing same journal_without_memory k n m = absurd (n book_without_memory)
 one_listing same h journal_without_memory n m = absurd (m book_without_memory)
 one_listing {b = b} {c = c} same listed listed n m = answer_once (ap (λ k. journal_text k c.journal) same.settled ∙ same_journal b.settled b.journal c.journal same.journal) same
 
-one_showing : {budget : ℕ} {b c d e : Book} {r t : List ℕ} {q p : Bool} → NamesVatsOnce b.world → SameBook b c → Answers budget b command.show r q d → Answers budget c command.show t p e
+one_showing : {limits : Limits} {b c d e : Book} {r t : List ℕ} {q p : Bool} → NamesVatsOnce b.world → SameBook b c → Answers limits b command.show r q d → Answers limits c command.show t p e
     → ¬ IsForWant r → ¬ IsForWant t → SameAnswer r q d t p e
 one_showing once same show_without_memory k n m = absurd (n book_without_memory)
 one_showing once same h show_without_memory n m = absurd (m book_without_memory)
@@ -55,25 +56,25 @@ one_showing once same (shown h) (shown {text = text} k) n m = answer_once (shows
 
 -- ---- what may be done
 
-one_move_told : {budget : ℕ} {b c d e : Book} {s : Step} {r t : List ℕ} {q p : Bool} → SameBook b c → Moves budget b s r q d → Moves budget c s t p e → ¬ EndsForWant r → ¬ EndsForWant t → SameAnswer r q d t p e
+one_move_told : {limits : Limits} {b c d e : Book} {s : Step} {r t : List ℕ} {q p : Bool} → SameBook b c → Moves limits b s r q d → Moves limits c s t p e → ¬ EndsForWant r → ¬ EndsForWant t → SameAnswer r q d t p e
 one_move_told same h k n m = answered (one_move same h k (had_memory n) (had_memory m))
 
-one_arrival : {budget : ℕ} {b c d e : Book} {g : MsgId} {r t : List ℕ} {q p : Bool} → SameBook b c → Answers budget b (command.arrive g) r q d → Answers budget c (command.arrive g) t p e → ¬ EndsForWant r → ¬ EndsForWant t → SameAnswer r q d t p e
+one_arrival : {limits : Limits} {b c d e : Book} {g : MsgId} {r t : List ℕ} {q p : Bool} → SameBook b c → Answers limits b (command.arrive g) r q d → Answers limits c (command.arrive g) t p e → ¬ EndsForWant r → ¬ EndsForWant t → SameAnswer r q d t p e
 one_arrival same (arrive_moves h) (arrive_moves k) n m = one_move_told same h k n m
 
-one_forwarding : {budget : ℕ} {b c d e : Book} {g : MsgId} {r t : List ℕ} {q p : Bool} → SameBook b c → Answers budget b (command.forward g) r q d → Answers budget c (command.forward g) t p e → ¬ EndsForWant r → ¬ EndsForWant t → SameAnswer r q d t p e
+one_forwarding : {limits : Limits} {b c d e : Book} {g : MsgId} {r t : List ℕ} {q p : Bool} → SameBook b c → Answers limits b (command.forward g) r q d → Answers limits c (command.forward g) t p e → ¬ EndsForWant r → ¬ EndsForWant t → SameAnswer r q d t p e
 one_forwarding same (forward_moves h) (forward_moves k) n m = one_move_told same h k n m
 
-one_turn : {budget : ℕ} {b c d e : Book} {g : MsgId} {r t : List ℕ} {q p : Bool} → SameBook b c → Answers budget b (command.turn g) r q d → Answers budget c (command.turn g) t p e → ¬ EndsForWant r → ¬ EndsForWant t → SameAnswer r q d t p e
+one_turn : {limits : Limits} {b c d e : Book} {g : MsgId} {r t : List ℕ} {q p : Bool} → SameBook b c → Answers limits b (command.turn g) r q d → Answers limits c (command.turn g) t p e → ¬ EndsForWant r → ¬ EndsForWant t → SameAnswer r q d t p e
 one_turn same (turn_moves h) (turn_moves k) n m = one_move_told same h k n m
 
-one_stepping : {budget : ℕ} {b c d e : Book} {r t : List ℕ} {q p : Bool} → SameBook b c → Answers budget b command.step r q d → Answers budget c command.step t p e → ¬ EndsForWant r → ¬ EndsForWant t → SameAnswer r q d t p e
+one_stepping : {limits : Limits} {b c d e : Book} {r t : List ℕ} {q p : Bool} → SameBook b c → Answers limits b command.step r q d → Answers limits c command.step t p e → ¬ EndsForWant r → ¬ EndsForWant t → SameAnswer r q d t p e
 one_stepping same (stepped h) (stepped k) n m = answered (one_step same h k (had_memory n) (had_memory m)).0
 
-one_running : {budget : ℕ} {b c d e : Book} {steps : ℕ} {r t : List ℕ} {q p : Bool} → SameBook b c → Answers budget b (command.run steps) r q d → Answers budget c (command.run steps) t p e → ¬ EndsForWant r → ¬ EndsForWant t → SameAnswer r q d t p e
+one_running : {limits : Limits} {b c d e : Book} {steps : ℕ} {r t : List ℕ} {q p : Bool} → SameBook b c → Answers limits b (command.run steps) r q d → Answers limits c (command.run steps) t p e → ¬ EndsForWant r → ¬ EndsForWant t → SameAnswer r q d t p e
 one_running same (runs h) (runs k) n m = answered (runs_once same h k n m)
 
-pub no_birth : {A : Type 0} {budget : ℕ} {b d : Book} {x : List ℕ} {earlier : List (List ℕ)} {lines : ℕ} {r : List ℕ} {q : Bool} → Answers budget b (command.birth x earlier lines) r q d → A
+pub no_birth : {A : Type 0} {limits : Limits} {b d : Book} {x : List ℕ} {earlier : List (List ℕ)} {lines : ℕ} {r : List ℕ} {q : Bool} → Answers limits b (command.birth x earlier lines) r q d → A
 no_birth h = elim h [ ]
 
 -- ---- the two laws
@@ -82,7 +83,7 @@ no_birth h = elim h [ ]
 ends : {r : List ℕ} → ¬ EndsForWant r → ¬ IsForWant r
 ends {r = r} n want = n (record { before = []; last = r; want = want; whole = refl })
 
-pub answer_once_told : {budget : ℕ} {b c d e : Book} (x : Spelled) {r t : List ℕ} {q p : Bool} → NamesVatsOnce b.world → SameBook b c → IsTold x → Answers budget b x r q d → Answers budget c x t p e → ¬ EndsForWant r → ¬ EndsForWant t → SameAnswer r q d t p e
+pub answer_once_told : {limits : Limits} {b c d e : Book} (x : Spelled) {r t : List ℕ} {q p : Bool} → NamesVatsOnce b.world → SameBook b c → IsTold x → Answers limits b x r q d → Answers limits c x t p e → ¬ EndsForWant r → ¬ EndsForWant t → SameAnswer r q d t p e
 answer_once_told (command.birth x earlier lines) once same is h k n m = no_birth h
 answer_once_told (command.ask x text) once same is h k n m = one_ask same h k (ends n) (ends m)
 answer_once_told (command.arrive g) once same is h k n m = one_arrival same h k n m
@@ -104,7 +105,7 @@ answer_once_told (command.exchange position) once same is h k n m = one_exchange
 answer_once_told (command.settle position) once same is h k n m = one_settling same h k (ends n) (ends m)
 
 pub one_answer : OneAnswer
-one_answer budget b c x r s q p d e good same told h k n m = answer_once_told x (names_vats_once b good) same told h k n m
+one_answer limits b c x r s q p d e good same told h k n m = answer_once_told x (names_vats_once b good) same told h k n m
 
 pub one_birth : OneBirth
 one_birth b c x earlier script r s q p d e same h k n m = birth_but same h k (ends n) (ends m)

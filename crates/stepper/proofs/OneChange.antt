@@ -19,6 +19,7 @@ use Rattle.stepper.proofs.SameSets.{same_undo, same_redo, same_cone, same_exchan
 use Rattle.stepper.proofs.SameChanges.{same_count, same_undone_in, same_redone_in, same_rest, same_live_events, same_places, same_stood}
 use Rattle.stepper.proofs.Entered.{one_run}
 use Rattle.stepper.proofs.OneMove.{answer_once, refused_once, not_refused, not_accepted}
+use Rattle.stepper.specs.declared.engine.Limits.{Limits}
 
 -- ---- cones
 
@@ -73,7 +74,7 @@ redone_once {b = b} {c = c} {d = d} {e = e} {events = events} same x y =
     let also : PlainRun (live_events (redone_in events b.journal)) e.world = subst (λ (es : List Event). PlainRun es e.world) (same_live_events (redone_in events b.journal) (redone_in events c.journal) lines) y.run in
     changed_alike same (one_run (live_events (redone_in events b.journal)) x.run also) (lines_as x.marked y.marked lines) x.same_settled y.same_settled x.same_next y.same_next x.same_out y.same_out
 
-pub one_undo : {budget : ℕ} {b c d e : Book} {events : List EventName} {r t : List ℕ} {q p : Bool} → SameBook b c → Answers budget b (command.undo events) r q d → Answers budget c (command.undo events) t p e
+pub one_undo : {limits : Limits} {b c d e : Book} {events : List EventName} {r t : List ℕ} {q p : Bool} → SameBook b c → Answers limits b (command.undo events) r q d → Answers limits c (command.undo events) t p e
     → ¬ IsForWant r → ¬ IsForWant t → SameAnswer r q d t p e
 one_undo same undo_without_memory k n m = absurd (n book_without_memory)
 one_undo same h undo_without_memory n m = absurd (m book_without_memory)
@@ -82,7 +83,7 @@ one_undo {events = events} same (undo_refused h) (undo_accepted k x) n m = not_r
 one_undo {events = events} same (undo_accepted h x) (undo_refused k) n m = not_accepted (undo_alike same events) h k
 one_undo {b = b} {c = c} {events = events} same (undo_accepted h x) (undo_accepted k y) n m = answer_once (ap undone_text (same_count b.journal c.journal same.journal events)) (undone_once same x y)
 
-pub one_redo : {budget : ℕ} {b c d e : Book} {events : List EventName} {r t : List ℕ} {q p : Bool} → SameBook b c → Answers budget b (command.redo events) r q d → Answers budget c (command.redo events) t p e
+pub one_redo : {limits : Limits} {b c d e : Book} {events : List EventName} {r t : List ℕ} {q p : Bool} → SameBook b c → Answers limits b (command.redo events) r q d → Answers limits c (command.redo events) t p e
     → ¬ IsForWant r → ¬ IsForWant t → SameAnswer r q d t p e
 one_redo same redo_without_memory k n m = absurd (n book_without_memory)
 one_redo same h redo_without_memory n m = absurd (m book_without_memory)
@@ -103,13 +104,13 @@ exchanged_once {b = b} {c = c} {x = x} {y = y} {u = u} {v = v} (suc n) same h i 
     answer_once (ap (λ z. exchanged_text z v) one ∙ ap (exchanged_text x) two)
     (changed_alike same (j.same_world ∙ same.world ∙ sym i.same_world) (lines_as (i.places n at) (j.places n at) (same_places n b.journal c.journal same.journal)) i.same_settled j.same_settled i.same_next j.same_next i.same_out j.same_out)
 
-pub one_exchange : {budget : ℕ} {b c d e : Book} {position : ℕ} {r t : List ℕ} {q p : Bool} → SameBook b c → Answers budget b (command.exchange position) r q d → Answers budget c (command.exchange position) t p e → SameAnswer r q d t p e
+pub one_exchange : {limits : Limits} {b c d e : Book} {position : ℕ} {r t : List ℕ} {q p : Bool} → SameBook b c → Answers limits b (command.exchange position) r q d → Answers limits c (command.exchange position) t p e → SameAnswer r q d t p e
 one_exchange {position = position} same (exchange_refused h) (exchange_refused k) = refused_once same (exchange_alike same position) h k
 one_exchange {position = position} same (exchange_refused h) (exchange_accepted k x u) = not_refused (exchange_alike same position) h k
 one_exchange {position = position} same (exchange_accepted h x u) (exchange_refused k) = not_accepted (exchange_alike same position) h k
 one_exchange {position = position} same (exchange_accepted h x u) (exchange_accepted k v w) = exchanged_once position same h x v u w
 
-pub one_settling : {budget : ℕ} {b c d e : Book} {position : ℕ} {r t : List ℕ} {q p : Bool} → SameBook b c → Answers budget b (command.settle position) r q d → Answers budget c (command.settle position) t p e
+pub one_settling : {limits : Limits} {b c d e : Book} {position : ℕ} {r t : List ℕ} {q p : Bool} → SameBook b c → Answers limits b (command.settle position) r q d → Answers limits c (command.settle position) t p e
     → ¬ IsForWant r → ¬ IsForWant t → SameAnswer r q d t p e
 one_settling same settle_without_memory k n m = absurd (n book_without_memory)
 one_settling same h settle_without_memory n m = absurd (m book_without_memory)
@@ -121,17 +122,17 @@ one_settling {b = b} {c = c} {position = position} same (settle_accepted h x) (s
     (record { world = same.world; settled = refl; next = same.next; out = same.out; journal = same.journal }))
 
 -- a cone that is undone is so as if its events were named
-pub one_cone_undone : {budget : ℕ} {b c d e : Book} {root : EventName} {r t : List ℕ} {q p : Bool} → SameBook b c → Answers budget b (command.undo_cone root) r q d → Answers budget c (command.undo_cone root) t p e
+pub one_cone_undone : {limits : Limits} {b c d e : Book} {root : EventName} {r t : List ℕ} {q p : Bool} → SameBook b c → Answers limits b (command.undo_cone root) r q d → Answers limits c (command.undo_cone root) t p e
     → ¬ IsForWant r → ¬ IsForWant t → SameAnswer r q d t p e
 one_cone_undone same undo_cone_without_memory k n m = absurd (n book_without_memory)
 one_cone_undone same h undo_cone_without_memory n m = absurd (m book_without_memory)
 one_cone_undone {root = root} same (undo_cone_refused h) (undo_cone_refused k) n m = refused_once same (cone_alike same root) h k
 one_cone_undone {root = root} same (undo_cone_refused h) (undo_cone_found k x u) n m = not_refused (cone_alike same root) h k
 one_cone_undone {root = root} same (undo_cone_found h x u) (undo_cone_refused k) n m = not_accepted (cone_alike same root) h k
-one_cone_undone {budget = budget} {c = c} {e = e} {t = t} {p = p} same (undo_cone_found h x u) (undo_cone_found k v w) n m =
-    one_undo same u (subst (λ (es : List EventName). Answers budget c (command.undo es) t p e) (cones_alike same x v) w) n m
+one_cone_undone {limits = limits} {c = c} {e = e} {t = t} {p = p} same (undo_cone_found h x u) (undo_cone_found k v w) n m =
+    one_undo same u (subst (λ (es : List EventName). Answers limits c (command.undo es) t p e) (cones_alike same x v) w) n m
 
-pub one_cone : {budget : ℕ} {b c d e : Book} {root : EventName} {r t : List ℕ} {q p : Bool} → SameBook b c → Answers budget b (command.cone root) r q d → Answers budget c (command.cone root) t p e
+pub one_cone : {limits : Limits} {b c d e : Book} {root : EventName} {r t : List ℕ} {q p : Bool} → SameBook b c → Answers limits b (command.cone root) r q d → Answers limits c (command.cone root) t p e
     → ¬ IsForWant r → ¬ IsForWant t → SameAnswer r q d t p e
 one_cone same cone_without_memory k n m = absurd (n book_without_memory)
 one_cone same h cone_without_memory n m = absurd (m book_without_memory)

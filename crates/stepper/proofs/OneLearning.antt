@@ -28,6 +28,7 @@ use Rattle.stepper.specs.Laws.{SameBook, IsForWant, book_without_memory, SameAns
 use Rattle.stepper.proofs.SameBooks.{same_learn, same_learning, same_book_back}
 use Rattle.stepper.proofs.Entered.{entered_once}
 use Rattle.stepper.proofs.OneMove.{answer_once, not_both}
+use Rattle.stepper.specs.declared.engine.Limits.{Limits}
 
 -- ---- what is learnt of a promise that is named without its home
 
@@ -92,7 +93,7 @@ learnt_or_not {b = b} {x = x} h (nothing_named k) = not_both (sym (by_vat b x h.
 learnt_or_not {b = b} h (not_entered v p named is can k) =
     not_both (sym (learnt_but_room b v.number p can) ∙ k) (sym (learnt_but_room b h.vat.number h.promise (accepted_learns b h.vat.number h.promise h.accepted)) ∙ h.accepted)
 
-pub one_learning : {budget : ℕ} {b c d e : Book} {x : List ℕ} {n : PromiseName} {r t : List ℕ} {q p : Bool} → SameBook b c → Answers budget b (command.learn x n) r q d → Answers budget c (command.learn x n) t p e
+pub one_learning : {limits : Limits} {b c d e : Book} {x : List ℕ} {n : PromiseName} {r t : List ℕ} {q p : Bool} → SameBook b c → Answers limits b (command.learn x n) r q d → Answers limits c (command.learn x n) t p e
     → ¬ IsForWant r → ¬ IsForWant t → SameAnswer r q d t p e
 one_learning same learn_without_memory k n m = absurd (n book_without_memory)
 one_learning same h learn_without_memory n m = absurd (m book_without_memory)

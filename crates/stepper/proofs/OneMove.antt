@@ -19,6 +19,7 @@ use Rattle.stepper.specs.Replies.{refused, done_text, FirstIn, Moves, move_witho
 use Rattle.stepper.specs.Laws.{SameBook, IsForWant, book_without_memory, EndsForWant, SameReply, one_reply, SameAnswer}
 use Rattle.stepper.proofs.SameBooks.{same_arrival, same_forward, same_learning, same_checkout, same_first}
 use Rattle.stepper.proofs.Entered.{entered_once, turned_once}
+use Rattle.stepper.specs.declared.engine.Limits.{Limits}
 
 -- two moves or two runs are one: the very reply, whether it is a refusal, and the book
 pub record SameMove (r : List ℕ) (q : Bool) (b : Book) (s : List ℕ) (p : Bool) (d : Book) : Type 0 where
@@ -62,7 +63,7 @@ pub had_memory : {reply : List ℕ} {refusal : Bool} → ¬ EndsForWant reply �
 had_memory {reply = reply} n is want = n (record { before = []; last = reply; want = want; whole = refl })
 
 -- a step behind which one follows is not refused
-goes_on : {budget : ℕ} {b d : Book} {reply : List ℕ} {refusal : Bool} → Steps budget b reply refusal d true → HadMemory reply refusal
+goes_on : {limits : Limits} {b d : Book} {reply : List ℕ} {refusal : Bool} → Steps limits b reply refusal d true → HadMemory reply refusal
 goes_on (step_done f h) is want = absurd (false≢true is)
 
 -- replies end for want of memory if the later ones do
@@ -103,7 +104,7 @@ first_once b {s = s} {t = t} h k = ⊎_elim (λ e. e) (λ less. ⊎_elim (λ e. 
 
 -- ---- moves
 
-pub one_move : {budget : ℕ} {b c d e : Book} {s : Step} {r t : List ℕ} {q p : Bool} → SameBook b c → Moves budget b s r q d → Moves budget c s t p e → HadMemory r q → HadMemory t p → SameMove r q d t p e
+pub one_move : {limits : Limits} {b c d e : Book} {s : Step} {r t : List ℕ} {q p : Bool} → SameBook b c → Moves limits b s r q d → Moves limits c s t p e → HadMemory r q → HadMemory t p → SameMove r q d t p e
 one_move same move_without_memory k n m = absurd (n refl book_without_memory)
 one_move same turn_without_memory_named k n m = absurd (n refl book_without_memory)
 one_move same h move_without_memory n m = absurd (m refl book_without_memory)
@@ -116,9 +117,9 @@ one_move same (forwarding_refused {m = g} h) (forwarding_refused k) n m = refuse
 one_move same (forwarding_refused {m = g} h) (forwards k y) n m = not_both h (sym (same_forward same g) ∙ k)
 one_move same (forwards {m = g} h x) (forwarding_refused k) n m = not_both k (same_forward same g ∙ h)
 one_move same (forwards h x) (forwards k y) n m = done_alike (entered_once same x y)
-one_move {budget = budget} same (turn_refused {m = g} h) (turn_refused k) n m = refused_alike same (same_checkout same g budget) h k
-one_move {budget = budget} same (turn_refused {m = g} h) (turns k y) n m = not_both h (sym (same_checkout same g budget) ∙ k)
-one_move {budget = budget} same (turns {m = g} h x) (turn_refused k) n m = not_both k (same_checkout same g budget ∙ h)
+one_move {limits = limits} same (turn_refused {m = g} h) (turn_refused k) n m = refused_alike same (same_checkout same g limits.budget) h k
+one_move {limits = limits} same (turn_refused {m = g} h) (turns k y) n m = not_both h (sym (same_checkout same g limits.budget) ∙ k)
+one_move {limits = limits} same (turns {m = g} h x) (turn_refused k) n m = not_both k (same_checkout same g limits.budget ∙ h)
 one_move same (turns h x) (turns k y) n m = let one = turned_once same x y in record { reply = one.0; refusal = refl; book = one.1 }
 one_move same (learning_refused {v = v} {p = g} h) (learning_refused k) n m = refused_alike same (same_learning same v g) h k
 one_move same (learning_refused {v = v} {p = g} h) (learns k y) n m = not_both h (sym (same_learning same v g) ∙ k)
@@ -126,17 +127,17 @@ one_move same (learns {v = v} {p = g} h x) (learning_refused k) n m = not_both k
 one_move same (learns h x) (learns k y) n m = done_alike (entered_once same x y)
 
 -- the same move, of what is first
-move_as : {budget : ℕ} {b d : Book} {s t : Step} {r : List ℕ} {q : Bool} → t ≡ s → Moves budget b t r q d → Moves budget b s r q d
-move_as {budget = budget} {b = b} {d = d} {r = r} {q = q} e h = subst (λ (z : Step). Moves budget b z r q d) e h
+move_as : {limits : Limits} {b d : Book} {s t : Step} {r : List ℕ} {q : Bool} → t ≡ s → Moves limits b t r q d → Moves limits b s r q d
+move_as {limits = limits} {b = b} {d = d} {r = r} {q = q} e h = subst (λ (z : Step). Moves limits b z r q d) e h
 
 -- what is first in one book is done in both
-first_moves : {budget : ℕ} {b c d e : Book} {s u : Step} {r t : List ℕ} {q p : Bool} → SameBook b c → FirstIn b (Some s) → FirstIn c (Some u) → Moves budget b s r q d → Moves budget c u t p e
+first_moves : {limits : Limits} {b c d e : Book} {s u : Step} {r t : List ℕ} {q p : Bool} → SameBook b c → FirstIn b (Some s) → FirstIn c (Some u) → Moves limits b s r q d → Moves limits c u t p e
     → HadMemory r q → HadMemory t p → SameMove r q d t p e
 first_moves {b = b} {u = u} same f g h k n m = one_move same h (move_as (first_once b f (same_first same (Some u) g)) k) n m
 
 -- ---- steps, and whether one more may follow
 
-pub one_step : {budget : ℕ} {b c d e : Book} {r t : List ℕ} {q p more other : Bool} → SameBook b c → Steps budget b r q d more → Steps budget c t p e other → HadMemory r q → HadMemory t p
+pub one_step : {limits : Limits} {b c d e : Book} {r t : List ℕ} {q p more other : Bool} → SameBook b c → Steps limits b r q d more → Steps limits c t p e other → HadMemory r q → HadMemory t p
     → SameMove r q d t p e × (other ≡ more)
 one_step same step_without_memory k n m = absurd (n refl book_without_memory)
 one_step same h step_without_memory n m = absurd (m refl book_without_memory)
@@ -152,7 +153,7 @@ one_step same (step_idle f) (step_idle g) n m = (record { reply = refl; refusal 
 
 -- ---- runs
 
-pub runs_once : {budget n : ℕ} {b c d e : Book} {r t : List ℕ} {q p : Bool} → SameBook b c → Runs budget n b r q d → Runs budget n c t p e → ¬ EndsForWant r → ¬ EndsForWant t → SameMove r q d t p e
+pub runs_once : {limits : Limits} {n : ℕ} {b c d e : Book} {r t : List ℕ} {q p : Bool} → SameBook b c → Runs limits n b r q d → Runs limits n c t p e → ¬ EndsForWant r → ¬ EndsForWant t → SameMove r q d t p e
 runs_once same runs_out runs_out n m = record { reply = refl; refusal = refl; book = same }
 runs_once same (runs_on {reply = x} {replies = xs} h hs) (runs_on {reply = y} {replies = ys} k ks) n m =
     let one = (one_step same h k (goes_on h) (goes_on k)).0 in

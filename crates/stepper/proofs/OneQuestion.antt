@@ -27,6 +27,7 @@ use Rattle.stepper.specs.Laws.{SameBook, IsForWant, book_without_memory, text_wi
 use Rattle.stepper.proofs.SameBooks.{same_ask, same_birth}
 use Rattle.stepper.proofs.Entered.{entered_once}
 use Rattle.stepper.proofs.OneMove.{answer_once, refused_once, not_refused, not_accepted}
+use Rattle.stepper.specs.declared.engine.Limits.{Limits}
 
 -- ---- what is read of a text
 
@@ -69,7 +70,7 @@ asked_once : {b c d e : Book} {x : List ℕ} {ts us : Trees} {n m : EventName} {
 asked_once {c = c} {e = e} {x = x} {m = m} {u = u} books same h k =
     let one = entered_once books h (subst (λ (zs : Trees). EntersNext (record { name = m; act = ask x zs }) (ask_foot m x u zs) 0 c e) same k) in answer_once (ap queued_text (sym one.0)) one.1
 
-pub one_ask : {budget : ℕ} {b c d e : Book} {x text : List ℕ} {r t : List ℕ} {q p : Bool} → SameBook b c → Answers budget b (command.ask x text) r q d → Answers budget c (command.ask x text) t p e
+pub one_ask : {limits : Limits} {b c d e : Book} {x text : List ℕ} {r t : List ℕ} {q p : Bool} → SameBook b c → Answers limits b (command.ask x text) r q d → Answers limits c (command.ask x text) t p e
     → ¬ IsForWant r → ¬ IsForWant t → SameAnswer r q d t p e
 one_ask same ask_without_memory k n m = absurd (n book_without_memory)
 one_ask same asked_without_memory k n m = absurd (n text_without_memory)

@@ -28,6 +28,7 @@ use Rattle.commands.specs.declared.command.LineFault.{LineFault}
 use Rattle.stepper.specs.Replies.{Moves, move_without_memory, arrival_refused, arrives, forwarding_refused, forwards, turn_without_memory_named, turn_refused, turns, learning_refused, learns, Steps, step_done, step_refused, step_idle, step_without_memory, Runs, runs_out, runs_on, runs_last, Answers, arrive_moves, forward_moves, turn_moves, learn_without_memory, learn_refused, learn_accepted, stepped, runs, worked, work_refused, enabled_without_memory, enabled, ask_without_memory, asked_without_memory, asked_unread, ask_refused, ask_accepted, show_without_memory, shown, journal_without_memory, listed, log_without_memory, logged, cone_without_memory, cone_refused, cone_found, undo_without_memory, undo_refused, undo_accepted, undo_cone_without_memory, undo_cone_refused, undo_cone_found, redo_without_memory, redo_refused, redo_accepted, exchange_refused, exchange_accepted, settle_without_memory, settle_refused, settle_accepted, AnswersBirth, birth_without_memory, script_without_memory, script_refused, script_unread, birth_refused, birth_accepted, FirstReply, skipped, no_command, born, answered}
 use Rattle.stepper.specs.Laws.{IsTold, IsToldLine}
 use Rattle.stepper.proofs.VatNames.{run_names_vats_once}
+use Rattle.stepper.specs.declared.engine.Limits.{Limits}
 
 -- the numbers of events
 abbrev numbers : List Line → List ℕ
@@ -190,7 +191,7 @@ reached_exchanged {old = old} {now = now} (suc n) r none h =
 
 -- ---- answers
 
-reached_moved : {budget : ℕ} {b d : Book} {s : Step} {reply : List ℕ} {q : Bool} → Reached b → Moves budget b s reply q d → Reached d
+reached_moved : {limits : Limits} {b d : Book} {s : Step} {reply : List ℕ} {q : Bool} → Reached b → Moves limits b s reply q d → Reached d
 reached_moved r move_without_memory = r
 reached_moved r (arrival_refused h) = r
 reached_moved r (arrives h x) = reached_next r x
@@ -202,18 +203,18 @@ reached_moved r (turns h x) = reached_entered r x.named x.drawn x.enters.enters
 reached_moved r (learning_refused h) = r
 reached_moved r (learns h x) = reached_next r x
 
-reached_stepped : {budget : ℕ} {b d : Book} {reply : List ℕ} {q more : Bool} → Reached b → Steps budget b reply q d more → Reached d
+reached_stepped : {limits : Limits} {b d : Book} {reply : List ℕ} {q more : Bool} → Reached b → Steps limits b reply q d more → Reached d
 reached_stepped r (step_done f h) = reached_moved r h
 reached_stepped r (step_refused f h) = reached_moved r h
 reached_stepped r (step_idle f) = r
 reached_stepped r step_without_memory = r
 
-reached_run : {budget n : ℕ} {b d : Book} {reply : List ℕ} {q : Bool} → Reached b → Runs budget n b reply q d → Reached d
+reached_run : {limits : Limits} {n : ℕ} {b d : Book} {reply : List ℕ} {q : Bool} → Reached b → Runs limits n b reply q d → Reached d
 reached_run r runs_out = r
 reached_run r (runs_on h hs) = reached_run (reached_stepped r h) hs
 reached_run r (runs_last h) = reached_stepped r h
 
-reached_answered : {budget : ℕ} {b d : Book} {x : Spelled} {reply : List ℕ} {q : Bool} → Reached b → IsTold x → Answers budget b x reply q d → Reached d
+reached_answered : {limits : Limits} {b d : Book} {x : Spelled} {reply : List ℕ} {q : Bool} → Reached b → IsTold x → Answers limits b x reply q d → Reached d
 reached_answered r told (arrive_moves h) = reached_moved r h
 reached_answered r told (forward_moves h) = reached_moved r h
 reached_answered r told (turn_moves h) = reached_moved r h
@@ -222,7 +223,7 @@ reached_answered r told (learn_refused h) = r
 reached_answered r told (learn_accepted h) = reached_next r h.enters
 reached_answered r told (stepped h) = reached_stepped r h
 reached_answered r told (runs h) = reached_run r h
-reached_answered r told (worked many h) = absurd told
+reached_answered r told (worked h) = absurd told
 reached_answered r told (work_refused fault h) = absurd told
 reached_answered r told enabled_without_memory = r
 reached_answered r told (enabled h x) = r
@@ -263,7 +264,7 @@ reached_born r (script_unread h) = r
 reached_born r (birth_refused h x) = r
 reached_born r (birth_accepted vats h x y) = reached_next r y
 
-pub reached_first : {budget : ℕ} {b d : Book} {says : Result (Option Spelled) LineFault} {input rest reply : List ℕ} {q : Bool} → Reached b → IsToldLine says → FirstReply budget b says input reply q d rest → Reached d
+pub reached_first : {limits : Limits} {b d : Book} {says : Result (Option Spelled) LineFault} {input rest reply : List ℕ} {q : Bool} → Reached b → IsToldLine says → FirstReply limits b says input reply q d rest → Reached d
 reached_first r told skipped = r
 reached_first r told no_command = r
 reached_first r told (born h) = reached_born r h

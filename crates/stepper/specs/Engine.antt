@@ -16,8 +16,8 @@ module _ {W : Type 0} (contents : W → Option (List ℕ)) where
     pub allowed : Allowed (book_of old.book) reply refusal (book_of new.book)
     pub tells : Tells contents sink after reply
     pub refused : is_cut after ≡ false → new.written.refused ≡ (old.written.refused || refusal)
-    pub budget : new.budget ≡ old.budget
+    pub limits : new.limits ≡ old.limits
 
   -- something was done, or was refused
   abbrev pub Moved : Engine → Engine → Outlet W → Outlet W → Step → Bool → Type 0
-  Moved old new sink after step done = Happens old new sink after (λ b r s d. (s ≡ not done) × Moves old.budget b step r s d)
+  Moved old new sink after step done = Happens old new sink after (λ b r s d. (s ≡ not done) × Moves old.limits b step r s d)

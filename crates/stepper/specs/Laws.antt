@@ -13,6 +13,7 @@ use Rattle.commands.specs.Commands as command
 use Rattle.commands.specs.Commands.{Spelled}
 use Rattle.commands.specs.declared.command.LineFault.{LineFault}
 use Rattle.stepper.specs.Replies.{refused, Answers, AnswersBirth, said, Replies, no_more, first_and_more, RepliesBefore}
+use Rattle.stepper.specs.declared.engine.Limits.{Limits}
 
 -- two lines of a journal tell the same: one event from one seat, live or undone, with the same causes, which touched and wrote the same cells
 pub record SameLine (l m : Line) : Type 0 where
@@ -68,7 +69,7 @@ IsTold _ = Unit {0}
 
 -- books that are the same, and good, have one answer at most to a command, where memory does not run out; each book is the same as itself
 abbrev pub OneAnswer : Type 0
-OneAnswer = (budget : ℕ) (b c : Book) (x : Spelled) (r s : List ℕ) (q p : Bool) (d e : Book) → IsGood b → SameBook b c → IsTold x → Answers budget b x r q d → Answers budget c x s p e
+OneAnswer = (limits : Limits) (b c : Book) (x : Spelled) (r s : List ℕ) (q p : Bool) (d e : Book) → IsGood b → SameBook b c → IsTold x → Answers limits b x r q d → Answers limits c x s p e
     → ¬ EndsForWant r → ¬ EndsForWant s → SameAnswer r q d s p e
 
 -- so has a new vat
@@ -82,7 +83,7 @@ IsToldLine (Ok (Some x)) = IsTold x
 IsToldLine _ = Unit {0}
 
 -- of the replies to a whole input: none ends for want of memory, and none is to `work`
-abbrev pub AllTold : {budget : ℕ} {b d : Book} {input replies : List ℕ} {refusal : Bool} → Replies budget b input replies refusal d → Type 0
+abbrev pub AllTold : {limits : Limits} {b d : Book} {input replies : List ℕ} {refusal : Bool} → Replies limits b input replies refusal d → Type 0
 AllTold no_more = Unit {0}
 AllTold (first_and_more {input = input} {reply = reply} some first more) = IsToldLine (said input) × (¬ EndsForWant reply) × AllTold more
 
@@ -100,8 +101,8 @@ pub record SameRun (rs : List ℕ) (q : Bool) (b : Book) (ss : List ℕ) (p : Bo
 -- A whole input has one text of replies at most, where none ends for want of memory and none is to `work`: from the blank book on, each reply,
 -- and in the end the book, is a function of the input.
 abbrev pub InputsHaveOneText : Type 0
-InputsHaveOneText = (budget : ℕ) (input rs ss : List ℕ) (q p : Bool) (d e : Book) (h : Replies budget blank input rs q d) (k : Replies budget blank input ss p e) → AllTold h → AllTold k → SameRun rs q d ss p e
+InputsHaveOneText = (limits : Limits) (input rs ss : List ℕ) (q p : Bool) (d e : Book) (h : Replies limits blank input rs q d) (k : Replies limits blank input ss p e) → AllTold h → AllTold k → SameRun rs q d ss p e
 
 -- the replies to whole commands, behind which nothing is left, are those to a whole input
 abbrev pub WholeOnesAreAll : Type 0
-WholeOnesAreAll = (budget : ℕ) (b d : Book) (input replies : List ℕ) (refusal : Bool) → RepliesBefore budget b input replies refusal d [] → Replies budget b input replies refusal d
+WholeOnesAreAll = (limits : Limits) (b d : Book) (input replies : List ℕ) (refusal : Bool) → RepliesBefore limits b input replies refusal d [] → Replies limits b input replies refusal d

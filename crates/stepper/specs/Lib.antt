@@ -1,4 +1,3 @@
-pub mod Crew
 pub mod Ended
 pub mod Engine
 pub mod Fault

@@ -1,5 +1,5 @@
 -- The replies to a text of commands.
-use Rattle.std.specs.Prelude.{◌≡◌, ℕ, suc, ◌+◌, ◌<◌, ◌≤◌, List, [], ◌∷◌, ◌++◌, length, filter, count_by, IsSome, Bool, true, false, ◌||◌, Option, Some, None, Result, Ok, Err, codes}
+use Rattle.std.specs.Prelude.{◌≡◌, ℕ, suc, ◌+◌, ◌<◌, ◌≤◌, min, List, [], ◌∷◌, ◌++◌, length, filter, count_by, IsSome, Bool, true, false, ◌||◌, Option, Some, None, Result, Ok, Err, codes}
 use Rattle.std.specs.Fmt.{decimal}
 use Rattle.ids.specs.Names.{event_text, message_text}
 use Rattle.ids.specs.Quoted.{quoted}
@@ -44,8 +44,9 @@ use Rattle.causewaylog.specs.Log.{log_text}
 use Rattle.printing.specs.Listing.{journal_text, cone_text}
 use Rattle.printing.specs.Steps.{ShowsEnabled}
 use Rattle.commands.specs.declared.command.LineFault.{LineFault}
-use Rattle.stepper.specs.Crew.{Keeps, worked_text}
+use Rattle.crew.specs.Work.{Worked, RefusesWork}
 use Rattle.book.specs.declared.fault.WorkFault.{WorkFault}
+use Rattle.stepper.specs.declared.engine.Limits.{Limits}
 
 -- no CODE NAME ARGS
 abbrev pub refused : List ℕ → List ℕ
@@ -93,27 +94,31 @@ exchanged_text e f = codes "ok exchanged " ++ (event_text e ++ (codes " " ++ (ev
 abbrev pub settled_text : ℕ → List ℕ
 settled_text position = codes "ok settled " ++ (decimal position ++ 10 ∷ [])
 
+-- ok work TURNS
+abbrev pub worked_text : ℕ → List ℕ
+worked_text turns = codes "ok work " ++ (decimal turns ++ 10 ∷ [])
+
 -- a log, and the end of the line
 abbrev pub logged_text : List ℕ → List ℕ
 logged_text text = text ++ 10 ∷ []
 
--- With a budget for each turn: something that may be done leads from a book to a reply, refused or not, and a book.
+-- With the options' limits: something that may be done leads from a book to a reply, refused or not, and a book.
 -- Want of memory may refuse what needs it; the book then is as it was, but for a name that a turn may have drawn.
-pub data Moves (budget : ℕ) : Book → Step → List ℕ → Bool → Book → Type 0 where
-  move_without_memory : {b : Book} {s : Step} → Moves budget b s (refused (no_memory)) true b
-  arrival_refused : {b : Book} {m : MsgId} {r : Refusal} → arrival_refusal b m ≡ Some r → Moves budget b (step.Arrive m) (refused (refusal_text r)) true b
+pub data Moves (limits : Limits) : Book → Step → List ℕ → Bool → Book → Type 0 where
+  move_without_memory : {b : Book} {s : Step} → Moves limits b s (refused (no_memory)) true b
+  arrival_refused : {b : Book} {m : MsgId} {r : Refusal} → arrival_refusal b m ≡ Some r → Moves limits b (step.Arrive m) (refused (refusal_text r)) true b
   arrives : {b d : Book} {m : MsgId} {e : EventName} {f : Foot} → arrival_refusal b m ≡ None → EntersNext (record { name = e; act = arrive m }) f 0 b d
-      → Moves budget b (step.Arrive m) (done_text e) false d
-  forwarding_refused : {b : Book} {m : MsgId} {r : Refusal} → forward_refusal b m ≡ Some r → Moves budget b (step.Forward m) (refused (refusal_text r)) true b
+      → Moves limits b (step.Arrive m) (done_text e) false d
+  forwarding_refused : {b : Book} {m : MsgId} {r : Refusal} → forward_refusal b m ≡ Some r → Moves limits b (step.Forward m) (refused (refusal_text r)) true b
   forwards : {b d : Book} {m : MsgId} {e : EventName} {f : Foot} → forward_refusal b m ≡ None → EntersNext (record { name = e; act = forward m }) f 0 b d
-      → Moves budget b (step.Forward m) (done_text e) false d
-  turn_without_memory_named : {b : Book} {m : MsgId} → Moves budget b (step.Turn m) (refused (no_memory)) true (record b { next = b.next + 1 })
-  turn_refused : {b : Book} {m : MsgId} {r : Refusal} → checkout_refusal b m budget ≡ Some r → Moves budget b (step.Turn m) (refused (refusal_text r)) true b
-  turns : {b d : Book} {m : MsgId} {e : EventName} {t : Turn} → checkout_refusal b m budget ≡ None → TurnsNext e m budget t b d
-      → Moves budget b (step.Turn m) (turned_text e t.outcome.told) false d
-  learning_refused : {b : Book} {v : VatNo} {p : PromId} {r : Refusal} → learning_refusal b v p ≡ Some r → Moves budget b (step.Learn v p) (refused (refusal_text r)) true b
+      → Moves limits b (step.Forward m) (done_text e) false d
+  turn_without_memory_named : {b : Book} {m : MsgId} → Moves limits b (step.Turn m) (refused (no_memory)) true (record b { next = b.next + 1 })
+  turn_refused : {b : Book} {m : MsgId} {r : Refusal} → checkout_refusal b m limits.budget ≡ Some r → Moves limits b (step.Turn m) (refused (refusal_text r)) true b
+  turns : {b d : Book} {m : MsgId} {e : EventName} {t : Turn} → checkout_refusal b m limits.budget ≡ None → TurnsNext e m limits.budget t b d
+      → Moves limits b (step.Turn m) (turned_text e t.outcome.told) false d
+  learning_refused : {b : Book} {v : VatNo} {p : PromId} {r : Refusal} → learning_refusal b v p ≡ Some r → Moves limits b (step.Learn v p) (refused (refusal_text r)) true b
   learns : {b d : Book} {v : VatNo} {p : PromId} {e : EventName} {f : Foot} → learning_refusal b v p ≡ None → EntersNext (record { name = e; act = learn v p }) f 0 b d
-      → Moves budget b (step.Learn v p) (done_text e) false d
+      → Moves limits b (step.Learn v p) (done_text e) false d
 
 -- the first that may be done in a book, and all of it
 abbrev pub FirstIn : Book → Option Step → Type 0
@@ -124,68 +129,68 @@ EnabledIn b steps = Enabled b.world (λ v. has_vat v b.out) steps
 
 -- one step is the first that may be done; then a next one may follow, unless nothing was found or it was refused. Without memory it is not
 -- known what may be done.
-pub data Steps (budget : ℕ) : Book → List ℕ → Bool → Book → Bool → Type 0 where
-  step_done : {b d : Book} {s : Step} {reply : List ℕ} → FirstIn b (Some s) → Moves budget b s reply false d → Steps budget b reply false d true
-  step_refused : {b d : Book} {s : Step} {reply : List ℕ} → FirstIn b (Some s) → Moves budget b s reply true d → Steps budget b reply true d false
-  step_idle : {b : Book} → FirstIn b None → Steps budget b idle_text false b false
-  step_without_memory : {b : Book} → Steps budget b (refused (no_memory)) true b false
+pub data Steps (limits : Limits) : Book → List ℕ → Bool → Book → Bool → Type 0 where
+  step_done : {b d : Book} {s : Step} {reply : List ℕ} → FirstIn b (Some s) → Moves limits b s reply false d → Steps limits b reply false d true
+  step_refused : {b d : Book} {s : Step} {reply : List ℕ} → FirstIn b (Some s) → Moves limits b s reply true d → Steps limits b reply true d false
+  step_idle : {b : Book} → FirstIn b None → Steps limits b idle_text false b false
+  step_without_memory : {b : Book} → Steps limits b (refused (no_memory)) true b false
 
 -- so many steps, up to one behind which none follows
-pub data Runs (budget : ℕ) : ℕ → Book → List ℕ → Bool → Book → Type 0 where
-  runs_out : {b : Book} → Runs budget 0 b [] false b
-  runs_on : {n : ℕ} {b c d : Book} {reply replies : List ℕ} {q r : Bool} → Steps budget b reply q c true → Runs budget n c replies r d → Runs budget (suc n) b (reply ++ replies) (q || r) d
-  runs_last : {n : ℕ} {b d : Book} {reply : List ℕ} {r : Bool} → Steps budget b reply r d false → Runs budget (suc n) b reply r d
+pub data Runs (limits : Limits) : ℕ → Book → List ℕ → Bool → Book → Type 0 where
+  runs_out : {b : Book} → Runs limits 0 b [] false b
+  runs_on : {n : ℕ} {b c d : Book} {reply replies : List ℕ} {q r : Bool} → Steps limits b reply q c true → Runs limits n c replies r d → Runs limits (suc n) b (reply ++ replies) (q || r) d
+  runs_last : {n : ℕ} {b d : Book} {reply : List ℕ} {r : Bool} → Steps limits b reply r d false → Runs limits (suc n) b reply r d
 
--- With a budget for each turn: a command leads from a book to a reply, refused or not, and a book.
-pub data Answers (budget : ℕ) : Book → Spelled → List ℕ → Bool → Book → Type 0 where
-  arrive_moves : {b d : Book} {m : MsgId} {reply : List ℕ} {r : Bool} → Moves budget b (step.Arrive m) reply r d → Answers budget b (command.arrive m) reply r d
-  forward_moves : {b d : Book} {m : MsgId} {reply : List ℕ} {r : Bool} → Moves budget b (step.Forward m) reply r d → Answers budget b (command.forward m) reply r d
-  turn_moves : {b d : Book} {m : MsgId} {reply : List ℕ} {r : Bool} → Moves budget b (step.Turn m) reply r d → Answers budget b (command.turn m) reply r d
-  learn_without_memory : {b : Book} {x : List ℕ} {n : PromiseName} → Answers budget b (command.learn x n) (refused (no_memory)) true b
-  learn_refused : {b : Book} {x : List ℕ} {n : PromiseName} {r : Refusal} → RefusesNamed b x n.event n.index r → Answers budget b (command.learn x n) (refused (refusal_text r)) true b
-  learn_accepted : {b d : Book} {x : List ℕ} {n : PromiseName} {e : EventName} → LearnsNamed x n.event n.index e b d → Answers budget b (command.learn x n) (done_text e) false d
-  stepped : {b d : Book} {reply : List ℕ} {r more : Bool} → Steps budget b reply r d more → Answers budget b command.step reply r d
-  runs : {b d : Book} {n : ℕ} {reply : List ℕ} {r : Bool} → Runs budget n b reply r d → Answers budget b (command.run n) reply r d
-  -- what workers enter, and in what order, is not said: but all from before is there still, also where not one could be started
-  worked : {b d : Book} {k n : ℕ} (turns : ℕ) → Keeps b d → Answers budget b (command.work k n) (worked_text turns) false d
-  work_refused : {b d : Book} {k n : ℕ} (fault : WorkFault) → Keeps b d → Answers budget b (command.work k n) (refused (work_text fault)) true d
-  enabled_without_memory : {b : Book} → Answers budget b command.enabled (refused (no_memory)) true b
-  enabled : {b : Book} {found : List Step} {text : List ℕ} → EnabledIn b found → ShowsEnabled b.world found text → Answers budget b command.enabled text false b
-  ask_without_memory : {b : Book} {x text : List ℕ} → Answers budget b (command.ask x text) (refused (no_memory)) true b
-  asked_without_memory : {b : Book} {x text : List ℕ} → Answers budget b (command.ask x text) (refused (reading.shown read_fault.Memory)) true b
-  asked_unread : {b : Book} {x text : List ℕ} {f : ReadFault} → ReadAs text (Err f) → Answers budget b (command.ask x text) (refused (reading.shown f)) true b
+-- With the options' limits: a command leads from a book to a reply, refused or not, and a book.
+pub data Answers (limits : Limits) : Book → Spelled → List ℕ → Bool → Book → Type 0 where
+  arrive_moves : {b d : Book} {m : MsgId} {reply : List ℕ} {r : Bool} → Moves limits b (step.Arrive m) reply r d → Answers limits b (command.arrive m) reply r d
+  forward_moves : {b d : Book} {m : MsgId} {reply : List ℕ} {r : Bool} → Moves limits b (step.Forward m) reply r d → Answers limits b (command.forward m) reply r d
+  turn_moves : {b d : Book} {m : MsgId} {reply : List ℕ} {r : Bool} → Moves limits b (step.Turn m) reply r d → Answers limits b (command.turn m) reply r d
+  learn_without_memory : {b : Book} {x : List ℕ} {n : PromiseName} → Answers limits b (command.learn x n) (refused (no_memory)) true b
+  learn_refused : {b : Book} {x : List ℕ} {n : PromiseName} {r : Refusal} → RefusesNamed b x n.event n.index r → Answers limits b (command.learn x n) (refused (refusal_text r)) true b
+  learn_accepted : {b d : Book} {x : List ℕ} {n : PromiseName} {e : EventName} → LearnsNamed x n.event n.index e b d → Answers limits b (command.learn x n) (done_text e) false d
+  stepped : {b d : Book} {reply : List ℕ} {r more : Bool} → Steps limits b reply r d more → Answers limits b command.step reply r d
+  runs : {b d : Book} {n : ℕ} {reply : List ℕ} {r : Bool} → Runs limits n b reply r d → Answers limits b (command.run n) reply r d
+  -- what workers enter, and in what order, is not said, but that it is what `Worked` allows
+  worked : {b d : Book} {k n turns : ℕ} → Worked (min k limits.workers) n turns b d → Answers limits b (command.work k n) (worked_text turns) false d
+  work_refused : {b : Book} {k n : ℕ} (fault : WorkFault) → RefusesWork limits.budget fault → Answers limits b (command.work k n) (refused (work_text fault)) true b
+  enabled_without_memory : {b : Book} → Answers limits b command.enabled (refused (no_memory)) true b
+  enabled : {b : Book} {found : List Step} {text : List ℕ} → EnabledIn b found → ShowsEnabled b.world found text → Answers limits b command.enabled text false b
+  ask_without_memory : {b : Book} {x text : List ℕ} → Answers limits b (command.ask x text) (refused (no_memory)) true b
+  asked_without_memory : {b : Book} {x text : List ℕ} → Answers limits b (command.ask x text) (refused (reading.shown read_fault.Memory)) true b
+  asked_unread : {b : Book} {x text : List ℕ} {f : ReadFault} → ReadAs text (Err f) → Answers limits b (command.ask x text) (refused (reading.shown f)) true b
   ask_refused : {b : Book} {x text : List ℕ} {program : Trees} {r : Refusal} → ReadAs text (Ok program) → ask_refusal b x program ≡ Some r
-      → Answers budget b (command.ask x text) (refused (refusal_text r)) true b
+      → Answers limits b (command.ask x text) (refused (refusal_text r)) true b
   ask_accepted : {b d : Book} {x text : List ℕ} {program : Trees} {e : EventName} {v : VatNo} → ReadAs text (Ok program) → ask_refusal b x program ≡ None
-      → EntersNext (record { name = e; act = ask x program }) (ask_foot e x v program) 0 b d → Answers budget b (command.ask x text) (queued_text e) false d
-  show_without_memory : {b : Book} → Answers budget b command.show (refused (no_memory)) true b
-  shown : {b : Book} {text : List ℕ} → Shows b.world text → Answers budget b command.show text false b
-  journal_without_memory : {b : Book} → Answers budget b command.journal (refused (no_memory)) true b
-  listed : {b : Book} → Answers budget b command.journal (journal_text b.settled b.journal) false b
-  log_without_memory : {b : Book} {x : List ℕ} → Answers budget b (command.log x) (refused (no_memory)) true b
-  logged : {b : Book} {x : List ℕ} → Answers budget b (command.log x) (logged_text (log_text x (live_in (settled_lines b)) (live_in (open_lines b)))) false b
-  cone_without_memory : {b : Book} {e : EventName} → Answers budget b (command.cone e) (refused (no_memory)) true b
-  cone_refused : {b : Book} {e : EventName} {r : Refusal} → cone_refusal b.settled b.journal e ≡ Some r → Answers budget b (command.cone e) (refused (refusal_text r)) true b
-  cone_found : {b : Book} {e : EventName} {names : List EventName} → cone_refusal b.settled b.journal e ≡ None → Cone b.journal e names → Answers budget b (command.cone e) (cone_text names) false b
-  undo_without_memory : {b : Book} {events : List EventName} → Answers budget b (command.undo events) (refused (no_memory)) true b
-  undo_refused : {b : Book} {events : List EventName} {r : Refusal} → undo_refusal b.settled b.journal events ≡ Some r → Answers budget b (command.undo events) (refused (refusal_text r)) true b
+      → EntersNext (record { name = e; act = ask x program }) (ask_foot e x v program) 0 b d → Answers limits b (command.ask x text) (queued_text e) false d
+  show_without_memory : {b : Book} → Answers limits b command.show (refused (no_memory)) true b
+  shown : {b : Book} {text : List ℕ} → Shows b.world text → Answers limits b command.show text false b
+  journal_without_memory : {b : Book} → Answers limits b command.journal (refused (no_memory)) true b
+  listed : {b : Book} → Answers limits b command.journal (journal_text b.settled b.journal) false b
+  log_without_memory : {b : Book} {x : List ℕ} → Answers limits b (command.log x) (refused (no_memory)) true b
+  logged : {b : Book} {x : List ℕ} → Answers limits b (command.log x) (logged_text (log_text x (live_in (settled_lines b)) (live_in (open_lines b)))) false b
+  cone_without_memory : {b : Book} {e : EventName} → Answers limits b (command.cone e) (refused (no_memory)) true b
+  cone_refused : {b : Book} {e : EventName} {r : Refusal} → cone_refusal b.settled b.journal e ≡ Some r → Answers limits b (command.cone e) (refused (refusal_text r)) true b
+  cone_found : {b : Book} {e : EventName} {names : List EventName} → cone_refusal b.settled b.journal e ≡ None → Cone b.journal e names → Answers limits b (command.cone e) (cone_text names) false b
+  undo_without_memory : {b : Book} {events : List EventName} → Answers limits b (command.undo events) (refused (no_memory)) true b
+  undo_refused : {b : Book} {events : List EventName} {r : Refusal} → undo_refusal b.settled b.journal events ≡ Some r → Answers limits b (command.undo events) (refused (refusal_text r)) true b
   undo_accepted : {b d : Book} {events : List EventName} → undo_refusal b.settled b.journal events ≡ None → Undoes events b d
-      → Answers budget b (command.undo events) (undone_text (count_of events b.journal)) false d
-  undo_cone_without_memory : {b : Book} {e : EventName} → Answers budget b (command.undo_cone e) (refused (no_memory)) true b
-  undo_cone_refused : {b : Book} {e : EventName} {r : Refusal} → cone_refusal b.settled b.journal e ≡ Some r → Answers budget b (command.undo_cone e) (refused (refusal_text r)) true b
+      → Answers limits b (command.undo events) (undone_text (count_of events b.journal)) false d
+  undo_cone_without_memory : {b : Book} {e : EventName} → Answers limits b (command.undo_cone e) (refused (no_memory)) true b
+  undo_cone_refused : {b : Book} {e : EventName} {r : Refusal} → cone_refusal b.settled b.journal e ≡ Some r → Answers limits b (command.undo_cone e) (refused (refusal_text r)) true b
   -- the cone is undone as if its events were named
   undo_cone_found : {b d : Book} {e : EventName} {events : List EventName} {reply : List ℕ} {refusal : Bool} → cone_refusal b.settled b.journal e ≡ None → Cone b.journal e events
-      → Answers budget b (command.undo events) reply refusal d → Answers budget b (command.undo_cone e) reply refusal d
-  redo_without_memory : {b : Book} {events : List EventName} → Answers budget b (command.redo events) (refused (no_memory)) true b
-  redo_refused : {b : Book} {events : List EventName} {r : Refusal} → redo_refusal b.settled b.journal events ≡ Some r → Answers budget b (command.redo events) (refused (refusal_text r)) true b
+      → Answers limits b (command.undo events) reply refusal d → Answers limits b (command.undo_cone e) reply refusal d
+  redo_without_memory : {b : Book} {events : List EventName} → Answers limits b (command.redo events) (refused (no_memory)) true b
+  redo_refused : {b : Book} {events : List EventName} {r : Refusal} → redo_refusal b.settled b.journal events ≡ Some r → Answers limits b (command.redo events) (refused (refusal_text r)) true b
   redo_accepted : {b d : Book} {events : List EventName} → redo_refusal b.settled b.journal events ≡ None → Redoes events b d
-      → Answers budget b (command.redo events) (redone_text (count_of events b.journal)) false d
-  exchange_refused : {b : Book} {position : ℕ} {r : Refusal} → exchange_refusal b.settled b.journal position ≡ Some r → Answers budget b (command.exchange position) (refused (refusal_text r)) true b
+      → Answers limits b (command.redo events) (redone_text (count_of events b.journal)) false d
+  exchange_refused : {b : Book} {position : ℕ} {r : Refusal} → exchange_refusal b.settled b.journal position ≡ Some r → Answers limits b (command.exchange position) (refused (refusal_text r)) true b
   exchange_accepted : {b d : Book} {position : ℕ} {e f : EventName} → exchange_refusal b.settled b.journal position ≡ None → Exchanges position b d → StoodAt position b.journal e f
-      → Answers budget b (command.exchange position) (exchanged_text e f) false d
-  settle_without_memory : {b : Book} {position : ℕ} → Answers budget b (command.settle position) (refused (no_memory)) true b
-  settle_refused : {b : Book} {position : ℕ} {r : Refusal} → settle_refusal b.settled b.journal position ≡ Some r → Answers budget b (command.settle position) (refused (refusal_text r)) true b
-  settle_accepted : {b d : Book} {position : ℕ} → settle_refusal b.settled b.journal position ≡ None → Settles position b d → Answers budget b (command.settle position) (settled_text position) false d
+      → Answers limits b (command.exchange position) (exchanged_text e f) false d
+  settle_without_memory : {b : Book} {position : ℕ} → Answers limits b (command.settle position) (refused (no_memory)) true b
+  settle_refused : {b : Book} {position : ℕ} {r : Refusal} → settle_refusal b.settled b.journal position ≡ Some r → Answers limits b (command.settle position) (refused (refusal_text r)) true b
+  settle_accepted : {b d : Book} {position : ℕ} → settle_refusal b.settled b.journal position ≡ None → Settles position b d → Answers limits b (command.settle position) (settled_text position) false d
 
 -- the same for a vat whose script was taken from the lines behind the command
 pub data AnswersBirth : Book → List ℕ → List (List ℕ) → Result (List ℕ) LineFault → List ℕ → Bool → Book → Type 0 where
@@ -207,19 +212,19 @@ abbrev pub said : List ℕ → Result (Option Spelled) LineFault
 said input = said_by (fault_of input) (line_of input)
 
 -- the reply to the first line of an input, with its script; then the book, and the input that is left
-pub data FirstReply (budget : ℕ) : Book → Result (Option Spelled) LineFault → List ℕ → List ℕ → Bool → Book → List ℕ → Type 0 where
-  skipped : {b : Book} {input : List ℕ} → FirstReply budget b (Ok None) input [] false b input
-  no_command : {b : Book} {f : LineFault} {input : List ℕ} → FirstReply budget b (Err f) input (refused (fault_text f)) true b input
+pub data FirstReply (limits : Limits) : Book → Result (Option Spelled) LineFault → List ℕ → List ℕ → Bool → Book → List ℕ → Type 0 where
+  skipped : {b : Book} {input : List ℕ} → FirstReply limits b (Ok None) input [] false b input
+  no_command : {b : Book} {f : LineFault} {input : List ℕ} → FirstReply limits b (Err f) input (refused (fault_text f)) true b input
   born : {b d : Book} {x : List ℕ} {earlier : List (List ℕ)} {lines : ℕ} {input reply : List ℕ} {refusal : Bool}
-      → AnswersBirth b x earlier (script_of lines input) reply refusal d → FirstReply budget b (Ok (Some (command.birth x earlier lines))) input reply refusal d (behind_lines lines input)
+      → AnswersBirth b x earlier (script_of lines input) reply refusal d → FirstReply limits b (Ok (Some (command.birth x earlier lines))) input reply refusal d (behind_lines lines input)
   answered : {b d : Book} {c : Spelled} {input reply : List ℕ} {refusal : Bool}
-      → Answers budget b c reply refusal d → FirstReply budget b (Ok (Some c)) input reply refusal d input
+      → Answers limits b c reply refusal d → FirstReply limits b (Ok (Some c)) input reply refusal d input
 
 -- the replies to a whole input, one after another; whether one is a refusal; and the book in the end
-pub data Replies (budget : ℕ) : Book → List ℕ → List ℕ → Bool → Book → Type 0 where
-  no_more : {b : Book} → Replies budget b [] [] false b
+pub data Replies (limits : Limits) : Book → List ℕ → List ℕ → Bool → Book → Type 0 where
+  no_more : {b : Book} → Replies limits b [] [] false b
   first_and_more : {b c d : Book} {input rest reply replies : List ℕ} {r s : Bool} → 0 < length input
-      → FirstReply budget b (said input) (behind_line input) reply r c rest → Replies budget c rest replies s d → Replies budget b input (reply ++ replies) (r || s) d
+      → FirstReply limits b (said input) (behind_line input) reply r c rest → Replies limits c rest replies s d → Replies limits b input (reply ++ replies) (r || s) d
 
 -- how many lines of a script follow a line that says this
 abbrev pub script_lines : Result (Option Spelled) LineFault → ℕ
@@ -237,12 +242,12 @@ pub record IsWhole (bytes : List ℕ) : Type 0 where
 
 -- The replies to the first commands of an input, one after another, each of which is whole; whether one is a refusal; the book then, and
 -- the input that is left.
-pub data RepliesBefore (budget : ℕ) : Book → List ℕ → List ℕ → Bool → Book → List ℕ → Type 0 where
-  none_yet : {b : Book} {input : List ℕ} → RepliesBefore budget b input [] false b input
+pub data RepliesBefore (limits : Limits) : Book → List ℕ → List ℕ → Bool → Book → List ℕ → Type 0 where
+  none_yet : {b : Book} {input : List ℕ} → RepliesBefore limits b input [] false b input
   whole_and_more : {b c d : Book} {input rest left reply replies : List ℕ} {r s : Bool} → IsWhole input
-      → FirstReply budget b (said input) (behind_line input) reply r c rest → RepliesBefore budget c rest replies s d left → RepliesBefore budget b input (reply ++ replies) (r || s) d left
+      → FirstReply limits b (said input) (behind_line input) reply r c rest → RepliesBefore limits c rest replies s d left → RepliesBefore limits b input (reply ++ replies) (r || s) d left
 
 -- The replies to the commands that bytes hold, and to no part of another: each command is whole, or the input ends behind the bytes.
-pub data RepliesToAll (budget : ℕ) (bytes : List ℕ) (IsLast : Type 0) (replies : List ℕ) (refused : Bool) (d : Book) : Type 0 where
-  whole_ones : RepliesBefore budget blank bytes replies refused d [] → RepliesToAll budget bytes IsLast replies refused d
-  with_last : IsLast → Replies budget blank bytes replies refused d → RepliesToAll budget bytes IsLast replies refused d
+pub data RepliesToAll (limits : Limits) (bytes : List ℕ) (IsLast : Type 0) (replies : List ℕ) (refused : Bool) (d : Book) : Type 0 where
+  whole_ones : RepliesBefore limits blank bytes replies refused d [] → RepliesToAll limits bytes IsLast replies refused d
+  with_last : IsLast → Replies limits blank bytes replies refused d → RepliesToAll limits bytes IsLast replies refused d

@@ -10,8 +10,9 @@ use Rattle.streams.specs.declared.outlet.Outlet.{Outlet}
 use Rattle.stepper.specs.Replies.{Replies, RepliesBefore, RepliesToAll, IsWhole}
 use Rattle.stepper.specs.declared.fault.Fault.{Fault}
 use Rattle.stepper.specs.declared.fault.Fault.TheVariants.{Reader, Writer, Memory}
+use Rattle.stepper.specs.declared.engine.Limits.{Limits}
 
-module _ {R W : Type 0} (remaining : R → Option (List ℕ)) (contents : W → Option (List ℕ)) (budget : ℕ) (source later : Lines R) (sink after : Outlet W) where
+module _ {R W : Type 0} (remaining : R → Option (List ℕ)) (contents : W → Option (List ℕ)) (limits : Limits) (source later : Lines R) (sink after : Outlet W) where
   -- the whole input was read, and just the replies to it were given; no read and no write failed, and there was room for each line
   pub record RunsToEnd (refused : Bool) : Type 0 where
     pub input : List ℕ
@@ -19,7 +20,7 @@ module _ {R W : Type 0} (remaining : R → Option (List ℕ)) (contents : W → 
     pub end : IsAtEnd (unread remaining later)
     pub text : List ℕ
     pub book : Book
-    pub replies : Replies budget blank input text refused book
+    pub replies : Replies limits blank input text refused book
     pub gives : Gives contents sink after text
     pub none_failed : reads_failed later ≡ reads_failed source
     pub none_refused : lines_refused later ≡ lines_refused source
@@ -33,7 +34,7 @@ module _ {R W : Type 0} (remaining : R → Option (List ℕ)) (contents : W → 
     pub text : List ℕ
     pub refused : Bool
     pub book : Book
-    pub replies : RepliesBefore budget blank input text refused book []
+    pub replies : RepliesBefore limits blank input text refused book []
     pub none_whole : ¬ IsWhole left
     pub gives : Gives contents sink after text
     pub one_failed : IsOneMore (reads_failed source) (reads_failed later)
@@ -47,7 +48,7 @@ module _ {R W : Type 0} (remaining : R → Option (List ℕ)) (contents : W → 
     pub text : List ℕ
     pub refused : Bool
     pub book : Book
-    pub replies : RepliesToAll budget input (IsAtEnd rest) text refused book
+    pub replies : RepliesToAll limits input (IsAtEnd rest) text refused book
     pub cut : IsCutShort contents sink after text
 
   -- there was no room for a line: all that was taken are whole commands, which are answered, and a rest in which none is whole
@@ -58,7 +59,7 @@ module _ {R W : Type 0} (remaining : R → Option (List ℕ)) (contents : W → 
     pub text : List ℕ
     pub refused : Bool
     pub book : Book
-    pub replies : RepliesBefore budget blank input text refused book []
+    pub replies : RepliesBefore limits blank input text refused book []
     pub none_whole : ¬ IsWhole left
     pub gives : Gives contents sink after text
     pub none_failed : reads_failed later ≡ reads_failed source

@@ -20,13 +20,14 @@ use Rattle.stepper.specs.Engine.{Happens}
 use Rattle.stepper.specs.declared.engine.Engine.{Engine}
 use Rattle.stepper.specs.declared.fault.Fault.{Fault}
 use Rattle.stepper.specs.declared.fault.Fault.TheVariants.{Reader, Writer, Memory}
+use Rattle.stepper.specs.declared.engine.Limits.{Limits}
 
 -- what a line says is answered, with the lines of its script behind it: where the input did not end with them, the answer is the same
 -- whatever follows
-pub record Follows (budget : ℕ) (says : Result (Option Spelled) LineFault) (script : List ℕ) (ended : Bool) (b : Book) (reply : List ℕ) (refusal : Bool) (d : Book) : Type 0 where
-  pub here : FirstReply budget b says script reply refusal d []
+pub record Follows (limits : Limits) (says : Result (Option Spelled) LineFault) (script : List ℕ) (ended : Bool) (b : Book) (reply : List ℕ) (refusal : Bool) (d : Book) : Type 0 where
+  pub here : FirstReply limits b says script reply refusal d []
   pub lines : ended ≡ false → script_lines says ≤ line_feeds script
-  pub before : ended ≡ false → (more : List ℕ) → FirstReply budget b says (script ++ more) reply refusal d more
+  pub before : ended ≡ false → (more : List ℕ) → FirstReply limits b says (script ++ more) reply refusal d more
 
 -- a sink stays open, unless it was a write that failed
 abbrev pub StaysOpen : {A : Type 0} → Result A Fault → Bool → Type 0
@@ -73,7 +74,7 @@ module _ {R W : Type 0} (remaining : R → Option (List ℕ)) (contents : W → 
     pub none_refused : lines_refused later ≡ lines_refused source
     pub counted : lines_taken source ≤ lines_taken later
     pub stays : is_ended source ≡ true → (bytes ≡ []) × (is_ended later ≡ true)
-    pub happens : Happens contents old new sink after (Follows old.budget says bytes (is_ended later))
+    pub happens : Happens contents old new sink after (Follows old.limits says bytes (is_ended later))
 
   -- a read failed before so many lines were taken: what was read of them was taken
   pub record FailsBefore (lines : ℕ) (source later : Lines R) (sink after : Outlet W) : Type 0 where
@@ -115,12 +116,12 @@ module _ {R W : Type 0} (remaining : R → Option (List ℕ)) (contents : W → 
     pub reply : List ℕ
     pub tells : Tells contents sink after reply
     pub refusal : Bool
-    pub here : FirstReply old.budget (book_of old.book) (said (line ++ bytes)) (behind_line (line ++ bytes)) reply refusal (book_of new.book) []
+    pub here : FirstReply old.limits (book_of old.book) (said (line ++ bytes)) (behind_line (line ++ bytes)) reply refusal (book_of new.book) []
     pub whole : is_ended later ≡ false → (more : List ℕ) → IsWhole ((line ++ bytes) ++ more)
     pub before : is_ended later ≡ false → (more : List ℕ)
-        → FirstReply old.budget (book_of old.book) (said ((line ++ bytes) ++ more)) (behind_line ((line ++ bytes) ++ more)) reply refusal (book_of new.book) more
+        → FirstReply old.limits (book_of old.book) (said ((line ++ bytes) ++ more)) (behind_line ((line ++ bytes) ++ more)) reply refusal (book_of new.book) more
     pub refused : is_cut after ≡ false → new.written.refused ≡ (old.written.refused || refusal)
-    pub budget : new.budget ≡ old.budget
+    pub limits : new.limits ≡ old.limits
 
   -- a read failed before the command that a line begins was whole
   pub record FailsBehind (source later : Lines R) (sink after : Outlet W) (line : List ℕ) : Type 0 where

@@ -17,7 +17,6 @@ ghost use Rattle.stepper.specs.Replies.{Answers, AnswersBirth, Moves, Steps, Ena
 ghost use Rattle.stepper.specs.Taking.{DoesOrStops, AnswersOrStops, StaysOpen};
 ghost use Rattle.stepper.specs.Runs.{RunsToEnd, RunsTo};
 
-use crate::crew::{Crew, Order};
 use crate::fault::Fault;
 use crate::input::{next_line, take_script};
 use crate::reply::{
@@ -31,6 +30,7 @@ use causewaylog::log::log_of;
 use commands::command::{Command, LineFault, Said, command_of};
 use commands::script::text_of;
 use commands::{PromiseName, all_words, events_in};
+use crew::crew::{Crew, Order};
 use ereader::read;
 use ids::names::{EventName, MsgId, PromId, VatNo};
 use ids::text::Text;
@@ -48,8 +48,8 @@ use streams::lines::Lines;
 use streams::outlet::{Outlet, WriteFailed};
 
 /// The bytes of the stack on which commands are to be answered: a text may nest thousands of levels deep, and the calls
-/// that read it nest with it.
-pub const STACK: usize = 256 << 20;
+/// that read it nest with it. The deepest text was measured to need 13 MiB of it, and level 1,000 of a turn less than two.
+pub const STACK: usize = 32 << 20;
 
 /// What the author's options allow.
 #[derive(Clone, Copy)]
@@ -71,10 +71,7 @@ pub struct Summary {
 #[derive(Drop)]
 struct Engine {
     alloc: Global,
-    /// The most steps of a turn.
-    budget: u32,
-    /// The most workers.
-    workers: u32,
+    limits: Limits,
     book: Book,
     written: Written,
 }
@@ -83,7 +80,7 @@ impl Engine {
     ghost use Rattle.stepper.specs.Engine.{Happens, Moved};
 
     fn ask_program<W: Write>(&mut self, name: &str, program: Program, out: &mut Outlet<W>)
-        ensures { (text : List ℕ) → ReadAs text (Ok (program_of program)) → Happens W.contents self.old self.new out.old out.new (λ b r s d. Answers self.old.budget b (commands.ask name.now text) r s d) }
+        ensures { (text : List ℕ) → ReadAs text (Ok (program_of program)) → Happens W.contents self.old self.new out.old out.new (λ b r s d. Answers self.old.limits b (commands.ask name.now text) r s d) }
     {
         let Ok(name) = Text::new(self.alloc, name) else {
             return self.written.refuse_call(&BookFault::Memory, out);
@@ -95,7 +92,7 @@ impl Engine {
     }
 
     fn ask<W: Write>(&mut self, name: &str, text: &str, out: &mut Outlet<W>)
-        ensures { Happens W.contents self.old self.new out.old out.new (λ b r s d. Answers self.old.budget b (commands.ask name.now text.now) r s d) }
+        ensures { Happens W.contents self.old self.new out.old out.new (λ b r s d. Answers self.old.limits b (commands.ask name.now text.now) r s d) }
     {
         match read(self.alloc, text) {
             Ok(program) => self.ask_program(name, program, out),
@@ -104,7 +101,7 @@ impl Engine {
     }
 
     fn learn<W: Write>(&mut self, name: &str, promise: PromiseName, out: &mut Outlet<W>)
-        ensures { Happens W.contents self.old self.new out.old out.new (λ b r s d. Answers self.old.budget b (commands.learn name.now promise) r s d) }
+        ensures { Happens W.contents self.old self.new out.old out.new (λ b r s d. Answers self.old.limits b (commands.learn name.now promise) r s d) }
     {
         let Ok(name) = Text::new(self.alloc, name) else {
             return self.written.refuse_call(&BookFault::Memory, out);
@@ -148,7 +145,7 @@ impl Engine {
     fn turn<W: Write>(&mut self, message: MsgId, out: &mut Outlet<W>) -> bool
         ensures { Moved W.contents self.old self.new out.old out.new (Step.Turn message) result }
     {
-        match self.book.turn(message, self.budget) {
+        match self.book.turn(message, self.limits.budget) {
             Ok(Turned { event, ended }) => {
                 put_turned(event, &ended, out);
                 true
@@ -190,14 +187,14 @@ impl Engine {
 
     /// Does what a command of one message says.
     fn obey<W: Write>(&mut self, step: Step, out: &mut Outlet<W>)
-        ensures { Happens W.contents self.old self.new out.old out.new (λ b r s d. Moves self.old.budget b step r s d) }
+        ensures { Happens W.contents self.old self.new out.old out.new (λ b r s d. Moves self.old.limits b step r s d) }
     {
         let _ = self.make_move(step, out);
     }
 
     /// Does the first that may be done. Answers whether a next step may follow: something was found, and it was not refused.
     fn try_step<W: Write>(&mut self, out: &mut Outlet<W>) -> bool
-        ensures { Happens W.contents self.old self.new out.old out.new (λ b r s d. Steps self.old.budget b r s d result) }
+        ensures { Happens W.contents self.old self.new out.old out.new (λ b r s d. Steps self.old.limits b r s d result) }
     {
         match self.book.next() {
             Ok(Some(step)) => self.make_move(step, out),
@@ -213,7 +210,7 @@ impl Engine {
     }
 
     fn step<W: Write>(&mut self, out: &mut Outlet<W>)
-        ensures { Happens W.contents self.old self.new out.old out.new (λ b r s d. Answers self.old.budget b commands.step r s d) }
+        ensures { Happens W.contents self.old self.new out.old out.new (λ b r s d. Answers self.old.limits b commands.step r s d) }
     {
         let _ = self.try_step(out);
     }
@@ -221,7 +218,7 @@ impl Engine {
     /// Steps, at most so many, up to one that finds nothing to do or is refused. What was told of each goes out before the next one, and
     /// none follows where that fails.
     fn run<W: Write>(&mut self, most: u32, out: &mut Outlet<W>)
-        ensures { Happens W.contents self.old self.new out.old out.new (λ b r s d. Answers self.old.budget b (commands.run most) r s d) }
+        ensures { Happens W.contents self.old self.new out.old out.new (λ b r s d. Answers self.old.limits b (commands.run most) r s d) }
     {
         let mut left = most;
         'steps: while left > 0 {
@@ -245,11 +242,11 @@ impl Engine {
         out: &mut Outlet<W>,
     )
         requires crew { C.ready }
-        ensures { Happens W.contents self.old self.new out.old out.new (λ b r s d. Answers self.old.budget b (commands.work workers turns) r s d) }
+        ensures { Happens W.contents self.old self.new out.old out.new (λ b r s d. Answers self.old.limits b (commands.work workers turns) r s d) }
     {
         let order = Order {
-            budget: self.budget,
-            workers: workers.min(self.workers),
+            budget: self.limits.budget,
+            workers: workers.min(self.limits.workers),
             turns,
         };
         let book = mem::replace(&mut self.book, Book::new(self.alloc));
@@ -262,7 +259,7 @@ impl Engine {
     }
 
     fn choose<W: Write>(&mut self, steps: Vec<Step>, out: &mut Outlet<W>)
-        ensures { EnabledIn (book_of self.old.book) steps.items → Happens W.contents self.old self.new out.old out.new (λ b r s d. Answers self.old.budget b commands.enabled r s d) }
+        ensures { EnabledIn (book_of self.old.book) steps.items → Happens W.contents self.old self.new out.old out.new (λ b r s d. Answers self.old.limits b commands.enabled r s d) }
     {
         match choice_of(self.alloc, self.book.world(), steps) {
             Ok(choice) => put_enabled(&choice, out),
@@ -271,7 +268,7 @@ impl Engine {
     }
 
     fn enabled<W: Write>(&mut self, out: &mut Outlet<W>)
-        ensures { Happens W.contents self.old self.new out.old out.new (λ b r s d. Answers self.old.budget b commands.enabled r s d) }
+        ensures { Happens W.contents self.old self.new out.old out.new (λ b r s d. Answers self.old.limits b commands.enabled r s d) }
     {
         match self.book.enabled() {
             Ok(steps) => self.choose(steps, out),
@@ -280,7 +277,7 @@ impl Engine {
     }
 
     fn show<W: Write>(&mut self, out: &mut Outlet<W>)
-        ensures { Happens W.contents self.old self.new out.old out.new (λ b r s d. Answers self.old.budget b commands.show r s d) }
+        ensures { Happens W.contents self.old self.new out.old out.new (λ b r s d. Answers self.old.limits b commands.show r s d) }
     {
         match Picture::new(self.alloc, self.book.world()) {
             Ok(picture) => put_world(&picture, out),
@@ -289,7 +286,7 @@ impl Engine {
     }
 
     fn journal<W: Write>(&mut self, out: &mut Outlet<W>)
-        ensures { Happens W.contents self.old self.new out.old out.new (λ b r s d. Answers self.old.budget b commands.journal r s d) }
+        ensures { Happens W.contents self.old self.new out.old out.new (λ b r s d. Answers self.old.limits b commands.journal r s d) }
     {
         match listing_of(self.alloc, self.book.journal()) {
             Ok(listing) => put_journal(&listing, out),
@@ -299,7 +296,7 @@ impl Engine {
 
     /// The log of the turns of the vat of this name.
     fn log<W: Write>(&mut self, name: &str, out: &mut Outlet<W>)
-        ensures { Happens W.contents self.old self.new out.old out.new (λ b r s d. Answers self.old.budget b (commands.log name.now) r s d) }
+        ensures { Happens W.contents self.old self.new out.old out.new (λ b r s d. Answers self.old.limits b (commands.log name.now) r s d) }
     {
         match log_of(self.alloc, &self.book, name) {
             Ok(text) => put_log(text.as_str(), out),
@@ -308,7 +305,7 @@ impl Engine {
     }
 
     fn cone<W: Write>(&mut self, event: EventName, out: &mut Outlet<W>)
-        ensures { Happens W.contents self.old self.new out.old out.new (λ b r s d. Answers self.old.budget b (commands.cone event) r s d) }
+        ensures { Happens W.contents self.old self.new out.old out.new (λ b r s d. Answers self.old.limits b (commands.cone event) r s d) }
     {
         match self.book.cone(event) {
             Ok(events) => put_cone(&events, out),
@@ -317,7 +314,7 @@ impl Engine {
     }
 
     fn undo<W: Write>(&mut self, events: &[EventName], out: &mut Outlet<W>)
-        ensures { Happens W.contents self.old self.new out.old out.new (λ b r s d. Answers self.old.budget b (commands.undo events.now) r s d) }
+        ensures { Happens W.contents self.old self.new out.old out.new (λ b r s d. Answers self.old.limits b (commands.undo events.now) r s d) }
     {
         match self.book.undo(events) {
             Ok(count) => put_undone(count, out),
@@ -327,7 +324,7 @@ impl Engine {
 
     /// Undoes the events that words name.
     fn undo_named<W: Write>(&mut self, words: &str, out: &mut Outlet<W>)
-        ensures { Happens W.contents self.old self.new out.old out.new (λ b r s d. Answers self.old.budget b (commands.undo (events_in words.now)) r s d) }
+        ensures { Happens W.contents self.old self.new out.old out.new (λ b r s d. Answers self.old.limits b (commands.undo (events_in words.now)) r s d) }
     {
         match events_in(self.alloc, words) {
             Ok(events) => self.undo(&events, out),
@@ -337,7 +334,7 @@ impl Engine {
 
     /// Undoes an event with its cone.
     fn undo_cone<W: Write>(&mut self, event: EventName, out: &mut Outlet<W>)
-        ensures { Happens W.contents self.old self.new out.old out.new (λ b r s d. Answers self.old.budget b (commands.undo_cone event) r s d) }
+        ensures { Happens W.contents self.old self.new out.old out.new (λ b r s d. Answers self.old.limits b (commands.undo_cone event) r s d) }
     {
         match self.book.cone(event) {
             Ok(events) => self.undo(&events, out),
@@ -346,7 +343,7 @@ impl Engine {
     }
 
     fn redo<W: Write>(&mut self, events: &[EventName], out: &mut Outlet<W>)
-        ensures { Happens W.contents self.old self.new out.old out.new (λ b r s d. Answers self.old.budget b (commands.redo events.now) r s d) }
+        ensures { Happens W.contents self.old self.new out.old out.new (λ b r s d. Answers self.old.limits b (commands.redo events.now) r s d) }
     {
         match self.book.redo(events) {
             Ok(count) => put_redone(count, out),
@@ -356,7 +353,7 @@ impl Engine {
 
     /// Redoes the events that words name.
     fn redo_named<W: Write>(&mut self, words: &str, out: &mut Outlet<W>)
-        ensures { Happens W.contents self.old self.new out.old out.new (λ b r s d. Answers self.old.budget b (commands.redo (events_in words.now)) r s d) }
+        ensures { Happens W.contents self.old self.new out.old out.new (λ b r s d. Answers self.old.limits b (commands.redo (events_in words.now)) r s d) }
     {
         match events_in(self.alloc, words) {
             Ok(events) => self.redo(&events, out),
@@ -366,7 +363,7 @@ impl Engine {
 
     /// Lets the entry at a position and the one behind it change places.
     fn exchange<W: Write>(&mut self, position: usize, out: &mut Outlet<W>)
-        ensures { Happens W.contents self.old self.new out.old out.new (λ b r s d. Answers self.old.budget b (commands.exchange position) r s d) }
+        ensures { Happens W.contents self.old self.new out.old out.new (λ b r s d. Answers self.old.limits b (commands.exchange position) r s d) }
     {
         match self.book.exchange(position) {
             Ok((event, other)) => put_exchanged(event, other, out),
@@ -376,7 +373,7 @@ impl Engine {
 
     /// Settles all entries up to a position.
     fn settle<W: Write>(&mut self, position: usize, out: &mut Outlet<W>)
-        ensures { Happens W.contents self.old self.new out.old out.new (λ b r s d. Answers self.old.budget b (commands.settle position) r s d) }
+        ensures { Happens W.contents self.old self.new out.old out.new (λ b r s d. Answers self.old.limits b (commands.settle position) r s d) }
     {
         match self.book.settle(position) {
             Ok(()) => put_settled(position, out),
@@ -533,8 +530,8 @@ impl Engine {
         requires open { is_cut sink.old ≡ false }
         requires crew { C.ready }
         ensures whole { MatchResult result
-            (λ _. RunsToEnd R.remaining W.contents self.old.budget source.old source.new sink.old sink.new self.new.written.refused)
-            (RunsTo R.remaining W.contents self.old.budget source.old source.new sink.old sink.new) }
+            (λ _. RunsToEnd R.remaining W.contents self.old.limits source.old source.new sink.old sink.new self.new.written.refused)
+            (RunsTo R.remaining W.contents self.old.limits source.old source.new sink.old sink.new) }
         ensures uncut { StaysOpen result (is_cut sink.new) }
     {
         'commands: loop {
@@ -574,15 +571,14 @@ pub fn run<R: Read, W: Write, C: Crew>(
 ) -> Result<Summary, Fault>
     requires sound { IsSound R.remaining source.old }
     requires crew { C.ready }
-    ensures ok { IfOk result (λ summary. RunsToEnd R.remaining W.contents limits.budget source.old source.new sink.old sink.new summary.refused) }
-    ensures err { IfErr result (RunsTo R.remaining W.contents limits.budget source.old source.new sink.old sink.new) }
+    ensures ok { IfOk result (λ summary. RunsToEnd R.remaining W.contents limits source.old source.new sink.old sink.new summary.refused) }
+    ensures err { IfErr result (RunsTo R.remaining W.contents limits source.old source.new sink.old sink.new) }
     ensures all_out { waiting sink.new ≡ [] }
 {
     sink.reopen();
     let mut engine = Engine {
         alloc,
-        budget: limits.budget,
-        workers: limits.workers,
+        limits,
         book: Book::new(alloc),
         written: Written { refused: false },
     };

@@ -1,7 +1,6 @@
 //! Answers commands on vats: one reply for each.
 #![tactic(auto)]
 
-mod crew;
 mod ended;
 mod engine;
 mod fault;
@@ -10,7 +9,6 @@ mod reply;
 pub mod theorems;
 mod words;
 
-pub use crew::{Crew, Nobody, Order};
 pub use ended::{Ended, status};
 pub use engine::{Limits, STACK, Summary, run};
 pub use fault::Fault;

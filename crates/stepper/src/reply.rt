@@ -7,8 +7,7 @@ ghost use Rattle.ereader.specs.Shown.{shown};
 ghost use Rattle.book.specs.Fault as book_fault;
 ghost use Rattle.deliveries.specs.Outcomes.{told_of};
 ghost use Rattle.commands.specs.Commands.{fault_text};
-ghost use Rattle.stepper.specs.Replies.{refused, queued_text, done_text, idle_text, turned_text, told_text, undone_text, redone_text, exchanged_text, settled_text, logged_text};
-ghost use Rattle.stepper.specs.Crew.{worked_text};
+ghost use Rattle.stepper.specs.Replies.{refused, queued_text, done_text, idle_text, turned_text, told_text, undone_text, redone_text, exchanged_text, settled_text, worked_text, logged_text};
 ghost use Rattle.streams.specs.Outlet.{Tells};
 
 use crate::words::{put_book_fault, put_line_fault, put_read_fault, put_work_fault};

@@ -1,4 +1,4 @@
--- What workers share, a Bench, and what they hand over, a seat with a turn that was run, may cross.
+-- What workers share, a Bench or a workshop, and what they hand over, a seat with a turn that was run, may cross.
 use mathlib.Core.List.{List, [], ◌∷◌}
 use Prim.Native.Nat.{ℕ}
 use denote.Ref.{NamedLft}
@@ -44,28 +44,21 @@ module _ (L : RattleType) (g : Ghosts L.Denot) (parts : Parts L.Denot) where
   pub bench_sync : IsSync (bench.the_row L g parts)
   bench_sync = search (desk_send, locks.the_sync, cells.the_field_sync, sendable, crosses) depth 40
 
-  -- what a worker holds: the runtime, the Bench, the gate, the count of turns that are left, its number, its way to the committer, and the way
-  -- back
-  abbrev pub held : (runtime gate : RattleType) (a b c d : NamedLft) → List RattleType
-  held runtime gate a b c d =
-      (shr_ref_field a (param 2 runtime) tt).row ∷ (shr_ref_field b (bench.the_row L g parts) tt).row ∷ (shr_ref_field c (param 1 gate) tt).row ∷ (shr_ref_field d count.the_row tt).row ∷ u64-field.row
+  -- what a worker holds: the runtime, its place, the gate, its number, its way to the committer, and the way back
+  abbrev pub held : (place runtime gate : RattleType) (a b c : NamedLft) → List RattleType
+  held place runtime gate a b c =
+      (shr_ref_field a (param 3 runtime) tt).row ∷ (shr_ref_field b (param 1 place) tt).row ∷ (shr_ref_field c (param 2 gate) tt).row ∷ u64-field.row
       ∷ sender.the_row (busy.the_row L g parts) heap.the_row ghosts ∷ receiver.the_row (free.the_row L g parts) heap.the_row ghosts ∷ []
 
-  pub worker_send : (runtime gate : RattleType) (a b c d : NamedLft) (name : List ℕ) → IsSync runtime → IsSync gate → IsSend (TupleAt name (held runtime gate a b c d))
-  worker_send runtime gate a b c d name r s =
-      let rows : List RattleType = held runtime gate a b c d in
+  pub worker_send : (place runtime gate : RattleType) (a b c : NamedLft) (name : List ℕ) → IsSync place → IsSync runtime → IsSync gate → IsSend (TupleAt name (held place runtime gate a b c))
+  worker_send place runtime gate a b c name p r s =
+      let rows : List RattleType = held place runtime gate a b c in
       let there = senders.the_send (busy.the_row L g parts) heap.the_row ghosts busy_send heaps.the_send heaps.the_sync anywhere in
       let back = receivers.the_send (free.the_row L g parts) heap.the_row ghosts (frees.the_send L g parts) heaps.the_send heaps.the_sync anywhere in
       recorded_send (field_at name rows).row _ _ (type_at name rows).to_one (struct_send (shape (type_at name rows)) (
-        shr_send _ _ (param 2 runtime) (param_sync 2 runtime r),
+        shr_send _ _ (param 3 runtime) (param_sync 3 runtime r),
         (
-          shr_send _ _ (bench.the_row L g parts) bench_sync,
-          (
-            shr_send _ _ (param 1 gate) (param_sync 1 gate s),
-            (
-              shr_send _ _ count.the_row counts.the_sync,
-              (plain_send _ _ _ _ _, (there, (back, tt))),
-            ),
-          ),
+          shr_send _ _ (param 1 place) (param_sync 1 place p),
+          (shr_send _ _ (param 2 gate) (param_sync 2 gate s), (plain_send _ _ _ _ _, (there, (back, tt)))),
         ),
       ))

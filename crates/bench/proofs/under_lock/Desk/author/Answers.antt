@@ -8,7 +8,7 @@ use Rattle.pact.specs.declared.Act.{Act}
 use Rattle.pact.specs.Agree.{after, entered_by, knower}
 use Rattle.bench.specs.Author.{Obeys}
 use Rattle.bench.specs.DeskView.{Desked}
-use Rattle.bench.specs.Seats.{is_turn}
+use Rattle.crew.specs.Work.{is_turn}
 use Rattle.bench.proofs.Acts.{Entering, entering, mark_enters_none}
 use Rattle.bench.proofs.Agrees.{desk_entered, counted_more, counted_same, few_events}
 use Rattle.bench.proofs.Moves.{journal_within, marked, one_open, refused_marked}
@@ -48,7 +48,7 @@ invariant_of-self g c =
     let h : Obeys c.args.command c.number.result (Some c.in-Ok-Some.event) old now = subst (λ (o : Option EventName). Obeys c.args.command c.number.result o old now) c.in-Ok-Some.field-0-is c.in-Ok-Some.ensures.ok in
     let it : Entering c.args.command c.in-Ok-Some.event c.number.result old now = entering _ _ _ old now h in
     let event = c.last_event-entered.ensures _ _ it.grows.journal in
-    let seat = c.number.ensures ∙ n.agreed.0 in
+    let seat = c.number.ensures.is ∙ n.agreed.0 in
     (n.keeper.0, i.1, desk_entered _ _ _ _ _ _ old now _ _ _ i.2 n.agreed.1 seat event it.grows it.same_out n.keeper.1, counted_more _ _ _ _ old now i.3 n.total it.grows, i.4, i.5, i.6)
 
 pub returns-in-Ok-Some-clause-ok : goal.returns-in-Ok-Some-clause-ok
@@ -59,7 +59,7 @@ returns-in-Ok-Some-clause-ok g c =
     let it : Entering c.args.command c.in-Ok-Some.event c.number.result old now = entering _ _ _ old now h in
     let event = c.last_event-entered.ensures _ _ it.grows.journal in
     let P : ℕ × Desked → Type 0 = λ p. Obeys c.args.command p.0 (Some c.in-Ok-Some.event) (book_of p.1.book) now in
-    (subst P (λ j. (c.number.ensures j, c.self.view_is j)) h, (it.act, it.of_command, record { added = c.last_event-entered.result.value; event = event; seat = c.note.ensures.seat }))
+    (subst P (λ j. (c.number.ensures.is j, c.self.view_is j)) h, (it.act, it.of_command, record { added = c.last_event-entered.result.value; event = event; seat = c.note.ensures.seat }))
 
 pub invariant_of-self-in-Ok-None : goal.invariant_of-self-in-Ok-None
 invariant_of-self-in-Ok-None g c =

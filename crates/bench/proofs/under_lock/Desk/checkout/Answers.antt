@@ -13,7 +13,7 @@ use Rattle.bench.specs.declared.pick.Pick.{Pick}
 use Rattle.bench.specs.declared.pick.Pick.TheVariants as pick
 use Rattle.bench.specs.Author.{Picks}
 use Rattle.bench.specs.DeskView.{Desked}
-use Rattle.bench.specs.Seats.{is_turn}
+use Rattle.crew.specs.Work.{is_turn}
 use Rattle.bench.proofs.Acts.{Moving, moving}
 use Rattle.bench.proofs.Agrees.{desk_entered, desk_opened, rests_same, counted_more, counted_same, few_events}
 use Rattle.bench.proofs.Moves.{journal_within, one_open}
@@ -53,7 +53,7 @@ invariant_of-self-in-Moved g c =
     let h : Picks b c.number.result (pick.Moved c.in-Moved.event) old now = subst (λ (p : Pick). Picks b c.number.result p old now) c.in-Moved.is c.in_ok-pick_first.ensures.ok in
     let it : Moving c.in-Moved.event c.number.result old now = moving b _ _ old now h in
     let event = c.last_event-moved.ensures _ _ it.grows.journal in
-    let seat = c.number.ensures ∙ n.agreed.0 in
+    let seat = c.number.ensures.is ∙ n.agreed.0 in
     (n.keeper.0, i.1, desk_entered _ _ _ _ _ _ old now _ _ _ i.2 n.agreed.1 seat event it.grows it.same_out n.keeper.1, counted_more _ _ _ _ old now i.3 n.total it.grows, i.4, i.5, i.6)
 
 pub returns-in-Moved-clause-ok : goal.returns-in-Moved-clause-ok
@@ -65,7 +65,7 @@ returns-in-Moved-clause-ok g c =
     let it : Moving c.in-Moved.event c.number.result old now = moving b _ _ old now h in
     let event = c.last_event-moved.ensures _ _ it.grows.journal in
     let P : ℕ × Desked → Type 0 = λ p. Picks p.1.budget p.0 (pick.Moved c.in-Moved.event) (book_of p.1.book) now in
-    (subst P (λ j. (c.number.ensures j, c.self.view_is j)) h, (it.step, it.act, it.is, record { added = c.last_event-moved.result.value; event = event; seat = c.note.ensures.seat }))
+    (subst P (λ j. (c.number.ensures.is j, c.self.view_is j)) h, (it.step, it.act, it.is, record { added = c.last_event-moved.result.value; event = event; seat = c.note.ensures.seat }))
 
 pub invariant_of-self-in-Turn : goal.invariant_of-self-in-Turn
 invariant_of-self-in-Turn g c =
@@ -80,7 +80,7 @@ invariant_of-self-in-Turn g c =
     let deeds = c.args.seat.now.deeds in
     let h : Picks b c.number.result (pick.Turn t) old now = subst (λ (p : Pick). Picks b c.number.result p old now) c.in-Turn.is c.in_ok-pick_first.ensures.ok in
     let lends = h.2 in
-    let seat = lends.same_seat ∙ c.number.ensures ∙ n.agreed.0 in
+    let seat = lends.same_seat ∙ c.number.ensures.is ∙ n.agreed.0 in
     let rests = rests_same old now (ap (λ (x : Book). x.journal) lends.lent) in
     let keeper = n.keeper.1 ∙ ap (λ (o : Out). knower (slice_set all place (after (Opens o.event) deeds))) c.out.ensures in
     let total = n.total in

@@ -10,7 +10,7 @@ use Rattle.book.specs.BookView.{book_of}
 use Rattle.desk.specs.Desks.{without}
 use Rattle.bench.proofs.Agrees.{desk_given, counted_more, few_events}
 use Rattle.bench.proofs.Moves.{grows, journal_within, one_open}
-use Rattle.bench.specs.Seats.{is_turn}
+use Rattle.crew.specs.Work.{is_turn}
 use Rattle.bench.proofs.under_lock.Desk.give.Goals as goal
 
 pub last_event-given-requires : goal.last_event-given-requires
@@ -37,7 +37,7 @@ invariant_of-self g c =
     let now = book_of c.commit.new.self in
     let g' = grows _ _ _ old now ok.1.enters.enters in
     let event = c.last_event-given.ensures _ _ g'.journal in
-    let seat = sym (ap (λ (r : Ran). r.carried.seat) c.ran.ensures) ∙ c.if-ran-number.false ∙ c.number.ensures ∙ n.agreed.0 in
+    let seat = sym (ap (λ (r : Ran). r.carried.seat) c.ran.ensures) ∙ c.if-ran-number.false ∙ c.number.ensures.is ∙ n.agreed.0 in
     let out = ok.1.out ∙ ap (λ (m : EventName). without m old.out) (sym (ap (λ (e : Event). e.name) event)) in
     (n.keeper.0, i.1, desk_given _ _ _ _ _ _ old now _ _ _ i.2 n.agreed.1 seat event g' _ out n.keeper.1, counted_more _ _ _ _ old now i.3 n.total g', i.4, i.5, i.6)
 
@@ -48,6 +48,6 @@ returns-in-Ok-clause-ok g c =
     let now = book_of c.commit.new.self in
     let g' = grows _ _ _ old now ok.1.enters.enters in
     let event = c.last_event-given.ensures _ _ g'.journal in
-    let seat = sym (ap (λ (r : Ran). r.carried.seat) c.ran.ensures) ∙ c.if-ran-number.false ∙ c.number.ensures in
+    let seat = sym (ap (λ (r : Ran). r.carried.seat) c.ran.ensures) ∙ c.if-ran-number.false ∙ c.number.ensures.is in
     let P : Desked → Type 0 = λ d. Commits c.args.ticket (book_of d.book) now in
     (ok.0, seat, subst P c.self.view_is ok.1, returned (turn_of c.args.ticket) c.last_event-given.result.value c.args.seat.now c.note.new.self event c.note.ensures.seat)

@@ -7,4 +7,4 @@ pub returns-in-Ok : goal.returns-in-Ok
 returns-in-Ok g c = c.ask_program.ensures c.args.text.now c.in-Ok.ensures
 
 pub returns-in-Err : goal.returns-in-Err
-returns-in-Err g c = refuses (ask_not_read c.args.self.now.budget (book_of c.args.self.now.book) c.args.name.now c.args.text.now c.in-Err.fault c.in-Err.ensures) c.refuse_text.ensures refl
+returns-in-Err g c = refuses (ask_not_read c.args.self.now.limits (book_of c.args.self.now.book) c.args.name.now c.args.text.now c.in-Err.fault c.in-Err.ensures) c.refuse_text.ensures refl

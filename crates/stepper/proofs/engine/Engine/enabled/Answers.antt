@@ -11,4 +11,4 @@ returns-in-Ok g c = happens_from c.enabled.ensures.same refl refl
     (c.choose.ensures (subst (λ (b : Book). EnabledIn b c.in-Ok.steps.items) (sym c.enabled.ensures.same) c.in-Ok.ensures.all))
 
 pub returns-in-Err : goal.returns-in-Err
-returns-in-Err g c = refuses (none_enabled c.args.self.now.budget (book_of c.args.self.now.book) c.enabled.ensures.same) c.refuse_call.ensures refl
+returns-in-Err g c = refuses (none_enabled c.args.self.now.limits (book_of c.args.self.now.book) c.enabled.ensures.same) c.refuse_call.ensures refl

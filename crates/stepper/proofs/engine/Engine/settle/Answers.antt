@@ -4,7 +4,7 @@ use Rattle.stepper.proofs.Answered.{accepts, refuses, settle_done, settle_fails}
 use Rattle.stepper.proofs.engine.Engine.settle.Goals as goal
 
 pub returns-in-Ok : goal.returns-in-Ok
-returns-in-Ok g c = accepts (settle_done c.args.self.now.budget (book_of c.args.self.now.book) c.in-Ok.ensures.ok) c.put_settled.ensures refl refl
+returns-in-Ok g c = accepts (settle_done c.args.self.now.limits (book_of c.args.self.now.book) c.in-Ok.ensures.ok) c.put_settled.ensures refl refl
 
 pub returns-in-Err : goal.returns-in-Err
-returns-in-Err g c = refuses (settle_fails c.args.self.now.budget (book_of c.args.self.now.book) c.in-Err.fault c.in-Err.ensures.err c.in-Err.ensures.unchanged) c.refuse_call.ensures refl
+returns-in-Err g c = refuses (settle_fails c.args.self.now.limits (book_of c.args.self.now.book) c.in-Err.fault c.in-Err.ensures.err c.in-Err.ensures.unchanged) c.refuse_call.ensures refl

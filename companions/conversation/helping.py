@@ -1,0 +1,37 @@
+"""What is told of one command or refusal, by the program's help and docs/LANGUAGE.md."""
+from .language import meanings, read_document, told_of
+from .refusals import SENTENCES
+
+
+def row(usage):
+    return f"  {usage.words:<25} {usage.does}"
+
+
+def in_one_line(cell):
+    return cell.replace("`", "")
+
+
+def one_command(usage, ways=()):
+    """The lines on a command, with ways in which it may be typed besides."""
+    wants, replies, refused = told_of(read_document(), usage.word)
+    lines = [row(usage).strip(), *(way for way in ways if way.split()[0] == usage.word)]
+    lines += [f"  wants: {in_one_line(each)}" for each in wants]
+    lines += [f"  reply: {in_one_line(each)}" for each in replies]
+    return lines + [f"  {' '.join(['no', each.code, each.name, *each.arguments])}: {in_one_line(each.when)}" for each in refused]
+
+
+def one_refusal(code):
+    """The lines on a refusal."""
+    found = [each for each in meanings(read_document()) if each.code == code]
+    names = [*(found[0].arguments if found else ()), "..", ".."]
+    lines = [f"  no {' '.join([code, each.name, *each.arguments])}: {in_one_line(each.when)}" for each in found]
+    return [SENTENCES[code].format(*names), *lines]
+
+
+def help_on(word, usages, ways=()):
+    """What is told of a word: a command, or the code of a refusal."""
+    if word in usages:
+        return one_command(usages[word], ways)
+    if word.upper() in SENTENCES:
+        return one_refusal(word.upper())
+    return [f"There is no command {word} and no refusal of that code; `help` lists the commands."]

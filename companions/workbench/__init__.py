@@ -1,0 +1,1 @@
+"""A session with the program as a page in the browser. The command is `./workbench`."""

@@ -1,0 +1,165 @@
+//! What lies under the lock of a workshop: the desk of its book, and what became of the book since work began.
+ghost use Rattle.std.specs.Prelude.{◌≡◌, ℕ, ◌<◌, ◌≤◌, IfOk, IfErr, IfSome, true};
+ghost use Rattle.book.specs.BookView.{book_of};
+ghost use Rattle.pact.specs.declared.Act.TheVariants.{Closes};
+ghost use Rattle.pact.specs.Agree.{blank};
+ghost use Rattle.bench.specs.Author.{Picked, turn_of};
+ghost use Rattle.bench.specs.Desk.{events_of, held, refused, Returns};
+ghost use Rattle.bench.specs.Seats.{AreWork};
+ghost use Rattle.crew.specs.Work.{IsGreatestSeat, Worked};
+
+use crate::command::Command;
+use crate::pick::Pick;
+use crate::seat::Seat;
+use crate::under_lock::Desk;
+use crate::workshop::Shift;
+use book::book::Book;
+use book::fault::BookFault;
+use book::theorems::journals_are_good;
+use ids::names::EventName;
+use pact::Cell;
+use std::marker::Model;
+use std::sync::Wait;
+use turn::ticket::{Ran, Ticket};
+
+/// The desk, with counts of turns, and the numbers of the tickets that it lent.
+#[derive(Drop)]
+pub(crate) struct WorkDesk<L: Shift> {
+    desk: Desk<L>,
+    /// The turns that may still be checked out.
+    left: u64,
+    /// The turns that were entered.
+    given: u64,
+    /// The numbers of its tickets are from this one on, and below `behind`.
+    first: u64,
+    behind: u64,
+    /// Whether the book is as it was when work began.
+    untouched: bool,
+}
+
+impl<L: Shift> Model for WorkDesk<L> {
+    ghost use Rattle.book.specs.BookView.{book_of};
+    ghost use Rattle.bench.specs.DeskView.{Desked, desked_code};
+    ghost use Rattle.bench.specs.Workshop.{IsWorkshop};
+
+    ghost Value = { Desked };
+
+    ghost coded = { desked_code };
+
+    ghost view = { λ d. d.desk };
+
+    ghost invariant = { λ d. IsWorkshop L.before L.seats L.most L.book d.left d.given d.first d.behind d.untouched (book_of d.desk.book) };
+}
+
+/// The first number that was lent, when this one is lent too.
+fn first_lent(first: u64, behind: u64, number: u64) -> u64
+    requires { (first ≤ behind) × (behind ≤ number) }
+    ensures low { result ≤ number }
+    ensures covers { (k : ℕ) → first ≤ k → k < behind → result ≤ k }
+{
+    if first == behind { number } else { first }
+}
+
+impl<L: Shift> WorkDesk<L> {
+    /// Nothing was done yet.
+    pub fn new(desk: Desk<L>, turns: u64) -> WorkDesk<L>
+        requires book { (book_of desk.book ≡ L.book) × IsGreatestSeat L.before L.book }
+        requires turns { turns ≡ L.most }
+    {
+        WorkDesk {
+            desk,
+            left: turns,
+            given: 0,
+            first: 0,
+            behind: 0,
+            untouched: true,
+        }
+    }
+
+    /// A new seat, as `Desk::seat`.
+    pub fn seat<R: Wait>(&mut self, rt: &R, cell: &Cell) -> Option<Seat<L>>
+        requires { cell.now.table.shared.table_id ≡ L.table }
+        ensures { IfSome result (λ s. s.deeds ≡ blank) }
+    {
+        self.desk.seat(rt, cell)
+    }
+
+    /// Picks the first that may be done, where turns are left to check out.
+    pub fn checkout<R: Wait>(
+        &mut self,
+        rt: &R,
+        cell: &Cell,
+        seat: &mut Seat<L>,
+    ) -> Result<Pick, BookFault>
+        requires { cell.now.table.shared.table_id ≡ L.table }
+        ensures ok { IfOk result (λ p. Picked p seat.old seat.new) }
+        ensures err { IfErr result (λ fault. seat.new ≡ seat.old) }
+        ensures work { AreWork (events_of seat.old.deeds) → AreWork (events_of seat.new.deeds) }
+    {
+        if self.left == 0 {
+            return Ok(Pick::Nothing);
+        }
+        let pick = self.desk.checkout(rt, cell, seat)?;
+        match &pick {
+            Pick::Nothing => {}
+            Pick::Moved(_) => self.untouched = false,
+            Pick::Turn(ticket) => {
+                let number = ticket.out().event.0;
+                self.first = first_lent(self.first, self.behind, number);
+                self.behind = number + 1;
+                self.left -= 1;
+                self.untouched = false;
+            }
+        }
+        Ok(pick)
+    }
+
+    /// Enters the turn of a ticket that was run.
+    pub fn give<R: Wait>(
+        &mut self,
+        rt: &R,
+        cell: &Cell,
+        ticket: Ticket<Ran>,
+        seat: &mut Seat<L>,
+    ) -> Result<EventName, (Ticket<Ran>, BookFault)>
+        requires { cell.now.table.shared.table_id ≡ L.table }
+        ensures ok { IfOk result (λ e. Returns (turn_of ticket) seat.old seat.new) }
+        ensures err { IfErr result (λ r. (r.0 ≡ ticket) × (seat.new ≡ refused r.1 ticket.carried.event seat.old)) }
+        ensures work { AreWork (events_of seat.old.deeds) → AreWork (events_of seat.new.deeds) }
+    {
+        self.untouched = false;
+        let event = self.desk.give(rt, cell, ticket, seat)?;
+        self.given += 1;
+        Ok(event)
+    }
+
+    /// The ticket of this number is no longer out, nor open with the seat.
+    pub fn abandon<R: Wait>(&mut self, rt: &R, cell: &Cell, number: EventName, seat: &mut Seat<L>)
+        requires { cell.now.table.shared.table_id ≡ L.table }
+        ensures { seat.new ≡ held seat.old (Closes number) }
+    {
+        self.untouched = false;
+        let _ = self.desk.author(rt, cell, Command::Abandon(number), seat);
+    }
+
+    /// Ends the work: tickets that nobody gave are let go.
+    pub fn close(self) -> (Book, u64, bool)
+        ensures worked { Worked L.seats L.most result.1 L.book (book_of result.0) }
+        ensures untouched { result.2 ≡ true → book_of result.0 ≡ L.book }
+    {
+        let WorkDesk {
+            desk,
+            left: _,
+            given,
+            first,
+            behind,
+            untouched,
+        } = self;
+        let mut book = desk.into_book();
+        for number in first..behind {
+            let _ = book.abandon(EventName(number));
+        }
+        journals_are_good(&book);
+        (book, given, untouched)
+    }
+}

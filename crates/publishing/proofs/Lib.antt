@@ -1,0 +1,12 @@
+pub mod Calm
+pub mod Made
+pub mod Quiet
+pub mod Orderly
+pub mod Stepping
+pub mod Rules
+pub mod Delivered
+pub mod Worlds
+pub mod Left
+pub mod Happening
+pub mod Turned
+pub mod Publishing

@@ -1,0 +1,14 @@
+pub mod Places
+pub mod Keeping
+pub mod Stepping
+pub mod Choosing
+pub mod Knowing
+pub mod Consequences
+pub mod Explaining
+pub mod Standings
+pub mod CellNames
+pub mod Touching
+pub mod Looking
+pub mod Reasons
+pub mod Linking
+pub mod Writing

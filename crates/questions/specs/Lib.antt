@@ -1,0 +1,9 @@
+pub mod Cells
+pub mod Writers
+pub mod TouchedView
+pub mod Chains
+pub mod ChainView
+pub mod Refusals
+pub mod Why
+pub mod WhyView
+pub mod Laws
