@@ -1,11 +1,14 @@
 -- What is done about the command that a line spells.
 use Rattle.std.proofs.Common.{◌≡◌, ℕ, ◌≤◌, List, [], ◌++◌, Bool, true, false, Option, Some, None, Result, Ok, Err, refl, sym, ap, subst, ◌∙◌, arith}
 use Rattle.std.proofs.KnownBytes.{Consumes-nil}
+use Rattle.std.specs.declared.string.String.{String}
+use Rattle.std.specs.declared.alloc.Global.{Global}
 use Rattle.book.specs.Books.{Book}
 use Rattle.book.specs.BookView.{book_of}
 use Rattle.commands.specs.Commands as commands
 use Rattle.commands.specs.Commands.{Spelled, fault_text}
 use Rattle.commands.specs.Scripts.{script_of, behind_lines}
+use Rattle.commands.specs.ScriptView.{IsScript}
 use Rattle.commands.specs.declared.command.LineFault.{LineFault}
 use Rattle.streams.specs.Lines.{is_ended, unread, IsSound}
 use Rattle.streams.specs.Outlet.{is_cut, Tells}
@@ -15,7 +18,7 @@ use Rattle.streams.proofs.Giving.{tells_none, tells_both, tells_given}
 use Rattle.stepper.specs.Replies.{Answers, AnswersBirth, FirstReply, born, skipped, no_command, refused, script_lines, line_feeds}
 use Rattle.stepper.specs.Engine.{Happens}
 use Rattle.stepper.specs.Written.{Adds}
-use Rattle.stepper.specs.Taking.{Follows, TakesScript, Does}
+use Rattle.stepper.specs.Taking.{Follows, TakesScript, TakesHeld, Does}
 use Rattle.stepper.specs.declared.engine.Engine.{Engine}
 use Rattle.stepper.proofs.Answered.{happens_as, accepts, refuses, answered_at, born_at}
 
@@ -83,3 +86,14 @@ module _ {R W : Type 0} (remaining : R → Option (List ℕ)) (contents : W → 
       limits = h.limits;
     };
   }
+
+  -- the same of a script that is held, where what comes of it has other names
+  pub does_held : {old new now : Engine} {far : Lines R} {then : Outlet W} {found : Result (Option (String Global)) LineFault} (c : Spelled) (x : List ℕ) (earlier : List (List ℕ)) (lines : ℕ) → c ≡ commands.birth x earlier lines
+      → is_cut sink ≡ false → now ≡ new → far ≡ later → then ≡ after → TakesHeld remaining contents lines source later sink mid found
+      → ((script : Result (List ℕ) LineFault) → IsScript found script → Happens contents old new mid after (λ b r s d. AnswersBirth b x earlier script r s d))
+      → Does remaining contents old now source far sink then (Ok (Some c))
+  does_held {old = old} {new = new} {far = far} {then = then} c x earlier lines e uncut same same_source same_sink t h =
+      subst (λ (z : Engine). Does remaining contents old z source far sink then (Ok (Some c))) (sym same)
+      (subst (λ (z : Lines R). Does remaining contents old new source z sink then (Ok (Some c))) (sym same_source)
+      (subst (λ (z : Outlet W). Does remaining contents old new source later sink z (Ok (Some c))) (sym same_sink)
+      (does_born c x earlier lines t.script e uncut t.uncut t.takes (h t.script t.is))))

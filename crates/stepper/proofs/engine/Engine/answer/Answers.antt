@@ -1,10 +1,11 @@
 use Rattle.std.proofs.Common.{ap, sym, refl, subst, ◌∙◌, ℕ, Ok, Some}
 use Rattle.std.proofs.lemmas.Result.{err_from_is_err_and}
 use Rattle.commands.specs.Commands.{command_of}
+use Rattle.commands.specs.Words.{words_in}
 use Rattle.stepper.specs.Replies.{arrive_moves, forward_moves, turn_moves, script_lines}
 use Rattle.stepper.specs.Taking.{StopsWithin}
 use Rattle.stepper.proofs.Answered.{happens_as}
-use Rattle.stepper.proofs.Doing.{does_alone, does_born}
+use Rattle.stepper.proofs.Doing.{does_alone, does_held}
 use Rattle.stepper.proofs.engine.Engine.answer.Goals as goal
 use Rattle.stepper.proofs.engine.Engine.answer.Goals.{in-Birth, in-Ask, in-Arrive, in-Forward, in-Learn, in-Turn, in-Step, in-Run, in-Work, in-Enabled, in-Show, in-Journal, in-Log, in-Cone, in-Undo, in-UndoCone, in-Redo, in-Exchange, in-Settle}
 
@@ -15,7 +16,8 @@ returns g c =
     let source = c.args.source.now in
     let sink = c.args.sink.now in
     elim c.match-command.branch [
-      | in-Birth w ↦ ?
+      | in-Birth w ↦ does_held remaining contents source w.take_script.new.source sink w.take_script.new.sink w.birth.new.out _ w.in-Birth.name.now (words_in w.in-Birth.earlier.now) w.in-Birth.lines (ap command_of w.in-Birth.is)
+          c.requires.open w.self-is w.source-is w.sink-is w.in_ok-script-in-Birth.ensures w.birth.ensures
       | in-Ask w ↦ does_alone remaining contents source sink w.ask.new.out c.requires.sound _ _ (ap command_of w.in-Ask.is) refl w.self-is w.source-is w.sink-is w.ask.ensures
       | in-Arrive w ↦ does_alone remaining contents source sink w.obey.new.out c.requires.sound _ _ (ap command_of w.in-Arrive.is) refl w.self-is w.source-is w.sink-is (happens_as (λ b r s d k. arrive_moves k) w.obey.ensures)
       | in-Forward w ↦ does_alone remaining contents source sink w.obey-in-Forward.new.out c.requires.sound _ _ (ap command_of w.in-Forward.is) refl w.self-is w.source-is w.sink-is (happens_as (λ b r s d k. forward_moves k) w.obey-in-Forward.ensures)
