@@ -3,7 +3,7 @@
 use crate::fakes::{dripping, ending_of};
 use book::book::Book;
 use book::fault::WorkFault;
-use crew::crew::{Crew, Nobody, Order};
+use crew::crew::{Crew, Order};
 use std::alloc::Global;
 use std::io;
 use std::io::{Error, ErrorKind, Write};
@@ -48,9 +48,14 @@ struct Asked {
 }
 
 impl Crew for Asked {
-    fn work(&mut self, alloc: Global, book: Book, order: Order) -> (Book, Result<u64, WorkFault>) {
+    fn work(
+        &mut self,
+        _alloc: Global,
+        book: Book,
+        _order: Order,
+    ) -> (Book, Result<u64, WorkFault>) {
         self.times = self.times.saturating_add(1);
-        Nobody.work(alloc, book, order)
+        (book, Err(WorkFault::NoWorker))
     }
 }
 
