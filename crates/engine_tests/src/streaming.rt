@@ -80,7 +80,10 @@ fn outcome_of(rt: &(impl Abort + AllocGlobal), commands: &str, flushes: u32) -> 
         largest: 0,
         flushes_left: flushes,
     };
-    let mut source = Lines::new(alloc, dripping(commands.as_bytes(), 8_192)).expect(rt, "no memory");
+    let mut source = Lines::new(alloc, dripping(commands.as_bytes(), 8_192)).expect(
+        rt,
+        "no memory",
+    );
     let mut sink = Outlet::new(alloc, basin);
     let mut crew = Asked { times: 0 };
     let ending = ending_of(run(alloc, &mut source, &mut sink, limits, &mut crew));
@@ -98,7 +101,8 @@ const TWO: &str = "vat a () 0\nvat b () 0\nrun 4\nwork 1 1\n";
 #[test]
 fn each_step_of_a_run_goes_out(rt: HostRuntime) {
     let outcome = outcome_of(&rt, TWO, u32::MAX);
-    let wanted = "|ok e1 e1.m0\nok e2 e2.m0\nok e3 value null\n|ok e4 value null\n|idle\nno S7 NoWorker\n||";
+    let wanted =
+        "|ok e1 e1.m0\nok e2 e2.m0\nok e3 value null\n|ok e4 value null\n|idle\nno S7 NoWorker\n||";
     let taken = str::from_utf8(&outcome.basin.taken).expect(&rt, "no text");
     assert_eq!(rt; taken, wanted);
     assert_eq!(rt; outcome.ending, "refused");
@@ -122,7 +126,9 @@ fn large_world(rt: &(impl Abort + AllocGlobal), vats: u32) -> String {
     let mut commands = String::new(alloc);
     for number in 0..vats {
         let vat = format!(in alloc; "vat v{number} () 1\ndef t := \"{text}\"\n");
-        commands.push_str(vat.expect(rt, "no memory").as_str()).expect(rt, "no memory");
+        commands
+            .push_str(vat.expect(rt, "no memory").as_str())
+            .expect(rt, "no memory");
     }
     commands.push_str("run 100\nshow\n").expect(rt, "no memory");
     commands
