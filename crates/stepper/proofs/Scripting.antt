@@ -92,6 +92,11 @@ was_open false now stays h = refl
 few_feeds : (taken n : ℕ) (before part : List ℕ) → taken < n → line_feeds before ≡ taken → HasNoFeed part → line_feeds (before ++ part) < n
 few_feeds taken n before part l e h = let none = no_feeds part h in omega (arith, line_feeds-append before part, none)
 
+-- a line adds to the text what it says
+pub grown_by : (r : Result (Bor (List ℕ)) LineFault) (first : Bool) (text : List ℕ) → IfOk r (λ t. with_line r first text ≡ text ++ (cond first [] (10 ∷ []) ++ t.now))
+grown_by (Ok t) first text = refl
+grown_by (Err f) first text = tt
+
 module _ {R W : Type 0} (remaining : R → Option (List ℕ)) (contents : W → Option (List ℕ)) (n : ℕ) where
   -- so many lines of the script were taken
   pub record Scripted (source now : Lines R) (sink then : Outlet W) (taken : ℕ) (fault : Option LineFault) (text : List ℕ) : Type 0 where
@@ -221,8 +226,3 @@ module _ {R W : Type 0} (remaining : R → Option (List ℕ)) (contents : W → 
     pub scripted : Scripted source now sink then taken fault text
     pub is : IsHeld held text
     pub uncut : is_cut then ≡ false
-
-  -- a line adds to the text what it says
-  pub grown_by : (r : Result (Bor (List ℕ)) LineFault) (first : Bool) (text : List ℕ) → IfOk r (λ t. with_line r first text ≡ text ++ (cond first [] (10 ∷ []) ++ t.now))
-  grown_by (Ok t) first text = refl
-  grown_by (Err f) first text = tt

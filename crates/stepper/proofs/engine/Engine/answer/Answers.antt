@@ -1,4 +1,4 @@
-use Rattle.std.proofs.Common.{ap, sym, refl, subst, ◌∙◌, ℕ, Ok, Some}
+use Rattle.std.proofs.Common.{ap, sym, refl, subst, ℕ, Ok, Some}
 use Rattle.std.proofs.lemmas.Result.{err_from_is_err_and}
 use Rattle.commands.specs.Commands.{command_of}
 use Rattle.commands.specs.Words.{words_in}
@@ -7,36 +7,65 @@ use Rattle.stepper.specs.Taking.{StopsWithin}
 use Rattle.stepper.proofs.Answered.{happens_as}
 use Rattle.stepper.proofs.Doing.{does_alone, does_held}
 use Rattle.stepper.proofs.engine.Engine.answer.Goals as goal
-use Rattle.stepper.proofs.engine.Engine.answer.Goals.{in-Birth, in-Ask, in-Arrive, in-Forward, in-Learn, in-Turn, in-Step, in-Run, in-Work, in-Enabled, in-Show, in-Journal, in-Log, in-Cone, in-Undo, in-UndoCone, in-Redo, in-Exchange, in-Settle}
 
-pub returns : goal.returns
-returns g c =
-    let remaining = g.R.Read.remaining in
-    let contents = g.W.Write.contents in
-    let source = c.args.source.now in
-    let sink = c.args.sink.now in
-    elim c.match-command.branch [
-      | in-Birth w ↦ does_held remaining contents source w.take_script.new.source sink w.take_script.new.sink w.birth.new.out _ w.in-Birth.name.now (words_in w.in-Birth.earlier.now) w.in-Birth.lines (ap command_of w.in-Birth.is)
-          c.requires.open w.self-is w.source-is w.sink-is w.in_ok-script-in-Birth.ensures w.birth.ensures
-      | in-Ask w ↦ does_alone remaining contents source sink w.ask.new.out c.requires.sound _ _ (ap command_of w.in-Ask.is) refl w.self-is w.source-is w.sink-is w.ask.ensures
-      | in-Arrive w ↦ does_alone remaining contents source sink w.obey.new.out c.requires.sound _ _ (ap command_of w.in-Arrive.is) refl w.self-is w.source-is w.sink-is (happens_as (λ b r s d k. arrive_moves k) w.obey.ensures)
-      | in-Forward w ↦ does_alone remaining contents source sink w.obey-in-Forward.new.out c.requires.sound _ _ (ap command_of w.in-Forward.is) refl w.self-is w.source-is w.sink-is (happens_as (λ b r s d k. forward_moves k) w.obey-in-Forward.ensures)
-      | in-Learn w ↦ does_alone remaining contents source sink w.learn.new.out c.requires.sound _ _ (ap command_of w.in-Learn.is) refl w.self-is w.source-is w.sink-is w.learn.ensures
-      | in-Turn w ↦ does_alone remaining contents source sink w.obey-in-Turn.new.out c.requires.sound _ _ (ap command_of w.in-Turn.is) refl w.self-is w.source-is w.sink-is (happens_as (λ b r s d k. turn_moves k) w.obey-in-Turn.ensures)
-      | in-Step w ↦ does_alone remaining contents source sink w.step.new.out c.requires.sound _ _ (ap command_of w.in-Step.is) refl w.self-is w.source-is w.sink-is w.step.ensures
-      | in-Run w ↦ does_alone remaining contents source sink w.run.new.out c.requires.sound _ _ (ap command_of w.in-Run.is) refl w.self-is w.source-is w.sink-is w.run.ensures
-      | in-Work w ↦ does_alone remaining contents source sink w.work.new.out c.requires.sound _ _ (ap command_of w.in-Work.is) refl w.self-is w.source-is w.sink-is w.work.ensures
-      | in-Enabled w ↦ does_alone remaining contents source sink w.enabled.new.out c.requires.sound _ _ (ap command_of w.in-Enabled.is) refl w.self-is w.source-is w.sink-is w.enabled.ensures
-      | in-Show w ↦ does_alone remaining contents source sink w.show.new.out c.requires.sound _ _ (ap command_of w.in-Show.is) refl w.self-is w.source-is w.sink-is w.show.ensures
-      | in-Journal w ↦ does_alone remaining contents source sink w.journal.new.out c.requires.sound _ _ (ap command_of w.in-Journal.is) refl w.self-is w.source-is w.sink-is w.journal.ensures
-      | in-Log w ↦ does_alone remaining contents source sink w.log.new.out c.requires.sound _ _ (ap command_of w.in-Log.is) refl w.self-is w.source-is w.sink-is w.log.ensures
-      | in-Cone w ↦ does_alone remaining contents source sink w.cone.new.out c.requires.sound _ _ (ap command_of w.in-Cone.is) refl w.self-is w.source-is w.sink-is w.cone.ensures
-      | in-Undo w ↦ does_alone remaining contents source sink w.undo_named.new.out c.requires.sound _ _ (ap command_of w.in-Undo.is) refl w.self-is w.source-is w.sink-is w.undo_named.ensures
-      | in-UndoCone w ↦ does_alone remaining contents source sink w.undo_cone.new.out c.requires.sound _ _ (ap command_of w.in-UndoCone.is) refl w.self-is w.source-is w.sink-is w.undo_cone.ensures
-      | in-Redo w ↦ does_alone remaining contents source sink w.redo_named.new.out c.requires.sound _ _ (ap command_of w.in-Redo.is) refl w.self-is w.source-is w.sink-is w.redo_named.ensures
-      | in-Exchange w ↦ does_alone remaining contents source sink w.exchange.new.out c.requires.sound _ _ (ap command_of w.in-Exchange.is) refl w.self-is w.source-is w.sink-is w.exchange.ensures
-      | in-Settle w ↦ does_alone remaining contents source sink w.settle.new.out c.requires.sound _ _ (ap command_of w.in-Settle.is) refl w.self-is w.source-is w.sink-is w.settle.ensures
-    ]
+pub returns-in_ok-script-in-Birth : goal.returns-in_ok-script-in-Birth
+returns-in_ok-script-in-Birth g c =
+    does_held g.R.Read.remaining g.W.Write.contents c.args.source.now c.take_script.new.source c.args.sink.now c.take_script.new.sink c.birth.new.out _ c.in-Birth.name.now (words_in c.in-Birth.earlier.now) c.in-Birth.lines
+    (ap command_of c.in-Birth.is) c.requires.open refl refl refl c.in_ok-script-in-Birth.ensures c.birth.ensures
+
+pub returns-in-Ask : goal.returns-in-Ask
+returns-in-Ask g c = does_alone g.R.Read.remaining g.W.Write.contents c.args.source.now c.args.sink.now c.ask.new.out c.requires.sound _ _ (ap command_of c.in-Ask.is) refl refl refl refl c.ask.ensures
+
+pub returns-in-Arrive : goal.returns-in-Arrive
+returns-in-Arrive g c = does_alone g.R.Read.remaining g.W.Write.contents c.args.source.now c.args.sink.now c.obey.new.out c.requires.sound _ _ (ap command_of c.in-Arrive.is) refl refl refl refl (happens_as (λ b r s d k. arrive_moves k) c.obey.ensures)
+
+pub returns-in-Forward : goal.returns-in-Forward
+returns-in-Forward g c = does_alone g.R.Read.remaining g.W.Write.contents c.args.source.now c.args.sink.now c.obey-in-Forward.new.out c.requires.sound _ _ (ap command_of c.in-Forward.is) refl refl refl refl (happens_as (λ b r s d k. forward_moves k) c.obey-in-Forward.ensures)
+
+pub returns-in-Learn : goal.returns-in-Learn
+returns-in-Learn g c = does_alone g.R.Read.remaining g.W.Write.contents c.args.source.now c.args.sink.now c.learn.new.out c.requires.sound _ _ (ap command_of c.in-Learn.is) refl refl refl refl c.learn.ensures
+
+pub returns-in-Turn : goal.returns-in-Turn
+returns-in-Turn g c = does_alone g.R.Read.remaining g.W.Write.contents c.args.source.now c.args.sink.now c.obey-in-Turn.new.out c.requires.sound _ _ (ap command_of c.in-Turn.is) refl refl refl refl (happens_as (λ b r s d k. turn_moves k) c.obey-in-Turn.ensures)
+
+pub returns-in-Step : goal.returns-in-Step
+returns-in-Step g c = does_alone g.R.Read.remaining g.W.Write.contents c.args.source.now c.args.sink.now c.step.new.out c.requires.sound _ _ (ap command_of c.in-Step.is) refl refl refl refl c.step.ensures
+
+pub returns-in-Run : goal.returns-in-Run
+returns-in-Run g c = does_alone g.R.Read.remaining g.W.Write.contents c.args.source.now c.args.sink.now c.run.new.out c.requires.sound _ _ (ap command_of c.in-Run.is) refl refl refl refl c.run.ensures
+
+pub returns-in-Work : goal.returns-in-Work
+returns-in-Work g c = does_alone g.R.Read.remaining g.W.Write.contents c.args.source.now c.args.sink.now c.work.new.out c.requires.sound _ _ (ap command_of c.in-Work.is) refl refl refl refl c.work.ensures
+
+pub returns-in-Enabled : goal.returns-in-Enabled
+returns-in-Enabled g c = does_alone g.R.Read.remaining g.W.Write.contents c.args.source.now c.args.sink.now c.enabled.new.out c.requires.sound _ _ (ap command_of c.in-Enabled.is) refl refl refl refl c.enabled.ensures
+
+pub returns-in-Show : goal.returns-in-Show
+returns-in-Show g c = does_alone g.R.Read.remaining g.W.Write.contents c.args.source.now c.args.sink.now c.show.new.out c.requires.sound _ _ (ap command_of c.in-Show.is) refl refl refl refl c.show.ensures
+
+pub returns-in-Journal : goal.returns-in-Journal
+returns-in-Journal g c = does_alone g.R.Read.remaining g.W.Write.contents c.args.source.now c.args.sink.now c.journal.new.out c.requires.sound _ _ (ap command_of c.in-Journal.is) refl refl refl refl c.journal.ensures
+
+pub returns-in-Log : goal.returns-in-Log
+returns-in-Log g c = does_alone g.R.Read.remaining g.W.Write.contents c.args.source.now c.args.sink.now c.log.new.out c.requires.sound _ _ (ap command_of c.in-Log.is) refl refl refl refl c.log.ensures
+
+pub returns-in-Cone : goal.returns-in-Cone
+returns-in-Cone g c = does_alone g.R.Read.remaining g.W.Write.contents c.args.source.now c.args.sink.now c.cone.new.out c.requires.sound _ _ (ap command_of c.in-Cone.is) refl refl refl refl c.cone.ensures
+
+pub returns-in-Undo : goal.returns-in-Undo
+returns-in-Undo g c = does_alone g.R.Read.remaining g.W.Write.contents c.args.source.now c.args.sink.now c.undo_named.new.out c.requires.sound _ _ (ap command_of c.in-Undo.is) refl refl refl refl c.undo_named.ensures
+
+pub returns-in-UndoCone : goal.returns-in-UndoCone
+returns-in-UndoCone g c = does_alone g.R.Read.remaining g.W.Write.contents c.args.source.now c.args.sink.now c.undo_cone.new.out c.requires.sound _ _ (ap command_of c.in-UndoCone.is) refl refl refl refl c.undo_cone.ensures
+
+pub returns-in-Redo : goal.returns-in-Redo
+returns-in-Redo g c = does_alone g.R.Read.remaining g.W.Write.contents c.args.source.now c.args.sink.now c.redo_named.new.out c.requires.sound _ _ (ap command_of c.in-Redo.is) refl refl refl refl c.redo_named.ensures
+
+pub returns-in-Exchange : goal.returns-in-Exchange
+returns-in-Exchange g c = does_alone g.R.Read.remaining g.W.Write.contents c.args.source.now c.args.sink.now c.exchange.new.out c.requires.sound _ _ (ap command_of c.in-Exchange.is) refl refl refl refl c.exchange.ensures
+
+pub returns-in-Settle : goal.returns-in-Settle
+returns-in-Settle g c = does_alone g.R.Read.remaining g.W.Write.contents c.args.source.now c.args.sink.now c.settle.new.out c.requires.sound _ _ (ap command_of c.in-Settle.is) refl refl refl refl c.settle.ensures
 
 pub returns-in_err-script-in-Birth : goal.returns-in_err-script-in-Birth
 returns-in_err-script-in-Birth g c =
