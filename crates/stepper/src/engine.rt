@@ -7,7 +7,7 @@ ghost use Rattle.book.specs.BookView.{book_of};
 ghost use Rattle.commands.specs.Commands as commands;
 ghost use Rattle.commands.specs.Commands.{command_of, reading_of};
 ghost use Rattle.commands.specs.Numbers.{events_in};
-ghost use Rattle.commands.specs.ScriptView.{IsScript};
+ghost use Rattle.commands.specs.ScriptView.{IsHeld, IsScript};
 ghost use Rattle.commands.specs.Words.{words_in};
 ghost use Rattle.commands.specs.declared.command.LineFault.{LineFault};
 ghost use Rattle.streams.specs.Lines.{is_ended, IsSound};
@@ -411,6 +411,22 @@ impl Engine {
         }
     }
 
+    /// A new vat, whose script is held, if there was memory for it.
+    fn birth_held<W: Write>(
+        &mut self,
+        name: &str,
+        earlier: &str,
+        script: &Option<String>,
+        out: &mut Outlet<W>,
+    )
+        ensures { (text : List ℕ) → IsHeld script.now text → Happens W.contents self.old self.new out.old out.new (λ b r s d. AnswersBirth b name.now (words_in earlier.now) (Ok text) r s d) }
+    {
+        match script {
+            Some(text) => self.birth_text(name, earlier, text.as_str(), out),
+            None => self.written.refuse_call(&BookFault::Memory, out),
+        }
+    }
+
     /// A new vat, whose script was taken from the lines behind the command.
     fn birth<W: Write>(
         &mut self,
@@ -422,8 +438,7 @@ impl Engine {
         ensures { (text : Result (List ℕ) LineFault) → IsScript script.now text → Happens W.contents self.old self.new out.old out.new (λ b r s d. AnswersBirth b name.now (words_in earlier.now) text r s d) }
     {
         match script {
-            Ok(Some(text)) => self.birth_text(name, earlier, text.as_str(), out),
-            Ok(None) => self.written.refuse_call(&BookFault::Memory, out),
+            Ok(held) => self.birth_held(name, earlier, held, out),
             Err(fault) => self.written.refuse_line(*fault, out),
         }
     }
