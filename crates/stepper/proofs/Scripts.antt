@@ -9,10 +9,10 @@ use Rattle.commands.specs.declared.command.LineFault.{LineFault}
 use Rattle.stepper.specs.Replies.{AnswersBirth, refused, script_refused}
 
 -- what holds of each text that may be held holds of the script
-pub by_held : {P : Result (List ℕ) LineFault → Type 0} (found : Result (Option (String Global)) LineFault) (held : Option (String Global)) (script : Result (List ℕ) LineFault) → found ≡ Ok held → IsScript found script
+pub by_held : (P : Result (List ℕ) LineFault → Type 0) (found : Result (Option (String Global)) LineFault) (held : Option (String Global)) (script : Result (List ℕ) LineFault) → found ≡ Ok held → IsScript found script
     → ((text : List ℕ) → IsHeld held text → P (Ok text)) → P script
-by_held found held (Ok text) e is f = f text (subst (λ z. IsScript z (Ok text)) e is)
-by_held found held (Err fault) e is f = absurd (subst (λ z. IsScript z (Err fault)) e is)
+by_held P found held (Ok text) e is f = f text (subst (λ z. IsScript z (Ok text)) e is)
+by_held P found held (Err fault) e is f = absurd (subst (λ z. IsScript z (Err fault)) e is)
 
 faulty_by : (b : Book) (x : List ℕ) (earlier : List (List ℕ)) (f : LineFault) (script : Result (List ℕ) LineFault) → IsScript (Err f) script → AnswersBirth b x earlier script (refused (fault_text f)) true b
 faulty_by b x earlier f script is = subst (λ z. AnswersBirth b x earlier z (refused (fault_text f)) true b) (sym is) script_refused

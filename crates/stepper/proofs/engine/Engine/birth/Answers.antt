@@ -9,7 +9,7 @@ use Rattle.stepper.proofs.engine.Engine.birth.Goals as goal
 
 pub returns-in-Ok : goal.returns-in-Ok
 returns-in-Ok g c = λ script is.
-    by_held {P = λ z. Happens g.W.Write.contents c.args.self.now c.birth_held.new.self c.args.out.now c.birth_held.new.out (λ b r s d. AnswersBirth b c.args.name.now (words_in c.args.earlier.now) z r s d)} c.args.script.now
+    by_held (λ z. Happens g.W.Write.contents c.args.self.now c.birth_held.new.self c.args.out.now c.birth_held.new.out (λ b r s d. AnswersBirth b c.args.name.now (words_in c.args.earlier.now) z r s d)) c.args.script.now
     c.in-Ok.held script c.in-Ok.is is c.birth_held.ensures
 
 pub returns-in-Err : goal.returns-in-Err
