@@ -21,15 +21,16 @@ SOURCE = Path(__file__).resolve().parent / "refusing.c"
 QUESTIONS = "show\njournal\n"
 OUT_OF_MEMORY = "evats: out of memory\n"
 WANT, WANT_OF_READING, NO_WORKER = "no B20 Memory\n", "no L7 Memory\n", "no S7 NoWorker\n"
-# How a command ends for which memory was refused: it is answered as ever; the reply says want of memory; the run ends, since
-# there was no room for a line of the input; or since there was none for something else, as a reply.
-USUAL, TOLD, AT_LINE, AT_REPLY = "answered as ever", "answered by want of memory", "ended at a line", "ended at a reply"
+# How a command ends for which memory was refused: it is answered as ever; the reply says want of memory; or the run ends, since
+# there was no room for a line of the input.
+USUAL, TOLD, AT_LINE = "answered as ever", "answered by want of memory", "ended at a line"
 # Of `work`: workers did something or nothing, and what they did is possible.
 FOLLOWED = "workers were followed"
 FAILED, LEFT_OUT = "failed", "left out"
-KINDS = (LEFT_OUT, USUAL, TOLD, FOLLOWED, AT_LINE, AT_REPLY, FAILED)
+KINDS = (LEFT_OUT, USUAL, TOLD, FOLLOWED, AT_LINE, FAILED)
 NOT_BEHIND = "the run ended, and not just what stands before was answered"
 GOES_ON = "room for a line was refused, and the run did not end for want of memory"
+AT_NO_LINE = "the run ended though no room for a line was refused"
 
 
 def compiled(folder):
@@ -116,8 +117,9 @@ class Trial:
         answered = self.plain("")[0]
         rest = ended.out.removeprefix(answered)
         if (ended.status, ended.err) == (2, OUT_OF_MEMORY):
+            must(refused_in_line, AT_NO_LINE)
             must(ended.out == answered, f"{NOT_BEHIND}: {brief(rest)}")
-            return AT_LINE if refused_in_line else AT_REPLY
+            return AT_LINE
         must(not refused_in_line, GOES_ON)
         must(ended.status == 1 and not ended.err, f"{ended.ending}, and said {brief(rest)}{brief(ended.err)}")
         kind, first, said = self.done(rest.partition(MARKED)[0])
@@ -207,8 +209,9 @@ class WorkTrial(Trial):
         if not refused:
             return None
         if found and (ended.status, ended.err) == (2, OUT_OF_MEMORY):
+            must(refused_in_line, AT_NO_LINE)
             must(is_whole, f"{NOT_BEHIND}: {found}")
-            return AT_LINE if refused_in_line else AT_REPLY
+            return AT_LINE
         must(not refused_in_line, GOES_ON)
         must(not found and ended.status == 1 and not ended.err, f"{found or ''}\n{ended.ending}; {brief(ended.err)}")
         return FOLLOWED
@@ -247,12 +250,10 @@ def trial_of(words, refuser, earlier, command):
     return None if any(map(is_work, earlier)) else Trial(words, refuser, before, command)
 
 
-def kind_of(trial, number, is_on, is_today):
+def kind_of(trial, number, is_on):
     """How a command ends for which memory is refused, and what may not be, if there is something."""
     try:
-        kind = trial.refuse(number, is_on)
-        must(kind != AT_REPLY or is_today, "the run ended though no room for a line was refused")
-        return kind, ""
+        return trial.refuse(number, is_on), ""
     except Differs as differs:
         return FAILED, f"request {number} {'and all behind it' if is_on else 'alone'} refused for {brief(trial.command)}{differs}"
 
@@ -269,7 +270,7 @@ def try_command(trial, name, options, found):
     for is_on in (False, True):
         for number in requests:
             is_late = time.monotonic() > options.end
-            kind, fault = (LEFT_OUT, "") if is_late else kind_of(trial, number, is_on, options.is_today)
+            kind, fault = (LEFT_OUT, "") if is_late else kind_of(trial, number, is_on)
             found.counts[kind] += kind is not None
             found.faults += [f"{name}: {fault}"] if fault else []
 

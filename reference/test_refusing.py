@@ -83,10 +83,6 @@ class Refused(unittest.TestCase):
         self.assertTrue(is_failed)
         self.assertRegex(said, "nor want of memory\nwanted: no B12 NoEvent 1\ngot:    no B20 Memory\n")
 
-    def test_runs_that_end_at_a_reply_are_counted_for_today(self):
-        told_of = "answered as ever: 2\nended at a line: 2\nended at a reply: 2\n6 refusals, 0 failed\n"
-        self.assertEqual(self.refuse("--today", fault="ends refused", session=SHORTEST), (False, told_of))
-
     def test_without_a_refusal_nothing_is_passed(self):
         self.assertEqual(self.refuse("--seconds", "0"), (True, "0 refusals, 0 failed\n"))
         self.assertEqual(told(["refuse"], "--program", FAKE), (True, "0 refusals, 0 failed\n"))

@@ -1,4 +1,5 @@
 pub mod Births
+pub mod Events
 pub mod Boundaries
 pub mod LineTexts
 pub mod Numerals

@@ -1,5 +1,5 @@
 -- The commands, and the lines that spell them.
-use Rattle.std.specs.Prelude.{ℕ, List, [], ◌∷◌, map, Bool, true, false, not, ◌&&◌, ◌||◌, ◌==◌, length, nat_le, cond, Option, Some, None, Result, Ok, Err, codes}
+use Rattle.std.specs.Prelude.{ℕ, List, [], ◌∷◌, Bool, true, false, not, ◌&&◌, ◌||◌, ◌==◌, length, nat_le, cond, Option, Some, None, Result, Ok, Err, codes}
 use Rattle.std.specs.Option.{option_map, option_and_then}
 use Rattle.std.specs.Str.{bytes_eq}
 use Rattle.std.specs.List.{before_first, after_first}
@@ -7,7 +7,7 @@ use Rattle.etoken.specs.Names.{is_name}
 use Rattle.ids.specs.declared.names.EventName.{EventName}
 use Rattle.ids.specs.declared.names.MsgId.{MsgId}
 use Rattle.commands.specs.Words.{without_blanks, first_word, behind_word, words_in, ends_blank}
-use Rattle.commands.specs.Numbers.{number_of, behind_tag, message_named, promise_named, event_named, one_or_more}
+use Rattle.commands.specs.Numbers.{number_of, behind_tag, message_named, promise_named, event_named, one_or_more, events_in}
 use Rattle.commands.specs.declared.numbers.PromiseName.{PromiseName}
 use Rattle.commands.specs.declared.command.Command.{Command}
 use Rattle.commands.specs.declared.command.Command.TheVariants as code
@@ -180,7 +180,7 @@ spelled_by line =
 
 -- what the program's commands stand for
 abbrev pub command_of : Command → Spelled
-command_of (code.Birth name earlier lines) = birth name.now (map (λ x. x.now) earlier.items) lines
+command_of (code.Birth name earlier lines) = birth name.now (words_in earlier.now) lines
 command_of (code.Ask name text) = ask name.now text.now
 command_of (code.Arrive m) = arrive m
 command_of (code.Forward m) = forward m
@@ -194,9 +194,9 @@ command_of code.Show = show
 command_of code.Journal = journal
 command_of (code.Log name) = log name.now
 command_of (code.Cone e) = cone e
-command_of (code.Undo events) = undo events.items
+command_of (code.Undo words) = undo (events_in words.now)
 command_of (code.UndoCone e) = undo_cone e
-command_of (code.Redo events) = redo events.items
+command_of (code.Redo words) = redo (events_in words.now)
 command_of (code.Exchange position) = exchange position
 command_of (code.Settle position) = settle position
 

@@ -5,6 +5,7 @@ use Rattle.std.specs.Char.{is_ascii_digit}
 use Rattle.std.specs.List.{list_all, before_first, after_first}
 use Rattle.ids.specs.declared.names.EventName.{EventName}
 use Rattle.ids.specs.declared.names.MsgId.{MsgId}
+use Rattle.commands.specs.Words.{words_in}
 use Rattle.commands.specs.declared.numbers.PromiseName.{PromiseName}
 
 -- decimal digits, one at least
@@ -65,3 +66,11 @@ events_named (word ∷ words) = option_and_then (λ e. option_map (λ es. e ∷ 
 abbrev pub one_or_more : List (List ℕ) → Option (List EventName)
 one_or_more [] = None
 one_or_more (word ∷ words) = events_named (word ∷ words)
+
+abbrev pub listed : Option (List EventName) → List EventName
+listed None = []
+listed (Some es) = es
+
+-- the events that the words of a text name, where they are one or more and all are names
+abbrev pub events_in : List ℕ → List EventName
+events_in text = listed (one_or_more (words_in text))

@@ -1,18 +1,18 @@
 // Commands, as lines spell them.
-ghost use Rattle.std.specs.Prelude.{◌≡◌, ℕ, map, Some, IfOk};
+ghost use Rattle.std.specs.Prelude.{◌≡◌, ℕ, Some, None, cond};
 ghost use Rattle.std.specs.Option.{option_map, option_and_then};
 ghost use Rattle.commands.specs.Numbers.{number_of};
+ghost use Rattle.commands.specs.Words.{words_in};
 ghost use Rattle.ids.specs.declared.names.EventName.{EventName};
 ghost use Rattle.ids.specs.declared.names.MsgId.{MsgId};
 ghost use Rattle.commands.specs.Commands.{Spelled, is_vat_name, at_most, from_one_to, is_among, are_vats, earlier_of, lines_of, birth_of, ask_of, arrive, forward, learn_of, turn, step, run_of, work_of, enabled, show, journal, log_of, cone, undo, undo_cone, redo, exchange, settle, of_position, alone, of_message, of_event, of_events, is_skipped, begun_by, spelled_by, command_of, reading_of, fault_text};
 
 use crate::numbers::{
-    PromiseName, behind_tag, event_named, events_named, message_named, number, promise_named,
+    PromiseName, are_events, behind_tag, event_named, message_named, number, promise_named,
 };
-use crate::words::{all_words, cut_word, ends_blank, skip_blanks};
+use crate::words::{cut_word, ends_blank, skip_blanks};
 use etoken::names::is_name;
 use ids::names::{EventName, MsgId};
-use std::alloc::{AllocError, Global};
 use std::fmt;
 use std::fmt::{Debug, Display, Formatter, Write};
 use thiserror::Error;
@@ -36,12 +36,12 @@ const MOST_WORKERS: u32 = 64;
 const MOST_TURNS: u32 = 1_000_000;
 
 /// A command.
-#[derive(Drop)]
+#[derive(Clone, Copy)]
 pub enum Command<'a> {
-    /// A new vat: its script is in so many lines that follow, and may name these vats.
+    /// A new vat: its script is in so many lines that follow, and may name the vats that these words do.
     Birth {
         name: &'a str,
-        earlier: Vec<&'a str>,
+        earlier: &'a str,
         lines: u32,
     },
     /// A program that is asked of a vat.
@@ -73,10 +73,12 @@ pub enum Command<'a> {
     /// The log of a vat's turns is to be written.
     Log(&'a str),
     Cone(EventName),
-    Undo(Vec<EventName>),
+    /// The events that these words name are to be undone.
+    Undo(&'a str),
     /// An event is undone with its cone.
     UndoCone(EventName),
-    Redo(Vec<EventName>),
+    /// The events that these words name are to be live again.
+    Redo(&'a str),
     /// The entry at a position, counted from 1, and the one behind it are to change places.
     Exchange(usize),
     /// All entries up to a position, counted from 1, are to be settled.
@@ -141,71 +143,75 @@ fn lines_behind(text: &str) -> Option<u32>
     }
 }
 
-fn is_among(words: &[&str], word: &str) -> bool
-    ensures { result ≡ is_among (map (λ w. w.now) words.now) word.now }
+/// Whether a word is among those of a text.
+fn is_among(text: &str, word: &str) -> bool
+    ensures { result ≡ is_among (words_in text.now) word.now }
 {
-    for other in words {
-        if *other == word {
+    let mut rest = skip_blanks(text);
+    'words: while !rest.is_empty() {
+        let (other, behind) = cut_word(rest);
+        if other == word {
             return true;
         }
+        rest = behind;
     }
     false
 }
 
-/// Whether all words may name vats, and none is given twice.
-fn are_vats(words: &[&str]) -> bool
-    ensures { result ≡ are_vats (map (λ w. w.now) words.now) }
+/// Whether all words of a text may name vats, and none is given twice.
+fn are_vats(text: &str) -> bool
+    ensures { result ≡ are_vats (words_in text.now) }
 {
-    let mut index = 0;
-    while index < words.len() {
-        let word = words[index];
+    let mut rest = skip_blanks(text);
+    'words: while !rest.is_empty() {
+        let (word, behind) = cut_word(rest);
         if !is_vat_name(word) {
             return false;
         }
-        if is_among(&words[index + 1..], word) {
+        if is_among(behind, word) {
             return false;
         }
-        index += 1;
+        rest = behind;
     }
     true
 }
 
-/// The names of earlier vats inside brackets, which stand against the first and the last of them, or against each other.
-fn earlier_vats(alloc: Global, inside: &str) -> Result<Option<Vec<&str>>, AllocError>
-    ensures { IfOk result (λ r. option_map (λ names. map (λ x. x.now) names.items) r ≡ earlier_of inside.now) }
+/// Whether the words inside brackets may name earlier vats: they stand against the brackets, and these against each other where there is
+/// none.
+fn may_be_earlier(inside: &str) -> bool
+    ensures { cond result (Some (words_in inside.now)) None ≡ earlier_of inside.now }
 {
     let (first, _) = cut_word(inside);
     if first.is_empty() && !inside.is_empty() || ends_blank(inside.as_bytes()) {
-        return Ok(None);
+        return false;
     }
-    let names = all_words(alloc, inside)?;
-    Ok(are_vats(&names).then_some(names))
+    are_vats(inside)
 }
 
-fn birth(alloc: Global, words: &str) -> Result<Option<Command<'_>>, AllocError>
-    ensures { IfOk result (λ r. option_map command_of r ≡ birth_of words.now) }
+fn birth(words: &str) -> Option<Command<'_>>
+    ensures { option_map command_of result ≡ birth_of words.now }
 {
     let (name, behind) = cut_word(words);
     if !is_vat_name(name) {
-        return Ok(None);
+        return None;
     }
     let Some(text) = behind_tag('(', behind) else {
-        return Ok(None);
+        return None;
     };
-    let Some((inside, behind)) = text.split_once(')') else {
-        return Ok(None);
+    let Some((earlier, behind)) = text.split_once(')') else {
+        return None;
     };
     let Some(lines) = lines_behind(behind) else {
-        return Ok(None);
+        return None;
     };
-    let Some(earlier) = earlier_vats(alloc, inside)? else {
-        return Ok(None);
-    };
-    Ok(Some(Command::Birth {
+    if !may_be_earlier(earlier) {
+        return None;
+    }
+    Some(Command::Birth {
         name,
         earlier,
         lines,
-    }))
+    })
 }
 
 fn ask(words: &str) -> Option<Command<'_>>
@@ -345,22 +351,16 @@ fn undo_cone(words: &str) -> Option<Command<'_>>
     Some(Command::UndoCone(one_event(words)?))
 }
 
-fn undo(alloc: Global, words: &str) -> Result<Option<Command<'_>>, AllocError>
-    ensures { IfOk result (λ r. option_map command_of r ≡ of_events undo words.now) }
+fn undo(words: &str) -> Option<Command<'_>>
+    ensures { option_map command_of result ≡ of_events undo words.now }
 {
-    match events_named(alloc, words)? {
-        Some(events) => Ok(Some(Command::Undo(events))),
-        None => Ok(None),
-    }
+    are_events(words).then_some(Command::Undo(words))
 }
 
-fn redo(alloc: Global, words: &str) -> Result<Option<Command<'_>>, AllocError>
-    ensures { IfOk result (λ r. option_map command_of r ≡ of_events redo words.now) }
+fn redo(words: &str) -> Option<Command<'_>>
+    ensures { option_map command_of result ≡ of_events redo words.now }
 {
-    match events_named(alloc, words)? {
-        Some(events) => Ok(Some(Command::Redo(events))),
-        None => Ok(None),
-    }
+    are_events(words).then_some(Command::Redo(words))
 }
 
 /// The one position that words name.
@@ -399,11 +399,11 @@ fn is_skipped(text: &[u8]) -> bool
 pub type Said<'a> = Result<Option<Command<'a>>, LineFault>;
 
 /// The command that a word begins.
-fn begun_by<'a>(alloc: Global, word: &str, words: &'a str) -> Result<Said<'a>, AllocError>
-    ensures { IfOk result (λ r. reading_of r ≡ begun_by word.now words.now) }
+fn begun_by<'a>(word: &str, words: &'a str) -> Said<'a>
+    ensures { reading_of result ≡ begun_by word.now words.now }
 {
     let command = match word {
-        "vat" => birth(alloc, words)?,
+        "vat" => birth(words),
         "ask" => ask(words),
         "arrive" => arrive(words),
         "forward" => forward(words),
@@ -417,27 +417,27 @@ fn begun_by<'a>(alloc: Global, word: &str, words: &'a str) -> Result<Said<'a>, A
         "journal" => journal(words),
         "log" => log(words),
         "cone" => cone(words),
-        "undo" => undo(alloc, words)?,
+        "undo" => undo(words),
         "undo-cone" => undo_cone(words),
-        "redo" => redo(alloc, words)?,
+        "redo" => redo(words),
         "exchange" => exchange(words),
         "settle" => settle(words),
-        _ => return Ok(Err(LineFault::UnknownCommand)),
+        _ => return Err(LineFault::UnknownCommand),
     };
     match command {
-        Some(command) => Ok(Ok(Some(command))),
-        None => Ok(Err(LineFault::BadWord)),
+        Some(command) => Ok(Some(command)),
+        None => Err(LineFault::BadWord),
     }
 }
 
 /// The command that a line spells, or none where the line is blank or a comment.
-pub fn command_of(alloc: Global, line: &str) -> Result<Said<'_>, AllocError>
-    ensures { IfOk result (λ r. reading_of r ≡ spelled_by line.now) }
+pub fn command_of(line: &str) -> Said<'_>
+    ensures { reading_of result ≡ spelled_by line.now }
 {
     let text = skip_blanks(line);
     if is_skipped(text.as_bytes()) {
-        return Ok(Ok(None));
+        return Ok(None);
     }
     let (word, words) = cut_word(text);
-    begun_by(alloc, word, words)
+    begun_by(word, words)
 }

@@ -1,9 +1,9 @@
 // Numbers, and names of messages, promises and events, in a command.
-ghost use Rattle.std.specs.Prelude.{◌≡◌, ◌<◌, Some, IfOk};
+ghost use Rattle.std.specs.Prelude.{◌≡◌, ◌<◌, Some, IfOk, is_some};
 ghost use Rattle.std.specs.Char.{is_ascii_digit};
 ghost use Rattle.std.specs.Option.{option_map};
 ghost use Rattle.std.specs.List.{list_all};
-ghost use Rattle.commands.specs.Numbers.{number_of, behind_tag, tagged, message_named, promise_named, event_named, one_or_more, is_numeral};
+ghost use Rattle.commands.specs.Numbers.{number_of, behind_tag, tagged, message_named, promise_named, event_named, one_or_more, events_in, is_numeral};
 ghost use Rattle.commands.specs.Words.{words_in};
 
 use crate::words::{cut_word, skip_blanks};
@@ -90,8 +90,26 @@ pub(crate) fn event_named(word: &str) -> Option<EventName>
     Some(EventName(u64::from(number)))
 }
 
+/// Whether the words of a text are one or more, and each is an event's name.
+pub(crate) fn are_events(words: &str) -> bool
+    ensures { result ≡ is_some (one_or_more (words_in words.now)) }
+{
+    let mut rest = skip_blanks(words);
+    if rest.is_empty() {
+        return false;
+    }
+    'words: while !rest.is_empty() {
+        let (word, behind) = cut_word(rest);
+        if event_named(word).is_none() {
+            return false;
+        }
+        rest = behind;
+    }
+    true
+}
+
 /// The events that the words of a text name, where they are one or more and all are names.
-pub(crate) fn events_named(alloc: Global, words: &str) -> Result<Option<Vec<EventName>>, AllocError>
+fn events_named(alloc: Global, words: &str) -> Result<Option<Vec<EventName>>, AllocError>
     ensures { IfOk result (λ r. option_map (λ events. events.items) r ≡ one_or_more (words_in words.now)) }
 {
     let mut events = Vec::new(alloc);
@@ -105,4 +123,17 @@ pub(crate) fn events_named(alloc: Global, words: &str) -> Result<Option<Vec<Even
         rest = behind;
     }
     Ok((!events.is_empty()).then_some(events))
+}
+
+/// The events that words name, as those of `undo` and `redo` do.
+///
+/// # Errors
+/// Memory ran out for the list.
+pub fn events_in(alloc: Global, words: &str) -> Result<Vec<EventName>, AllocError>
+    ensures { IfOk result (λ events. events.items ≡ events_in words.now) }
+{
+    match events_named(alloc, words)? {
+        Some(events) => Ok(events),
+        None => Ok(Vec::new(alloc)),
+    }
 }

@@ -54,7 +54,10 @@ pub(crate) fn cut_word(text: &str) -> (&str, &str)
 }
 
 /// All words of a text.
-pub(crate) fn all_words(alloc: Global, text: &str) -> Result<Vec<&str>, AllocError>
+///
+/// # Errors
+/// Memory ran out for the list.
+pub fn all_words(alloc: Global, text: &str) -> Result<Vec<&str>, AllocError>
     ensures { IfOk result (λ words. map (λ w. w.now) words.items ≡ words_in text.now) }
 {
     let mut words = Vec::new(alloc);

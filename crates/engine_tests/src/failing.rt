@@ -120,3 +120,15 @@ fn each_write_fails(rt: HostRuntime) {
         assert!(rt; replies.len() <= before.saturating_add(taken));
     }
 }
+
+/// What a step told goes out before the next one: a writer that fails behind it took that, and nothing else.
+#[test]
+fn a_write_fails_within_a_run(rt: HostRuntime) {
+    let input = dripping(b"vat a () 0\nvat b () 0\nrun 4\n", 100);
+    let output = Tap {
+        calls_left: 3,
+        ..tapping(&rt, 100)
+    };
+    let wanted = "ok e1 e1.m0\nok e2 e2.m0\nok e3 value null\n|writer 0 1";
+    expect(&rt, "a run", &told(&rt, input, output), wanted);
+}

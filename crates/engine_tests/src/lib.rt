@@ -14,4 +14,6 @@ mod lines;
 #[cfg(test)]
 mod pieces;
 #[cfg(test)]
+mod streaming;
+#[cfg(test)]
 mod talking;

@@ -15,7 +15,7 @@ use std::alloc::{AllocError, Global};
 use stepper::{Ended, Fault, Limits};
 
 /// What `--version` tells.
-const VERSION: &str = "0.1.0";
+const VERSION: &str = "0.2.0";
 
 /// What stands below the options in the help.
 const COMMANDS: &str = "\

@@ -1,3 +1,5 @@
 pub mod Births
 pub mod Listings
-pub mod Names
+pub mod EventNames
+pub mod Pictures
+pub mod Plains

@@ -65,7 +65,3 @@ messages_in m = message_entries m.entries
 
 abbrev pub board_in : BTreeMap PromId Published → List (PromId × Content)
 board_in m = board_entries m.entries
-
--- behind the text before stands now a text of this kind
-abbrev pub Written : (List ℕ → Type 0) → List ℕ → List ℕ → Type 0
-Written Is before now = (text : List ℕ) × Is text × (now ≡ before ++ text)

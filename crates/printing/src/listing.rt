@@ -1,65 +1,78 @@
 // The journal and a cone as texts.
-ghost use Rattle.std.specs.Prelude.{◌≡◌, ◌++◌, length, IfOk, OnOk, string_bytes, option_copied};
-ghost use Rattle.ids.specs.declared.names.VatNo.{VatNo};
-ghost use Rattle.worldcells.specs.EventView.{act_of, event_of};
-ghost use Rattle.worldcells.specs.Events.{event_in};
-ghost use Rattle.journal.specs.Items.{is_live, item_of};
-ghost use Rattle.journal.specs.Journals.{items_of, settled_item};
-ghost use Rattle.journal.specs.Lines.{lines_of};
-ghost use Rattle.causality.specs.Journals.{IsJournal};
-ghost use Rattle.causality.specs.Selections.{numbers};
-ghost use Rattle.printing.specs.Listing.{born, born_as, act_text, learn_text, mark_text, names_text, entry_line, base_text, journal_text, cone_text};
-ghost use Rattle.printing.specs.ListingView.{line_with};
+ghost use Rattle.std.specs.Prelude.{◌≡◌, ◌+◌, ◌<◌, ◌^◌, ◌++◌, codes, length, option_copied};
+ghost use Rattle.ids.specs.Names.{message_text, promise_text};
+ghost use Rattle.worldcells.specs.EventView.{act_of};
+ghost use Rattle.journal.specs.Items.{is_live};
+ghost use Rattle.printing.specs.Listing.{act_text, learn_text, mark_text, names_text, base_text, cone_text};
+ghost use Rattle.printing.specs.ListingView.{row_text, rows_text, listing_text};
 ghost use Rattle.printing.specs.Show.{name_of};
+ghost use Rattle.streams.specs.Outlet.{Tells};
 
-use causality::causes::{NameIndex, causes};
-use ids::names::{EventName, PromId, VatNo};
+use crate::names::{put_event, put_message, put_promise};
+use crate::rows::{Listing, Row};
+use ids::names::{EventName, MsgId, PromId, VatNo};
 use ids::text::Text;
-use journal::entry::{Entry, Mark};
-use journal::journal::Journal;
-use journal::settled::Settled;
-use std::alloc::{AllocError, Global};
+use journal::entry::Mark;
 use std::collections::BTreeMap;
-use worldcells::event::{Action, Event};
+use std::io::Write;
+use streams::outlet::Outlet;
+use worldcells::event::Action;
 
-/// Writes the names of events, a space before each.
-fn write_names(names: &[EventName], out: &mut String) -> Result<(), AllocError>
-    ensures { OnOk result (string_bytes out.new ≡ string_bytes out.old ++ names_text names.now) }
+/// Puts the names of events, a space before each.
+fn put_names<W: Write>(names: &[EventName], out: &mut Outlet<W>)
+    ensures { Tells W.contents out.old out.new (names_text names.now) }
 {
     for name in names {
-        write!(out, " {name}")?;
+        out.put(" ");
+        put_event(*name, out);
     }
-    Ok(())
 }
 
-/// Writes that a vat, by its name, learns of a promise.
-pub(crate) fn write_learn(
-    name: Option<&Text>,
-    promise: PromId,
-    out: &mut String,
-) -> Result<(), AllocError>
-    ensures { OnOk result (string_bytes out.new ≡ string_bytes out.old ++ learn_text (option_copied name.entry) promise) }
+fn put_learn_of<W: Write>(name: &str, promise: PromId, out: &mut Outlet<W>)
+    ensures { Tells W.contents out.old out.new (codes "learn " ++ (name.now ++ (codes " " ++ promise_text promise))) }
+{
+    out.put("learn ");
+    out.put(name);
+    out.put(" ");
+    put_promise(promise, out);
+}
+
+/// Puts that a vat, by its name, learns of a promise.
+pub(crate) fn put_learn<W: Write>(name: Option<&Text>, promise: PromId, out: &mut Outlet<W>)
+    ensures { Tells W.contents out.old out.new (learn_text (option_copied name.entry) promise) }
 {
     match name {
-        Some(name) => write!(out, "learn {name} {promise}"),
-        None => Ok(()),
+        Some(name) => put_learn_of(name.as_str(), promise, out),
+        None => out.put(""),
     }
 }
 
-fn write_action(
-    action: &Action,
-    vats: &BTreeMap<VatNo, Text>,
-    out: &mut String,
-) -> Result<(), AllocError>
-    ensures { OnOk result (string_bytes out.new ≡ string_bytes out.old ++ act_text (name_of vats.now.entries) (act_of action.now)) }
+/// Puts words, and then a text.
+fn put_words<W: Write>(words: &str, text: &str, out: &mut Outlet<W>)
+    ensures { Tells W.contents out.old out.new (words.now ++ text.now) }
+{
+    out.put(words);
+    out.put(text);
+}
+
+/// Puts words, and then a message.
+pub(crate) fn put_words_of<W: Write>(words: &str, message: MsgId, out: &mut Outlet<W>)
+    ensures { Tells W.contents out.old out.new (words.now ++ message_text message) }
+{
+    out.put(words);
+    put_message(message, out);
+}
+
+fn put_action<W: Write>(action: &Action, vats: &BTreeMap<VatNo, Text>, out: &mut Outlet<W>)
+    ensures { Tells W.contents out.old out.new (act_text (name_of vats.now.entries) (act_of action.now)) }
 {
     match action {
-        Action::Birth(name, _, _) => write!(out, "birth {name}"),
-        Action::Ask(name, _) => write!(out, "ask {name}"),
-        Action::Arrive(message) => write!(out, "arrive {message}"),
-        Action::Forward(message) => write!(out, "forward {message}"),
-        Action::Learn(vat, promise) => write_learn(vats.get(vat), *promise, out),
-        Action::Turn { message, .. } => write!(out, "turn {message}"),
+        Action::Birth(name, _, _) => put_words("birth ", name.as_str(), out),
+        Action::Ask(name, _) => put_words("ask ", name.as_str(), out),
+        Action::Arrive(message) => put_words_of("arrive ", *message, out),
+        Action::Forward(message) => put_words_of("forward ", *message, out),
+        Action::Learn(vat, promise) => put_learn(vats.get(vat), *promise, out),
+        Action::Turn { message, .. } => put_words_of("turn ", *message, out),
     }
 }
 
@@ -72,95 +85,69 @@ fn mark_word(mark: Mark) -> &'static str
     }
 }
 
-fn write_entry(
+/// Puts the line of an entry at a position.
+fn put_row<W: Write>(
     position: usize,
-    entry: &Entry,
-    causes: &[EventName],
+    row: &Row<'_>,
     vats: &BTreeMap<VatNo, Text>,
-    out: &mut String,
-) -> Result<(), AllocError>
-    ensures { OnOk result (string_bytes out.new ≡ string_bytes out.old ++ entry_line (name_of vats.now.entries) position (line_with (numbers causes.now) (item_of entry.now))) }
+    out: &mut Outlet<W>,
+)
+    ensures { Tells W.contents out.old out.new (row_text (name_of vats.now.entries) position row.now) }
 {
-    let event = entry.event.name;
-    let mark = mark_word(entry.mark);
-    write!(out, "{position} {event} {mark} ")?;
-    write_action(&entry.event.action, vats, out)?;
-    out.push_str(" causes")?;
-    write_names(causes, out)?;
-    out.push_str("\n")
+    let entry = row.entry;
+    out.put_number(position);
+    out.put(" ");
+    put_event(entry.event.name, out);
+    out.put(" ");
+    out.put(mark_word(entry.mark));
+    out.put(" ");
+    put_action(&entry.event.action, vats, out);
+    out.put(" causes");
+    put_names(&row.causes, out);
+    out.put("\n");
 }
 
-/// Notes the name of the vat that is born in an event, if one is.
-fn note_birth(vats: &mut BTreeMap<VatNo, Text>, event: &Event) -> Result<(), AllocError>
-    ensures { OnOk result ((v : VatNo) → name_of vats.new.entries v ≡ born_as v (event_of event.now) (name_of vats.old.entries v)) }
-{
-    match &event.action {
-        Action::Birth(name, _, _) => {
-            vats.insert(VatNo(event.name), name.share()?)?;
-            Ok(())
-        }
-        _ => Ok(()),
-    }
-}
-
-/// Notes the name of the vat that was born in a settled event, if one was.
-fn note_settled_birth(vats: &mut BTreeMap<VatNo, Text>, settled: &Settled) -> Result<(), AllocError>
-    ensures { OnOk result ((v : VatNo) → name_of vats.new.entries v ≡ born_as v (event_in (settled_item settled.now).event) (name_of vats.old.entries v)) }
-{
-    match &settled.newborn {
-        Some(name) => {
-            vats.insert(VatNo(settled.name), name.share()?)?;
-            Ok(())
-        }
-        None => Ok(()),
-    }
-}
-
-/// The names of the vats that were born, also of births that are undone.
-fn vats_born(alloc: Global, journal: Journal) -> Result<BTreeMap<VatNo, Text>, AllocError>
-    ensures { IfOk result (λ vats. (v : VatNo) → name_of vats.entries v ≡ born (lines_of (items_of journal.entry)) v) }
-{
-    let mut vats = BTreeMap::new(alloc);
-    for settled in journal.settled {
-        note_settled_birth(&mut vats, settled)?;
-    }
-    for entry in journal.entries {
-        note_birth(&mut vats, &entry.event)?;
-    }
-    Ok(vats)
-}
-
-/// Writes how many entries are settled, if some are.
-fn write_base(count: usize, out: &mut String) -> Result<(), AllocError>
-    ensures { OnOk result (string_bytes out.new ≡ string_bytes out.old ++ base_text count) }
+/// Puts how many entries are settled, if some are.
+fn put_base<W: Write>(count: usize, out: &mut Outlet<W>)
+    ensures { Tells W.contents out.old out.new (base_text count) }
 {
     if count == 0 {
-        return Ok(());
+        out.put("");
+        return;
     }
-    write!(out, "base {count}\n")
+    out.put("base ");
+    out.put_number(count);
+    out.put("\n");
 }
 
-/// Writes a journal: how many entries are settled, if some are, and a line for each of the others, with its position from 1.
-pub fn write_journal(alloc: Global, journal: Journal, out: &mut String) -> Result<(), AllocError>
-    requires { IsJournal (items_of journal) }
-    ensures { OnOk result (string_bytes out.new ≡ string_bytes out.old ++ journal_text (length journal.entry.settled.now) (lines_of (items_of journal.entry))) }
+/// Puts the lines of entries, the first of which stands at this position.
+fn put_rows<W: Write>(
+    first: usize,
+    rows: &[Row<'_>],
+    vats: &BTreeMap<VatNo, Text>,
+    out: &mut Outlet<W>,
+)
+    requires { first + length rows.now < 2 ^ 64 }
+    ensures { Tells W.contents out.old out.new (rows_text (name_of vats.now.entries) first rows.now) }
 {
-    let base = journal.settled.len();
-    let index = NameIndex::new(alloc, journal)?;
-    let vats = vats_born(alloc, journal)?;
-    write_base(base, out)?;
-    for (place, entry) in journal.entries.iter().enumerate() {
-        let causes = causes(alloc, journal, &index, place)?;
-        write_entry(base + place + 1, entry, &causes, &vats, out)?;
+    for (place, row) in rows.iter().enumerate() {
+        put_row(first + place, row, vats, out);
     }
-    Ok(())
 }
 
-/// Writes the events of a cone.
-pub fn write_cone(events: &[EventName], out: &mut String) -> Result<(), AllocError>
-    ensures { OnOk result (string_bytes out.new ≡ string_bytes out.old ++ cone_text events.now) }
+/// Puts a journal: how many entries are settled, if some are, and a line for each of the others, with its position from 1.
+pub fn put_journal<W: Write>(listing: &Listing<'_>, out: &mut Outlet<W>)
+    ensures { Tells W.contents out.old out.new (listing_text listing.now) }
 {
-    out.push_str("cone")?;
-    write_names(events, out)?;
-    out.push_str("\n")
+    put_base(listing.settled, out);
+    put_rows(listing.settled + 1, &listing.rows, &listing.vats, out);
+}
+
+/// Puts the events of a cone.
+pub fn put_cone<W: Write>(events: &[EventName], out: &mut Outlet<W>)
+    ensures { Tells W.contents out.old out.new (cone_text events.now) }
+{
+    out.put("cone");
+    put_names(events, out);
+    out.put("\n");
 }

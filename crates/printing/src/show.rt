@@ -1,317 +1,327 @@
 // The world as a text.
-ghost use Rattle.std.specs.Prelude.{◌≡◌, ◌++◌, IfOk, OnOk, string_bytes, option_copied};
-ghost use Rattle.std.specs.BTreeMap.{get};
-ghost use Rattle.std.specs.Cmp.Lexicographic.{slice_cmp};
-ghost use Rattle.std.specs.Option.{option_map};
-ghost use Rattle.std.specs.Ordering.{nat_cmp};
-ghost use Rattle.ids.specs.Cells.{message_cmp, promise_cmp, slot_cmp, object_cmp};
-ghost use Rattle.ids.specs.contracts.reference.ReferenceOrd.TheImpl as reference_order;
+ghost use Rattle.std.specs.Prelude.{◌++◌, codes, option_copied};
+ghost use Rattle.ids.specs.Names.{event_text, promise_text, slot_text};
 ghost use Rattle.kernele.specs.Spelling.{bound_name};
-ghost use Rattle.values.specs.View.{val_of};
 ghost use Rattle.values.specs.Shown.{shown};
+ghost use Rattle.values.specs.View.{val_of};
 ghost use Rattle.heap.specs.State.{bound, held, made, viewed, fenced};
-ghost use Rattle.heap.specs.View.{bind_of, object_of, view_of, state_of, tops_of, slots_of, objects_of, views_of, fences_of};
-ghost use Rattle.worldcells.specs.Listed.{names_in};
+ghost use Rattle.heap.specs.View.{bind_of, object_of, view_of};
 ghost use Rattle.post.specs.MessageView.{place_of, message_of, published_of};
-ghost use Rattle.worldcells.specs.View.{world_of};
-ghost use Rattle.worldcells.specs.World.{message as message_content, published, vat_state};
-ghost use Rattle.printing.specs.Show.{content_text, noun_line, noun_lines, slot_line, slot_lines, object_line, object_lines, view_line, view_lines, names_text, fence_line, fence_lines, vat_line, named_text, place_text, message_line, message_lines, board_line, board_lines, Lists, ByBirth, StateLines, VatLines, Shows};
-ghost use Rattle.printing.specs.ShowView.{nouns_in, slots_in, objects_in, views_in, fences_in, messages_in, board_in, Written};
+ghost use Rattle.worldcells.specs.World.{message as message_content, published};
+ghost use Rattle.printing.specs.Show.{content_text, noun_line, noun_lines, slot_line, slot_lines, object_line, object_lines, view_line, view_lines, names_text, fence_line, fence_lines, vat_line, named_text, place_text, message_line, message_lines, board_line, board_lines};
+ghost use Rattle.printing.specs.ShowView.{nouns_in, slots_in, objects_in, views_in, fences_in, messages_in, board_in};
+ghost use Rattle.printing.specs.PictureView.{contents_text, held_text, home_text, homes_text, picture_text};
+ghost use Rattle.streams.specs.Outlet.{Tells};
 
+use crate::names::{put_event, put_message, put_object, put_promise, put_reference, put_slot};
+use crate::picture::{Home, Picture};
+use crate::value::put_value;
 use eorder::fence::Fence;
 use heap::made::Made;
-use heap::state::{Binding, VatState, View};
-use ids::names::{MsgId, ObjId, PromId, SlotId, VatNo};
+use heap::state::{Binding, Contents, View};
+use ids::names::{EventName, MsgId, ObjId, PromId, SlotId, VatNo};
 use ids::reference::Reference;
 use ids::text::Text;
 use kernele::tree::Pattern;
 use post::message::{Message, Place};
 use post::published::Published;
-use post::vat::Vat;
-use std::alloc::{AllocError, Global};
 use std::collections::BTreeMap;
-use values::showing::write_value;
+use std::io::Write;
+use streams::outlet::Outlet;
 use values::value::Value;
-use worldcells::world::World;
 
-fn write_binding(binding: &Binding, out: &mut String) -> Result<(), AllocError>
-    ensures { OnOk result (string_bytes out.new ≡ string_bytes out.old ++ content_text (bound (bind_of binding.now))) }
+fn put_slot_bound<W: Write>(slot: SlotId, out: &mut Outlet<W>)
+    ensures { Tells W.contents out.old out.new (codes "slot " ++ slot_text slot) }
+{
+    out.put("slot ");
+    put_slot(slot, out);
+}
+
+fn put_binding<W: Write>(binding: &Binding, out: &mut Outlet<W>)
+    ensures { Tells W.contents out.old out.new (content_text (bound (bind_of binding.now))) }
 {
     match binding {
-        Binding::Fixed(value) => write_value(value, out),
-        Binding::Slot(slot) => write!(out, "slot {slot}"),
+        Binding::Fixed(value) => put_value(value, out),
+        Binding::Slot(slot) => put_slot_bound(*slot, out),
     }
 }
 
-fn write_noun(name: &Text, binding: &Binding, out: &mut String) -> Result<(), AllocError>
-    ensures { OnOk result (string_bytes out.new ≡ string_bytes out.old ++ noun_line (name.now, bound (bind_of binding.now))) }
+fn put_noun_line<W: Write>(name: &Text, binding: &Binding, out: &mut Outlet<W>)
+    ensures { Tells W.contents out.old out.new (noun_line (name.now, bound (bind_of binding.now))) }
 {
-    write!(out, " noun {name} = ")?;
-    write_binding(binding, out)?;
-    out.push_str("\n")
+    out.put(" noun ");
+    out.put(name.as_str());
+    out.put(" = ");
+    put_binding(binding, out);
+    out.put("\n");
 }
 
-/// Writes top nouns in order of bytes.
-fn write_nouns(nouns: &BTreeMap<Text, Binding>, out: &mut String) -> Result<(), AllocError>
-    ensures written { OnOk result (string_bytes out.new ≡ string_bytes out.old ++ noun_lines (nouns_in nouns.now)) }
-    ensures listed { OnOk result (Lists (slice_cmp nat_cmp) (tops_of nouns.now) (nouns_in nouns.now)) }
+/// Puts top nouns in order of bytes.
+fn put_nouns<W: Write>(nouns: &BTreeMap<Text, Binding>, out: &mut Outlet<W>)
+    ensures { Tells W.contents out.old out.new (noun_lines (nouns_in nouns.now)) }
 {
     for (name, binding) in nouns.iter() {
-        write_noun(name, binding, out)?;
+        put_noun_line(name, binding, out);
     }
-    Ok(())
 }
 
-fn write_slot(slot: SlotId, value: &Value, out: &mut String) -> Result<(), AllocError>
-    ensures { OnOk result (string_bytes out.new ≡ string_bytes out.old ++ slot_line (slot, held (val_of value.now))) }
+fn put_slot_line<W: Write>(slot: SlotId, value: &Value, out: &mut Outlet<W>)
+    ensures { Tells W.contents out.old out.new (slot_line (slot, held (val_of value.now))) }
 {
-    write!(out, " slot {slot} = ")?;
-    write_value(value, out)?;
-    out.push_str("\n")
+    out.put(" slot ");
+    put_slot(slot, out);
+    out.put(" = ");
+    put_value(value, out);
+    out.put("\n");
 }
 
-/// Writes slots in order of their names.
-fn write_slots(slots: &BTreeMap<SlotId, Value>, out: &mut String) -> Result<(), AllocError>
-    ensures written { OnOk result (string_bytes out.new ≡ string_bytes out.old ++ slot_lines (slots_in slots.now)) }
-    ensures listed { OnOk result (Lists slot_cmp (slots_of slots.now) (slots_in slots.now)) }
+/// Puts slots in order of their names.
+fn put_slots<W: Write>(slots: &BTreeMap<SlotId, Value>, out: &mut Outlet<W>)
+    ensures { Tells W.contents out.old out.new (slot_lines (slots_in slots.now)) }
 {
     for (slot, value) in slots.iter() {
-        write_slot(*slot, value, out)?;
+        put_slot_line(*slot, value, out);
     }
-    Ok(())
 }
 
-fn write_pattern(pattern: &Pattern, out: &mut String) -> Result<(), AllocError>
-    ensures { OnOk result (string_bytes out.new ≡ string_bytes out.old ++ bound_name pattern.now) }
+fn put_pattern<W: Write>(pattern: &Pattern, out: &mut Outlet<W>)
+    ensures { Tells W.contents out.old out.new (bound_name pattern.now) }
 {
     match pattern {
-        Pattern::Name(name) => out.push_str(name.as_str()),
-        Pattern::Ignore => out.push_str("_"),
+        Pattern::Name(name) => out.put(name.as_str()),
+        Pattern::Ignore => out.put("_"),
     }
 }
 
-fn write_object(name: ObjId, object: &Made, out: &mut String) -> Result<(), AllocError>
-    ensures { OnOk result (string_bytes out.new ≡ string_bytes out.old ++ object_line (name, made (object_of object.now))) }
+fn put_resolver<W: Write>(promise: PromId, out: &mut Outlet<W>)
+    ensures { Tells W.contents out.old out.new (codes "resolver " ++ promise_text promise) }
 {
-    write!(out, " object {name} ")?;
-    match object {
-        Made::Plain(plain) => write_pattern(&plain.own, out)?,
-        Made::Resolver(promise) => write!(out, "resolver {promise}")?,
-    }
-    out.push_str("\n")
+    out.put("resolver ");
+    put_promise(promise, out);
 }
 
-/// Writes objects in order of their names.
-fn write_objects(objects: &BTreeMap<ObjId, Made>, out: &mut String) -> Result<(), AllocError>
-    ensures written { OnOk result (string_bytes out.new ≡ string_bytes out.old ++ object_lines (objects_in objects.now)) }
-    ensures listed { OnOk result (Lists object_cmp (objects_of objects.now) (objects_in objects.now)) }
+fn put_made<W: Write>(object: &Made, out: &mut Outlet<W>)
+    ensures { Tells W.contents out.old out.new (content_text (made (object_of object.now))) }
+{
+    match object {
+        Made::Plain(plain) => put_pattern(&plain.own, out),
+        Made::Resolver(promise) => put_resolver(*promise, out),
+    }
+}
+
+fn put_object_line<W: Write>(name: ObjId, object: &Made, out: &mut Outlet<W>)
+    ensures { Tells W.contents out.old out.new (object_line (name, made (object_of object.now))) }
+{
+    out.put(" object ");
+    put_object(name, out);
+    out.put(" ");
+    put_made(object, out);
+    out.put("\n");
+}
+
+/// Puts objects in order of their names.
+fn put_objects<W: Write>(objects: &BTreeMap<ObjId, Made>, out: &mut Outlet<W>)
+    ensures { Tells W.contents out.old out.new (object_lines (objects_in objects.now)) }
 {
     for (name, object) in objects.iter() {
-        write_object(*name, object, out)?;
+        put_object_line(*name, object, out);
     }
-    Ok(())
 }
 
-fn write_view(promise: PromId, view: &View, out: &mut String) -> Result<(), AllocError>
-    ensures { OnOk result (string_bytes out.new ≡ string_bytes out.old ++ view_line (promise, viewed (view_of view.now))) }
+fn put_resolved<W: Write>(value: &Value, out: &mut Outlet<W>)
+    ensures { Tells W.contents out.old out.new (codes " = " ++ shown (val_of value.now)) }
 {
-    write!(out, " view {promise}")?;
-    match view {
-        View::Open => out.push_str(" open")?,
-        View::Resolved(value) => {
-            out.push_str(" = ")?;
-            write_value(value, out)?;
-        }
-    }
-    out.push_str("\n")
+    out.put(" = ");
+    put_value(value, out);
 }
 
-/// Writes what is known of promises, in order of their names.
-fn write_views(views: &BTreeMap<PromId, View>, out: &mut String) -> Result<(), AllocError>
-    ensures written { OnOk result (string_bytes out.new ≡ string_bytes out.old ++ view_lines (views_in views.now)) }
-    ensures listed { OnOk result (Lists promise_cmp (views_of views.now) (views_in views.now)) }
+fn put_view<W: Write>(view: &View, out: &mut Outlet<W>)
+    ensures { Tells W.contents out.old out.new (content_text (viewed (view_of view.now))) }
+{
+    match view {
+        View::Open => out.put(" open"),
+        View::Resolved(value) => put_resolved(value, out),
+    }
+}
+
+fn put_view_line<W: Write>(promise: PromId, view: &View, out: &mut Outlet<W>)
+    ensures { Tells W.contents out.old out.new (view_line (promise, viewed (view_of view.now))) }
+{
+    out.put(" view ");
+    put_promise(promise, out);
+    put_view(view, out);
+    out.put("\n");
+}
+
+/// Puts what is known of promises, in order of their names.
+fn put_views<W: Write>(views: &BTreeMap<PromId, View>, out: &mut Outlet<W>)
+    ensures { Tells W.contents out.old out.new (view_lines (views_in views.now)) }
 {
     for (promise, view) in views.iter() {
-        write_view(*promise, view, out)?;
+        put_view_line(*promise, view, out);
     }
-    Ok(())
 }
 
-/// Writes names of messages, each behind a space.
-fn write_names(names: &[MsgId], out: &mut String) -> Result<(), AllocError>
-    ensures { OnOk result (string_bytes out.new ≡ string_bytes out.old ++ names_text names.now) }
+/// Puts names of messages, each behind a space.
+fn put_names<W: Write>(names: &[MsgId], out: &mut Outlet<W>)
+    ensures { Tells W.contents out.old out.new (names_text names.now) }
 {
     for name in names {
-        write!(out, " {name}")?;
+        out.put(" ");
+        put_message(*name, out);
     }
-    Ok(())
 }
 
-fn write_fence(reference: Reference, fence: &Fence, out: &mut String) -> Result<(), AllocError>
-    ensures { OnOk result (string_bytes out.new ≡ string_bytes out.old ++ fence_line (reference, fenced fence.now)) }
+fn put_fence_line<W: Write>(reference: Reference, fence: &Fence, out: &mut Outlet<W>)
+    ensures { Tells W.contents out.old out.new (fence_line (reference, fenced fence.now)) }
 {
-    write!(out, " fence {reference}:")?;
-    write_names(fence.names(), out)?;
-    out.push_str("\n")
+    out.put(" fence ");
+    put_reference(reference, out);
+    out.put(":");
+    put_names(fence.names(), out);
+    out.put("\n");
 }
 
-/// Writes fences in order of their references.
-fn write_fences(fences: &BTreeMap<Reference, Fence>, out: &mut String) -> Result<(), AllocError>
-    ensures written { OnOk result (string_bytes out.new ≡ string_bytes out.old ++ fence_lines (fences_in fences.now)) }
-    ensures listed { OnOk result (Lists (reference_order.ghosts).cmp (fences_of fences.now) (fences_in fences.now)) }
+/// Puts fences in order of their references.
+fn put_fences<W: Write>(fences: &BTreeMap<Reference, Fence>, out: &mut Outlet<W>)
+    ensures { Tells W.contents out.old out.new (fence_lines (fences_in fences.now)) }
 {
     for (reference, fence) in fences.iter() {
-        write_fence(*reference, fence, out)?;
-    }
-    Ok(())
-}
-
-fn write_vat(number: VatNo, name: &Text, out: &mut String) -> Result<(), AllocError>
-    ensures { OnOk result (string_bytes out.new ≡ string_bytes out.old ++ vat_line number name.now) }
-{
-    let event = number.0;
-    write!(out, "vat {name} {event}\n")
-}
-
-/// Writes the top nouns, the slots, the objects, the views and the fences of a vat's state.
-fn write_state(alloc: Global, state: &VatState, out: &mut String) -> Result<(), AllocError>
-    ensures { OnOk result (Written (StateLines (state_of state.now)) (string_bytes out.old) (string_bytes out.new)) }
-{
-    let contents = state.contents(alloc)?;
-    write_nouns(&contents.nouns, out)?;
-    write_slots(&contents.slots, out)?;
-    write_objects(&contents.objects, out)?;
-    write_views(&contents.views, out)?;
-    write_fences(&contents.fences, out)?;
-    Ok(())
-}
-
-/// Writes what a vat holds, which is nothing where it has no state.
-fn write_home(
-    alloc: Global,
-    number: VatNo,
-    world: &World,
-    out: &mut String,
-) -> Result<(), AllocError>
-    ensures { OnOk result (Written (StateLines (vat_state (world_of world.now) number)) (string_bytes out.old) (string_bytes out.new)) }
-{
-    match world.home(number) {
-        Some(state) => write_state(alloc, state, out),
-        None => Ok(()),
+        put_fence_line(*reference, fence, out);
     }
 }
 
-/// The vats in order of birth, each with its name.
-pub(crate) fn vats_by_birth(
-    alloc: Global,
-    names: &BTreeMap<Text, Vat>,
-) -> Result<BTreeMap<VatNo, Text>, AllocError>
-    ensures { IfOk result (λ vats. ByBirth (names_in names.now) vats.entries) }
+fn put_vat_line<W: Write>(number: VatNo, name: &Text, out: &mut Outlet<W>)
+    ensures { Tells W.contents out.old out.new (vat_line number name.now) }
 {
-    let mut vats = BTreeMap::new(alloc);
-    for (name, vat) in names.iter() {
-        vats.insert(vat.number, name.share()?)?;
-    }
-    Ok(vats)
+    out.put("vat ");
+    out.put(name.as_str());
+    out.put(" ");
+    put_event(number.0, out);
+    out.put("\n");
 }
 
-/// Writes the vats in order of birth, each with what it holds.
-fn write_vats(
-    alloc: Global,
-    vats: &BTreeMap<VatNo, Text>,
-    world: &World,
-    out: &mut String,
-) -> Result<(), AllocError>
-    ensures { OnOk result (Written (VatLines (world_of world.now) vats.now.entries) (string_bytes out.old) (string_bytes out.new)) }
+/// Puts the top nouns, the slots, the objects, the views and the fences of a vat's state.
+fn put_contents<W: Write>(contents: &Contents, out: &mut Outlet<W>)
+    ensures { Tells W.contents out.old out.new (contents_text contents.now) }
 {
-    for (number, name) in vats.iter() {
-        write_vat(*number, name, out)?;
-        write_home(alloc, *number, world, out)?;
-    }
-    Ok(())
+    put_nouns(&contents.nouns, out);
+    put_slots(&contents.slots, out);
+    put_objects(&contents.objects, out);
+    put_views(&contents.views, out);
+    put_fences(&contents.fences, out);
 }
 
-fn write_place(
-    place: Place,
-    vats: &BTreeMap<VatNo, Text>,
-    out: &mut String,
-) -> Result<(), AllocError>
-    ensures { OnOk result (string_bytes out.new ≡ string_bytes out.old ++ place_text vats.now.entries (place_of place)) }
+/// Puts what a vat holds, which is nothing where it has no state.
+fn put_held<W: Write>(held: &Option<Contents>, out: &mut Outlet<W>)
+    ensures { Tells W.contents out.old out.new (held_text held.now) }
 {
-    match place {
-        Place::Flying(number) => write_vat_name(" flying ", vats.get(&number), out),
-        Place::At(number) => write_vat_name(" at ", vats.get(&number), out),
-        Place::Done(event) => write!(out, " done {event}"),
+    match held {
+        Some(contents) => put_contents(contents, out),
+        None => out.put(""),
     }
 }
 
-fn write_vat_name(words: &str, name: Option<&Text>, out: &mut String) -> Result<(), AllocError>
-    ensures { OnOk result (string_bytes out.new ≡ string_bytes out.old ++ named_text words.now (option_copied name.entry)) }
+fn put_home<W: Write>(home: &Home, out: &mut Outlet<W>)
+    ensures { Tells W.contents out.old out.new (home_text home.now) }
+{
+    put_vat_line(home.number, &home.name, out);
+    put_held(&home.held, out);
+}
+
+/// Puts vats, each with what it holds.
+fn put_homes<W: Write>(homes: &[Home], out: &mut Outlet<W>)
+    ensures { Tells W.contents out.old out.new (homes_text homes.now) }
+{
+    for home in homes {
+        put_home(home, out);
+    }
+}
+
+fn put_vat_name<W: Write>(words: &str, name: Option<&Text>, out: &mut Outlet<W>)
+    ensures { Tells W.contents out.old out.new (named_text words.now (option_copied name.entry)) }
 {
     match name {
-        Some(name) => write!(out, "{words}{name}"),
-        None => Ok(()),
+        Some(name) => put_both(words, name.as_str(), out),
+        None => out.put(""),
     }
 }
 
-fn write_message(
+fn put_both<W: Write>(first: &str, second: &str, out: &mut Outlet<W>)
+    ensures { Tells W.contents out.old out.new (first.now ++ second.now) }
+{
+    out.put(first);
+    out.put(second);
+}
+
+fn put_done<W: Write>(event: EventName, out: &mut Outlet<W>)
+    ensures { Tells W.contents out.old out.new (codes " done " ++ event_text event) }
+{
+    out.put(" done ");
+    put_event(event, out);
+}
+
+fn put_place<W: Write>(place: Place, vats: &BTreeMap<VatNo, Text>, out: &mut Outlet<W>)
+    ensures { Tells W.contents out.old out.new (place_text vats.now.entries (place_of place)) }
+{
+    match place {
+        Place::Flying(number) => put_vat_name(" flying ", vats.get(&number), out),
+        Place::At(number) => put_vat_name(" at ", vats.get(&number), out),
+        Place::Done(event) => put_done(event, out),
+    }
+}
+
+fn put_message_line<W: Write>(
     name: MsgId,
     message: &Message,
     vats: &BTreeMap<VatNo, Text>,
-    out: &mut String,
-) -> Result<(), AllocError>
-    ensures { OnOk result (string_bytes out.new ≡ string_bytes out.old ++ message_line vats.now.entries (name, message_content (message_of message.now))) }
+    out: &mut Outlet<W>,
+)
+    ensures { Tells W.contents out.old out.new (message_line vats.now.entries (name, message_content (message_of message.now))) }
 {
-    write!(out, "msg {name}")?;
-    write_place(message.place, vats, out)?;
-    out.push_str("\n")
+    out.put("msg ");
+    put_message(name, out);
+    put_place(message.place, vats, out);
+    out.put("\n");
 }
 
-/// Writes the messages in order of their names.
-fn write_messages(
+/// Puts the messages in order of their names.
+fn put_messages<W: Write>(
     messages: &BTreeMap<MsgId, Message>,
     vats: &BTreeMap<VatNo, Text>,
-    out: &mut String,
-) -> Result<(), AllocError>
-    ensures written { OnOk result (string_bytes out.new ≡ string_bytes out.old ++ message_lines vats.now.entries (messages_in messages.now)) }
-    ensures listed { OnOk result (Lists message_cmp (λ m. option_map (λ g. message_content (message_of g)) (get message_cmp messages.now m)) (messages_in messages.now)) }
+    out: &mut Outlet<W>,
+)
+    ensures { Tells W.contents out.old out.new (message_lines vats.now.entries (messages_in messages.now)) }
 {
     for (name, message) in messages.iter() {
-        write_message(*name, message, vats, out)?;
+        put_message_line(*name, message, vats, out);
     }
-    Ok(())
 }
 
-fn write_published(
-    promise: PromId,
-    publication: &Published,
-    out: &mut String,
-) -> Result<(), AllocError>
-    ensures { OnOk result (string_bytes out.new ≡ string_bytes out.old ++ board_line (promise, published (published_of publication.now))) }
+fn put_board_line<W: Write>(promise: PromId, publication: &Published, out: &mut Outlet<W>)
+    ensures { Tells W.contents out.old out.new (board_line (promise, published (published_of publication.now))) }
 {
-    write!(out, "board {promise} = ")?;
-    write_value(&publication.value, out)?;
-    out.push_str("\n")
+    out.put("board ");
+    put_promise(promise, out);
+    out.put(" = ");
+    put_value(&publication.value, out);
+    out.put("\n");
 }
 
-/// Writes what was published, in order of the promises.
-fn write_board(board: &BTreeMap<PromId, Published>, out: &mut String) -> Result<(), AllocError>
-    ensures written { OnOk result (string_bytes out.new ≡ string_bytes out.old ++ board_lines (board_in board.now)) }
-    ensures listed { OnOk result (Lists promise_cmp (λ p. option_map (λ q. published (published_of q)) (get promise_cmp board.now p)) (board_in board.now)) }
+/// Puts what was published, in order of the promises.
+fn put_board<W: Write>(board: &BTreeMap<PromId, Published>, out: &mut Outlet<W>)
+    ensures { Tells W.contents out.old out.new (board_lines (board_in board.now)) }
 {
     for (promise, publication) in board.iter() {
-        write_published(*promise, publication, out)?;
+        put_board_line(*promise, publication, out);
     }
-    Ok(())
 }
 
-/// Writes the world: its vats by birth, its messages and what was published in order of their names.
-pub fn write_world(alloc: Global, world: &World, out: &mut String) -> Result<(), AllocError>
-    ensures { OnOk result (Written (Shows (world_of world.now)) (string_bytes out.old) (string_bytes out.new)) }
+/// Puts a world: its vats by birth, its messages and what was published in order of their names.
+pub fn put_world<W: Write>(picture: &Picture, out: &mut Outlet<W>)
+    ensures { Tells W.contents out.old out.new (picture_text picture.now) }
 {
-    let vats = vats_by_birth(alloc, &world.names(alloc)?)?;
-    write_vats(alloc, &vats, world, out)?;
-    write_messages(&world.messages(alloc)?, &vats, out)?;
-    write_board(&world.board(alloc)?, out)?;
-    Ok(())
+    put_homes(&picture.homes, out);
+    put_messages(&picture.messages, &picture.vats, out);
+    put_board(&picture.board, out);
 }

@@ -12,12 +12,11 @@ use Rattle.journal.specs.Items.{Item}
 use Rattle.journal.specs.Lines.{plain, Line, line_of, lines_of}
 use Rattle.causality.specs.Journals.{IsJournal}
 use Rattle.causality.specs.Selections.{name_of}
-use Rattle.printing.specs.ShowView.{Written}
 use Rattle.questions.specs.Cells.{key_of, cell_cmp}
 use Rattle.questions.specs.Chains.{Step, Chain, chain_none, chain_more}
 use Rattle.questions.specs.TouchedView.{seen_as, told_entries, SeenIn}
 use Rattle.questions.specs.Why.{step_text, is_by, crossed_with, first_crossed, Steps, steps_none, steps_more, Crossing, is_crossed, is_neither}
-use Rattle.questions.specs.WhyView.{crossed_in, Link, OpenChain}
+use Rattle.questions.specs.WhyView.{crossed_in, Link, OpenChain, Written}
 use Rattle.questions.specs.Writers.{Told, told, writer, first_cell}
 use Rattle.questions.specs.declared.cell.Cell.{Cell}
 use Rattle.questions.specs.declared.touched.Seen.{Seen}

@@ -1,14 +1,18 @@
 -- How one event came of another, as it is written part after part.
-use Rattle.std.proofs.Common.{◌≡◌, ℕ, suc, ◌+◌, ◌-◌, ◌<◌, List, [], ◌∷◌, ◌++◌, Some, length, refl, sym, ap, ◌∙◌, subst, append_assoc, arith, codes}
+use Rattle.std.proofs.Common.{◌≡◌, ℕ, suc, ◌+◌, ◌-◌, ◌<◌, List, [], ◌∷◌, ◌++◌, Some, Result, Ok, Err, OnOk, length, refl, sym, ap, ◌∙◌, subst, append_assoc, arith, codes}
 use Rattle.std.specs.Fmt.{decimal}
 use Rattle.ids.specs.Names.{event_text}
 use Rattle.ids.specs.declared.names.EventName.{EventName}
 use Rattle.journal.specs.Lines.{Line}
-use Rattle.printing.specs.ShowView.{Written}
 use Rattle.questions.specs.Chains.{Chain, Nearest}
 use Rattle.questions.specs.Why.{Steps, Crossing, Reason, is_chained, is_apart, ReasonBetween, in_order, turned, at_one, Why}
 use Rattle.questions.specs.Refusals.{place_of}
-use Rattle.questions.specs.WhyView.{OpenChain, Chained}
+use Rattle.questions.specs.WhyView.{OpenChain, Chained, Written}
+
+-- what holds where a call succeeded leads to more
+pub on_ok : {A E P Q : Type 0} (r : Result A E) → (P → Q) → OnOk r P → OnOk r Q
+on_ok (Ok x) f p = f p
+on_ok (Err e) f p = tt
 
 module _ (lines : List Line) where
   -- a chain behind how many steps it has

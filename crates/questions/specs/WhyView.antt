@@ -58,3 +58,7 @@ IsOpen n lines e (Err fault) = Refuses fault (event_refusal n lines e)
 abbrev pub BothOpen : ℕ → List Line → EventName → EventName → Result (ℕ × ℕ) Unanswered → Type 0
 BothOpen n lines e f (Ok (p, q)) = (standing_of n lines e ≡ standing.Open p) × (standing_of n lines f ≡ standing.Open q)
 BothOpen n lines e f (Err fault) = Refuses fault (pair_refusal n lines e f)
+
+-- behind the text before stands now a text of this kind
+abbrev pub Written : (List ℕ → Type 0) → List ℕ → List ℕ → Type 0
+Written Is before now = (text : List ℕ) × Is text × (now ≡ before ++ text)

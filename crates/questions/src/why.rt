@@ -5,12 +5,11 @@ ghost use Rattle.journal.specs.Items.{item_of};
 ghost use Rattle.journal.specs.Journals.{items_of};
 ghost use Rattle.journal.specs.Lines.{lines_of};
 ghost use Rattle.causality.specs.Journals.{IsJournal};
-ghost use Rattle.printing.specs.ShowView.{Written};
 ghost use Rattle.questions.specs.Refusals.{Refuses, pair_refusal};
 ghost use Rattle.questions.specs.TouchedView.{told_entries};
 ghost use Rattle.questions.specs.Chains.{Step};
 ghost use Rattle.questions.specs.Why.{Why, Crossing, Reason, ReasonBetween, Steps, is_by, step_text};
-ghost use Rattle.questions.specs.WhyView.{crossed_in, Link, OpenChain, Chained, BothOpen};
+ghost use Rattle.questions.specs.WhyView.{crossed_in, Link, OpenChain, Chained, BothOpen, Written};
 ghost use Rattle.questions.specs.Writers.{first_cell};
 
 use crate::cell::Cell;

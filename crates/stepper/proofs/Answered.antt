@@ -31,6 +31,11 @@ use Rattle.book.specs.Fault.{refusal_text, told_by, words_of, TellsThat, Tells, 
 use Rattle.book.specs.declared.fault.BookFault.{BookFault}
 use Rattle.book.specs.declared.fault.BookFault.TheVariants as fault
 use Rattle.stepper.specs.declared.engine.Engine.{Engine}
+use Rattle.book.specs.BookView.{book_of}
+use Rattle.streams.specs.Outlet as outlet
+use Rattle.streams.specs.declared.outlet.Outlet.{Outlet}
+use Rattle.stepper.specs.declared.reply.Written.{Written}
+use Rattle.stepper.specs.Written.{Adds}
 use Rattle.stepper.specs.Engine.{Happens}
 use Rattle.commands.specs.Commands as commands
 use Rattle.commands.specs.Commands.{Spelled, fault_text}
@@ -39,7 +44,6 @@ use Rattle.commands.specs.declared.command.LineFault.{LineFault}
 use Rattle.stepper.specs.Replies.{refused, Answers, ask_without_memory, asked_without_memory, asked_unread, ask_refused, Moves, move_without_memory, arrival_refused, arrives, forwarding_refused, forwards, turn_without_memory_named, turn_refused, turns, learning_refused, learns, learn_without_memory, learn_refused, learn_accepted, EnabledIn, enabled, enabled_without_memory, done_text, count_of, undone_text, redone_text, listed, logged, logged_text, cone_found, undo_cone_found, cone_without_memory, cone_refused, undo_without_memory, undo_refused, undo_accepted, undo_cone_without_memory, undo_cone_refused, redo_without_memory, redo_refused, redo_accepted, exchange_refused, exchange_accepted, settle_without_memory, settle_refused, settle_accepted, exchanged_text, settled_text, AnswersBirth, birth_without_memory, script_without_memory, script_unread, birth_refused, birth_accepted, ask_accepted, queued_text, turned_text, FirstReply, born, answered, script_refused}
 use Rattle.causewaylog.specs.Turns.{live_in}
 use Rattle.causewaylog.specs.Log.{log_text}
-pub use Rattle.printing.proofs.Listings.{on_ok}
 use Rattle.printing.specs.Listing.{journal_text, cone_text}
 use Rattle.printing.specs.Steps.{ShowsEnabled}
 use Rattle.worldcells.specs.World.{World}
@@ -165,6 +169,9 @@ module _ (limits : Limits) (b : Book) where
   pub all_listed : {n : ℕ} {lines : List Line} → n ≡ b.settled → lines ≡ b.journal → Answers limits b commands.journal (journal_text n lines) false b
   all_listed {lines = lines} many same = subst (λ m. Answers limits b commands.journal (journal_text m lines) false b) (sym many) (subst (λ ls. Answers limits b commands.journal (journal_text b.settled ls) false b) (sym same) listed)
 
+  pub listed_as : {n : ℕ} {lines : List Line} {text : List ℕ} → n ≡ b.settled → lines ≡ b.journal → text ≡ journal_text n lines → Answers limits b commands.journal text false b
+  listed_as {text = text} many same e = subst (λ (t : List ℕ). Answers limits b commands.journal t false b) (sym e) (all_listed many same)
+
   -- the log of a vat
   pub vat_logged : {x log text : List ℕ} → text ≡ log → log ≡ log_text x (live_in (settled_lines b)) (live_in (open_lines b)) → Answers limits b (commands.log x) (logged_text text) false b
   vat_logged {x = x} same is = subst (λ t. Answers limits b (commands.log x) (logged_text t) false b) (sym (same ∙ is)) logged
@@ -237,13 +244,37 @@ pub or_false : (s : Bool) → s ≡ (s || false)
 or_false true = refl
 or_false false = refl
 
--- what is no refusal changes nothing about refusals
-pub no_refusal : {s t : Bool} → t ≡ s → t ≡ (s || false)
-no_refusal {s = s} e = e ∙ or_false s
+module _ {W : Type 0} {contents : W → Option (List ℕ)} {old new : Engine} {sink after : Outlet W} {P : Book → List ℕ → Bool → Book → Type 0} where
+  -- what happens, as something else that the definition allows
+  pub happens_as : {Q : Book → List ℕ → Bool → Book → Type 0} → ((b : Book) (r : List ℕ) (s : Bool) (d : Book) → P b r s d → Q b r s d) → Happens contents old new sink after P → Happens contents old new sink after Q
+  happens_as f h = record { reply = h.reply; refusal = h.refusal; allowed = f _ _ _ _ h.allowed; tells = h.tells; refused = h.refused; limits = h.limits }
 
--- what happens, as something else that the definition allows
-pub happens_as : {old new : Engine} {P Q : Book → List ℕ → Bool → Book → Type 0} → ((b : Book) (r : List ℕ) (s : Bool) (d : Book) → P b r s d → Q b r s d) → Happens old new P → Happens old new Q
-happens_as f h = record { reply = h.reply; refusal = h.refusal; allowed = f _ _ _ _ h.allowed; adds = h.adds; limits = h.limits }
+  -- a reply that is no refusal
+  pub accepts : {reply : List ℕ} → P (book_of old.book) reply false (book_of new.book) → outlet.Tells contents sink after reply → new.written ≡ old.written → new.limits ≡ old.limits → Happens contents old new sink after P
+  accepts {reply = reply} h t written limits = record {
+    reply = reply;
+    refusal = false;
+    allowed = h;
+    tells = t;
+    refused = λ uncut. ap (λ (w : Written). w.refused) written ∙ or_false old.written.refused;
+    limits = limits;
+  }
+
+  -- a refusal
+  pub refuses : {reply : List ℕ} → P (book_of old.book) reply true (book_of new.book) → Adds contents old.written new.written sink after reply true → new.limits ≡ old.limits → Happens contents old new sink after P
+  refuses {reply = reply} h a limits = record { reply = reply; refusal = true; allowed = h; tells = a.tells; refused = λ uncut. a.refused; limits = limits }
+
+-- what happens from an engine with the same book
+pub happens_from : {W : Type 0} {contents : W → Option (List ℕ)} {old mid new : Engine} {sink after : Outlet W} {P : Book → List ℕ → Bool → Book → Type 0} → book_of mid.book ≡ book_of old.book → mid.written ≡ old.written
+    → mid.limits ≡ old.limits → Happens contents mid new sink after P → Happens contents old new sink after P
+happens_from {new = new} {P = P} same written limits h = record {
+  reply = h.reply;
+  refusal = h.refusal;
+  allowed = subst (λ (b : Book). P b h.reply h.refusal (book_of new.book)) same h.allowed;
+  tells = h.tells;
+  refused = λ uncut. h.refused uncut ∙ ap (λ (w : Written). w.refused || h.refusal) written;
+  limits = h.limits ∙ limits;
+}
 
 -- the first line is a command for a vat
 pub born_at : (limits : Limits) (b d : Book) (c : Spelled) (x : List ℕ) (earlier : List (List ℕ)) (lines : ℕ) (input rest reply : List ℕ) (refusal : Bool) (script : Result (List ℕ) LineFault)
@@ -258,14 +289,9 @@ born_at limits b d c x earlier lines input rest reply refusal script e f g h =
 pub answered_at : (limits : Limits) (b d : Book) (c a : Spelled) (input reply : List ℕ) (refusal : Bool) → c ≡ a → Answers limits b a reply refusal d → FirstReply limits b (Ok (Some c)) input reply refusal d input
 answered_at limits b d c a input reply refusal e h = subst (λ z. FirstReply limits b (Ok (Some z)) input reply refusal d input) (sym e) (answered h)
 
--- the script is refused
-pub refused_at : (b : Book) (x : List ℕ) (earlier : List (List ℕ)) (f : LineFault) (script : Result (List ℕ) LineFault) → script ≡ Err f → AnswersBirth b x earlier script (refused (fault_text f)) true b
-refused_at b x earlier f script e = subst (λ z. AnswersBirth b x earlier z (refused (fault_text f)) true b) (sym e) script_refused
-
--- what holds of a success leads to more
-pub if_ok : {A E : Type 0} {P Q : A → Type 0} (r : Result A E) → ((x : A) → P x → Q x) → IfOk r P → IfOk r Q
-if_ok (Ok x) f h = f x h
-if_ok (Err e) f h = tt
+pub or_true : (s : Bool) → (s || true) ≡ true
+or_true true = refl
+or_true false = refl
 
 pub or_or : (a b c : Bool) → a || (b || c) ≡ (a || b) || c
 or_or true b c = refl

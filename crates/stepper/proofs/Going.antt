@@ -1,6 +1,6 @@
 -- How a run goes on from command to command.
 use Rattle.std.proofs.Common.{◌≡◌, ℕ, List, [], ◌++◌, Bool, true, false, Option, Some, None, Result, Ok, Err, refl, sym, ap, subst, ◌∙◌, append_assoc, append-nil}
-use Rattle.std.specs.Prelude.{string_bytes, ◌||◌, MatchResult}
+use Rattle.std.specs.Prelude.{◌||◌, MatchResult}
 use Rattle.std.specs.Io.KnownBytes.{Consumes, IsAtEnd, prepend_known}
 use Rattle.std.proofs.KnownBytes.{Consumes-nil, Consumes-trans, Consumes-kept}
 use Rattle.book.specs.Books.{Book, blank}
@@ -9,21 +9,21 @@ use Rattle.commands.specs.Lines.{behind_line}
 use Rattle.commands.specs.Commands.{Spelled}
 use Rattle.commands.specs.declared.command.LineFault.{LineFault}
 use Rattle.streams.specs.Counted.{IsOneMore}
-use Rattle.streams.specs.Lines.{held, reads_failed, is_ended, unread, IsSound, TakesLine, HasNoLine}
-use Rattle.streams.specs.Outlet.{Gives, IsCutShort}
+use Rattle.streams.specs.Lines.{held, reads_failed, lines_refused, is_ended, unread, IsSound, TakesLine, HasNoLine}
+use Rattle.streams.specs.Outlet.{is_cut, Gives, IsCutShort}
 use Rattle.streams.specs.Pieces.{Reads, IsOneLine}
 use Rattle.streams.specs.declared.line.Line.{Line}
 use Rattle.streams.specs.declared.lines.Lines.{Lines}
 use Rattle.streams.specs.declared.outlet.Outlet.{Outlet}
-use Rattle.streams.proofs.Giving.{gives_both, cut_behind, gives_as}
-use Rattle.stepper.specs.Replies.{FirstReply, Replies, RepliesToAll, whole_ones, with_last, IsWhole, IsOfOne, said, script_lines}
+use Rattle.streams.proofs.Giving.{gives_none, gives_both, cut_behind, gives_as}
+use Rattle.stepper.specs.Replies.{FirstReply, Replies, RepliesToAll, whole_ones, with_last, IsWhole, said, script_lines}
 use Rattle.stepper.specs.Engine.{Happens}
-use Rattle.stepper.specs.Taking.{StopsAtLine, Does, StopsWithin, AnswersLine, StopsLine}
+use Rattle.stepper.specs.Taking.{StopsAtLine, Does, StopsWithin, AnswersLine, StopsLine, StaysOpen}
 use Rattle.stepper.specs.Runs.{RunsToEnd, RunsToFailedRead, RunsToFailedWrite, RunsOutOfMemory, RunsTo}
 use Rattle.stepper.specs.declared.engine.Engine.{Engine}
 use Rattle.stepper.specs.declared.fault.Fault.{Fault}
 use Rattle.stepper.specs.declared.fault.Fault.TheVariants.{Reader, Writer, Memory}
-use Rattle.stepper.proofs.Whole.{said_in, reads_said, no_whole_line, of_one_command, of_one_part}
+use Rattle.stepper.proofs.Whole.{said_in, reads_said, no_whole_line}
 use Rattle.stepper.proofs.Story.{Story, story_begins, story_so_far, story_all, story_more, at_piece, before_piece, whole_piece, not_whole_piece, some_piece}
 use Rattle.stepper.specs.declared.engine.Limits.{Limits}
 
@@ -33,58 +33,31 @@ consumes_front None b xs ys c = tt
 consumes_front (Some x) None xs ys c = absurd c
 consumes_front (Some x) (Some z) xs ys c = c ∙ append_assoc xs ys z
 
-at_end_behind : (b : Option (List ℕ)) → IsAtEnd b → IsAtEnd (prepend_known [] b)
-at_end_behind None h = tt
-at_end_behind (Some x) h = h
-
 module _ {R W : Type 0} (remaining : R → Option (List ℕ)) (contents : W → Option (List ℕ)) where
   -- the line of a command, and what was answered for it
   pub answers_line : (old new : Engine) (source later : Lines R) (sink after : Outlet W) (line : Line) (bytes : List ℕ) (said_so : Result (Option Spelled) LineFault)
-      → Reads line bytes → IsOneLine bytes (is_ended source) → said_so ≡ said_in line → string_bytes old.written.text ≡ []
+      → Reads line bytes → IsOneLine bytes (is_ended source) → said_so ≡ said_in line
       → Does remaining contents old new source later sink after said_so → AnswersLine remaining contents old new source later sink after bytes
-  answers_line old new source later sink after line bytes said_so reads one says empty d =
+  answers_line old new source later sink after line bytes said_so reads one says d =
       let reply : List ℕ = d.happens.reply in
-      let same : reply ≡ string_bytes new.written.text = sym (d.happens.adds.text ∙ ap (λ (z : List ℕ). z ++ reply) empty) in
       let meant : said_so ≡ said bytes = says ∙ reads_said line bytes reads in
       record {
         bytes = d.bytes;
         taken = d.taken;
         sound = d.sound;
         none_failed = d.none_failed;
-        gives = d.gives;
+        none_refused = d.none_refused;
+        counted = d.counted;
+        reply = reply;
+        tells = d.happens.tells;
         refusal = d.happens.refusal;
-        here = subst (λ (z : List ℕ). FirstReply old.limits (book_of old.book) (said (bytes ++ d.bytes)) (behind_line (bytes ++ d.bytes)) z d.happens.refusal (book_of new.book) []) same
-            (at_piece old.limits (book_of old.book) (book_of new.book) bytes d.bytes reply [] d.happens.refusal (is_ended source) (is_ended later) said_so one meant d.stays d.happens.allowed.here);
+        here = at_piece old.limits (book_of old.book) (book_of new.book) bytes d.bytes reply [] d.happens.refusal (is_ended source) (is_ended later) said_so one meant d.stays d.happens.allowed.here;
         whole = λ unended more. whole_piece bytes d.bytes more (is_ended source) (is_ended later) said_so one meant d.stays unended (d.happens.allowed.lines unended);
         before = λ unended more.
-            subst (λ (z : List ℕ). FirstReply old.limits (book_of old.book) (said ((bytes ++ d.bytes) ++ more)) (behind_line ((bytes ++ d.bytes) ++ more)) z d.happens.refusal (book_of new.book) more) same
-            (before_piece old.limits (book_of old.book) (book_of new.book) bytes d.bytes more reply d.happens.refusal (is_ended source) (is_ended later) said_so one meant d.stays unended (d.happens.allowed.before unended more));
-        refused = d.happens.adds.refused;
+            before_piece old.limits (book_of old.book) (book_of new.book) bytes d.bytes more reply d.happens.refusal (is_ended source) (is_ended later) said_so one meant d.stays unended (d.happens.allowed.before unended more);
+        refused = d.happens.refused;
         limits = d.happens.limits;
       }
-
-  -- an engine with the same book, limits and refusals answers the same
-  line_from : {old mid new : Engine} {source later : Lines R} {sink after : Outlet W} {line : List ℕ} → mid.limits ≡ old.limits → book_of mid.book ≡ book_of old.book → mid.written.refused ≡ old.written.refused
-      → AnswersLine remaining contents mid new source later sink after line → AnswersLine remaining contents old new source later sink after line
-  line_from {old = old} {mid = mid} {new = new} {line = line} limits book refused a = record {
-    bytes = a.bytes;
-    taken = a.taken;
-    sound = a.sound;
-    none_failed = a.none_failed;
-    gives = a.gives;
-    refusal = a.refusal;
-    here = from_mid (line ++ a.bytes) [] a.here;
-    whole = a.whole;
-    before = λ unended more. from_mid ((line ++ a.bytes) ++ more) more (a.before unended more);
-    refused = a.refused ∙ ap (λ (q : Bool). q || a.refusal) refused;
-    limits = a.limits ∙ limits;
-  }
-    where
-      from_mid : (input rest : List ℕ) → FirstReply mid.limits (book_of mid.book) (said input) (behind_line input) (string_bytes new.written.text) a.refusal (book_of new.book) rest
-          → FirstReply old.limits (book_of old.book) (said input) (behind_line input) (string_bytes new.written.text) a.refusal (book_of new.book) rest
-      from_mid input rest h =
-          subst (λ (n : Limits). FirstReply n (book_of old.book) (said input) (behind_line input) (string_bytes new.written.text) a.refusal (book_of new.book) rest) limits
-          (subst (λ (b : Book). FirstReply mid.limits b (said input) (behind_line input) (string_bytes new.written.text) a.refusal (book_of new.book) rest) book h)
 
   -- a fault behind the line of a command
   pub stops_line : (source later : Lines R) (sink after : Outlet W) (line : Line) (bytes : List ℕ) (said_so : Result (Option Spelled) LineFault) (fault : Fault)
@@ -96,26 +69,28 @@ module _ {R W : Type 0} (remaining : R → Option (List ℕ)) (contents : W → 
     none_held = d.none_held;
     none_whole = not_whole_piece bytes d.bytes (is_ended source) said_so one (says ∙ reads_said line bytes reads) d.not_ended d.few;
     one_failed = d.one_failed;
+    none_refused = d.none_refused;
     gives = d.gives;
+    uncut = d.uncut;
   }
   stops_line source later sink after line bytes said_so Writer reads one says d = d
   stops_line source later sink after line bytes said_so Memory reads one says d = record {
     bytes = d.bytes;
     taken = d.taken;
-    of_one = of_one_command bytes d.bytes (is_ended source) said_so one (says ∙ reads_said line bytes reads) d.stays d.no_more;
+    none_whole = not_whole_piece bytes d.bytes (is_ended source) said_so one (says ∙ reads_said line bytes reads) d.not_ended d.few;
     none_failed = d.none_failed;
+    one_refused = d.one_refused;
     gives = d.gives;
+    uncut = d.uncut;
   }
 
   -- what came of a line, by what it says
-  pub line_answered : {A : Type 0} (old mid new : Engine) (source later : Lines R) (sink after : Outlet W) (line : Line) (said_so : Result (Option Spelled) LineFault) (r : Result A Fault)
-      → mid.limits ≡ old.limits → book_of mid.book ≡ book_of old.book → mid.written.refused ≡ old.written.refused → string_bytes mid.written.text ≡ [] → said_so ≡ said_in line
-      → MatchResult r (λ _. Does remaining contents mid new source later sink after said_so) (StopsWithin remaining contents source later sink after (script_lines said_so))
+  pub line_answered : {A : Type 0} (old new : Engine) (source later : Lines R) (sink after : Outlet W) (line : Line) (said_so : Result (Option Spelled) LineFault) (r : Result A Fault) → said_so ≡ said_in line
+      → MatchResult r (λ _. Does remaining contents old new source later sink after said_so) (StopsWithin remaining contents source later sink after (script_lines said_so))
       → (bytes : List ℕ) → Reads line bytes → IsOneLine bytes (is_ended source)
       → MatchResult r (λ _. AnswersLine remaining contents old new source later sink after bytes) (StopsLine remaining contents source later sink after bytes)
-  line_answered old mid new source later sink after line said_so (Ok x) limits book refused empty says h bytes reads one =
-      line_from limits book refused (answers_line mid new source later sink after line bytes said_so reads one says empty h)
-  line_answered old mid new source later sink after line said_so (Err f) limits book refused empty says h bytes reads one = stops_line source later sink after line bytes said_so f reads one says h
+  line_answered old new source later sink after line said_so (Ok x) says h bytes reads one = answers_line old new source later sink after line bytes said_so reads one says h
+  line_answered old new source later sink after line said_so (Err f) says h bytes reads one = stops_line source later sink after line bytes said_so f reads one says h
 
   -- how far a run is
   pub record Going (limits : Limits) (source now : Lines R) (sink then : Outlet W) (engine : Engine) : Type 0 where
@@ -123,21 +98,25 @@ module _ {R W : Type 0} (remaining : R → Option (List ℕ)) (contents : W → 
     pub consumed : Consumes (unread remaining source) (unread remaining now) taken
     pub sound : IsSound remaining now
     pub none_failed : reads_failed now ≡ reads_failed source
+    pub none_refused : lines_refused now ≡ lines_refused source
     pub text : List ℕ
     pub gives : Gives contents sink then text
+    pub uncut : is_cut then ≡ false
     pub story : Story limits taken text (is_ended now) engine.written.refused (book_of engine.book)
     pub same_limits : engine.limits ≡ limits
 
   -- before the first command
-  pub run_begins : (limits : Limits) (source : Lines R) (sink : Outlet W) (engine : Engine) → IsSound remaining source → Gives contents sink sink [] → book_of engine.book ≡ blank → engine.written.refused ≡ false → engine.limits ≡ limits
+  pub run_begins : (limits : Limits) (source : Lines R) (sink : Outlet W) (engine : Engine) → IsSound remaining source → is_cut sink ≡ false → book_of engine.book ≡ blank → engine.written.refused ≡ false → engine.limits ≡ limits
       → Going limits source source sink sink engine
-  run_begins limits source sink engine s g e f h = record {
+  run_begins limits source sink engine s uncut e f h = record {
     taken = [];
     consumed = Consumes-nil (unread remaining source);
     sound = s;
     none_failed = refl;
+    none_refused = refl;
     text = [];
-    gives = g;
+    gives = gives_none contents sink;
+    uncut = uncut;
     story = story_begins limits (is_ended source) engine.written.refused (book_of engine.book) e f;
     same_limits = h;
   }
@@ -151,8 +130,8 @@ module _ {R W : Type 0} (remaining : R → Option (List ℕ)) (contents : W → 
 
   module _ (limits : Limits) (source now later : Lines R) (sink then after : Outlet W) (engine : Engine) (g : Going limits source now sink then engine) where
     -- no line is left
-    pub run_ends : HasNoLine remaining now later → Gives contents then after [] → RunsToEnd remaining contents limits source later sink after engine.written.refused
-    run_ends none s = record {
+    pub run_ends : HasNoLine remaining now later → lines_refused later ≡ lines_refused now → Gives contents then after [] → RunsToEnd remaining contents limits source later sink after engine.written.refused
+    run_ends none kept s = record {
       input = g.taken;
       read = Consumes-kept _ _ _ g.taken g.consumed none.kept;
       end = none.end;
@@ -161,6 +140,7 @@ module _ {R W : Type 0} (remaining : R → Option (List ℕ)) (contents : W → 
       replies = g.story.here;
       gives = given_so sink then after g.text g.gives s;
       none_failed = none.none_failed ∙ g.none_failed;
+      none_refused = kept ∙ g.none_refused;
     }
 
     open_story : is_ended now ≡ false → Story limits g.taken g.text false engine.written.refused (book_of engine.book)
@@ -168,8 +148,8 @@ module _ {R W : Type 0} (remaining : R → Option (List ℕ)) (contents : W → 
 
     -- a read fails behind these bytes, in which no command is whole
     pub read_fails : (left : List ℕ) → is_ended now ≡ false → Consumes (unread remaining now) (unread remaining later) left → held later ≡ [] → ¬ IsWhole left → IsOneMore (reads_failed now) (reads_failed later)
-        → Gives contents then after [] → RunsToFailedRead remaining contents limits source later sink after
-    read_fails left unended read none_held none_whole one s = record {
+        → lines_refused later ≡ lines_refused now → Gives contents then after [] → RunsToFailedRead remaining contents limits source later sink after
+    read_fails left unended read none_held none_whole one kept s = record {
       input = g.taken;
       left = left;
       read = Consumes-trans _ _ _ g.taken left g.consumed read;
@@ -181,6 +161,7 @@ module _ {R W : Type 0} (remaining : R → Option (List ℕ)) (contents : W → 
       none_whole = none_whole;
       gives = given_so sink then after g.text g.gives s;
       one_failed = subst (λ n. IsOneMore n (reads_failed later)) g.none_failed one;
+      none_refused = kept ∙ g.none_refused;
     }
 
     -- a write fails
@@ -196,96 +177,82 @@ module _ {R W : Type 0} (remaining : R → Option (List ℕ)) (contents : W → 
       cut = cut_so sink then after g.text g.gives s;
     }
 
-    -- memory runs out behind these bytes, which are of one command
-    pub memory_fails : (left : List ℕ) → is_ended now ≡ false → Consumes (unread remaining now) (unread remaining later) left → IsOfOne left → reads_failed later ≡ reads_failed now
-        → Gives contents then after [] → RunsOutOfMemory remaining contents limits source later sink after
-    memory_fails left unended read of_one none_failed s = record {
+    -- there is no room for a line behind these bytes, in which no command is whole
+    pub memory_fails : (left : List ℕ) → is_ended now ≡ false → Consumes (unread remaining now) (unread remaining later) left → ¬ IsWhole left → reads_failed later ≡ reads_failed now
+        → IsOneMore (lines_refused now) (lines_refused later) → Gives contents then after [] → RunsOutOfMemory remaining contents limits source later sink after
+    memory_fails left unended read none_whole none_failed one s = record {
       input = g.taken;
       left = left;
       taken = Consumes-trans _ _ _ g.taken left g.consumed read;
       text = g.text;
       refused = engine.written.refused;
       book = book_of engine.book;
-      replies = whole_ones (story_so_far (open_story unended));
-      of_one = of_one;
+      replies = story_so_far (open_story unended);
+      none_whole = none_whole;
       gives = given_so sink then after g.text g.gives s;
       none_failed = none_failed ∙ g.none_failed;
+      one_refused = subst (λ n. IsOneMore n (lines_refused later)) g.none_refused one;
     }
 
     -- a fault where the next line was to be taken
     pub run_stops_at_line : (fault : Fault) → StopsAtLine remaining contents now later then after fault → RunsTo remaining contents limits source later sink after fault
-    run_stops_at_line Reader (f, s) = read_fails f.part.bytes f.part.was_open f.part.taken f.none_held (no_whole_line f.part.bytes f.part.feedless) f.one_failed s
+    run_stops_at_line Reader (f, kept, s, u) = read_fails f.part.bytes f.part.was_open f.part.taken f.none_held (no_whole_line f.part.bytes f.part.feedless) f.one_failed kept s
     run_stops_at_line Writer s = write_fails s
-    run_stops_at_line Memory (f, s) = memory_fails f.part.bytes f.part.was_open f.part.taken (of_one_part f.part.bytes f.part.feedless) f.none_failed s
+    run_stops_at_line Memory (f, one, s, u) = memory_fails f.part.bytes f.part.was_open f.part.taken (no_whole_line f.part.bytes f.part.feedless) f.none_failed one s
 
-  module _ (limits : Limits) (source now mid later : Lines R) (sink then one two : Outlet W) (engine next : Engine) (line : Line) (g : Going limits source now sink then engine) (t : TakesLine remaining now mid line) (s : Gives contents then one []) where
+  module _ (limits : Limits) (source now mid later : Lines R) (sink then one two : Outlet W) (engine next : Engine) (line : Line) (g : Going limits source now sink then engine) (t : TakesLine remaining now mid line)
+      (kept : lines_refused mid ≡ lines_refused now) (s : Gives contents then one []) where
     -- a fault behind the line of a command
     pub run_stops_behind : (fault : Fault) → StopsLine remaining contents mid later one two t.bytes fault → RunsTo remaining contents limits source later sink two fault
     run_stops_behind Reader f =
         read_fails limits source now later sink then two engine g (t.bytes ++ f.bytes) t.not_ended (Consumes-trans _ _ _ t.bytes f.bytes t.taken f.taken) f.none_held f.none_whole
-        (subst (λ n. IsOneMore n (reads_failed later)) t.none_failed f.one_failed) (gives_both contents then one two [] [] s f.gives)
+        (subst (λ n. IsOneMore n (reads_failed later)) t.none_failed f.one_failed) (f.none_refused ∙ kept) (gives_both contents then one two [] [] s f.gives)
     run_stops_behind Writer f = write_fails limits source now later sink then two engine g (cut_behind contents then one two [] [] s f)
     run_stops_behind Memory f =
-        memory_fails limits source now later sink then two engine g (t.bytes ++ f.bytes) t.not_ended (Consumes-trans _ _ _ t.bytes f.bytes t.taken f.taken) f.of_one (f.none_failed ∙ t.none_failed)
-        (gives_both contents then one two [] [] s f.gives)
+        memory_fails limits source now later sink then two engine g (t.bytes ++ f.bytes) t.not_ended (Consumes-trans _ _ _ t.bytes f.bytes t.taken f.taken) f.none_whole (f.none_failed ∙ t.none_failed)
+        (subst (λ n. IsOneMore n (lines_refused later)) kept f.one_refused) (gives_both contents then one two [] [] s f.gives)
 
     module _ (a : AnswersLine remaining contents engine next mid later one two t.bytes) where
-      abbrev reply : List ℕ
-      reply = string_bytes next.written.text
-
-      next_story : Story limits (g.taken ++ (t.bytes ++ a.bytes)) (g.text ++ reply) (is_ended later) next.written.refused (book_of next.book)
-      next_story = subst (λ (z : Bool). Story limits (g.taken ++ (t.bytes ++ a.bytes)) (g.text ++ reply) (is_ended later) z (book_of next.book)) (sym a.refused)
-          (story_more (t.bytes ++ a.bytes) (open_story limits source now later sink then two engine g t.not_ended) (some_piece t.bytes a.bytes (is_ended mid) t.one)
-          (subst (λ (n : Limits). FirstReply n (book_of engine.book) (said (t.bytes ++ a.bytes)) (behind_line (t.bytes ++ a.bytes)) reply a.refusal (book_of next.book) []) g.same_limits a.here)
+      next_story : Story limits (g.taken ++ (t.bytes ++ a.bytes)) (g.text ++ a.reply) (is_ended later) (engine.written.refused || a.refusal) (book_of next.book)
+      next_story =
+          story_more (t.bytes ++ a.bytes) (open_story limits source now later sink then two engine g t.not_ended) (some_piece t.bytes a.bytes (is_ended mid) t.one)
+          (subst (λ (n : Limits). FirstReply n (book_of engine.book) (said (t.bytes ++ a.bytes)) (behind_line (t.bytes ++ a.bytes)) a.reply a.refusal (book_of next.book) []) g.same_limits a.here)
           a.whole
-          (λ unended more. subst (λ (n : Limits). FirstReply n (book_of engine.book) (said ((t.bytes ++ a.bytes) ++ more)) (behind_line ((t.bytes ++ a.bytes) ++ more)) reply a.refusal (book_of next.book) more) g.same_limits (a.before unended more)))
+          (λ unended more. subst (λ (n : Limits). FirstReply n (book_of engine.book) (said ((t.bytes ++ a.bytes) ++ more)) (behind_line ((t.bytes ++ a.bytes) ++ more)) a.reply a.refusal (book_of next.book) more) g.same_limits (a.before unended more))
 
       next_taken : Consumes (unread remaining source) (unread remaining later) (g.taken ++ (t.bytes ++ a.bytes))
       next_taken = Consumes-trans _ _ _ g.taken (t.bytes ++ a.bytes) g.consumed (Consumes-trans _ _ _ t.bytes a.bytes t.taken a.taken)
 
-      two_given : Gives contents sink two g.text
-      two_given = given_so sink then two g.text g.gives (gives_both contents then one two [] [] s a.gives)
+      one_given : Gives contents sink one g.text
+      one_given = given_so sink then one g.text g.gives s
 
       -- the reply is given
-      pub run_goes_on : (three : Outlet W) → Gives contents two three reply → Going limits source later sink three next
-      run_goes_on three w = record {
+      pub run_goes_on : is_cut one ≡ false → is_cut two ≡ false → Going limits source later sink two next
+      run_goes_on uncut stays = record {
         taken = g.taken ++ (t.bytes ++ a.bytes);
         consumed = next_taken;
         sound = a.sound;
         none_failed = a.none_failed ∙ t.none_failed ∙ g.none_failed;
-        text = g.text ++ reply;
-        gives = gives_both contents sink two three g.text reply two_given w;
-        story = next_story;
+        none_refused = a.none_refused ∙ kept ∙ g.none_refused;
+        text = g.text ++ a.reply;
+        gives = gives_both contents sink one two g.text a.reply one_given (a.tells.all uncut stays);
+        uncut = stays;
+        story = subst (λ (z : Bool). Story limits (g.taken ++ (t.bytes ++ a.bytes)) (g.text ++ a.reply) (is_ended later) z (book_of next.book)) (sym (a.refused stays)) next_story;
         same_limits = a.limits ∙ g.same_limits;
       }
 
       -- the reply is cut short
-      pub run_is_cut : (three : Outlet W) → IsCutShort contents two three reply → RunsToFailedWrite remaining contents limits source later sink three
-      run_is_cut three w = record {
+      pub run_is_cut : is_cut one ≡ false → is_cut two ≡ true → RunsToFailedWrite remaining contents limits source later sink two
+      run_is_cut uncut cut = record {
         input = g.taken ++ (t.bytes ++ a.bytes);
         rest = unread remaining later;
         begins = next_taken;
-        text = g.text ++ reply;
-        refused = next.written.refused;
+        text = g.text ++ a.reply;
+        refused = engine.written.refused || a.refusal;
         book = book_of next.book;
         replies = story_all (is_ended later) (IsAtEnd (unread remaining later)) a.sound next_story;
-        cut = cut_behind contents sink two three g.text reply two_given w;
+        cut = cut_behind contents sink one two g.text a.reply one_given (a.tells.some uncut cut);
       }
-
-  -- more commands came than can be counted
-  pub run_is_endless : (limits : Limits) (source now : Lines R) (sink then : Outlet W) (engine : Engine) → Going limits source now sink then engine → RunsTo remaining contents limits source now sink then Memory
-  run_is_endless limits source now sink then engine g = record {
-    input = g.taken;
-    left = [];
-    taken = subst (Consumes (unread remaining source) (unread remaining now)) (sym (append-nil g.taken)) g.consumed;
-    text = g.text;
-    refused = engine.written.refused;
-    book = book_of engine.book;
-    replies = story_all (is_ended now) (IsAtEnd (prepend_known [] (unread remaining now))) (λ e. at_end_behind (unread remaining now) (g.sound e)) g.story;
-    of_one = no_whole_line [] refl;
-    gives = g.gives;
-    none_failed = g.none_failed;
-  }
 
   -- what was answered goes out at last
   pub ends_sent : (limits : Limits) (source later : Lines R) (sink one two : Outlet W) (refused : Bool) → RunsToEnd remaining contents limits source later sink one refused → Gives contents one two []
@@ -299,6 +266,7 @@ module _ {R W : Type 0} (remaining : R → Option (List ℕ)) (contents : W → 
     replies = r.replies;
     gives = given_so sink one two r.text r.gives s;
     none_failed = r.none_failed;
+    none_refused = r.none_refused;
   }
 
   pub fails_sent : (limits : Limits) (source later : Lines R) (sink one two : Outlet W) (fault : Fault) → (fault ≡ Writer → ⊥) → RunsTo remaining contents limits source later sink one fault → Gives contents one two []
@@ -315,6 +283,7 @@ module _ {R W : Type 0} (remaining : R → Option (List ℕ)) (contents : W → 
     none_whole = r.none_whole;
     gives = given_so sink one two r.text r.gives s;
     one_failed = r.one_failed;
+    none_refused = r.none_refused;
   }
   fails_sent limits source later sink one two Writer n r s = absurd (n refl)
   fails_sent limits source later sink one two Memory n r s = record {
@@ -325,9 +294,10 @@ module _ {R W : Type 0} (remaining : R → Option (List ℕ)) (contents : W → 
     refused = r.refused;
     book = r.book;
     replies = r.replies;
-    of_one = r.of_one;
+    none_whole = r.none_whole;
     gives = given_so sink one two r.text r.gives s;
     none_failed = r.none_failed;
+    one_refused = r.one_refused;
   }
 
   -- the last send fails
@@ -364,6 +334,72 @@ module _ {R W : Type 0} (remaining : R → Option (List ℕ)) (contents : W → 
     text = r.text;
     refused = r.refused;
     book = r.book;
-    replies = r.replies;
+    replies = whole_ones r.replies;
     cut = cut_so sink one two r.text r.gives s;
   }
+
+  -- what was given before the first command
+  pub ends_from : (limits : Limits) (source later : Lines R) (zero sink after : Outlet W) (refused : Bool) → Gives contents zero sink [] → RunsToEnd remaining contents limits source later sink after refused
+      → RunsToEnd remaining contents limits source later zero after refused
+  ends_from limits source later zero sink after refused s r = record {
+    input = r.input;
+    read = r.read;
+    end = r.end;
+    text = r.text;
+    book = r.book;
+    replies = r.replies;
+    gives = gives_both contents zero sink after [] r.text s r.gives;
+    none_failed = r.none_failed;
+    none_refused = r.none_refused;
+  }
+
+  pub fails_from : (limits : Limits) (source later : Lines R) (zero sink after : Outlet W) (fault : Fault) → Gives contents zero sink [] → RunsTo remaining contents limits source later sink after fault
+      → RunsTo remaining contents limits source later zero after fault
+  fails_from limits source later zero sink after Reader s r = record {
+    input = r.input;
+    left = r.left;
+    read = r.read;
+    none_held = r.none_held;
+    text = r.text;
+    refused = r.refused;
+    book = r.book;
+    replies = r.replies;
+    none_whole = r.none_whole;
+    gives = gives_both contents zero sink after [] r.text s r.gives;
+    one_failed = r.one_failed;
+    none_refused = r.none_refused;
+  }
+  fails_from limits source later zero sink after Writer s r = record {
+    input = r.input;
+    rest = r.rest;
+    begins = r.begins;
+    text = r.text;
+    refused = r.refused;
+    book = r.book;
+    replies = r.replies;
+    cut = cut_behind contents zero sink after [] r.text s r.cut;
+  }
+  fails_from limits source later zero sink after Memory s r = record {
+    input = r.input;
+    left = r.left;
+    taken = r.taken;
+    text = r.text;
+    refused = r.refused;
+    book = r.book;
+    replies = r.replies;
+    none_whole = r.none_whole;
+    gives = gives_both contents zero sink after [] r.text s r.gives;
+    none_failed = r.none_failed;
+    one_refused = r.one_refused;
+  }
+
+  -- the sink is cut by nothing but a write that failed
+  pub line_uncut : (source later : Lines R) (sink after : Outlet W) (fault : Fault) → StopsAtLine remaining contents source later sink after fault → StaysOpen {A = Unit {0}} (Err fault) (is_cut after)
+  line_uncut source later sink after Reader (f, kept, s, u) = u
+  line_uncut source later sink after Writer s = tt
+  line_uncut source later sink after Memory (f, one, s, u) = u
+
+  pub stop_uncut : (source later : Lines R) (sink after : Outlet W) (line : List ℕ) (fault : Fault) → StopsLine remaining contents source later sink after line fault → StaysOpen {A = Unit {0}} (Err fault) (is_cut after)
+  stop_uncut source later sink after line Reader f = f.uncut
+  stop_uncut source later sink after line Writer f = tt
+  stop_uncut source later sink after line Memory f = f.uncut

@@ -16,6 +16,7 @@ pub mod SameChanges
 pub mod SameLines
 pub mod SameSets
 pub mod Scripting
+pub mod Scripts
 pub mod Story
 pub mod VatNames
 pub mod Whole

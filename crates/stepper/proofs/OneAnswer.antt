@@ -13,7 +13,7 @@ use Rattle.causewaylog.specs.Log.{log_text}
 use Rattle.printing.specs.Show.{Shows}
 use Rattle.printing.specs.Steps.{ShowsEnabled}
 use Rattle.printing.specs.Listing.{journal_text}
-use Rattle.stepper.specs.Replies.{logged_text, Moves, Answers, arrive_moves, forward_moves, turn_moves, stepped, runs, enabled_without_memory, enabled, shown, listed, log_without_memory, logged}
+use Rattle.stepper.specs.Replies.{logged_text, Moves, Answers, arrive_moves, forward_moves, turn_moves, stepped, runs, enabled_without_memory, enabled, show_without_memory, shown, journal_without_memory, listed, log_without_memory, logged}
 use Rattle.stepper.specs.Laws.{SameBook, IsForWant, book_without_memory, EndsForWant, SameAnswer, IsTold, OneAnswer, OneBirth}
 use Rattle.stepper.proofs.SameLines.{same_take, same_drop}
 use Rattle.stepper.proofs.SameChanges.{same_live_in, same_journal}
@@ -42,11 +42,17 @@ one_log {b = b} {c = c} {x = x} same logged logged n m =
     answer_once (ap (λ k. logged_text (log_text x (live_in (take k c.journal)) (live_in (drop k c.journal)))) same.settled
     ∙ (λ i. logged_text (log_text x (same_live_in _ _ (same_take b.settled b.journal c.journal same.journal) i) (same_live_in _ _ (same_drop b.settled b.journal c.journal same.journal) i)))) same
 
-one_listing : {limits : Limits} {b c d e : Book} {r t : List ℕ} {q p : Bool} → SameBook b c → Answers limits b command.journal r q d → Answers limits c command.journal t p e → SameAnswer r q d t p e
-one_listing {b = b} {c = c} same listed listed = answer_once (ap (λ k. journal_text k c.journal) same.settled ∙ same_journal b.settled b.journal c.journal same.journal) same
+one_listing : {limits : Limits} {b c d e : Book} {r t : List ℕ} {q p : Bool} → SameBook b c → Answers limits b command.journal r q d → Answers limits c command.journal t p e
+    → ¬ IsForWant r → ¬ IsForWant t → SameAnswer r q d t p e
+one_listing same journal_without_memory k n m = absurd (n book_without_memory)
+one_listing same h journal_without_memory n m = absurd (m book_without_memory)
+one_listing {b = b} {c = c} same listed listed n m = answer_once (ap (λ k. journal_text k c.journal) same.settled ∙ same_journal b.settled b.journal c.journal same.journal) same
 
-one_showing : {limits : Limits} {b c d e : Book} {r t : List ℕ} {q p : Bool} → NamesVatsOnce b.world → SameBook b c → Answers limits b command.show r q d → Answers limits c command.show t p e → SameAnswer r q d t p e
-one_showing once same (shown h) (shown {text = text} k) = answer_once (shows_once once h (subst (λ (w : World). Shows w text) same.world k)) same
+one_showing : {limits : Limits} {b c d e : Book} {r t : List ℕ} {q p : Bool} → NamesVatsOnce b.world → SameBook b c → Answers limits b command.show r q d → Answers limits c command.show t p e
+    → ¬ IsForWant r → ¬ IsForWant t → SameAnswer r q d t p e
+one_showing once same show_without_memory k n m = absurd (n book_without_memory)
+one_showing once same h show_without_memory n m = absurd (m book_without_memory)
+one_showing once same (shown h) (shown {text = text} k) n m = answer_once (shows_once once h (subst (λ (w : World). Shows w text) same.world k)) same
 
 -- ---- what may be done
 
@@ -88,8 +94,8 @@ answer_once_told command.step once same is h k n m = one_stepping same h k n m
 answer_once_told (command.run steps) once same is h k n m = one_running same h k n m
 answer_once_told (command.work workers turns) once same is h k n m = absurd is
 answer_once_told command.enabled once same is h k n m = one_enabled once same h k (ends n) (ends m)
-answer_once_told command.show once same is h k n m = one_showing once same h k
-answer_once_told command.journal once same is h k n m = one_listing same h k
+answer_once_told command.show once same is h k n m = one_showing once same h k (ends n) (ends m)
+answer_once_told command.journal once same is h k n m = one_listing same h k (ends n) (ends m)
 answer_once_told (command.log x) once same is h k n m = one_log same h k (ends n) (ends m)
 answer_once_told (command.cone e) once same is h k n m = one_cone same h k (ends n) (ends m)
 answer_once_told (command.undo events) once same is h k n m = one_undo same h k (ends n) (ends m)

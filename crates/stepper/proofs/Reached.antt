@@ -25,7 +25,7 @@ use Rattle.book.specs.Refusals.{exchange_refusal}
 use Rattle.book.specs.Calls.{Enters, EntersNext, undone, redone, redone_in, Undoes, Redoes, Exchanges}
 use Rattle.commands.specs.Commands.{Spelled}
 use Rattle.commands.specs.declared.command.LineFault.{LineFault}
-use Rattle.stepper.specs.Replies.{Moves, move_without_memory, arrival_refused, arrives, forwarding_refused, forwards, turn_without_memory_named, turn_refused, turns, learning_refused, learns, Steps, step_done, step_refused, step_idle, step_without_memory, Runs, runs_out, runs_on, runs_last, Answers, arrive_moves, forward_moves, turn_moves, learn_without_memory, learn_refused, learn_accepted, stepped, runs, worked, work_refused, enabled_without_memory, enabled, ask_without_memory, asked_without_memory, asked_unread, ask_refused, ask_accepted, shown, listed, log_without_memory, logged, cone_without_memory, cone_refused, cone_found, undo_without_memory, undo_refused, undo_accepted, undo_cone_without_memory, undo_cone_refused, undo_cone_found, redo_without_memory, redo_refused, redo_accepted, exchange_refused, exchange_accepted, settle_without_memory, settle_refused, settle_accepted, AnswersBirth, birth_without_memory, script_without_memory, script_refused, script_unread, birth_refused, birth_accepted, FirstReply, skipped, no_command, born, answered}
+use Rattle.stepper.specs.Replies.{Moves, move_without_memory, arrival_refused, arrives, forwarding_refused, forwards, turn_without_memory_named, turn_refused, turns, learning_refused, learns, Steps, step_done, step_refused, step_idle, step_without_memory, Runs, runs_out, runs_on, runs_last, Answers, arrive_moves, forward_moves, turn_moves, learn_without_memory, learn_refused, learn_accepted, stepped, runs, worked, work_refused, enabled_without_memory, enabled, ask_without_memory, asked_without_memory, asked_unread, ask_refused, ask_accepted, show_without_memory, shown, journal_without_memory, listed, log_without_memory, logged, cone_without_memory, cone_refused, cone_found, undo_without_memory, undo_refused, undo_accepted, undo_cone_without_memory, undo_cone_refused, undo_cone_found, redo_without_memory, redo_refused, redo_accepted, exchange_refused, exchange_accepted, settle_without_memory, settle_refused, settle_accepted, AnswersBirth, birth_without_memory, script_without_memory, script_refused, script_unread, birth_refused, birth_accepted, FirstReply, skipped, no_command, born, answered}
 use Rattle.stepper.specs.Laws.{IsTold, IsToldLine}
 use Rattle.stepper.proofs.VatNames.{run_names_vats_once}
 use Rattle.stepper.specs.declared.engine.Limits.{Limits}
@@ -232,7 +232,9 @@ reached_answered r told asked_without_memory = r
 reached_answered r told (asked_unread h) = r
 reached_answered r told (ask_refused h x) = r
 reached_answered r told (ask_accepted h x y) = reached_next r y
+reached_answered r told show_without_memory = r
 reached_answered r told (shown h) = r
+reached_answered r told journal_without_memory = r
 reached_answered r told listed = r
 reached_answered r told log_without_memory = r
 reached_answered r told logged = r

@@ -7,13 +7,15 @@ use Rattle.std.proofs.KnownBytes.{Consumes-nil, Consumes-trans, Consumes-kept}
 use Rattle.commands.specs.Lines.{line_of, behind_line}
 use Rattle.commands.specs.Commands.{is_empty}
 use Rattle.commands.specs.Scripts.{fault_in, fault_of, script_of, behind_lines, or_fault, unless}
-use Rattle.commands.specs.ScriptView.{fault_at}
+use Rattle.std.specs.declared.string.String.{String}
+use Rattle.std.specs.declared.alloc.Global.{Global}
+use Rattle.commands.specs.ScriptView.{fault_at, IsHeld, with_line}
 use Rattle.commands.specs.declared.command.LineFault.{LineFault}
 use Rattle.commands.specs.declared.command.LineFault.TheVariants.{Truncated}
 use Rattle.commands.proofs.ScriptLemmas.{Taken, taken_none, taken_more, truncated, added, behind_none, finished}
 use Rattle.streams.specs.Counted.{IsOneMore}
-use Rattle.streams.specs.Lines.{reads_failed, is_ended, unread, IsSound, TakesLine, HasNoLine}
-use Rattle.streams.specs.Outlet.{Gives}
+use Rattle.streams.specs.Lines.{reads_failed, lines_taken, lines_refused, is_ended, unread, IsSound, TakesLine, HasNoLine}
+use Rattle.streams.specs.Outlet.{is_cut, Gives}
 use Rattle.streams.specs.Pieces.{HasNoFeed, Reads, IsOneLine, fed, last}
 use Rattle.streams.specs.declared.line.Line.{Line}
 use Rattle.streams.specs.declared.lines.Lines.{Lines}
@@ -21,10 +23,10 @@ use Rattle.streams.specs.declared.outlet.Outlet.{Outlet}
 use Rattle.streams.proofs.Feeds.{behind_no_feed}
 use Rattle.streams.proofs.Giving.{gives_both, cut_behind}
 use Rattle.stepper.specs.Replies.{line_feeds}
-use Rattle.stepper.specs.Taking.{IsOfLines, no_bytes, TakesScript, StopsAtLine, StopsWithin}
+use Rattle.stepper.specs.Taking.{TakesScript, StopsAtLine, StopsWithin}
 use Rattle.stepper.specs.declared.fault.Fault.{Fault}
 use Rattle.stepper.specs.declared.fault.Fault.TheVariants.{Reader, Writer, Memory}
-use Rattle.stepper.proofs.Whole.{line_feeds-append, no_feeds, reads_fault, reads_short, line_stays, fault_stays, behind_is_more, of_more_lines, of_as_many, of_one_more}
+use Rattle.stepper.proofs.Whole.{line_feeds-append, no_feeds, reads_fault, reads_short, line_stays, fault_stays, behind_is_more}
 
 pub not_both : (P : Type 0) (b : Bool) → b ≡ false → b ≡ true → P
 not_both P b f t = absurd (cc)
@@ -90,6 +92,11 @@ was_open false now stays h = refl
 few_feeds : (taken n : ℕ) (before part : List ℕ) → taken < n → line_feeds before ≡ taken → HasNoFeed part → line_feeds (before ++ part) < n
 few_feeds taken n before part l e h = let none = no_feeds part h in omega (arith, line_feeds-append before part, none)
 
+-- a line adds to the text what it says
+pub grown_by : (r : Result (Bor (List ℕ)) LineFault) (first : Bool) (text : List ℕ) → IfOk r (λ t. with_line r first text ≡ text ++ (cond first [] (10 ∷ []) ++ t.now))
+grown_by (Ok t) first text = refl
+grown_by (Err f) first text = tt
+
 module _ {R W : Type 0} (remaining : R → Option (List ℕ)) (contents : W → Option (List ℕ)) (n : ℕ) where
   -- so many lines of the script were taken
   pub record Scripted (source now : Lines R) (sink then : Outlet W) (taken : ℕ) (fault : Option LineFault) (text : List ℕ) : Type 0 where
@@ -97,12 +104,13 @@ module _ {R W : Type 0} (remaining : R → Option (List ℕ)) (contents : W → 
     pub consumed : Consumes (unread remaining source) (unread remaining now) bytes
     pub sound : IsSound remaining now
     pub none_failed : reads_failed now ≡ reads_failed source
+    pub none_refused : lines_refused now ≡ lines_refused source
+    pub counted : lines_taken source ≤ lines_taken now
     pub gives : Gives contents sink then []
     pub stays : is_ended source ≡ true → (bytes ≡ []) × (is_ended now ≡ true)
     pub here : Taken n bytes taken [] fault text
     pub before : is_ended now ≡ false → (more : List ℕ) → Taken n (bytes ++ more) taken more fault text
     pub feeds : is_ended now ≡ false → line_feeds bytes ≡ taken
-    pub no_more : IsOfLines taken bytes
 
   pub scripted_none : (source : Lines R) (sink : Outlet W) (fault : Option LineFault) (text : List ℕ) → IsSound remaining source → Gives contents sink sink [] → fault ≡ None → text ≡ []
       → Scripted source source sink sink 0 fault text
@@ -111,12 +119,13 @@ module _ {R W : Type 0} (remaining : R → Option (List ℕ)) (contents : W → 
     consumed = Consumes-nil (unread remaining source);
     sound = s;
     none_failed = refl;
+    none_refused = refl;
+    counted = omega arith;
     gives = g;
     stays = λ t. (refl, t);
     here = subst (λ (o : Option LineFault). Taken n [] 0 [] o text) (sym e) (subst (Taken n [] 0 [] None) (sym f) (taken_none n []));
     before = λ unended more. subst (λ (o : Option LineFault). Taken n more 0 more o text) (sym e) (subst (Taken n more 0 more None) (sym f) (taken_none n more));
     feeds = λ unended. refl;
-    no_more = no_bytes;
   }
 
   whole_script : (source now : Lines R) (sink then : Outlet W) (fault : Option LineFault) (text : List ℕ) (script : Result (List ℕ) LineFault) → Scripted source now sink then n fault text
@@ -126,11 +135,12 @@ module _ {R W : Type 0} (remaining : R → Option (List ℕ)) (contents : W → 
     taken = s.consumed;
     sound = s.sound;
     none_failed = s.none_failed;
+    none_refused = s.none_refused;
+    counted = s.counted;
     stays = s.stays;
     gives = s.gives;
     text = e ∙ sym (finished n s.bytes [] fault text s.here);
     left = s.here.left ∙ ap (λ m. behind_lines m []) (none_left n);
-    no_more = s.no_more;
     whole = λ unended. let same = s.feeds unended in omega (arith, same);
     before = λ unended more. let t = s.before unended more in (e ∙ sym (finished n (s.bytes ++ more) more fault text t), sym (t.left ∙ ap (λ m. behind_lines m more) (none_left n)));
   }
@@ -142,28 +152,29 @@ module _ {R W : Type 0} (remaining : R → Option (List ℕ)) (contents : W → 
 
   -- the input ended before all lines were taken
   pub scripted_short : (source now later : Lines R) (sink then after : Outlet W) (taken : ℕ) (fault : Option LineFault) (text : List ℕ) → Scripted source now sink then taken fault text → taken < n
-      → HasNoLine remaining now later → Gives contents then after [] → TakesScript remaining contents n source later sink after (Err Truncated)
-  scripted_short source now later sink then after taken fault text s l none g = record {
+      → HasNoLine remaining now later → lines_refused later ≡ lines_refused now → lines_taken later ≡ lines_taken now → Gives contents then after [] → TakesScript remaining contents n source later sink after (Err Truncated)
+  scripted_short source now later sink then after taken fault text s l none kept same g = record {
     bytes = s.bytes;
     taken = Consumes-kept _ _ _ s.bytes s.consumed none.kept;
     sound = λ t. none.end;
     none_failed = none.none_failed ∙ s.none_failed;
+    none_refused = kept ∙ s.none_refused;
+    counted = let c = s.counted in omega (arith, c, same);
     stays = λ t. ((s.stays t).0, none.ended);
     gives = gives_both contents sink then after [] [] s.gives g;
     text = sym (truncated n s.bytes taken [] fault text s.here l refl);
     left = s.here.left ∙ behind_none (n - taken);
-    no_more = of_as_many {k = taken} n (omega arith) s.no_more;
     whole = λ unended. not_both (n ≤ line_feeds s.bytes) (is_ended later) unended none.ended;
     before = λ unended more. not_both ((Err Truncated ≡ script_of n (s.bytes ++ more)) × (more ≡ behind_lines n (s.bytes ++ more))) (is_ended later) unended none.ended;
   }
 
   -- one more line is taken
   pub scripted_more : (source now later : Lines R) (sink then after : Outlet W) (line : Line) (taken : ℕ) (fault next : Option LineFault) (text grown : List ℕ) (r : Result (Bor (List ℕ)) LineFault)
-      → Scripted source now sink then taken fault text → taken < n → TakesLine remaining now later line → Gives contents then after []
+      → Scripted source now sink then taken fault text → taken < n → TakesLine remaining now later line → lines_refused later ≡ lines_refused now → lines_taken later ≡ lines_taken now + 1 → Gives contents then after []
       → IfOk r (λ t. t.now ≡ line.text.items) → fault_at r ≡ fault_in line.text.items line.is_long → next ≡ or_fault fault (fault_at r)
       → IfOk r (λ t. grown ≡ text ++ (cond (nat_eq taken 0) [] (10 ∷ []) ++ t.now))
       → Scripted source later sink after (taken + 1) next grown
-  scripted_more source now later sink then after line taken fault next text grown r s l line_taken g ok told joins grows =
+  scripted_more source now later sink then after line taken fault next text grown r s l line_taken kept one_more g ok told joins grows =
       let bytes : List ℕ = line_taken.bytes in
       let step : (input rest behind : List ℕ) → Taken n input taken rest fault text → is_empty rest ≡ false → line_of rest ≡ line_of bytes → fault_of rest ≡ fault_of bytes → behind_line rest ≡ behind → Taken n input (taken + 1) behind next grown
       = λ input rest behind t some same_line same_fault same_behind. next_text n line bytes taken fault next text grown r line_taken.reads l ok told joins grows input rest behind t some same_line same_fault same_behind in
@@ -172,6 +183,8 @@ module _ {R W : Type 0} (remaining : R → Option (List ℕ)) (contents : W → 
         consumed = Consumes-trans _ _ _ s.bytes bytes s.consumed line_taken.taken;
         sound = line_taken.sound;
         none_failed = line_taken.none_failed ∙ s.none_failed;
+        none_refused = kept ∙ s.none_refused;
+        counted = let c = s.counted in omega (arith, c, one_more);
         gives = gives_both contents sink then after [] [] s.gives g;
         stays = λ t. not_both ((s.bytes ++ bytes ≡ []) × (is_ended later ≡ true)) (is_ended now) line_taken.not_ended (s.stays t).1;
         here = step (s.bytes ++ bytes) bytes [] (s.before line_taken.not_ended bytes) (is_line bytes (is_ended later) line_taken.one) refl refl (behind_one bytes (is_ended later) line_taken.one);
@@ -179,38 +192,37 @@ module _ {R W : Type 0} (remaining : R → Option (List ℕ)) (contents : W → 
             subst (λ (z : List ℕ). Taken n z (taken + 1) more next grown) (sym (append_assoc s.bytes bytes more))
             (step (s.bytes ++ (bytes ++ more)) (bytes ++ more) more (s.before line_taken.not_ended (bytes ++ more)) (is_some_line bytes (is_ended later) line_taken.one more) kept.line kept.fault kept.behind);
         feeds = λ unended. let one = one_feed bytes (is_ended later) line_taken.one unended in let same = s.feeds line_taken.not_ended in line_feeds-append s.bytes bytes ∙ omega (arith, same, one);
-        no_more = of_one_more taken s.bytes bytes (is_ended later) (s.feeds line_taken.not_ended) line_taken.one;
       }
 
   module _ (source now later : Lines R) (sink then after : Outlet W) (taken : ℕ) (fault : Option LineFault) (text : List ℕ) (s : Scripted source now sink then taken fault text) (l : taken < n) where
     -- a fault where one more line was to be taken
     pub scripted_stops : (why : Fault) → StopsAtLine remaining contents now later then after why → StopsWithin remaining contents source later sink after n why
-    scripted_stops Reader (fails, g) = record {
+    scripted_stops Reader (fails, kept, g, u) = record {
       bytes = s.bytes ++ fails.part.bytes;
       taken = Consumes-trans _ _ _ s.bytes fails.part.bytes s.consumed fails.part.taken;
       none_held = fails.none_held;
       few = few_feeds taken n s.bytes fails.part.bytes l (s.feeds fails.part.was_open) fails.part.feedless;
       not_ended = was_open (is_ended source) (is_ended now) (λ t. (s.stays t).1) fails.part.was_open;
       one_failed = subst (λ k. IsOneMore k (reads_failed later)) s.none_failed fails.one_failed;
+      none_refused = kept ∙ s.none_refused;
       gives = gives_both contents sink then after [] [] s.gives g;
+      uncut = u;
     }
     scripted_stops Writer cut = cut_behind contents sink then after [] [] s.gives cut
-    scripted_stops Memory (out, g) = record {
+    scripted_stops Memory (out, one, g, u) = record {
       bytes = s.bytes ++ out.part.bytes;
       taken = Consumes-trans _ _ _ s.bytes out.part.bytes s.consumed out.part.taken;
-      no_more = of_more_lines n (s.bytes ++ out.part.bytes) (few_feeds taken n s.bytes out.part.bytes l (s.feeds out.part.was_open) out.part.feedless);
-      stays = λ t. not_both (s.bytes ++ out.part.bytes ≡ []) (is_ended now) out.part.was_open (s.stays t).1;
+      few = few_feeds taken n s.bytes out.part.bytes l (s.feeds out.part.was_open) out.part.feedless;
+      not_ended = was_open (is_ended source) (is_ended now) (λ t. (s.stays t).1) out.part.was_open;
       none_failed = out.none_failed ∙ s.none_failed;
+      one_refused = subst (λ k. IsOneMore k (lines_refused later)) s.none_refused one;
       gives = gives_both contents sink then after [] [] s.gives g;
+      uncut = u;
     }
 
-    -- memory runs out for a line that was taken
-    pub scripted_out : (line : Line) → TakesLine remaining now later line → Gives contents then after [] → StopsWithin remaining contents source later sink after n Memory
-    scripted_out line t g = record {
-      bytes = s.bytes ++ t.bytes;
-      taken = Consumes-trans _ _ _ s.bytes t.bytes s.consumed t.taken;
-      no_more = of_as_many {k = taken + 1} n (omega arith) (of_one_more taken s.bytes t.bytes (is_ended later) (s.feeds t.not_ended) t.one);
-      stays = λ u. not_both (s.bytes ++ t.bytes ≡ []) (is_ended now) t.not_ended (s.stays u).1;
-      none_failed = t.none_failed ∙ s.none_failed;
-      gives = gives_both contents sink then after [] [] s.gives g;
-    }
+  -- so many lines were taken, and their text is held as far as there was memory for it
+  pub record Holding (source now : Lines R) (sink then : Outlet W) (taken : ℕ) (fault : Option LineFault) (held : Option (String Global)) : Type 0 where
+    pub text : List ℕ
+    pub scripted : Scripted source now sink then taken fault text
+    pub is : IsHeld held text
+    pub uncut : is_cut then ≡ false

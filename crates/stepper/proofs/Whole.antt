@@ -9,8 +9,7 @@ use Rattle.commands.specs.declared.command.LineFault.{LineFault}
 use Rattle.streams.specs.Pieces.{HasNoFeed, Reads, IsOneLine, fed, last}
 use Rattle.streams.specs.declared.line.Line.{Line}
 use Rattle.streams.proofs.Feeds.{no_feed_here, feed_behind, line_before_feed, behind_feed, long_before_feed, behind_no_feed, cut_at_feed}
-use Rattle.stepper.specs.Replies.{said, said_by, script_lines, line_feeds, IsWhole, IsOfOne, without_last}
-use Rattle.stepper.specs.Taking.{IsOfLines, no_bytes, some_bytes}
+use Rattle.stepper.specs.Replies.{said, said_by, script_lines, line_feeds, IsWhole}
 
 pub line_feeds-append : (xs ys : List ℕ) → line_feeds (xs ++ ys) ≡ line_feeds xs + line_feeds ys
 line_feeds-append xs ys = sum_by-append (λ x. cond (is_line_feed x) 1 0) xs ys
@@ -125,64 +124,3 @@ some_feed bytes (Some n) e w l =
 -- where there is no line feed no command is whole
 pub no_whole_feed : (bytes : List ℕ) → line_feeds bytes < 1 → IsWhole bytes → ⊥
 no_whole_feed bytes l w = some_feed bytes (line_end bytes) refl w l
-
-no_more_feeds : (k n m x y : ℕ) → x ≡ k + n → y ≡ k + m → n ≤ m → x ≤ y
-no_more_feeds k n m x y e f h = omega arith
-
--- no line feed comes in where a byte is left out
-pub feeds_before_last : (bytes : List ℕ) → line_feeds (without_last bytes) ≤ line_feeds bytes
-feeds_before_last [] = omega arith
-feeds_before_last (b ∷ []) = omega arith
-feeds_before_last (b ∷ c ∷ bs) =
-    no_more_feeds (line_feeds (b ∷ [])) (line_feeds (without_last (c ∷ bs))) (line_feeds (c ∷ bs)) (line_feeds (b ∷ without_last (c ∷ bs))) (line_feeds (b ∷ c ∷ bs)) (line_feeds-cons b (without_last (c ∷ bs)))
-    (line_feeds-cons b (c ∷ bs)) (feeds_before_last (c ∷ bs))
-
-pub without_last-append : (xs : List ℕ) (y : ℕ) (ys : List ℕ) → without_last (xs ++ (y ∷ ys)) ≡ xs ++ without_last (y ∷ ys)
-without_last-append [] y ys = refl
-without_last-append (x ∷ []) y ys = refl
-without_last-append (x ∷ z ∷ zs) y ys = ap (λ (l : List ℕ). x ∷ l) (without_last-append (z ∷ zs) y ys)
-
--- one line has no line feed before its last byte
-pub one_before_last : (bytes : List ℕ) (ended : Bool) → IsOneLine bytes ended → line_feeds (without_last bytes) ≡ 0
-one_before_last bytes ended (fed body h e) = ap (λ (l : List ℕ). line_feeds (without_last l)) e ∙ ap line_feeds (without_last-append body 10 [] ∙ append-nil body) ∙ no_feeds body h
-one_before_last bytes true (last h l) = let none = no_feeds bytes h in omega (arith, feeds_before_last bytes, none)
-
--- fewer line feeds before the last byte
-of_lines : (n : ℕ) (bytes : List ℕ) → line_feeds (without_last bytes) < n → IsOfLines n bytes
-of_lines n [] h = no_bytes
-of_lines n (b ∷ bs) h = some_bytes h
-
--- fewer line feeds at all
-pub of_more_lines : (n : ℕ) (bytes : List ℕ) → line_feeds bytes < n → IsOfLines n bytes
-of_more_lines n bytes h = of_lines n bytes (omega (arith, feeds_before_last bytes, h))
-
-less_or_same : (k m n : ℕ) → k < m → m ≤ n → k < n
-less_or_same k m n h l = omega arith
-
-pub of_as_many : {k : ℕ} (n : ℕ) {bytes : List ℕ} → k ≤ n → IsOfLines k bytes → IsOfLines n bytes
-of_as_many n l no_bytes = no_bytes
-of_as_many {k = k} n l (some_bytes {b = b} {bs = bs} h) = some_bytes (less_or_same (line_feeds (without_last (b ∷ bs))) k n h l)
-
--- one line behind so many
-pub of_one_more : (k : ℕ) (before line : List ℕ) (ended : Bool) → line_feeds before ≡ k → IsOneLine line ended → IsOfLines (k + 1) (before ++ line)
-of_one_more k before [] ended e h = of_more_lines (k + 1) (before ++ []) (let same = line_feeds-append before [] in omega (arith, same, e))
-of_one_more k before (b ∷ bs) ended e h = of_lines (k + 1) (before ++ (b ∷ bs))
-    (let same : line_feeds (without_last (before ++ (b ∷ bs))) ≡ line_feeds before + line_feeds (without_last (b ∷ bs)) = ap line_feeds (without_last-append before b bs) ∙ line_feeds-append before (without_last (b ∷ bs)) in
-    omega (arith, same, e, one_before_last (b ∷ bs) ended h))
-
--- a line alone is of one command
-line_of_one : (line : List ℕ) (ended : Bool) → IsOneLine line ended → IsOfOne line
-line_of_one line ended h = no_whole_feed (without_last line) (omega (arith, one_before_last line ended h))
-
--- so is a line with bytes of its script
-pub of_one_command : (line script : List ℕ) (ended : Bool) (says : Result (Option Spelled) LineFault) → IsOneLine line ended → says ≡ said line → (ended ≡ true → script ≡ [])
-    → IsOfLines (script_lines says) script → IsOfOne (line ++ script)
-of_one_command line _ ended says one meant stays no_bytes = subst IsOfOne (sym (append-nil line)) (line_of_one line ended one)
-of_one_command line _ ended says (fed body h e) meant stays (some_bytes {b = b} {bs = bs} few) =
-    subst (λ (l : List ℕ). ¬ IsWhole l) (sym (without_last-append line b bs))
-    (is_not_whole body line h e (without_last (b ∷ bs)) (subst (λ (r : Result (Option Spelled) LineFault). line_feeds (without_last (b ∷ bs)) < script_lines r) meant few))
-of_one_command line _ true says (last h l) meant stays (some_bytes {b = b} {bs = bs} few) = let none : b ∷ bs ≡ [] = stays refl in absurd (cc)
-
--- bytes without a line feed are of one command
-pub of_one_part : (bytes : List ℕ) → HasNoFeed bytes → IsOfOne bytes
-of_one_part bytes h = no_whole_feed (without_last bytes) (let none = no_feeds bytes h in omega (arith, feeds_before_last bytes, none))

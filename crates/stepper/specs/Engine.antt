@@ -1,20 +1,23 @@
--- What an answer does to the book and to the replies.
-use Rattle.std.specs.Prelude.{◌≡◌, ℕ, List, Bool, not}
+-- What an answer does to the book, and what it gives to the sink.
+use Rattle.std.specs.Prelude.{◌≡◌, ℕ, List, Bool, false, ◌||◌, not, Option}
 use Rattle.book.specs.Books as books
 use Rattle.book.specs.BookView.{book_of}
 use Rattle.agenda.specs.declared.agenda.Step.{Step}
+use Rattle.streams.specs.Outlet.{is_cut, Tells}
+use Rattle.streams.specs.declared.outlet.Outlet.{Outlet}
 use Rattle.stepper.specs.Replies.{Moves}
-use Rattle.stepper.specs.Written.{Adds}
 use Rattle.stepper.specs.declared.engine.Engine.{Engine}
 
--- the book goes the way that the definition allows, and the replies grow by its reply
-pub record Happens (old new : Engine) (Allowed : books.Book → List ℕ → Bool → books.Book → Type 0) : Type 0 where
-  pub reply : List ℕ
-  pub refusal : Bool
-  pub allowed : Allowed (book_of old.book) reply refusal (book_of new.book)
-  pub adds : Adds old.written new.written reply refusal
-  pub limits : new.limits ≡ old.limits
+module _ {W : Type 0} (contents : W → Option (List ℕ)) where
+  -- the book goes the way that the definition allows, and its reply is given; where a write fails, that is told of no refusal
+  pub record Happens (old new : Engine) (sink after : Outlet W) (Allowed : books.Book → List ℕ → Bool → books.Book → Type 0) : Type 0 where
+    pub reply : List ℕ
+    pub refusal : Bool
+    pub allowed : Allowed (book_of old.book) reply refusal (book_of new.book)
+    pub tells : Tells contents sink after reply
+    pub refused : is_cut after ≡ false → new.written.refused ≡ (old.written.refused || refusal)
+    pub limits : new.limits ≡ old.limits
 
--- something was done, or was refused
-abbrev pub Moved : Engine → Engine → Step → Bool → Type 0
-Moved old new step done = Happens old new (λ b r s d. (s ≡ not done) × Moves old.limits b step r s d)
+  -- something was done, or was refused
+  abbrev pub Moved : Engine → Engine → Outlet W → Outlet W → Step → Bool → Type 0
+  Moved old new sink after step done = Happens old new sink after (λ b r s d. (s ≡ not done) × Moves old.limits b step r s d)

@@ -6,3 +6,4 @@ pub mod Replies
 pub mod Runs
 pub mod Taking
 pub mod Written
+pub mod Words

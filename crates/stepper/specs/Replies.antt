@@ -163,7 +163,9 @@ pub data Answers (limits : Limits) : Book → Spelled → List ℕ → Bool → 
       → Answers limits b (command.ask x text) (refused (refusal_text r)) true b
   ask_accepted : {b d : Book} {x text : List ℕ} {program : Trees} {e : EventName} {v : VatNo} → ReadAs text (Ok program) → ask_refusal b x program ≡ None
       → EntersNext (record { name = e; act = ask x program }) (ask_foot e x v program) 0 b d → Answers limits b (command.ask x text) (queued_text e) false d
+  show_without_memory : {b : Book} → Answers limits b command.show (refused (no_memory)) true b
   shown : {b : Book} {text : List ℕ} → Shows b.world text → Answers limits b command.show text false b
+  journal_without_memory : {b : Book} → Answers limits b command.journal (refused (no_memory)) true b
   listed : {b : Book} → Answers limits b command.journal (journal_text b.settled b.journal) false b
   log_without_memory : {b : Book} {x : List ℕ} → Answers limits b (command.log x) (refused (no_memory)) true b
   logged : {b : Book} {x : List ℕ} → Answers limits b (command.log x) (logged_text (log_text x (live_in (settled_lines b)) (live_in (open_lines b)))) false b
@@ -249,13 +251,3 @@ pub data RepliesBefore (limits : Limits) : Book → List ℕ → List ℕ → Bo
 pub data RepliesToAll (limits : Limits) (bytes : List ℕ) (IsLast : Type 0) (replies : List ℕ) (refused : Bool) (d : Book) : Type 0 where
   whole_ones : RepliesBefore limits blank bytes replies refused d [] → RepliesToAll limits bytes IsLast replies refused d
   with_last : IsLast → Replies limits blank bytes replies refused d → RepliesToAll limits bytes IsLast replies refused d
-
--- all bytes but the last
-abbrev pub without_last : List ℕ → List ℕ
-without_last [] = []
-without_last (b ∷ []) = []
-without_last (b ∷ c ∷ bs) = b ∷ without_last (c ∷ bs)
-
--- these bytes are of one command: none is whole before the last of them
-abbrev pub IsOfOne : List ℕ → Type 0
-IsOfOne bytes = ¬ IsWhole (without_last bytes)

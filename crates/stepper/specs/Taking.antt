@@ -1,18 +1,21 @@
 -- What is taken of a source and given to a sink for one command, line by line.
-use Rattle.std.specs.Prelude.{◌≡◌, ℕ, ◌<◌, ◌≤◌, List, [], ◌∷◌, ◌++◌, Bool, true, false, ◌||◌, string_bytes, Option, Result, MatchResult}
+use Rattle.std.specs.Prelude.{◌≡◌, ℕ, ◌<◌, ◌≤◌, List, [], ◌++◌, Bool, true, false, ◌||◌, Option, Result, Ok, Err, MatchResult}
 use Rattle.std.specs.Io.KnownBytes.{Consumes}
+use Rattle.std.specs.declared.string.String.{String}
+use Rattle.std.specs.declared.alloc.Global.{Global}
 use Rattle.book.specs.Books.{Book}
 use Rattle.book.specs.BookView.{book_of}
 use Rattle.commands.specs.Commands.{Spelled}
 use Rattle.commands.specs.Lines.{behind_line}
 use Rattle.commands.specs.Scripts.{script_of, behind_lines}
+use Rattle.commands.specs.ScriptView.{IsScript}
 use Rattle.commands.specs.declared.command.LineFault.{LineFault}
 use Rattle.streams.specs.Counted.{IsOneMore}
-use Rattle.streams.specs.Lines.{held, reads_failed, is_ended, unread, IsSound, FailsWithin, RunsOut}
-use Rattle.streams.specs.Outlet.{Gives, IsCutShort}
+use Rattle.streams.specs.Lines.{held, reads_failed, lines_taken, lines_refused, is_ended, unread, IsSound, FailsWithin, RunsOut}
+use Rattle.streams.specs.Outlet.{is_cut, Gives, IsCutShort, Tells}
 use Rattle.streams.specs.declared.lines.Lines.{Lines}
 use Rattle.streams.specs.declared.outlet.Outlet.{Outlet}
-use Rattle.stepper.specs.Replies.{said, FirstReply, IsWhole, IsOfOne, script_lines, line_feeds, without_last}
+use Rattle.stepper.specs.Replies.{said, FirstReply, IsWhole, script_lines, line_feeds}
 use Rattle.stepper.specs.Engine.{Happens}
 use Rattle.stepper.specs.declared.engine.Engine.{Engine}
 use Rattle.stepper.specs.declared.fault.Fault.{Fault}
@@ -26,17 +29,19 @@ pub record Follows (limits : Limits) (says : Result (Option Spelled) LineFault) 
   pub lines : ended ≡ false → script_lines says ≤ line_feeds script
   pub before : ended ≡ false → (more : List ℕ) → FirstReply limits b says (script ++ more) reply refusal d more
 
--- bytes of so many lines: none, or fewer line feeds stand before the last
-pub data IsOfLines (lines : ℕ) : List ℕ → Type 0 where
-  no_bytes : IsOfLines lines []
-  some_bytes : {b : ℕ} {bs : List ℕ} → line_feeds (without_last (b ∷ bs)) < lines → IsOfLines lines (b ∷ bs)
+-- a sink stays open, unless it was a write that failed
+abbrev pub StaysOpen : {A : Type 0} → Result A Fault → Bool → Type 0
+StaysOpen (Ok x) cut = cut ≡ false
+StaysOpen (Err Reader) cut = cut ≡ false
+StaysOpen (Err Writer) cut = Unit {0}
+StaysOpen (Err Memory) cut = cut ≡ false
 
 module _ {R W : Type 0} (remaining : R → Option (List ℕ)) (contents : W → Option (List ℕ)) where
   -- what a fault says where the next line was to be taken
   abbrev pub StopsAtLine : Lines R → Lines R → Outlet W → Outlet W → Fault → Type 0
-  StopsAtLine source later sink after Reader = FailsWithin remaining source later × Gives contents sink after []
+  StopsAtLine source later sink after Reader = FailsWithin remaining source later × (lines_refused later ≡ lines_refused source) × Gives contents sink after [] × (is_cut after ≡ false)
   StopsAtLine source later sink after Writer = IsCutShort contents sink after []
-  StopsAtLine source later sink after Memory = RunsOut remaining source later × Gives contents sink after []
+  StopsAtLine source later sink after Memory = RunsOut remaining source later × IsOneMore (lines_refused source) (lines_refused later) × Gives contents sink after [] × (is_cut after ≡ false)
 
   -- the lines of a script are taken
   pub record TakesScript (lines : ℕ) (source later : Lines R) (sink after : Outlet W) (script : Result (List ℕ) LineFault) : Type 0 where
@@ -44,13 +49,21 @@ module _ {R W : Type 0} (remaining : R → Option (List ℕ)) (contents : W → 
     pub taken : Consumes (unread remaining source) (unread remaining later) bytes
     pub sound : IsSound remaining later
     pub none_failed : reads_failed later ≡ reads_failed source
+    pub none_refused : lines_refused later ≡ lines_refused source
+    pub counted : lines_taken source ≤ lines_taken later
     pub gives : Gives contents sink after []
     pub stays : is_ended source ≡ true → (bytes ≡ []) × (is_ended later ≡ true)
     pub text : script ≡ script_of lines bytes
     pub left : behind_lines lines bytes ≡ []
-    pub no_more : IsOfLines lines bytes
     pub whole : is_ended later ≡ false → lines ≤ line_feeds bytes
     pub before : is_ended later ≡ false → (more : List ℕ) → (script ≡ script_of lines (bytes ++ more)) × (more ≡ behind_lines lines (bytes ++ more))
+
+  -- the lines of a script are taken, and held as far as there is memory for them
+  pub record TakesHeld (lines : ℕ) (source later : Lines R) (sink after : Outlet W) (held : Result (Option (String Global)) LineFault) : Type 0 where
+    pub script : Result (List ℕ) LineFault
+    pub takes : TakesScript lines source later sink after script
+    pub is : IsScript held script
+    pub uncut : is_cut after ≡ false
 
   -- what a line says is answered
   pub record Does (old new : Engine) (source later : Lines R) (sink after : Outlet W) (says : Result (Option Spelled) LineFault) : Type 0 where
@@ -58,9 +71,10 @@ module _ {R W : Type 0} (remaining : R → Option (List ℕ)) (contents : W → 
     pub taken : Consumes (unread remaining source) (unread remaining later) bytes
     pub sound : IsSound remaining later
     pub none_failed : reads_failed later ≡ reads_failed source
+    pub none_refused : lines_refused later ≡ lines_refused source
+    pub counted : lines_taken source ≤ lines_taken later
     pub stays : is_ended source ≡ true → (bytes ≡ []) × (is_ended later ≡ true)
-    pub gives : Gives contents sink after []
-    pub happens : Happens old new (Follows old.limits says bytes (is_ended later))
+    pub happens : Happens contents old new sink after (Follows old.limits says bytes (is_ended later))
 
   -- a read failed before so many lines were taken: what was read of them was taken
   pub record FailsBefore (lines : ℕ) (source later : Lines R) (sink after : Outlet W) : Type 0 where
@@ -70,16 +84,20 @@ module _ {R W : Type 0} (remaining : R → Option (List ℕ)) (contents : W → 
     pub few : line_feeds bytes < lines
     pub not_ended : is_ended source ≡ false
     pub one_failed : IsOneMore (reads_failed source) (reads_failed later)
+    pub none_refused : lines_refused later ≡ lines_refused source
     pub gives : Gives contents sink after []
+    pub uncut : is_cut after ≡ false
 
-  -- memory ran out for so many lines, or for the reply to them: no more was taken than they are
+  -- there was no room for a line before so many lines were taken
   pub record RunsOutBefore (lines : ℕ) (source later : Lines R) (sink after : Outlet W) : Type 0 where
     pub bytes : List ℕ
     pub taken : Consumes (unread remaining source) (unread remaining later) bytes
-    pub no_more : IsOfLines lines bytes
-    pub stays : is_ended source ≡ true → bytes ≡ []
+    pub few : line_feeds bytes < lines
+    pub not_ended : is_ended source ≡ false
     pub none_failed : reads_failed later ≡ reads_failed source
+    pub one_refused : IsOneMore (lines_refused source) (lines_refused later)
     pub gives : Gives contents sink after []
+    pub uncut : is_cut after ≡ false
 
   -- what a fault says where so many lines were to be taken, and answered
   abbrev pub StopsWithin : Lines R → Lines R → Outlet W → Outlet W → ℕ → Fault → Type 0
@@ -93,13 +111,16 @@ module _ {R W : Type 0} (remaining : R → Option (List ℕ)) (contents : W → 
     pub taken : Consumes (unread remaining source) (unread remaining later) bytes
     pub sound : IsSound remaining later
     pub none_failed : reads_failed later ≡ reads_failed source
-    pub gives : Gives contents sink after []
+    pub none_refused : lines_refused later ≡ lines_refused source
+    pub counted : lines_taken source ≤ lines_taken later
+    pub reply : List ℕ
+    pub tells : Tells contents sink after reply
     pub refusal : Bool
-    pub here : FirstReply old.limits (book_of old.book) (said (line ++ bytes)) (behind_line (line ++ bytes)) (string_bytes new.written.text) refusal (book_of new.book) []
+    pub here : FirstReply old.limits (book_of old.book) (said (line ++ bytes)) (behind_line (line ++ bytes)) reply refusal (book_of new.book) []
     pub whole : is_ended later ≡ false → (more : List ℕ) → IsWhole ((line ++ bytes) ++ more)
     pub before : is_ended later ≡ false → (more : List ℕ)
-        → FirstReply old.limits (book_of old.book) (said ((line ++ bytes) ++ more)) (behind_line ((line ++ bytes) ++ more)) (string_bytes new.written.text) refusal (book_of new.book) more
-    pub refused : new.written.refused ≡ (old.written.refused || refusal)
+        → FirstReply old.limits (book_of old.book) (said ((line ++ bytes) ++ more)) (behind_line ((line ++ bytes) ++ more)) reply refusal (book_of new.book) more
+    pub refused : is_cut after ≡ false → new.written.refused ≡ (old.written.refused || refusal)
     pub limits : new.limits ≡ old.limits
 
   -- a read failed before the command that a line begins was whole
@@ -109,15 +130,19 @@ module _ {R W : Type 0} (remaining : R → Option (List ℕ)) (contents : W → 
     pub none_held : held later ≡ []
     pub none_whole : ¬ IsWhole (line ++ bytes)
     pub one_failed : IsOneMore (reads_failed source) (reads_failed later)
+    pub none_refused : lines_refused later ≡ lines_refused source
     pub gives : Gives contents sink after []
+    pub uncut : is_cut after ≡ false
 
-  -- memory ran out for the command that a line begins: no more was taken than its line and its script
+  -- there was no room for a line before the command that a line begins was whole
   pub record RunsOutBehind (source later : Lines R) (sink after : Outlet W) (line : List ℕ) : Type 0 where
     pub bytes : List ℕ
     pub taken : Consumes (unread remaining source) (unread remaining later) bytes
-    pub of_one : IsOfOne (line ++ bytes)
+    pub none_whole : ¬ IsWhole (line ++ bytes)
     pub none_failed : reads_failed later ≡ reads_failed source
+    pub one_refused : IsOneMore (lines_refused source) (lines_refused later)
     pub gives : Gives contents sink after []
+    pub uncut : is_cut after ≡ false
 
   -- what a fault says behind a line
   abbrev pub StopsLine : Lines R → Lines R → Outlet W → Outlet W → List ℕ → Fault → Type 0

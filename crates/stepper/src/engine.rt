@@ -1,41 +1,51 @@
 // Commands answered one after another.
-ghost use Rattle.std.specs.Prelude.{◌≡◌, ℕ, List, [], map, OnOk, IfOk, IfErr, MatchResult, Ok, Some, false};
+ghost use Rattle.std.specs.Prelude.{◌≡◌, ℕ, List, [], Result, IfOk, IfErr, MatchResult, Ok, Some, false};
 ghost use Rattle.kernele.specs.View.{program_of};
 ghost use Rattle.ereader.specs.Texts.{ReadAs};
 ghost use Rattle.book.specs.Books.{blank};
 ghost use Rattle.book.specs.BookView.{book_of};
 ghost use Rattle.commands.specs.Commands as commands;
 ghost use Rattle.commands.specs.Commands.{command_of, reading_of};
-ghost use Rattle.commands.specs.ScriptView.{script_text};
+ghost use Rattle.commands.specs.Numbers.{events_in};
+ghost use Rattle.commands.specs.ScriptView.{IsHeld, IsScript};
+ghost use Rattle.commands.specs.Words.{words_in};
+ghost use Rattle.commands.specs.declared.command.LineFault.{LineFault};
 ghost use Rattle.streams.specs.Lines.{is_ended, IsSound};
 ghost use Rattle.streams.specs.Pieces.{Reads, IsOneLine};
-ghost use Rattle.streams.specs.Outlet.{waiting};
-ghost use Rattle.stepper.specs.Replies.{Answers, AnswersBirth, Moves, Steps};
-ghost use Rattle.stepper.specs.Taking.{Does, DoesOrStops, AnswersOrStops};
+ghost use Rattle.streams.specs.Outlet.{waiting, is_cut};
+ghost use Rattle.stepper.specs.Replies.{Answers, AnswersBirth, Moves, Steps, EnabledIn};
+ghost use Rattle.stepper.specs.Taking.{DoesOrStops, AnswersOrStops, StaysOpen};
 ghost use Rattle.stepper.specs.Runs.{RunsToEnd, RunsTo};
-ghost use Rattle.stepper.specs.declared.fault.Fault.TheVariants.{Writer};
 
 use crate::fault::Fault;
 use crate::input::{next_line, take_script};
-use crate::reply::Written;
+use crate::reply::{
+    Written, put_done, put_exchanged, put_idle, put_log, put_queued, put_redone, put_settled,
+    put_turned, put_undone, put_worked,
+};
 use agenda::agenda::Step;
 use book::book::{Book, Turned};
 use book::fault::BookFault;
 use causewaylog::log::log_of;
-use commands::PromiseName;
-use commands::command::{Command, LineFault, command_of};
+use commands::command::{Command, LineFault, Said, command_of};
 use commands::script::text_of;
+use commands::{PromiseName, all_words, events_in};
 use crew::crew::{Crew, Order};
 use ereader::read;
 use ids::names::{EventName, MsgId, PromId, VatNo};
 use ids::text::Text;
 use kernele::tree::Program;
+use printing::enabled::{choice_of, put_enabled};
+use printing::gathering::listing_of;
+use printing::listing::{put_cone, put_journal};
+use printing::picture::Picture;
+use printing::show::put_world;
 use std::alloc::{AllocError, Global};
 use std::io::{Read, Write};
 use std::mem;
 use streams::line::Line;
 use streams::lines::Lines;
-use streams::outlet::Outlet;
+use streams::outlet::{Outlet, WriteFailed};
 
 /// The bytes of the stack on which commands are to be answered: a text may nest thousands of levels deep, and the calls
 /// that read it nest with it. The deepest text was measured to need 13 MiB of it, and level 1,000 of a turn less than two.
@@ -69,133 +79,170 @@ struct Engine {
 impl Engine {
     ghost use Rattle.stepper.specs.Engine.{Happens, Moved};
 
-    fn ask_program(&mut self, name: &str, program: Program) -> Result<(), AllocError>
-        ensures { (text : List ℕ) → ReadAs text (Ok (program_of program)) → OnOk result (Happens self.old self.new (λ b r s d. Answers self.old.limits b (commands.ask name.now text) r s d)) }
+    fn ask_program<W: Write>(&mut self, name: &str, program: Program, out: &mut Outlet<W>)
+        ensures { (text : List ℕ) → ReadAs text (Ok (program_of program)) → Happens W.contents self.old self.new out.old out.new (λ b r s d. Answers self.old.limits b (commands.ask name.now text) r s d) }
     {
         let Ok(name) = Text::new(self.alloc, name) else {
-            return self.written.refuse_call(&BookFault::Memory);
+            return self.written.refuse_call(&BookFault::Memory, out);
         };
         match self.book.ask(&name, program) {
-            Ok(event) => self.written.queued(event),
-            Err(fault) => self.written.refuse_call(&fault),
+            Ok(event) => put_queued(event, out),
+            Err(fault) => self.written.refuse_call(&fault, out),
         }
     }
 
-    fn ask(&mut self, name: &str, text: &str) -> Result<(), AllocError>
-        ensures { OnOk result (Happens self.old self.new (λ b r s d. Answers self.old.limits b (commands.ask name.now text.now) r s d)) }
+    fn ask<W: Write>(&mut self, name: &str, text: &str, out: &mut Outlet<W>)
+        ensures { Happens W.contents self.old self.new out.old out.new (λ b r s d. Answers self.old.limits b (commands.ask name.now text.now) r s d) }
     {
         match read(self.alloc, text) {
-            Ok(program) => self.ask_program(name, program),
-            Err(fault) => self.written.refuse_text(&fault),
+            Ok(program) => self.ask_program(name, program, out),
+            Err(fault) => self.written.refuse_text(&fault, out),
         }
     }
 
-    fn learn(&mut self, name: &str, promise: PromiseName) -> Result<(), AllocError>
-        ensures { OnOk result (Happens self.old self.new (λ b r s d. Answers self.old.limits b (commands.learn name.now promise) r s d)) }
+    fn learn<W: Write>(&mut self, name: &str, promise: PromiseName, out: &mut Outlet<W>)
+        ensures { Happens W.contents self.old self.new out.old out.new (λ b r s d. Answers self.old.limits b (commands.learn name.now promise) r s d) }
     {
         let Ok(name) = Text::new(self.alloc, name) else {
-            return self.written.refuse_call(&BookFault::Memory);
+            return self.written.refuse_call(&BookFault::Memory, out);
         };
         match self.book.learn_named(&name, promise.event, promise.index) {
-            Ok(event) => self.written.done(event),
-            Err(fault) => self.written.refuse_call(&fault),
+            Ok(event) => put_done(event, out),
+            Err(fault) => self.written.refuse_call(&fault, out),
         }
     }
 
-    fn arrive(&mut self, message: MsgId) -> Result<bool, AllocError>
-        ensures { IfOk result (λ done. Moved self.old self.new (Step.Arrive message) done) }
+    fn arrive<W: Write>(&mut self, message: MsgId, out: &mut Outlet<W>) -> bool
+        ensures { Moved W.contents self.old self.new out.old out.new (Step.Arrive message) result }
     {
         match self.book.arrive(message) {
-            Ok(event) => self.written.moved(event),
-            Err(fault) => self.written.not_moved(&fault),
+            Ok(event) => {
+                put_done(event, out);
+                true
+            }
+            Err(fault) => {
+                self.written.refuse_call(&fault, out);
+                false
+            }
         }
     }
 
-    fn forward(&mut self, message: MsgId) -> Result<bool, AllocError>
-        ensures { IfOk result (λ done. Moved self.old self.new (Step.Forward message) done) }
+    fn forward<W: Write>(&mut self, message: MsgId, out: &mut Outlet<W>) -> bool
+        ensures { Moved W.contents self.old self.new out.old out.new (Step.Forward message) result }
     {
         match self.book.forward(message) {
-            Ok(event) => self.written.moved(event),
-            Err(fault) => self.written.not_moved(&fault),
+            Ok(event) => {
+                put_done(event, out);
+                true
+            }
+            Err(fault) => {
+                self.written.refuse_call(&fault, out);
+                false
+            }
         }
     }
 
-    fn turn(&mut self, message: MsgId) -> Result<bool, AllocError>
-        ensures { IfOk result (λ done. Moved self.old self.new (Step.Turn message) done) }
+    fn turn<W: Write>(&mut self, message: MsgId, out: &mut Outlet<W>) -> bool
+        ensures { Moved W.contents self.old self.new out.old out.new (Step.Turn message) result }
     {
         match self.book.turn(message, self.limits.budget) {
-            Ok(Turned { event, ended }) => self.written.turned(event, &ended),
-            Err(fault) => self.written.not_moved(&fault),
+            Ok(Turned { event, ended }) => {
+                put_turned(event, &ended, out);
+                true
+            }
+            Err(fault) => {
+                self.written.refuse_call(&fault, out);
+                false
+            }
         }
     }
 
     /// A vat learns what is known of a promise, by its number.
-    fn learn_at(&mut self, vat: VatNo, promise: PromId) -> Result<bool, AllocError>
-        ensures { IfOk result (λ done. Moved self.old self.new (Step.Learn vat promise) done) }
+    fn learn_at<W: Write>(&mut self, vat: VatNo, promise: PromId, out: &mut Outlet<W>) -> bool
+        ensures { Moved W.contents self.old self.new out.old out.new (Step.Learn vat promise) result }
     {
         match self.book.learn_at(vat, promise) {
-            Ok(event) => self.written.moved(event),
-            Err(fault) => self.written.not_moved(&fault),
+            Ok(event) => {
+                put_done(event, out);
+                true
+            }
+            Err(fault) => {
+                self.written.refuse_call(&fault, out);
+                false
+            }
         }
     }
 
     /// Does something, and answers whether it was done.
-    fn make_move(&mut self, step: Step) -> Result<bool, AllocError>
-        ensures { IfOk result (λ done. Moved self.old self.new step done) }
+    fn make_move<W: Write>(&mut self, step: Step, out: &mut Outlet<W>) -> bool
+        ensures { Moved W.contents self.old self.new out.old out.new step result }
     {
         match step {
-            Step::Arrive(message) => self.arrive(message),
-            Step::Forward(message) => self.forward(message),
-            Step::Turn(message) => self.turn(message),
-            Step::Learn(vat, promise) => self.learn_at(vat, promise),
+            Step::Arrive(message) => self.arrive(message, out),
+            Step::Forward(message) => self.forward(message, out),
+            Step::Turn(message) => self.turn(message, out),
+            Step::Learn(vat, promise) => self.learn_at(vat, promise, out),
         }
     }
 
     /// Does what a command of one message says.
-    fn obey(&mut self, step: Step) -> Result<(), AllocError>
-        ensures { OnOk result (Happens self.old self.new (λ b r s d. Moves self.old.limits b step r s d)) }
+    fn obey<W: Write>(&mut self, step: Step, out: &mut Outlet<W>)
+        ensures { Happens W.contents self.old self.new out.old out.new (λ b r s d. Moves self.old.limits b step r s d) }
     {
-        self.make_move(step)?;
-        Ok(())
+        let _ = self.make_move(step, out);
     }
 
     /// Does the first that may be done. Answers whether a next step may follow: something was found, and it was not refused.
-    fn try_step(&mut self) -> Result<bool, AllocError>
-        ensures { IfOk result (λ more. Happens self.old self.new (λ b r s d. Steps self.old.limits b r s d more)) }
+    fn try_step<W: Write>(&mut self, out: &mut Outlet<W>) -> bool
+        ensures { Happens W.contents self.old self.new out.old out.new (λ b r s d. Steps self.old.limits b r s d result) }
     {
         match self.book.next() {
-            Ok(Some(step)) => self.make_move(step),
-            Ok(None) => self.written.idle(),
-            Err(AllocError) => self.written.not_moved(&BookFault::Memory),
+            Ok(Some(step)) => self.make_move(step, out),
+            Ok(None) => {
+                put_idle(out);
+                false
+            }
+            Err(AllocError) => {
+                self.written.refuse_call(&BookFault::Memory, out);
+                false
+            }
         }
     }
 
-    fn step(&mut self) -> Result<(), AllocError>
-        ensures { OnOk result (Happens self.old self.new (λ b r s d. Answers self.old.limits b commands.step r s d)) }
+    fn step<W: Write>(&mut self, out: &mut Outlet<W>)
+        ensures { Happens W.contents self.old self.new out.old out.new (λ b r s d. Answers self.old.limits b commands.step r s d) }
     {
-        self.try_step()?;
-        Ok(())
+        let _ = self.try_step(out);
     }
 
-    /// Steps, at most so many, up to one that finds nothing to do or is refused.
-    fn run(&mut self, most: u32) -> Result<(), AllocError>
-        ensures { OnOk result (Happens self.old self.new (λ b r s d. Answers self.old.limits b (commands.run most) r s d)) }
+    /// Steps, at most so many, up to one that finds nothing to do or is refused. What was told of each goes out before the next one, and
+    /// none follows where that fails.
+    fn run<W: Write>(&mut self, most: u32, out: &mut Outlet<W>)
+        ensures { Happens W.contents self.old self.new out.old out.new (λ b r s d. Answers self.old.limits b (commands.run most) r s d) }
     {
         let mut left = most;
         'steps: while left > 0 {
-            let goes_on = self.try_step()?;
+            let goes_on = self.try_step(out);
             if !goes_on {
-                return Ok(());
+                return;
             }
-            left -= 1;
+            match out.send() {
+                Ok(()) => left -= 1,
+                Err(WriteFailed) => return,
+            }
         }
-        Ok(())
     }
 
     /// Hands the book to the crew, and takes it back.
-    fn work<C: Crew>(&mut self, crew: &mut C, workers: u32, turns: u32) -> Result<(), AllocError>
+    fn work<W: Write, C: Crew>(
+        &mut self,
+        crew: &mut C,
+        workers: u32,
+        turns: u32,
+        out: &mut Outlet<W>,
+    )
         requires crew { C.ready }
-        ensures { OnOk result (Happens self.old self.new (λ b r s d. Answers self.old.limits b (commands.work workers turns) r s d)) }
+        ensures { Happens W.contents self.old self.new out.old out.new (λ b r s d. Answers self.old.limits b (commands.work workers turns) r s d) }
     {
         let order = Order {
             budget: self.limits.budget,
@@ -206,140 +253,193 @@ impl Engine {
         let (book, answer) = crew.work(self.alloc, book, order);
         self.book = book;
         match answer {
-            Ok(turns) => self.written.worked(turns),
-            Err(fault) => self.written.refuse_work(&fault),
+            Ok(turns) => put_worked(turns, out),
+            Err(fault) => self.written.refuse_work(&fault, out),
         }
     }
 
-    fn enabled(&mut self) -> Result<(), AllocError>
-        ensures { OnOk result (Happens self.old self.new (λ b r s d. Answers self.old.limits b commands.enabled r s d)) }
+    fn choose<W: Write>(&mut self, steps: Vec<Step>, out: &mut Outlet<W>)
+        ensures { EnabledIn (book_of self.old.book) steps.items → Happens W.contents self.old self.new out.old out.new (λ b r s d. Answers self.old.limits b commands.enabled r s d) }
+    {
+        match choice_of(self.alloc, self.book.world(), steps) {
+            Ok(choice) => put_enabled(&choice, out),
+            Err(AllocError) => self.written.refuse_call(&BookFault::Memory, out),
+        }
+    }
+
+    fn enabled<W: Write>(&mut self, out: &mut Outlet<W>)
+        ensures { Happens W.contents self.old self.new out.old out.new (λ b r s d. Answers self.old.limits b commands.enabled r s d) }
     {
         match self.book.enabled() {
-            Ok(steps) => self.written.enabled(self.alloc, self.book.world(), &steps),
-            Err(AllocError) => self.written.refuse_call(&BookFault::Memory),
+            Ok(steps) => self.choose(steps, out),
+            Err(AllocError) => self.written.refuse_call(&BookFault::Memory, out),
         }
     }
 
-    fn show(&mut self) -> Result<(), AllocError>
-        ensures { OnOk result (Happens self.old self.new (λ b r s d. Answers self.old.limits b commands.show r s d)) }
+    fn show<W: Write>(&mut self, out: &mut Outlet<W>)
+        ensures { Happens W.contents self.old self.new out.old out.new (λ b r s d. Answers self.old.limits b commands.show r s d) }
     {
-        self.written.world(self.alloc, self.book.world())
+        match Picture::new(self.alloc, self.book.world()) {
+            Ok(picture) => put_world(&picture, out),
+            Err(AllocError) => self.written.refuse_call(&BookFault::Memory, out),
+        }
     }
 
-    fn journal(&mut self) -> Result<(), AllocError>
-        ensures { OnOk result (Happens self.old self.new (λ b r s d. Answers self.old.limits b commands.journal r s d)) }
+    fn journal<W: Write>(&mut self, out: &mut Outlet<W>)
+        ensures { Happens W.contents self.old self.new out.old out.new (λ b r s d. Answers self.old.limits b commands.journal r s d) }
     {
-        self.written.journal(self.alloc, self.book.journal())
+        match listing_of(self.alloc, self.book.journal()) {
+            Ok(listing) => put_journal(&listing, out),
+            Err(AllocError) => self.written.refuse_call(&BookFault::Memory, out),
+        }
     }
 
     /// The log of the turns of the vat of this name.
-    fn log(&mut self, name: &str) -> Result<(), AllocError>
-        ensures { OnOk result (Happens self.old self.new (λ b r s d. Answers self.old.limits b (commands.log name.now) r s d)) }
+    fn log<W: Write>(&mut self, name: &str, out: &mut Outlet<W>)
+        ensures { Happens W.contents self.old self.new out.old out.new (λ b r s d. Answers self.old.limits b (commands.log name.now) r s d) }
     {
         match log_of(self.alloc, &self.book, name) {
-            Ok(text) => self.written.log(text.as_str()),
-            Err(_) => self.written.refuse_call(&BookFault::Memory),
+            Ok(text) => put_log(text.as_str(), out),
+            Err(_) => self.written.refuse_call(&BookFault::Memory, out),
         }
     }
 
-    fn cone(&mut self, event: EventName) -> Result<(), AllocError>
-        ensures { OnOk result (Happens self.old self.new (λ b r s d. Answers self.old.limits b (commands.cone event) r s d)) }
+    fn cone<W: Write>(&mut self, event: EventName, out: &mut Outlet<W>)
+        ensures { Happens W.contents self.old self.new out.old out.new (λ b r s d. Answers self.old.limits b (commands.cone event) r s d) }
     {
         match self.book.cone(event) {
-            Ok(events) => self.written.cone(&events),
-            Err(fault) => self.written.refuse_call(&fault),
+            Ok(events) => put_cone(&events, out),
+            Err(fault) => self.written.refuse_call(&fault, out),
         }
     }
 
-    fn undo(&mut self, events: &[EventName]) -> Result<(), AllocError>
-        ensures { OnOk result (Happens self.old self.new (λ b r s d. Answers self.old.limits b (commands.undo events.now) r s d)) }
+    fn undo<W: Write>(&mut self, events: &[EventName], out: &mut Outlet<W>)
+        ensures { Happens W.contents self.old self.new out.old out.new (λ b r s d. Answers self.old.limits b (commands.undo events.now) r s d) }
     {
         match self.book.undo(events) {
-            Ok(count) => self.written.undone(count),
-            Err(fault) => self.written.refuse_call(&fault),
+            Ok(count) => put_undone(count, out),
+            Err(fault) => self.written.refuse_call(&fault, out),
+        }
+    }
+
+    /// Undoes the events that words name.
+    fn undo_named<W: Write>(&mut self, words: &str, out: &mut Outlet<W>)
+        ensures { Happens W.contents self.old self.new out.old out.new (λ b r s d. Answers self.old.limits b (commands.undo (events_in words.now)) r s d) }
+    {
+        match events_in(self.alloc, words) {
+            Ok(events) => self.undo(&events, out),
+            Err(AllocError) => self.written.refuse_call(&BookFault::Memory, out),
         }
     }
 
     /// Undoes an event with its cone.
-    fn undo_cone(&mut self, event: EventName) -> Result<(), AllocError>
-        ensures { OnOk result (Happens self.old self.new (λ b r s d. Answers self.old.limits b (commands.undo_cone event) r s d)) }
+    fn undo_cone<W: Write>(&mut self, event: EventName, out: &mut Outlet<W>)
+        ensures { Happens W.contents self.old self.new out.old out.new (λ b r s d. Answers self.old.limits b (commands.undo_cone event) r s d) }
     {
         match self.book.cone(event) {
-            Ok(events) => self.undo(&events),
-            Err(fault) => self.written.refuse_call(&fault),
+            Ok(events) => self.undo(&events, out),
+            Err(fault) => self.written.refuse_call(&fault, out),
         }
     }
 
-    fn redo(&mut self, events: &[EventName]) -> Result<(), AllocError>
-        ensures { OnOk result (Happens self.old self.new (λ b r s d. Answers self.old.limits b (commands.redo events.now) r s d)) }
+    fn redo<W: Write>(&mut self, events: &[EventName], out: &mut Outlet<W>)
+        ensures { Happens W.contents self.old self.new out.old out.new (λ b r s d. Answers self.old.limits b (commands.redo events.now) r s d) }
     {
         match self.book.redo(events) {
-            Ok(count) => self.written.redone(count),
-            Err(fault) => self.written.refuse_call(&fault),
+            Ok(count) => put_redone(count, out),
+            Err(fault) => self.written.refuse_call(&fault, out),
+        }
+    }
+
+    /// Redoes the events that words name.
+    fn redo_named<W: Write>(&mut self, words: &str, out: &mut Outlet<W>)
+        ensures { Happens W.contents self.old self.new out.old out.new (λ b r s d. Answers self.old.limits b (commands.redo (events_in words.now)) r s d) }
+    {
+        match events_in(self.alloc, words) {
+            Ok(events) => self.redo(&events, out),
+            Err(AllocError) => self.written.refuse_call(&BookFault::Memory, out),
         }
     }
 
     /// Lets the entry at a position and the one behind it change places.
-    fn exchange(&mut self, position: usize) -> Result<(), AllocError>
-        ensures { OnOk result (Happens self.old self.new (λ b r s d. Answers self.old.limits b (commands.exchange position) r s d)) }
+    fn exchange<W: Write>(&mut self, position: usize, out: &mut Outlet<W>)
+        ensures { Happens W.contents self.old self.new out.old out.new (λ b r s d. Answers self.old.limits b (commands.exchange position) r s d) }
     {
         match self.book.exchange(position) {
-            Ok((event, other)) => self.written.exchanged(event, other),
-            Err(refusal) => self.written.refuse_call(&refusal),
+            Ok((event, other)) => put_exchanged(event, other, out),
+            Err(refusal) => self.written.refuse_call(&refusal, out),
         }
     }
 
     /// Settles all entries up to a position.
-    fn settle(&mut self, position: usize) -> Result<(), AllocError>
-        ensures { OnOk result (Happens self.old self.new (λ b r s d. Answers self.old.limits b (commands.settle position) r s d)) }
+    fn settle<W: Write>(&mut self, position: usize, out: &mut Outlet<W>)
+        ensures { Happens W.contents self.old self.new out.old out.new (λ b r s d. Answers self.old.limits b (commands.settle position) r s d) }
     {
         match self.book.settle(position) {
-            Ok(()) => self.written.settled(position),
-            Err(fault) => self.written.refuse_call(&fault),
+            Ok(()) => put_settled(position, out),
+            Err(fault) => self.written.refuse_call(&fault, out),
         }
     }
 
-    fn birth_program(
+    fn birth_program<W: Write>(
         &mut self,
         name: &str,
-        earlier: &[&str],
+        earlier: &str,
         script: Program,
-    ) -> Result<(), AllocError>
-        ensures { (text : List ℕ) → ReadAs text (Ok (program_of script)) → OnOk result (Happens self.old self.new (λ b r s d. AnswersBirth b name.now (map (λ x. x.now) earlier.now) (Ok text) r s d)) }
+        out: &mut Outlet<W>,
+    )
+        ensures { (text : List ℕ) → ReadAs text (Ok (program_of script)) → Happens W.contents self.old self.new out.old out.new (λ b r s d. AnswersBirth b name.now (words_in earlier.now) (Ok text) r s d) }
     {
         let Ok(name) = Text::new(self.alloc, name) else {
-            return self.written.refuse_call(&BookFault::Memory);
+            return self.written.refuse_call(&BookFault::Memory, out);
         };
         let Ok(earlier) = texts(self.alloc, earlier) else {
-            return self.written.refuse_call(&BookFault::Memory);
+            return self.written.refuse_call(&BookFault::Memory, out);
         };
         match self.book.birth(&name, earlier, script) {
-            Ok(event) => self.written.queued(event),
-            Err(fault) => self.written.refuse_call(&fault),
+            Ok(event) => put_queued(event, out),
+            Err(fault) => self.written.refuse_call(&fault, out),
         }
     }
 
-    fn birth_text(&mut self, name: &str, earlier: &[&str], text: &str) -> Result<(), AllocError>
-        ensures { OnOk result (Happens self.old self.new (λ b r s d. AnswersBirth b name.now (map (λ x. x.now) earlier.now) (Ok text.now) r s d)) }
+    fn birth_text<W: Write>(&mut self, name: &str, earlier: &str, text: &str, out: &mut Outlet<W>)
+        ensures { Happens W.contents self.old self.new out.old out.new (λ b r s d. AnswersBirth b name.now (words_in earlier.now) (Ok text.now) r s d) }
     {
         match read(self.alloc, text) {
-            Ok(program) => self.birth_program(name, earlier, program),
-            Err(fault) => self.written.refuse_text(&fault),
+            Ok(program) => self.birth_program(name, earlier, program, out),
+            Err(fault) => self.written.refuse_text(&fault, out),
+        }
+    }
+
+    /// A new vat, whose script is held, if there was memory for it.
+    fn birth_held<W: Write>(
+        &mut self,
+        name: &str,
+        earlier: &str,
+        script: &Option<String>,
+        out: &mut Outlet<W>,
+    )
+        ensures { (text : List ℕ) → IsHeld script.now text → Happens W.contents self.old self.new out.old out.new (λ b r s d. AnswersBirth b name.now (words_in earlier.now) (Ok text) r s d) }
+    {
+        match script {
+            Some(text) => self.birth_text(name, earlier, text.as_str(), out),
+            None => self.written.refuse_call(&BookFault::Memory, out),
         }
     }
 
     /// A new vat, whose script was taken from the lines behind the command.
-    fn birth(
+    fn birth<W: Write>(
         &mut self,
         name: &str,
-        earlier: &[&str],
-        script: &Result<String, LineFault>,
-    ) -> Result<(), AllocError>
-        ensures { OnOk result (Happens self.old self.new (λ b r s d. AnswersBirth b name.now (map (λ x. x.now) earlier.now) (script_text script.now) r s d)) }
+        earlier: &str,
+        script: &Result<Option<String>, LineFault>,
+        out: &mut Outlet<W>,
+    )
+        ensures { (text : Result (List ℕ) LineFault) → IsScript script.now text → Happens W.contents self.old self.new out.old out.new (λ b r s d. AnswersBirth b name.now (words_in earlier.now) text r s d) }
     {
         match script {
-            Ok(text) => self.birth_text(name, earlier, text.as_str()),
-            Err(fault) => self.written.refuse_line(*fault),
+            Ok(held) => self.birth_held(name, earlier, held, out),
+            Err(fault) => self.written.refuse_line(*fault, out),
         }
     }
 
@@ -352,6 +452,7 @@ impl Engine {
         crew: &mut C,
     ) -> Result<(), Fault>
         requires sound { IsSound R.remaining source.old }
+        requires open { is_cut sink.old ≡ false }
         requires crew { C.ready }
         ensures { DoesOrStops R.remaining W.contents result self.old self.new source.old source.new sink.old sink.new (Ok (Some (command_of command.entry))) }
     {
@@ -362,39 +463,40 @@ impl Engine {
                 lines,
             } => {
                 let script = take_script(self.alloc, lines, source, sink)?;
-                return Ok(self.birth(name, &earlier, &script)?);
+                self.birth(name, earlier, &script, sink);
             }
-            Command::Ask { name, text } => self.ask(name, text),
-            Command::Arrive(message) => self.obey(Step::Arrive(message)),
-            Command::Forward(message) => self.obey(Step::Forward(message)),
-            Command::Learn { name, promise } => self.learn(name, promise),
-            Command::Turn(message) => self.obey(Step::Turn(message)),
-            Command::Step => self.step(),
-            Command::Run(most) => self.run(most),
-            Command::Work { workers, turns } => self.work(crew, workers, turns),
-            Command::Enabled => self.enabled(),
-            Command::Show => self.show(),
-            Command::Journal => self.journal(),
-            Command::Log(name) => self.log(name),
-            Command::Cone(event) => self.cone(event),
-            Command::Undo(events) => self.undo(&events),
-            Command::UndoCone(event) => self.undo_cone(event),
-            Command::Redo(events) => self.redo(&events),
-            Command::Exchange(position) => self.exchange(position),
-            Command::Settle(position) => self.settle(position),
-        }?;
+            Command::Ask { name, text } => self.ask(name, text, sink),
+            Command::Arrive(message) => self.obey(Step::Arrive(message), sink),
+            Command::Forward(message) => self.obey(Step::Forward(message), sink),
+            Command::Learn { name, promise } => self.learn(name, promise, sink),
+            Command::Turn(message) => self.obey(Step::Turn(message), sink),
+            Command::Step => self.step(sink),
+            Command::Run(most) => self.run(most, sink),
+            Command::Work { workers, turns } => self.work(crew, workers, turns, sink),
+            Command::Enabled => self.enabled(sink),
+            Command::Show => self.show(sink),
+            Command::Journal => self.journal(sink),
+            Command::Log(name) => self.log(name, sink),
+            Command::Cone(event) => self.cone(event, sink),
+            Command::Undo(words) => self.undo_named(words, sink),
+            Command::UndoCone(event) => self.undo_cone(event, sink),
+            Command::Redo(words) => self.redo_named(words, sink),
+            Command::Exchange(position) => self.exchange(position, sink),
+            Command::Settle(position) => self.settle(position, sink),
+        }
         Ok(())
     }
 
     /// Answers what a line says.
     fn answer_said<R: Read, W: Write, C: Crew>(
         &mut self,
-        says: Result<Option<Command>, LineFault>,
+        says: Said<'_>,
         source: &mut Lines<R>,
         sink: &mut Outlet<W>,
         crew: &mut C,
     ) -> Result<(), Fault>
         requires sound { IsSound R.remaining source.old }
+        requires open { is_cut sink.old ≡ false }
         requires crew { C.ready }
         ensures { DoesOrStops R.remaining W.contents result self.old self.new source.old source.new sink.old sink.new (reading_of says.entry) }
     {
@@ -404,13 +506,13 @@ impl Engine {
                 None => Ok(()),
             },
             Err(fault) => {
-                self.written.refuse_line(fault)?;
+                self.written.refuse_line(fault, sink);
                 Ok(())
             }
         }
     }
 
-    /// Answers the command that a line begins: its reply stands alone in `written` then.
+    /// Answers the command that a line begins.
     fn answer_line<R: Read, W: Write, C: Crew>(
         &mut self,
         line: &Line,
@@ -419,16 +521,13 @@ impl Engine {
         crew: &mut C,
     ) -> Result<(), Fault>
         requires sound { IsSound R.remaining source.old }
+        requires open { is_cut sink.old ≡ false }
         requires crew { C.ready }
         ensures { (bytes : List ℕ) → Reads line.now bytes → IsOneLine bytes (is_ended source.old)
             → AnswersOrStops R.remaining W.contents result self.old self.new source.old source.new sink.old sink.new bytes }
     {
-        self.written.text.clear();
         match text_of(line.text.as_slice(), line.is_long) {
-            Ok(text) => {
-                let says = command_of(self.alloc, text)?;
-                self.answer_said(says, source, sink, crew)
-            }
+            Ok(text) => self.answer_said(command_of(text), source, sink, crew),
             Err(fault) => self.answer_said(Err(fault), source, sink, crew),
         }
     }
@@ -443,40 +542,41 @@ impl Engine {
         requires blank { book_of self.old.book ≡ blank }
         requires none_refused { self.old.written.refused ≡ false }
         requires sound { IsSound R.remaining source.old }
+        requires open { is_cut sink.old ≡ false }
         requires crew { C.ready }
-        ensures { MatchResult result
+        ensures whole { MatchResult result
             (λ _. RunsToEnd R.remaining W.contents self.old.limits source.old source.new sink.old sink.new self.new.written.refused)
             (RunsTo R.remaining W.contents self.old.limits source.old source.new sink.old sink.new) }
+        ensures uncut { StaysOpen result (is_cut sink.new) }
     {
-        'commands: for _ in 0..u64::MAX {
+        'commands: loop {
             match next_line(source, sink)? {
                 Some(line) => self.answer_line(&line, source, sink, crew)?,
                 None => return Ok(()),
             }
-            sink.give(self.written.text.as_bytes())?;
+            sink.check()?;
         }
-        // More commands came than can be counted.
-        Err(Fault::Memory)
     }
 }
 
-/// Names as texts of their own.
-fn texts(alloc: Global, names: &[&str]) -> Result<Vec<Text>, AllocError>
-    ensures { IfOk result (λ texts. texts.items ≡ map (λ x. x.now) names.now) }
+/// The names that words are, as texts of their own.
+fn texts(alloc: Global, words: &str) -> Result<Vec<Text>, AllocError>
+    ensures { IfOk result (λ texts. texts.items ≡ words_in words.now) }
 {
+    let names = all_words(alloc, words)?;
     let mut texts = Vec::with_capacity(alloc, names.len())?;
-    for name in names {
+    for name in &names {
         texts.push(Text::new(alloc, name)?)?;
     }
     Ok(texts)
 }
 
 /// Answers the commands of a source one after another: each before it reads past the block that holds it. Only for `work` it hands the book to
-/// the crew.
+/// the crew. A reply takes no memory: want of it for what a command needs is replied, before the command takes effect.
 ///
 /// # Errors
 /// `Reader` where a read failed: the commands that were read whole are answered. `Writer` where a write failed: a beginning of
-/// the replies went out. `Memory` where there was none for a line or a reply: just the commands before it are answered.
+/// the replies went out. `Memory` where there was no room for a line: just the commands before it are answered.
 pub fn run<R: Read, W: Write, C: Crew>(
     alloc: Global,
     source: &mut Lines<R>,
@@ -490,11 +590,12 @@ pub fn run<R: Read, W: Write, C: Crew>(
     ensures err { IfErr result (RunsTo R.remaining W.contents limits source.old source.new sink.old sink.new) }
     ensures all_out { waiting sink.new ≡ [] }
 {
+    sink.reopen();
     let mut engine = Engine {
         alloc,
         limits,
         book: Book::new(alloc),
-        written: Written::new(alloc),
+        written: Written { refused: false },
     };
     match engine.answer_all(source, sink, crew) {
         Ok(()) => {

@@ -1,9 +1,8 @@
 // Why a run was cut short.
 ghost use Rattle.std.specs.Prelude.{◌≡◌, Some};
 ghost use Rattle.stepper.specs.Fault.{fault_text, taking};
-ghost use Rattle.stepper.specs.declared.fault.Fault.TheVariants.{Writer, Memory};
+ghost use Rattle.stepper.specs.declared.fault.Fault.TheVariants.{Writer};
 
-use std::alloc::AllocError;
 use std::fmt;
 use std::fmt::{Debug, Display, Formatter, Write};
 use streams::lines::TakeFault;
@@ -17,7 +16,7 @@ pub enum Fault {
     Reader,
     /// The replies could not be written.
     Writer,
-    /// Memory ran out for a reply or for a command's text.
+    /// There was no room for a line.
     Memory,
 }
 
@@ -36,14 +35,6 @@ impl Display for Fault {
 impl Debug for Fault {
     fn fmt<W: Write>(&self, f: &mut Formatter<W>) -> fmt::Result {
         Display::fmt(self, f)
-    }
-}
-
-impl From<AllocError> for Fault {
-    ghost from_gives = { λ _ f. f ≡ Memory };
-
-    fn from(_error: AllocError) -> Self {
-        Fault::Memory
     }
 }
 

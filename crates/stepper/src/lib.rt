@@ -7,6 +7,7 @@ mod fault;
 mod input;
 mod reply;
 pub mod theorems;
+mod words;
 
 pub use ended::{Ended, status};
 pub use engine::{Limits, STACK, Summary, run};

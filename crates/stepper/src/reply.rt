@@ -1,235 +1,188 @@
-// Replies, as they are written.
-ghost use Rattle.std.specs.Prelude.{◌≡◌, ◌++◌, [], length, true, false, IfOk, OnOk, string_bytes};
+// Replies, as they are given to an outlet piece by piece: they take no memory.
+ghost use Rattle.std.specs.Prelude.{◌≡◌, ◌++◌, ◌||◌, true, false, codes};
+ghost use Rattle.ids.specs.Quoted.{quoted};
+ghost use Rattle.values.specs.Shown as values;
+ghost use Rattle.values.specs.View.{val_of};
 ghost use Rattle.ereader.specs.Shown.{shown};
 ghost use Rattle.book.specs.Fault as book_fault;
-ghost use Rattle.worldcells.specs.View.{world_of};
 ghost use Rattle.deliveries.specs.Outcomes.{told_of};
 ghost use Rattle.commands.specs.Commands.{fault_text};
 ghost use Rattle.stepper.specs.Replies.{refused, queued_text, done_text, idle_text, turned_text, told_text, undone_text, redone_text, exchanged_text, settled_text, worked_text, logged_text};
-ghost use Rattle.printing.specs.Listing.{journal_text, cone_text};
-ghost use Rattle.journal.specs.Journals.{items_of};
-ghost use Rattle.journal.specs.Lines.{lines_of};
-ghost use Rattle.causality.specs.Journals.{IsJournal};
-ghost use Rattle.printing.specs.Show.{Shows};
-ghost use Rattle.printing.specs.Steps.{ShowsEnabled};
+ghost use Rattle.streams.specs.Outlet.{Tells};
 
-use agenda::agenda::Step;
+use crate::words::{put_book_fault, put_line_fault, put_read_fault, put_work_fault};
 use book::fault::{BookFault, WorkFault};
 use commands::command::LineFault;
 use deliveries::outcome::Ended;
 use ereader::fault::ReadFault;
 use ids::names::{EventName, MsgId};
-use ids::quote::write_quoted;
-use journal::journal::Journal;
-use printing::enabled::write_enabled;
-use printing::listing::{write_cone, write_journal};
-use printing::show::write_world;
-use std::alloc::{AllocError, Global};
-use values::showing::write_value;
-use worldcells::world::World;
+use printing::names::{put_event, put_message};
+use printing::quoting::put_quoted;
+use printing::value::put_value;
+use std::io::Write;
+use streams::outlet::Outlet;
+use values::value::Value;
 
-/// The replies so far, and whether one is a refusal.
-#[derive(Drop)]
+/// What is kept of the replies.
+#[derive(Clone, Copy)]
 pub struct Written {
-    pub text: String,
+    /// Whether one was a refusal.
     pub refused: bool,
 }
 
-fn write_end(ended: &Ended, out: &mut String) -> Result<(), AllocError>
-    ensures { OnOk result (string_bytes out.new ≡ string_bytes out.old ++ told_text (told_of ended.now)) }
+/// An event happened that made one message.
+pub(crate) fn put_queued<W: Write>(event: EventName, out: &mut Outlet<W>)
+    ensures { Tells W.contents out.old out.new (queued_text event) }
+{
+    out.put("ok ");
+    put_event(event, out);
+    out.put(" ");
+    put_message(MsgId { event, index: 0 }, out);
+    out.put("\n");
+}
+
+/// An event happened that has nothing to tell.
+pub(crate) fn put_done<W: Write>(event: EventName, out: &mut Outlet<W>)
+    ensures { Tells W.contents out.old out.new (done_text event) }
+{
+    out.put("ok ");
+    put_event(event, out);
+    out.put("\n");
+}
+
+/// There is nothing to do.
+pub(crate) fn put_idle<W: Write>(out: &mut Outlet<W>)
+    ensures { Tells W.contents out.old out.new idle_text }
+{
+    out.put("idle\n");
+}
+
+fn put_given<W: Write>(value: &Value, out: &mut Outlet<W>)
+    ensures { Tells W.contents out.old out.new (codes "value " ++ values.shown (val_of value.now)) }
+{
+    out.put("value ");
+    put_value(value, out);
+}
+
+fn put_reason<W: Write>(words: &str, reason: &str, out: &mut Outlet<W>)
+    ensures { Tells W.contents out.old out.new (words.now ++ quoted reason.now) }
+{
+    out.put(words);
+    put_quoted(reason, out);
+}
+
+fn put_end<W: Write>(ended: &Ended, out: &mut Outlet<W>)
+    ensures { Tells W.contents out.old out.new (told_text (told_of ended.now)) }
 {
     match ended {
-        Ended::Value(value) => {
-            out.push_str("value ")?;
-            write_value(value, out)
-        }
-        Ended::Problem(problem) => {
-            out.push_str("problem ")?;
-            write_quoted(problem.as_str(), out)
-        }
-        Ended::Abandoned(why) => {
-            out.push_str("abandoned ")?;
-            write_quoted(why.reason(), out)
-        }
+        Ended::Value(value) => put_given(value, out),
+        Ended::Problem(problem) => put_reason("problem ", problem.as_str(), out),
+        Ended::Abandoned(why) => put_reason("abandoned ", why.reason(), out),
     }
 }
 
+/// A turn was run.
+pub(crate) fn put_turned<W: Write>(event: EventName, ended: &Ended, out: &mut Outlet<W>)
+    ensures { Tells W.contents out.old out.new (turned_text event (told_of ended.now)) }
+{
+    out.put("ok ");
+    put_event(event, out);
+    out.put(" ");
+    put_end(ended, out);
+    out.put("\n");
+}
+
+/// The log of a vat is written.
+pub(crate) fn put_log<W: Write>(text: &str, out: &mut Outlet<W>)
+    ensures { Tells W.contents out.old out.new (logged_text text.now) }
+{
+    out.put(text);
+    out.put("\n");
+}
+
+/// Workers took turns, of which so many were entered.
+pub(crate) fn put_worked<W: Write>(turns: u64, out: &mut Outlet<W>)
+    ensures { Tells W.contents out.old out.new (worked_text turns) }
+{
+    out.put("ok work ");
+    out.put_number(turns);
+    out.put("\n");
+}
+
+/// So many entries were undone.
+pub(crate) fn put_undone<W: Write>(count: usize, out: &mut Outlet<W>)
+    ensures { Tells W.contents out.old out.new (undone_text count) }
+{
+    out.put("ok undone ");
+    out.put_number(count);
+    out.put("\n");
+}
+
+/// So many entries are live again.
+pub(crate) fn put_redone<W: Write>(count: usize, out: &mut Outlet<W>)
+    ensures { Tells W.contents out.old out.new (redone_text count) }
+{
+    out.put("ok redone ");
+    out.put_number(count);
+    out.put("\n");
+}
+
+/// The entries of two events changed places.
+pub(crate) fn put_exchanged<W: Write>(event: EventName, other: EventName, out: &mut Outlet<W>)
+    ensures { Tells W.contents out.old out.new (exchanged_text event other) }
+{
+    out.put("ok exchanged ");
+    put_event(event, out);
+    out.put(" ");
+    put_event(other, out);
+    out.put("\n");
+}
+
+/// All entries up to a position are settled.
+pub(crate) fn put_settled<W: Write>(position: usize, out: &mut Outlet<W>)
+    ensures { Tells W.contents out.old out.new (settled_text position) }
+{
+    out.put("ok settled ");
+    out.put_number(position);
+    out.put("\n");
+}
+
 impl Written {
-    ghost use Rattle.stepper.specs.Written.{Adds, AddsText};
+    ghost use Rattle.stepper.specs.Written.{Adds};
 
-    pub(crate) fn new(alloc: Global) -> Written
-        ensures text { string_bytes result.text ≡ [] }
-        ensures refused { result.refused ≡ false }
-    {
-        Written {
-            text: String::new(alloc),
-            refused: false,
-        }
-    }
-
-    /// An event happened that made one message.
-    pub(crate) fn queued(&mut self, event: EventName) -> Result<(), AllocError>
-        ensures { OnOk result (Adds self.old self.new (queued_text event) false) }
-    {
-        let message = MsgId { event, index: 0 };
-        let out = &mut self.text;
-        write!(out, "ok {event} {message}\n")
-    }
-
-    /// An event happened that has nothing to tell.
-    pub(crate) fn done(&mut self, event: EventName) -> Result<(), AllocError>
-        ensures { OnOk result (Adds self.old self.new (done_text event) false) }
-    {
-        let out = &mut self.text;
-        write!(out, "ok {event}\n")
-    }
-
-    /// Something was done, which is an event that has nothing to tell.
-    pub(crate) fn moved(&mut self, event: EventName) -> Result<bool, AllocError>
-        ensures { IfOk result (λ done. (done ≡ true) × Adds self.old self.new (done_text event) false) }
-    {
-        self.done(event)?;
-        Ok(true)
-    }
-
-    /// Something was not done.
-    pub(crate) fn not_moved(&mut self, fault: &BookFault) -> Result<bool, AllocError>
-        ensures { IfOk result (λ done. (done ≡ false) × Adds self.old self.new (refused (book_fault.fault_text fault.now)) true) }
-    {
-        self.refuse_call(fault)?;
-        Ok(false)
-    }
-
-    /// Nothing was done, since there is nothing to do.
-    pub(crate) fn idle(&mut self) -> Result<bool, AllocError>
-        ensures { IfOk result (λ done. (done ≡ false) × Adds self.old self.new idle_text false) }
-    {
-        self.text.push_str("idle\n")?;
-        Ok(false)
-    }
-
-    /// All that may be done.
-    pub(crate) fn enabled(
-        &mut self,
-        alloc: Global,
-        world: &World,
-        steps: &[Step],
-    ) -> Result<(), AllocError>
-        ensures { OnOk result (AddsText self.old self.new (ShowsEnabled (world_of world.now) steps.now)) }
-    {
-        write_enabled(alloc, world, steps, &mut self.text)
-    }
-
-    /// A turn was run.
-    pub(crate) fn turned(&mut self, event: EventName, ended: &Ended) -> Result<bool, AllocError>
-        ensures { IfOk result (λ done. (done ≡ true) × Adds self.old self.new (turned_text event (told_of ended.now)) false) }
-    {
-        let out = &mut self.text;
-        write!(out, "ok {event} ")?;
-        write_end(ended, out)?;
-        out.push_str("\n")?;
-        Ok(true)
-    }
-
-    /// The world is shown.
-    pub(crate) fn world(&mut self, alloc: Global, world: &World) -> Result<(), AllocError>
-        ensures { OnOk result (AddsText self.old self.new (Shows (world_of world.now))) }
-    {
-        write_world(alloc, world, &mut self.text)
-    }
-
-    /// The journal is listed.
-    pub(crate) fn journal(&mut self, alloc: Global, journal: Journal) -> Result<(), AllocError>
-        requires { IsJournal (items_of journal) }
-        ensures { OnOk result (Adds self.old self.new (journal_text (length journal.entry.settled.now) (lines_of (items_of journal.entry))) false) }
-    {
-        write_journal(alloc, journal, &mut self.text)
-    }
-
-    /// The log of a vat is written.
-    pub(crate) fn log(&mut self, text: &str) -> Result<(), AllocError>
-        ensures { OnOk result (Adds self.old self.new (logged_text text.now) false) }
-    {
-        let out = &mut self.text;
-        write!(out, "{text}\n")
-    }
-
-    /// Workers took turns, of which so many were entered.
-    pub(crate) fn worked(&mut self, turns: u64) -> Result<(), AllocError>
-        ensures { OnOk result (Adds self.old self.new (worked_text turns) false) }
-    {
-        let out = &mut self.text;
-        write!(out, "ok work {turns}\n")
-    }
-
-    /// The events of a cone are named.
-    pub(crate) fn cone(&mut self, events: &[EventName]) -> Result<(), AllocError>
-        ensures { OnOk result (Adds self.old self.new (cone_text events.now) false) }
-    {
-        write_cone(events, &mut self.text)
-    }
-
-    /// So many entries were undone.
-    pub(crate) fn undone(&mut self, count: usize) -> Result<(), AllocError>
-        ensures { OnOk result (Adds self.old self.new (undone_text count) false) }
-    {
-        let out = &mut self.text;
-        write!(out, "ok undone {count}\n")
-    }
-
-    /// So many entries are live again.
-    pub(crate) fn redone(&mut self, count: usize) -> Result<(), AllocError>
-        ensures { OnOk result (Adds self.old self.new (redone_text count) false) }
-    {
-        let out = &mut self.text;
-        write!(out, "ok redone {count}\n")
-    }
-
-    /// The entries of two events changed places.
-    pub(crate) fn exchanged(&mut self, event: EventName, other: EventName) -> Result<(), AllocError>
-        ensures { OnOk result (Adds self.old self.new (exchanged_text event other) false) }
-    {
-        let out = &mut self.text;
-        write!(out, "ok exchanged {event} {other}\n")
-    }
-
-    /// All entries up to a position are settled.
-    pub(crate) fn settled(&mut self, position: usize) -> Result<(), AllocError>
-        ensures { OnOk result (Adds self.old self.new (settled_text position) false) }
-    {
-        let out = &mut self.text;
-        write!(out, "ok settled {position}\n")
-    }
-
-    pub(crate) fn refuse_line(&mut self, fault: LineFault) -> Result<(), AllocError>
-        ensures { OnOk result (Adds self.old self.new (refused (fault_text fault)) true) }
+    pub(crate) fn refuse_line<W: Write>(&mut self, fault: LineFault, out: &mut Outlet<W>)
+        ensures { Adds W.contents self.old self.new out.old out.new (refused (fault_text fault)) true }
     {
         self.refused = true;
-        let out = &mut self.text;
-        write!(out, "no {fault}\n")
+        out.put("no ");
+        put_line_fault(fault, out);
+        out.put("\n");
     }
 
-    pub(crate) fn refuse_text(&mut self, fault: &ReadFault) -> Result<(), AllocError>
-        ensures { OnOk result (Adds self.old self.new (refused (shown fault.now)) true) }
+    pub(crate) fn refuse_text<W: Write>(&mut self, fault: &ReadFault, out: &mut Outlet<W>)
+        ensures { Adds W.contents self.old self.new out.old out.new (refused (shown fault.now)) true }
     {
         self.refused = true;
-        let out = &mut self.text;
-        write!(out, "no {fault}\n")
+        out.put("no ");
+        put_read_fault(fault, out);
+        out.put("\n");
     }
 
-    pub(crate) fn refuse_call(&mut self, fault: &BookFault) -> Result<(), AllocError>
-        ensures { OnOk result (Adds self.old self.new (refused (book_fault.fault_text fault.now)) true) }
+    pub(crate) fn refuse_call<W: Write>(&mut self, fault: &BookFault, out: &mut Outlet<W>)
+        ensures { Adds W.contents self.old self.new out.old out.new (refused (book_fault.fault_text fault.now)) true }
     {
         self.refused = true;
-        let out = &mut self.text;
-        write!(out, "no {fault}\n")
+        out.put("no ");
+        put_book_fault(fault, out);
+        out.put("\n");
     }
 
-    pub(crate) fn refuse_work(&mut self, fault: &WorkFault) -> Result<(), AllocError>
-        ensures { OnOk result (Adds self.old self.new (refused (book_fault.work_text fault.now)) true) }
+    pub(crate) fn refuse_work<W: Write>(&mut self, fault: &WorkFault, out: &mut Outlet<W>)
+        ensures { Adds W.contents self.old self.new out.old out.new (refused (book_fault.work_text fault.now)) true }
     {
         self.refused = true;
-        let out = &mut self.text;
-        write!(out, "no {fault}\n")
+        out.put("no ");
+        put_work_fault(fault, out);
+        out.put("\n");
     }
 }

@@ -1,11 +1,11 @@
 -- How what is given goes out.
-use Rattle.std.proofs.Common.{◌≡◌, ℕ, List, [], ◌++◌, Option, Result, Ok, Err, refl, sym, ap, subst, ◌∙◌, append_assoc, append-nil}
+use Rattle.std.proofs.Common.{◌≡◌, ℕ, Bool, true, false, List, [], ◌++◌, Option, Result, Ok, Err, refl, sym, ap, subst, ◌∙◌, append_assoc, append-nil}
 use Rattle.std.specs.Prelude.{OnOk, OnErr}
 use Rattle.std.specs.Io.KnownBytes.{Appends}
 use Rattle.std.proofs.KnownBytes.{Appends-nil, Appends-trans}
 use Rattle.streams.specs.Counted.{inner, failures, IsOneMore}
 use Rattle.streams.specs.declared.outlet.Outlet.{Outlet}
-use Rattle.streams.specs.Outlet.{waiting, writer, writes_failed, TakesSome, Gives, IsCutShort}
+use Rattle.streams.specs.Outlet.{waiting, writer, writes_failed, is_cut, TakesSome, Gives, IsCutShort, Tells}
 
 -- both facts of a success give a third
 pub on_ok_both : {T E P Q S : Type 0} (r : Result T E) → (P → Q → S) → OnOk r P → OnOk r Q → OnOk r S
@@ -88,3 +88,78 @@ module _ {W : Type 0} (contents : W → Option (List ℕ)) where
     none_waits = same ∙ none;
     one_failed = subst (λ n. IsOneMore n (writes_failed new)) g.none_failed f;
   }
+
+  -- what is longer is cut short too
+  pub cut_longer : (a b : Outlet W) (xs ys : List ℕ) → IsCutShort contents a b xs → IsCutShort contents a b (xs ++ ys)
+  cut_longer a b xs ys h = record {
+    some = record {
+      front = h.some.front;
+      back = h.some.back ++ ys;
+      out = h.some.out;
+      whole = sym (append_assoc (waiting a) xs ys) ∙ ap (λ l. l ++ ys) h.some.whole ∙ append_assoc h.some.front h.some.back ys;
+    };
+    none_waits = h.none_waits;
+    one_failed = h.one_failed;
+  }
+
+  -- an outlet that was open stays so, or is cut
+  told_whole : (a c : Outlet W) (xs ys : List ℕ) (b : Outlet W) (t : Bool) → is_cut b ≡ t → Tells contents a b xs → Tells contents b c ys → is_cut a ≡ false → is_cut c ≡ false → Gives contents a c (xs ++ ys)
+  told_whole a c xs ys b false e g h uncut stays = gives_both a b c xs ys (g.all uncut e) (h.all e stays)
+  told_whole a c xs ys b true e g h uncut stays = let same : is_cut c ≡ true = ap is_cut (h.none e) ∙ e in absurd (cc)
+
+  told_part : (a c : Outlet W) (xs ys : List ℕ) (b : Outlet W) (t : Bool) → is_cut b ≡ t → Tells contents a b xs → Tells contents b c ys → is_cut a ≡ false → is_cut c ≡ true → IsCutShort contents a c (xs ++ ys)
+  told_part a c xs ys b false e g h uncut cut = cut_behind a b c xs ys (g.all uncut e) (h.some e cut)
+  told_part a c xs ys b true e g h uncut cut = subst (λ (o : Outlet W). IsCutShort contents a o (xs ++ ys)) (sym (h.none e)) (cut_longer a b xs ys (g.some uncut e))
+
+  -- pieces are told one after another
+  pub tells_both : {a b c : Outlet W} {xs ys : List ℕ} → Tells contents a b xs → Tells contents b c ys → Tells contents a c (xs ++ ys)
+  tells_both {a = a} {b = b} {c = c} {xs = xs} {ys = ys} g h = record {
+    all = told_whole a c xs ys b (is_cut b) refl g h;
+    some = told_part a c xs ys b (is_cut b) refl g h;
+    none = λ cut. let same = g.none cut in h.none (ap is_cut same ∙ cut) ∙ same;
+  }
+
+  -- the same bytes are told
+  pub tells_as : {a b : Outlet W} {xs ys : List ℕ} → xs ≡ ys → Tells contents a b xs → Tells contents a b ys
+  tells_as {a = a} {b = b} e t = subst (Tells contents a b) e t
+
+  -- nothing is told
+  pub tells_none : (o : Outlet W) → Tells contents o o []
+  tells_none o = record { all = λ uncut stays. gives_none o; some = λ uncut cut. absurd (cc); none = λ cut. refl }
+
+  -- what an open outlet is told is a beginning of what may be told behind it, where it is cut
+  pub cut_before : (a b : Outlet W) (xs ys : List ℕ) → Tells contents a b xs → is_cut a ≡ false → is_cut b ≡ true → IsCutShort contents a b (xs ++ ys)
+  cut_before a b xs ys t uncut cut = cut_longer a b xs ys (t.some uncut cut)
+
+  -- an outlet that is cut is told whatever may be told behind it
+  pub tells_more : (a b : Outlet W) (xs ys : List ℕ) → Tells contents a b xs → is_cut b ≡ true → Tells contents a b (xs ++ ys)
+  tells_more a b xs ys t cut = record {
+    all = λ uncut stays. absurd (cc);
+    some = λ uncut stays. cut_longer a b xs ys (t.some uncut cut);
+    none = t.none;
+  }
+
+  -- what may be told of a rest, behind what was told, leads to all
+  pub record LeadsTo (first now : Outlet W) (rest all : List ℕ) : Type 0 where
+    pub leads : (last : Outlet W) → Tells contents now last rest → Tells contents first last all
+
+  pub leads_first : (o : Outlet W) {rest all : List ℕ} → rest ≡ all → LeadsTo o o rest all
+  leads_first o e = record { leads = λ last t. tells_as e t }
+
+  pub leads_more : {first now next : Outlet W} {rest all : List ℕ} (one more : List ℕ) → LeadsTo first now rest all → Tells contents now next one → rest ≡ one ++ more → LeadsTo first next more all
+  leads_more one more l t e = record { leads = λ last u. l.leads last (tells_as (sym e) (tells_both t u)) }
+
+  pub leads_all : {first now : Outlet W} {rest all : List ℕ} → LeadsTo first now rest all → rest ≡ [] → Tells contents first now all
+  leads_all {now = now} l e = l.leads now (tells_as (sym e) (tells_none now))
+
+  -- an outlet that is open in the end was so before
+  opened_by : (t : Bool) (a b : Outlet W) (xs : List ℕ) → is_cut a ≡ t → Tells contents a b xs → is_cut b ≡ false → t ≡ false
+  opened_by true a b xs e t uncut = let same : is_cut b ≡ true = ap is_cut (t.none e) ∙ e in absurd (cc)
+  opened_by false a b xs e t uncut = refl
+
+  pub was_open : {a b : Outlet W} {xs : List ℕ} → Tells contents a b xs → is_cut b ≡ false → is_cut a ≡ false
+  was_open {a = a} {b = b} {xs = xs} t uncut = opened_by (is_cut a) a b xs refl t uncut
+
+  -- what is given to an outlet that is open and stays so is told
+  pub tells_given : {a b : Outlet W} {xs : List ℕ} → Gives contents a b xs → is_cut a ≡ false → is_cut b ≡ false → Tells contents a b xs
+  tells_given g uncut stays = record { all = λ p q. g; some = λ p cut. absurd (cc); none = λ cut. absurd (cc) }

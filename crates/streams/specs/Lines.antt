@@ -1,5 +1,5 @@
 -- What the next line of a reader is, and what is left behind it.
-use Rattle.std.specs.Prelude.{◌≡◌, ℕ, List, [], Bool, true, false, ◌||◌, is_some, Option}
+use Rattle.std.specs.Prelude.{◌≡◌, ℕ, ◌+◌, ◌^◌, ◌<◌, List, [], Bool, true, false, ◌||◌, is_some, Option, Some, Result, Ok, Err}
 use Rattle.std.specs.Io.KnownBytes.{Keeps, Consumes, IsAtEnd, prepend_known}
 use Rattle.commands.specs.Lines.{line_end}
 use Rattle.streams.specs.Counted.{inner, failures, IsOneMore}
@@ -21,6 +21,24 @@ reader l = inner l.source
 -- how many reads failed, modulo 2^64
 abbrev pub reads_failed : {R : Type 0} → Lines R → ℕ
 reads_failed l = failures l.source
+
+-- how many lines were taken
+abbrev pub lines_taken : {R : Type 0} → Lines R → ℕ
+lines_taken l = l.taken
+
+-- for how many lines there was no room, modulo 2^64
+abbrev pub lines_refused : {R : Type 0} → Lines R → ℕ
+lines_refused l = l.refused
+
+-- a line is counted where it was taken, and only there; no more are than can be
+abbrev pub CountsTaken : {L : Type 0} → ℕ → ℕ → Result (Option L) TakeFault → Type 0
+CountsTaken old new (Ok (Some line)) = (new ≡ old + 1) × (new < 2 ^ 64)
+CountsTaken old new r = new ≡ old
+
+-- a line for which there was no room is counted, and only such a one
+abbrev pub CountsRefused : {L : Type 0} → ℕ → ℕ → Result L TakeFault → Type 0
+CountsRefused old new (Err Memory) = IsOneMore old new
+CountsRefused old new r = new ≡ old
 
 -- the reader was seen to have no more
 abbrev pub is_ended : {R : Type 0} → Lines R → Bool
@@ -76,7 +94,7 @@ module _ {R : Type 0} (remaining : R → Option (List ℕ)) where
     pub none_held : held new ≡ []
     pub one_failed : IsOneMore (reads_failed old) (reads_failed new)
 
-  -- memory ran out for the line, and no read failed
+  -- there was no room for the line, and no read failed
   pub record RunsOut (old new : Lines R) : Type 0 where
     pub part : LosesPart old new
     pub none_failed : reads_failed new ≡ reads_failed old

@@ -1,5 +1,5 @@
 -- What was given to a writer, and what of it went out.
-use Rattle.std.specs.Prelude.{◌≡◌, ℕ, List, [], ◌++◌, Option}
+use Rattle.std.specs.Prelude.{◌≡◌, ℕ, Bool, true, false, List, [], ◌++◌, Option}
 use Rattle.std.specs.Io.KnownBytes.{Appends}
 use Rattle.streams.specs.Counted.{inner, failures, IsOneMore}
 use Rattle.streams.specs.declared.outlet.Outlet.{Outlet}
@@ -14,6 +14,10 @@ writer o = inner o.sink
 -- how many writes failed, modulo 2^64
 abbrev pub writes_failed : {W : Type 0} → Outlet W → ℕ
 writes_failed o = failures o.sink
+
+-- a write failed, and what is given now is lost
+abbrev pub is_cut : {W : Type 0} → Outlet W → Bool
+is_cut o = o.is_cut
 
 -- the writer took a beginning of these bytes
 pub record TakesSome (old new : Option (List ℕ)) (bytes : List ℕ) : Type 0 where
@@ -35,3 +39,9 @@ module _ {W : Type 0} (contents : W → Option (List ℕ)) where
     pub some : TakesSome (contents (writer old)) (contents (writer new)) (waiting old ++ bytes)
     pub none_waits : waiting new ≡ []
     pub one_failed : IsOneMore (writes_failed old) (writes_failed new)
+
+  -- these bytes are given, or a write fails and cuts the outlet; where it was cut before nothing is done
+  pub record Tells (old new : Outlet W) (bytes : List ℕ) : Type 0 where
+    pub all : is_cut old ≡ false → is_cut new ≡ false → Gives old new bytes
+    pub some : is_cut old ≡ false → is_cut new ≡ true → IsCutShort old new bytes
+    pub none : is_cut old ≡ true → new ≡ old

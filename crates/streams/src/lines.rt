@@ -14,11 +14,11 @@ use std::io::Read;
 pub enum TakeFault {
     /// A read failed.
     Reader,
-    /// Memory ran out for the line.
+    /// There was no room for the line.
     Memory,
 }
 
-/// The lines of a reader, read through a block of a fixed size.
+/// The lines of a reader, read through a block of a fixed size. They are counted, and so are those for which there was no room.
 ///
 /// A line that is too long takes no more memory than the longest that is not. After a fault the part of the line that was
 /// read is lost.
@@ -28,6 +28,8 @@ pub struct Lines<R> {
     held: Held,
     is_ended: bool,
     alloc: Global,
+    taken: u64,
+    refused: u64,
 }
 
 impl From<AllocError> for TakeFault {
@@ -39,7 +41,7 @@ impl From<AllocError> for TakeFault {
 }
 
 impl<R> Lines<R> {
-    ghost use Rattle.streams.specs.Lines.{held, reader, reads_failed, is_ended, is_at_hand};
+    ghost use Rattle.streams.specs.Lines.{held, reader, reads_failed, lines_refused, is_ended, is_at_hand};
 
     /// # Errors
     /// Memory ran out for the block.
@@ -50,12 +52,15 @@ impl<R> Lines<R> {
         ensures none_read { IfOk result (λ l. held l ≡ []) }
         ensures none_failed { IfOk result (λ l. reads_failed l ≡ 0) }
         ensures open { IfOk result (λ l. is_ended l ≡ false) }
+        ensures none_refused { IfOk result (λ l. lines_refused l ≡ 0) }
     {
         Ok(Lines {
             source: Counted::new(input),
             held: Held::new(alloc)?,
             is_ended: false,
             alloc,
+            taken: 0,
+            refused: 0,
         })
     }
 
@@ -64,6 +69,13 @@ impl<R> Lines<R> {
         ensures { result ≡ reads_failed self.now }
     {
         self.source.failures()
+    }
+
+    /// For how many lines there was no room, modulo 2^64.
+    pub fn refusals(&self) -> u64
+        ensures { result ≡ lines_refused self.now }
+    {
+        self.refused
     }
 
     /// Whether the next line, or that there is none, is known without a read.
@@ -75,7 +87,7 @@ impl<R> Lines<R> {
 }
 
 impl<R: Read> Lines<R> {
-    ghost use Rattle.streams.specs.Lines.{held, reader, reads_failed, is_ended, is_at_hand, ReadsNothing, unread, IsSound, TakesLine, HasNoLine, Faults};
+    ghost use Rattle.streams.specs.Lines.{held, reader, reads_failed, lines_taken, lines_refused, is_ended, is_at_hand, ReadsNothing, unread, IsSound, TakesLine, HasNoLine, Faults, CountsTaken, CountsRefused};
     ghost use Rattle.streams.specs.Counted.{IsOneMore};
 
     /// Reads once, where nothing is held, and says whether there was more.
@@ -90,6 +102,8 @@ impl<R: Read> Lines<R> {
         ensures still_open { OnErr result (is_ended self.new ≡ is_ended self.old) }
         ensures one_failed { OnErr result (IsOneMore (reads_failed self.old) (reads_failed self.new)) }
         ensures reader { IfErr result (λ fault. fault ≡ Reader) }
+        ensures taken { lines_taken self.new ≡ lines_taken self.old }
+        ensures refused { lines_refused self.new ≡ lines_refused self.old }
     {
         match self.held.read(&mut self.source) {
             Ok(0) => {
@@ -101,19 +115,16 @@ impl<R: Read> Lines<R> {
         }
     }
 
-    /// Takes the next line, if there is one. Nothing is read where it is at hand.
-    ///
-    /// # Errors
-    /// `Reader` where a read failed: what was read of the line is no line. `Memory` where there was none for the line.
-    pub fn next_line(&mut self) -> Result<Option<Line>, TakeFault>
-        requires { IsSound R.remaining self.old }
+    /// The next line, if there is one, before it is counted.
+    fn gather(&mut self) -> Result<Option<Line>, TakeFault>
+        requires sound { IsSound R.remaining self.old }
+        requires open { is_ended self.old ≡ false }
         ensures ok { IfOk result (λ line. MatchOption line (HasNoLine R.remaining self.old self.new) (TakesLine R.remaining self.old self.new)) }
         ensures err { IfErr result (Faults R.remaining self.old self.new) }
         ensures at_hand { is_at_hand self.old ≡ true → ReadsNothing self.old self.new }
+        ensures taken { lines_taken self.new ≡ lines_taken self.old }
+        ensures refused { lines_refused self.new ≡ lines_refused self.old }
     {
-        if self.is_ended {
-            return Ok(None);
-        }
         let mut line = Line::new(self.alloc);
         if self.held.give_part(&mut line)? {
             return Ok(Some(line.ended()));
@@ -129,5 +140,45 @@ impl<R: Read> Lines<R> {
         // More pieces came than can be counted, and no line feed.
         self.source.count();
         Err(TakeFault::Reader)
+    }
+
+    /// Counts a line for which there is no room.
+    fn refuse(&mut self) -> TakeFault
+        ensures fault { result ≡ Memory }
+        ensures rest { self.new ≡ record self.old { refused = self.new.refused } }
+        ensures one { IsOneMore (lines_refused self.old) (lines_refused self.new) }
+    {
+        self.refused = self.refused.wrapping_add(1);
+        TakeFault::Memory
+    }
+
+    /// Takes the next line, if there is one. Nothing is read where it is at hand.
+    ///
+    /// # Errors
+    /// `Reader` where a read failed: what was read of the line is no line. `Memory` where there was no room for the line, or where as many
+    /// were taken as can be counted.
+    pub fn next_line(&mut self) -> Result<Option<Line>, TakeFault>
+        requires { IsSound R.remaining self.old }
+        ensures ok { IfOk result (λ line. MatchOption line (HasNoLine R.remaining self.old self.new) (TakesLine R.remaining self.old self.new)) }
+        ensures err { IfErr result (Faults R.remaining self.old self.new) }
+        ensures at_hand { is_at_hand self.old ≡ true → ReadsNothing self.old self.new }
+        ensures taken { CountsTaken (lines_taken self.old) (lines_taken self.new) result }
+        ensures refused { CountsRefused (lines_refused self.old) (lines_refused self.new) result }
+    {
+        if self.is_ended {
+            return Ok(None);
+        }
+        if self.taken == u64::MAX {
+            return Err(self.refuse());
+        }
+        match self.gather() {
+            Ok(Some(line)) => {
+                self.taken += 1;
+                Ok(Some(line))
+            }
+            Ok(None) => Ok(None),
+            Err(TakeFault::Memory) => Err(self.refuse()),
+            Err(TakeFault::Reader) => Err(TakeFault::Reader),
+        }
     }
 }

@@ -1,10 +1,17 @@
-use Rattle.std.proofs.Common.{◌≡◌, ◌-◌, map, drop, length}
+use denote.Shadow.{shadow}
+use denote.Text.{Utf8}
+use Rattle.std.proofs.Common.{◌≡◌, length, true}
+use Rattle.commands.specs.Words.{is_bare, words_in}
 use Rattle.commands.specs.Commands.{are_vats}
 use Rattle.commands.proofs.command.are_vats.Given as goal
 
 -- the words that are left decide
-abbrev pub invariant-loop-index : goal.invariant-loop-index
-invariant-loop-index l = are_vats (map (λ w. w.now) (drop l.index l.words)) ≡ are_vats (map (λ w. w.now) l.words)
+abbrev pub invariant-words : goal.invariant-words
+invariant-words l = record {
+  vats : are_vats (words_in l.rest) ≡ are_vats (words_in l.fn.text);
+  begins : is_bare l.rest ≡ true;
+  text : shadow (Utf8 l.rest);
+}
 
-abbrev pub decreases-loop-index : goal.decreases-loop-index
-decreases-loop-index l = length l.words - l.index
+abbrev pub decreases-words : goal.decreases-words
+decreases-words l = length l.rest

@@ -1,7 +1,17 @@
-use Rattle.std.proofs.Common.{◌≡◌, map, drop}
+use denote.Shadow.{shadow}
+use denote.Text.{Utf8}
+use Rattle.std.proofs.Common.{◌≡◌, length, true}
+use Rattle.commands.specs.Words.{is_bare, words_in}
 use Rattle.commands.specs.Commands.{is_among}
 use Rattle.commands.proofs.command.is_among.Given as goal
 
 -- the word is among those that are left where it is among all
-abbrev pub invariant-loop-other : goal.invariant-loop-other
-invariant-loop-other l = is_among (map (λ w. w.now) (drop l.other-index l.words)) l.word ≡ is_among (map (λ w. w.now) l.words) l.word
+abbrev pub invariant-words : goal.invariant-words
+invariant-words l = record {
+  among : is_among (words_in l.rest) l.word ≡ is_among (words_in l.fn.text) l.word;
+  begins : is_bare l.rest ≡ true;
+  text : shadow (Utf8 l.rest);
+}
+
+abbrev pub decreases-words : goal.decreases-words
+decreases-words l = length l.rest

@@ -2,9 +2,8 @@ use Rattle.std.proofs.Common.{◌≡◌, ◌+◌, ◌<◌, length, codes, arith}
 use Rattle.std.specs.Prelude.{string_bytes}
 use Rattle.journal.specs.Journals.{items_of}
 use Rattle.journal.specs.Lines.{lines_of}
-use Rattle.printing.proofs.Listings.{on_ok}
 use Rattle.questions.proofs.Linking.{pushed}
-use Rattle.questions.proofs.Writing.{between_in_order, between_turned, between_one}
+use Rattle.questions.proofs.Writing.{on_ok, between_in_order, between_turned, between_one}
 use Rattle.questions.proofs.why.write_between.Goals as goal
 
 pub returns-then-place-other : goal.returns-then-place-other

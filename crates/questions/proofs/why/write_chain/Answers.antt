@@ -2,8 +2,7 @@ use Rattle.std.proofs.Common.{length, ◌-◌, ◌+◌, refl}
 use Rattle.std.specs.Prelude.{string_bytes}
 use Rattle.journal.specs.Journals.{items_of}
 use Rattle.journal.specs.Lines.{lines_of}
-use Rattle.printing.proofs.Listings.{on_ok}
-use Rattle.questions.proofs.Writing.{chained_told}
+use Rattle.questions.proofs.Writing.{on_ok, chained_told}
 use Rattle.questions.proofs.why.write_chain.Goals as goal
 
 pub returns : goal.returns

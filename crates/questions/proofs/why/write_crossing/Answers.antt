@@ -2,9 +2,9 @@ use Rattle.std.proofs.Common.{◌∙◌, sym, ap, ◌++◌, codes}
 use Rattle.std.specs.Prelude.{string_bytes}
 use Rattle.journal.specs.Items.{item_of}
 use Rattle.journal.specs.Journals.{items_of}
-use Rattle.printing.proofs.Listings.{on_ok}
 use Rattle.questions.specs.Why.{step_text}
 use Rattle.questions.proofs.Linking.{crossing_told, crossing_none, pushed}
+use Rattle.questions.proofs.Writing.{on_ok}
 use Rattle.questions.proofs.why.write_crossing.Goals as goal
 
 pub returns-in-Some : goal.returns-in-Some

@@ -4,9 +4,9 @@ use Rattle.journal.specs.Items.{item_of}
 use Rattle.journal.specs.Journals.{items_of}
 use Rattle.causality.proofs.Telling.{journal_tells}
 use Rattle.journal.specs.Lines.{lines_of}
-use Rattle.printing.proofs.Listings.{on_ok}
 use Rattle.questions.proofs.Linking.{link_told, link_there}
 use Rattle.questions.proofs.Stepping.{step_rises}
+use Rattle.questions.proofs.Writing.{on_ok}
 use Rattle.questions.proofs.why.write_link.Goals as goal
 
 pub open_entry-earlier-requires-clause-there : goal.open_entry-earlier-requires-clause-there

@@ -2,9 +2,8 @@ use Rattle.std.proofs.Common.{◌+◌, Some, length, ap, ◌∙◌, subst, arith
 use Rattle.std.specs.Prelude.{string_bytes}
 use Rattle.journal.specs.Journals.{items_of}
 use Rattle.journal.specs.Lines.{lines_of}
-use Rattle.printing.proofs.Listings.{on_ok}
 use Rattle.questions.specs.ChainView.{NearestOrNone}
-use Rattle.questions.proofs.Writing.{reason_chained, reason_apart}
+use Rattle.questions.proofs.Writing.{on_ok, reason_chained, reason_apart}
 use Rattle.questions.proofs.why.write_reason.Goals as goal
 
 pub write_chain-requires-clause-chain : goal.write_chain-requires-clause-chain

@@ -3,7 +3,7 @@ use Rattle.std.specs.Prelude.{string_bytes}
 use Rattle.journal.specs.Journals.{items_of}
 use Rattle.journal.specs.Lines.{lines_of}
 use Rattle.causality.proofs.Telling.{journal_tells}
-use Rattle.printing.specs.ShowView.{Written}
+use Rattle.questions.specs.WhyView.{Written}
 use Rattle.questions.specs.Why.{Steps}
 use Rattle.questions.proofs.Linking.{some_places, place_low, place_high, place_link, steps_begin, steps_next}
 use Rattle.questions.proofs.why.write_steps.Goals as goal

@@ -2,7 +2,7 @@ use Rattle.std.proofs.Common.{◌<◌, drop, length}
 use Rattle.std.specs.Prelude.{string_bytes}
 use Rattle.journal.specs.Journals.{items_of}
 use Rattle.journal.specs.Lines.{lines_of}
-use Rattle.printing.specs.ShowView.{Written}
+use Rattle.questions.specs.WhyView.{Written}
 use Rattle.questions.specs.Why.{Steps}
 use Rattle.questions.proofs.why.write_steps.Given as goal
 

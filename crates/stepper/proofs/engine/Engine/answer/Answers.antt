@@ -1,59 +1,74 @@
-use Rattle.std.proofs.Common.{Bor, List, ℕ, map, ap, sym, refl, subst, ◌∙◌, Ok, Some}
+use Rattle.std.proofs.Common.{ap, sym, refl, subst, ℕ, Ok, Some}
 use Rattle.std.proofs.lemmas.Result.{err_from_is_err_and}
-use Rattle.commands.specs.Commands.{command_of, undo, redo}
-use Rattle.commands.specs.ScriptView.{script_text}
-use Rattle.stepper.specs.Replies.{AnswersBirth, arrive_moves, forward_moves, turn_moves, script_lines}
+use Rattle.commands.specs.Commands.{command_of}
+use Rattle.commands.specs.Words.{words_in}
+use Rattle.stepper.specs.Replies.{arrive_moves, forward_moves, turn_moves, script_lines}
 use Rattle.stepper.specs.Taking.{StopsWithin}
-use Rattle.stepper.proofs.Answered.{on_ok, happens_as}
-use Rattle.stepper.proofs.Doing.{does_alone, does_born, out_here, out_born}
+use Rattle.stepper.proofs.Answered.{happens_as}
+use Rattle.stepper.proofs.Doing.{does_alone, does_held}
 use Rattle.stepper.proofs.engine.Engine.answer.Goals as goal
-use Rattle.stepper.proofs.engine.Engine.answer.Goals.{in-Ask, in-Arrive, in-Forward, in-Learn, in-Turn, in-Step, in-Run, in-Work, in-Enabled, in-Show, in-Journal, in-Log, in-Cone, in-Undo, in-UndoCone, in-Redo, in-Exchange, in-Settle}
 
-pub returns-in-Birth : goal.returns-in-Birth
-returns-in-Birth g c =
-    does_born g.R.Read.remaining g.W.Write.contents c.args.source.now _ c.args.sink.now _ _ c.in-Birth.name.now _ c.in-Birth.lines _ (ap command_of c.in-Birth.is) c.in_ok-script-in-Birth.ensures
-    (happens_as (λ b r s d k. subst (λ (es : List (Bor (List ℕ))). AnswersBirth b c.in-Birth.name.now (map (λ x. x.now) es) (script_text c.in_ok-script-in-Birth.script) r s d) c.deref.ensures.value k) c.in_ok-birth-in-Birth.ensures)
+pub returns-in_ok-script-in-Birth : goal.returns-in_ok-script-in-Birth
+returns-in_ok-script-in-Birth g c =
+    does_held g.R.Read.remaining g.W.Write.contents c.args.source.now c.take_script.new.source c.args.sink.now c.take_script.new.sink c.birth.new.out _ c.in-Birth.name.now (words_in c.in-Birth.earlier.now) c.in-Birth.lines
+    (ap command_of c.in-Birth.is) c.requires.open refl refl refl c.in_ok-script-in-Birth.ensures c.birth.ensures
 
-pub returns : goal.returns
-returns g c =
-    let remaining = g.R.Read.remaining in
-    let contents = g.W.Write.contents in
-    let source = c.args.source.now in
-    let sink = c.args.sink.now in
-    elim c.match-command.branch [
-      | in-Ask w ↦ does_alone remaining contents source sink c.requires.sound _ _ w.ask.result (ap command_of w.in-Ask.is) refl w.branch'-is c.in_ok-settle.was w.self-is w.ask.ensures
-      | in-Arrive w ↦ does_alone remaining contents source sink c.requires.sound _ _ w.obey.result (ap command_of w.in-Arrive.is) refl w.branch'-is c.in_ok-settle.was w.self-is (on_ok w.obey.result (happens_as (λ b r s d k. arrive_moves k)) w.obey.ensures)
-      | in-Forward w ↦ does_alone remaining contents source sink c.requires.sound _ _ w.obey-in-Forward.result (ap command_of w.in-Forward.is) refl w.branch'-is c.in_ok-settle.was w.self-is (on_ok w.obey-in-Forward.result (happens_as (λ b r s d k. forward_moves k)) w.obey-in-Forward.ensures)
-      | in-Learn w ↦ does_alone remaining contents source sink c.requires.sound _ _ w.learn.result (ap command_of w.in-Learn.is) refl w.branch'-is c.in_ok-settle.was w.self-is w.learn.ensures
-      | in-Turn w ↦ does_alone remaining contents source sink c.requires.sound _ _ w.obey-in-Turn.result (ap command_of w.in-Turn.is) refl w.branch'-is c.in_ok-settle.was w.self-is (on_ok w.obey-in-Turn.result (happens_as (λ b r s d k. turn_moves k)) w.obey-in-Turn.ensures)
-      | in-Step w ↦ does_alone remaining contents source sink c.requires.sound _ _ w.step.result (ap command_of w.in-Step.is) refl w.branch'-is c.in_ok-settle.was w.self-is w.step.ensures
-      | in-Run w ↦ does_alone remaining contents source sink c.requires.sound _ _ w.run.result (ap command_of w.in-Run.is) refl w.branch'-is c.in_ok-settle.was w.self-is w.run.ensures
-      | in-Work w ↦ does_alone remaining contents source sink c.requires.sound _ _ w.work.result (ap command_of w.in-Work.is) refl w.branch'-is c.in_ok-settle.was w.self-is w.work.ensures
-      | in-Enabled w ↦ does_alone remaining contents source sink c.requires.sound _ _ w.enabled.result (ap command_of w.in-Enabled.is) refl w.branch'-is c.in_ok-settle.was w.self-is w.enabled.ensures
-      | in-Show w ↦ does_alone remaining contents source sink c.requires.sound _ _ w.show.result (ap command_of w.in-Show.is) refl w.branch'-is c.in_ok-settle.was w.self-is w.show.ensures
-      | in-Journal w ↦ does_alone remaining contents source sink c.requires.sound _ _ w.journal.result (ap command_of w.in-Journal.is) refl w.branch'-is c.in_ok-settle.was w.self-is w.journal.ensures
-      | in-Log w ↦ does_alone remaining contents source sink c.requires.sound _ _ w.log.result (ap command_of w.in-Log.is) refl w.branch'-is c.in_ok-settle.was w.self-is w.log.ensures
-      | in-Cone w ↦ does_alone remaining contents source sink c.requires.sound _ _ w.cone.result (ap command_of w.in-Cone.is) refl w.branch'-is c.in_ok-settle.was w.self-is w.cone.ensures
-      | in-Undo w ↦ does_alone remaining contents source sink c.requires.sound _ _ w.undo.result (ap command_of w.in-Undo.is ∙ ap undo (sym w.deref-in-Undo.ensures.value)) refl w.branch'-is c.in_ok-settle.was w.self-is w.undo.ensures
-      | in-UndoCone w ↦ does_alone remaining contents source sink c.requires.sound _ _ w.undo_cone.result (ap command_of w.in-UndoCone.is) refl w.branch'-is c.in_ok-settle.was w.self-is w.undo_cone.ensures
-      | in-Redo w ↦ does_alone remaining contents source sink c.requires.sound _ _ w.redo.result (ap command_of w.in-Redo.is ∙ ap redo (sym w.deref-in-Redo.ensures.value)) refl w.branch'-is c.in_ok-settle.was w.self-is w.redo.ensures
-      | in-Exchange w ↦ does_alone remaining contents source sink c.requires.sound _ _ w.exchange.result (ap command_of w.in-Exchange.is) refl w.branch'-is c.in_ok-settle.was w.self-is w.exchange.ensures
-      | in-Settle w ↦ does_alone remaining contents source sink c.requires.sound _ _ w.settle.result (ap command_of w.in-Settle.is) refl w.branch'-is c.in_ok-settle.was w.self-is w.settle.ensures
-    ]
+pub returns-in-Ask : goal.returns-in-Ask
+returns-in-Ask g c = does_alone g.R.Read.remaining g.W.Write.contents c.args.source.now c.args.sink.now c.ask.new.out c.requires.sound _ _ (ap command_of c.in-Ask.is) refl refl refl refl c.ask.ensures
+
+pub returns-in-Arrive : goal.returns-in-Arrive
+returns-in-Arrive g c = does_alone g.R.Read.remaining g.W.Write.contents c.args.source.now c.args.sink.now c.obey.new.out c.requires.sound _ _ (ap command_of c.in-Arrive.is) refl refl refl refl (happens_as (λ b r s d k. arrive_moves k) c.obey.ensures)
+
+pub returns-in-Forward : goal.returns-in-Forward
+returns-in-Forward g c = does_alone g.R.Read.remaining g.W.Write.contents c.args.source.now c.args.sink.now c.obey-in-Forward.new.out c.requires.sound _ _ (ap command_of c.in-Forward.is) refl refl refl refl (happens_as (λ b r s d k. forward_moves k) c.obey-in-Forward.ensures)
+
+pub returns-in-Learn : goal.returns-in-Learn
+returns-in-Learn g c = does_alone g.R.Read.remaining g.W.Write.contents c.args.source.now c.args.sink.now c.learn.new.out c.requires.sound _ _ (ap command_of c.in-Learn.is) refl refl refl refl c.learn.ensures
+
+pub returns-in-Turn : goal.returns-in-Turn
+returns-in-Turn g c = does_alone g.R.Read.remaining g.W.Write.contents c.args.source.now c.args.sink.now c.obey-in-Turn.new.out c.requires.sound _ _ (ap command_of c.in-Turn.is) refl refl refl refl (happens_as (λ b r s d k. turn_moves k) c.obey-in-Turn.ensures)
+
+pub returns-in-Step : goal.returns-in-Step
+returns-in-Step g c = does_alone g.R.Read.remaining g.W.Write.contents c.args.source.now c.args.sink.now c.step.new.out c.requires.sound _ _ (ap command_of c.in-Step.is) refl refl refl refl c.step.ensures
+
+pub returns-in-Run : goal.returns-in-Run
+returns-in-Run g c = does_alone g.R.Read.remaining g.W.Write.contents c.args.source.now c.args.sink.now c.run.new.out c.requires.sound _ _ (ap command_of c.in-Run.is) refl refl refl refl c.run.ensures
+
+pub returns-in-Work : goal.returns-in-Work
+returns-in-Work g c = does_alone g.R.Read.remaining g.W.Write.contents c.args.source.now c.args.sink.now c.work.new.out c.requires.sound _ _ (ap command_of c.in-Work.is) refl refl refl refl c.work.ensures
+
+pub returns-in-Enabled : goal.returns-in-Enabled
+returns-in-Enabled g c = does_alone g.R.Read.remaining g.W.Write.contents c.args.source.now c.args.sink.now c.enabled.new.out c.requires.sound _ _ (ap command_of c.in-Enabled.is) refl refl refl refl c.enabled.ensures
+
+pub returns-in-Show : goal.returns-in-Show
+returns-in-Show g c = does_alone g.R.Read.remaining g.W.Write.contents c.args.source.now c.args.sink.now c.show.new.out c.requires.sound _ _ (ap command_of c.in-Show.is) refl refl refl refl c.show.ensures
+
+pub returns-in-Journal : goal.returns-in-Journal
+returns-in-Journal g c = does_alone g.R.Read.remaining g.W.Write.contents c.args.source.now c.args.sink.now c.journal.new.out c.requires.sound _ _ (ap command_of c.in-Journal.is) refl refl refl refl c.journal.ensures
+
+pub returns-in-Log : goal.returns-in-Log
+returns-in-Log g c = does_alone g.R.Read.remaining g.W.Write.contents c.args.source.now c.args.sink.now c.log.new.out c.requires.sound _ _ (ap command_of c.in-Log.is) refl refl refl refl c.log.ensures
+
+pub returns-in-Cone : goal.returns-in-Cone
+returns-in-Cone g c = does_alone g.R.Read.remaining g.W.Write.contents c.args.source.now c.args.sink.now c.cone.new.out c.requires.sound _ _ (ap command_of c.in-Cone.is) refl refl refl refl c.cone.ensures
+
+pub returns-in-Undo : goal.returns-in-Undo
+returns-in-Undo g c = does_alone g.R.Read.remaining g.W.Write.contents c.args.source.now c.args.sink.now c.undo_named.new.out c.requires.sound _ _ (ap command_of c.in-Undo.is) refl refl refl refl c.undo_named.ensures
+
+pub returns-in-UndoCone : goal.returns-in-UndoCone
+returns-in-UndoCone g c = does_alone g.R.Read.remaining g.W.Write.contents c.args.source.now c.args.sink.now c.undo_cone.new.out c.requires.sound _ _ (ap command_of c.in-UndoCone.is) refl refl refl refl c.undo_cone.ensures
+
+pub returns-in-Redo : goal.returns-in-Redo
+returns-in-Redo g c = does_alone g.R.Read.remaining g.W.Write.contents c.args.source.now c.args.sink.now c.redo_named.new.out c.requires.sound _ _ (ap command_of c.in-Redo.is) refl refl refl refl c.redo_named.ensures
+
+pub returns-in-Exchange : goal.returns-in-Exchange
+returns-in-Exchange g c = does_alone g.R.Read.remaining g.W.Write.contents c.args.source.now c.args.sink.now c.exchange.new.out c.requires.sound _ _ (ap command_of c.in-Exchange.is) refl refl refl refl c.exchange.ensures
+
+pub returns-in-Settle : goal.returns-in-Settle
+returns-in-Settle g c = does_alone g.R.Read.remaining g.W.Write.contents c.args.source.now c.args.sink.now c.settle.new.out c.requires.sound _ _ (ap command_of c.in-Settle.is) refl refl refl refl c.settle.ensures
 
 pub returns-in_err-script-in-Birth : goal.returns-in_err-script-in-Birth
 returns-in_err-script-in-Birth g c =
     let p = err_from_is_err_and c.from_residual.result c.from_residual.ensures.1 in
     rw (p.1, p.2) (subst (λ (n : ℕ). StopsWithin g.R.Read.remaining g.W.Write.contents c.args.source.now c.take_script.new.source c.args.sink.now c.take_script.new.sink n c.in_err-script-in-Birth.field-0.0)
     (sym (ap (λ z. script_lines (Ok (Some (command_of z)))) c.in-Birth.is)) c.in_err-script-in-Birth.ensures)
-
-pub returns-in_err-birth-in-Birth : goal.returns-in_err-birth-in-Birth
-returns-in_err-birth-in-Birth g c =
-    let p = err_from_is_err_and c.from_residual-in_err-birth-in-Birth.result c.from_residual-in_err-birth-in-Birth.ensures.1 in
-    rw (p.1, p.2) (out_born g.R.Read.remaining g.W.Write.contents c.args.source.now _ c.args.sink.now _ (Ok (Some (command_of c.args.command))) c.in-Birth.lines
-    (ap (λ z. script_lines (Ok (Some (command_of z)))) c.in-Birth.is) c.in_ok-script-in-Birth.ensures)
-
-pub returns-in_err-settle : goal.returns-in_err-settle
-returns-in_err-settle g c =
-    let p = err_from_is_err_and c.from_residual-in_err-settle.result c.from_residual-in_err-settle.ensures.1 in
-    rw (p.1, p.2) (out_here g.R.Read.remaining g.W.Write.contents c.args.source.now c.args.sink.now c.requires.sound _)

@@ -1,10 +1,9 @@
 use Rattle.std.proofs.Common.{refl, sym, ap, subst, ◌∙◌, Ok}
 use Rattle.std.specs.Prelude.{MatchResult}
-use Rattle.std.proofs.lemmas.Result.{err_from_is_err_and}
 use Rattle.commands.specs.Commands.{reading_of}
 use Rattle.stepper.specs.Replies.{script_lines}
 use Rattle.stepper.specs.Taking.{Does, StopsWithin}
-use Rattle.stepper.proofs.Doing.{does_nothing, does_refuse, out_here}
+use Rattle.stepper.proofs.Doing.{does_nothing, does_refuse}
 use Rattle.stepper.proofs.engine.Engine.answer_said.Goals as goal
 
 pub returns-in-Some : goal.returns-in-Some
@@ -18,11 +17,6 @@ returns-in-Some g c =
 pub returns-in-None : goal.returns-in-None
 returns-in-None g c = does_nothing g.R.Read.remaining g.W.Write.contents c.args.source.now c.args.sink.now c.requires.sound c.args.self.now (ap reading_of (c.in-Ok.is ∙ ap (λ o. Ok o) c.in-None.is))
 
-pub returns-in_ok-refuse_line-in-Err : goal.returns-in_ok-refuse_line-in-Err
-returns-in_ok-refuse_line-in-Err g c =
-    does_refuse g.R.Read.remaining g.W.Write.contents c.args.source.now c.args.sink.now c.requires.sound c.in-Err.fault (ap reading_of c.in-Err.is) refl refl c.in_ok-refuse_line-in-Err.ensures
-
-pub returns-in_err-refuse_line-in-Err : goal.returns-in_err-refuse_line-in-Err
-returns-in_err-refuse_line-in-Err g c =
-    let p = err_from_is_err_and c.from_residual.result c.from_residual.ensures.1 in
-    rw (p.1, p.2) (out_here g.R.Read.remaining g.W.Write.contents c.args.source.now c.args.sink.now c.requires.sound _)
+pub returns-in-Err : goal.returns-in-Err
+returns-in-Err g c =
+    does_refuse g.R.Read.remaining g.W.Write.contents c.args.source.now c.args.sink.now c.refuse_line.new.out c.requires.sound c.in-Err.fault (ap reading_of c.in-Err.is) refl refl c.refuse_line.ensures

@@ -1,12 +1,14 @@
-use Rattle.std.proofs.Common.{true, false, refl}
+use Rattle.std.proofs.Common.{refl, sym, subst}
+use Rattle.book.specs.Books.{Book}
 use Rattle.book.specs.BookView.{book_of}
-use Rattle.stepper.proofs.Answered.{on_ok, no_refusal, all_enabled, none_enabled}
+use Rattle.commands.specs.Commands as commands
+use Rattle.stepper.specs.Replies.{Answers, EnabledIn}
+use Rattle.stepper.proofs.Answered.{refuses, none_enabled, happens_from}
 use Rattle.stepper.proofs.engine.Engine.enabled.Goals as goal
 
 pub returns-in-Ok : goal.returns-in-Ok
-returns-in-Ok c = on_ok c.enabled-in-Ok.result
-    (λ a. record { reply = a.0; refusal = false; allowed = all_enabled c.args.self.now.limits (book_of c.args.self.now.book) c.enabled.ensures.same c.world.ensures.same c.deref.ensures.value c.in-Ok.ensures.all a.1; adds = record { text = a.2; refused = no_refusal a.3 }; limits = refl }) c.enabled-in-Ok.ensures
+returns-in-Ok g c = happens_from c.enabled.ensures.same refl refl
+    (c.choose.ensures (subst (λ (b : Book). EnabledIn b c.in-Ok.steps.items) (sym c.enabled.ensures.same) c.in-Ok.ensures.all))
 
 pub returns-in-Err : goal.returns-in-Err
-returns-in-Err c = on_ok c.refuse_call.result
-    (λ a. record { reply = _; refusal = true; allowed = none_enabled c.args.self.now.limits (book_of c.args.self.now.book) c.enabled.ensures.same; adds = a; limits = refl }) c.refuse_call.ensures
+returns-in-Err g c = refuses (none_enabled c.args.self.now.limits (book_of c.args.self.now.book) c.enabled.ensures.same) c.refuse_call.ensures refl

@@ -3,7 +3,7 @@ use Rattle.stepper.proofs.engine.Engine.run.Given as goal
 
 -- the replies to the steps so far stand before those to the steps that are left
 abbrev pub invariant-steps : goal.invariant-steps
-invariant-steps l = SoFar l.fn.most l.left l.fn.self l.self
+invariant-steps g l = SoFar g.W.Write.contents l.fn.most l.left l.fn.self l.self l.fn.out l.out
 
 abbrev pub decreases-steps : goal.decreases-steps
-decreases-steps l = l.left
+decreases-steps g l = l.left

@@ -1,9 +1,12 @@
-use Rattle.std.proofs.Common.{false, refl, subst}
-use Rattle.stepper.specs.Replies.{shown}
+use Rattle.std.proofs.Common.{refl, subst}
 use Rattle.printing.specs.Show.{Shows}
-use Rattle.stepper.proofs.Answered.{on_ok, no_refusal}
+use Rattle.printing.specs.PictureView.{picture_text}
+use Rattle.stepper.specs.Replies.{shown, show_without_memory}
+use Rattle.stepper.proofs.Answered.{accepts, refuses}
 use Rattle.stepper.proofs.engine.Engine.show.Goals as goal
 
-pub returns : goal.returns
-returns c = on_ok c.world-2.result
-    (λ a. record { reply = a.0; refusal = false; allowed = shown (subst (λ w. Shows w a.0) c.world.ensures.same a.1); adds = record { text = a.2; refused = no_refusal a.3 }; limits = refl }) c.world-2.ensures
+pub returns-in-Ok : goal.returns-in-Ok
+returns-in-Ok g c = accepts (shown (subst (λ w. Shows w (picture_text c.in-Ok.picture)) c.world.ensures.same c.in-Ok.ensures)) c.put_world.ensures refl refl
+
+pub returns-in-Err : goal.returns-in-Err
+returns-in-Err g c = refuses show_without_memory c.refuse_call.ensures refl

@@ -1,12 +1,10 @@
 use Rattle.std.proofs.Common.{true, false, not, refl, sym, ap}
 use Rattle.book.specs.BookView.{book_of}
-use Rattle.stepper.proofs.Answered.{if_ok, turn_done, turn_fails}
+use Rattle.stepper.proofs.Answered.{accepts, refuses, turn_done, turn_fails}
 use Rattle.stepper.proofs.engine.Engine.turn.Goals as goal
 
 pub returns-in-Ok : goal.returns-in-Ok
-returns-in-Ok c = if_ok c.turned.result
-    (λ done h. record { reply = _; refusal = false; allowed = (ap not (sym h.0), turn_done c.args.self.now.limits (book_of c.args.self.now.book) c.in-Ok.ensures.ok); adds = h.1; limits = refl }) c.turned.ensures
+returns-in-Ok g c = accepts (refl, turn_done c.args.self.now.limits (book_of c.args.self.now.book) c.in-Ok.ensures.ok) c.put_turned.ensures refl refl
 
 pub returns-in-Err : goal.returns-in-Err
-returns-in-Err c = if_ok c.not_moved.result
-    (λ done h. record { reply = _; refusal = true; allowed = (ap not (sym h.0), turn_fails c.args.self.now.limits (book_of c.args.self.now.book) c.in-Err.fault c.in-Err.ensures.err c.in-Err.ensures.unchanged); adds = h.1; limits = refl }) c.not_moved.ensures
+returns-in-Err g c = refuses (refl, turn_fails c.args.self.now.limits (book_of c.args.self.now.book) c.in-Err.fault c.in-Err.ensures.err c.in-Err.ensures.unchanged) c.refuse_call.ensures refl

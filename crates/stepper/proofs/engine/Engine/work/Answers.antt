@@ -6,7 +6,7 @@ use Rattle.book.specs.declared.book.Book.{Book}
 use Rattle.commands.specs.Commands as commands
 use Rattle.crew.specs.Work.{Worked, RefusesWork}
 use Rattle.stepper.specs.Replies.{Answers, refused, worked, work_refused}
-use Rattle.stepper.proofs.Answered.{on_ok}
+use Rattle.stepper.proofs.Answered.{accepts, refuses}
 use Rattle.stepper.proofs.engine.Engine.work.Goals as goal
 
 pub returns-in-Ok : goal.returns-in-Ok
@@ -19,7 +19,7 @@ returns-in-Ok g c =
     let did : Worked (min c.args.workers limits.workers) c.args.turns c.in-Ok.turns (book_of c.args.self.now.book) now
     = subst P (λ i. (workers i, c.replace-book.ensures.value i))
     (subst (λ r. IfOk r (λ turns. Worked c.min.result c.args.turns turns (book_of c.replace-book.result) now)) c.in-Ok.is c.work-book.ensures.ok) in
-    on_ok c.worked.result (λ a. record { reply = _; refusal = false; allowed = worked did; adds = a; limits = refl }) c.worked.ensures
+    accepts (worked did) c.put_worked.ensures refl refl
 
 pub returns-in-Err : goal.returns-in-Err
 returns-in-Err g c =
@@ -30,4 +30,4 @@ returns-in-Err g c =
     let same = err.1 ∙ ap (λ (b : Book). book_of b) c.replace-book.ensures.value in
     let allowed : Answers limits old (commands.work c.args.workers c.args.turns) text true (book_of c.work-book.result.0)
     = subst (λ (d : books.Book). Answers limits old (commands.work c.args.workers c.args.turns) text true d) (sym same) (work_refused c.in-Err.fault err.0) in
-    on_ok c.refuse_work.result (λ a. record { reply = _; refusal = true; allowed = allowed; adds = a; limits = refl }) c.refuse_work.ensures
+    refuses allowed c.refuse_work.ensures refl
