@@ -9,3 +9,4 @@ pub mod Missing
 pub mod Meeting
 pub mod Outsiders
 pub mod Basing
+pub mod Heirs

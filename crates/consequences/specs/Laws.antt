@@ -1,14 +1,14 @@
 -- The laws of what is found from last writers, and of the index.
-use Rattle.std.specs.Prelude.{◌≡◌, ℕ, Bool, true, false, cond, List, [], ◌∷◌, ◌++◌, None}
+use Rattle.std.specs.Prelude.{◌≡◌, ◌&&◌, ℕ, Bool, true, false, cond, List, [], ◌∷◌, ◌++◌, None}
 use Rattle.std.specs.List.{list_any, AllByRecursion}
 use Rattle.history.specs.Subject.{Subject, World}
-use Rattle.history.specs.Journal.{Entry, name_of, caused, live_set, both, marked, Sound, Closed}
+use Rattle.history.specs.Journal.{Entry, name_of, is_in, caused, live_set, both, marked, Sound, Closed}
 use Rattle.history.specs.Records.{State, Row, entries_of}
-use Rattle.history.specs.Chains.{wrote, last_of, last_writer}
+use Rattle.history.specs.Chains.{wrote, last_of, last_writer, chain}
 use Rattle.history.specs.Stands.{Stands}
 use Rattle.history.specs.Cone.{in_cone}
 use Rattle.consequences.specs.Orderly.{Orderly}
-use Rattle.consequences.specs.Versions.{Version, follows, found_as, wrote_over}
+use Rattle.consequences.specs.Versions.{Version, follows, found_as, wrote_over, overtakes}
 use Rattle.consequences.specs.Sets.{Unfollowed, Gathered, HasLastWriters, MissesNone, CrossesNone}
 use Rattle.consequences.specs.Refusals.{first_pair, missing, lacked, crossed, overtaken, consequence, outsider}
 use Rattle.consequences.specs.Index.{Index, Indexed, Links, Settles, is_among, from_base, heirs_at, readers_at, lists}
@@ -122,3 +122,18 @@ BaseIsExact s = (opens base : List (Entry s)) → Orderly s (opens ++ base) →
     AllByRecursion (λ a. a.live ≡ true) base →
     AllByRecursion (λ e. AllByRecursion (λ v. is_among s v.1 opens ≡ false →
     (list_any (wrote_over s v) base ≡ false → v.1 ≡ last_writer s v.0 (live_set s) base) × (v.1 ≡ last_writer s v.0 (live_set s) base → list_any (wrote_over s v) base ≡ false)) e.lasts) (opens ++ base)
+
+-- in a sound set no two members wrote over one version
+abbrev pub HeirsAreOne : Subject → Type 0
+HeirsAreOne s = (es : List (Entry s)) → Orderly s es → (t : Entry s → Bool) → Sound s t es → (v : Version s) →
+    AllByRecursion (λ f. AllByRecursion (λ g. t f ≡ true → t g ≡ true → wrote_over s v f ≡ true → wrote_over s v g ≡ true → f ≡ g) es) es
+
+-- each member that wrote a cell is met walking back from the set's last writer of it
+abbrev pub WritersAreOnChain : Subject → Type 0
+WritersAreOnChain s = (es : List (Entry s)) → Orderly s es → (t : Entry s → Bool) → Sound s t es → (k : s.Key) →
+    AllByRecursion (λ f. t f ≡ true → wrote s k f ≡ true → is_in (chain s k (last_writer s k t es) es) (name_of s f) ≡ true) es
+
+-- whether one entry wrote over what another found is told by the versions of each of the two
+abbrev pub OvertakingIsMutual : Subject → Type 0
+OvertakingIsMutual s = (es : List (Entry s)) → Orderly s es →
+    AllByRecursion (λ f. AllByRecursion (λ e. overtakes s f e ≡ list_any (λ v. wrote s v.0 f && found_as s v e) f.lasts) es) es

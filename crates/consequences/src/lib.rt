@@ -2,6 +2,7 @@
 #![tactic(auto)]
 
 ghost use Rattle.consequences.specs.Laws.{StandingIsOrderly, LastWritersAreCauses, SoundIsLast, ClosedIsUnfollowed, ConeIsGathered, FirstOutsider};
+ghost use Rattle.consequences.specs.Laws.{HeirsAreOne, WritersAreOnChain, OvertakingIsMutual};
 ghost use Rattle.consequences.specs.Laws.{RedoIsExact, FirstMissing, FirstCrossing};
 ghost use Rattle.consequences.specs.Laws.{IndexBegins, IndexEnters, IndexMarks, IndexExchanges, IndexSettles};
 ghost use Rattle.consequences.specs.Laws.{ListsFollowers, ClosedIsUnlisted, VersionsAreListed, BaseIsSeen, BaseIsExact};
@@ -29,6 +30,14 @@ pub fn redo_is_exact<S: Undoable>()
     ensures exact { RedoIsExact S.subject }
     ensures missing { FirstMissing S.subject }
     ensures crossing { FirstCrossing S.subject }
+{}
+
+/// In a sound set a version of a cell has one heir, and each member that wrote the cell is met walking back from the last writer. Whether
+/// one entry wrote over what another found is told by the versions of each of the two.
+pub fn heirs_are_one<S: Undoable>()
+    ensures one { HeirsAreOne S.subject }
+    ensures chain { WritersAreOnChain S.subject }
+    ensures mutual { OvertakingIsMutual S.subject }
 {}
 
 /// The index is right for no entries, and stays right when an entry is linked, when entries are undone, redone or settled, and when
