@@ -93,8 +93,8 @@ module _ (s : Subject) (l : Laws s) (k : s.Key) (t : Entry s → Bool) where
       go (inl b) =
           let f = first_writer xs ys g h b.0 b.1 b.2 b.3 in
           absurd (none f.0 f.1 f.2 f.3 (none_in (λ a. is_name (last_of s f.0 k) (name_of s a)) xs (λ a i. false_from_ne_true _ (λ is.
-              let w = last_in s k t ys (name_of s a) (ap (λ o. is_name o (name_of s a)) (sym f.4) ∙ is) in
-              parts_apart s xs ys d a w.0 i w.1 w.4))))
+          let w = last_in s k t ys (name_of s a) (ap (λ o. is_name o (name_of s a)) (sym f.4) ∙ is) in
+          parts_apart s xs ys d a w.0 i w.1 w.4))))
 
 -- which of the base wrote over what an open entry found
 module _ (s : Subject) (l : Laws s) (t : Entry s → Bool) (xs ys : List (Entry s)) (d : Distinct s (xs ++ ys)) (g : Chained s (xs ++ ys)) (h : HasLastWriters s t ys) (settled : (a : Entry s) → In a ys → t a ≡ true) where

@@ -203,5 +203,5 @@ module _ (s : Subject) (l : Laws s) where
             let m = meets_at s l a x.foot u.1 in
             let n = newest m.0 t fs so a j u.0 m.1 in
             any_in (λ n. in_cone s t root es n && follows s (name_of s n) e) es n.0 (sub n.0 (inr n.1)) (and_from _ _
-                (newer n.0 a (sub n.0 (inr n.1)) (sub a (inr j)) n.2 ka n.5)
-                (ap (follows s (name_of s n.0)) (sym p) ∙ follows_last t x fs gx ((sound_last s l t (x ∷ fs) (gx, gs) (causes, so)).0 tx) m.0 (name_of s n.0) m.2 n.4))
+            (newer n.0 a (sub n.0 (inr n.1)) (sub a (inr j)) n.2 ka n.5)
+            (ap (follows s (name_of s n.0)) (sym p) ∙ follows_last t x fs gx ((sound_last s l t (x ∷ fs) (gx, gs) (causes, so)).0 tx) m.0 (name_of s n.0) m.2 n.4))

@@ -36,7 +36,7 @@ module _ (s : Subject) (l : Laws s) where
           let u = found_at v y a.0 in
           let w = found_at v x b.0 in
           both_ways _ (heir_not_last s l v.0 t es ds cs y p ty a.1)
-              (ap (is_one (last_of s y v.0)) (sym (last_is s l (λ k. last_writer s k t es) x c.cells (h tx) v.0 w.0) ∙ w.1 ∙ sym u.1) ∙ one_self (last_of s y v.0))
+          (ap (is_one (last_of s y v.0)) (sym (last_is s l (λ k. last_writer s k t es) x c.cells (h tx) v.0 w.0) ∙ w.1 ∙ sym u.1) ∙ one_self (last_of s y v.0))
 
       go : In f (x ∷ es) → In g (x ∷ es) → (In f es → In g es → f ≡ g) → f ≡ g
       go (inl p) (inl q) ih = sym p ∙ q
@@ -86,7 +86,7 @@ module _ (s : Subject) (l : Laws s) where
           let q = item_at s l es c f i (p.0).0 p.2 in
           let o = own_found es c e j p.0 p.1 in
           any_in (λ v. wrote s v.0 f && found_as s v e) f.lasts q.0 q.1 (and_from _ _ (ap (λ k. wrote s k f) (sym q.2) ∙ p.4)
-              (at_found q.0 e (ap (touches s e.foot) (sym q.2) ∙ o.0) (ap (last_of s e) (sym q.2) ∙ o.1 ∙ sym p.3 ∙ sym q.3)))
+          (at_found q.0 e (ap (touches s e.foot) (sym q.2) ∙ o.0) (ap (last_of s e) (sym q.2) ∙ o.1 ∙ sym p.3 ∙ sym q.3)))
 
       back : list_any (λ v. wrote s v.0 f && found_as s v e) f.lasts ≡ true → overtakes s f e ≡ true
       back h =

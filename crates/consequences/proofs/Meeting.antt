@@ -24,9 +24,9 @@ module _ (s : Subject) (l : Laws s) (t : Entry s → Bool) where
   overtaking_meets e es d gs g f i tf h =
       let p = overtakes_at s l f e h in
       and_from _ _ tf (and_from _ _
-          (meets_wrote s l f e.foot (p.0).0 p.4 (all_in _ e.lasts (lasts_touched s l e.foot e.lasts g.cells) p.0 p.1))
-          (not_from_false _ (false_from_ne_true _ (λ cause. both_ways _ (heir_not_last s l (p.0).0 (caused s e) es d gs f i cause p.4)
-              (ap (is_one (last_of s f (p.0).0)) (sym (all_in _ e.lasts g.lasts p.0 p.1)) ∙ ap (λ o. is_one o (p.0).1) p.3 ∙ one_self (p.0).1)))))
+      (meets_wrote s l f e.foot (p.0).0 p.4 (all_in _ e.lasts (lasts_touched s l e.foot e.lasts g.cells) p.0 p.1))
+      (not_from_false _ (false_from_ne_true _ (λ cause. both_ways _ (heir_not_last s l (p.0).0 (caused s e) es d gs f i cause p.4)
+      (ap (is_one (last_of s f (p.0).0)) (sym (all_in _ e.lasts g.lasts p.0 p.1)) ∙ ap (λ o. is_one o (p.0).1) p.3 ∙ one_self (p.0).1)))))
 
   -- what is known of an item of an entry among some of the older ones: its writer is there, or all members that wrote the cell are causes
   abbrev Known : Entry s → List (Entry s) → s.Key × Option ℕ → Type 0

@@ -1,5 +1,5 @@
 -- The members of a list, one by one.
-use Rattle.std.proofs.Common.{◌≡◌, Bool, true, false, List, [], ◌∷◌, ◌⊎◌, inl, inr, refl, sym, subst}
+use Rattle.std.proofs.Common.{◌≡◌, Bool, true, false, ◌||◌, List, [], ◌∷◌, ◌⊎◌, inl, inr, refl, sym, ap₂, subst}
 use Rattle.std.specs.List.{list_any, AllByRecursion}
 use Rattle.std.proofs.lemmas.Bool.{false≢true, or_left, or_right, or_cases}
 
@@ -33,3 +33,8 @@ in_any test (x ∷ xs) h = elim (or_cases (test x) _ h) [
 pub none_in : {A : Type 0} (test : A → Bool) (xs : List A) → ((a : A) → In a xs → test a ≡ false) → list_any test xs ≡ false
 none_in test [] f = refl
 none_in test (x ∷ xs) f = rw (f x (inl refl)) (none_in test xs (λ a i. f a (inr i)))
+
+-- tests that agree on each element
+pub any_each : {A : Type 0} (p q : A → Bool) (xs : List A) → ((a : A) → In a xs → p a ≡ q a) → list_any p xs ≡ list_any q xs
+any_each p q [] h = refl
+any_each p q (x ∷ xs) h = ap₂ (λ a b. a || b) (h x (inl refl)) (any_each p q xs (λ a i. h a (inr i)))

@@ -8,7 +8,7 @@ use Rattle.history.specs.Chains.{wrote, last_writer, last_of, is_name, chain, Ch
 use Rattle.history.proofs.Chaining.{causes_on_chains}
 use Rattle.consequences.specs.Sets.{is_there, MissesNone}
 use Rattle.consequences.specs.Refusals.{first_pair, missing, lacking, lacked}
-use Rattle.consequences.proofs.Members.{In, all_in, in_all, any_in}
+use Rattle.consequences.proofs.Members.{In, all_in, in_all, any_in, any_each}
 use Rattle.consequences.proofs.Writers.{not_false, not_last, item_of, last_is, touched_of}
 use Rattle.consequences.proofs.Closing.{follows_older}
 use Rattle.consequences.proofs.Crossing.{last_wrote}
@@ -17,6 +17,18 @@ use Rattle.consequences.proofs.Oldest.{none_older, oldest_none, oldest_each, pai
 -- the first of some names is one of them
 pub head_named : (n : ℕ) (ns : List ℕ) (m : ℕ) → n ≡ m → is_in (n ∷ ns) m ≡ true
 head_named n ns m e = or_left _ _ (eq-eqb n m e)
+
+-- a test and a truth value beside it
+and_any : {A : Type 0} (p : A → Bool) (b : Bool) (xs : List A) → (list_any p xs && b) ≡ list_any (λ x. p x && b) xs
+and_any p true [] = refl
+and_any p false [] = refl
+and_any p b (x ∷ xs) = spread (p x) (list_any p xs) b ∙ ap (λ q. (p x && b) || q) (and_any p b xs)
+  where
+    spread : (x y z : Bool) → ((x || y) && z) ≡ ((x && z) || (y && z))
+    spread true y true = refl
+    spread true true false = refl
+    spread true false false = refl
+    spread false y z = refl
 
 module _ (s : Subject) where
   -- names on a chain, and those that are lacking, are of these entries
@@ -109,21 +121,6 @@ module _ (s : Subject) (l : Laws s) where
             ∙ sym (ap (λ y. is_in (lacking s t k o es) (name_of s y)) (sym e) ∙ lacking_unnamed s t k (name_of s b) es o d)
         go false m is tb (inr j) ih = ih o (λ c u. w c (inr u)) j
 
-    and_any : {A : Type 0} (p : A → Bool) (b : Bool) (xs : List A) → (list_any p xs && b) ≡ list_any (λ x. p x && b) xs
-    and_any p true [] = refl
-    and_any p false [] = refl
-    and_any p b (x ∷ xs) = spread (p x) (list_any p xs) b ∙ ap (λ q. (p x && b) || q) (and_any p b xs)
-      where
-        spread : (x y z : Bool) → ((x || y) && z) ≡ ((x && z) || (y && z))
-        spread true y true = refl
-        spread true true false = refl
-        spread true false false = refl
-        spread false y z = refl
-
-    any_each : {A : Type 0} (p q : A → Bool) (xs : List A) → ((a : A) → In a xs → p a ≡ q a) → list_any p xs ≡ list_any q xs
-    any_each p q [] h = refl
-    any_each p q (x ∷ xs) h = ap₂ (λ a b. a || b) (h x (inl refl)) (any_each p q xs (λ a i. h a (inr i)))
-
     -- the missing causes of an entry
     missing_is : (e : Entry s) (es : List (Entry s)) → Distinct s (e ∷ es) → Ordered s (e ∷ es) → AllByRecursion (λ a. caused s a a ≡ false) (e ∷ es) → Chained s (e ∷ es) → HasAll es
         → missing s t e es ≡ lacked s t e es
@@ -184,6 +181,6 @@ module _ (s : Subject) (l : Laws s) where
         there p i (Some n) is none =
             let b = follows_older s l e es g n (any_in (λ p. is_name p.1 n) e.lasts p i (ap (λ o. is_name o n) is ∙ eq-eqb n n refl)) in
             any_in (λ a. t a && (name_of s a == n)) es b.0 b.1 (and_from _ _
-                (not_false (t b.0) (λ out. both_ways _ (none b.0 b.1) (any_in (λ p. is_in (lacking s t p.0 p.1 es) (name_of s b.0)) e.lasts p i
-                    (lacking_head s t p.0 p.1 es ds b.0 b.1 (ap (λ o. is_name o (name_of s b.0)) is ∙ eq-eqb n (name_of s b.0) (sym b.3)) out))))
-                (eq-eqb (name_of s b.0) n b.3))
+            (not_false (t b.0) (λ out. both_ways _ (none b.0 b.1) (any_in (λ p. is_in (lacking s t p.0 p.1 es) (name_of s b.0)) e.lasts p i
+            (lacking_head s t p.0 p.1 es ds b.0 b.1 (ap (λ o. is_name o (name_of s b.0)) is ∙ eq-eqb n (name_of s b.0) (sym b.3)) out))))
+            (eq-eqb (name_of s b.0) n b.3))

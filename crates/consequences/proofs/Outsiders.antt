@@ -164,10 +164,10 @@ module _ (s : Subject) (l : Laws s) (c : Entry s → Bool) (whole : List (Entry 
             let n = newest s l (q.0).0 t fs sound e i te we in
             let is : last_of s x (q.0).0 ≡ Some (name_of s n.0) = last_is s l (λ b. last_writer s b t fs) x g.cells (last u.0) (q.0).0 q.2 ∙ n.4 in
             and_from _ _ u.0 (and_from _ _ v.0 (any_in (λ w. touches s x.foot w.0 && is_of (lineage s c w.0 (name_of s e) whole) (last_of s x w.0)) e.foot.writes q.0 q.1 (and_from _ _ q.2 (
-                ap (is_of (lineage s c (q.0).0 (name_of s e) whole)) is ∙ elim n.5 [
-                  | inl y ↦ ap (λ z. is_in (lineage s c (q.0).0 (name_of s e) whole) (name_of s z)) y ∙ starts s l c (q.0).0 (name_of s e) whole
-                  | inr y ↦ lined fs (λ z j. sub z (inr j)) i os ws gs sound lasts none (q.0).0 we n.0 n.1 n.2 n.3 y
-                ]))))
+            ap (is_of (lineage s c (q.0).0 (name_of s e) whole)) is ∙ elim n.5 [
+              | inl y ↦ ap (λ z. is_in (lineage s c (q.0).0 (name_of s e) whole) (name_of s z)) y ∙ starts s l c (q.0).0 (name_of s e) whole
+              | inr y ↦ lined fs (λ z j. sub z (inr j)) i os ws gs sound lasts none (q.0).0 we n.0 n.1 n.2 n.3 y
+            ]))))
 
     pub first_outsider : In e whole → Sound s t whole → consequence s t c e whole ≡ outsider s t c e whole
     first_outsider i sound = along i whole (λ x j. j) i ord own all sound (sound_last s l t whole all sound)

@@ -11,7 +11,7 @@ use Rattle.consequences.specs.Orderly.{Orderly}
 use Rattle.consequences.specs.Versions.{Version, follows, found_as, wrote_over, overtakes}
 use Rattle.consequences.specs.Sets.{Unfollowed, Gathered, HasLastWriters, MissesNone, CrossesNone}
 use Rattle.consequences.specs.Refusals.{first_pair, missing, lacked, crossed, overtaken, consequence, outsider}
-use Rattle.consequences.specs.Index.{Index, Indexed, Links, Settles, is_among, from_base, heirs_at, readers_at, lists}
+use Rattle.consequences.specs.Index.{Index, Indexed, Links, Settles, is_among, from_base, listed_at, lists}
 
 -- the entries of a journal that stands are in order
 abbrev pub StandingIsOrderly : Subject → Type 0
@@ -69,7 +69,7 @@ FirstCrossing s = (es : List (Entry s)) → Orderly s es → (c : Entry s → Bo
 
 -- where no cell lists a name, the index is right for no entries
 abbrev pub IndexBegins : Subject → Type 0
-IndexBegins s = (index : Index s) → ((k : s.Key) (n : ℕ) → (index.base_heirs k n ≡ false) × (index.base_readers k n ≡ false)) → Indexed s index []
+IndexBegins s = (index : Index s) → ((k : s.Key) (n : ℕ) → (index.heirs.of k n ≡ false) × (index.readers.of k n ≡ false)) → Indexed s index []
 
 -- it stays right when an entry is put in front and linked
 abbrev pub IndexEnters : Subject → Type 0
@@ -106,7 +106,7 @@ ClosedIsUnlisted s = (opens base : List (Entry s)) → Orderly s (opens ++ base)
 abbrev pub VersionsAreListed : Subject → Type 0
 VersionsAreListed s = (opens base : List (Entry s)) → Orderly s (opens ++ base) → (index : Index s) →
     Indexed s index opens → (v : Version s) →
-    AllByRecursion (λ r. found_as s v r ≡ true → (wrote s v.0 r ≡ true → heirs_at s index opens v (name_of s r) ≡ true) × (wrote s v.0 r ≡ false → readers_at s index opens v (name_of s r) ≡ true)) opens
+    AllByRecursion (λ r. found_as s v r ≡ true → (wrote s v.0 r ≡ true → listed_at s index.heirs opens v (name_of s r) ≡ true) × (wrote s v.0 r ≡ false → listed_at s index.readers opens v (name_of s r) ≡ true)) opens
 
 -- the base's last writer of a cell: what a live open entry found that touched it as the base left it; and where none of these wrote it,
 -- the last writer of all

@@ -28,12 +28,12 @@ wrote_over s v r = found_as s v r && wrote s v.0 r
 abbrev pub follows : (s : Subject) → ℕ → Entry s → Bool
 follows s n r = list_any (λ p. is_name p.1 n) r.lasts
 
--- it is an heir of that one if it wrote such a cell, and a reader if it did not write such a cell; it may be both, by two cells
-abbrev pub is_heir : (s : Subject) → ℕ → Entry s → Bool
-is_heir s n r = list_any (λ p. is_name p.1 n && wrote s p.0 r) r.lasts
+-- it follows by a cell of a kind: as an heir by one that it wrote, as a reader by one that it did not write
+abbrev pub follows_by : (s : Subject) → (s.Key → Entry s → Bool) → ℕ → Entry s → Bool
+follows_by s kind n r = list_any (λ p. is_name p.1 n && kind p.0 r) r.lasts
 
-abbrev pub is_reader : (s : Subject) → ℕ → Entry s → Bool
-is_reader s n r = list_any (λ p. is_name p.1 n && not (wrote s p.0 r)) r.lasts
+abbrev pub by_reading : (s : Subject) → s.Key → Entry s → Bool
+by_reading s k r = not (wrote s k r)
 
 -- the first wrote over a version that the second found
 abbrev pub overtakes : (s : Subject) → Entry s → Entry s → Bool

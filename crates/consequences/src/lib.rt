@@ -37,7 +37,7 @@ pub fn redo_is_exact<S: Undoable>()
 pub fn heirs_are_one<S: Undoable>()
     ensures one { HeirsAreOne S.subject }
     ensures chain { WritersAreOnChain S.subject }
-    ensures mutual { OvertakingIsMutual S.subject }
+    ensures either { OvertakingIsMutual S.subject }
 {}
 
 /// The index is right for no entries, and stays right when an entry is linked, when entries are undone, redone or settled, and when

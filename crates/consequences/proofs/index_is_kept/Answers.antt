@@ -8,5 +8,5 @@ returns g d = let s = g.S.Undoable.subject in let laws = g.S.Undoable.laws in re
   enters = λ e opens base h. index_entered s laws e opens base h.distinct h.chained;
   marks = λ index t opens. index_marked s laws t index opens;
   exchanges = index_exchanged s laws;
-  settles = λ opens settled base h old new. index_settled s laws old new opens settled base h.distinct h.chained;
+  settles = λ opens settled base h. index_settled s laws opens settled base h.distinct h.chained;
 }

@@ -11,9 +11,9 @@ returns g d = let s = g.S.Undoable.subject in let laws = g.S.Undoable.laws in re
   exact = λ es h c. redo_exact s laws c es h.distinct h.chained h.sound;
   missing = λ es h c. (
     first_missing s laws (both (live_set s) c) (live_set s) c (λ a. one_of a.live (c a)) (λ a. or_right a.live (c a)) (λ a q. or_left a.live (c a) q)
-    es h.distinct h.ordered h.own h.chained h.sound,
+        es h.distinct h.ordered h.own h.chained h.sound,
     none_lacked s laws (both (live_set s) c) (live_set s) c (λ a. one_of a.live (c a)) (λ a. or_right a.live (c a)) (λ a q. or_left a.live (c a) q)
-    es h.distinct h.chained,
+        es h.distinct h.chained,
   );
   crossing = λ es h c. first_crossed s laws (both (live_set s) c) (live_set s) c (λ a. one_of a.live (c a)) (λ a q. or_left a.live (c a) q)
       es h.distinct h.chained (sound_last s laws (live_set s) es h.chained h.sound);
