@@ -10,3 +10,4 @@ pub mod Meeting
 pub mod Outsiders
 pub mod Basing
 pub mod Heirs
+pub mod Lineage

@@ -40,7 +40,7 @@ module _ (s : Subject) where
       choice true ih other = rw (ne_eqb (name_of s a) n h) ih
       choice false ih other = other
 
-  lacking_unnamed : (t : Entry s → Bool) (k : s.Key) (n : ℕ) (es : List (Entry s)) (o : Option ℕ) → AllByRecursion (λ a. name_of s a ≢ n) es → is_in (lacking s t k o es) n ≡ false
+  pub lacking_unnamed : (t : Entry s → Bool) (k : s.Key) (n : ℕ) (es : List (Entry s)) (o : Option ℕ) → AllByRecursion (λ a. name_of s a ≢ n) es → is_in (lacking s t k o es) n ≡ false
   lacking_unnamed t k n [] o h = refl
   lacking_unnamed t k n (a ∷ es) o (h, hs) = choice (is_name o (name_of s a)) (t a) (lacking_unnamed t k n es (last_of s a k) hs) (lacking_unnamed t k n es o hs)
     where

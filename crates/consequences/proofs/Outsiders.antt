@@ -17,7 +17,7 @@ use Rattle.consequences.proofs.Settling.{item_at}
 use Rattle.consequences.proofs.Missing.{head_named}
 use Rattle.consequences.proofs.Oldest.{oldest_none, oldest_more}
 
-of_some : (ns : List ℕ) (o : Option ℕ) → is_of ns o ≡ true → (n : ℕ) × (o ≡ Some n) × (is_in ns n ≡ true)
+pub of_some : (ns : List ℕ) (o : Option ℕ) → is_of ns o ≡ true → (n : ℕ) × (o ≡ Some n) × (is_in ns n ≡ true)
 of_some ns None h = absurd (false≢true h)
 of_some ns (Some n) h = (n, refl, h)
 
@@ -28,7 +28,7 @@ in_split (x ∷ es) a (inr i) = let r = in_split es a i in (x ∷ r.0, r.1, ap (
 
 module _ (s : Subject) (l : Laws s) (c : Entry s → Bool) (k : s.Key) (n : ℕ) where
   -- the line begins with the name, and a name of it stays in it
-  starts : (es : List (Entry s)) → is_in (lineage s c k n es) n ≡ true
+  pub starts : (es : List (Entry s)) → is_in (lineage s c k n es) n ≡ true
   starts [] = or_left _ _ (eq-eqb n n refl)
   starts (r ∷ es) = stays (c r && (wrote s k r && is_of (lineage s c k n es) (last_of s r k))) (starts es)
     where
@@ -36,7 +36,7 @@ module _ (s : Subject) (l : Laws s) (c : Entry s → Bool) (k : s.Key) (n : ℕ)
       stays true h = or_right (name_of s r == n) _ h
       stays false h = h
 
-  kept : (r : Entry s) (es : List (Entry s)) (m : ℕ) → is_in (lineage s c k n es) m ≡ true → is_in (lineage s c k n (r ∷ es)) m ≡ true
+  pub kept : (r : Entry s) (es : List (Entry s)) (m : ℕ) → is_in (lineage s c k n es) m ≡ true → is_in (lineage s c k n (r ∷ es)) m ≡ true
   kept r es m h = by (c r && (wrote s k r && is_of (lineage s c k n es) (last_of s r k)))
     where
       by : (b : Bool) → is_in (cond b (name_of s r ∷ lineage s c k n es) (lineage s c k n es)) m ≡ true
@@ -44,7 +44,7 @@ module _ (s : Subject) (l : Laws s) (c : Entry s → Bool) (k : s.Key) (n : ℕ)
       by false = h
 
   -- a name of it is the newest one's, where that is a member that came of one of it, or is in it without that
-  parts_of : (r : Entry s) (es : List (Entry s)) (m : ℕ) → is_in (lineage s c k n (r ∷ es)) m ≡ true
+  pub parts_of : (r : Entry s) (es : List (Entry s)) (m : ℕ) → is_in (lineage s c k n (r ∷ es)) m ≡ true
       → ((name_of s r ≡ m) × (wrote s k r ≡ true) × (is_of (lineage s c k n es) (last_of s r k) ≡ true)) ⊎ (is_in (lineage s c k n es) m ≡ true)
   parts_of r es m h = by (c r && (wrote s k r && is_of (lineage s c k n es) (last_of s r k))) refl h
     where

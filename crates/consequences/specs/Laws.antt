@@ -1,5 +1,5 @@
 -- The laws of what is found from last writers, and of the index.
-use Rattle.std.specs.Prelude.{◌≡◌, ◌&&◌, ℕ, Bool, true, false, cond, List, [], ◌∷◌, ◌++◌, None}
+use Rattle.std.specs.Prelude.{◌≡◌, ◌&&◌, ℕ, Bool, true, false, cond, not, List, [], ◌∷◌, ◌++◌, Some, None}
 use Rattle.std.specs.List.{list_any, AllByRecursion}
 use Rattle.history.specs.Subject.{Subject, World}
 use Rattle.history.specs.Journal.{Entry, name_of, is_in, caused, live_set, both, marked, Sound, Closed}
@@ -10,7 +10,7 @@ use Rattle.history.specs.Cone.{in_cone}
 use Rattle.consequences.specs.Orderly.{Orderly}
 use Rattle.consequences.specs.Versions.{Version, follows, found_as, wrote_over, overtakes}
 use Rattle.consequences.specs.Sets.{Unfollowed, Gathered, HasLastWriters, MissesNone, CrossesNone}
-use Rattle.consequences.specs.Refusals.{first_pair, missing, lacked, crossed, overtaken, consequence, outsider}
+use Rattle.consequences.specs.Refusals.{first_pair, missing, lacking, lacked, crossed, overtaken, consequence, lineage, outsider}
 use Rattle.consequences.specs.Index.{Index, Indexed, Links, Settles, is_among, from_base, listed_at, lists}
 
 -- the entries of a journal that stands are in order
@@ -43,6 +43,12 @@ ConeIsGathered s = (es : List (Entry s)) → Orderly s es → (root : ℕ) →
 abbrev pub FirstOutsider : Subject → Type 0
 FirstOutsider s = (es : List (Entry s)) → Orderly s es → (c : Entry s → Bool) →
     AllByRecursion (λ e. e.live ≡ true → consequence s (live_set s) c e es ≡ outsider s (live_set s) c e es) es
+
+-- an entry is of the line of a member just where the member is met walking back from it, as long as members are met
+abbrev pub LineIsWalkedBack : Subject → Type 0
+LineIsWalkedBack s = (es : List (Entry s)) → Orderly s es → (c : Entry s → Bool) (k : s.Key) →
+    AllByRecursion (λ e. c e ≡ true → AllByRecursion (λ h. wrote s k h ≡ true →
+    is_in (lineage s c k (name_of s e) es) (name_of s h) ≡ is_in (lacking s (λ a. not (c a)) k (Some (name_of s h)) es) (name_of s e)) es) es
 
 -- what is live is sound together with a set just where the last writers of its members are there, and nobody stands behind one that
 -- wrote over what it found, where one of the two is of the set

@@ -1,7 +1,8 @@
 //! The index of consequences: what follows an entry, what may come back and what is in its way, from last writers alone.
 #![tactic(auto)]
 
-ghost use Rattle.consequences.specs.Laws.{StandingIsOrderly, LastWritersAreCauses, SoundIsLast, ClosedIsUnfollowed, ConeIsGathered, FirstOutsider};
+ghost use Rattle.consequences.specs.Laws.{StandingIsOrderly, LastWritersAreCauses, SoundIsLast, ClosedIsUnfollowed};
+ghost use Rattle.consequences.specs.Laws.{ConeIsGathered, FirstOutsider, LineIsWalkedBack};
 ghost use Rattle.consequences.specs.Laws.{HeirsAreOne, WritersAreOnChain, OvertakingIsMutual};
 ghost use Rattle.consequences.specs.Laws.{RedoIsExact, FirstMissing, FirstCrossing};
 ghost use Rattle.consequences.specs.Laws.{IndexBegins, IndexEnters, IndexMarks, IndexExchanges, IndexSettles};
@@ -9,7 +10,8 @@ ghost use Rattle.consequences.specs.Laws.{ListsFollowers, ClosedIsUnlisted, Vers
 
 use history::Undoable;
 
-/// The entries of a journal that stands are in order. Last writers are causes. A set is sound just where each member has, of each cell that it touched, the set's last writer before it.
+/// The entries of a journal that stands are in order. Last writers are causes. A set is sound just where each member has, of each cell
+/// that it touched, the set's last writer before it.
 pub fn last_writers_tell<S: Undoable>()
     ensures orderly { StandingIsOrderly S.subject }
     ensures causes { LastWritersAreCauses S.subject }
@@ -17,11 +19,12 @@ pub fn last_writers_tell<S: Undoable>()
 {}
 
 /// A set is closed just where no live entry outside it follows a member. What is gathered by following an entry is its cone. The first
-/// outsider that comes of a member is found along the heirs of what the member wrote.
+/// outsider that comes of a member is found along the heirs of what the member wrote, or by walking back.
 pub fn consequences_follow<S: Undoable>()
     ensures closed { ClosedIsUnfollowed S.subject }
     ensures cone { ConeIsGathered S.subject }
     ensures outsider { FirstOutsider S.subject }
+    ensures line { LineIsWalkedBack S.subject }
 {}
 
 /// Entries may be redone just where their last writers are there, and nobody stands behind one that wrote over what it found. The first
@@ -58,8 +61,8 @@ pub fn index_tells<S: Undoable>()
     ensures versions { VersionsAreListed S.subject }
 {}
 
-/// What the base left in a cell is told by the open entries that touched it so, or else by the last writer of all: and so whether one of the base wrote over
-/// what an entry found.
+/// What the base left in a cell is told by the open entries that touched it so, or else by the last writer of all; and so it is whether
+/// one of the base wrote over what an entry found.
 pub fn base_is_seen<S: Undoable>()
     ensures seen { BaseIsSeen S.subject }
     ensures exact { BaseIsExact S.subject }
