@@ -1,5 +1,5 @@
 -- The oldest that passes a test, and the first pair.
-use Rattle.std.proofs.Common.{◌≡◌, ℕ, Bool, true, false, cond, List, [], ◌∷◌, Option, Some, None, option_map, inl, inr, refl, sym, ap, ap₂, ◌∙◌}
+use Rattle.std.proofs.Common.{◌≡◌, ℕ, Bool, true, false, cond, List, [], ◌∷◌, ◌++◌, Option, Some, None, option_map, inl, inr, refl, sym, ap, ap₂, ◌∙◌}
 use Rattle.std.specs.Option.{option_or}
 use Rattle.history.specs.Subject.{Subject}
 use Rattle.history.specs.Journal.{Entry, name_of}
@@ -51,3 +51,13 @@ module _ (s : Subject) where
 
   pub none_paired : (one : Entry s → List (Entry s) → Option ℕ) (e : Entry s) (es : List (Entry s)) → first_pair s one (e ∷ es) ≡ None → (first_pair s one es ≡ None) × (one e es ≡ None)
   none_paired one e es h = (none_first (first_pair s one es) _ h, none_mapped (λ m. (name_of s e, m)) (one e es) (none_second (first_pair s one es) _ h))
+
+  -- the oldest is the one that passes where no older one does
+  pub oldest_at : (test : Entry s → Bool) (xs : List (Entry s)) (e : Entry s) (ys : List (Entry s)) → test e ≡ true → ((a : Entry s) → In a ys → test a ≡ false) → oldest s test (xs ++ e ∷ ys) ≡ Some (name_of s e)
+  oldest_at test [] e ys h none = ap₂ (λ o b. option_or o (cond b (Some (name_of s e)) None)) (oldest_none test ys none) h
+  oldest_at test (x ∷ xs) e ys h none = ap (λ o. option_or o (cond (test x) (Some (name_of s x)) None)) (oldest_at test xs e ys h none)
+
+  -- the first pair is that of the entry to which something answers, where nothing answers to an older one
+  pub pair_at : (one : Entry s → List (Entry s) → Option ℕ) (xs : List (Entry s)) (e : Entry s) (ys : List (Entry s)) (n : ℕ) → one e ys ≡ Some n → first_pair s one ys ≡ None → first_pair s one (xs ++ e ∷ ys) ≡ Some (name_of s e, n)
+  pair_at one [] e ys n h none = ap₂ (λ o p. option_or o (option_map (λ m. (name_of s e, m)) p)) none h
+  pair_at one (x ∷ xs) e ys n h none = ap (λ o. option_or o (option_map (λ m. (name_of s x, m)) (one x (xs ++ e ∷ ys)))) (pair_at one xs e ys n h none)

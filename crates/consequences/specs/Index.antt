@@ -49,6 +49,7 @@ pub record Adds (s : Subject) (kind : s.Key → Entry s → Bool) (old new : Lis
   pub at : AllByRecursion (λ w. (n : ℕ) → new.at (name_of s w) n ≡ (((name_of s e == n) && follows_by s kind (name_of s w) e) || old.at (name_of s w) n)) opens
   pub of : (k : s.Key) (n : ℕ) → new.of k n ≡ (((name_of s e == n) && (from_base s opens k e && kind k e)) || old.of k n)
 
+-- so it is with heirs and with readers
 pub record Links (s : Subject) (old new : Index s) (e : Entry s) (opens : List (Entry s)) : Type 0 where
   pub heirs : Adds s (wrote s) old.heirs new.heirs e opens
   pub readers : Adds s (by_reading s) old.readers new.readers e opens
@@ -61,6 +62,7 @@ pub record Hands (s : Subject) (kind : s.Key → Entry s → Bool) (old new : Li
       ((old.of k n && not (list_any (λ a. name_of s a == n) settled))
       || list_any (λ w. old.at (name_of s w) n && passes s (λ r. found_as s (k, Some (name_of s w)) r && kind k r) n opens) settled)
 
+-- so it is with heirs and with readers
 pub record Settles (s : Subject) (old new : Index s) (opens settled : List (Entry s)) : Type 0 where
   pub heirs : Hands s (wrote s) old.heirs new.heirs opens settled
   pub readers : Hands s (by_reading s) old.readers new.readers opens settled
