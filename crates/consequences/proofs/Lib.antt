@@ -1,0 +1,13 @@
+pub mod Members
+pub mod Writers
+pub mod Closing
+pub mod Crossing
+pub mod Indexing
+pub mod Settling
+pub mod Oldest
+pub mod Missing
+pub mod Meeting
+pub mod Outsiders
+pub mod Basing
+pub mod Heirs
+pub mod Lineage
