@@ -226,9 +226,11 @@ fn make_tap(rt: &impl AllocGlobal, most: usize, fails: bool) -> Tap {
 /// What went out of two replies, how it went, how many writes failed and how many flushes there were.
 fn written(rt: &(impl Abort + AllocGlobal), output: Tap) -> String {
     let mut outlet = Outlet::new(rt.alloc(), output);
-    let given = outlet.give(b"ok e1 e1.m0\n").is_ok() && outlet.give(b"ok e2 value null\n").is_ok();
-    let sent = given && outlet.send().is_ok();
+    outlet.give(b"ok e1 e1.m0\n");
+    outlet.give(b"ok e2 value null\n");
+    let sent = outlet.send().is_ok();
     // What did not go out is not kept for the next time.
+    outlet.reopen();
     let again = outlet.send().is_ok();
     let failures = outlet.failures();
     let tap = outlet.into_writer();
@@ -264,14 +266,18 @@ fn replies_in_parts(rt: HostRuntime) {
 #[test]
 fn many_bytes_do_not_wait(rt: HostRuntime) -> Result<(), Fail> {
     let mut bytes = Vec::new(rt.alloc());
-    bytes.resize(65_536, b'x')?;
+    bytes.resize(65_535, b'x')?;
     let mut outlet = Outlet::new(rt.alloc(), make_tap(&rt, 100_000, true));
-    assert!(rt; outlet.give(bytes.as_slice()).is_ok());
-    assert!(rt; outlet.give(b"yes").is_ok());
-    assert_eq!(rt; outlet.into_writer().taken.len(), 65_536);
+    outlet.give(bytes.as_slice());
+    outlet.give(b"yes");
+    outlet.give(b"no");
+    assert!(rt; outlet.check().is_ok());
+    assert_eq!(rt; outlet.into_writer().taken.len(), 65_538);
+    bytes.push(b'x')?;
     let mut outlet = Outlet::new(rt.alloc(), make_tap(&rt, 20, true));
-    assert!(rt; outlet.give(bytes.as_slice()).is_ok());
-    assert!(rt; outlet.give(b"no").is_err());
+    outlet.give(bytes.as_slice());
+    outlet.give(b"no");
+    assert!(rt; outlet.check().is_err());
     assert_eq!(rt;
         (outlet.failures(), outlet.into_writer().taken.len()),
         (1, 20)

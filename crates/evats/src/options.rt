@@ -159,7 +159,10 @@ pub(crate) fn parse<'a, R: Print + Eprint + AllocGlobal>(
     rt: &R,
     words: &'a [String],
 ) -> Result<Parsed<'a>, Fault> {
-    match command(rt.alloc())?.try_get_matches_from(words) {
+    let Ok(command) = command(rt.alloc()) else {
+        return Err(Fault::Memory);
+    };
+    match command.try_get_matches_from(words) {
         Ok(matches) => Ok(Parsed::Options(Options::from_matches(&matches))),
         Err(error) => Ok(Parsed::Stop(stop(rt, &error)?)),
     }
