@@ -24,7 +24,7 @@ pub(crate) fn next_line<R: Read, W: Write>(
     ensures gives { OnOk result (Gives W.contents sink.old sink.new []) }
     ensures err { IfErr result (StopsAtLine R.remaining W.contents source.old source.new sink.old sink.new) }
     ensures at_hand { is_at_hand source.old ≡ true → ReadsNothing source.old source.new }
-    ensures sent { is_at_hand source.old ≡ false → OnOk result (waiting sink.new ≡ []) }
+    ensures sent { is_at_hand source.old ≡ false → waiting sink.new ≡ [] }
     ensures uncut { OnOk result (is_cut sink.new ≡ false) }
     ensures counted { IfOk result (λ line. CountsTaken (lines_taken source.old) (lines_taken source.new) (Ok line)) }
     ensures none_refused { OnOk result (lines_refused source.new ≡ lines_refused source.old) }
