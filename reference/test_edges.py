@@ -2,7 +2,9 @@
 import subprocess
 import sys
 import unittest
+from unittest.mock import patch
 
+import running
 from test_running import FAKE, HERE, told
 
 
@@ -22,10 +24,13 @@ class Limits(unittest.TestCase):
 
 
 class Edges(unittest.TestCase):
+    # Some of it would keep the interpreter for long.
+    @patch.object(running, "SECONDS", 5)
     def test_a_program_that_does_otherwise_is_told(self):
         is_failed, said = told(["edges"], FAKE)
         self.assertTrue(is_failed)
         for wanted in ("the word", "a file whose name is no text", "--help on a full device", "a stack of 16 KiB", "no more threads",
+                       "a list that settles to itself, sent many times",
                        "it is told that no thread can be started: False and not True"):
             self.assertIn(wanted, said)
 

@@ -1,10 +1,10 @@
 -- Settled forms, as the program makes them.
-use Rattle.std.proofs.Common.{◌≡◌, ℕ, zero, suc, ◌+◌, ◌-◌, ◌<◌, ◌≤◌, true, false, cond, List, [], ◌∷◌, ◌++◌, length, drop, Option, Some, None, option_map, Result, Ok, Err, IfOk, ◌⊎◌, inl, inr, refl, sym, ap, ◌∙◌, append-nil, append_assoc, max, codes, arith}
+use Rattle.std.proofs.Common.{◌≡◌, ℕ, zero, suc, ◌+◌, ◌-◌, ◌<◌, ◌≤◌, true, false, cond, List, [], ◌∷◌, ◌++◌, length, get_or, take, drop, Option, Some, None, option_map, Result, Ok, Err, IfOk, ◌⊎◌, inl, inr, Vec, Global, refl, sym, ap, ◌∙◌, append-nil, append_assoc, max, codes, arith}
 use Rattle.std.specs.Result.{OnOk}
 use Rattle.std.specs.declared.alloc.AllocError.{AllocError}
 use Rattle.std.proofs.lemmas.Bool.{le-leb}
 use Rattle.std.specs.Cmp.Derive.{both_true}
-use Rattle.std.proofs.lemmas.List.{drop_all}
+use Rattle.std.proofs.lemmas.List.{drop_all, take_more}
 use Rattle.ids.specs.declared.names.PromId.{PromId}
 use Rattle.values.specs.Data.{Val, promise, list, gives, throws, Vals, no_vals, and_val}
 use Rattle.values.specs.Limits.{weight, weights, list_depth, deepest, within_limits}
@@ -14,9 +14,12 @@ use Rattle.values.specs.View.{val_of, vals_of}
 use Rattle.values.specs.declared.value.Value.{Value}
 use Rattle.values.proofs.Tables.{joined-vals_of, joined-joined}
 use Rattle.values.proofs.Weighing.{weights-joined, deepest-joined}
+use Rattle.refs.specs.Forms.{formed, gathered}
+use Rattle.refs.specs.declared.settling.Form.{Form}
 use Rattle.refs.specs.Settling.{Settling, ItemsSettling, fitted, too_large, and_behind, settle_items, settle_end, settle_at, list_at}
 use Rattle.refs.specs.Walks.{Resolutions, walked, followed}
-use Rattle.refs.proofs.Settled.{settle_at-is, settle_plain, settle_own, leaf, no_list, Within}
+use Rattle.refs.proofs.Settled.{settle_at-is, settle_plain, settle_own, leaf, no_list, list_is, Within}
+use Rattle.refs.proofs.Way.{own_end, is_promise}
 
 -- ---- a value by its end
 
@@ -24,26 +27,27 @@ no_promise : (v : Val) → promise_in v ≡ false → None ≡ promise_of v
 no_promise (promise p) e = absurd (cc)
 no_promise _ e = refl
 
--- where the end is a list
-pub list_found : (m : Resolutions) (depth left : ℕ) (v e : Val) (us : Vals) → e ≡ followed m v → Some us ≡ items_in e
-    → ((settle_at m depth left v).settled ≡ (list_at m depth left us).settled) × ((settle_at m depth left v).through ≡ walked m v ++ (list_at m depth left us).through)
-list_found m depth left v e us p q =
+-- a value settles as its end
+pub end_found : (m : Resolutions) (depth left : ℕ) (v e : Val) → e ≡ followed m v
+    → ((settle_at m depth left v).settled ≡ (settle_end (list_at m depth) left e (items_in e)).settled) × ((settle_at m depth left v).through ≡ walked m v ++ (settle_end (list_at m depth) left e (items_in e)).through)
+end_found m depth left v e p =
     let i = settle_at-is m depth left v in
-    let o : items_in (followed m v) ≡ Some us = ap items_in (sym p) ∙ sym q in
-    let s : settle_end (list_at m depth) left (followed m v) (items_in (followed m v)) ≡ list_at m depth left us = ap (settle_end (list_at m depth) left (followed m v)) o in
+    let s : settle_end (list_at m depth) left (followed m v) (items_in (followed m v)) ≡ settle_end (list_at m depth) left e (items_in e) = ap (λ x. settle_end (list_at m depth) left x (items_in x)) (sym p) in
     (ap (λ (x : Settling). x.settled) i ∙ ap (λ (x : Settling). x.settled) s, ap (λ (x : Settling). x.through) i ∙ ap (λ (x : Settling). walked m v ++ x.through) s)
 
--- where it is no list, or no promise stands in it
-pub plain_found : (m : Resolutions) (depth left : ℕ) (v e : Val) → e ≡ followed m v → (None ≡ items_in e) ⊎ (promise_in e ≡ false)
-    → ((settle_at m depth left v).settled ≡ fitted depth left e) × ((settle_at m depth left v).through ≡ walked m v)
-plain_found m depth left v e p q =
-    let i = settle_at-is m depth left v in
-    let s : settle_end (list_at m depth) left (followed m v) (items_in (followed m v)) ≡ record { through = []; settled = fitted depth left e } = ap (λ x. settle_end (list_at m depth) left x (items_in x)) (sym p) ∙ go q in
-    (ap (λ (x : Settling). x.settled) i ∙ ap (λ (x : Settling). x.settled) s, ap (λ (x : Settling). x.through) i ∙ ap (λ (x : Settling). walked m v ++ x.through) s ∙ append-nil (walked m v))
-  where
-    go : (None ≡ items_in e) ⊎ (promise_in e ≡ false) → settle_end (list_at m depth) left e (items_in e) ≡ record { through = []; settled = fitted depth left e }
-    go (inl g) = ap (settle_end (list_at m depth) left e) (sym g) ∙ ap (λ (x : Option Val). record { through = []; settled = x }) (leaf depth left e (no_list e g))
-    go (inr h) = sym (settle_own m depth left e (no_promise e h)) ∙ settle_plain m depth left e h
+-- a value and its end are the same promise, or none: it is its own end
+pub own_of : (m : Resolutions) (v e : Val) → e ≡ followed m v → promise_of v ≡ promise_of e → v ≡ e
+own_of m (promise p) e f q = sym (is_promise e p q)
+own_of m v e f q = sym (f ∙ (own_end m v refl).1)
+
+-- an end that is no list, or in which no promise stands
+pub plain_end : (m : Resolutions) (depth left : ℕ) (e : Val) → (None ≡ items_in e) ⊎ (promise_in e ≡ false) → settle_end (list_at m depth) left e (items_in e) ≡ record { through = []; settled = fitted depth left e }
+plain_end m depth left e (inl g) = ap (settle_end (list_at m depth) left e) (sym g) ∙ ap (λ (x : Option Val). record { through = []; settled = x }) (leaf depth left e (no_list e g))
+plain_end m depth left e (inr h) = sym (settle_own m depth left e (no_promise e h)) ∙ settle_plain m depth left e h
+
+-- an end that is a list
+pub list_end : (m : Resolutions) (depth left : ℕ) (e : Val) (us : Vals) → Some us ≡ items_in e → (list us ≡ e) × (list_at m depth left us ≡ settle_end (list_at m depth) left e (items_in e))
+list_end m depth left e us q = (sym (list_is e us (sym q)), ap (settle_end (list_at m depth) left e) q)
 
 -- ---- items, one after another
 
@@ -120,17 +124,30 @@ list_given depth left l row d w e h =
 
 -- ---- what the program answers
 
-pub settled_is : (r : Result (Option Value) AllocError) (x y : Option Val) → x ≡ y → IfOk r (λ o. option_map val_of o ≡ x) → IfOk r (λ o. option_map val_of o ≡ y)
-settled_is (Ok o) x y e h = h ∙ e
-settled_is (Err a) x y e h = tt
+pub settled_is : (r : Result (Option Form) AllocError) (v w : Val) (x y : Option Val) → v ≡ w → x ≡ y → IfOk r (λ o. option_map (formed v) o ≡ x) → IfOk r (λ o. option_map (formed w) o ≡ y)
+settled_is (Ok o) v w x y d e h = ap (λ u. option_map (formed u) o) (sym d) ∙ h ∙ e
+settled_is (Err a) v w x y d e h = tt
 
-pub through_is : (r : Result (Option Value) AllocError) (old mid new walk more all : List PromId) → mid ≡ old ++ walk → all ≡ walk ++ more → OnOk r (new ≡ mid ++ more) → OnOk r (new ≡ old ++ all)
-through_is (Ok o) old mid new walk more all e f h = h ∙ ap (λ ps. ps ++ more) e ∙ append_assoc old walk more ∙ ap (λ ps. old ++ ps) (sym f)
-through_is (Err a) old mid new walk more all e f h = tt
+pub other_is : (r : Result (Option Form) AllocError) (v : Val) (x y : Option Val) → x ≡ y → IfOk r (λ o. (own : Val) → option_map (formed own) o ≡ x) → IfOk r (λ o. option_map (formed v) o ≡ y)
+other_is (Ok o) v x y e h = h v ∙ e
+other_is (Err a) v x y e h = tt
+
+pub through_is : (r : Result (Option Form) AllocError) (old new more all : List PromId) → more ≡ all → OnOk r (new ≡ old ++ more) → OnOk r (new ≡ old ++ all)
+through_is (Ok o) old new more all e h = h ∙ ap (λ ps. old ++ ps) e
+through_is (Err a) old new more all e h = tt
 
 -- the items from an index on, where it is the last
 pub none_left : (xs : List Value) (i : ℕ) → length xs ≤ i → vals_of (drop i xs) ≡ no_vals
 none_left xs i h = ap vals_of (drop_all i xs h)
 
-pub row_more : (row new : List Value) (x : Value) → new ≡ row ++ x ∷ [] → joined (vals_of row) (and_val (val_of x) no_vals) ≡ vals_of new
-row_more row new x e = sym (ap vals_of e ∙ joined-vals_of row (x ∷ []))
+-- the settled items that are gathered: those of a row, or a list's own
+abbrev pub in_row : Vals → Option (Vec Value Global) → Vals
+in_row own row = gathered own (option_map (λ r. r.items) row)
+
+-- one more settled item, by one more of a list's own
+pub row_more : (xs : List Value) (i : ℕ) (x : Value) (row new : Option (Vec Value Global)) (w : Val) → i < length xs → x ≡ get_or xs i x
+    → in_row (joined (vals_of (take i xs)) (and_val (val_of x) no_vals)) new ≡ joined (in_row (vals_of (take i xs)) row) (and_val w no_vals)
+    → joined (in_row (vals_of (take i xs)) row) (and_val w no_vals) ≡ in_row (vals_of (take (i + 1) xs)) new
+row_more xs i x row new w h e k =
+    let t : joined (vals_of (take i xs)) (and_val (val_of x) no_vals) ≡ vals_of (take (i + 1) xs) = sym (ap vals_of (take_more xs i x h ∙ ap (λ y. take i xs ++ y ∷ []) (sym e)) ∙ joined-vals_of (take i xs) (x ∷ [])) in
+    sym k ∙ ap (λ us. in_row us new) t

@@ -31,6 +31,10 @@ pub no_list : (v : Val) → None ≡ items_in v → list_depth v ≡ 0
 no_list (list vs) e = absurd (cc)
 no_list _ e = refl
 
+pub list_is : (v : Val) (us : Vals) → items_in v ≡ Some us → v ≡ list us
+list_is (list vs) us e = let f : vs ≡ us = cc in ap list f
+list_is _ us e = absurd (cc)
+
 pub leaf : (depth left : ℕ) (v : Val) → list_depth v ≡ 0 → fitted 0 left v ≡ fitted depth left v
 leaf depth left v e = let f : nat_le (list_depth v) 0 ≡ nat_le (list_depth v) depth = grind (arith, nat_tests) in ap (λ b. cond (nat_le (weight v) left && b) (Some v) None) f
 

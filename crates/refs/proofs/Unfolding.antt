@@ -12,7 +12,7 @@ use Rattle.refs.specs.Settling.{Settling, ItemsSettling, and_behind, settle_item
 use Rattle.refs.specs.Unfolds.{Unfolds, to_end, to_itself, to_list, EachUnfolds, no_item, and_item}
 use Rattle.refs.specs.Laws.{SettlesAsItUnfolds, OneUnfolding}
 use Rattle.refs.proofs.Rules.{what_ends_is_led, what_has_no_end_circles, what_is_led_ends, what_circles_has_no_end, one_end, no_end_in_a_ring, ring_found}
-use Rattle.refs.proofs.Settled.{settle_at-is, no_list, fitted_within, Within, ItemsWithin}
+use Rattle.refs.proofs.Settled.{settle_at-is, no_list, list_is, fitted_within, Within, ItemsWithin}
 use Rattle.refs.proofs.Open.{items_from, fits, within_limits_then}
 
 -- ---- from the function to the rules
@@ -32,10 +32,6 @@ stands m v l = go (walk most_walked m [] v).end refl
     go : (o : Option Val) → (walk most_walked m [] v).end ≡ o → Stands m v
     go None e = inr (what_has_no_end_circles m v e l, ap (λ o. unwrap_or o v) e)
     go (Some u) e = inl (subst (Leads m v (walked m v)) (sym (ap (λ o. unwrap_or o v) e)) (what_ends_is_led m v u e))
-
-list_is : (v : Val) (us : Vals) → items_in v ≡ Some us → v ≡ list us
-list_is (list vs) us e = let f : vs ≡ us = cc in ap list f
-list_is _ us e = absurd (cc)
 
 -- an end that is no list, and one that is
 unfolds_end : (m : Resolutions) (v w : Val) → Stands m v → items_in (followed m v) ≡ None → followed m v ≡ w → Unfolds m v (walked m v) w

@@ -7,8 +7,8 @@ use Rattle.values.specs.Data.{Val, Vals, no_vals, and_val}
 use Rattle.values.specs.Replies.{joined}
 use Rattle.values.specs.View.{val_of, vals_of}
 use Rattle.values.specs.declared.value.Value.{Value}
-use Rattle.values.proofs.Tables.{vals_from, joined-joined, joined-no_vals}
-use Rattle.refs.proofs.Making.{none_left, row_more}
+use Rattle.values.proofs.Tables.{vals_from, joined-joined, joined-no_vals, joined-vals_of}
+use Rattle.refs.proofs.Making.{none_left}
 use Rattle.sends.specs.Vats.{settled, settled_behind, all_settled}
 use Rattle.sends.specs.Playing.{under, Did}
 use Rattle.sends.proofs.Playing.{played}
@@ -28,6 +28,10 @@ one v vs o e k h = played (settled v) (settled_behind (λ w. all_settled vs)) (u
 row_on : (row : Vals) (w : Val) (o : Option Vals) → option_map (joined (joined row (and_val w no_vals))) o ≡ option_map (joined row) (option_map (and_val w) o)
 row_on row w None = refl
 row_on row w (Some us) = ap Some (joined-joined row (and_val w no_vals) us)
+
+-- one more in a row
+row_more : (row new : List Value) (x : Value) → new ≡ row ++ x ∷ [] → joined (vals_of row) (and_val (val_of x) no_vals) ≡ vals_of new
+row_more row new x e = sym (ap vals_of e ∙ joined-vals_of row (x ∷ []))
 
 -- one more is settled
 pub settle_next : (all : Vals) (xs row new : List Value) (i : ℕ) (x w : Value) (o : Option Val) (d e k : Drafted) → i < length xs → x ≡ get_or xs i x → Settles all (vals_of row) (vals_of (drop i xs)) d e → Did (settled (val_of x)) e o k → o ≡ Some (val_of w) → new ≡ row ++ w ∷ []
