@@ -1,6 +1,7 @@
 """Commands: how the bytes of an input are cut into lines and words, which command a line spells, and what it is answered."""
 import re
 
+import asking
 from reading import RESERVED, Refusal, read
 from showing import list_journal, log_of, show
 from values import MessageName, PromiseName, quoted, shown
@@ -63,6 +64,11 @@ def message(word):
 
 def promise(word):
     return PromiseName(*made(word, "p"), vat=None)
+
+
+def object_made(word):
+    """The event and the index of an object; its vat is not named."""
+    return made(word, "o")
 
 
 def vat_name(word):
@@ -171,6 +177,20 @@ class Engine:
                 position, = arguments(words, number)
                 book.journal.settle(position)
                 return [f"ok settled {position}"]
+        return [*self.asked(words)]
+
+    def asked(self, words):
+        """What a question is answered."""
+        match words[0]:
+            case "why":
+                return asking.why(self.book.journal, *arguments(words, event, event))
+            case "event":
+                return asking.event(self.book.journal, *arguments(words, event))
+            case "message":
+                return asking.message(self.book, *arguments(words, message))
+            case "object":
+                made_by, = arguments(words, object_made)
+                return asking.object(self.book, *made_by)
         raise Refusal("S1 UnknownCommand")
 
     def events(self, words):

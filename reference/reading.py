@@ -1,5 +1,7 @@
 """Texts into trees: tokens, line breaks, the grammar, and the forms that stand for others."""
+import re
 from dataclasses import dataclass
+from typing import NamedTuple
 
 RESERVED = frozenset("""def var method to return if else while for in escape try catch when true false null throw
 Ref""".split())
@@ -10,7 +12,11 @@ BEGINS_AN_ITEM = frozenset("""NAME INT TEXT true false null Ref throw def var if
 -""".split())
 BEGINS_AN_OPERATION = frozenset("""INT TEXT true false null NAME [ ( { if while for escape try throw def when Ref ! -
 """.split())
-ESCAPED = {'"': '"', "\\": "\\", "'": "'", "n": "\n", "t": "\t", "r": "\r"}
+# A token that is no text; a piece of a text up to its end or an escape; blanks and comments.
+TOKEN = re.compile(rb"(?P<digits>[0-9]+)|(?P<word>[A-Za-z_][A-Za-z0-9_]*)|" + b"|".join(re.escape(it).encode() for it in SIGNS))
+PLAIN = re.compile(rb'[^"\\]*')
+BLANKS = re.compile(rb"(?:[ \t\r\n]+|#[^\n]*)*")
+ESCAPED = {b'"': b'"', b"\\": b"\\", b"'": b"'", b"n": b"\n", b"t": b"\t", b"r": b"\r"}
 COMPARISONS = {"<": "lessThan", "<=": "atMost", ">": "moreThan", ">=": "atLeast"}
 SUMS = {"+": "add", "-": "subtract"}
 PRODUCTS = {"*": "multiply", "//": "floorDivide"}
@@ -23,8 +29,7 @@ class Refusal(Exception):
     """What a reply says behind `no`."""
 
 
-@dataclass(frozen=True)
-class Token:
+class Token(NamedTuple):
     kind: str
     offset: int
     value: object = None
@@ -184,62 +189,50 @@ def text_token(text, start):
     """The text between quotation marks that begins here, and where it ends."""
     written, at = bytearray(), start + 1
     while True:
-        if at >= len(text):
-            raise Refusal(f"L2 UnclosedText {start}")
-        byte = chr(text[at])
-        if byte == '"':
+        plain = PLAIN.match(text, at)
+        written += plain[0]
+        at = plain.end()
+        if text[at:at + 1] == b'"':
             return Token("TEXT", start, written.decode()), at + 1
-        if byte == "\\":
-            if at + 1 >= len(text):
-                raise Refusal(f"L2 UnclosedText {start}")
-            if chr(text[at + 1]) not in ESCAPED:
-                raise Refusal(f"L3 BadEscape {at}")
-            written += ESCAPED[chr(text[at + 1])].encode()
-            at += 2
-        else:
-            written.append(text[at])
-            at += 1
+        escaped = text[at + 1:at + 2]
+        if not escaped:
+            raise Refusal(f"L2 UnclosedText {start}")
+        if escaped not in ESCAPED:
+            raise Refusal(f"L3 BadEscape {at}")
+        written += ESCAPED[escaped]
+        at += 2
 
 
-def end_of(text, start, belongs):
-    at = start
-    while at < len(text) and text[at] < 128 and belongs(chr(text[at])):
-        at += 1
-    return at
+def integer(digits, start):
+    shortest = digits.lstrip(b"0") or b"0"
+    if len(shortest) > 19 or int(shortest) >= 2 ** 63:
+        raise Refusal(f"L4 IntegerTooLarge {start}")
+    return Token("INT", start, int(shortest))
+
+
+def word_token(word, start):
+    return Token(word, start) if word == "_" or word in RESERVED else Token("NAME", start, word)
 
 
 def token_at(text, start):
     """The longest token that begins here, and where it ends."""
-    first = chr(text[start]) if text[start] < 128 else ""
-    if first.isdigit():
-        end = end_of(text, start, str.isdigit)
-        digits = text[start:end].lstrip(b"0") or b"0"
-        if len(digits) > 19 or int(digits) >= 2 ** 63:
-            raise Refusal(f"L4 IntegerTooLarge {start}")
-        return Token("INT", start, int(digits)), end
-    if first == '"':
+    if text.startswith(b'"', start):
         return text_token(text, start)
-    if first.isalpha() or first == "_":
-        end = end_of(text, start, lambda it: it.isalnum() or it == "_")
-        word = text[start:end].decode()
-        is_sign = word == "_" or word in RESERVED
-        return (Token(word, start) if is_sign else Token("NAME", start, word)), end
-    for sign in SIGNS:
-        if text.startswith(sign.encode(), start):
-            return Token(sign, start), start + len(sign)
-    raise Refusal(f"L1 BadCharacter {start}")
+    found = TOKEN.match(text, start)
+    if not found:
+        raise Refusal(f"L1 BadCharacter {start}")
+    match found.lastgroup:
+        case "digits":
+            return integer(found[0], start), found.end()
+        case "word":
+            return word_token(found[0].decode(), start), found.end()
+    return Token(found[0].decode(), start), found.end()
 
 
 def blanks(text, at):
     """Where the blanks and comments end that begin here, and whether a line ends in them."""
-    is_broken = False
-    while at < len(text) and text[at] in b" \t\r\n#":
-        if text[at] == ord("#"):
-            at = (text + b"\n").index(b"\n", at)
-        else:
-            is_broken |= text[at] == ord("\n")
-            at += 1
-    return at, is_broken
+    found = BLANKS.match(text, at)
+    return found.end(), b"\n" in found[0]
 
 
 def tokens(text):

@@ -11,6 +11,8 @@ import sys
 import tempfile
 import threading
 import time
+from collections import deque
+from concurrent.futures import ThreadPoolExecutor
 from functools import partial
 from subprocess import PIPE
 from typing import NamedTuple
@@ -19,6 +21,8 @@ from typing import NamedTuple
 SECONDS, MOST = 60, 1 << 24
 # How long a session that differs is made shorter.
 SHORTENING = 300
+# For how many items work is under way at once.
+AHEAD = 4
 
 
 def bytes_of(given):
@@ -198,8 +202,23 @@ def deep(work):
     threading.stack_size(1 << 30)
     thread = threading.Thread(target=lambda: found.append(work()))
     thread.start()
+    # No other thread needs such a stack.
+    threading.stack_size(0)
     thread.join()
     return found[0]
+
+
+def ahead(items, work):
+    """Each item, in order, with what the work on it answers, which is under way for some while the next item is made. A program
+    may have to wait for long where others are at work."""
+    with ThreadPoolExecutor(AHEAD) as pool:
+        waiting = deque()
+        for item in items:
+            waiting.append((item, pool.submit(work, item)))
+            if len(waiting) > AHEAD:
+                item, answer = waiting.popleft()
+                yield item, answer.result()
+        yield from ((item, answer.result()) for item, answer in waiting)
 
 
 def side_by_side(count, work):

@@ -1,5 +1,6 @@
 """Random sessions: commands as they are written, with the replies that the interpreter gives."""
 import random
+import re
 
 from book import Book
 from cells import listed
@@ -28,7 +29,8 @@ class Session:
 
 
 class RandomSession(Session):
-    """What random sessions have in common: they choose events, late ones rather, and give undo, redo, exchange, cone and settle."""
+    """What random sessions have in common: they choose events, late ones rather, give undo, redo, exchange, cone and settle,
+    and ask questions."""
 
     def __init__(self, seed, budgets):
         self.random = random.Random(seed)
@@ -114,10 +116,34 @@ class RandomSession(Session):
         events = self.random.sample(sorted(events), len(events))
         return events[1:] if len(events) > 1 and self.chance(0.2) else events
 
+    def named(self, kind, letter):
+        """A name of something in the world, rather a late one, or any such name."""
+        found = sorted({str(cell[-1]) for cell in self.book.world if cell[0] == kind}, key=lambda it: [*map(int, it[1:].split(f".{letter}"))])
+        if found and self.chance(0.85):
+            return self.random.choices(found, range(1, len(found) + 1))[0]
+        return f"e{self.event()}.{letter}{self.random.choice([0, 0, 1, 2])}"
+
+    def question(self):
+        """Why one event came of another, what an event touched, what a message delivers, what is in an object."""
+        events = [f"e{it.event}" for it in self.book.journal.entries] if self.chance(0.95) else []
+        one, two = (self.random.choice(events) if events else f"e{self.event()}" for _ in range(2))
+        self.give(self.spoilt(0.02, self.random.choice([f"why {one} {two}", f"why {one} {two}", f"event {one}",
+                                                        f"message {self.named('message', 'm')}",
+                                                        f"object {self.named('object', 'o')}"])))
+
+    def refused(self):
+        """Why the pair that the last reply refuses came of one another, if it does refuse one."""
+        found = re.fullmatch("no B1[5-8] [A-Za-z]+ (e[0-9]+) (e[0-9]+)", self.replies[-1]) if self.replies else None
+        if found:
+            self.give(f"why {found[1]} {found[2]}")
+
     def go(self, ways, counts, ends):
         """Goes these ways some times, each with its weight, and gives the last commands."""
         for _ in range(self.random.choice(counts)):
             self.random.choices([*ways], [*ways.values()])[0]()
+            self.refused()
+            if self.chance(0.1):
+                self.question()
             if self.chance(0.05):
                 self.give("show")
         for command in ends:

@@ -14,15 +14,24 @@ def show(book):
         yield f"vat {name} e{number}"
         yield from vat_lines(world, number)
     for message, content in listed(world, "message"):
-        match content.place:
-            case Flying(vat):
-                yield f"msg {message} flying {names[vat]}"
-            case At(vat):
-                yield f"msg {message} at {names[vat]}"
-            case Done(event):
-                yield f"msg {message} done e{event}"
+        yield message_line(names, message, content)
     for promise, published in listed(world, "board"):
         yield f"board {promise} = {shown(published.value)}"
+
+
+def message_line(names, message, content):
+    """Where a message is, among vats by number."""
+    match content.place:
+        case Flying(vat):
+            return f"msg {message} flying {names[vat]}"
+        case At(vat):
+            return f"msg {message} at {names[vat]}"
+        case Done(event):
+            return f"msg {message} done e{event}"
+
+
+def object_text(content):
+    return f"resolver {content.promise}" if isinstance(content, Resolver) else content.node.pattern or "_"
 
 
 def vat_lines(world, number):
@@ -31,8 +40,7 @@ def vat_lines(world, number):
     for slot, value in listed(world, "slot", number):
         yield f" slot {slot} = {shown(value)}"
     for made, content in listed(world, "object", number):
-        told = f"resolver {content.promise}" if isinstance(content, Resolver) else content.node.pattern or "_"
-        yield f" object {made} {told}"
+        yield f" object {made} {object_text(content)}"
     for promise, known in listed(world, "view", number):
         yield f" view {promise} open" if known is OPEN else f" view {promise} = {shown(known)}"
     fences = {cell[2]: fence for cell, fence in world.items() if cell[:2] == ("fence", number)}
@@ -44,9 +52,13 @@ def list_journal(journal):
     if journal.settled:
         yield f"base {journal.settled}"
     for position, entry in enumerate(journal.entries[journal.settled:], journal.settled + 1):
-        mark = "live" if entry.is_live else "undone"
-        causes = "".join(f" e{it.event}" for it in journal.among(entry.causes))
-        yield f"{position} e{entry.event} {mark} {entry.told} causes{causes}"
+        yield line_of(journal, position, entry)
+
+
+def line_of(journal, position, entry):
+    mark = "live" if entry.is_live else "undone"
+    causes = "".join(f" e{it.event}" for it in journal.among(entry.causes))
+    return f"{position} e{entry.event} {mark} {entry.told} causes{causes}"
 
 
 def log_of(book, loop):

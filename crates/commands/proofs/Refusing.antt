@@ -6,7 +6,7 @@ use Rattle.std.proofs.lemmas.List.{take-append-drop}
 use Rattle.commands.specs.declared.command.LineFault.{LineFault}
 use Rattle.commands.specs.declared.command.LineFault.TheVariants.{UnknownCommand, BadWord, LineTooLong, Truncated}
 use Rattle.commands.specs.Words.{is_blank, without_blanks, first_word, behind_word}
-use Rattle.commands.specs.Commands.{Spelled, arrive, forward, turn, step, enabled, show, journal, cone, undo, undo_cone, redo, exchange, settle, birth_of, ask_of, of_message, learn_of, alone, run_of, work_of, log_of, of_event, of_events, of_position, formed, begun_by, is_skipped, spelled_by}
+use Rattle.commands.specs.Commands.{Spelled, arrive, forward, turn, step, enabled, show, journal, cone, undo, undo_cone, redo, exchange, settle, event, message, why_of, object_of, birth_of, ask_of, of_message, learn_of, alone, run_of, work_of, log_of, of_event, of_events, of_position, formed, begun_by, is_skipped, spelled_by}
 use Rattle.commands.specs.Spells.{AreBlanks, BeginsCommand, Spells, HasNoCommand, blank_line, comment_line, LinesAreSkipped, command_words, is_command_word, IsRefused, unknown_word, bad_words, LinesAreRefused}
 use Rattle.commands.proofs.Wording.{blanks_gone}
 use Rattle.commands.proofs.WordCuts.{bare_stays, blanks_dropped, are_front, told_command, cut_command, same_skipped}
@@ -44,7 +44,11 @@ begins word rest =
     one (bytes_eq word (codes "redo")) (of_events redo rest) _ _ (
     one (bytes_eq word (codes "exchange")) (of_position exchange rest) _ _ (
     one (bytes_eq word (codes "settle")) (of_position settle rest) _ _ (
-    none_left)))))))))))))))))))
+    one (bytes_eq word (codes "why")) (why_of rest) _ _ (
+    one (bytes_eq word (codes "event")) (of_event event rest) _ _ (
+    one (bytes_eq word (codes "message")) (of_message message rest) _ _ (
+    one (bytes_eq word (codes "object")) (object_of rest) _ _ (
+    none_left)))))))))))))))))))))))
 
 -- the word of a command begins no comment
 plain_word : (word : List ℕ) (words : List (List ℕ)) → AllByRecursion (λ v. is_skipped v ≡ false) words → list_any (λ v. bytes_eq word v) words ≡ true → is_skipped word ≡ false
@@ -57,7 +61,7 @@ plain_word word (v ∷ vs) all h = by_case (bytes_eq word v) refl h (plain_word 
     by_case false e k later = later k
 
 plain_command : (word : List ℕ) → is_command_word word ≡ true → is_skipped word ≡ false
-plain_command word h = plain_word word command_words (refl, (refl, (refl, (refl, (refl, (refl, (refl, (refl, (refl, (refl, (refl, (refl, (refl, (refl, (refl, (refl, (refl, (refl, (refl, tt))))))))))))))))))) h
+plain_command word h = plain_word word command_words (refl, (refl, (refl, (refl, (refl, (refl, (refl, (refl, (refl, (refl, (refl, (refl, (refl, (refl, (refl, (refl, (refl, (refl, (refl, (refl, (refl, (refl, (refl, tt))))))))))))))))))))))) h
 
 -- a line that begins with a word begins the reading of it
 begun : (line word rest : List ℕ) → BeginsCommand line word rest → is_skipped word ≡ false → spelled_by line ≡ begun_by word rest

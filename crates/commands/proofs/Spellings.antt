@@ -8,10 +8,10 @@ use Rattle.ids.specs.declared.names.EventName.{EventName}
 use Rattle.commands.specs.declared.command.LineFault.{LineFault}
 use Rattle.commands.specs.declared.numbers.PromiseName.{PromiseName}
 use Rattle.commands.specs.Words.{is_blank, is_bare, ends_blank, without_blanks, first_word, behind_word, words_in}
-use Rattle.commands.specs.Numbers.{number_of, message_named, promise_named, event_named, events_named, one_or_more}
-use Rattle.commands.specs.Commands.{Spelled, birth, ask, arrive, forward, learn, turn, step, run, work, enabled, show, journal, log, cone, undo, undo_cone, redo, exchange, settle, is_vat_name, vat_named, log_of, are_vats, at_most, is_empty, of_message, of_event, of_events, learn_of, run_of, from_one_to, work_with, work_of, alone, of_position, ask_of, birth_of, formed, begun_by, is_skipped, spelled_by}
+use Rattle.commands.specs.Numbers.{number_of, message_named, promise_named, object_named, event_named, events_named, one_or_more}
+use Rattle.commands.specs.Commands.{Spelled, birth, ask, arrive, forward, learn, turn, step, run, work, enabled, show, journal, log, cone, undo, undo_cone, redo, exchange, settle, why, event, message, object, why_with, why_of, object_of, is_vat_name, vat_named, log_of, are_vats, at_most, is_empty, of_message, of_event, of_events, learn_of, run_of, from_one_to, work_with, work_of, alone, of_position, ask_of, birth_of, formed, begun_by, is_skipped, spelled_by}
 use Rattle.commands.specs.Inputs.{HasWords}
-use Rattle.commands.specs.Spells.{Spells, BeginsWithWord, BeginsCommand, spells_birth, spells_ask, spells_arrive, spells_forward, spells_turn, spells_learn, spells_run, spells_work, spells_step, spells_enabled, spells_show, spells_journal, spells_log, spells_cone, spells_undo_cone, spells_undo, spells_redo, spells_exchange, spells_settle, LinesSpellCommands}
+use Rattle.commands.specs.Spells.{Spells, BeginsWithWord, BeginsCommand, spells_birth, spells_ask, spells_arrive, spells_forward, spells_turn, spells_learn, spells_run, spells_work, spells_step, spells_enabled, spells_show, spells_journal, spells_log, spells_cone, spells_undo_cone, spells_undo, spells_redo, spells_exchange, spells_settle, spells_why, spells_event, spells_message, spells_object, LinesSpellCommands}
 use Rattle.commands.proofs.Wording.{behind, blanks_gone, words_behind_blanks, words_cut}
 use Rattle.commands.proofs.WordTexts.{words_are_told}
 use Rattle.commands.proofs.WordCuts.{told_word, cut_word, told_command, cut_command, same_skipped}
@@ -133,6 +133,19 @@ spelled_work line u v k n has workers turns =
     ∙ ap (λ (o : Option ℕ). formed (work_with o (turns_in v))) workers
     ∙ ap (λ (o : Option ℕ). formed (work_with (Some k) o)) turns
 
+spelled_why : (line u v : List ℕ) (a b : EventName) → HasWords line (codes "why" ∷ u ∷ v ∷ []) → event_named u ≡ Some a → event_named v ≡ Some b → spelled_by line ≡ Ok (Some (why a b))
+spelled_why line u v a b has one other =
+    let both = begun_words line (codes "why") (u ∷ v ∷ []) refl has in
+    let rest : List ℕ = rest_of line in
+    let first = first_of_words rest u (v ∷ []) (behind_bare (without_blanks line)) both.1 in
+    let last = one_word (behind_word rest) v (behind_bare rest) first.1 in
+    both.0
+    ∙ ap (λ (r : List ℕ). formed (cond (is_empty r) (why_with (event_named (first_word rest)) (event_named (first_word (behind_word rest)))) None)) last.1
+    ∙ ap (λ (y : List ℕ). formed (why_with (event_named (first_word rest)) (event_named y))) last.0
+    ∙ ap (λ (y : List ℕ). formed (why_with (event_named y) (event_named v))) (sym first.0)
+    ∙ ap (λ (o : Option EventName). formed (why_with o (event_named v))) one
+    ∙ ap (λ (o : Option EventName). formed (why_with (Some a) o)) other
+
 spelled_ask : (line x more text : List ℕ) → BeginsCommand line (codes "ask") more → BeginsWithWord more x text → is_vat_name x ≡ true → spelled_by line ≡ Ok (Some (ask x text))
 spelled_ask line x more text begins named name =
     let both = told_command line (codes "ask") more begins in
@@ -176,6 +189,10 @@ spelled line command (spells_undo {w = w} {ws = ws} {events = events} has n) = s
 spelled line command (spells_redo {w = w} {ws = ws} {events = events} has n) = spelled_events redo line (codes "redo") w ws events refl (λ rest. refl) has n
 spelled line command (spells_exchange {w = w} {n = n} has e) = spelled_one number_of exchange line (codes "exchange") w n refl (λ rest. refl) has e
 spelled line command (spells_settle {w = w} {n = n} has e) = spelled_one number_of settle line (codes "settle") w n refl (λ rest. refl) has e
+spelled line command (spells_why {u = u} {v = v} {e = a} {f = b} has one other) = spelled_why line u v a b has one other
+spelled line command (spells_event {w = w} {e = e} has n) = spelled_one event_named event line (codes "event") w e refl (λ rest. refl) has n
+spelled line command (spells_message {w = w} {m = m} has n) = spelled_one message_named message line (codes "message") w m refl (λ rest. refl) has n
+spelled line command (spells_object {w = w} {o = o} has n) = spelled_one object_named object line (codes "object") w o refl (λ rest. refl) has n
 
 -- the first word of a line
 abbrev head_of : List ℕ → List ℕ
@@ -308,6 +325,27 @@ work_back line c has h =
     spells_work (subst (λ (ws : List (List ℕ)). HasWords line (codes "work" ∷ ws)) all has) workers.1 some.0 some.1 number.1 few.0 in
     subst (Spells line) (ap (λ (k : ℕ). work k number.0) some.2 ∙ ap (work is.0) few.1 ∙ is.4) rule
 
+event_some : (text : List ℕ) (a : EventName) → event_named (first_word text) ≡ Some a → (length text == 0) ≡ false
+event_some [] a h = absurd (cc h)
+event_some (b ∷ bs) a h = some_byte b bs
+
+asked_is : (o p : Option EventName) (c : Spelled) → why_with o p ≡ Some c → (a : EventName) × (b : EventName) × (o ≡ Some a) × (p ≡ Some b) × (why a b ≡ c)
+asked_is None p c h = absurd (cc h)
+asked_is (Some a) None c h = absurd (cc h)
+asked_is (Some a) (Some b) c h = (a, b, refl, refl, cc h)
+
+why_back : (line : List ℕ) (c : Spelled) → HasWords line (codes "why" ∷ words_in (rest_of line)) → why_of (rest_of line) ≡ Some c → Spells line c
+why_back line c has h =
+    let rest : List ℕ = rest_of line in
+    let other : List ℕ = behind_word rest in
+    let both = chosen (is_empty (behind_word other)) (why_with (event_named (first_word rest)) (event_named (first_word other))) c h in
+    let is = asked_is (event_named (first_word rest)) (event_named (first_word other)) c both.1 in
+    let last : words_in other ≡ first_word other ∷ [] =
+    words_cut other (behind_bare rest) (event_some other is.1 is.3) ∙ ap (λ (r : List ℕ). first_word other ∷ words_in r) (nothing_is (behind_word other) both.0) in
+    let all : words_in rest ≡ first_word rest ∷ first_word other ∷ [] =
+    words_cut rest (behind_bare (without_blanks line)) (event_some rest is.0 is.2) ∙ ap (λ (ws : List (List ℕ)). first_word rest ∷ ws) last in
+    subst (Spells line) is.4 (spells_why (subst (λ (ws : List (List ℕ)). HasWords line (codes "why" ∷ ws)) all has) is.2 is.3)
+
 named_is : (b : Bool) (w x : List ℕ) → ◌≡◌ {A = Option (List ℕ)} (cond b (Some w) None) (Some x) → (b ≡ true) × (w ≡ x)
 named_is true w x h = (refl, cc h)
 named_is false w x h = absurd (cc h)
@@ -353,7 +391,11 @@ found line c some e =
     branch (bytes_eq w (codes "undo-cone")) (of_event undo_cone r) _ c e15 (λ t h. one_back event_named undo_cone line (codes "undo-cone") c (λ v x k n. spells_undo_cone k n) (has (codes "undo-cone") t) refl h) (λ e16.
     branch (bytes_eq w (codes "redo")) (of_events redo r) _ c e16 (λ t h. events_back redo line (codes "redo") c (λ es v us k n. spells_redo k n) (has (codes "redo") t) h) (λ e17.
     branch (bytes_eq w (codes "exchange")) (of_position exchange r) _ c e17 (λ t h. one_back number_of exchange line (codes "exchange") c (λ v x k n. spells_exchange k n) (has (codes "exchange") t) refl h) (λ e18.
-    branch (bytes_eq w (codes "settle")) (of_position settle r) _ c e18 (λ t h. one_back number_of settle line (codes "settle") c (λ v x k n. spells_settle k n) (has (codes "settle") t) refl h) (λ e19. absurd (cc e19))))))))))))))))))))
+    branch (bytes_eq w (codes "settle")) (of_position settle r) _ c e18 (λ t h. one_back number_of settle line (codes "settle") c (λ v x k n. spells_settle k n) (has (codes "settle") t) refl h) (λ e19.
+    branch (bytes_eq w (codes "why")) (why_of r) _ c e19 (λ t h. why_back line c (has (codes "why") t) h) (λ e20.
+    branch (bytes_eq w (codes "event")) (of_event event r) _ c e20 (λ t h. one_back event_named event line (codes "event") c (λ v x k n. spells_event k n) (has (codes "event") t) refl h) (λ e21.
+    branch (bytes_eq w (codes "message")) (of_message message r) _ c e21 (λ t h. one_back message_named message line (codes "message") c (λ v x k n. spells_message k n) (has (codes "message") t) refl h) (λ e22.
+    branch (bytes_eq w (codes "object")) (object_of r) _ c e22 (λ t h. one_back object_named object line (codes "object") c (λ v x k n. spells_object k n) (has (codes "object") t) refl h) (λ e23. absurd (cc e23))))))))))))))))))))))))
 
 -- a line that is skipped is read as no command
 text_some : (text : List ℕ) → is_skipped text ≡ false → (length text == 0) ≡ false

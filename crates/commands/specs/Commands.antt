@@ -7,7 +7,8 @@ use Rattle.etoken.specs.Names.{is_name}
 use Rattle.ids.specs.declared.names.EventName.{EventName}
 use Rattle.ids.specs.declared.names.MsgId.{MsgId}
 use Rattle.commands.specs.Words.{without_blanks, first_word, behind_word, words_in, ends_blank}
-use Rattle.commands.specs.Numbers.{number_of, behind_tag, message_named, promise_named, event_named, one_or_more, events_in}
+use Rattle.commands.specs.Numbers.{number_of, behind_tag, message_named, promise_named, object_named, event_named, one_or_more, events_in}
+use Rattle.commands.specs.declared.numbers.ObjectName.{ObjectName}
 use Rattle.commands.specs.declared.numbers.PromiseName.{PromiseName}
 use Rattle.commands.specs.declared.command.Command.{Command}
 use Rattle.commands.specs.declared.command.Command.TheVariants as code
@@ -35,6 +36,10 @@ pub data Spelled : Type 0 where
   redo : (events : List EventName) → Spelled
   exchange : (position : ℕ) → Spelled
   settle : (position : ℕ) → Spelled
+  why : (e f : EventName) → Spelled
+  event : (e : EventName) → Spelled
+  message : (m : MsgId) → Spelled
+  object : (o : ObjectName) → Spelled
 
 -- a name of the language that is no longer than a vat's name may be
 abbrev pub is_vat_name : List ℕ → Bool
@@ -101,7 +106,7 @@ learn_of words =
     let promise = behind_word words in
     cond (is_vat_name (first_word words) && is_empty (behind_word promise)) (option_map (learn (first_word words)) (promise_named (first_word promise))) None
 
--- run K
+-- run N
 abbrev pub run_of : List ℕ → Option Spelled
 run_of words = cond (is_empty (behind_word words)) (option_map run (option_and_then (at_most MOST_STEPS) (number_of (first_word words)))) None
 
@@ -140,6 +145,21 @@ of_events command words = option_map command (one_or_more (words_in words))
 abbrev pub of_position : (ℕ → Spelled) → List ℕ → Option Spelled
 of_position command words = cond (is_empty (behind_word words)) (option_map command (number_of (first_word words))) None
 
+abbrev pub why_with : Option EventName → Option EventName → Option Spelled
+why_with None f = None
+why_with (Some e) None = None
+why_with (Some e) (Some f) = Some (why e f)
+
+-- why E F
+abbrev pub why_of : List ℕ → Option Spelled
+why_of words =
+    let other = behind_word words in
+    cond (is_empty (behind_word other)) (why_with (event_named (first_word words)) (event_named (first_word other))) None
+
+-- object O
+abbrev pub object_of : List ℕ → Option Spelled
+object_of words = cond (is_empty (behind_word words)) (option_map object (object_named (first_word words))) None
+
 abbrev pub formed : Option Spelled → Result (Option Spelled) LineFault
 formed (Some command) = Ok (Some command)
 formed None = Err BadWord
@@ -165,7 +185,11 @@ begun_by word words =
     (cond (bytes_eq word (codes "undo-cone")) (formed (of_event undo_cone words))
     (cond (bytes_eq word (codes "redo")) (formed (of_events redo words))
     (cond (bytes_eq word (codes "exchange")) (formed (of_position exchange words))
-    (cond (bytes_eq word (codes "settle")) (formed (of_position settle words)) (Err UnknownCommand)))))))))))))))))))
+    (cond (bytes_eq word (codes "settle")) (formed (of_position settle words))
+    (cond (bytes_eq word (codes "why")) (formed (why_of words))
+    (cond (bytes_eq word (codes "event")) (formed (of_event event words))
+    (cond (bytes_eq word (codes "message")) (formed (of_message message words))
+    (cond (bytes_eq word (codes "object")) (formed (object_of words)) (Err UnknownCommand)))))))))))))))))))))))
 
 -- a blank line or a comment is no command
 abbrev pub is_skipped : List ℕ → Bool
@@ -199,6 +223,10 @@ command_of (code.UndoCone e) = undo_cone e
 command_of (code.Redo words) = redo (events_in words.now)
 command_of (code.Exchange position) = exchange position
 command_of (code.Settle position) = settle position
+command_of (code.Why e f) = why e f
+command_of (code.Event e) = event e
+command_of (code.Message m) = message m
+command_of (code.Object o) = object o
 
 abbrev pub reading_of : Result (Option Command) LineFault → Result (Option Spelled) LineFault
 reading_of (Ok c) = Ok (option_map command_of c)

@@ -1,4 +1,4 @@
--- Numbers, and names of messages, promises and events, in a command.
+-- Numbers, and names of messages, promises, objects and events, in a command.
 use Rattle.std.specs.Prelude.{ℕ, ◌+◌, ◌-◌, ◌*◌, ◌^◌, List, [], ◌∷◌, Bool, not, length, ◌&&◌, ◌==◌, nat_lt, cond, Option, Some, None}
 use Rattle.std.specs.Option.{option_map, option_and_then}
 use Rattle.std.specs.Char.{is_ascii_digit}
@@ -6,6 +6,7 @@ use Rattle.std.specs.List.{list_all, before_first, after_first}
 use Rattle.ids.specs.declared.names.EventName.{EventName}
 use Rattle.ids.specs.declared.names.MsgId.{MsgId}
 use Rattle.commands.specs.Words.{words_in}
+use Rattle.commands.specs.declared.numbers.ObjectName.{ObjectName}
 use Rattle.commands.specs.declared.numbers.PromiseName.{PromiseName}
 
 -- decimal digits, one at least
@@ -53,6 +54,15 @@ promise_from (Some e) (Some i) = Some (record { event = record { 0 = e }; index 
 -- a promise's name, such as e8.p1
 abbrev pub promise_named : List ℕ → Option PromiseName
 promise_named word = promise_from (tagged 101 (before_first is_dot word)) (tagged 112 (after_first is_dot word))
+
+abbrev pub object_from : Option ℕ → Option ℕ → Option ObjectName
+object_from None i = None
+object_from (Some e) None = None
+object_from (Some e) (Some i) = Some (record { event = record { 0 = e }; index = i })
+
+-- an object's name, such as e2.o0
+abbrev pub object_named : List ℕ → Option ObjectName
+object_named word = object_from (tagged 101 (before_first is_dot word)) (tagged 111 (after_first is_dot word))
 
 -- an event's name, such as e7
 abbrev pub event_named : List ℕ → Option EventName

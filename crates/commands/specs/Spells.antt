@@ -6,9 +6,10 @@ use Rattle.ids.specs.declared.names.EventName.{EventName}
 use Rattle.ids.specs.declared.names.MsgId.{MsgId}
 use Rattle.commands.specs.Words.{is_blank, is_bare, ends_blank}
 use Rattle.commands.specs.Inputs.{IsWord, HasWords}
-use Rattle.commands.specs.Numbers.{number_of, message_named, promise_named, event_named, events_named}
+use Rattle.commands.specs.Numbers.{number_of, message_named, promise_named, object_named, event_named, events_named}
+use Rattle.commands.specs.declared.numbers.ObjectName.{ObjectName}
 use Rattle.commands.specs.declared.numbers.PromiseName.{PromiseName}
-use Rattle.commands.specs.Commands.{Spelled, birth, ask, arrive, forward, learn, turn, step, run, work, enabled, show, journal, log, cone, undo, undo_cone, redo, exchange, settle, is_vat_name, are_vats, is_skipped, spelled_by}
+use Rattle.commands.specs.Commands.{Spelled, birth, ask, arrive, forward, learn, turn, step, run, work, enabled, show, journal, log, cone, undo, undo_cone, redo, exchange, settle, why, event, message, object, is_vat_name, are_vats, is_skipped, spelled_by}
 use Rattle.commands.specs.declared.command.LineFault.{LineFault}
 use Rattle.commands.specs.declared.command.LineFault.TheVariants.{UnknownCommand, BadWord}
 use Rattle.commands.specs.declared.command.TheConstants.{MOST_LINES, MOST_STEPS, MOST_WORKERS, MOST_TURNS}
@@ -45,7 +46,7 @@ pub data Spells : List ℕ → Spelled → Type 0 where
       → HasWords line (codes "learn" ∷ x ∷ w ∷ []) → is_vat_name x ≡ true → promise_named w ≡ Some p → Spells line (learn x p)
   -- log NAME
   spells_log : {line x : List ℕ} → HasWords line (codes "log" ∷ x ∷ []) → is_vat_name x ≡ true → Spells line (log x)
-  -- run K
+  -- run N
   spells_run : {line w : List ℕ} {n : ℕ} → HasWords line (codes "run" ∷ w ∷ []) → number_of w ≡ Some n → n ≤ MOST_STEPS → Spells line (run n)
   -- work K N
   spells_work : {line u v : List ℕ} {k n : ℕ} → HasWords line (codes "work" ∷ u ∷ v ∷ []) → number_of u ≡ Some k → 1 ≤ k → k ≤ MOST_WORKERS
@@ -66,6 +67,13 @@ pub data Spells : List ℕ → Spelled → Type 0 where
   -- exchange P, settle P
   spells_exchange : {line w : List ℕ} {n : ℕ} → HasWords line (codes "exchange" ∷ w ∷ []) → number_of w ≡ Some n → Spells line (exchange n)
   spells_settle : {line w : List ℕ} {n : ℕ} → HasWords line (codes "settle" ∷ w ∷ []) → number_of w ≡ Some n → Spells line (settle n)
+  -- why E F
+  spells_why : {line u v : List ℕ} {e f : EventName}
+      → HasWords line (codes "why" ∷ u ∷ v ∷ []) → event_named u ≡ Some e → event_named v ≡ Some f → Spells line (why e f)
+  -- event E, message M, object O
+  spells_event : {line w : List ℕ} {e : EventName} → HasWords line (codes "event" ∷ w ∷ []) → event_named w ≡ Some e → Spells line (event e)
+  spells_message : {line w : List ℕ} {m : MsgId} → HasWords line (codes "message" ∷ w ∷ []) → message_named w ≡ Some m → Spells line (message m)
+  spells_object : {line w : List ℕ} {o : ObjectName} → HasWords line (codes "object" ∷ w ∷ []) → object_named w ≡ Some o → Spells line (object o)
 
 -- a line is read as the command that it spells, and as no other
 abbrev pub LinesSpellCommands : Type 0
@@ -84,7 +92,8 @@ LinesAreSkipped = (line : List ℕ) → HasNoCommand line ↔ (spelled_by line �
 abbrev pub command_words : List (List ℕ)
 command_words =
     codes "vat" ∷ codes "ask" ∷ codes "arrive" ∷ codes "forward" ∷ codes "learn" ∷ codes "turn" ∷ codes "step" ∷ codes "run" ∷ codes "work"
-    ∷ codes "enabled" ∷ codes "show" ∷ codes "journal" ∷ codes "log" ∷ codes "cone" ∷ codes "undo" ∷ codes "undo-cone" ∷ codes "redo" ∷ codes "exchange" ∷ codes "settle" ∷ []
+    ∷ codes "enabled" ∷ codes "show" ∷ codes "journal" ∷ codes "log" ∷ codes "cone" ∷ codes "undo" ∷ codes "undo-cone" ∷ codes "redo" ∷ codes "exchange" ∷ codes "settle"
+    ∷ codes "why" ∷ codes "event" ∷ codes "message" ∷ codes "object" ∷ []
 
 abbrev pub is_command_word : List ℕ → Bool
 is_command_word word = list_any (λ v. bytes_eq word v) command_words

@@ -5,10 +5,11 @@ ghost use Rattle.commands.specs.Numbers.{number_of};
 ghost use Rattle.commands.specs.Words.{words_in};
 ghost use Rattle.ids.specs.declared.names.EventName.{EventName};
 ghost use Rattle.ids.specs.declared.names.MsgId.{MsgId};
-ghost use Rattle.commands.specs.Commands.{Spelled, is_vat_name, at_most, from_one_to, is_among, are_vats, earlier_of, lines_of, birth_of, ask_of, arrive, forward, learn_of, turn, step, run_of, work_of, enabled, show, journal, log_of, cone, undo, undo_cone, redo, exchange, settle, of_position, alone, of_message, of_event, of_events, is_skipped, begun_by, spelled_by, command_of, reading_of, fault_text};
+ghost use Rattle.commands.specs.Commands.{Spelled, is_vat_name, at_most, from_one_to, is_among, are_vats, earlier_of, lines_of, birth_of, ask_of, arrive, forward, learn_of, turn, step, run_of, work_of, enabled, show, journal, log_of, cone, undo, undo_cone, redo, exchange, settle, why_of, event, message, object_of, of_position, alone, of_message, of_event, of_events, is_skipped, begun_by, spelled_by, command_of, reading_of, fault_text};
 
 use crate::numbers::{
-    PromiseName, are_events, behind_tag, event_named, message_named, number, promise_named,
+    ObjectName, PromiseName, are_events, behind_tag, event_named, message_named, number,
+    object_named, promise_named,
 };
 use crate::words::{cut_word, ends_blank, skip_blanks};
 use etoken::names::is_name;
@@ -83,6 +84,14 @@ pub enum Command<'a> {
     Exchange(usize),
     /// All entries up to a position, counted from 1, are to be settled.
     Settle(usize),
+    /// How the later of two events came of the earlier is to be told.
+    Why(EventName, EventName),
+    /// The cells that an event touched are to be told.
+    Event(EventName),
+    /// What a message delivers is to be told.
+    Message(MsgId),
+    /// What is in an object is to be told.
+    Object(ObjectName),
 }
 
 /// Why a line is no command.
@@ -386,6 +395,41 @@ fn settle(words: &str) -> Option<Command<'_>>
     Some(Command::Settle(position_named(words)?))
 }
 
+fn why(words: &str) -> Option<Command<'_>>
+    ensures { option_map command_of result ≡ why_of words.now }
+{
+    let (first, behind) = cut_word(words);
+    let (second, end) = cut_word(behind);
+    if !end.is_empty() {
+        return None;
+    }
+    let first = event_named(first)?;
+    let second = event_named(second)?;
+    Some(Command::Why(first, second))
+}
+
+fn event(words: &str) -> Option<Command<'_>>
+    ensures { option_map command_of result ≡ of_event event words.now }
+{
+    Some(Command::Event(one_event(words)?))
+}
+
+fn message(words: &str) -> Option<Command<'_>>
+    ensures { option_map command_of result ≡ of_message message words.now }
+{
+    Some(Command::Message(one_message(words)?))
+}
+
+fn object(words: &str) -> Option<Command<'_>>
+    ensures { option_map command_of result ≡ object_of words.now }
+{
+    let (name, end) = cut_word(words);
+    if !end.is_empty() {
+        return None;
+    }
+    Some(Command::Object(object_named(name)?))
+}
+
 fn is_skipped(text: &[u8]) -> bool
     ensures { result ≡ is_skipped text.now }
 {
@@ -422,6 +466,10 @@ fn begun_by<'a>(word: &str, words: &'a str) -> Said<'a>
         "redo" => redo(words),
         "exchange" => exchange(words),
         "settle" => settle(words),
+        "why" => why(words),
+        "event" => event(words),
+        "message" => message(words),
+        "object" => object(words),
         _ => return Err(LineFault::UnknownCommand),
     };
     match command {

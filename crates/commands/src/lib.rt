@@ -7,5 +7,5 @@ pub mod script;
 pub mod theorems;
 mod words;
 
-pub use numbers::{PromiseName, events_in};
+pub use numbers::{ObjectName, PromiseName, events_in};
 pub use words::all_words;

@@ -1,9 +1,9 @@
-// Numbers, and names of messages, promises and events, in a command.
+// Numbers, and names of messages, promises, objects and events, in a command.
 ghost use Rattle.std.specs.Prelude.{◌≡◌, ◌<◌, Some, IfOk, is_some};
 ghost use Rattle.std.specs.Char.{is_ascii_digit};
 ghost use Rattle.std.specs.Option.{option_map};
 ghost use Rattle.std.specs.List.{list_all};
-ghost use Rattle.commands.specs.Numbers.{number_of, behind_tag, tagged, message_named, promise_named, event_named, one_or_more, events_in, is_numeral};
+ghost use Rattle.commands.specs.Numbers.{number_of, behind_tag, tagged, message_named, promise_named, object_named, event_named, one_or_more, events_in, is_numeral};
 ghost use Rattle.commands.specs.Words.{words_in};
 
 use crate::words::{cut_word, skip_blanks};
@@ -77,6 +77,26 @@ pub(crate) fn promise_named(word: &str) -> Option<PromiseName>
     let event = tagged('e', event)?;
     let index = tagged('p', index)?;
     Some(PromiseName {
+        event: EventName(u64::from(event)),
+        index,
+    })
+}
+
+/// An object's name, such as `e2.o0`: its event, and its number among that event's objects. Of which vat it is, no name tells.
+#[derive(Clone, Copy)]
+pub struct ObjectName {
+    pub event: EventName,
+    pub index: u32,
+}
+
+/// An object's name, such as `e2.o0`.
+pub(crate) fn object_named(word: &str) -> Option<ObjectName>
+    ensures { result ≡ object_named word.now }
+{
+    let (event, index) = word.split_once('.')?;
+    let event = tagged('e', event)?;
+    let index = tagged('o', index)?;
+    Some(ObjectName {
         event: EventName(u64::from(event)),
         index,
     })

@@ -24,8 +24,9 @@ pub const MAX_OBJECTS: usize = 4_096;
 /// How many messages a turn may make.
 pub const MAX_MESSAGES: usize = 4_096;
 
-/// A turn under way, on a copy of its vat's state that it changes in place. Where a call that works on it fails for want of memory,
-/// the turn is let go, and no contract says where it then stands, but that of `open_escape`.
+/// A turn under way. It changes a draft, which shares its vat's state and has cells of its own where the turn reached them. Where a
+/// call that works on it fails for want of memory, the turn is let go, and no contract says where it then stands, but that of
+/// `open_escape`.
 #[derive(Drop)]
 pub struct Working {
     pub alloc: Global,

@@ -39,6 +39,10 @@ Commands, one a line:
   redo E..                  does events again where they stood
   exchange P                lets the entry at position P and the next one change places
   settle P                  settles the entries up to position P, which can then not be taken back
+  why E F                   how the later of two events came of the earlier
+  event E                   the cells that the event E touched, each with who wrote it before
+  message M                 what the message M waits for, and what it delivers
+  object O                  what the object O captured, and its methods
 
 For example:
   vat a () 1

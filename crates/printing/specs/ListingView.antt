@@ -8,6 +8,7 @@ use Rattle.causality.specs.Selections.{numbers}
 use Rattle.printing.specs.Listing.{entry_line, entry_lines, base_text}
 use Rattle.printing.specs.Show.{name_of}
 use Rattle.printing.specs.declared.rows.Row.{Row}
+use Rattle.printing.specs.declared.rows.ListedEntry.{ListedEntry}
 use Rattle.printing.specs.declared.rows.Listing.{Listing}
 
 -- the line of an item with these causes
@@ -27,3 +28,7 @@ rows_text names first rows = entry_lines names first (map row_line rows)
 -- how many entries are settled, and the others
 abbrev pub listing_text : Listing → List ℕ
 listing_text l = base_text l.settled ++ rows_text (name_of l.vats.entries) (l.settled + 1) l.rows.items
+
+-- the line of an entry at its position
+abbrev pub listed_text : ListedEntry → List ℕ
+listed_text l = row_text (name_of l.vats.entries) l.position l.row

@@ -1,17 +1,17 @@
 // What a listing of a journal takes memory for.
-ghost use Rattle.std.specs.Prelude.{◌≡◌, length, map, IfOk, OnOk};
+ghost use Rattle.std.specs.Prelude.{◌≡◌, ◌+◌, ◌<◌, length, map, slice_get, Some, IfOk, OnOk};
 ghost use Rattle.ids.specs.declared.names.VatNo.{VatNo};
 ghost use Rattle.worldcells.specs.EventView.{event_of};
 ghost use Rattle.worldcells.specs.Events.{event_in};
-ghost use Rattle.journal.specs.Items.{item_of};
+ghost use Rattle.journal.specs.Items.{Item, item_of};
 ghost use Rattle.journal.specs.Journals.{items_of, settled_item};
 ghost use Rattle.journal.specs.Lines.{line_of, lines_of};
 ghost use Rattle.causality.specs.Journals.{IsJournal};
-ghost use Rattle.printing.specs.Listing.{born, born_as, journal_text};
-ghost use Rattle.printing.specs.ListingView.{row_line, listing_text};
+ghost use Rattle.printing.specs.Listing.{born, born_as, entry_line, journal_text};
+ghost use Rattle.printing.specs.ListingView.{row_line, listed_text, listing_text};
 ghost use Rattle.printing.specs.Show.{name_of};
 
-use crate::rows::{Listing, Row};
+use crate::rows::{ListedEntry, Listing, Row};
 use causality::causes::{NameIndex, causes};
 use ids::names::VatNo;
 use ids::text::Text;
@@ -89,5 +89,30 @@ pub fn listing_of<'j>(alloc: Global, journal: Journal<'j>) -> Result<Listing<'j>
         settled: journal.settled.len(),
         vats,
         rows,
+    })
+}
+
+/// The entry at a place behind the settled ones, ready to be listed.
+///
+/// # Errors
+/// Memory ran out for its causes, or for a name.
+pub fn listed_entry<'j>(
+    alloc: Global,
+    journal: Journal<'j>,
+    place: usize,
+) -> Result<ListedEntry<'j>, AllocError>
+    requires journal { IsJournal (items_of journal) }
+    requires there { place < length journal.entries.now }
+    ensures { IfOk result (λ listed. (i : Item) → slice_get (map item_of journal.entry.entries.now) place ≡ Some i → listed_text listed ≡ entry_line (born (lines_of (items_of journal.entry))) (length journal.entry.settled.now + place + 1) (line_of (items_of journal.entry) i)) }
+{
+    let index = NameIndex::new(alloc, journal)?;
+    let vats = vats_born(alloc, journal)?;
+    let causes = causes(alloc, journal, &index, place)?;
+    let position = journal.settled.len() + place + 1;
+    let entry = &journal.entries[place];
+    Ok(ListedEntry {
+        position,
+        vats,
+        row: Row { entry, causes },
     })
 }

@@ -4,12 +4,12 @@ ghost use Rattle.ids.specs.Names.{message_text, promise_text};
 ghost use Rattle.worldcells.specs.EventView.{act_of};
 ghost use Rattle.journal.specs.Items.{is_live};
 ghost use Rattle.printing.specs.Listing.{act_text, learn_text, mark_text, names_text, base_text, cone_text};
-ghost use Rattle.printing.specs.ListingView.{row_text, rows_text, listing_text};
+ghost use Rattle.printing.specs.ListingView.{row_text, rows_text, listed_text, listing_text};
 ghost use Rattle.printing.specs.Show.{name_of};
 ghost use Rattle.streams.specs.Outlet.{Tells};
 
 use crate::names::{put_event, put_message, put_promise};
-use crate::rows::{Listing, Row};
+use crate::rows::{ListedEntry, Listing, Row};
 use ids::names::{EventName, MsgId, PromId, VatNo};
 use ids::text::Text;
 use journal::entry::Mark;
@@ -105,6 +105,13 @@ fn put_row<W: Write>(
     out.put(" causes");
     put_names(&row.causes, out);
     out.put("\n");
+}
+
+/// Puts the line of an entry, with its position from 1.
+pub fn put_entry<W: Write>(listed: &ListedEntry<'_>, out: &mut Outlet<W>)
+    ensures { Tells W.contents out.old out.new (listed_text listed.now) }
+{
+    put_row(listed.position, &listed.row, &listed.vats, out);
 }
 
 /// Puts how many entries are settled, if some are.

@@ -39,7 +39,7 @@ pub struct Picture {
 }
 
 /// The vats in order of birth, each with its name.
-pub(crate) fn vats_by_birth(
+pub fn vats_by_birth(
     alloc: Global,
     names: &BTreeMap<Text, Vat>,
 ) -> Result<BTreeMap<VatNo, Text>, AllocError>

@@ -25,3 +25,13 @@ pub struct Listing<'j> {
     // Positions can be counted.
     ghost few: { settled < 2 ^ 63 },
 }
+
+/// An entry that is not settled, with all that its line takes memory for.
+#[derive(Drop)]
+pub struct ListedEntry<'j> {
+    /// Where it stands, counted from 1.
+    pub(crate) position: usize,
+    /// The names of the vats that were born.
+    pub(crate) vats: BTreeMap<VatNo, Text>,
+    pub(crate) row: Row<'j>,
+}

@@ -37,7 +37,8 @@ fn put_slot_bound<W: Write>(slot: SlotId, out: &mut Outlet<W>)
     put_slot(slot, out);
 }
 
-fn put_binding<W: Write>(binding: &Binding, out: &mut Outlet<W>)
+/// Puts what a name stands for: a value, or the slot of a variable.
+pub fn put_binding<W: Write>(binding: &Binding, out: &mut Outlet<W>)
     ensures { Tells W.contents out.old out.new (content_text (bound (bind_of binding.now))) }
 {
     match binding {
@@ -84,7 +85,8 @@ fn put_slots<W: Write>(slots: &BTreeMap<SlotId, Value>, out: &mut Outlet<W>)
     }
 }
 
-fn put_pattern<W: Write>(pattern: &Pattern, out: &mut Outlet<W>)
+/// Puts what a pattern binds.
+pub fn put_pattern<W: Write>(pattern: &Pattern, out: &mut Outlet<W>)
     ensures { Tells W.contents out.old out.new (bound_name pattern.now) }
 {
     match pattern {
@@ -100,7 +102,8 @@ fn put_resolver<W: Write>(promise: PromId, out: &mut Outlet<W>)
     put_promise(promise, out);
 }
 
-fn put_made<W: Write>(object: &Made, out: &mut Outlet<W>)
+/// Puts what an object is: its own name in its methods, or which promise it resolves.
+pub fn put_made<W: Write>(object: &Made, out: &mut Outlet<W>)
     ensures { Tells W.contents out.old out.new (content_text (made (object_of object.now))) }
 {
     match object {
@@ -163,7 +166,7 @@ fn put_views<W: Write>(views: &BTreeMap<PromId, View>, out: &mut Outlet<W>)
 }
 
 /// Puts names of messages, each behind a space.
-fn put_names<W: Write>(names: &[MsgId], out: &mut Outlet<W>)
+pub fn put_names<W: Write>(names: &[MsgId], out: &mut Outlet<W>)
     ensures { Tells W.contents out.old out.new (names_text names.now) }
 {
     for name in names {
@@ -271,7 +274,8 @@ fn put_place<W: Write>(place: Place, vats: &BTreeMap<VatNo, Text>, out: &mut Out
     }
 }
 
-fn put_message_line<W: Write>(
+/// Puts where a message is, among vats with their names.
+pub fn put_message_line<W: Write>(
     name: MsgId,
     message: &Message,
     vats: &BTreeMap<VatNo, Text>,

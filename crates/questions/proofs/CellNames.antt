@@ -3,6 +3,7 @@ use Rattle.std.proofs.Common.{◌≡◌, true, refl, sym, ap, ap₂, ◌∙◌}
 use Rattle.std.specs.Cmp.{both_ways, tied_itself}
 use Rattle.std.specs.Ordering.{is_eq}
 use Rattle.std.proofs.lemmas.Bool.{and_parts}
+use Rattle.std.proofs.lemmas.Map.Lookups.{CmpEqualImpliesEq}
 use Rattle.ids.specs.CellKeys.{same_key}
 use Rattle.ids.specs.KeyLaws.{exact_text, exact_vat, exact_slot, exact_object, exact_message, exact_promise, exact_reference}
 use Rattle.ids.specs.declared.cells.CellKey.{CellKey}
@@ -58,6 +59,10 @@ key_back (key.View v p) = refl
 key_back (key.Fence v r) = refl
 key_back (key.Msg m) = refl
 key_back (key.Board p) = refl
+
+-- cells that are equal in their order are one
+pub exact_cells : CmpEqualImpliesEq cell_cmp
+exact_cells a b h = exact a b (matches_eq-law a b ∙ ap is_eq h)
 
 -- THE LEMMA
 pub cells_same : (a b : Cell) → is_eq (cell_cmp a b) ≡ same_key (key_of a) (key_of b)

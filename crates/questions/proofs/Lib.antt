@@ -8,7 +8,9 @@ pub mod Explaining
 pub mod Standings
 pub mod CellNames
 pub mod Touching
+pub mod Telling
 pub mod Looking
 pub mod Reasons
 pub mod Linking
 pub mod Writing
+pub mod Wholes

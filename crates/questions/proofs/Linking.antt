@@ -1,9 +1,10 @@
--- The steps of chains, and where entries cross, as they are written.
-use Rattle.std.proofs.Common.{◌≡◌, ℕ, zero, suc, ◌+◌, ◌-◌, ◌<◌, ◌≤◌, Bool, true, false, cond, List, [], ◌∷◌, ◌++◌, drop, length, get_or, Option, Some, None, is_some, Result, Ok, Err, is_ok, OnOk, slice_get, refl, sym, ap, ◌∙◌, subst, append-nil, append_assoc, eq-eqb, arith, codes}
+-- The steps of chains, and where entries cross.
+use Rattle.std.proofs.Common.{◌≡◌, ℕ, zero, suc, ◌+◌, ◌-◌, ◌<◌, ◌≤◌, Bool, true, false, cond, List, [], ◌∷◌, ◌++◌, drop, length, get_or, Option, Some, None, is_some, slice_get, refl, sym, ap, ◌∙◌, subst, append-nil, append_assoc, eq-eqb, arith, codes}
 use Rattle.std.specs.BTreeMap.{BTreeMap, IsOrdered}
 use Rattle.std.specs.Map.{lookup}
 use Rattle.std.specs.Ordering.{is_eq}
 use Rattle.std.proofs.lemmas.Bool.{false≢true}
+use Rattle.std.proofs.lemmas.List.{length_push}
 use Rattle.history.specs.Chains.{is_name, wrote}
 use Rattle.history.specs.Subject.{touches}
 use Rattle.ids.specs.declared.cells.CellKey.{CellKey}
@@ -16,9 +17,10 @@ use Rattle.questions.specs.Cells.{key_of, cell_cmp}
 use Rattle.questions.specs.Chains.{Step, Chain, chain_none, chain_more}
 use Rattle.questions.specs.TouchedView.{seen_as, told_entries, SeenIn}
 use Rattle.questions.specs.Why.{step_text, is_by, crossed_with, first_crossed, Steps, steps_none, steps_more, Crossing, is_crossed, is_neither}
-use Rattle.questions.specs.WhyView.{crossed_in, Link, OpenChain, Written}
+use Rattle.questions.specs.WhyView.{crossed_in, link_text, links_text, IsLink, AreLinks, OpenChain}
 use Rattle.questions.specs.Writers.{Told, told, writer, first_cell}
 use Rattle.questions.specs.declared.cell.Cell.{Cell}
+use Rattle.questions.specs.declared.reason.Link.{Link}
 use Rattle.questions.specs.declared.touched.Seen.{Seen}
 use Rattle.questions.proofs.CellNames.{cell_at, key_back}
 use Rattle.questions.proofs.Consequences.{line_at}
@@ -46,23 +48,19 @@ module _ (items : List Item) (journal : IsJournal items) (p q : ℕ) (a b : Item
   second = line_of items b
 
   module _ (m : BTreeMap Cell Seen) (ordered : IsOrdered cell_cmp m) (seen : (c : Cell) → SeenIn b.lasts b.kept (key_of c) (seen_as m.entries c)) where
-    -- a step is written by its first cell
-    pub link_told : (c : Cell) → first_cell (is_by a.event.name) (told_entries m.entries) ≡ Some c → (old now : List ℕ) → now ≡ old ++ step_text a.event.name b.event.name c → Written (Link (lines_of items) p q) old now
-    link_told c is old now text = (
-      step_text a.event.name b.event.name c,
-      record {
-        from = first;
-        to = second;
-        starts = line_at items p a at;
-        ends = line_at items q b there;
-        cells = told_entries m.entries;
-        listed = cells_told items journal q b there m ordered seen;
-        c = c;
-        first = is;
-        whole = refl;
-      },
-      text,
-    )
+    -- a step goes by its first cell
+    pub link_is : (c : Cell) → first_cell (is_by a.event.name) (told_entries m.entries) ≡ Some c → IsLink (lines_of items) p q (record { from = a.event.name; to = b.event.name; cell = c })
+    link_is c is = record {
+      from = first;
+      to = second;
+      starts = line_at items p a at;
+      ends = line_at items q b there;
+      leaves = refl;
+      reaches = refl;
+      cells = told_entries m.entries;
+      listed = cells_told items journal q b there m ordered seen;
+      first = is;
+    }
 
     -- and where there is a step there is such a cell
     pub link_there : (k : CellKey) → Step (lines_of items) p k q → first_cell (is_by a.event.name) (told_entries m.entries) ≡ None → ⊥
@@ -84,16 +82,12 @@ module _ (items : List Item) (journal : IsJournal items) (p q : ℕ) (a b : Item
       crossed_same : first_cell (crossed_in n.entries) (told_entries m.entries) ≡ first_crossed (lines_of items) first.entry (told_entries m.entries)
       crossed_same = λ j. first_cell (λ c t. crossed_with (sym (seen_told items journal p a at n.entries seen_first c) j) t) (told_entries m.entries)
 
-      -- the first cell at which they cross is written, or that there is none
-      pub crossing_told : (c : Cell) → first_cell (crossed_in n.entries) (told_entries m.entries) ≡ Some c → (old now : List ℕ) → now ≡ (old ++ codes "crossed\n") ++ step_text a.event.name b.event.name c → Written (Crossing (lines_of items) p q) old now
-      crossing_told c is old now text = (
-        codes "crossed\n" ++ step_text a.event.name b.event.name c,
-        is_crossed (line_at items p a at) (line_at items q b there) (cells_told items journal q b there m ordered seen) (sym crossed_same ∙ is),
-        text ∙ append_assoc old (codes "crossed\n") (step_text a.event.name b.event.name c),
-      )
+      -- the first cell at which they cross, or that there is none
+      pub crossing_is : (c : Cell) → first_cell (crossed_in n.entries) (told_entries m.entries) ≡ Some c → Crossing (lines_of items) p q (codes "crossed\n" ++ step_text a.event.name b.event.name c)
+      crossing_is c is = is_crossed (line_at items p a at) (line_at items q b there) (cells_told items journal q b there m ordered seen) (sym crossed_same ∙ is)
 
-      pub crossing_none : first_cell (crossed_in n.entries) (told_entries m.entries) ≡ None → (old now : List ℕ) → now ≡ old ++ codes "none\n" → Written (Crossing (lines_of items) p q) old now
-      crossing_none is old now text = (codes "none\n", is_neither (line_at items p a at) (line_at items q b there) (cells_told items journal q b there m ordered seen) (sym crossed_same ∙ is), text)
+      pub crossing_none : first_cell (crossed_in n.entries) (told_entries m.entries) ≡ None → Crossing (lines_of items) p q (codes "none\n")
+      crossing_none is = is_neither (line_at items p a at) (line_at items q b there) (cells_told items journal q b there m ordered seen) (sym crossed_same ∙ is)
 
 -- ---- the steps along a chain
 
@@ -153,28 +147,33 @@ one_left (x ∷ []) zero h = (x, refl)
 one_left (x ∷ y ∷ xs) zero h = absurd (omega arith)
 one_left (x ∷ xs) (suc i) h = one_left xs i (omega arith)
 
-pub steps_begin : (lines : List Line) (places : List ℕ) (i : ℕ) (text : List ℕ) → suc i ≡ length places → Written (Steps lines (drop i places)) text text
-steps_begin lines places i text h = let o = one_left places i h in ([], subst (λ (ps : List ℕ). Steps lines ps []) (sym o.1) steps_none, sym (append-nil text))
+pub links_begin : (lines : List Line) (places : List ℕ) (i : ℕ) (links : List Link) → links ≡ [] → suc i ≡ length places → AreLinks lines (drop i places) links
+links_begin lines places i links none h =
+    let o = one_left places i h in
+    subst (AreLinks lines (drop i places)) (sym none) (record { steps = subst (λ (ps : List ℕ). Steps lines ps []) (sym o.1) steps_none; count = sym (ap length o.1) })
 
-pub steps_next : (lines : List Line) (places : List ℕ) (left : ℕ) (old mid now : List ℕ) → 0 < left → left < length places → Written (Steps lines (drop left places)) old mid
-    → Written (Link lines (get_or places left 0) (get_or places (left - 1) 0)) mid now → Written (Steps lines (drop (left - 1) places)) old now
-steps_next lines places zero old mid now some lt w l = absurd (omega arith)
-steps_next lines places (suc i) old mid now some lt w l =
+links_text-append : (links : List Link) (l : Link) → links_text (links ++ l ∷ []) ≡ links_text links ++ link_text l
+links_text-append [] l = append-nil (link_text l)
+links_text-append (k ∷ links) l = ap (λ t. link_text k ++ t) (links_text-append links l) ∙ sym (append_assoc (link_text k) (links_text links) (link_text l))
+
+pub links_next : (lines : List Line) (places : List ℕ) (left : ℕ) (links now : List Link) (l : Link) → now ≡ links ++ l ∷ [] → 0 < left → left < length places → AreLinks lines (drop left places) links
+    → IsLink lines (get_or places left 0) (get_or places (left - 1) 0) l → AreLinks lines (drop (left - 1) places) now
+links_next lines places zero links now l pushed some lt are link = absurd (omega arith)
+links_next lines places (suc i) links now l pushed some lt are link =
     let less : suc i - 1 ≡ i = omega arith in
     let before : i < length places = omega arith in
-    let link = subst (λ n. Written (Link lines (get_or places (suc i) 0) (get_or places n 0)) mid now) less l in
-    let k = link.1 in
-    let steps : Steps lines (get_or places (suc i) 0 ∷ drop (suc (suc i)) places) w.0 = subst (λ (ps : List ℕ). Steps lines ps w.0) (drop_here places (suc i) 0 lt) w.1 in
-    let more : Steps lines (get_or places i 0 ∷ get_or places (suc i) 0 ∷ drop (suc (suc i)) places) (w.0 ++ step_text (name_of k.from) (name_of k.to) k.c) = steps_more steps k.starts k.ends k.listed k.first in
+    let k = subst (λ n. IsLink lines (get_or places (suc i) 0) (get_or places n 0) l) less link in
+    let steps : Steps lines (get_or places (suc i) 0 ∷ drop (suc (suc i)) places) (links_text links) = subst (λ (ps : List ℕ). Steps lines ps (links_text links)) (drop_here places (suc i) 0 lt) are.steps in
+    let more : Steps lines (get_or places i 0 ∷ get_or places (suc i) 0 ∷ drop (suc (suc i)) places) (links_text links ++ step_text (name_of k.from) (name_of k.to) l.cell) = steps_more steps k.starts k.ends k.listed k.first in
     let all : get_or places i 0 ∷ get_or places (suc i) 0 ∷ drop (suc (suc i)) places ≡ drop i places =
     ap (λ (ps : List ℕ). get_or places i 0 ∷ ps) (sym (drop_here places (suc i) 0 lt)) ∙ sym (drop_here places i 0 before) in
-    subst (λ n. Written (Steps lines (drop n places)) old now) (sym less) (
-      w.0 ++ step_text (name_of k.from) (name_of k.to) k.c,
-      subst (λ (ps : List ℕ). Steps lines ps (w.0 ++ step_text (name_of k.from) (name_of k.to) k.c)) all more,
-      link.2 ∙ ap (λ t. mid ++ t) k.whole ∙ ap (λ t. t ++ step_text (name_of k.from) (name_of k.to) k.c) w.2 ∙ append_assoc old w.0 (step_text (name_of k.from) (name_of k.to) k.c),
-    )
-
--- a text that was written, if there was room
-pub pushed : {A E : Type 0} (r : Result A E) (old text now : List ℕ) → now ≡ cond (is_ok r) (old ++ text) old → OnOk r (now ≡ old ++ text)
-pushed (Ok x) old text now h = h
-pushed (Err e) old text now h = tt
+    let text : links_text links ++ step_text (name_of k.from) (name_of k.to) l.cell ≡ links_text now =
+    ap (λ e. links_text links ++ step_text e (name_of k.to) l.cell) (sym k.leaves) ∙ ap (λ e. links_text links ++ step_text l.from e l.cell) (sym k.reaches) ∙ sym (links_text-append links l) ∙ ap links_text (sym pushed) in
+    let pushed_one : length now ≡ length (links ++ l ∷ []) = ap length pushed in
+    let one_more : length (links ++ l ∷ []) ≡ length links + 1 = length_push links l in
+    let so_far : suc (length links) ≡ length (drop (suc i) places) = are.count in
+    let longer : length (drop i places) ≡ suc (length (drop (suc i) places)) = ap length (drop_here places i 0 before) in
+    subst (λ n. AreLinks lines (drop n places) now) (sym less) (record {
+      steps = subst (λ (ps : List ℕ). Steps lines ps (links_text now)) all (subst (Steps lines (get_or places i 0 ∷ get_or places (suc i) 0 ∷ drop (suc (suc i)) places)) text more);
+      count = omega arith;
+    })

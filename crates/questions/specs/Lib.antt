@@ -6,4 +6,10 @@ pub mod ChainView
 pub mod Refusals
 pub mod Why
 pub mod WhyView
+pub mod Events
+pub mod EventsView
+pub mod Deliveries
+pub mod DeliveriesView
+pub mod Objects
+pub mod ObjectView
 pub mod Laws

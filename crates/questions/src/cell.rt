@@ -1,5 +1,5 @@
 // Cells as questions tell them.
-ghost use Rattle.std.specs.Prelude.{◌≡◌, ◌++◌, IfOk, OnOk, string_bytes};
+ghost use Rattle.std.specs.Prelude.{◌≡◌, IfOk};
 
 use ids::cells::CellKey;
 use ids::names::{MsgId, ObjId, PromId, SlotId, VatNo};
@@ -28,7 +28,7 @@ pub enum Cell {
 }
 
 impl Cell {
-    ghost use Rattle.questions.specs.Cells.{key_of, cell_text};
+    ghost use Rattle.questions.specs.Cells.{key_of};
 
     /// The cell of a key. Fails only for want of memory.
     pub fn of(key: &CellKey) -> Result<Cell, AllocError>
@@ -46,28 +46,19 @@ impl Cell {
         })
     }
 
-    /// Writes its kind and its name, of a vat's own also the vat's birth.
-    pub(crate) fn write(&self, out: &mut String) -> Result<(), AllocError>
-        ensures { OnOk result (string_bytes out.new ≡ string_bytes out.old ++ cell_text self.now) }
+    /// The same cell, whose name is shared. Fails only for want of memory.
+    pub(crate) fn share(&self) -> Result<Cell, AllocError>
+        ensures { IfOk result (λ c. c ≡ self.now) }
     {
-        match self {
-            Cell::Vat(name) => write!(out, "vat {name}"),
-            Cell::Noun(vat, name) => {
-                let birth = vat.0;
-                write!(out, "noun {birth} {name}")
-            }
-            Cell::Slot(slot) => write!(out, "slot {slot}"),
-            Cell::Object(object) => write!(out, "object {object}"),
-            Cell::View(vat, promise) => {
-                let birth = vat.0;
-                write!(out, "view {birth} {promise}")
-            }
-            Cell::Fence(vat, reference) => {
-                let birth = vat.0;
-                write!(out, "fence {birth} {reference}")
-            }
-            Cell::Message(message) => write!(out, "msg {message}"),
-            Cell::Board(promise) => write!(out, "board {promise}"),
-        }
+        Ok(match self {
+            Cell::Vat(name) => Cell::Vat(name.share()?),
+            Cell::Noun(vat, name) => Cell::Noun(*vat, name.share()?),
+            Cell::Slot(slot) => Cell::Slot(*slot),
+            Cell::Object(object) => Cell::Object(*object),
+            Cell::View(vat, promise) => Cell::View(*vat, *promise),
+            Cell::Fence(vat, reference) => Cell::Fence(*vat, *reference),
+            Cell::Message(message) => Cell::Message(*message),
+            Cell::Board(promise) => Cell::Board(*promise),
+        })
     }
 }

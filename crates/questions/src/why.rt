@@ -1,5 +1,5 @@
 // Why one event came of another.
-ghost use Rattle.std.specs.Prelude.{◌≡◌, ◌+◌, ◌<◌, ◌≤◌, ◌++◌, None, Some, length, option_copied, slice_get, OnOk, IfOk, IfErr, string_bytes};
+ghost use Rattle.std.specs.Prelude.{◌≡◌, ◌+◌, ◌<◌, ◌≤◌, None, Some, length, option_copied, slice_get, OnOk, IfOk, IfErr};
 ghost use Rattle.ids.specs.declared.cells.CellKey.{CellKey};
 ghost use Rattle.journal.specs.Items.{item_of};
 ghost use Rattle.journal.specs.Journals.{items_of};
@@ -8,12 +8,13 @@ ghost use Rattle.causality.specs.Journals.{IsJournal};
 ghost use Rattle.questions.specs.Refusals.{Refuses, pair_refusal};
 ghost use Rattle.questions.specs.TouchedView.{told_entries};
 ghost use Rattle.questions.specs.Chains.{Step};
-ghost use Rattle.questions.specs.Why.{Why, Crossing, Reason, ReasonBetween, Steps, is_by, step_text};
-ghost use Rattle.questions.specs.WhyView.{crossed_in, Link, OpenChain, Chained, BothOpen, Written};
+ghost use Rattle.questions.specs.Why.{Why, Crossing, Reason, ReasonBetween, is_by};
+ghost use Rattle.questions.specs.WhyView.{crossed_in, reason_text, relation_text, AreLinks, IsLink, OpenChain, BothOpen};
 ghost use Rattle.questions.specs.Writers.{first_cell};
 
 use crate::cell::Cell;
 use crate::chain::nearest_chain;
+use crate::reason::{Link, Relation, ToldReason};
 use crate::standing::Standing;
 use crate::touched::{Seen, touched_cells};
 use crate::unanswered::Unanswered;
@@ -22,19 +23,6 @@ use journal::entry::Entry;
 use journal::journal::Journal;
 use std::alloc::{AllocError, Global};
 use std::collections::BTreeMap;
-
-fn write_step(
-    from: EventName,
-    to: EventName,
-    cell: &Cell,
-    out: &mut String,
-) -> Result<(), AllocError>
-    ensures { OnOk result (string_bytes out.new ≡ string_bytes out.old ++ step_text from to cell.now) }
-{
-    write!(out, " {from} {to} ")?;
-    cell.write(out)?;
-    out.push_str("\n")
-}
 
 /// The first of these cells that an event wrote.
 fn first_by(cells: &BTreeMap<Cell, Seen>, writer: EventName) -> Option<&Cell>
@@ -75,108 +63,88 @@ fn open_entry(journal: Journal<'_>, place: usize) -> &Entry
     &journal.entries[here]
 }
 
-/// Writes the step from one entry to another, of which it came.
-fn write_link(
-    alloc: Global,
-    journal: Journal,
-    from: usize,
-    to: usize,
-    out: &mut String,
-) -> Result<(), AllocError>
+/// The step from one entry to another, of which it came. Fails only for want of memory.
+fn link_of(alloc: Global, journal: Journal, from: usize, to: usize) -> Result<Link, AllocError>
     requires journal { IsJournal (items_of journal) }
     requires behind { length journal.settled.now ≤ from }
     requires there { to < length journal.settled.now + length journal.entries.now }
     requires link { (k : CellKey) × Step (lines_of (items_of journal)) from k to }
-    ensures { OnOk result (Written (Link (lines_of (items_of journal.entry)) from to) (string_bytes out.old) (string_bytes out.new)) }
+    ensures { IfOk result (IsLink (lines_of (items_of journal.entry)) from to) }
 {
     let earlier = open_entry(journal, from);
     let later = open_entry(journal, to);
     let cells = touched_cells(alloc, later)?;
     match first_by(&cells, earlier.event.name) {
-        Some(cell) => write_step(earlier.event.name, later.event.name, cell, out),
-        None => Ok(()),
+        Some(cell) => Ok(Link {
+            from: earlier.event.name,
+            to: later.event.name,
+            cell: cell.share()?,
+        }),
+        None => unreachable!(),
     }
 }
 
-/// Writes the steps along the places of a chain, the last one first, in their order.
-fn write_steps(
-    alloc: Global,
-    journal: Journal,
-    places: &[usize],
-    out: &mut String,
-) -> Result<(), AllocError>
+/// The steps along the places of a chain, the last one first, in their order. Fails only for want of memory.
+fn links_along(alloc: Global, journal: Journal, places: &[usize]) -> Result<Vec<Link>, AllocError>
     requires journal { IsJournal (items_of journal) }
     requires chain { OpenChain (lines_of (items_of journal)) (length journal.settled.now) (length journal.settled.now + length journal.entries.now) places.now }
-    ensures { OnOk result (Written (Steps (lines_of (items_of journal.entry)) places.now) (string_bytes out.old) (string_bytes out.new)) }
+    ensures { IfOk result (λ links. AreLinks (lines_of (items_of journal.entry)) places.now links.items) }
 {
+    let mut links = Vec::new(alloc);
     let mut left = places.len() - 1;
     while left > 0 {
-        write_link(alloc, journal, places[left], places[left - 1], out)?;
+        links.push(link_of(alloc, journal, places[left], places[left - 1])?)?;
         left -= 1;
     }
-    Ok(())
+    Ok(links)
 }
 
-/// Writes where two entries cross, or that they do not.
-fn write_crossing(
+/// Where two entries cross, or that they do not. Fails only for want of memory.
+fn crossing_of(
     alloc: Global,
     journal: Journal,
     from: usize,
     to: usize,
-    out: &mut String,
-) -> Result<(), AllocError>
+) -> Result<Relation, AllocError>
     requires journal { IsJournal (items_of journal) }
     requires behind { length journal.settled.now ≤ from }
     requires order { from < to }
     requires there { to < length journal.settled.now + length journal.entries.now }
-    ensures { OnOk result (Written (Crossing (lines_of (items_of journal.entry)) from to) (string_bytes out.old) (string_bytes out.new)) }
+    ensures { IfOk result (λ relation. Crossing (lines_of (items_of journal.entry)) from to (relation_text relation)) }
 {
     let earlier = open_entry(journal, from);
     let later = open_entry(journal, to);
     let mine = touched_cells(alloc, earlier)?;
     let others = touched_cells(alloc, later)?;
     match first_crossed(&mine, &others) {
-        Some(cell) => {
-            out.push_str("crossed\n")?;
-            write_step(earlier.event.name, later.event.name, cell, out)
-        }
-        None => out.push_str("none\n"),
+        Some(cell) => Ok(Relation::Crossed(Link {
+            from: earlier.event.name,
+            to: later.event.name,
+            cell: cell.share()?,
+        })),
+        None => Ok(Relation::Neither),
     }
 }
 
-/// Writes how many steps a chain has, and each of them.
-fn write_chain(
-    alloc: Global,
-    journal: Journal,
-    places: &[usize],
-    out: &mut String,
-) -> Result<(), AllocError>
-    requires journal { IsJournal (items_of journal) }
-    requires chain { OpenChain (lines_of (items_of journal)) (length journal.settled.now) (length journal.settled.now + length journal.entries.now) places.now }
-    ensures { OnOk result (Written (Chained (lines_of (items_of journal.entry)) places.now) (string_bytes out.old) (string_bytes out.new)) }
-{
-    let steps = places.len() - 1;
-    write!(out, "{steps}\n")?;
-    write_steps(alloc, journal, places, out)
-}
-
-/// Writes how a later entry came of an earlier one; the places are behind the settled ones.
-fn write_reason(
+/// How a later entry came of an earlier one; the places are behind the settled ones. Fails only for want of memory.
+fn relation_of(
     alloc: Global,
     journal: Journal,
     from: usize,
     to: usize,
-    out: &mut String,
-) -> Result<(), AllocError>
+) -> Result<Relation, AllocError>
     requires journal { IsJournal (items_of journal) }
     requires order { from < to }
     requires there { to < length journal.entries.now }
-    ensures { OnOk result (Written (Reason (lines_of (items_of journal.entry)) (length journal.entry.settled.now + from) (length journal.entry.settled.now + to)) (string_bytes out.old) (string_bytes out.new)) }
+    ensures { IfOk result (λ relation. Reason (lines_of (items_of journal.entry)) (length journal.entry.settled.now + from) (length journal.entry.settled.now + to) (relation_text relation)) }
 {
     let base = journal.settled.len();
     match nearest_chain(alloc, journal, from, to)? {
-        Some(places) => write_chain(alloc, journal, places.as_slice(), out),
-        None => write_crossing(alloc, journal, base + from, base + to, out),
+        Some(places) => {
+            let links = links_along(alloc, journal, places.as_slice())?;
+            Ok(Relation::Chained(links))
+        }
+        None => crossing_of(alloc, journal, base + from, base + to),
     }
 }
 
@@ -197,44 +165,48 @@ fn both_open(
     }
 }
 
-/// Writes how the later of two entries came of the earlier; the places are behind the settled ones.
-fn write_between(
+/// How the later of two entries came of the earlier; the places are behind the settled ones. Fails only for want of memory.
+fn relation_between(
     alloc: Global,
     journal: Journal,
     place: usize,
     other: usize,
-    out: &mut String,
-) -> Result<(), AllocError>
+) -> Result<Relation, AllocError>
     requires journal { IsJournal (items_of journal) }
     requires first { place < length journal.entries.now }
     requires second { other < length journal.entries.now }
-    ensures { OnOk result (Written (ReasonBetween (lines_of (items_of journal.entry)) (length journal.entry.settled.now + place) (length journal.entry.settled.now + other)) (string_bytes out.old) (string_bytes out.new)) }
+    ensures { IfOk result (λ relation. ReasonBetween (lines_of (items_of journal.entry)) (length journal.entry.settled.now + place) (length journal.entry.settled.now + other) (relation_text relation)) }
 {
     if place < other {
-        write_reason(alloc, journal, place, other, out)
+        relation_of(alloc, journal, place, other)
     } else if other < place {
-        write_reason(alloc, journal, other, place, out)
+        relation_of(alloc, journal, other, place)
     } else {
-        out.push_str("none\n")
+        Ok(Relation::Neither)
     }
 }
 
 /// Why the later of two events that are not settled came of the earlier: the nearest chain from one to the other, or where there is
 /// none, the first cell at which they cross.
+///
+/// # Errors
+/// One of the events is not in the journal, or settled; or memory ran out.
 pub fn why(
     alloc: Global,
     journal: Journal,
     event: EventName,
     other: EventName,
-) -> Result<String, Unanswered>
+) -> Result<ToldReason, Unanswered>
     requires { IsJournal (items_of journal) }
-    ensures told { IfOk result (λ text. Why (lines_of (items_of journal.entry)) event other (string_bytes text)) }
+    ensures told { IfOk result (λ told. Why (lines_of (items_of journal.entry)) event other (reason_text told)) }
     ensures open { OnOk result (pair_refusal (length journal.entry.settled.now) (lines_of (items_of journal.entry)) event other ≡ None) }
     ensures refused { IfErr result (λ fault. Refuses fault (pair_refusal (length journal.entry.settled.now) (lines_of (items_of journal.entry)) event other)) }
 {
     let (place, another) = both_open(journal, event, other)?;
-    let mut out = String::new(alloc);
-    write!(out, "why {event} {other} ")?;
-    write_between(alloc, journal, place, another, &mut out)?;
-    Ok(out)
+    let relation = relation_between(alloc, journal, place, another)?;
+    Ok(ToldReason {
+        event,
+        other,
+        relation,
+    })
 }

@@ -9,6 +9,7 @@ pub mod OneLearning
 pub mod OneMove
 pub mod OneQuestion
 pub mod OneText
+pub mod OneTold
 pub mod Reached
 pub mod Running
 pub mod SameBooks
@@ -20,3 +21,4 @@ pub mod Scripts
 pub mod Story
 pub mod VatNames
 pub mod Whole
+pub mod Asked

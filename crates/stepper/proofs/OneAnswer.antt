@@ -22,6 +22,7 @@ use Rattle.stepper.proofs.OneMove.{answered, answer_once, had_memory, one_move, 
 use Rattle.stepper.proofs.OneText.{enabled_once, shows_once, shows_enabled_once}
 use Rattle.stepper.proofs.OneQuestion.{one_ask, birth_but}
 use Rattle.stepper.proofs.OneLearning.{one_learning}
+use Rattle.stepper.proofs.OneTold.{one_why, one_event, one_message, one_object}
 use Rattle.stepper.proofs.OneChange.{one_undo, one_redo, one_exchange, one_settling, one_cone_undone, one_cone}
 use Rattle.stepper.specs.declared.engine.Limits.{Limits}
 
@@ -103,6 +104,10 @@ answer_once_told (command.undo_cone e) once same is h k n m = one_cone_undone sa
 answer_once_told (command.redo events) once same is h k n m = one_redo same h k (ends n) (ends m)
 answer_once_told (command.exchange position) once same is h k n m = one_exchange same h k
 answer_once_told (command.settle position) once same is h k n m = one_settling same h k (ends n) (ends m)
+answer_once_told (command.why x y) once same is h k n m = one_why same h k (ends n) (ends m)
+answer_once_told (command.event x) once same is h k n m = one_event same h k (ends n) (ends m)
+answer_once_told (command.message x) once same is h k n m = one_message once same h k (ends n) (ends m)
+answer_once_told (command.object x) once same is h k n m = one_object once same h k (ends n) (ends m)
 
 pub one_answer : OneAnswer
 one_answer limits b c x r s q p d e good same told h k n m = answer_once_told x (names_vats_once b good) same told h k n m

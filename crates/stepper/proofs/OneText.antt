@@ -86,7 +86,7 @@ module _ {K V : Type 0} (R : K → K → Ordering) where
       → ((k : K) → lookup (λ q. is_eq (R k q)) fs ≡ lookup (λ q. is_eq (R k q)) es) → fs ≡ es
   one_listing o exact es fs h k same = same_entries R o exact fs es (in_order fs k) (in_order es h) (λ q. found_so q fs ∙ same q ∙ sym (found_so q es))
 
-lists_once : {K V : Type 0} {R : K → K → Ordering} {at : K → Option V} {es fs : List (K × V)} → IsTotalOrder R → CmpEqualImpliesEq R → Lists R at es → Lists R at fs → fs ≡ es
+pub lists_once : {K V : Type 0} {R : K → K → Ordering} {at : K → Option V} {es fs : List (K × V)} → IsTotalOrder R → CmpEqualImpliesEq R → Lists R at es → Lists R at fs → fs ≡ es
 lists_once {R = R} {es = es} {fs = fs} o exact h k = one_listing R o exact es fs h.ordered k.ordered (λ q. sym (k.listed q) ∙ h.listed q)
 
 slot_total : IsTotalOrder slot_cmp
@@ -113,7 +113,7 @@ vat_of_number (Some (message g)) v h = absurd (cc)
 vat_of_number (Some (published a)) v h = absurd (cc)
 
 -- so no two names have one number
-one_number : (w : World) → NamesVatsOnce w → (x y : Name) (v : VatNo) → number_in (w (key.Name x)) ≡ Some v → number_in (w (key.Name y)) ≡ Some v → y ≡ x
+pub one_number : (w : World) → NamesVatsOnce w → (x y : Name) (v : VatNo) → number_in (w (key.Name x)) ≡ Some v → number_in (w (key.Name y)) ≡ Some v → y ≡ x
 one_number w once x y v h k =
     let a = vat_of_number (w (key.Name x)) v h in
     let b = vat_of_number (w (key.Name y)) v k in
@@ -126,7 +126,7 @@ module _ {at : Name → Option Content} (once : (x y : Name) (v : VatNo) → num
   one_name v None (Some y) e f = absurd (false≢true (sym (ap is_some e) ∙ h.all y v (k.named v y f)))
   one_name v (Some x) (Some y) e f = ap (λ z. Some z) (once x y v (h.named v x e) (k.named v y f))
 
-  births_once : ws ≡ vs
+  pub births_once : ws ≡ vs
   births_once = one_listing vat_cmp vat_total exact_vats vs ws h.ordered k.ordered (λ v. one_name v (name_of vs v) (name_of ws v) refl refl)
 
 -- ---- states and worlds

@@ -25,7 +25,7 @@ use Rattle.book.specs.Refusals.{exchange_refusal}
 use Rattle.book.specs.Calls.{Enters, EntersNext, undone, redone, redone_in, Undoes, Redoes, Exchanges}
 use Rattle.commands.specs.Commands.{Spelled}
 use Rattle.commands.specs.declared.command.LineFault.{LineFault}
-use Rattle.stepper.specs.Replies.{Moves, move_without_memory, arrival_refused, arrives, forwarding_refused, forwards, turn_without_memory_named, turn_refused, turns, learning_refused, learns, Steps, step_done, step_refused, step_idle, step_without_memory, Runs, runs_out, runs_on, runs_last, Answers, arrive_moves, forward_moves, turn_moves, learn_without_memory, learn_refused, learn_accepted, stepped, runs, worked, work_refused, enabled_without_memory, enabled, ask_without_memory, asked_without_memory, asked_unread, ask_refused, ask_accepted, show_without_memory, shown, journal_without_memory, listed, log_without_memory, logged, cone_without_memory, cone_refused, cone_found, undo_without_memory, undo_refused, undo_accepted, undo_cone_without_memory, undo_cone_refused, undo_cone_found, redo_without_memory, redo_refused, redo_accepted, exchange_refused, exchange_accepted, settle_without_memory, settle_refused, settle_accepted, AnswersBirth, birth_without_memory, script_without_memory, script_refused, script_unread, birth_refused, birth_accepted, FirstReply, skipped, no_command, born, answered}
+use Rattle.stepper.specs.Replies.{Moves, move_without_memory, arrival_refused, arrives, forwarding_refused, forwards, turn_without_memory_named, turn_refused, turns, learning_refused, learns, Steps, step_done, step_refused, step_idle, step_without_memory, Runs, runs_out, runs_on, runs_last, Answers, arrive_moves, forward_moves, turn_moves, learn_without_memory, learn_refused, learn_accepted, stepped, runs, worked, work_refused, enabled_without_memory, enabled, ask_without_memory, asked_without_memory, asked_unread, ask_refused, ask_accepted, show_without_memory, shown, journal_without_memory, listed, log_without_memory, logged, cone_without_memory, cone_refused, cone_found, undo_without_memory, undo_refused, undo_accepted, undo_cone_without_memory, undo_cone_refused, undo_cone_found, redo_without_memory, redo_refused, redo_accepted, exchange_refused, exchange_accepted, settle_without_memory, settle_refused, settle_accepted, why_without_memory, why_refused, why_told, event_without_memory, event_refused, event_told, message_without_memory, message_refused, message_told, object_without_memory, object_refused, object_told, AnswersBirth, birth_without_memory, script_without_memory, script_refused, script_unread, birth_refused, birth_accepted, FirstReply, skipped, no_command, born, answered}
 use Rattle.stepper.specs.Laws.{IsTold, IsToldLine}
 use Rattle.stepper.proofs.VatNames.{run_names_vats_once}
 use Rattle.stepper.specs.declared.engine.Limits.{Limits}
@@ -255,6 +255,18 @@ reached_answered r told (exchange_accepted {position = position} h x y) = reache
 reached_answered r told settle_without_memory = r
 reached_answered r told (settle_refused h) = r
 reached_answered r told (settle_accepted h x) = subst Reached (sym x) (record { apart = r.apart; drawn = r.drawn; led = r.led })
+reached_answered r told why_without_memory = r
+reached_answered r told (why_refused h) = r
+reached_answered r told (why_told h x) = r
+reached_answered r told event_without_memory = r
+reached_answered r told (event_refused h) = r
+reached_answered r told (event_told h x) = r
+reached_answered r told message_without_memory = r
+reached_answered r told (message_refused h) = r
+reached_answered r told (message_told h) = r
+reached_answered r told object_without_memory = r
+reached_answered r told (object_refused h) = r
+reached_answered r told (object_told h) = r
 
 reached_born : {b d : Book} {x : List ℕ} {earlier : List (List ℕ)} {script : Result (List ℕ) LineFault} {reply : List ℕ} {q : Bool} → Reached b → AnswersBirth b x earlier script reply q d → Reached d
 reached_born r birth_without_memory = r

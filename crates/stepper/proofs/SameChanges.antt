@@ -26,7 +26,7 @@ module _ (ls ms : List Line) (h : SameLines ls ms) where
   pub same_count : (names : List EventName) → count_of names ms ≡ count_of names ls
   same_count names = same_length _ _ (same_filter (chosen names) (chosen names) (λ l m one. ap (chosen names) (same_told one)) ls ms h)
 
-  same_born : (v : VatNo) (known : Option Name) → born_among ms v known ≡ born_among ls v known
+  pub same_born : (v : VatNo) (known : Option Name) → born_among ms v known ≡ born_among ls v known
   same_born v = same_by (λ xs ys. (known : Option Name) → born_among ys v known ≡ born_among xs v known) (λ known. refl)
       (λ l m xs ys one rest more known. more (born_as v (event_in m.entry.event) known) ∙ ap (λ (e : Noted). born_among xs v (born_as v (event_in e) known)) one.event) ls ms h
 

@@ -45,6 +45,14 @@ use Rattle.printing.specs.Listing.{journal_text, cone_text}
 use Rattle.printing.specs.Steps.{ShowsEnabled}
 use Rattle.commands.specs.declared.command.LineFault.{LineFault}
 use Rattle.crew.specs.Work.{Worked, RefusesWork}
+use Rattle.commands.specs.declared.numbers.ObjectName.{ObjectName}
+use Rattle.questions.specs.Deliveries.{MessageTold, message_refusal}
+use Rattle.questions.specs.Events.{EventTold}
+use Rattle.questions.specs.Objects.{ObjectTold, NoObject}
+use Rattle.questions.specs.Refusals.{pair_refusal, event_refusal, unanswered_text}
+use Rattle.questions.specs.Why.{Why}
+use Rattle.questions.specs.declared.unanswered.Unanswered.{Unanswered}
+use Rattle.questions.specs.declared.unanswered.Unanswered.TheVariants as unanswered
 use Rattle.book.specs.declared.fault.WorkFault.{WorkFault}
 use Rattle.stepper.specs.declared.engine.Limits.{Limits}
 
@@ -191,6 +199,19 @@ pub data Answers (limits : Limits) : Book → Spelled → List ℕ → Bool → 
   settle_without_memory : {b : Book} {position : ℕ} → Answers limits b (command.settle position) (refused (no_memory)) true b
   settle_refused : {b : Book} {position : ℕ} {r : Refusal} → settle_refusal b.settled b.journal position ≡ Some r → Answers limits b (command.settle position) (refused (refusal_text r)) true b
   settle_accepted : {b d : Book} {position : ℕ} → settle_refusal b.settled b.journal position ≡ None → Settles position b d → Answers limits b (command.settle position) (settled_text position) false d
+  -- a question changes nothing
+  why_without_memory : {b : Book} {e f : EventName} → Answers limits b (command.why e f) (refused (no_memory)) true b
+  why_refused : {b : Book} {e f : EventName} {fault : Unanswered} → pair_refusal b.settled b.journal e f ≡ Some fault → Answers limits b (command.why e f) (refused (unanswered_text fault)) true b
+  why_told : {b : Book} {e f : EventName} {text : List ℕ} → pair_refusal b.settled b.journal e f ≡ None → Why b.journal e f text → Answers limits b (command.why e f) text false b
+  event_without_memory : {b : Book} {e : EventName} → Answers limits b (command.event e) (refused (no_memory)) true b
+  event_refused : {b : Book} {e : EventName} {fault : Unanswered} → event_refusal b.settled b.journal e ≡ Some fault → Answers limits b (command.event e) (refused (unanswered_text fault)) true b
+  event_told : {b : Book} {e : EventName} {text : List ℕ} → event_refusal b.settled b.journal e ≡ None → EventTold b.journal e text → Answers limits b (command.event e) text false b
+  message_without_memory : {b : Book} {m : MsgId} → Answers limits b (command.message m) (refused (no_memory)) true b
+  message_refused : {b : Book} {m : MsgId} {fault : Unanswered} → message_refusal b.world m ≡ Some fault → Answers limits b (command.message m) (refused (unanswered_text fault)) true b
+  message_told : {b : Book} {m : MsgId} {text : List ℕ} → MessageTold b.world m text → Answers limits b (command.message m) text false b
+  object_without_memory : {b : Book} {o : ObjectName} → Answers limits b (command.object o) (refused (no_memory)) true b
+  object_refused : {b : Book} {o : ObjectName} → NoObject b.world o.event o.index → Answers limits b (command.object o) (refused (unanswered_text (unanswered.NoObject o.event o.index))) true b
+  object_told : {b : Book} {o : ObjectName} {text : List ℕ} → ObjectTold b.world o.event o.index text → Answers limits b (command.object o) text false b
 
 -- the same for a vat whose script was taken from the lines behind the command
 pub data AnswersBirth : Book → List ℕ → List (List ℕ) → Result (List ℕ) LineFault → List ℕ → Bool → Book → Type 0 where

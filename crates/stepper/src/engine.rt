@@ -29,7 +29,7 @@ use book::fault::BookFault;
 use causewaylog::log::log_of;
 use commands::command::{Command, LineFault, Said, command_of};
 use commands::script::text_of;
-use commands::{PromiseName, all_words, events_in};
+use commands::{ObjectName, PromiseName, all_words, events_in};
 use crew::crew::{Crew, Order};
 use ereader::read;
 use ids::names::{EventName, MsgId, PromId, VatNo};
@@ -40,6 +40,11 @@ use printing::gathering::listing_of;
 use printing::listing::{put_cone, put_journal};
 use printing::picture::Picture;
 use printing::show::put_world;
+use questions::events::{event_told, put_told_event};
+use questions::message::{message_told, put_told_message};
+use questions::object::{object_told, put_told_object};
+use questions::reason::put_reason;
+use questions::why::why;
 use std::alloc::{AllocError, Global};
 use std::io::{Read, Write};
 use std::mem;
@@ -381,6 +386,46 @@ impl Engine {
         }
     }
 
+    /// How the later of two events came of the earlier.
+    fn why<W: Write>(&mut self, event: EventName, other: EventName, out: &mut Outlet<W>)
+        ensures { Happens W.contents self.old self.new out.old out.new (λ b r s d. Answers self.old.limits b (commands.why event other) r s d) }
+    {
+        match why(self.alloc, self.book.journal(), event, other) {
+            Ok(told) => put_reason(&told, out),
+            Err(fault) => self.written.refuse_question(&fault, out),
+        }
+    }
+
+    /// Which cells an event touched.
+    fn event<W: Write>(&mut self, event: EventName, out: &mut Outlet<W>)
+        ensures { Happens W.contents self.old self.new out.old out.new (λ b r s d. Answers self.old.limits b (commands.event event) r s d) }
+    {
+        match event_told(self.alloc, self.book.journal(), event) {
+            Ok(told) => put_told_event(&told, out),
+            Err(fault) => self.written.refuse_question(&fault, out),
+        }
+    }
+
+    /// What a message delivers.
+    fn message<W: Write>(&mut self, message: MsgId, out: &mut Outlet<W>)
+        ensures { Happens W.contents self.old self.new out.old out.new (λ b r s d. Answers self.old.limits b (commands.message message) r s d) }
+    {
+        match message_told(self.alloc, self.book.world(), message) {
+            Ok(told) => put_told_message(&told, out),
+            Err(fault) => self.written.refuse_question(&fault, out),
+        }
+    }
+
+    /// What is in an object.
+    fn object<W: Write>(&mut self, object: ObjectName, out: &mut Outlet<W>)
+        ensures { Happens W.contents self.old self.new out.old out.new (λ b r s d. Answers self.old.limits b (commands.object object) r s d) }
+    {
+        match object_told(self.alloc, self.book.world(), object.event, object.index) {
+            Ok(told) => put_told_object(&told, out),
+            Err(fault) => self.written.refuse_question(&fault, out),
+        }
+    }
+
     fn birth_program<W: Write>(
         &mut self,
         name: &str,
@@ -483,6 +528,10 @@ impl Engine {
             Command::Redo(words) => self.redo_named(words, sink),
             Command::Exchange(position) => self.exchange(position, sink),
             Command::Settle(position) => self.settle(position, sink),
+            Command::Why(event, other) => self.why(event, other, sink),
+            Command::Event(event) => self.event(event, sink),
+            Command::Message(message) => self.message(message, sink),
+            Command::Object(object) => self.object(object, sink),
         }
         Ok(())
     }

@@ -7,10 +7,13 @@ ghost use Rattle.ereader.specs.Shown.{shown};
 ghost use Rattle.book.specs.Fault as book_fault;
 ghost use Rattle.deliveries.specs.Outcomes.{told_of};
 ghost use Rattle.commands.specs.Commands.{fault_text};
+ghost use Rattle.questions.specs.Refusals.{unanswered_text};
 ghost use Rattle.stepper.specs.Replies.{refused, queued_text, done_text, idle_text, turned_text, told_text, undone_text, redone_text, exchanged_text, settled_text, worked_text, logged_text};
 ghost use Rattle.streams.specs.Outlet.{Tells};
 
-use crate::words::{put_book_fault, put_line_fault, put_read_fault, put_work_fault};
+use crate::words::{
+    put_book_fault, put_line_fault, put_read_fault, put_unanswered, put_work_fault,
+};
 use book::fault::{BookFault, WorkFault};
 use commands::command::LineFault;
 use deliveries::outcome::Ended;
@@ -19,6 +22,7 @@ use ids::names::{EventName, MsgId};
 use printing::names::{put_event, put_message};
 use printing::quoting::put_quoted;
 use printing::value::put_value;
+use questions::unanswered::Unanswered;
 use std::io::Write;
 use streams::outlet::Outlet;
 use values::value::Value;
@@ -183,6 +187,15 @@ impl Written {
         self.refused = true;
         out.put("no ");
         put_work_fault(fault, out);
+        out.put("\n");
+    }
+
+    pub(crate) fn refuse_question<W: Write>(&mut self, fault: &Unanswered, out: &mut Outlet<W>)
+        ensures { Adds W.contents self.old self.new out.old out.new (refused (unanswered_text fault.now)) true }
+    {
+        self.refused = true;
+        out.put("no ");
+        put_unanswered(fault, out);
         out.put("\n");
     }
 }

@@ -1,11 +1,12 @@
 // Refusals in words, as they are printed. What a `Display` writes may fail without a reason, and a reply may not.
-ghost use Rattle.std.specs.Prelude.{◌++◌};
+ghost use Rattle.std.specs.Prelude.{◌++◌, codes};
 ghost use Rattle.std.specs.Fmt.{decimal};
 ghost use Rattle.ids.specs.Names.{event_text, message_text};
 ghost use Rattle.ereader.specs.Shown.{shown};
 ghost use Rattle.commands.specs.Commands.{fault_text};
 ghost use Rattle.book.specs.Fault as book_fault;
 ghost use Rattle.book.specs.Fault.{pair_text};
+ghost use Rattle.questions.specs.Refusals.{unanswered_text};
 ghost use Rattle.stepper.specs.Words.{check_text};
 ghost use Rattle.streams.specs.Outlet.{Tells};
 
@@ -14,6 +15,7 @@ use commands::command::LineFault;
 use ereader::fault::ReadFault;
 use ids::names::{EventName, MsgId};
 use printing::names::{put_event, put_message};
+use questions::unanswered::Unanswered;
 use scopes::CheckFault;
 use std::io::Write;
 use streams::outlet::Outlet;
@@ -132,5 +134,28 @@ pub(crate) fn put_work_fault<W: Write>(fault: &WorkFault, out: &mut Outlet<W>)
     match fault {
         WorkFault::NoWorker => out.put("S7 NoWorker"),
         WorkFault::Book(fault) => put_book_fault(fault, out),
+    }
+}
+
+fn put_about_object<W: Write>(words: &str, event: EventName, index: u32, out: &mut Outlet<W>)
+    ensures { Tells W.contents out.old out.new (words.now ++ (event_text event ++ (codes ".o" ++ decimal index))) }
+{
+    out.put(words);
+    put_event(event, out);
+    out.put(".o");
+    out.put_number(index);
+}
+
+pub(crate) fn put_unanswered<W: Write>(fault: &Unanswered, out: &mut Outlet<W>)
+    ensures { Tells W.contents out.old out.new (unanswered_text fault.now) }
+{
+    match fault {
+        Unanswered::NoMessage(message) => put_about_message("B3 NoMessage ", *message, out),
+        Unanswered::NoEvent(event) => put_about_event("B12 NoEvent ", *event, out),
+        Unanswered::Settled(event) => put_about_event("B22 Settled ", *event, out),
+        Unanswered::NoObject(event, index) => {
+            put_about_object("B23 NoObject ", *event, *index, out)
+        }
+        Unanswered::Memory => out.put("B20 Memory"),
     }
 }

@@ -1,5 +1,4 @@
 use Rattle.std.proofs.Common.{◌+◌, length}
-use Rattle.std.specs.Prelude.{string_bytes}
 use Rattle.journal.specs.Journals.{items_of}
 use Rattle.journal.specs.Lines.{lines_of}
 use Rattle.questions.proofs.Reasons.{open_within}
@@ -7,11 +6,11 @@ use Rattle.questions.proofs.Standings.{open_place, pair_open}
 use Rattle.questions.proofs.Writing.{why_told}
 use Rattle.questions.proofs.why.why.Goals as goal
 
-pub write_between-requires-clause-first : goal.write_between-requires-clause-first
-write_between-requires-clause-first c = open_within c.args.journal c.args.event c.in_ok-place.place c.in_ok-place.ensures.0
+pub relation_between-requires-clause-first : goal.relation_between-requires-clause-first
+relation_between-requires-clause-first c = open_within c.args.journal c.args.event c.in_ok-place.place c.in_ok-place.ensures.0
 
-pub write_between-requires-clause-second : goal.write_between-requires-clause-second
-write_between-requires-clause-second c = open_within c.args.journal c.args.other c.in_ok-place.another c.in_ok-place.ensures.1
+pub relation_between-requires-clause-second : goal.relation_between-requires-clause-second
+relation_between-requires-clause-second c = open_within c.args.journal c.args.other c.in_ok-place.another c.in_ok-place.ensures.1
 
 pub returns-clause-told : goal.returns-clause-told
 returns-clause-told c =
@@ -19,8 +18,7 @@ returns-clause-told c =
     let n = length j.settled.now in
     let lines = lines_of (items_of j) in
     why_told lines c.args.event c.args.other (n + c.in_ok-place.place) (n + c.in_ok-place.another)
-    (open_place n lines c.args.event c.in_ok-place.place c.in_ok-place.ensures.0) (open_place n lines c.args.other c.in_ok-place.another c.in_ok-place.ensures.1)
-    (string_bytes c.new-out.result) (string_bytes c.write.new.self) (string_bytes c.write_between.new.out) c.new-out.ensures.bytes c.in_ok-write.ensures.bytes c.in_ok-write_between.ensures
+    (open_place n lines c.args.event c.in_ok-place.place c.in_ok-place.ensures.0) (open_place n lines c.args.other c.in_ok-place.another c.in_ok-place.ensures.1) _ c.in_ok-relation.ensures
 
 pub returns-clause-open : goal.returns-clause-open
 returns-clause-open c = pair_open (length c.args.journal.settled.now) (lines_of (items_of c.args.journal)) c.args.event c.args.other c.in_ok-place.place c.in_ok-place.another c.in_ok-place.ensures.0 c.in_ok-place.ensures.1

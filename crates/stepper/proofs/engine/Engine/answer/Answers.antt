@@ -67,6 +67,18 @@ returns-in-Exchange g c = does_alone g.R.Read.remaining g.W.Write.contents c.arg
 pub returns-in-Settle : goal.returns-in-Settle
 returns-in-Settle g c = does_alone g.R.Read.remaining g.W.Write.contents c.args.source.now c.args.sink.now c.settle.new.out c.requires.sound _ _ (ap command_of c.in-Settle.is) refl refl refl refl c.settle.ensures
 
+pub returns-in-Why : goal.returns-in-Why
+returns-in-Why g c = does_alone g.R.Read.remaining g.W.Write.contents c.args.source.now c.args.sink.now c.why.new.out c.requires.sound _ _ (ap command_of c.in-Why.is) refl refl refl refl c.why.ensures
+
+pub returns-in-Event : goal.returns-in-Event
+returns-in-Event g c = does_alone g.R.Read.remaining g.W.Write.contents c.args.source.now c.args.sink.now c.event.new.out c.requires.sound _ _ (ap command_of c.in-Event.is) refl refl refl refl c.event.ensures
+
+pub returns-in-Message : goal.returns-in-Message
+returns-in-Message g c = does_alone g.R.Read.remaining g.W.Write.contents c.args.source.now c.args.sink.now c.message.new.out c.requires.sound _ _ (ap command_of c.in-Message.is) refl refl refl refl c.message.ensures
+
+pub returns-in-Object : goal.returns-in-Object
+returns-in-Object g c = does_alone g.R.Read.remaining g.W.Write.contents c.args.source.now c.args.sink.now c.object.new.out c.requires.sound _ _ (ap command_of c.in-Object.is) refl refl refl refl c.object.ensures
+
 pub returns-in_err-script-in-Birth : goal.returns-in_err-script-in-Birth
 returns-in_err-script-in-Birth g c =
     let p = err_from_is_err_and c.from_residual.result c.from_residual.ensures.1 in
