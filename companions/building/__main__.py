@@ -9,17 +9,30 @@ import os
 import signal
 import sys
 
-from .builds import proved_build
+from .builds import proved_build, unproved_build
 from .crates import Fault
 from .processes import Interrupted, interruptions
 from .programs import NOTHING_PROVED, say, unproved_program
 from .proving import prove
 
 HELP = (["-h"], ["--help"])
+WITH_A_NUMBER = ("--budget", "--workers")
+OPTIONS = (*WITH_A_NUMBER, "--help", "--version", "--")
 
 
-def program_for(is_unproved):
-    """The program to run."""
+def check_words(words):
+    """Refuses an option that the program has not, and a file that cannot be read, before the program is built for them."""
+    for before, word in zip(["", *words], words):
+        if word.startswith("--") and word.partition("=")[0] not in OPTIONS:
+            raise Fault(f"there is no option {word}; nothing was built")
+        if not word.startswith("-") and before not in WITH_A_NUMBER and not os.access(word, os.R_OK):
+            raise Fault(f"cannot read {word}; nothing was built")
+
+
+def program_for(is_unproved, words):
+    """The program to run on these words."""
+    if not (unproved_build() if is_unproved else proved_build()).is_current():
+        check_words(words)
     if is_unproved:
         return unproved_program()
     build = proved_build()
@@ -45,7 +58,7 @@ def main(words):
             print(__doc__.rstrip())
             return 0
         with interruptions():
-            program = program_for(is_unproved)
+            program = program_for(is_unproved, words)
         if is_unproved:
             say(NOTHING_PROVED)
         become(program, words)

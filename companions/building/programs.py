@@ -26,6 +26,7 @@ def build_unproved(build):
         module = make_module(build.root, lowest_first(read_crates(build.root), PROGRAM), folder)
         if build.sources() != sources:
             raise Fault("the sources changed while they were read: start this again")
+        say("the sources are read; compiling ..")
         put(compile_module(module, folder), build.program)
     build.note(sources)
 

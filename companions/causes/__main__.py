@@ -18,6 +18,7 @@ from picture.looks import LOOKS
 from picture.svg import picture
 
 NAME = place.command("causes")
+LONGEST_TOLD = 60
 
 
 class Fault(Exception):
@@ -54,27 +55,32 @@ def checked_cone(events, name):
     return name
 
 
+def refused(command, why):
+    line = command.line if len(command.line) <= LONGEST_TOLD else command.line[: LONGEST_TOLD - 3] + " .."
+    return f"`{line}`: {why}"
+
+
 def session_of(program, commands):
-    """What there is to be drawn of a session of these commands, and how many of them were refused."""
+    """What there is to be drawn of a session of these commands, and those that were refused, each with its reply."""
     try:
         with Session([program], is_watched=True) as session:
             for command in commands:
                 session.give(command)
-            return scene_of(session), session.refusals
+            return scene_of(session), [refused(each.command, each.reply[-1]) for each in session.answered if each.refusal]
     except (Ended, JournalFault) as fault:
         raise Fault(str(fault)) from fault
 
 
 def drawn(program, text, cone_of=None, **options):
-    """The picture of a session, and how many of its commands were refused.
+    """The picture of a session, and its commands that were refused, each with its reply.
 
     The program refuses a vat whose script the input's end cuts off.
     """
     commands = commands_of(lines_of(text.decode(errors="surrogateescape")))
     whole = [command for command in commands if command.is_complete]
-    scene, refused = session_of(program, whole)
+    scene, answers = session_of(program, whole)
     svg = picture(scene, checked_cone(scene.events, cone_of), **options)
-    return svg, refused + len(commands) - len(whole)
+    return svg, answers + [refused(each, "the input ends inside its script") for each in commands if not each.is_complete]
 
 
 def put(file, text):
@@ -100,13 +106,14 @@ def main(words=None):
     try:
         text = read_input(arguments.file)
         look = LOOKS["dark" if arguments.dark else "light"]
-        svg, refused = drawn(program_named(arguments.program), text, arguments.cone, is_folded=not arguments.all, look=look)
+        svg, faults = drawn(program_named(arguments.program), text, arguments.cone, is_folded=not arguments.all, look=look)
         put(arguments.out, svg)
     except Fault as fault:
         print(f"{NAME}: {fault}", file=sys.stderr)
         return 2
-    if refused:
-        print(f"{NAME}: {refused} {'command was' if refused == 1 else 'commands were'} refused", file=sys.stderr)
+    if faults:
+        count = "1 command was refused," if len(faults) == 1 else f"{len(faults)} commands were refused, the first is"
+        print(f"{NAME}: {count} {faults[0]}", file=sys.stderr)
     return 0
 
 

@@ -5,8 +5,11 @@ from .commands import ASK, words_of
 from .journal import between, cone, with_causes
 from .language import read_document, told_of
 from .replies import refusal_in
+from .telling import answer_in_words
+from .texts import is_open
 
 MOST_NAMES = 12
+BRACKETS = "Its brackets stand there always: `vat a () 1`, and `vat b (a) 1` where it sees the vat a."
 
 
 def listed(names):
@@ -26,12 +29,12 @@ def chosen(command):
 
 
 def why(session, first, second):
-    """What the program itself says of how one event came of another one, where it has that command."""
+    """What the program itself says of how one event came of another one, in words, where it has that command."""
     if "why" not in session.usages:
         return []
     line = f"why {first} {second}"
     reply = session.ask(line)
-    return [] if refusal_in(reply) else [f"`{line}` says:", *(f"  {each}" for each in reply)]
+    return [] if refusal_in(reply) else [f"`{line}` says:", *(f"  {each}" for each in answer_in_words(session, "why", reply))]
 
 
 def evaluated(command):
@@ -59,7 +62,17 @@ def unknown_command(session, command, refusal):
 def bad_words(session, command, refusal):
     usage = session.usages.get(command.word)
     wants = told_of(read_document(), command.word)[0]
-    return [f"It is `{usage.words}`{': ' if wants else ''}{'; '.join(wants)}."] if usage else []
+    told = [f"It is `{usage.words}`{': ' if wants else ''}{'; '.join(wants)}."] if usage else []
+    return told + ([BRACKETS] if usage and command.word == "vat" else [])
+
+
+def not_a_text(session, command, refusal):
+    """What to look at first where a script is no program and ends in the midst of one: whether its lines were counted well."""
+    if command.word != "vat" or not is_open("\n".join(command.script)):
+        return []
+    head = command.line.rpartition(")")[0]
+    return [f"{len(command.script)} lines were taken for the script, and at their end a bracket or a text is still open.",
+            f"`{head})` without a number takes it up to an empty line outside of brackets."]
 
 
 def unbound(session, command, refusal):
@@ -149,8 +162,15 @@ def dependent(session, command, refusal):
     return why(session, *refusal.arguments)
 
 
+def behind_an_undo(session):
+    """Which messages wait again that an undone event had taken: a run would take them anew, and so bar a redo."""
+    taken = {event.message for event in session.events() if event.message and not event.is_live}
+    waiting = [f"`{line}`" for line in session.enabled() if line.split()[1] in taken]
+    return [f"May be done anew: {listed(waiting)}. What was undone there could not be redone beside that."] if waiting else []
+
+
 HELPS = {
-    "S1": unknown_command, "S2": bad_words, "K1": unbound, "B1": no_vat, "B3": no_message, "B4": elsewhere, "B5": may_be_done,
+    "S1": unknown_command, "S2": bad_words, "L2": not_a_text, "L5": not_a_text, "K1": unbound, "B1": no_vat, "B3": no_message, "B4": elsewhere, "B5": may_be_done,
     "B6": may_be_done, "B7": may_be_done, "B12": no_event, "B13": not_live, "B14": is_live, "B15": not_closed, "B16": crossed,
     "B17": cause_missing, "B18": dependent,
 }

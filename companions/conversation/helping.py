@@ -1,6 +1,10 @@
 """What is told of one command or refusal, by the program's help and docs/LANGUAGE.md."""
+import re
+
 from .language import meanings, read_document, told_of
 from .refusals import SENTENCES
+
+OF_ONE_COMMAND = re.compile(r", for `([a-z-]+)` [^;]*")
 
 
 def row(usage):
@@ -11,13 +15,18 @@ def in_one_line(cell):
     return cell.replace("`", "")
 
 
+def told_for(word, when):
+    """When a refusal comes, without what is so for another command alone."""
+    return in_one_line(OF_ONE_COMMAND.sub(lambda found: found[0] if found[1] == word else "", when))
+
+
 def one_command(usage, ways=()):
     """The lines on a command, with ways in which it may be typed besides."""
     wants, replies, refused = told_of(read_document(), usage.word)
     lines = [row(usage).strip(), *(way for way in ways if way.split()[0] == usage.word)]
     lines += [f"  wants: {in_one_line(each)}" for each in wants]
     lines += [f"  reply: {in_one_line(each)}" for each in replies]
-    return lines + [f"  {' '.join(['no', each.code, each.name, *each.arguments])}: {in_one_line(each.when)}" for each in refused]
+    return lines + [f"  {' '.join(['no', each.code, each.name, *each.arguments])}: {told_for(usage.word, each.when)}" for each in refused]
 
 
 def one_refusal(code):

@@ -19,13 +19,18 @@ class Cell:
     is_written: bool = False
     writer: str | None = None
 
-    def in_words(self, vats):
-        """The cell in words; `vats` are the names of vats by their births."""
+    def in_words(self, names):
+        """The cell in words; `names` are what vats and variables are called."""
         sentence = SENTENCES.get(self.kind)
         if sentence is None or len(self.names) < sentence.count("{"):
             return " ".join((self.kind, *self.names))
-        vat, *rest = self.names
-        return sentence.format(vats.get(vat, vat), *rest)
+        first, *rest = self.names
+        return sentence.format(names.get(first, first), *rest)
+
+    def sentence(self, names):
+        """What an event did to the cell, and which one had written it before."""
+        before = f"which {self.writer} had written" if self.writer else "which nothing had written before"
+        return f"it {'wrote' if self.is_written else 'read'} {self.in_words(names)}, {before}"
 
     def __str__(self):
         return " ".join((self.kind, *self.names))
@@ -51,6 +56,10 @@ class Step:
     target: str
     cell: Cell | None = None
 
+    def sentence(self, names):
+        """The step in words, where its cell is told."""
+        return f"{self.target} touched {self.cell.in_words(names)}, which {self.source} wrote"
+
 
 @dataclass(frozen=True)
 class Why:
@@ -58,6 +67,14 @@ class Why:
 
     kind: str
     steps: tuple
+
+    def sentences(self, names):
+        """The program's answer in words; `names` are what vats and variables are called."""
+        if self.kind == "chain":
+            return [step.sentence(names) for step in self.steps]
+        met = [f"both {step.source} and {step.target} touched {step.cell.in_words(names)}, and one of them wrote it"
+               for step in self.steps]
+        return ["neither came of the other", *met]
 
 
 def cell_of(words):

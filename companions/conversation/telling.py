@@ -3,7 +3,7 @@ import re
 
 from .journal import maker_of
 from .places import kind_of, turns_in
-from .questions import answer_to, cells_in
+from .questions import answer_to, cells_in, why_in
 from .world import BOARD, MESSAGE, VAT
 
 NO_SUCH_COMMAND = "This program cannot tell more: it does not know the command `{}`."
@@ -62,15 +62,27 @@ def in_words(session, event, vat):
     return told
 
 
-def births(session):
-    """The names of vats by their births."""
-    return {event: vat for vat, event in session.world().vats.items()}
+def names_told(session):
+    """What vats are called, by their births, and the variables of their top nouns, by their slots."""
+    world = session.world()
+    variables = {slot: f"{slot} ({noun} in {vat})" for slot, (noun, vat) in world.variables.items()}
+    return {event: vat for vat, event in world.vats.items()} | variables
+
+
+def answer_in_words(session, word, reply):
+    """The answer to `why` or `event` in words; nothing for other replies."""
+    if word == "why":
+        return why_in(reply).sentences(names_told(session))
+    if word != "event":
+        return []
+    names = names_told(session)
+    return [cell.sentence(names) for cell in cells_in(reply)]
 
 
 def event_told(session, event, vat):
     """All that is known of an event of the journal."""
     reply, _ = answer_to(session, f"event {event.name}")
-    names = births(session)
+    names = names_told(session)
     cells = [(cell.is_written, cell.in_words(names), str(cell), cell.writer) for cell in cells_in(reply)] if reply else []
     return {
         "name": event.name, "kind": event.kind, "vat": vat, "live": event.is_live, "position": event.position,

@@ -12,6 +12,7 @@ from pathlib import Path
 from .advice import advice, pointed
 from .commands import Command, commands_of, is_command, lines_of, script_length
 from .completion import completions
+from .helping import help_on
 from .history import keep, kept_lines
 from .journal import JournalFault, between, cone, origins, read_journal, undone_cone, with_causes
 from .language import meanings, read_document, told_of
@@ -20,10 +21,11 @@ from .questions import answer_to, cell_of, cells_in, way_by_causes, why_in
 from .refusals import SENTENCES, in_words
 from .replies import Refusal, ends_in, events_in, refusal_in
 from .session import Session, UnknownLabel
-from .telling import event_told, message_told, thing_told
+from .telling import answer_in_words, event_told, message_told, thing_told
 from .texts import is_bracketed, is_open, on_one_line, without_label
 from .typed import NotTyped, typed, written
 from .usages import usages_in
+from .world import read_world
 
 PROGRAM = os.environ.get("EVATS_PROGRAM") or str(Path(__file__).with_name("stand_in"))
 # One that does not know the commands why, event, message and object, and one that does, of one session.
@@ -405,6 +407,11 @@ class Words(unittest.TestCase):
         self.assertEqual(told_of(read_document(), "log")[0], ["just these words"])
         self.assertEqual((len(wants), len(replies), [each.code for each in refused]), (1, 1, ["B12", "B13", "B15", "B22"]))
 
+    def test_help_leaves_out_what_is_so_for_another_command(self):
+        usages = usages_in(help_of(PROGRAM))
+        self.assertIn("  no B12 NoEvent E: E is not in the journal; the least such E by number", help_on("undo", usages))
+        self.assertIn("E is undone; the first such E in the journal, for settle up to the position", " ".join(help_on("settle", usages)))
+
 
 class Helping(unittest.TestCase):
     def setUp(self):
@@ -430,6 +437,16 @@ class Helping(unittest.TestCase):
         self.assertIn("`redo e3` would", self.helps("undo e3\n"))
         self.assertIn("`redo e3` leaves out", self.helps("redo e3 e5\n"))
 
+    def test_the_words_of_a_vat(self):
+        self.assertIn("`vat a () 1`", self.helps("vat d\n"))
+        self.assertNotIn("`vat a () 1`", self.helps("ask\n"))
+
+    def test_a_script_whose_lines_were_counted_wrong(self):
+        for text in ("vat d (a) 2\ndef x {\nto m() {\n", 'vat d (a) 2\n1\n"x\n'):
+            self.assertIn("2 lines were taken for the script", self.helps(text))
+            self.assertIn("`vat d (a)` without a number", self.helps(text))
+        self.assertEqual(self.helps("vat d () 1\n1 )\n") + self.helps("ask a {\n"), "")
+
     def test_what_crosses_goes_first(self):
         text = "vat a () 1\nvar n := 0\nturn e1.m0\nask a n := 1\nask a n\nturn e3.m0\nundo e5\nturn e4.m0\nredo e5\n"
         self.assertIn("`undo-cone e6` first", self.helps(text))
@@ -440,7 +457,7 @@ class Helping(unittest.TestCase):
             self.session.give(command)
         self.session.told["why e1 e2"] = ("why e1 e2 1", " e1 e2 msg e1.m0")
         found = advice(self.session, Command("undo e1"), Refusal("B15", "NotClosed", ("e1", "e2")))
-        self.assertEqual(found[1:], ["`why e1 e2` says:", "  why e1 e2 1", "   e1 e2 msg e1.m0"])
+        self.assertEqual(found[1:], ["`why e1 e2` says:", "  e2 touched the message e1.m0, which e1 wrote"])
 
     def test_where_a_message_is(self):
         self.assertIn("e1.m0 is at a. May be done now: `turn e1.m0`.", self.helps("vat a () 0\narrive e1.m0\n"))
@@ -574,6 +591,21 @@ class Questions(Watched):
         self.assertEqual(why_in(answer_to(self.asked, "why e4 e2")[0]).kind, "none")
         crossed = why_in(["why e17 e10 crossed", " e10 e17 view e3 e1.p0"])
         self.assertEqual((crossed.kind, str(crossed.steps[0].cell)), ("crossed", "view e3 e1.p0"))
+
+    def test_answers_in_words(self):
+        world = read_world(["vat a e1", " noun n = slot e2.s0"])
+        for word, reply, told in (
+            ("why", ["why e2 e4 1", " e2 e4 noun e1 n"], ["e4 touched the name n in a, which e2 wrote"]),
+            ("why", ["why e6 e5 crossed", " e5 e6 slot e2.s0"],
+             ["neither came of the other", "both e5 and e6 touched the variable e2.s0 (n in a), and one of them wrote it"]),
+            ("why", ["why e1 e1 none"], ["neither came of the other"]),
+            ("event", ["2 e2 live turn e1.m0 causes e1", " read vat a e1", " wrote board e1.p0 -"],
+             ["it read the name a of a vat, which e1 had written",
+              "it wrote what e1.p0 was published as, which nothing had written before"]),
+            ("cone", ["cone e1 e2"], []),
+        ):
+            with unittest.mock.patch.object(self.asked, "world", return_value=world):
+                self.assertEqual(answer_in_words(self.asked, word, reply), told)
 
     def test_a_way_by_causes(self):
         events = self.plain.events()

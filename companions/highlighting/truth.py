@@ -6,7 +6,7 @@ from conversation.texts import tokens_of
 
 from .language import command_words, operators, reserved_words
 
-ARGUMENT = re.compile(r"(?P<event>\be[0-9]+(?:\.[mp][0-9]+)?\b)|(?P<integer>[0-9]+)|[A-Za-z_]\w*")
+ARGUMENT = re.compile(r"(?P<event>\be[0-9]+(?:\.[mpo][0-9]+)?\b)|(?P<integer>[0-9]+)|[A-Za-z_]\w*")
 ESCAPE = re.compile(r"\\.", re.DOTALL)
 
 

@@ -5,19 +5,20 @@ from dataclasses import replace
 from pathlib import Path
 
 from building.place import RUN
-from conversation.advice import advice, pointed
+from conversation.advice import advice, behind_an_undo, pointed
 from conversation.commands import is_command, words_of
 from conversation.journal import JournalFault
 from conversation.program import Ended, Stopped
 from conversation.refusals import in_words
 from conversation.replies import events_in, refusal_in
 from conversation.session import UnknownLabel
+from conversation.telling import answer_in_words
 from conversation.typed import NotTyped, Typed, bytes_in, typed, written
 
 from .consoles import File
 from .helping import help_on, usages_of
 
-DOING = {"step", "run", "turn", "work"}
+DOING, UNDOING = {"step", "run", "turn", "work"}, {"undo", "undo-cone"}
 MOST_TOLD, LONGEST_TOLD = 40, 110
 # Behind so many events the journal takes too long to be asked for after each command.
 MOST_SEEN = 2_000
@@ -126,12 +127,22 @@ class Talk:
         if not self.console.is_terminal:
             return
         with contextlib.suppress(Stopped):
-            refusal = answered.refusal
-            if refusal:
-                self.console.tell([in_words(refusal) or "A refusal.", *pointed(answered.command, refusal)])
-                self.console.tell(advice(self.session, answered.command, refusal))
-            elif answered.command.word in DOING:
-                self.tell_done(made, answered.command.word)
+            self.tell_about(answered, made)
+
+    def tell_about(self, answered, made):
+        """Tells what a refusal means and what helps next, or what a reply says in words."""
+        refusal, word = answered.refusal, answered.command.word
+        if refusal:
+            self.console.tell([in_words(refusal) or "A refusal.", *pointed(answered.command, refusal)])
+            self.console.tell(advice(self.session, answered.command, refusal))
+        elif word in DOING:
+            self.tell_done(made, word)
+        elif word in UNDOING and len(self.seen) <= MOST_SEEN:
+            self.console.tell(behind_an_undo(self.session))
+        else:
+            told = answer_in_words(self.session, word, answered.reply)
+            self.console.tell(map(shortened, told[:MOST_TOLD]))
+            self.console.tell([f"{len(told) - MOST_TOLD} more stand above"] if len(told) > MOST_TOLD else [])
 
     def tell_done(self, made, word):
         """Tells the lines of the journal for the events that a command made."""

@@ -15,6 +15,8 @@ from .person import COMPANIONS, Person
 PROGRAM = os.environ.get("EVATS_PROGRAM") or str(Path(conversation.__file__).with_name("stand_in"))
 README = re.compile(r"at its prompt, or paste it:\n\n```\n(.*?)\n```\n\nIt shows:\n\n```\n(.*?)\n```", re.DOTALL)
 ENDLESS = "vat a ()\ndef o { to go() { o <- go() } }\no <- go()\n\n"
+# What is told where the turn of a vat's first script was taken back.
+ANEW = "# May be done anew: `turn e1.m0`. What was undone there could not be redone beside that.\n"
 CONTROL_A, CONTROL_D, CONTROL_K, CONTROL_P = "\x01", "\x04", "\x0b", "\x10"
 
 
@@ -73,7 +75,7 @@ class Terminals(Case):
     def test_labels(self):
         person = self.with_a_vat()
         person.says("turn $v.m0 as t", "ok e2 value 1\n")
-        person.says("undo $t", "ok undone 1\n> ")
+        person.says("undo $t", f"ok undone 1\n{ANEW}> ")
         person.says("undo $u", "# no event has the label $u\n> ")
         person.says("labels", "# $v e1\n# $t e2\n> ")
         person.says("show as s", "# $s stands for nothing")
@@ -86,6 +88,12 @@ class Terminals(Case):
         person.says("ask a 1 ) 2", "no L5 Unexpected 2\n")
         person.sees("#   1 ) 2\n#     ^\n> ")
 
+    def test_answers_in_words(self):
+        person = self.with_a_vat()
+        person.says("turn e1.m0", "> ")
+        person.says("why e1 e2", "why e1 e2 1\n e1 e2 msg e1.m0\n# e2 touched the message e1.m0, which e1 wrote\n> ")
+        person.says("event e1", "\n# it wrote the name a of a vat, which nothing had written before\n")
+
     def test_an_undo_tells_its_cone_and_asks(self):
         person = self.with_a_vat()
         person.says("turn e1.m0", "> ")
@@ -94,6 +102,9 @@ class Terminals(Case):
         person.types("n\n")
         person.sees("> ")
         person.says("undo-cone e2", "# take back this event? [y/N] ")
+        person.types("y\n")
+        person.sees(f"ok undone 1\n{ANEW}> ")
+        person.says("undo-cone e1", "# take back this event? [y/N] ")
         person.types("y\n")
         person.sees("ok undone 1\n> ")
         person.says("undo-cone e9", "no B12 NoEvent e9\n")
@@ -135,7 +146,7 @@ class Terminals(Case):
         person = self.person()
         person.types("\x1b[200~vat a () 1\r\tvar n := 1\rturn e1.m0\rundo-cone e2\ry\r\x1b[201~\n")
         person.sees("> vat a () 1\n. \tvar n := 1\nok e1 e1.m0\n> turn e1.m0\nok e2 value 1\n")
-        person.sees("# take back this event? [y/N] y\nok undone 1\n> ")
+        person.sees("# take back this event? [y/N] y\nok undone 1\n" + ANEW + "> ")
 
     def test_control_c_drops_a_half_typed_line(self):
         person = self.with_a_vat()

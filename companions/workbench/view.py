@@ -5,7 +5,7 @@ from conversation.questions import answer_to, way_by_causes, why_in
 from conversation.refusals import in_words
 from conversation.replies import refusal_in
 from conversation.session import UnknownLabel
-from conversation.telling import births, event_told, message_told, thing_told
+from conversation.telling import event_told, message_told, names_told, thing_told
 from picture.layout import layout, scene_of
 from picture.looks import LOOKS
 from picture.svg import picture
@@ -76,7 +76,7 @@ class View:
             return {"kind": "refused", "steps": [], "told": in_words(refusal)}
         told = None if reply else BY_CAUSES
         found = why_in(reply) if reply else way_by_causes(self.seen().events, first, second)
-        names = births(self.session)
+        names = names_told(self.session)
         steps = [(each.source, each.target, str(each.cell or ""), each.cell.in_words(names) if each.cell else "")
                  for each in found.steps]
         return {"kind": found.kind, "steps": steps, "told": told}

@@ -22,9 +22,9 @@ syn cluster evatsLanguage contains=evatsDefinition,evatsControl,evatsConstant,ev
 syn cluster evatsLanguage add=evatsComment,evatsText
 
 " Commands. Behind one `#` begins no comment, but in the program that is asked.
-syn match evatsCommand "^\s*[a-z-]\+" contained
-syn match evatsEvent "\<e\d\+\%(\.[mp]\d\+\)\=\>" contained
-syn match evatsLine "^\s*\%(vat\|ask\|enabled\|step\|run\|work\|arrive\|forward\|turn\|learn\|show\|journal\|log\|cone\|undo\|undo-cone\|redo\|exchange\|settle\)\%(\s\+\w.*\)\=\s*$" contains=evatsCommand,evatsEvent,evatsInteger
+syn match evatsCommand "^\s*\zs[a-z-]\+" contained
+syn match evatsEvent "\<e\d\+\%(\.[mpo]\d\+\)\=\>" contained
+syn match evatsLine "^\s*\%(vat\|ask\|enabled\|step\|run\|work\|arrive\|forward\|turn\|learn\|show\|journal\|log\|cone\|undo\|undo-cone\|redo\|exchange\|settle\|why\|event\|message\|object\)\%(\s\+\w.*\)\=\s*$" contains=evatsCommand,evatsEvent,evatsInteger
 syn region evatsAsk matchgroup=evatsCommand start="^\s*ask\ze\s\+\h" end="$" keepend oneline contains=@evatsLanguage
 
 hi def link evatsDefinition Keyword
