@@ -8,8 +8,8 @@ from running import brief
 from sessions import Session
 from showing import list_journal
 
-# No session comes to this event. Its refusal tells that the reply before it is whole.
-MARK, MARKED = "cone e4294967295\n", "no B12 NoEvent e4294967295\n"
+# No session comes to this event, and none asks for it. Its refusal tells that the reply before it is whole.
+MARK, MARKED = "cone e4040404040\n", "no B12 NoEvent e4040404040\n"
 WORK = re.compile("work ([1-9]|[1-5][0-9]|6[0-4]) ([0-9]{1,6})")
 # An entry of a worker: its name, and the command that does the same.
 ENTRY = re.compile(r"[0-9]+ e([0-9]+) live ((?:arrive|forward|learn|turn) .+) causes((?: e[0-9]+)*)")

@@ -28,6 +28,8 @@ class Texts:
         read = companion("tables").table_of
         self.tables = [read(path.name, path.read_text()) for path in sorted((TOP / "tests").rglob("*.table"))]
         self.rows = [[row.meant for row in table.rows] for table in self.tables]
+        # How often a table is taken: as it has rows, of which long ones count for little.
+        self.weights = [sum(SELDOM if len(row) > SHORT else 1 for row in rows) for rows in self.rows]
         names = [name for folder in ("tests", "examples") for name in sessions_below(folder)]
         self.sessions = [it for it in (text_of((TOP / name).read_bytes()) for name in names) if it]
         commands = [command for session in self.sessions for command in commands_of(bytes_of(session))]
@@ -171,7 +173,7 @@ class Mutated(Session):
 
 def asked(mutator):
     """A session in which changed texts are asked, most of them of one table."""
-    place = mutator.random.choices(range(len(texts().rows)), [len(it) for it in texts().rows])[0]
+    place = mutator.random.choices(range(len(texts().rows)), texts().weights)[0]
     commands = [*texts().head(place)]
     for number in range(TEXTS):
         others = texts().rows[place] if mutator.chance(0.6) else texts().parts

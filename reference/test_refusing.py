@@ -16,7 +16,7 @@ from texts import commands_of
 SESSION, SHORTEST = "vat a () 1\ndef x := 2\nrun 3\n", "vat a () 0\n"
 # What is told of a fake that has a fault where it is refused memory.
 FAULTS = {
-    "changes refused": "want of memory, and then otherwise:\nwanted: no B12 NoEvent e4294967295\ngot:    vat a e1\n",
+    "changes refused": "want of memory, and then otherwise:\nwanted: no B12 NoEvent e4040404040\ngot:    vat a e1\n",
     "forgets refused": "want of memory, and then otherwise:\nwanted: vat a e1\ngot:    1 e1 undone birth a causes\n",
     "draws refused": "want of memory, and then otherwise:\nwanted: ok e1 e1.m0\ngot:    ok e2 e2.m0\n",
     "is-silent refused": "neither the usual one nor want of memory\nwanted: ok e1 e1.m0\ngot:    \n",
@@ -69,6 +69,9 @@ class Refused(unittest.TestCase):
         usual = "answered as ever: 4\nanswered by want of memory: 4\nended at a line: 6\n14 refusals, 0 failed\n"
         self.assertEqual(self.refuse(), (False, usual))
         self.assertEqual(self.refuse("--jobs", "2"), (False, usual))
+
+    def test_a_session_may_ask_for_the_greatest_event(self):
+        self.assertRegex(self.refuse(session="cone e4294967295\n")[1], "[1-9][0-9]* refusals, 0 failed\n$")
 
     def test_each_fault_is_told(self):
         for fault, wanted in FAULTS.items():

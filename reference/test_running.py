@@ -3,12 +3,14 @@ import contextlib
 import io
 import os
 import runpy
+import threading
+import time
 import unittest
 from pathlib import Path
 from unittest.mock import patch
 
 import running
-from running import Conversation, Ended, run
+from running import Conversation, Ended, ahead, run
 
 HERE = Path(__file__).resolve().parent
 FAKE = str(HERE / "fake")
@@ -88,6 +90,17 @@ class Scripts(unittest.TestCase):
     def test_a_session_that_differs_is_made_short(self):
         said = told(COMPARE, "--seconds", "0.1", FAKE, fault="complains 2")[1]
         self.assertRegex(said, r"^\n--budget [0-9]+\n([^\n]*\n){2,9}\nstandard error: oh")
+
+
+class Ahead(unittest.TestCase):
+    def test_answers_come_in_order(self):
+        self.assertEqual([*ahead(range(9), lambda it: time.sleep((9 - it) / 100) or -it)], [(it, -it) for it in range(9)])
+        self.assertEqual([*ahead([], abs)], [])
+
+    def test_work_is_under_way_while_the_next_is_made(self):
+        is_made = threading.Event()
+        items = (is_made.set() if it == 3 else it for it in range(4))
+        self.assertEqual([answer for _, answer in ahead(items, lambda _: is_made.wait(60))], [True] * 4)
 
 
 class Runs(unittest.TestCase):
