@@ -1,22 +1,17 @@
 """Requests for memory that the built program is refused one by one, and what it may do then."""
 import argparse
-import mmap
-import os
 import random
 import re
-import struct
-import subprocess
 import time
 from collections import Counter
 from dataclasses import dataclass, field
-from functools import cache
-from pathlib import Path
+from functools import cache, lru_cache
 
 from following import MARK, MARKED, WORK, Differs, Followed, must
-from running import Conversation, brief, bytes_of, run
+from refused import Refuser, Waiting
+from running import Conversation, brief, bytes_of
 from texts import Broken, commands_of
 
-SOURCE = Path(__file__).resolve().parent / "refusing.c"
 # What is asked behind a command: all that it may have changed.
 QUESTIONS = "show\njournal\n"
 OUT_OF_MEMORY = "evats: out of memory\n"
@@ -33,61 +28,36 @@ GOES_ON = "room for a line was refused, and the run did not end for want of memo
 AT_NO_LINE = "the run ended though no room for a line was refused"
 
 
-def compiled(folder):
-    """The library that refuses, made in a folder."""
-    library = Path(folder) / "refusing.so"
-    subprocess.run(["gcc", "-O2", "-shared", "-fPIC", "-o", library, SOURCE], check=True)
-    return library
-
-
-class Refuser:
-    """The library as it is loaded into a program, and the page that is shared with it."""
-    PAGE = struct.Struct("7l")
-
-    def __init__(self, library):
-        shared = Path(library).with_name(f"page-{os.getpid()}")
-        shared.write_bytes(bytes(self.PAGE.size))
-        with open(shared, "r+b") as file:
-            self.page = mmap.mmap(file.fileno(), self.PAGE.size)
-        self.environment = {**os.environ, "LD_PRELOAD": str(library), "REFUSING": str(shared)}
-
-    def watch(self, start, end, first=0, is_on=False):
-        """Of the requests for these bytes of the input the first is refused, and with `is_on` all behind it."""
-        self.page[:] = self.PAGE.pack(start, end, first, is_on, 0, 0, 0)
-
-    def told(self):
-        """How many requests were made, how many were refused, and how many of these for room for a line."""
-        return self.PAGE.unpack(self.page[:])[4:]
-
-
 def shifted(text, least, by):
     """A text in which each event from one on has a later name."""
-    return re.sub(r"\be([0-9]+)\b", lambda it: f"e{int(it[1]) + by * (int(it[1]) >= least)}", text)
+    return text if not by else re.sub(r"\be([0-9]+)\b", lambda it: f"e{int(it[1]) + by * (int(it[1]) >= least)}", text)
 
 
+@lru_cache(64)
 def next_event(state):
     """An event that is none of those in a text, and all later ones."""
     return 1 + max(map(int, re.findall(r"\be([0-9]+)\b", state)), default=0)
 
 
 class Trial:
-    """A command of a session behind those before it, for which memory is refused. Then it is asked what there is, the command is
+    """A command before which a program waits, and for which memory is refused. Then it is asked what there is, the command is
     given again, and the same is asked."""
 
-    def __init__(self, words, refuser, before, command):
-        self.words, self.refuser, self.before, self.command = words, refuser, before, command
+    def __init__(self, waiting, command):
+        self.waiting, self.command = waiting, command
         self.word = next(iter(command.split()), "")
         self.plain = cache(self.plain)
 
     def run(self, first, refused=0, is_on=False):
         """How a run ends in which this stands in the place of the command."""
-        start = len(bytes_of(self.before))
-        self.refuser.watch(start, start + len(bytes_of(first)), refused, is_on)
-        given = MARK.join([self.before + first, QUESTIONS, self.command, QUESTIONS, ""])
-        return run(self.words, given, environment=self.refuser.environment)
+        given = MARK.join([first, QUESTIONS, self.command, QUESTIONS, ""])
+        return self.waiting.run(given, len(bytes_of(first)), refused, is_on)
+
+    def told(self):
+        return self.waiting.refuser.told()
 
     def plain(self, first):
-        """What is replied where no memory is refused: up to this, to the questions, to the command, and to the questions."""
+        """What is replied where no memory is refused: to this, to the questions, to the command, and to the questions."""
         ended = self.run(first)
         *parts, rest = ended.out.split(MARKED)
         must(ended.status == 1 and not ended.err and len(parts) == 4 and not rest,
@@ -97,13 +67,13 @@ class Trial:
     def asked(self):
         """How many requests for memory the command makes; asked before all else."""
         self.plain(self.command)
-        asked, *_ = self.refuser.told()
+        asked, *_ = self.told()
         self.plain("")
         return asked
 
     def done(self, reply):
         """How a command ended that gave this reply; what it did, as if that had been given in its place; what it said beside."""
-        usual = self.plain(self.command)[0].removeprefix(self.plain("")[0])
+        usual, *_ = self.plain(self.command)
         *steps, last = reply.splitlines(keepends=True) or [""]
         if reply == usual:
             return USUAL, self.command, ""
@@ -113,16 +83,14 @@ class Trial:
 
     def judged(self, ended):
         """How the command ended for which memory was refused; differs where that may not be."""
-        _, _, refused_in_line = self.refuser.told()
-        answered = self.plain("")[0]
-        rest = ended.out.removeprefix(answered)
+        _, _, refused_in_line = self.told()
         if (ended.status, ended.err) == (2, OUT_OF_MEMORY):
             must(refused_in_line, AT_NO_LINE)
-            must(ended.out == answered, f"{NOT_BEHIND}: {brief(rest)}")
+            must(not ended.out, f"{NOT_BEHIND}: {brief(ended.out)}")
             return AT_LINE
         must(not refused_in_line, GOES_ON)
-        must(ended.status == 1 and not ended.err, f"{ended.ending}, and said {brief(rest)}{brief(ended.err)}")
-        kind, first, said = self.done(rest.partition(MARKED)[0])
+        must(ended.status == 1 and not ended.err, f"{ended.ending}, and said {brief(ended.out)}{brief(ended.err)}")
+        kind, first, said = self.done(ended.out.partition(MARKED)[0])
         before, *behind = self.plain(first)
         least = next_event(behind[0])
         # A turn that is refused may have drawn its name.
@@ -136,7 +104,7 @@ class Trial:
     def refuse(self, number, is_on):
         """How the command ends where this request is refused; nothing where it did not come to it."""
         ended = self.run(self.command, number, is_on)
-        if not self.refuser.told()[1]:
+        if not self.told()[1]:
             return None
         return self.judged(ended)
 
@@ -168,11 +136,11 @@ class Worked(Followed):
             super().end_of_work(new, taken, turns, max(0, dropped - self.lost))
 
 
-class WorkTrial(Trial):
-    """The same of `work`, which comes to another world each time."""
+class WorkTrial:
+    """The same of `work`, which comes to another world each time, and so behind all that stands before it."""
 
     def __init__(self, words, refuser, before, command):
-        super().__init__(words, refuser, before, command)
+        self.words, self.refuser, self.before, self.command = words, refuser, before, command
         parser = argparse.ArgumentParser()
         parser.add_argument("--budget", type=int, default=10_000)
         parser.add_argument("--workers", type=int, default=8)
@@ -242,12 +210,15 @@ def is_work(command):
     return bool(WORK.fullmatch(command.removesuffix("\n")))
 
 
-def trial_of(words, refuser, earlier, command):
+def trial_of(waiting, earlier, command):
     """The trial of a command behind others; none where it has another world to begin with each time."""
     before = "".join(earlier)
     if is_work(command):
-        return WorkTrial(words, refuser, before, command)
-    return None if any(map(is_work, earlier)) else Trial(words, refuser, before, command)
+        return WorkTrial(waiting.words, waiting.refuser, before, command)
+    if any(map(is_work, earlier)):
+        return None
+    waiting.go_to(len(bytes_of(before)))
+    return Trial(waiting, command)
 
 
 def kind_of(trial, number, is_on):
@@ -291,9 +262,11 @@ def try_session(options, case):
     if isinstance(case, Broken):
         found.faults.append(f"{case.name}: {case.why}")
         return found
-    for place, command in enumerate(commands_of(case.commands), 1):
-        trial = trial_of([options.program, *case.arguments], refuser, earlier, command)
-        earlier.append(command)
-        if trial and time.monotonic() < options.end:
-            try_command(trial, f"{case.name}, command {place}", options, found)
+    commands = commands_of(case.commands)
+    with Waiting([options.program, *case.arguments], refuser, commands) as waiting:
+        for place, command in enumerate(commands, 1):
+            trial = time.monotonic() < options.end and trial_of(waiting, earlier, command)
+            earlier.append(command)
+            if trial:
+                try_command(trial, f"{case.name}, command {place}", options, found)
     return found

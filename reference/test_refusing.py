@@ -7,8 +7,9 @@ import unittest
 from pathlib import Path
 from unittest.mock import patch
 
-import refusing
-from refusing import Refuser, chosen, compiled, shifted
+import refused
+from refused import Refuser, Waiting, compiled
+from refusing import chosen, shifted
 from running import run
 from test_running import FAKE, told
 from texts import commands_of
@@ -62,7 +63,7 @@ class Refused(unittest.TestCase):
         """Whether the script fails on a fake, and what it prints."""
         (self.folder / "few.evats").write_text(session)
         (self.folder / "few.replies").touch()
-        with patch.object(refusing, "compiled", return_value=self.library):
+        with patch.object(refused, "compiled", return_value=self.library):
             return told(["refuse"], *words, "--program", FAKE, str(self.folder / "few.evats"), fault=fault)
 
     def test_a_program_that_does_all_is_passed(self):
@@ -115,6 +116,39 @@ class Refused(unittest.TestCase):
             refuser.watch(3, 7, first, is_on)
             ended = run([program], "ab\ncde\nf\n", environment=refuser.environment)
             self.assertEqual((ended, refuser.told()), ((0, replies, ""), told_of))
+
+    def waiting(self, words, *commands):
+        return Waiting(words, Refuser(self.library), commands)
+
+    def test_how_a_program_goes_on_in_copies(self):
+        source, program = self.folder / "copied.c", self.folder / "copied"
+        source.write_text(PROGRAM)
+        subprocess.run(["gcc", "-o", program, source], check=True)
+        with self.waiting([program], "ab\n", "cde\n", "f\n") as waiting:
+            for place in (3, 0, 7):
+                if place:
+                    waiting.go_to(place)
+                for given, watched, first, is_on, replies, told_of in (
+                    ("cde\nf\n", 4, 0, False, "7\n5\n", (7, 0, 0)),
+                    ("cde\nf\n", 4, 4, False, "6\n5\n", (7, 1, 0)),
+                    ("cde\nf\n", 4, 3, True, "2\n5\n", (7, 5, 1)),
+                    ("f\n", 0, 1, True, "5\n", (0, 0, 0)),
+                ):
+                    ended = waiting.run(given, watched, first, is_on)
+                    self.assertEqual((ended, waiting.refuser.told()), ((0, replies, ""), told_of))
+
+    def test_how_a_copy_ends(self):
+        with self.waiting(["sh", "-c", "read a; echo $a; exit 3"], "1\n") as waiting:
+            self.assertEqual(waiting.run("2\n", 0), (3, "2\n", ""))
+        with self.waiting(["sh", "-c", "read a; echo $a >&2; exec sh -c 'kill -6 $$'"], "1\n") as waiting:
+            self.assertEqual(waiting.run("2\n", 0), (-6, "", "2\n"))
+
+    def test_a_program_that_hangs_begins_anew(self):
+        session = ["read a; read a; [ $a = hang ] && sleep 1000; echo $a", "1\n"]
+        with patch.object(refused, "SECONDS", 0.5), self.waiting(["sh", "-c", session[0]], "1\n", "2\n") as waiting:
+            waiting.go_to(2)
+            self.assertEqual(waiting.run("hang\n", 0), (None, "", ""))
+            self.assertEqual(waiting.run("3\n", 0), (0, "3\n", ""))
 
     def test_how_sessions_are_cut_into_commands(self):
         for text, commands in (
