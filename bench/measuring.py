@@ -47,6 +47,14 @@ def add_instructions(parser):
                         help="count instructions by valgrind, of smaller sizes, in place of seconds: the same on a busy machine")
 
 
+def positive(word):
+    """The number above 0 that a word is."""
+    number = int(word)
+    if number < 1:
+        raise ValueError
+    return number
+
+
 def program_of(word):
     """Where the program stands that a word names, or else the one that is built."""
     program = os.path.abspath(named_or_built(word))
@@ -100,9 +108,25 @@ class Ended:
     said: str
 
 
+@dataclass(frozen=True)
+class Memory:
+    """The most bytes that a run held at a time, and how often it asked for memory, where that was counted."""
+
+    most: int
+    requests: int | None = None
+
+
 def read_whole(file):
     file.seek(0)
     return file.read().decode(errors="replace")
+
+
+def started(words, **streams):
+    """A process that was started on these words."""
+    try:
+        return subprocess.Popen(words, env=ENVIRONMENT, **streams)
+    except OSError as fault:
+        complain(f"cannot run {words[0]}: {fault.strerror}")
 
 
 def run(words, text):
@@ -110,16 +134,17 @@ def run(words, text):
     with tempfile.TemporaryFile() as given, tempfile.TemporaryFile() as out, tempfile.TemporaryFile() as said:
         given.write(text.encode())
         given.seek(0)
-        child = subprocess.Popen(words, stdin=given, stdout=out, stderr=said, env=ENVIRONMENT)
+        child = started(words, stdin=given, stdout=out, stderr=said)
         _, status, used = os.wait4(child.pid, 0)
         child.returncode = os.waitstatus_to_exitcode(status)
         return Ended(child.returncode, used.ru_utime + used.ru_stime, used.ru_maxrss * 1024, read_whole(out), read_whole(said))
 
 
-def must(is_so, words, ended, found):
+def must(is_so, words, ended, found=""):
     """Ends the script where a run did not do what is measured."""
     if not is_so:
-        sys.exit(f"{' '.join(words)} ended with {ended.status}: {found}{ended.said[-500:]}")
+        said = [line for line in ended.said.splitlines() if not re.match("(==|--)[0-9]+", line)]
+        sys.exit("\n".join([f"{' '.join(words)} ended with {ended.status}{found}", *said[-5:]]))
 
 
 def check_replies(words, ended, last):
@@ -127,7 +152,7 @@ def check_replies(words, ended, last):
     replies = ended.out.splitlines() or [""]
     wrong = [reply for reply in replies if reply.startswith("no ") and not reply.startswith(last)]
     wrong += [] if replies[-1].startswith(last) else replies[-1:]
-    must(not wrong and ended.status == int(last.startswith("no ")), words, ended, f"a reply is {''.join(wrong[:1])[:200]!r}; ")
+    must(not wrong and ended.status == int(last.startswith("no ")), words, ended, f"; a reply is {''.join(wrong[:1])[:200]!r}")
 
 
 @dataclass(frozen=True)
@@ -148,7 +173,7 @@ class Meter:
     def theirs(self, source):
         """What python3 costs on this source."""
         cost, ended = self.cost(PYTHON, source)
-        must(ended.status == 0, PYTHON, ended, "")
+        must(ended.status == 0, PYTHON, ended)
         return cost
 
 
@@ -165,10 +190,10 @@ class Seconds(Meter):
         return min([first.seconds, *(run(words, text).seconds for _ in range(times - 1))]), first
 
     def memory(self, commands):
-        """The most memory that the program has at a time. It is no less than that of this script, from which it was started."""
+        """The greatest resident size of the program. It is no less than that of this script, from which it was started."""
         ended = run(self.words(), commands)
         check_replies(self.words(), ended, "ok ")
-        return ended.memory
+        return Memory(ended.memory)
 
     def told(self, cost):
         return f"{cost * 1e6:12,.1f} microseconds"
@@ -191,16 +216,17 @@ class Instructions(Meter):
         ended = run([*COUNTING, *words], text)
         return self.found(COUNTED, words, ended)[0], ended
 
-    def requests_and_memory(self, commands):
-        """How often the program asks for memory, and the most bytes of those that it asked for that it holds at a time."""
+    def memory(self, commands):
+        """The most bytes of those that the program asked for that it held at a time, and how often it asked."""
         ended = run([*WATCHING, *self.words()], commands)
         check_replies(self.words(), ended, "ok ")
-        return self.found(HELD, self.words(), ended)
+        requests, most = self.found(HELD, self.words(), ended)
+        return Memory(most, requests)
 
     def found(self, pattern, words, ended):
         """The numbers that valgrind told."""
         numbers = pattern.search(ended.said)
-        must(numbers, words, ended, "valgrind told no number; ")
+        must(numbers, words, ended, ", and valgrind told no number")
         return [int(it.replace(",", "")) for it in numbers.groups()]
 
     def told(self, cost):
