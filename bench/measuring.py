@@ -44,15 +44,14 @@ def parser_of(document):
 def add_instructions(parser):
     """Has a parser know the option that counts instructions."""
     parser.add_argument("--instructions", action="store_true",
-                        help="count instructions by valgrind, of smaller sizes, in place of seconds: the same on a busy machine")
+                        help="count instructions, of smaller sizes, in place of time: the same on a busy machine; needs valgrind")
 
 
 def positive(word):
     """The number above 0 that a word is."""
-    number = int(word)
-    if number < 1:
-        raise ValueError
-    return number
+    if not word.isdecimal() or int(word) < 1:
+        raise argparse.ArgumentTypeError(f"{word} is no number above 0")
+    return int(word)
 
 
 def program_of(word):
@@ -99,8 +98,9 @@ class Session:
 
 @dataclass(frozen=True)
 class Ended:
-    """How a run ended: its status, its processor seconds, its greatest resident size in bytes, and what it wrote."""
+    """How a run of a command ended: its status, its processor seconds, its greatest resident size in bytes, and what it wrote."""
 
+    words: tuple
     status: int
     seconds: float
     memory: int
@@ -137,27 +137,28 @@ def run(words, text):
         child = started(words, stdin=given, stdout=out, stderr=said)
         _, status, used = os.wait4(child.pid, 0)
         child.returncode = os.waitstatus_to_exitcode(status)
-        return Ended(child.returncode, used.ru_utime + used.ru_stime, used.ru_maxrss * 1024, read_whole(out), read_whole(said))
+        seconds, memory = used.ru_utime + used.ru_stime, used.ru_maxrss * 1024
+        return Ended(words, child.returncode, seconds, memory, read_whole(out), read_whole(said))
 
 
-def must(is_so, words, ended, found=""):
+def must(is_so, ended, found=""):
     """Ends the script where a run did not do what is measured."""
     if not is_so:
         said = [line for line in ended.said.splitlines() if not re.match("(==|--)[0-9]+", line)]
-        sys.exit("\n".join([f"{' '.join(words)} ended with {ended.status}{found}", *said[-5:]]))
+        sys.exit("\n".join([f"{' '.join(ended.words)} ended with {ended.status}{found}", *said[-5:]]))
 
 
-def check_replies(words, ended, last):
+def check_replies(ended, last):
     """Looks whether the last reply of the program begins so, and all are accepted, or refused for just this reason."""
     replies = ended.out.splitlines() or [""]
     wrong = [reply for reply in replies if reply.startswith("no ") and not reply.startswith(last)]
     wrong += [] if replies[-1].startswith(last) else replies[-1:]
-    must(not wrong and ended.status == int(last.startswith("no ")), words, ended, f"; a reply is {''.join(wrong[:1])[:200]!r}")
+    must(not wrong and ended.status == int(last.startswith("no ")), ended, f"; a reply is {''.join(wrong[:1])[:200]!r}")
 
 
 @dataclass(frozen=True)
 class Meter:
-    """Tells what runs cost, those of the program and those of python3."""
+    """Tells what runs cost, those of the program and those of python3. What cost is, those below say."""
 
     program: str
 
@@ -167,14 +168,20 @@ class Meter:
     def ours(self, commands, last="ok "):
         """What the program costs on these commands, the last of which is answered so."""
         cost, ended = self.cost(self.words(), commands)
-        check_replies(self.words(), ended, last)
+        check_replies(ended, last)
         return cost
 
     def theirs(self, source):
         """What python3 costs on this source."""
         cost, ended = self.cost(PYTHON, source)
-        must(ended.status == 0, PYTHON, ended)
+        must(ended.status == 0, ended)
         return cost
+
+    def accepted(self, commands, watching=()):
+        """A run of the program on these commands, which are all accepted, below what watches it."""
+        ended = run((*watching, *self.words()), commands)
+        check_replies(ended, "ok ")
+        return ended
 
 
 class Seconds(Meter):
@@ -191,9 +198,7 @@ class Seconds(Meter):
 
     def memory(self, commands):
         """The greatest resident size of the program. It is no less than that of this script, from which it was started."""
-        ended = run(self.words(), commands)
-        check_replies(self.words(), ended, "ok ")
-        return Memory(ended.memory)
+        return Memory(self.accepted(commands).memory)
 
     def told(self, cost):
         return f"{cost * 1e6:12,.1f} microseconds"
@@ -213,20 +218,18 @@ class Instructions(Meter):
     least = 1
 
     def cost(self, words, text):
-        ended = run([*COUNTING, *words], text)
-        return self.found(COUNTED, words, ended)[0], ended
+        ended = run((*COUNTING, *words), text)
+        return self.found(COUNTED, ended)[0], ended
 
     def memory(self, commands):
         """The most bytes of those that the program asked for that it held at a time, and how often it asked."""
-        ended = run([*WATCHING, *self.words()], commands)
-        check_replies(self.words(), ended, "ok ")
-        requests, most = self.found(HELD, self.words(), ended)
+        requests, most = self.found(HELD, self.accepted(commands, WATCHING))
         return Memory(most, requests)
 
-    def found(self, pattern, words, ended):
+    def found(self, pattern, ended):
         """The numbers that valgrind told."""
         numbers = pattern.search(ended.said)
-        must(numbers, words, ended, ", and valgrind told no number")
+        must(numbers, ended, ", and valgrind told no number")
         return [int(it.replace(",", "")) for it in numbers.groups()]
 
     def told(self, cost):
