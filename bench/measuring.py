@@ -188,8 +188,6 @@ class Seconds(Meter):
     """Processor time: the least of three runs, or of one that is long, or of ten that are short."""
 
     is_exact = False
-    # What a difference is taken for that is too small to be seen.
-    least = 1e-6
 
     def cost(self, words, text):
         first = run(words, text)
@@ -215,7 +213,6 @@ class Instructions(Meter):
     """Instructions, of which each run takes the same number."""
 
     is_exact = True
-    least = 1
 
     def cost(self, words, text):
         ended = run((*COUNTING, *words), text)
