@@ -26,7 +26,9 @@ use Rattle.erules.specs.OutboxView.{outbox_of}
 use Rattle.event.specs.Events.{DoesNoted, Foot, AreNew, DeliversOn, Turn, Turns, turns, turn_foot, letters_from, noted_events}
 use Rattle.event.specs.Effects.{BringsTurn}
 use Rattle.event.specs.Ready.{early, lost}
+use Rattle.event.specs.ReadyView.{IsWay}
 use Rattle.event.specs.declared.effects.Effects.{Effects}
+use Rattle.event.specs.declared.ready.Way.{Way}
 use Rattle.journal.specs.Items.{entered}
 use Rattle.desk.specs.Desks.{Lent, without}
 use Rattle.turn.specs.Tasks.{task_of}
@@ -37,12 +39,8 @@ use Rattle.undo.specs.CoreView.{shown, state_of}
 use Rattle.undo.specs.declared.undoing.Core.{Core}
 use Rattle.book.specs.Books.{Book}
 use Rattle.book.specs.Calls.{lent_of, Lends, IsKnown, IsFresh, LeadsAsBefore, EntersTurn, turn_in, Commits, TurnsNext}
-use Rattle.book.specs.Fault.{TellsCommit}
-use Rattle.book.specs.Refusals.{refuse_where, refusal_of, budget_refusal, message_out, vat_out, full, journal_full, checkout_refusal}
-use Rattle.book.specs.Calls.{strange, changed, no_room}
+use Rattle.book.specs.Refusals.{refuse_where, refusal_of, budget_refusal, message_out, vat_out, journal_full, checkout_refusal}
 use Rattle.book.specs.Standing.{Kept, Stands}
-use Rattle.book.specs.declared.fault.BookFault.{BookFault}
-use Rattle.book.specs.declared.fault.BookFault.TheVariants as fault
 use Rattle.book.proofs.Entering.{book_with, book_enters, book_stands, kept_entered}
 use Rattle.book.proofs.Within.{neither, room_for_names}
 use Rattle.book.proofs.Unnamed.{letters_new}
@@ -137,7 +135,7 @@ pub has_room : (b : Book) (m : MsgId) (budget : ℕ) → checkout_refusal b m bu
 has_room b m budget e = room_for_names b (neither (option_map (refusal_of m) (early b.world m)) _
     (neither (refuse_where (message_out (world_message b.world m) b.out) vat_out) _ (neither (option_map (refusal_of m) (lost b.world m)) _ (neither (budget_refusal budget) _ e))))
 
--- a ticket that was just lent and run can be refused for want of memory alone
+-- a ticket that was just lent and run is known and fresh, and there is room for its turn
 module _ (m : MsgId) (budget seat : ℕ) (t : Out) (old mid : Book) (r : Ran) (lends : Lends m budget seat t old mid) (same : r.carried ≡ task_of t)
     (found : FoundCells r.outcome.footprint (heap_state_of (arc_value t.state))) (room : checkout_refusal old m budget ≡ None) where
   abbrev lent_book : Book
@@ -163,33 +161,9 @@ module _ (m : MsgId) (budget seat : ℕ) (t : Out) (old mid : Book) (r : Ran) (l
   pub lent_room : journal_full mid ≡ None
   lent_room = ap journal_full lends.lent ∙ has_room old m budget room
 
-  pub memory_alone : (f : BookFault) → TellsCommit f mid r → f ≡ fault.Memory
-  memory_alone fault.NoTicket (strange h) = absurd (h lent_known)
-  memory_alone fault.Stale (changed k h) = absurd (h lent_fresh)
-  memory_alone fault.Full (no_room k h e) = absurd (some_none (sym lent_room ∙ e))
-    where
-      some_none : None ≡ Some full → ⊥
-      some_none e = cc
-  memory_alone fault.Memory h = refl
-  memory_alone (fault.NoVat x) h = absurd h
-  memory_alone (fault.NameTaken x) h = absurd h
-  memory_alone (fault.NoMessage n) h = absurd h
-  memory_alone fault.NotThere h = absurd h
-  memory_alone fault.NotReady h = absurd h
-  memory_alone fault.NothingToLearn h = absurd h
-  memory_alone (fault.Before n) h = absurd h
-  memory_alone fault.VatOut h = absurd h
-  memory_alone (fault.NoEvent n) h = absurd h
-  memory_alone (fault.NoPosition n) h = absurd h
-  memory_alone (fault.Settled n) h = absurd h
-  memory_alone (fault.NotLive n) h = absurd h
-  memory_alone (fault.IsLive n) h = absurd h
-  memory_alone (fault.NotClosed n k) h = absurd h
-  memory_alone (fault.Crossed n k) h = absurd h
-  memory_alone (fault.CauseMissing n k) h = absurd h
-  memory_alone (fault.Dependent n k) h = absurd h
-  memory_alone fault.BadBudget h = absurd h
-  memory_alone (fault.Check n) h = absurd h
+  -- its message leads where it led
+  pub lent_way : (way : Way) → IsWay old.world t.vat (message_of t.message) way → IsWay mid.world r.carried.vat (message_of r.carried.message) way
+  lent_way way h = subst (λ (b : Book). IsWay b.world r.carried.vat (message_of r.carried.message) way) (sym lends.lent) (subst (λ (o : Task). IsWay old.world o.vat (message_of o.message) way) (sym same) h)
 
   -- and its turn, entered, is one under the name that came next
   moved : (u : Turn) (now : Book) (e f : EventName) (n k : MsgId) (x y : ℕ) (p q : ℕ) → e ≡ f → n ≡ k → x ≡ y → p ≡ q → EntersTurn e n x p u lent_book now → EntersTurn f k y q u old now

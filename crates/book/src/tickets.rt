@@ -19,7 +19,6 @@ ghost use Rattle.book.specs.declared.book.TheConstants.{LAST_NAME};
 
 use crate::book::{Book, MOST_ENTRIES, MOST_STEPS, NO_SEAT, Turned, noted};
 use crate::fault::{BookFault, delay_fault, unready_fault};
-use deliveries::lead::Lead;
 use desk::desk::Lent;
 use event::effects::{Effects, turn_effects};
 use event::found::is_found;
@@ -28,7 +27,7 @@ use heap::reach::Footprint;
 use heap::state::VatState;
 use ids::names::{EventName, MsgId, VatNo};
 use post::message::{Message, Place, same_sent};
-use std::alloc::Global;
+use std::alloc::{AllocError, Global};
 use turn::ticket::{Out, Ran, Task, Ticket};
 use undo::undoing::Deed;
 use worldcells::event::{Action, Event};
@@ -115,8 +114,9 @@ impl Book {
         &self,
         message: MsgId,
         budget: u32,
-    ) -> Result<(Message, Lead, VatNo, EventName), BookFault>
-        ensures ok { IfOk result (λ r. Admitted (book_of self.now) message budget r.0 r.1 r.2 r.3) }
+    ) -> Result<(Message, Way, VatNo, EventName), BookFault>
+        ensures ok { IfOk result (λ r. Admitted (book_of self.now) message budget r.0 r.1.lead r.2 r.3) }
+        ensures way { IfOk result (λ r. IsWay (book_of self.now).world r.2 (message_of r.0) r.1) }
         ensures in_range { OnOk result (self.now.next ≤ LAST_NAME) }
         ensures err { IfErr result (λ fault. Tells fault (checkout_refusal (book_of self.now) message budget)) }
     {
@@ -129,12 +129,50 @@ impl Book {
         if self.desk.has_vat(vat) {
             return Err(BookFault::VatOut);
         }
-        let lead = match check_ready(self.alloc, world, waiting, vat) {
-            Ok(way) => way.lead,
+        let way = match check_ready(self.alloc, world, waiting, vat) {
+            Ok(way) => way,
             Err(delay) => return Err(delay_fault(message, delay)),
         };
         let event = self.next_event()?;
-        Ok((waiting.share()?, lead, vat, event))
+        Ok((waiting.share()?, way, vat, event))
+    }
+
+    /// A ticket for the turn of a message that is lent to a seat, and where the message leads.
+    fn lend(
+        &mut self,
+        message: MsgId,
+        budget: u32,
+        seat: u64,
+    ) -> Result<(Ticket<Out>, Way), BookFault>
+        ensures ok { IfOk result (λ r. (checkout_refusal (book_of self.old) message budget ≡ None) × Lends message budget seat r.0 (book_of self.old) (book_of self.new)) }
+        ensures way { IfOk result (λ r. IsWay (book_of self.old).world r.0.vat (message_of r.0.message) r.1) }
+        ensures err { IfErr result (λ fault. Tells fault (checkout_refusal (book_of self.old) message budget)) }
+        ensures unchanged { OnErr result (book_of self.new ≡ book_of self.old) }
+        ensures counted { swaps_of self.new ≡ swaps_of self.old }
+    {
+        let (carried, way, vat, event) = self.admit_turn(message, budget)?;
+        let lead = way.lead.share()?;
+        let state = self.core.share_vat(self.alloc, vat)?;
+        self.desk.lend(Lent {
+            number: event,
+            message,
+            vat,
+            budget,
+            seat,
+        })?;
+        self.next += 1;
+        let ticket = Ticket::new(Out {
+            alloc: self.alloc,
+            event,
+            name: message,
+            message: carried,
+            lead,
+            vat,
+            state,
+            budget,
+            seat,
+        });
+        Ok((ticket, way))
     }
 
     /// Lends a ticket for the turn of a message, with at most this many steps, to a seat. The ticket shares the vat's state.
@@ -152,27 +190,10 @@ impl Book {
         ensures unchanged { OnErr result (book_of self.new ≡ book_of self.old) }
         ensures counted { swaps_of self.new ≡ swaps_of self.old }
     {
-        let (carried, lead, vat, event) = self.admit_turn(message, budget)?;
-        let state = self.core.share_vat(self.alloc, vat)?;
-        self.desk.lend(Lent {
-            number: event,
-            message,
-            vat,
-            budget,
-            seat,
-        })?;
-        self.next += 1;
-        Ok(Ticket::new(Out {
-            alloc: self.alloc,
-            event,
-            name: message,
-            message: carried,
-            lead,
-            vat,
-            state,
-            budget,
-            seat,
-        }))
+        match self.lend(message, budget, seat) {
+            Ok((ticket, _)) => Ok(ticket),
+            Err(fault) => Err(fault),
+        }
     }
 
     /// The ticket is out, and its message is the world's, if it is there.
@@ -219,17 +240,17 @@ impl Book {
         Ok(())
     }
 
-    /// Enters a turn that was run, or changes nothing.
-    fn enter_turn(&mut self, ran: &Ran) -> Result<(), BookFault>
+    /// Enters a turn that was run, of which all was looked at, and its ticket is no longer out. Fails only for want of memory.
+    fn enter_ran(&mut self, ran: &Ran, way: &Way) -> Result<(), AllocError>
+        requires known { IsKnown (book_of self.old) ran.now.carried }
+        requires fresh { IsFresh (book_of self.old) ran.now }
+        requires room { journal_full (book_of self.old) ≡ None }
+        requires way { IsWay (book_of self.old).world ran.now.carried.vat (message_of ran.now.carried.message) way.now }
         ensures ok { OnOk result (Commits ran.now (book_of self.old) (book_of self.new)) }
-        ensures err { IfErr result (λ fault. TellsCommit fault (book_of self.old) ran.now) }
         ensures unchanged { OnErr result (book_of self.new ≡ book_of self.old) }
         ensures counted { OnOk result (CountsNew self.old self.new) }
         ensures none { OnErr result (swaps_of self.new ≡ swaps_of self.old) }
     {
-        self.check_known(&ran.carried)?;
-        let way = self.check_fresh(ran)?;
-        self.check_room()?;
         let out = &ran.carried;
         let Effects {
             touched,
@@ -241,7 +262,7 @@ impl Book {
             out.event,
             out.name,
             &out.message,
-            &way,
+            way,
             out.vat,
             &ran.outcome,
         )?;
@@ -261,6 +282,21 @@ impl Book {
         self.core.enter(self.alloc, deed, &touched, records)?;
         self.desk.remove(out.event);
         self.agenda = noted(self.alloc, self.agenda.take(), self.core.world(), &touched);
+        Ok(())
+    }
+
+    /// Enters a turn that was run, or changes nothing.
+    fn enter_turn(&mut self, ran: &Ran) -> Result<(), BookFault>
+        ensures ok { OnOk result (Commits ran.now (book_of self.old) (book_of self.new)) }
+        ensures err { IfErr result (λ fault. TellsCommit fault (book_of self.old) ran.now) }
+        ensures unchanged { OnErr result (book_of self.new ≡ book_of self.old) }
+        ensures counted { OnOk result (CountsNew self.old self.new) }
+        ensures none { OnErr result (swaps_of self.new ≡ swaps_of self.old) }
+    {
+        self.check_known(&ran.carried)?;
+        let way = self.check_fresh(ran)?;
+        self.check_room()?;
+        self.enter_ran(ran, &way)?;
         Ok(())
     }
 
@@ -320,7 +356,8 @@ impl Book {
         fault
     }
 
-    /// Runs the turn of a message, with at most this many steps, and enters what it did: checkout, run and commit.
+    /// Runs the turn of a message, with at most this many steps, and enters what it did: checkout, run and commit. Between these nothing
+    /// changes, so the turn is not looked at again.
     ///
     /// # Errors
     /// `BadBudget`, `NoMessage`, `NotThere`, `VatOut`, `NotReady`, `Before`, `Full`, `Memory`, tried in this order.
@@ -331,7 +368,7 @@ impl Book {
         ensures counted { OnOk result (CountsNew self.old self.new) }
         ensures none { OnErr result (swaps_of self.new ≡ swaps_of self.old) }
     {
-        let ticket = self.checkout(message, budget, NO_SEAT)?;
+        let (ticket, way) = self.lend(message, budget, NO_SEAT)?;
         let ran = match ticket.run() {
             Ok(ran) => ran,
             Err((ticket, _)) => {
@@ -343,9 +380,15 @@ impl Book {
         let Ok(ended) = ran.outcome().ended.share() else {
             return Err(self.drop_turn(number, ran, BookFault::Memory));
         };
-        match self.commit(ran) {
-            Ok(event) => Ok(Turned { event, ended }),
-            Err((ran, fault)) => Err(self.drop_turn(number, ran, fault)),
+        match self.enter_ran(ran.ran(), &way) {
+            Ok(()) => {
+                ran.discard();
+                Ok(Turned {
+                    event: number,
+                    ended,
+                })
+            }
+            Err(_) => Err(self.drop_turn(number, ran, BookFault::Memory)),
         }
     }
 }

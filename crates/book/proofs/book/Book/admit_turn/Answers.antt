@@ -7,6 +7,7 @@ use Rattle.worldcells.specs.Theory.{cells}
 use Rattle.worldcells.specs.View.{world_of}
 use Rattle.post.specs.Messages.{Message}
 use Rattle.worldcells.specs.World.{World, message}
+use Rattle.event.specs.ReadyView.{IsWay}
 use Rattle.event.specs.Walks.{found_by}
 use Rattle.book.specs.BookView.{book_of}
 use Rattle.book.specs.Calls.{IsReadyAt}
@@ -63,3 +64,11 @@ returns-clause-ok c =
       ready = subst (λ (g : Message). IsReadyAt b.world g found.1) (sym c.in_ok-share.ensures) (subst (λ (w : World). IsReadyAt w (message_of found.0.now) found.1) same (record { leads = way.leads; in_order = way.in_order }));
       lead = way.lead ∙ ap (λ (w : World). found_by w (message_of found.0.now).delivery) same ∙ ap (λ (g : Message). found_by b.world g.delivery) (sym c.in_ok-share.ensures);
     }
+
+pub returns-clause-way : goal.returns-clause-way
+returns-clause-way c =
+    let b = book_of c.args.self.now in
+    let same : world_of c.world-world.result.now ≡ b.world = ap (contents cells) c.world-world.ensures in
+    let found = c.in-Ok.found in
+    subst (λ (g : Message). IsWay b.world found.1 g c.in-Ok-check_ready.way) (sym c.in_ok-share.ensures)
+    (subst (λ (w : World). IsWay w found.1 (message_of found.0.now) c.in-Ok-check_ready.way) same c.in-Ok-check_ready.ensures.ok)

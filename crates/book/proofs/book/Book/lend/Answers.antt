@@ -8,15 +8,15 @@ use Rattle.book.proofs.Checkouts.{vat_is_free}
 use Rattle.book.proofs.TicketsOut.{stands_lent}
 use Rattle.book.proofs.Noting.{noted_same}
 use Rattle.book.proofs.Within.{within_same}
-use Rattle.book.proofs.book.Book.checkout.Goals as goal
+use Rattle.book.proofs.book.Book.lend.Goals as goal
 
 pub invariant_of-self : goal.invariant_of-self
 invariant_of-self c =
     let b = c.args.self.now in
     record { in_range = b.in_range; stands = stands_same b.core _ b.next (out_of b.desk) c.share_vat.ensures.shown b.stands; within = within_same b.core c.share_vat.new.self c.share_vat.ensures.shown c.share_vat.ensures.settled b.within; noted = noted_same b.core c.share_vat.new.self b.agenda c.share_vat.ensures.shown b.noted }
 
-pub invariant_of-self-in-Break-branch-3 : goal.invariant_of-self-in-Break-branch-3
-invariant_of-self-in-Break-branch-3 c =
+pub invariant_of-self-in-Break-branch-4 : goal.invariant_of-self-in-Break-branch-4
+invariant_of-self-in-Break-branch-4 c =
     let b = c.args.self.now in
     record {
       in_range = b.in_range;
