@@ -1,4 +1,5 @@
 pub mod Seen
 pub mod Clones
 pub mod Touches
+pub mod Rows
 pub mod Doing

@@ -1,6 +1,7 @@
 //! Cells with their contents and last writers, and the records that exchange with them.
 #![tactic(auto)]
 
+pub mod few;
 pub mod laws;
 pub mod listing;
 pub mod store;

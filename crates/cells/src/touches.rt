@@ -3,8 +3,8 @@ ghost use Rattle.std.specs.Prelude.{◌≡◌, cond, true, ◌<◌, None, Some, 
 ghost use Rattle.std.specs.Option.{option_copied};
 ghost use Rattle.cells.specs.declared.touches.Touch.{Touch};
 
+use crate::few::Few;
 use ids::cells::Key;
-use indexmap::IndexMap;
 use std::alloc::{AllocError, Global};
 
 /// What was found in a cell, if anything, and what was written there, if it was written.
@@ -17,7 +17,7 @@ pub struct Touch<V> {
 /// Cells that were touched, in order of their first touches.
 #[derive(Drop)]
 pub struct Touches<K: Key, V> {
-    touches: IndexMap<K, Touch<V>>,
+    touches: Few<K, Touch<V>>,
 }
 
 impl<V> Touch<V> {
@@ -43,7 +43,7 @@ impl<K: Key + Drop, V: Drop> Touches<K, V> {
         ensures { (k : K) → touch K.eq result k ≡ None }
     {
         Touches {
-            touches: IndexMap::new(alloc),
+            touches: Few::new(alloc),
         }
     }
 
@@ -68,8 +68,7 @@ impl<K: Key + Drop, V: Drop> Touches<K, V> {
         ensures ok { OnOk result ((q : K) → touch K.eq self.new q ≡ cond (K.eq key q) (Some added) (touch K.eq self.old q)) }
         ensures err { OnErr result ((q : K) → touch K.eq self.new q ≡ touch K.eq self.old q) }
     {
-        self.touches.insert(key, added)?;
-        Ok(())
+        self.touches.insert(key, added)
     }
 
     /// Writes a cell that was touched. Of one that was not the value comes back.
@@ -81,13 +80,7 @@ impl<K: Key + Drop, V: Drop> Touches<K, V> {
         ensures same { OnErr result ((q : K) → touch K.eq self.new q ≡ touch K.eq self.old q) }
         ensures back { IfErr result (λ v. v ≡ value) }
     {
-        match self.touches.get_mut(key) {
-            Some(touch) => {
-                touch.written = Some(value);
-                Ok(())
-            }
-            None => Err(value),
-        }
+        self.touches.write(key, value)
     }
 
     /// How many cells were touched.
@@ -103,9 +96,6 @@ impl<K: Key + Drop, V: Drop> Touches<K, V> {
         requires { place < touched_count self.now }
         ensures { slice_get (touched_list self.now) place ≡ Some (result.0.now, result.1.now) }
     {
-        match self.touches.get_index(place) {
-            Some(found) => found,
-            None => unreachable!(),
-        }
+        self.touches.at(place)
     }
 }
