@@ -4,9 +4,8 @@ use Rattle.std.specs.Option.{option_map}
 use Rattle.std.specs.Cmp.{IsEquivalence}
 use Rattle.std.proofs.lemmas.Option.{slice_get_within}
 use Rattle.std.proofs.lemmas.Map.Entries.{place_from_lookup, lookup_from_place}
-use Rattle.std.specs.HashMap.{IsUnique}
 use Rattle.cells.specs.Seen.{seen}
-use Rattle.cells.specs.Touches.{touched_list}
+use Rattle.cells.specs.Touches.{touched_list, IsListedOnce}
 use Rattle.cells.specs.declared.store.CellStore.{CellStore}
 use Rattle.cells.specs.declared.touches.Touch.{Touch}
 use Rattle.cells.specs.declared.touches.Touches.{Touches}
@@ -42,5 +41,5 @@ module _ {K V C : Type 0} (eq : K → K → Bool) (content : V → C) (touches :
       subst (λ q. FoundAt q t) (sym (exact k p.1 p.3)) here
 
   -- so what is not found at a place is not found in a cell
-  pub found_there : IsEquivalence eq → IsUnique eq touches.touches → (i : ℕ) (k : K) (t : Touch V) → slice_get (touched_list touches) i ≡ Some (k, t) → FoundIn eq content touches cells → FoundAt k t
+  pub found_there : IsEquivalence eq → IsListedOnce eq touches → (i : ℕ) (k : K) (t : Touch V) → slice_get (touched_list touches) i ≡ Some (k, t) → FoundIn eq content touches cells → FoundAt k t
   found_there laws unique i k t is all = all k t (lookup_from_place laws (touched_list touches) i k t unique is)
