@@ -7,7 +7,7 @@ use Rattle.erules.specs.Outbox.{is_published}
 use Rattle.erules.specs.declared.publications.Publications as code
 
 abbrev pub publications_of : code.Publications → List (PromId × Published)
-publications_of p = map (λ e. (e.0, published_of e.1)) p.published.entries
+publications_of p = map (λ e. (e.0, published_of e.1)) p.published
 
 -- no promise stands twice
 abbrev pub EachOnce : List (PromId × Published) → Type 0

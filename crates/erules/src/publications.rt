@@ -4,15 +4,15 @@ ghost use Rattle.post.specs.MessageView.{published_of};
 ghost use Rattle.erules.specs.Outbox.{and_publication, is_published};
 ghost use Rattle.erules.specs.PublicationsView.{publications_of, EachOnce};
 
+use cells::few::Few;
 use ids::names::PromId;
-use indexmap::IndexMap;
 use post::published::Published;
 use std::alloc::{AllocError, Global};
 
 /// What promises are published as, each once, in the order of publishing.
 #[derive(Drop)]
 pub struct Publications {
-    published: IndexMap<PromId, Published>,
+    published: Few<PromId, Published>,
 }
 
 impl Publications {
@@ -21,7 +21,7 @@ impl Publications {
         ensures { publications_of result ≡ [] }
     {
         Publications {
-            published: IndexMap::new(alloc),
+            published: Few::new(alloc),
         }
     }
 
@@ -38,10 +38,8 @@ impl Publications {
         requires { place < length (publications_of self.now) }
         ensures { slice_get (publications_of self.now) place ≡ Some (result.0, published_of result.1.now) }
     {
-        match self.published.get_index(place) {
-            Some((promise, published)) => (*promise, published),
-            None => unreachable!(),
-        }
+        let (promise, published) = self.published.at(place);
+        (*promise, published)
     }
 
     /// Whether a promise is published.
@@ -59,7 +57,6 @@ impl Publications {
         if self.has(promise) {
             return Ok(());
         }
-        self.published.insert(promise, published)?;
-        Ok(())
+        self.published.insert(promise, published)
     }
 }

@@ -20,6 +20,7 @@ use Rattle.post.proofs.vat.Vat.TheSendSync as vats
 use Rattle.cells.proofs.store.Record.TheSendSync as records
 use Rattle.cells.proofs.store.CellStore.TheSendSync as stores
 use Rattle.cells.proofs.touches.Touches.TheSendSync as touched_cells
+use Rattle.cells.proofs.few.Few.TheSendSync as few_rows
 
 pub ruleset event_crosses = (events.the_send, events.the_sync, events.the_field_send, events.the_field_sync)
 
@@ -62,3 +63,5 @@ pub ruleset record_crosses = (records.the_send, records.the_sync, records.the_fi
 pub ruleset store_crosses = (stores.the_send, stores.the_sync, stores.the_field_send, stores.the_field_sync)
 
 pub ruleset touches_crosses = (touched_cells.the_send, touched_cells.the_sync, touched_cells.the_field_send, touched_cells.the_field_sync)
+
+pub ruleset few_crosses = (few_rows.the_send, few_rows.the_sync)

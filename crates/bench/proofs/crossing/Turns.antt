@@ -8,8 +8,8 @@ use Rattle.deliveries.specs.contracts.lead.Lead as lead
 use Rattle.deliveries.specs.contracts.outcome.Ended as ended
 use Rattle.deliveries.specs.contracts.outcome.Outcome as outcome
 use Rattle.bench.proofs.crossing.Messages.{message_crosses, published_crosses}
-use Rattle.bench.proofs.crossing.More.{table_crosses, note_crosses, abandon_crosses}
-use Rattle.bench.proofs.crossing.Names.{message_name_crosses, promise_crosses, carried_crosses, text_crosses}
+use Rattle.bench.proofs.crossing.More.{note_crosses, abandon_crosses}
+use Rattle.bench.proofs.crossing.Names.{message_name_crosses, promise_crosses, carried_crosses, text_crosses, few_crosses}
 use Rattle.bench.proofs.crossing.States.{footprint_crosses}
 use Rattle.bench.proofs.crossing.Values.{value_crosses}
 
@@ -28,16 +28,16 @@ letter_row_sync = search (letter_sync, message_name_crosses, message_crosses, se
 pub ruleset letter_crosses = (letter_send, letter_sync, letter_row_send, letter_row_sync)
 
 pub publications_send : IsSend (publications.the_field).row
-publications_send = search (table_crosses, promise_crosses, published_crosses, sendable, crosses) depth 40
+publications_send = search (few_crosses, promise_crosses, published_crosses, sendable, crosses) depth 40
 
 pub publications_row_send : IsSend publications.the_row
-publications_row_send = search (publications_send, table_crosses, promise_crosses, published_crosses, sendable, crosses) depth 40
+publications_row_send = search (publications_send, few_crosses, promise_crosses, published_crosses, sendable, crosses) depth 40
 
 pub publications_sync : IsSync (publications.the_field).row
-publications_sync = search (table_crosses, promise_crosses, published_crosses, sendable, crosses) depth 40
+publications_sync = search (few_crosses, promise_crosses, published_crosses, sendable, crosses) depth 40
 
 pub publications_row_sync : IsSync publications.the_row
-publications_row_sync = search (publications_sync, table_crosses, promise_crosses, published_crosses, sendable, crosses) depth 40
+publications_row_sync = search (publications_sync, few_crosses, promise_crosses, published_crosses, sendable, crosses) depth 40
 
 pub ruleset publications_crosses = (publications_send, publications_sync, publications_row_send, publications_row_sync)
 

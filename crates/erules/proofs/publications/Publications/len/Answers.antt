@@ -21,4 +21,4 @@ once [] h = tt
 once (e ∷ es) h = (none e.0 es (IsDistinct-head same_promise e.0 (keys_of es) h), once es (IsDistinct-tail same_promise e.0 (keys_of es) h))
 
 pub returns-clause-each_once : goal.returns-clause-each_once
-returns-clause-each_once c = once c.args.self.now.published.entries c.len.ensures.unique
+returns-clause-each_once c = once c.args.self.now.published c.len.ensures.unique
