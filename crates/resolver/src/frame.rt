@@ -71,7 +71,7 @@ pub(crate) fn place_all(
     ensures names { IfOk result (λ captures. captured_names_of captures.items ≡ names.now) }
     ensures places { IfOk result (λ captures. all_placed frame.now captures.items) }
 {
-    let mut captures = Vec::new(alloc);
+    let mut captures = Vec::with_capacity(alloc, names.len())?;
     for name in names {
         let place = find_place(frame, name);
         captures.push(Capture {

@@ -114,7 +114,7 @@ fn resolve_row(
 ) -> Result<Arc<Vec<Code>>, AllocError>
     ensures { IfOk result (λ cs. ResolvesAll own_scope frame.old.items (trees_of row.now.value.items) cs.value.items frame.new.items) }
 {
-    let mut codes = Vec::new(alloc);
+    let mut codes = Vec::with_capacity(alloc, row.len())?;
     for tree in row.iter() {
         let code = resolve_expr(alloc, tree, own_scope, frame)?;
         codes.push(code)?;
@@ -412,7 +412,7 @@ fn resolve_methods(
     ensures { IfOk result (λ cs. ResolvesMethods frame.old.items (methods_of methods.now) cs.items) }
 {
     let captured = frame.len();
-    let mut codes = Vec::new(alloc);
+    let mut codes = Vec::with_capacity(alloc, methods.len())?;
     for method in methods {
         add_all_bound(&method.parameters, false, frame)?;
         let body = resolve_row(alloc, &method.body, false, frame)?;

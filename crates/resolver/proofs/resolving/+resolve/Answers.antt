@@ -98,7 +98,7 @@ resolve_expr-returns-in-WhenCatch t c = IfOk-weaker _ _ _ (λ d h. resolved_as (
 
 pub resolve_row-resolve_expr-requires : goal.resolve_row-resolve_expr-requires
 resolve_row-resolve_expr-requires t c =
-    let same = c.deref-tree-items.ensures.value ∙ ap (λ v. v.items) c.deref.ensures in
+    let same = c.deref-tree-items.ensures.value ∙ ap (λ v. v.items) c.deref-2.ensures in
     (omega (arith, part_nodes c.deref-tree-items.result.now c.loop-tree.tree-index c.tree-item.result c.loop-tree-test.true c.tree-item.is, ap (λ xs. nodes_in (trees_of xs)) same), tt)
 
 pub resolve_row-loop-tree-preserved : goal.resolve_row-loop-tree-preserved
@@ -107,7 +107,7 @@ resolve_row-loop-tree-preserved t c = λ rest next h. all_pushed c.loop-tree.cod
 
 pub resolve_row-returns : goal.resolve_row-returns
 resolve_row-returns t c =
-    let same = c.deref-tree-items.ensures.value ∙ ap (λ v. v.items) c.deref.ensures in
+    let same = c.deref-tree-items.ensures.value ∙ ap (λ v. v.items) c.deref-2.ensures in
     let all = all_done c.loop-tree.codes.items (c.loop-tree.invariant [] c.loop-tree.frame.items (all_end c.loop-tree.frame.items c.deref-tree-items.result.now c.loop-tree.tree-index c.loop-tree-test.false)) in
     transport (λ i. ResolvesAll c.args.own_scope c.args.frame.now.items (trees_of (same i)) (sym c.in_ok-new.ensures.ok i).items c.loop-tree.frame.items) all
 
