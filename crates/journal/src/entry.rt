@@ -62,7 +62,7 @@ pub fn with_writers(
 ) -> Result<Vec<Touched>, AllocError>
     ensures { IfOk result (λ all. lasts_of all.items ≡ map (λ k. (k, (state_of_world world.now k).1)) keys.now) }
 {
-    let mut all = Vec::new(alloc);
+    let mut all = Vec::with_capacity(alloc, keys.len())?;
     for key in keys {
         let writer = world.last_writer(key);
         all.push(Touched {
