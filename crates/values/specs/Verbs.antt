@@ -1,5 +1,5 @@
 -- The verbs of data, and the texts that spell them.
-use Rattle.std.specs.Prelude.{ℕ, cond, List, [], ◌∷◌, Option, Some, None, codes}
+use Rattle.std.specs.Prelude.{ℕ, ◌+◌, ◌*◌, ◌%◌, ◌^◌, cond, List, [], ◌∷◌, Option, Some, None, codes, fold}
 use Rattle.std.specs.Str.{bytes_eq}
 use Rattle.values.specs.declared.verb.Word.TheVariants as word
 use Rattle.values.specs.declared.verb.Word.{Word}
@@ -35,3 +35,7 @@ word_among (w ∷ ws) s = cond (bytes_eq s (text_of w)) (Some w) (word_among ws 
 -- the verb that a text spells, if it spells one
 abbrev pub word_of : List ℕ → Option Word
 word_of s = word_among words s
+
+-- the number of a verb: its bytes as digits to the base 31, as far as 32 bits hold it
+abbrev pub number_of : List ℕ → ℕ
+number_of s = fold (λ n byte. ((n * 31) % 2 ^ 32 + byte) % 2 ^ 32) 0 s
