@@ -1,11 +1,8 @@
 -- Where a method stands among the methods of an object.
-use Rattle.std.specs.Prelude.{◌≡◌, ℕ, ◌+◌, nat_eq, ◌&&◌, cond, Option, Some, None, length}
+use Rattle.std.specs.Prelude.{◌≡◌, ℕ, ◌+◌, Bool, nat_eq, ◌&&◌, cond, Option, Some, None, length}
 use Rattle.std.specs.Option.{option_map}
-use Rattle.std.specs.Ordering.{nat_cmp, ordering_then}
-use Rattle.std.specs.Cmp.Lexicographic.{slice_cmp}
 use Rattle.std.specs.Str.{bytes_eq}
-use Rattle.std.specs.BTreeMap.{get}
-use Rattle.std.specs.declared.cmp.Ordering.{Ordering}
+use Rattle.std.specs.HashMap.{get}
 use Rattle.std.specs.declared.sync.Arc.{Arc}
 use Rattle.std.specs.declared.alloc.Global.{Global}
 use Rattle.kernele.specs.Tree.{Name, Methods, no_methods, and_method}
@@ -17,9 +14,9 @@ abbrev pub position_in : Methods → Name → ℕ → Option ℕ
 position_in no_methods verb count = None
 position_in (and_method m ps body ms) verb count = cond (bytes_eq m verb && nat_eq (length ps) count) (Some 0) (option_map (λ i. i + 1) (position_in ms verb count))
 
--- the order of keys: by verb, then by number of parameters
-abbrev pub key_cmp : MethodKey → MethodKey → Ordering
-key_cmp j k = ordering_then (slice_cmp nat_cmp j.verb k.verb) (nat_cmp j.count k.count)
+-- two keys are the same where the verbs and the numbers of parameters are
+abbrev pub same_key : MethodKey → MethodKey → Bool
+same_key j k = bytes_eq j.verb k.verb && nat_eq j.count k.count
 
 -- what a verb and a number of parameters are looked up by
 abbrev pub key_of : Name → ℕ → MethodKey
@@ -27,7 +24,7 @@ key_of verb count = record { verb = verb; count = count }
 
 -- where an index finds a method
 abbrev pub found_at : MethodIndex → Name → ℕ → Option ℕ
-found_at index verb count = get key_cmp index.positions (key_of verb count)
+found_at index verb count = get same_key index.positions (key_of verb count)
 
 -- an index finds each method of an object where it stands, and no other
 abbrev pub Indexes : MethodIndex → Methods → Type 0

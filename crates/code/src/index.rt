@@ -1,26 +1,26 @@
 // Where the methods of an object stand, so that a call finds one without a scan of all.
 ghost use Rattle.std.specs.Prelude.{◌≡◌, ◌<◌, ◌↔◌, IfOk, IsSome, OnOk, Some, length};
-ghost use Rattle.std.specs.BTreeMap.{Updates};
+ghost use Rattle.std.specs.HashMap.{Updates};
 ghost use Rattle.code.specs.View.{methods_of_codes};
-ghost use Rattle.code.specs.Index.{key_cmp, key_of, found_at, Indexes, index_in, index_fits};
+ghost use Rattle.code.specs.Index.{same_key, key_of, found_at, Indexes, index_in, index_fits};
 
 use crate::code::MethodCode;
-use ids::text::Text;
 use std::alloc::{AllocError, Global};
-use std::collections::BTreeMap;
+use std::collections::HashMap;
 use std::sync::Arc;
+use values::verb::Verb;
 
 /// What a method is found by: its verb, and how many parameters it has.
-#[derive(PartialEq, Eq, PartialOrd, Ord, Drop)]
+#[derive(PartialEq, Eq, Hash, Drop)]
 pub struct MethodKey {
-    pub verb: Text,
+    pub verb: Verb,
     pub count: usize,
 }
 
 /// Where the first method with each key stands.
 #[derive(Drop)]
 pub struct MethodIndex {
-    positions: BTreeMap<MethodKey, usize>,
+    positions: HashMap<MethodKey, usize>,
 }
 
 /// How many methods are scanned: of so few a scan is quicker than an index.
@@ -45,7 +45,7 @@ pub fn index_many(
 fn index_all(alloc: Global, methods: &[MethodCode]) -> Result<MethodIndex, AllocError>
     ensures { IfOk result (λ index. Indexes index (methods_of_codes methods.now)) }
 {
-    let mut positions = BTreeMap::new(alloc);
+    let mut positions = HashMap::with_capacity(alloc, methods.len())?;
     let mut rest = methods;
     // From the last one on, so that of methods with the same key the first stays.
     while let Some((method, before)) = rest.split_last() {
@@ -57,14 +57,14 @@ fn index_all(alloc: Global, methods: &[MethodCode]) -> Result<MethodIndex, Alloc
 
 /// Lets the key of a method stand for a position.
 fn put(
-    positions: &mut BTreeMap<MethodKey, usize>,
+    positions: &mut HashMap<MethodKey, usize>,
     method: &MethodCode,
     position: usize,
 ) -> Result<(), AllocError>
-    ensures { OnOk result (Updates key_cmp positions.old positions.new
+    ensures { OnOk result (Updates same_key positions.old positions.new
         (key_of method.now.verb (length method.now.parameters.value.items)) (Some position)) }
 {
-    let verb = method.verb.share()?;
+    let verb = Verb::new(method.verb.share()?);
     let count = method.parameters.len();
     positions.insert(MethodKey { verb, count }, position)?;
     Ok(())
@@ -72,7 +72,7 @@ fn put(
 
 impl MethodIndex {
     /// Where the first method with this verb and so many parameters stands.
-    pub fn find(&self, verb: &Text, count: usize) -> Result<Option<usize>, AllocError>
+    pub fn find(&self, verb: &Verb, count: usize) -> Result<Option<usize>, AllocError>
         ensures { IfOk result (λ position. position ≡ found_at self.now verb.now count) }
     {
         let verb = verb.share()?;

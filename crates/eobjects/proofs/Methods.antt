@@ -74,8 +74,8 @@ found_there [] verb vs i m e is = absurd (cc)
 found_there (k ∷ ks) verb vs i m e is = found_case k ks verb vs i m (has k verb vs) refl e is (λ j p q. found_there ks verb vs j m p q)
 
 -- what an index of these methods gives is the position
-pub index_gives : (ms : List MethodCode) (index : MethodIndex) (verb v : Name) (count : ℕ) (given o : Option ℕ) → Indexes index (methods_of_codes ms) → v ≡ verb → given ≡ found_at index v count → given ≡ o → position_in (methods_of_codes ms) verb count ≡ o
-index_gives ms index verb v count given o indexed same is e = sym (indexed verb count) ∙ ap (λ x. found_at index x count) (sym same) ∙ sym is ∙ e
+pub index_gives : (ms : List MethodCode) (index : MethodIndex) (verb : Name) (count : ℕ) (given o : Option ℕ) → Indexes index (methods_of_codes ms) → given ≡ found_at index verb count → given ≡ o → position_in (methods_of_codes ms) verb count ≡ o
+index_gives ms index verb count given o indexed is e = sym (indexed verb count) ∙ sym is ∙ e
 
 neither : (b : Bool) (o : Option ℕ) → cond b (Some 0) (option_map (λ j. j + 1) o) ≡ None → (b ≡ false) × (o ≡ None)
 neither true o e = absurd (cc)

@@ -266,7 +266,7 @@ fn look_up_method<'a>(
     requires { Indexes index.now (methods_of_codes methods.now) }
     ensures { IfOk result (λ method. FindsMethod methods.now verb.now args.now (option_copied method)) }
 {
-    match index.find(verb.text(), args.len())? {
+    match index.find(verb, args.len())? {
         Some(position) => Ok(Some(&methods[position])),
         None => Ok(None),
     }

@@ -2,7 +2,7 @@ use Rattle.code.proofs.Indexed.{put_none, put_more, put_all}
 use Rattle.code.proofs.index.index_all.Goals as goal
 
 pub loop-method-init : goal.loop-method-init
-loop-method-init c = λ verb count. put_none c.args.methods.now c.new-positions.result verb count c.new-positions.ensures.empty
+loop-method-init c = λ verb count. put_none c.args.methods.now c.in_ok-positions.positions verb count c.in_ok-positions.ensures.empty
 
 pub loop-method-preserved : goal.loop-method-preserved
 loop-method-preserved c =
