@@ -20,7 +20,8 @@ const FEW: usize = 8;
 #[derive(Drop)]
 pub struct Few<K: Key, V> {
     first: Vec<(K, V)>,
-    behind: Option<IndexMap<K, V>>,
+    /// Rarely there, so it has a room of its own: what keeps few keys is small where it is moved.
+    behind: Option<Box<IndexMap<K, V>>>,
 }
 
 impl<K: Key, V> Model for Few<K, V> {
@@ -127,7 +128,7 @@ impl<K: Key + Drop, V: Drop> Few<K, V> {
 /// Adds a key that is in none of the first rows: to them while there are few, else to the map behind them.
 fn add_behind<K: Key + Drop, V: Drop>(
     first: &mut Vec<(K, V)>,
-    behind: &mut Option<IndexMap<K, V>>,
+    behind: &mut Option<Box<IndexMap<K, V>>>,
     key: K,
     value: V,
 ) -> Result<(), AllocError>
@@ -140,9 +141,10 @@ fn add_behind<K: Key + Drop, V: Drop>(
         }
         None if first.len() < FEW => first.push((key, value))?,
         None => {
-            let mut map = IndexMap::new(*first.allocator());
+            let alloc = *first.allocator();
+            let mut map = IndexMap::new(alloc);
             map.insert(key, value)?;
-            *behind = Some(map);
+            *behind = Some(Box::new(alloc, map)?);
         }
     }
     Ok(())
@@ -170,7 +172,7 @@ impl<K: Key + Drop, V: Drop> Few<K, Touch<V>> {
 
 /// Writes what was touched under a key in the map behind the first rows. Where nothing was the value comes back.
 fn write_behind<K: Key + Drop, V: Drop>(
-    behind: &mut Option<IndexMap<K, Touch<V>>>,
+    behind: &mut Option<Box<IndexMap<K, Touch<V>>>>,
     key: &K,
     value: V,
 ) -> Result<(), V>

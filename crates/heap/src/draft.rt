@@ -359,14 +359,14 @@ impl Draft {
         ensures found { IfOk result (λ r. Found r (began_with self)) }
     {
         let Draft {
-            base,
+            mut base,
             event,
             vat,
             slots,
             objects,
         } = self;
-        let base = Draft::keep_slots(base, event, vat, slots)?;
-        let base = Draft::keep_objects(base, event, vat, objects)?;
+        Draft::keep_slots(&mut base, event, vat, slots)?;
+        Draft::keep_objects(&mut base, event, vat, objects)?;
         Ok(base.into_footprint())
     }
 
@@ -378,41 +378,41 @@ impl Draft {
         self.event.0 == event.0 && self.vat.0.0 == vat.0.0 && (index as usize) < count
     }
 
-    /// A state with the slots of a turn, the newest first, so that those that are left keep their numbers.
+    /// Writes the slots of a turn into a state, the newest first, so that those that are left keep their numbers.
     fn keep_slots(
-        mut base: Reach,
+        base: &mut Reach,
         event: EventName,
         vat: VatNo,
         mut slots: Vec<Value>,
-    ) -> Result<Reach, AllocError>
+    ) -> Result<(), AllocError>
         requires { length slots.items ≤ u32.MAX }
-        ensures touched { IfOk result (λ r. touched_in r.footprint ≡ and_slots event vat slots.items (touched_in base.footprint)) }
-        ensures written { IfOk result (λ r. writes_in r.footprint ≡ with_slots event vat slots.items (writes_in base.footprint)) }
-        ensures beneath { IfOk result (λ r. r.state ≡ base.state) }
+        ensures touched { OnOk result (touched_in base.new.footprint ≡ and_slots event vat slots.items (touched_in base.old.footprint)) }
+        ensures written { OnOk result (writes_in base.new.footprint ≡ with_slots event vat slots.items (writes_in base.old.footprint)) }
+        ensures beneath { OnOk result (base.new.state ≡ base.old.state) }
     {
         while let Some(value) = slots.pop() {
             let index = slots.len() as u32;
             base.write_slot(SlotId { event, index, vat }, value)?;
         }
-        Ok(base)
+        Ok(())
     }
 
-    /// A state with the objects of a turn, the newest first as well.
+    /// Writes the objects of a turn, the newest first as well.
     fn keep_objects(
-        mut base: Reach,
+        base: &mut Reach,
         event: EventName,
         vat: VatNo,
         mut objects: Vec<Made>,
-    ) -> Result<Reach, AllocError>
+    ) -> Result<(), AllocError>
         requires { length objects.items ≤ u32.MAX }
-        ensures touched { IfOk result (λ r. touched_in r.footprint ≡ and_objects event vat objects.items (touched_in base.footprint)) }
-        ensures written { IfOk result (λ r. writes_in r.footprint ≡ with_objects event vat objects.items (writes_in base.footprint)) }
-        ensures beneath { IfOk result (λ r. r.state ≡ base.state) }
+        ensures touched { OnOk result (touched_in base.new.footprint ≡ and_objects event vat objects.items (touched_in base.old.footprint)) }
+        ensures written { OnOk result (writes_in base.new.footprint ≡ with_objects event vat objects.items (writes_in base.old.footprint)) }
+        ensures beneath { OnOk result (base.new.state ≡ base.old.state) }
     {
         while let Some(object) = objects.pop() {
             let index = objects.len() as u32;
             base.write_object(ObjId { event, index, vat }, object)?;
         }
-        Ok(base)
+        Ok(())
     }
 }

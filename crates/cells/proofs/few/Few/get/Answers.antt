@@ -17,7 +17,8 @@ returns-in-Some-behind g c =
     let xs = c.self.inside.first.items in
     let ys = rows_behind c.self.inside.behind in
     let none = absent test c.deref.result.now xs c.place_in.result c.deref.ensures.value c.place_in.ensures c.in-None.is in
-    c.get.ensures.value ∙ ap (λ o. lookup test (rows_behind o)) (sym c.in-Some-behind.is) ∙ sym (looked_behind test xs ys none) ∙ ap (lookup test) c.self.view_is
+    let looked = rw c.deref-in-Some-behind.ensures at c.get.ensures.value in
+    looked ∙ ap (λ o. lookup test (rows_behind o)) (sym c.in-Some-behind.is) ∙ sym (looked_behind test xs ys none) ∙ ap (lookup test) c.self.view_is
 
 pub returns-in-None-behind : goal.returns-in-None-behind
 returns-in-None-behind g c =
