@@ -4,6 +4,7 @@ ghost use Rattle.erules.specs.Rules.{entering};
 ghost use Rattle.erules.specs.Locals.{oldest};
 ghost use Rattle.erules.specs.View.{at};
 
+use crate::local::let_go;
 use crate::working::Working;
 
 /// What a scope around a block was when the block began.
@@ -30,7 +31,8 @@ pub fn keep_names(w: &mut Working, count: usize)
 {
     if count_names(w) > count {
         w.older = w.older.min(count);
-        w.nouns.truncate(count - w.older);
+        let left = count - w.older;
+        let_go(&mut w.nouns, left);
     }
 }
 

@@ -89,7 +89,7 @@ fn given(args: &[Value]) -> Result<Option<Value>, AllocError>
 }
 
 /// Sends a value to the Escape of an ejector, if that is being evaluated.
-fn eject(w: &mut Working, ejector: EjId, value: Value) -> Stop
+pub fn eject(w: &mut Working, ejector: EjId, value: Value) -> Stop
     ensures stop { is_open_of ejector (opened_of w.old.opened.items) ≡ true → result ≡ Stop.Halted }
     ensures end { OnStop result w.new (λ h b. (halt h
         ≡ ejects (is_open_of ejector (opened_of w.old.opened.items)) ejector (val_of value)) × (b ≡ at w.old)) }

@@ -249,6 +249,19 @@ impl Draft {
         }
     }
 
+    /// What an object that was touched before is.
+    #[inline(always)]
+    pub fn peek_object(&self, object: ObjId) -> Option<&Made>
+        ensures touched { IfSome result (λ m. touched_of self.now (object_cell object) ≡ true) }
+        ensures content { IfSome result (λ m. read (draft_of self.now) (object_cell object) ≡ Some (made (object_of m.now))) }
+    {
+        if self.is_own(object.event, object.vat, object.index, self.objects.len()) {
+            Some(&self.objects[object.index as usize])
+        } else {
+            self.base.touched_object(object)
+        }
+    }
+
     /// Touches an object. Without memory nothing more is touched.
     #[inline]
     pub fn reach_object(&mut self, object: ObjId) -> Result<(), AllocError>

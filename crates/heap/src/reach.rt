@@ -341,6 +341,18 @@ impl Reach {
         }
     }
 
+    /// What an object that was touched is.
+    #[inline]
+    pub(crate) fn touched_object(&self, object: ObjId) -> Option<&Made>
+        ensures touched { IfSome result (λ m. touched_in self.now.footprint (object_cell object) ≡ true) }
+        ensures content { IfSome result (λ m. read (state_in self.now) (object_cell object) ≡ Some (made (object_of m.now))) }
+    {
+        match self.footprint.objects.get(&object) {
+            Some(touch) => touch.content(),
+            None => None,
+        }
+    }
+
     /// Touches a top noun.
     pub(crate) fn reach_top(&mut self, name: &Text) -> Result<(), AllocError>
         ensures state { state_in self.new ≡ state_in self.old }

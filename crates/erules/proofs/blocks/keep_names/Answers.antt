@@ -7,7 +7,7 @@ use Rattle.erules.proofs.blocks.keep_names.Goals as goal
 pub returns-then-count_names-count-clause-place : goal.returns-then-count_names-count-clause-place
 returns-then-count_names-count-clause-place c =
     ap (λ ns. record (at c.args.w.now) { nouns = ns })
-    (oldest_kept (captured_in c.args.w.now.captured) c.args.w.now.nouns.items _ _ c.args.w.now.older c.args.count c.args.w.now.within c.min-w.ensures c.truncate.ensures.items)
+    (oldest_kept (captured_in c.args.w.now.captured) c.args.w.now.nouns.items _ _ c.args.w.now.older c.args.count c.args.w.now.within c.min-w.ensures c.let_go.ensures)
 
 pub returns-else-count_names-count-clause-place : goal.returns-else-count_names-count-clause-place
 returns-else-count_names-count-clause-place c =
