@@ -1,8 +1,8 @@
 """Tries the mutants of crates: each is put in place of the right body, and the prover must refuse it.
 
 Without words those of all crates; with NAME those of these; with --since those of the crates whose files, or a contract
-below them, changed since the revision REV. What `rt ci` proved before is not proved again, and what was tried on the same
-texts is not tried again. Ends with 1 where one got through, could not be tried, or shows little.
+below them, changed since the revision REV. Those of different functions are tried in one check, over what checks of the
+tree have kept. Ends with 1 where one got through, could not be tried, or shows little.
 """
 import argparse
 import sys
@@ -38,16 +38,11 @@ def chosen(root, names, revision):
     return [name for name in every if name in asked and mutants_of(root, name)]
 
 
-def told(report, log, status):
+def told(report):
     """Says what came of the mutants, and gives the status to end with."""
     for file, fault in report.faults.items():
         say(f"{file}: {fault}")
-    if report.missing:
-        said = [line for line in log.splitlines() if "NOT PROVED" in line or line.startswith("rt: FAILED")]
-        for line in said or log.splitlines()[-20:]:
-            say(line)
-        say(f"nothing was told of {len(report.missing)}, {report.missing[0]} among them; rt ci ended with {status}")
-    say(f"{report.refused} refused, {len(report.faults)} to be mended, {len(report.missing)} not tried")
+    say(f"{report.refused} refused, {len(report.faults)} to be mended")
     return 0 if report.is_good else 1
 
 
@@ -64,10 +59,10 @@ def main(words):
         return 0
     try:
         with interruptions():
-            log, status = tried(ROOT, crates, say)
+            verdicts = tried(ROOT, crates, say)
     except Interrupted as interrupted:
         return interrupted.status
-    return told(report_of(log, wanted), log, status)
+    return told(report_of(verdicts))
 
 
 if __name__ == "__main__":

@@ -1,15 +1,14 @@
-"""Looks at which crates a change chooses, and at what is told of a run. No prover runs: a stub writes what `rt ci` would."""
-import os
+"""Looks at which crates a change chooses, which mutants go together, and what is told of them. No prover runs: a stub says what `rt` would."""
 import subprocess
 import tempfile
-import time
 import unittest
 from pathlib import Path
 
 from .changes import NoSuchRevision, stands_on, to_be_tried
 from .contracts import contract_text
-from .report import report_of
-from .trial import Progress, copied, mutants_of, tried
+from .edits import BadEdit, Change, Edit, Function, changed, changes_of, functions_in, groups, read
+from .report import report_of, verdict_on
+from .trial import copied, tried
 
 SOURCE = """\
 //! Doubles.
@@ -52,17 +51,30 @@ fn nothing() {}
 impl Pair {
     fn sum(&self) -> u8 {
 }"""
-LOG = """\
-rt: low proved
-high is kept: an earlier run on this machine proved the same files over the same libraries
-rt: must-fail high/a.edit: refused, as it must be: src/lib.rt:3:1: error[not-proved]
-rt: must-fail high/b.edit: NOT REFUSED: the crate is still proved with this edit
-rt: must-fail high/c.edit: BAD EDIT: `old` stands nowhere
-rt: must-fail high/d.edit: refused, as it must be (only because a proof file names what the edit took away, so this says little)
-rt: must-fail low/e.edit: NOT TRIED: its check was killed
-rt: must-fail low/g.edit: refused, as it must be: ./proofs/g/Answers.antt:40:25: error: `g-returns`: record `Rattle.low.proofs
-rt: must-fail low/h.edit: refused, as it must be: note: src/lib.rt:3:1: it is not proved that the sum fits (`h-overflow_add-x`)
-0 passed, 1 failed
+MUTANTS = {
+    "one": "file: src/lib.rt\nold: x + y\nnew: x - y\n",
+    "two": "file: src/lib.rt\nold: *one\nnew: 1\n",
+    "three": "file: src/lib.rt\nold: let y = x;\nnew: let y = 1;\n",
+    "of_a_type": "file: src/lib.rt\nold: pub one: u8,\nnew: pub one: u16,\n",
+    "nowhere": "file: src/lib.rt\nold: x * y\nnew: x\n",
+}
+# What `rt` says here: a function is proved unless its source has what no right body has; a crate of a type of 16 bits is not.
+RT = """\
+#!/usr/bin/env python3
+import pathlib, sys
+words = sys.argv[1:]
+text = pathlib.Path("src/lib.rt").read_text()
+log = pathlib.Path(__file__).with_name("log")
+log.open("a").write(" ".join(words) + "\\n")
+wrong = {"twice": "x - y" in text, "sum": False, "nothing": False}
+if "let y = 1" in text:
+    print("error[syntax]: src/lib.rt:13:9: not read"); sys.exit(1)
+names = [name for word, name in zip(words, words[1:]) if word == "--only"] or list(wrong)
+for name in names:
+    if wrong[name]:
+        print("so far: note: src/lib.rt:14:5: it is not proved that what the function ensures holds (`returns`)")
+    print(f"fn high::{name}: {'not proved' if wrong[name] else 'proved'}")
+sys.exit(1 if any(wrong[name] for name in names) or "u16" in text else 0)
 """
 
 
@@ -149,66 +161,109 @@ class Since(unittest.TestCase):
             to_be_tried(self.there.root, "nowhere")
 
 
+class Edits(unittest.TestCase):
+    def edit(self, name, text):
+        with tempfile.TemporaryDirectory() as folder:
+            file = Path(folder, f"{name}.edit")
+            file.write_text(text)
+            return read(file, {"src/lib.rt": SOURCE})
+
+    def test_functions_and_their_lines(self):
+        found = {it.name: (it.first, it.last) for it in functions_in("src/lib.rt", SOURCE)}
+        self.assertEqual(found, {"twice": (10, 16), "nothing": (18, 18), "sum": (22, 25)})
+
+    def test_where_an_edit_stands(self):
+        self.assertEqual(self.edit("one", MUTANTS["one"]).names, {"twice"})
+        self.assertEqual(self.edit("of_a_type", MUTANTS["of_a_type"]).names, set())
+
+    def test_what_cannot_be_applied(self):
+        for text in (MUTANTS["nowhere"], "file: src/lib.rt\n", "file: src/lib.rt\nold: x\nnew: y\n", "file: src/no.rt\nold: x\nnew: y\n"):
+            with self.assertRaises(BadEdit):
+                self.edit("a", text)
+
+    def test_a_later_change_applies_to_what_an_earlier_one_made(self):
+        text = "file: src/lib.rt\nold: x + y\nnew: y + z\nold: y + z\nnew: y\n"
+        self.assertIn("    y\n", changed({"src/lib.rt": SOURCE}, changes_of(text))["src/lib.rt"])
+
+    def test_edits_of_different_functions_go_together(self):
+        made = groups([self.edit(name, MUTANTS[name]) for name in ("one", "two", "three", "of_a_type")])
+        self.assertEqual([[it.name for it in group] for group in made], [["one", "two"], ["three"], ["of_a_type"]])
+
+
+class Verdicts(unittest.TestCase):
+    def verdict(self, log, status=1):
+        function = Function("twice", "src/lib.rt", 10, 16)
+        return verdict_on(Edit("a", (Change("src/lib.rt", "x + y", "x"),), (function,)), log, status)
+
+    def test_a_refusal(self):
+        log = "note: src/lib.rt:14:5: it is not proved (`returns`)\nfn high::twice: not proved\nfn high::sum: proved\n"
+        self.assertIsNone(self.verdict(log).fault)
+        self.assertIn("returns", self.verdict(log).said)
+        self.assertEqual(self.verdict("fn high::sum: not proved\nfn high::twice: proved\n").fault, "got through")
+        self.assertIsNone(self.verdict("fn high::fn::twice::map: not proved\nfn high::twice: proved\n").fault)
+
+    def test_what_shows_little(self):
+        proof = "./proofs/twice/Answers.antt:4:2: error: `twice-returns`: record `Rattle.high` has no field `one`\nfn high::twice: not proved\n"
+        self.assertIn("shows little", self.verdict(proof).fault)
+        wraps = "note: src/lib.rt:14:5: it is not proved that the sum fits (`overflow_add-x`)\nfn high::twice: not proved\n"
+        self.assertIn("shows little", self.verdict(wraps).fault)
+
+    def test_what_does_not_compile(self):
+        self.assertTrue(self.verdict("error[syntax]: src/lib.rt:3:1: no\n").is_open)
+
+
 class Trial(unittest.TestCase):
     def setUp(self):
         folder = tempfile.TemporaryDirectory()
         self.addCleanup(folder.cleanup)
         self.at = Path(folder.name)
         self.there = Repository(self.at / "tree")
+        (self.there.root / "crates/high/mutants/a.edit").unlink()
+        self.rt = self.at / "rt"
+        self.rt.write_text(RT)
+        self.rt.chmod(0o755)
+
+    def tried(self, *names):
+        for name in names:
+            self.there.write(f"crates/high/mutants/{name}.edit", MUTANTS[name])
+        said = []
+        found = tried(self.there.root, ["high"], said.append, rt=str(self.rt))
+        return found, said, (self.at / "log").read_text().splitlines()
+
+    def test_the_copy_has_what_was_kept(self):
+        for part in ("rlib", "incremental"):
+            for name in ("low", "high"):
+                self.there.write(f"crates/{name}/out/{part}/kept", "")
         self.there.write("crates/high/must-fail/kept.edit", "file: src/lib.rt\n")
-
-    def stub(self, text):
-        file = self.at / "rt"
-        file.write_text(f"#!/bin/sh\n{text}\n")
-        file.chmod(0o755)
-        return str(file)
-
-    def test_the_copy_has_these_mutants_as_its_wrong_bodies(self):
         to = self.at / "copy"
         to.mkdir()
         copied(self.there.root, to, ["high"])
-        edits = sorted(str(it.relative_to(to)) for it in to.rglob("*.edit"))
-        self.assertEqual(edits, ["crates/high/must-fail/a.edit"])
-        self.assertEqual(mutants_of(self.there.root, "high"), ["high/a"])
+        kept = sorted(str(it.relative_to(to / "crates")) for it in to.rglob("kept*"))
+        self.assertEqual(kept, ["high/out/incremental/kept", "high/out/rlib/kept", "low/out/rlib/kept"])
 
-    def test_what_is_said_of_each(self):
-        report = report_of(LOG, ["high/a", "high/b", "high/c", "high/d", "low/e", "low/f", "low/g", "low/h"])
-        self.assertEqual(report.refused, 1)
-        self.assertEqual(report.missing, ["crates/low/mutants/f.edit"])
-        self.assertEqual(
-            {file: fault.split(":")[0] for file, fault in report.faults.items()},
-            {
-                "crates/high/mutants/b.edit": "got through",
-                "crates/high/mutants/c.edit": "cannot be applied or compiled",
-                "crates/high/mutants/d.edit": "shows little",
-                "crates/low/mutants/e.edit": "was not tried",
-                "crates/low/mutants/g.edit": "shows little",
-                "crates/low/mutants/h.edit": "shows little",
-            },
-        )
+    def test_different_functions_in_one_check(self):
+        found, said, log = self.tried("one", "two")
+        self.assertEqual(log, ["lib", "check --only sum --only twice", "check --only sum"])
+        self.assertEqual({name: it.fault for name, it in found.items()}, {"high/one": None, "high/two": "got through"})
+        self.assertEqual(said[-1], "high: tried 2 of 2")
+        report = report_of(found)
+        self.assertEqual((report.refused, list(report.faults)), (1, ["crates/high/mutants/two.edit"]))
         self.assertFalse(report.is_good)
-        self.assertTrue(report_of(LOG, ["high/a"]).is_good)
 
-    def test_a_run_is_told_and_its_log_read(self):
-        said = []
-        rt = self.stub('mkdir "$TMPDIR/rt-edit-1-a"; sleep 1; rmdir "$TMPDIR/rt-edit-1-a"; echo "$@"; cat crates/high/must-fail/a.edit; exit 1')
-        log, status = tried(self.there.root, ["high"], said.append, rt=rt, every=0.1)
-        self.assertEqual((log, status), ("ci high\nfile: src/lib.rt\n", 1))
-        self.assertIn("tried 0 of 1 mutants", said)
+    def test_what_does_not_compile_is_told_alone(self):
+        found, _, log = self.tried("two", "three")
+        self.assertEqual(log[1:], ["check --only sum --only twice", "check --only twice", "check --only sum"])
+        self.assertEqual(found["high/three"].fault, "cannot be applied or compiled")
 
-    def test_progress(self):
-        progress = Progress(self.at / "room", 8)
-        progress.room.mkdir()
-        self.assertEqual(progress.told("rt: low proved\n"), "proving what the mutants are tried over: 1 crates")
-        kept = "".join(f"rt: must-fail low/{name}.edit: refused\n" for name in "xyz")
-        self.assertEqual(progress.told(kept), "tried 3 of 8 mutants")
-        for name in "abcdef":
-            (progress.room / f"rt-edit-1-{name}").mkdir()
-        self.assertEqual(progress.told(kept), "tried 3 of 8 mutants")
-        for name in "abcd":
-            os.rmdir(progress.room / f"rt-edit-1-{name}")
-        progress.first = time.monotonic() - 600
-        self.assertEqual(progress.told(kept + "rt: must-fail low/w.edit: refused\n"), "tried 4 of 8 mutants, about 10 minutes left")
+    def test_what_changes_a_type_takes_a_whole_check(self):
+        found, _, log = self.tried("of_a_type", "nowhere")
+        self.assertEqual(log[1:], ["check"])
+        self.assertIsNone(found["high/of_a_type"].fault)
+        self.assertEqual(found["high/nowhere"].fault, "cannot be applied or compiled")
+
+    def test_sources_are_put_back(self):
+        self.tried("one")
+        self.assertEqual((self.there.root / "crates/high/src/lib.rt").read_text(), SOURCE)
 
 
 if __name__ == "__main__":

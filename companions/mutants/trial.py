@@ -1,14 +1,14 @@
-"""Tries mutants in a copy of the tree, where they stand in place of the crates' wrong bodies."""
-import re
+"""Tries mutants in a copy of the tree: those of different functions in one check, of these functions alone."""
+import contextlib
 import shutil
 import tempfile
-import time
-from dataclasses import dataclass, field
 from pathlib import Path
 
 from building.processes import ending, start
 
-from .report import TOLD
+from .edits import BadEdit, changed, groups, read
+from .report import NOT_COMPILED, Verdict, verdict_on
+
 
 def mutants_of(root, crate):
     """The mutants of a crate, named CRATE/NAME."""
@@ -16,74 +16,88 @@ def mutants_of(root, crate):
 
 
 def copied(root, to, crates):
-    """Copies what a check reads, with the mutants of these crates as the only wrong bodies that must be refused."""
+    """Copies what a check reads, with what earlier checks kept: of all crates their libraries, of these all that is kept."""
     for name in ("crates.txt", "HANDLES"):
         shutil.copy2(Path(root, name), to)
-    leave = shutil.ignore_patterns("out", "must-fail", "mutants")
-    shutil.copytree(Path(root, "crates"), Path(to, "crates"), ignore=leave)
-    for crate in crates:
-        shutil.copytree(Path(root, "crates", crate, "mutants"), Path(to, "crates", crate, "must-fail"))
+    shutil.copytree(Path(root, "crates"), Path(to, "crates"), ignore=shutil.ignore_patterns("out", "must-fail"))
+    for folder in Path(root, "crates").iterdir():
+        for part in ("rlib", "incremental") if folder.name in crates else ("rlib",):
+            kept = folder / "out" / part
+            # What another check changes meanwhile is made anew.
+            with contextlib.suppress(OSError, shutil.Error):
+                if kept.is_dir():
+                    shutil.copytree(kept, Path(to, "crates", folder.name, "out", part), symlinks=True)
 
 
-@dataclass
-class Progress:
-    """How far a run has come: which mutants its log tells of, and at what pace checks end, by the folders that `rt` makes for
-    them. Those that were tried before are told at once, with no check."""
+class Bench:
+    """A crate in a copy of the tree, whose sources are changed for a check and put back behind it."""
 
-    room: Path
-    mutants: int
-    began: float = field(default_factory=time.monotonic)
-    seen: set = field(default_factory=set)
-    first: float = 0.0
+    def __init__(self, tree, crate, rt):
+        self.folder, self.crate, self.rt = Path(tree, "crates", crate), crate, rt
+        files = sorted(it for it in self.folder.rglob("*") if it.suffix in (".rt", ".antt") and "out" not in it.relative_to(self.folder).parts)
+        self.sources = {str(it.relative_to(self.folder)): it.read_text() for it in files}
 
-    def look(self):
-        """Notes the checks that have begun, and gives how many have ended."""
-        there = {it.name for it in self.room.glob("rt-edit-*")}
-        if there and not self.seen:
-            self.first = time.monotonic()
-        self.seen |= there
-        return len(self.seen) - len(there)
+    def run(self, *words):
+        """What a command of `rt` says in the crate's folder, and its status."""
+        with tempfile.TemporaryFile("w+", errors="replace") as log, ending() as processes:
+            start(processes, [self.rt, *words], self.folder, log)
+            status = processes[0].wait()
+            log.seek(0)
+            return log.read(), status
 
-    def told(self, log):
-        """A line that says how far the run with this log has come."""
-        ended, tried = self.look(), sum(TOLD.match(line) is not None for line in log.splitlines())
-        if not self.seen and not tried:
-            return f"proving what the mutants are tried over: {proved_in(log)} crates"
-        each = (time.monotonic() - self.first) / ended if ended >= 4 else 0
-        left = f", about {minutes(each * (self.mutants - tried))} left" if each else ""
-        return f"tried {tried} of {self.mutants} mutants{left}"
+    def write(self, sources):
+        for file, text in sources.items():
+            if text != (self.folder / file).read_text():
+                (self.folder / file).write_text(text)
+
+    def check(self, edits):
+        """What a check says of these edits together: of their functions alone, or of all where one changes something besides."""
+        after = self.sources
+        for edit in edits:
+            after = changed(after, edit.changes)
+        self.write(after)
+        try:
+            names = sorted(set().union(*(edit.names for edit in edits)))
+            return self.run("check", *(word for name in names for word in ("--only", name)))
+        finally:
+            self.write(self.sources)
+
+    def verdicts(self, edits):
+        """What came of each edit. Where a check of several says nothing of one, that one is tried alone."""
+        log, status = self.check(edits)
+        found = {edit.name: verdict_on(edit, log, status) for edit in edits}
+        if len(edits) > 1:
+            for edit in edits:
+                if found[edit.name].is_open:
+                    found[edit.name] = verdict_on(edit, *self.check([edit]))
+        return found
+
+    def try_all(self, names, say):
+        """The verdicts on the mutants of these names."""
+        found, edits = {}, []
+        for name in names:
+            try:
+                edits.append(read(self.folder / "mutants" / f"{name}.edit", self.sources))
+            except BadEdit as bad:
+                found[name] = Verdict(NOT_COMPILED, str(bad))
+        log, status = self.run("lib")
+        if status:
+            last = log.strip().splitlines()[-1:] or [""]
+            return found | {edit.name: Verdict("was not tried", f"the crate itself is not proved: {last[0][:200]}") for edit in edits}
+        for group in groups(edits):
+            found |= self.verdicts(group)
+            say(f"{self.crate}: tried {len(found)} of {len(names)}")
+        return found
 
 
-def minutes(seconds):
-    return f"{max(round(seconds / 60), 1)} minutes" if seconds >= 90 else "a minute"
-
-
-def proved_in(log):
-    """How many crates a log says are proved, now or by an earlier run."""
-    return len(re.findall(r"^rt: \w+ proved$|^(?:rt: )?\w+ is kept:", log, re.MULTILINE))
-
-
-def watched(process, log, progress, say, every):
-    """Waits for a run, and says now and then how far it has come."""
-    said = time.monotonic()
-    while process.poll() is None:
-        time.sleep(0.5)
-        progress.look()
-        if time.monotonic() - said >= every:
-            said = time.monotonic()
-            say(progress.told(log.read_text(errors="replace")))
-
-
-def tried(root, crates, say, rt="rt", every=30):
-    """Has `rt ci` try the mutants of these crates, and gives its log and its status."""
-    with tempfile.TemporaryDirectory(prefix="evats-mutants-") as at:
-        tree, room, log = Path(at, "tree"), Path(at, "room"), Path(at, "log")
-        tree.mkdir()
-        room.mkdir()
+def tried(root, crates, say, rt="rt"):
+    """Tries the mutants of these crates, and gives the verdict on each, by CRATE/NAME."""
+    with tempfile.TemporaryDirectory(prefix="evats-mutants-") as tree:
+        say("copying the tree")
         copied(root, tree, crates)
-        count = sum(len(mutants_of(root, crate)) for crate in crates)
-        progress = Progress(room, count)
-        with log.open("w") as out, ending() as processes:
-            start(processes, [rt, "ci", *crates], tree, out, TMPDIR=str(room))
-            watched(processes[0], log, progress, say, every)
-        return log.read_text(errors="replace"), processes[0].returncode
+        found = {}
+        for crate in crates:
+            names = [name.split("/")[1] for name in mutants_of(root, crate)]
+            said = Bench(tree, crate, rt).try_all(names, say)
+            found |= {f"{crate}/{name}": verdict for name, verdict in said.items()}
+        return found

@@ -31,6 +31,7 @@ impl<L: Opening> Model for Pile<L> {
 }
 
 impl<L: Opening> Pile<L> {
+    /// An empty pile with room for so many seats. Fails only for want of memory.
     pub fn with_room(alloc: Global, room: usize) -> Result<Pile<L>, AllocError>
         ensures { IfOk result (λ p. p ≡ []) }
     {

@@ -86,6 +86,7 @@ impl<L: Opening> Seat<L> {
         }
     }
 
+    /// Its number: seats are numbered as they are given out, from the first that was free before.
     pub fn number(&self) -> u64
         ensures is { result ≡ self.now.number }
         ensures there { (L.before < result) × (result ≤ L.before + L.seats) }

@@ -51,6 +51,7 @@ fn longer(text: Option<String>, line: &str, is_first: bool) -> Option<String>
 }
 
 impl Joined {
+    /// A script of no lines yet.
     pub fn new(alloc: Global) -> Joined
         ensures text { IsHeld result.text [] }
         ensures fault { result.fault ≡ None }

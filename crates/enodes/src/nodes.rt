@@ -12,18 +12,21 @@ use kernele::tree::{Expr, Method, Pattern};
 use std::alloc::{AllocError, Global};
 use std::sync::Arc;
 
+/// An integer as it is written.
 pub fn integer(number: i64) -> Expr
     ensures { tree_of result ≡ int_tree number }
 {
     Expr::Int(number)
 }
 
+/// A text as it is written.
 pub fn text(text: &Text) -> Result<Expr, AllocError>
     ensures { IfOk result (λ e. tree_of e ≡ text_tree text.now) }
 {
     Ok(Expr::Text(text.share()?))
 }
 
+/// What a name stands for.
 pub fn noun(name: &Text) -> Result<Expr, AllocError>
     ensures { IfOk result (λ e. tree_of e ≡ noun_tree name.now) }
 {
@@ -37,6 +40,7 @@ pub fn one(alloc: Global, item: Expr) -> Result<Vec<Expr>, AllocError>
     Ok(vec![in alloc; item]?)
 }
 
+/// A call of a method, at once.
 pub fn call(
     alloc: Global,
     receiver: Arc<Expr>,
@@ -62,6 +66,7 @@ pub fn send(
     Ok(Expr::Send(receiver, verb, sent))
 }
 
+/// A list of what these give.
 pub fn list(alloc: Global, items: Vec<Expr>) -> Result<Expr, AllocError>
     ensures { IfOk result (λ e. tree_of e ≡ list_tree (trees_of items.items)) }
 {
@@ -102,6 +107,7 @@ pub fn choose(
     Ok(Expr::If(condition, first, second))
 }
 
+/// A block that is repeated as long as a condition holds.
 pub fn repeat_while(
     alloc: Global,
     condition: Arc<Expr>,
@@ -113,6 +119,7 @@ pub fn repeat_while(
     Ok(Expr::While(condition, body))
 }
 
+/// A block that is run for each item of a list.
 pub fn repeat_for(
     alloc: Global,
     pattern: Pattern,
@@ -125,6 +132,7 @@ pub fn repeat_for(
     Ok(Expr::For(pattern, list, body))
 }
 
+/// A block, and a handler of the problem that it throws.
 pub fn try_catch(
     alloc: Global,
     body: Vec<Expr>,
@@ -138,6 +146,7 @@ pub fn try_catch(
     Ok(Expr::Try(body, pattern, handler))
 }
 
+/// The end of a block by a problem.
 pub fn throw(problem: Arc<Expr>) -> Expr
     ensures { tree_of result ≡ throw_tree (tree_of problem.value) }
 {
@@ -195,6 +204,7 @@ pub fn escape(alloc: Global, name: Text, body: Vec<Expr>) -> Result<Expr, AllocE
     Ok(Expr::Escape(name, Arc::new(alloc, body)?))
 }
 
+/// A method: its verb, its parameters and its body.
 pub fn method(
     alloc: Global,
     verb: Text,

@@ -42,6 +42,7 @@ impl Carried {
         }
     }
 
+    /// Whether no reference is carried with a fence.
     pub fn is_empty(&self) -> bool
         ensures { IsTrue result ↔ (self.now ≡ []) }
     {

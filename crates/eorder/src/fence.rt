@@ -45,12 +45,14 @@ impl Fence {
         Fence { names }
     }
 
+    /// Whether it names no message.
     pub fn is_empty(&self) -> bool
         ensures { IsTrue result ↔ (self.now ≡ []) }
     {
         self.names.is_empty()
     }
 
+    /// Whether it names this message.
     pub fn contains(&self, message: MsgId) -> bool
         ensures { result ≡ member self.now message }
     {

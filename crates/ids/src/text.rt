@@ -85,6 +85,7 @@ impl Text {
         Ok(())
     }
 
+    /// What the text reads.
     pub fn as_str(&self) -> &str
         ensures { result.now ≡ self.now }
     {

@@ -22,6 +22,7 @@ pub struct Counted<T> {
 impl<T> Counted<T> {
     ghost use Rattle.streams.specs.Counted.{failures, inner, IsOneMore};
 
+    /// Counts from here on which calls of a reader or writer fail.
     pub fn new(wrapped: T) -> Self
         ensures inner { inner result ≡ wrapped }
         ensures failures { failures result ≡ 0 }
@@ -39,6 +40,7 @@ impl<T> Counted<T> {
         self.failures
     }
 
+    /// The reader or writer itself.
     pub fn into_inner(self) -> T
         ensures { result ≡ inner self }
     {

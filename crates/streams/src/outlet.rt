@@ -47,6 +47,7 @@ fn write_whole<W: Write>(sink: &mut Counted<W>, bytes: &[u8]) -> Result<(), Writ
 impl<W> Outlet<W> {
     ghost use Rattle.streams.specs.Outlet.{waiting, writer, writes_failed, is_cut};
 
+    /// An outlet to this writer, in which nothing waits yet.
     pub fn new(alloc: Global, output: W) -> Outlet<W>
         ensures writer { writer result ≡ output }
         ensures none_waits { waiting result ≡ [] }

@@ -78,6 +78,7 @@ impl World {
         self.names.get(name)
     }
 
+    /// The message of this name, if one was made.
     pub fn message(&self, name: MsgId) -> Option<&Message>
         ensures { option_map (λ g. message (message_of g.now)) result ≡ world_of self.now (key.Msg name) }
     {
