@@ -44,6 +44,9 @@ use std::sync::Arc;
 use worldcells::record::CellRecord;
 use worldcells::world::World;
 
+/// For how many touched cells of a turn there is room to begin with: those of most turns.
+const FEW_CELLS: usize = 8;
+
 /// The cells that an event touches, a record of each cell that it writes, with what it writes there, and its notes for the log.
 #[derive(Drop)]
 pub struct Effects {
@@ -289,7 +292,7 @@ fn turn_touched(
     ensures published { OnOk result (PublishedOnce (publications_of outcome.now.out.publications)) }
     ensures touched { IfOk result (λ keys. keys.items ≡ turn_keys event name way.now vat outcome.now) }
 {
-    let mut touched = Vec::new(alloc);
+    let mut touched = Vec::with_capacity(alloc, FEW_CELLS)?;
     touch_board(&mut touched, way.through.as_slice())?;
     touch_messages(&mut touched, way.awaited.names())?;
     touch_publications(&mut touched, &outcome.out.publications)?;
