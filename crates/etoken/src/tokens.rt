@@ -1,5 +1,5 @@
 // The tokens of a whole text.
-ghost use Rattle.std.specs.Prelude.{◌≡◌, ◌<◌, ◌≤◌, ◌++◌, ◌∷◌, ◌⊎◌, [], false, length, reverse, OnOk, IfErr};
+ghost use Rattle.std.specs.Prelude.{◌≡◌, ◌<◌, ◌≤◌, ◌++◌, ◌∷◌, ◌⊎◌, [], false, length, reverse, OnOk, IfOk, IfErr};
 ghost use Rattle.etoken.specs.declared.fault.TokenFault.TheVariants.{Memory, TooLong};
 ghost use Rattle.etoken.specs.Breaks.{may_end, behind, with_break};
 ghost use Rattle.etoken.specs.Tokens.{Answers};
@@ -18,6 +18,9 @@ pub const MAX_BYTES: usize = 65_536;
 /// The most tokens that a text may have.
 pub const MAX_TOKENS: usize = 16_384;
 
+/// How many tokens there is room for to begin with: those of most questions.
+const ROOM: usize = 16;
+
 /// The tokens so far, with the semicolons that line breaks gave.
 #[derive(Drop)]
 struct Output {
@@ -27,15 +30,16 @@ struct Output {
 }
 
 impl Output {
-    fn new(alloc: Global) -> Output
-        ensures tokens { result.tokens.items ≡ [] }
-        ensures brackets { result.breaks.brackets.items ≡ [] }
-        ensures ended { result.breaks.ended ≡ false }
+    fn new(alloc: Global) -> Result<Output, TokenFault>
+        ensures tokens { IfOk result (λ o. o.tokens.items ≡ []) }
+        ensures brackets { IfOk result (λ o. o.breaks.brackets.items ≡ []) }
+        ensures ended { IfOk result (λ o. o.breaks.ended ≡ false) }
+        ensures err { IfErr result (λ f. f ≡ Memory) }
     {
-        Output {
+        Ok(Output {
             breaks: Breaks::new(alloc),
-            tokens: Vec::new(alloc),
-        }
+            tokens: Vec::with_capacity(alloc, ROOM)?,
+        })
     }
 
     /// Adds a token, and a semicolon before it where a line break there gives one.
@@ -83,7 +87,7 @@ pub fn tokens(alloc: Global, text: &str) -> Result<Vec<Placed>, TokenFault>
         alloc,
         length: text.len(),
     };
-    let mut output = Output::new(alloc);
+    let mut output = Output::new(alloc)?;
     let mut rest = text;
     'more: loop {
         let (broken, front) = blanks(rest);

@@ -21,7 +21,7 @@ returns-then-is_empty c =
 
 pub returns-in_err-token : goal.returns-in_err-token
 returns-in_err-token c =
-    let p = err_from_is_err_and c.from_residual.result c.from_residual.ensures.1 in
+    let p = err_from_is_err_and c.from_residual-in_err-token.result c.from_residual-in_err-token.ensures.1 in
     rw (p.1, p.2) (progress_blames c.more.invariant.so_far c.in_err-token.field-0.0 c.if-text-gt-MAX_BYTES.false c.more.output.in_limit c.blanks-broken.ensures c.in_err-token.ensures)
 
 pub returns-in_err-add : goal.returns-in_err-add
