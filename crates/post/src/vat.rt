@@ -1,11 +1,12 @@
 // What is known of vats by their names.
 ghost use Rattle.std.specs.Prelude.{◌≡◌, IfOk};
 ghost use Rattle.std.specs.Arc.{arc_value};
-ghost use Rattle.post.specs.MessageView.{vat_of};
+ghost use Rattle.scopes.specs.Check.{scopes_of};
+ghost use Rattle.scopes.specs.Scope.{asked_scopes};
 
 use ids::names::VatNo;
 use ids::text::Text;
-use scopes::TopName;
+use scopes::{Outer, TopName};
 use std::alloc::{AllocError, Global};
 use std::sync::Arc;
 
@@ -16,6 +17,9 @@ pub struct Vat {
     pub earlier: Arc<Vec<Text>>,
     /// The names that its script defines at the top.
     pub tops: Arc<Vec<TopName>>,
+    /// What a program that is asked of it finds in scope.
+    outer: Arc<Outer>,
+    ghost scoped: { scopes_of outer.value ≡ asked_scopes earlier.value.items tops.value.items },
 }
 
 // By hand, so that what drops one elsewhere calls this and is not proved anew for all that it holds.
@@ -25,11 +29,14 @@ impl Drop for Vat {
             number: _,
             earlier: _,
             tops: _,
+            outer: _,
         } = self;
     }
 }
 
 impl Vat {
+    ghost use Rattle.post.specs.MessageView.{vat_of};
+
     /// A vat of this number, whose script knows these earlier vats and defines these names at the top. Fails only for want of
     /// memory.
     pub fn new(
@@ -40,11 +47,20 @@ impl Vat {
     ) -> Result<Vat, AllocError>
         ensures { IfOk result (λ v. vat_of v ≡ record { number = number; earlier = earlier.items; tops = tops.items }) }
     {
+        let outer = Outer::for_asked(alloc, &earlier, &tops)?;
         Ok(Vat {
             number,
             earlier: Arc::new(alloc, earlier)?,
             tops: Arc::new(alloc, tops)?,
+            outer: Arc::new(alloc, outer)?,
         })
+    }
+
+    /// What a program that is asked of it finds in scope: it was found once, when the vat was born.
+    pub fn outer(&self) -> &Outer
+        ensures { scopes_of result.now ≡ asked_scopes (vat_of self.now).earlier (vat_of self.now).tops }
+    {
+        self.outer.as_ref()
     }
 
     /// The same vat, whose names are shared. Fails only for want of memory.
@@ -55,11 +71,14 @@ impl Vat {
             number: self.number,
             earlier: Arc::try_clone(&self.earlier)?,
             tops: Arc::try_clone(&self.tops)?,
+            outer: Arc::try_clone(&self.outer)?,
         })
     }
 }
 
 impl Clone for Vat {
+    ghost use Rattle.post.specs.MessageView.{vat_of};
+
     ghost is_clone = { λ a b. vat_of b ≡ vat_of a };
 
     fn clone(&self) -> Result<Vat, AllocError> {
