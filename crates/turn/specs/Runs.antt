@@ -3,6 +3,7 @@ use Rattle.std.specs.Prelude.{◌≡◌, Bool, true, false, Some}
 use Rattle.ids.specs.declared.names.PromId.{PromId}
 use Rattle.values.specs.Data.{null}
 use Rattle.heap.specs.State.{Cell, Content}
+use Rattle.heap.specs.Drafts.{began_with, touched_of, writes_of}
 use Rattle.heap.specs.Found.{Found as FoundCells, touched_in, writes_in}
 use Rattle.post.specs.Delivery.{Delivery, opening, asked, sent, waiting}
 use Rattle.sends.specs.Vats.{ended}
@@ -11,8 +12,10 @@ use Rattle.erules.specs.Doings.{given_by, behind}
 use Rattle.erules.specs.Outcomes.{End}
 use Rattle.erules.specs.OutboxView.{outbox_of}
 use Rattle.erules.specs.Rules.{Items}
+use Rattle.erules.specs.declared.working.Working.{Working}
 use Rattle.deliveries.specs.Outcomes.{told_of, written_by}
 use Rattle.deliveries.specs.Turn.{Found, Led, Told, knowing, call_met, call_meeting, when_met, telling, telling_at, ending_at, outcome_by}
+use Rattle.deliveries.specs.declared.outcome.Ended.{Ended}
 use Rattle.deliveries.specs.declared.outcome.Outcome.{Outcome}
 
 -- a script is evaluated in the vat's own scope
@@ -40,3 +43,20 @@ pub record Leaves (x : Outcome) (p : PromId) (t : Told) (b : At) : Type 0 where
 -- the same of a turn whose delivery ended so at this place
 abbrev pub RunsTo : Outcome → PromId → End → At → Type 0
 RunsTo x p o b = Leaves x p (telling o b) (telling_at o b)
+
+-- what is left of a turn that stands here and ended so
+pub record IsLeft (w : Working) (e : Ended) (x : Outcome) : Type 0 where
+  pub touched : touched_in x.footprint ≡ touched_of w.draft
+  pub written : writes_in x.footprint ≡ writes_of w.draft
+  pub found : FoundCells x.footprint (began_with w.draft)
+  pub ended : x.ended ≡ e
+  pub steps : x.steps ≡ w.steps
+  pub out : x.out ≡ w.out
+
+-- what is left of this turn is what one leaves that told this at this place
+abbrev pub LeavesAtEnd : Working → Ended → PromId → Told → At → Type 0
+LeavesAtEnd w e p t b = (x : Outcome) → IsLeft w e x → Leaves x p t b
+
+-- the same of a turn whose delivery ended so at this place
+abbrev pub RunsToEnd : Working → Ended → PromId → End → At → Type 0
+RunsToEnd w e p o b = LeavesAtEnd w e p (telling o b) (telling_at o b)

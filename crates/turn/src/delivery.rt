@@ -4,19 +4,21 @@ ghost use Rattle.std.specs.Arc.{arc_value};
 ghost use Rattle.heap.specs.Found.{Found};
 ghost use Rattle.heap.specs.View.{state_of};
 ghost use Rattle.erules.specs.Answered.{OnEnd};
+ghost use Rattle.erules.specs.At.{At};
+ghost use Rattle.erules.specs.Outcomes.{End};
 ghost use Rattle.erules.specs.View.{at};
 ghost use Rattle.deliveries.specs.Outcomes.{Meets, found_of};
 ghost use Rattle.deliveries.specs.Turn.{start};
 ghost use Rattle.post.specs.DeliveryView.{delivery_of};
 ghost use Rattle.post.specs.MessageView.{message_of};
-ghost use Rattle.turn.specs.Runs.{Does, is_opening};
+ghost use Rattle.turn.specs.Runs.{Does, RunsToEnd, is_opening};
 
 use crate::calls::run_call;
 use crate::ending::{end, lose};
 use crate::opening::run_opening;
 use crate::whens::run_when;
 use deliveries::lead::Lead;
-use deliveries::outcome::Outcome;
+use deliveries::outcome::{Ended, Outcome};
 use erules::end::{Abandon, Halt, Stop};
 use erules::outbox::Outbox;
 use erules::working::Working;
@@ -45,10 +47,27 @@ pub fn deliver(
     ensures meets { IfOk result (λ o. Meets (message_of message.now) (found_of lead.now) event vat budget o) }
 {
     let sent: &Sent = &message.sent;
-    let mut w = begin(alloc, &sent.delivery, event, vat, state, budget)?;
+    let state = Arc::try_clone(state)?;
+    let mut w = begin(alloc, &sent.delivery, event, vat, state, budget);
+    let ended = run_to_end(&mut w, sent, lead)?;
+    let footprint = w.draft.finish()?;
+    Ok(Outcome {
+        footprint,
+        ended,
+        steps: w.steps,
+        out: w.out,
+    })
+}
+
+/// Runs a delivery, and ends its turn.
+fn run_to_end(w: &mut Working, sent: &Sent, lead: &Lead) -> Result<Ended, AllocError>
+    requires own { (at w.old).own_scope ≡ is_opening (delivery_of sent.now.delivery) }
+    requires bare { (at w.old).nouns ≡ [] }
+    ensures { IfOk result (λ e. (o : End) × (b : At) × Does (delivery_of sent.now.delivery) (found_of lead.now) (at w.old) o b × RunsToEnd w.new e sent.now.result o b) }
+{
     let mut value = Value::Null;
-    match run(&mut w, &sent.delivery, lead, &mut value) {
-        Ok(()) => end(w, sent.result, value),
+    match run(w, &sent.delivery, lead, &mut value) {
+        Ok(()) => end(w, sent.result, &value),
         Err(Stop::Halted) => lose(w, sent.result),
         Err(Stop::Memory) => Err(AllocError),
     }
@@ -60,14 +79,14 @@ fn begin(
     delivery: &Delivery,
     event: EventName,
     vat: VatNo,
-    state: &Arc<VatState>,
+    state: Arc<VatState>,
     budget: u32,
-) -> Result<Working, AllocError>
-    ensures { IfOk result (λ w. at w ≡ start (is_opening (delivery_of delivery.now)) event vat (state_of (arc_value state.now)) budget) }
+) -> Working
+    ensures { at result ≡ start (is_opening (delivery_of delivery.now)) event vat (state_of (arc_value state)) budget }
 {
-    Ok(Working {
+    Working {
         alloc,
-        draft: Draft::new(alloc, Arc::try_clone(state)?, event, vat),
+        draft: Draft::new(alloc, state, event, vat),
         own_scope: defines_tops(delivery),
         captured: None,
         older: 0,
@@ -78,7 +97,7 @@ fn begin(
         opened: Vec::new(alloc),
         out: Outbox::new(alloc),
         halt: Halt::Abandoned(Abandon::Budget),
-    })
+    }
 }
 
 /// Whether a delivery is evaluated in the vat's own scope.

@@ -1,5 +1,5 @@
 // How turns end.
-ghost use Rattle.std.specs.Prelude.{◌≡◌, ◌∷◌, [], IfOk, option_map};
+ghost use Rattle.std.specs.Prelude.{◌≡◌, ◌∷◌, [], IfOk, OnOk, option_map};
 ghost use Rattle.values.specs.View.{reply_of, val_of};
 ghost use Rattle.erules.specs.Doings.{noted, published_out};
 ghost use Rattle.erules.specs.Outcomes.{halt, value as value_end};
@@ -8,9 +8,9 @@ ghost use Rattle.erules.specs.View.{at, cause_of, halt_of};
 ghost use Rattle.sends.specs.View.{published_of};
 ghost use Rattle.deliveries.specs.Outcomes.{told_of};
 ghost use Rattle.deliveries.specs.Turn.{commented, lost, lost_outbox, settled_reply, told as told_reply};
-ghost use Rattle.turn.specs.Runs.{Leaves, RunsTo};
+ghost use Rattle.turn.specs.Runs.{LeavesAtEnd, RunsToEnd};
 
-use deliveries::outcome::{Ended, Outcome};
+use deliveries::outcome::Ended;
 use eorder::carried::Carried;
 use erules::end::{Abandon, Halt};
 use erules::outbox::{Note, Outbox};
@@ -23,12 +23,11 @@ use sends::publishing::{Resolved, end_with};
 use std::alloc::{AllocError, Global};
 use values::value::{Answer, Value};
 
-/// The outcome of a turn whose delivery gave this value: its settled form is published.
-pub(crate) fn end(w: Working, promise: PromId, value: Value) -> Result<Outcome, AllocError>
-    ensures { IfOk result (λ x. RunsTo x promise (value_end (val_of value)) (at w)) }
+/// Ends a turn whose delivery gave this value: its settled form is published.
+pub(crate) fn end(w: &mut Working, promise: PromId, value: &Value) -> Result<Ended, AllocError>
+    ensures { IfOk result (λ e. RunsToEnd w.new e promise (value_end (val_of value.now)) (at w.old)) }
 {
-    let mut w = w;
-    let form = settle(w.alloc, &mut w.draft, &value)?;
+    let form = settle(w.alloc, &mut w.draft, value)?;
     let told = answer_of(w.alloc, form)?;
     tell(w, promise, told)
 }
@@ -43,9 +42,9 @@ fn answer_of(alloc: Global, form: Option<Value>) -> Result<Answer, AllocError>
     }
 }
 
-/// The outcome of a turn whose delivery was halted: its result is broken. Of an abandoned turn nothing else is kept.
-pub(crate) fn lose(w: Working, promise: PromId) -> Result<Outcome, AllocError>
-    ensures { IfOk result (λ x. RunsTo x promise (halt (halt_of w.halt)) (at w)) }
+/// Ends a turn whose delivery was halted: its result is broken. Of an abandoned turn nothing else is kept.
+pub(crate) fn lose(w: &mut Working, promise: PromId) -> Result<Ended, AllocError>
+    ensures { IfOk result (λ e. RunsToEnd w.new e promise (halt (halt_of w.old.halt)) (at w.old)) }
 {
     match &w.halt {
         Halt::Thrown(problem) => {
@@ -64,28 +63,15 @@ pub(crate) fn lose(w: Working, promise: PromId) -> Result<Outcome, AllocError>
     }
 }
 
-/// The outcome of a turn that tells this.
-fn tell(w: Working, promise: PromId, told: Answer) -> Result<Outcome, AllocError>
-    ensures { IfOk result (λ x. Leaves x promise (told_reply (reply_of told)) (at w)) }
+/// Ends a turn that tells this.
+fn tell(w: &mut Working, promise: PromId, told: Answer) -> Result<Ended, AllocError>
+    ensures { IfOk result (λ e. LeavesAtEnd w.new e promise (told_reply (reply_of told)) (at w.old)) }
 {
-    let Working {
-        alloc,
-        mut draft,
-        steps,
-        out,
-        ..
-    } = w;
     let ended = ended_by(&told)?;
-    let out = comment(out, &told)?;
-    let resolved = end_with(alloc, &mut draft, promise, told)?;
-    let out = publish(alloc, out, promise, resolved)?;
-    let footprint = draft.finish()?;
-    Ok(Outcome {
-        footprint,
-        ended,
-        steps,
-        out,
-    })
+    comment(&mut w.out, &told)?;
+    let resolved = end_with(w.alloc, &mut w.draft, promise, told)?;
+    publish(w.alloc, &mut w.out, promise, resolved)?;
+    Ok(ended)
 }
 
 /// What is told in a reply.
@@ -99,51 +85,46 @@ fn ended_by(told: &Answer) -> Result<Ended, AllocError>
 }
 
 /// A problem stands in the log.
-fn comment(out: Outbox, told: &Answer) -> Result<Outbox, AllocError>
-    ensures { IfOk result (λ o. outbox_of o ≡ commented (reply_of told.now) (outbox_of out)) }
+fn comment(out: &mut Outbox, told: &Answer) -> Result<(), AllocError>
+    ensures commented { OnOk result (outbox_of out.new ≡ commented (reply_of told.now) (outbox_of out.old)) }
+    ensures promises { out.new.promises ≡ out.old.promises }
 {
     match told {
-        Answer::Gives(_) => Ok(out),
+        Answer::Gives(_) => Ok(()),
         Answer::Throws(problem) => note(out, Note::Comment(problem.share()?)),
     }
 }
 
 /// One more note for the log.
-fn note(out: Outbox, note: Note) -> Result<Outbox, AllocError>
-    ensures { IfOk result (λ o. outbox_of o ≡ noted (note_of note ∷ []) (outbox_of out)) }
+fn note(out: &mut Outbox, note: Note) -> Result<(), AllocError>
+    ensures noted { OnOk result (outbox_of out.new ≡ noted (note_of note ∷ []) (outbox_of out.old)) }
+    ensures promises { out.new.promises ≡ out.old.promises }
 {
-    let mut out = out;
     out.notes.push(note)?;
-    Ok(out)
+    Ok(())
 }
 
 /// A promise is published as this.
 fn publish(
     alloc: Global,
-    out: Outbox,
+    out: &mut Outbox,
     promise: PromId,
     resolved: Resolved,
-) -> Result<Outbox, AllocError>
-    ensures { IfOk result (λ o. outbox_of o ≡ published_out promise (published_of resolved) (outbox_of out)) }
+) -> Result<(), AllocError>
+    ensures published { OnOk result (outbox_of out.new ≡ published_out promise (published_of resolved) (outbox_of out.old)) }
+    ensures promises { out.new.promises ≡ out.old.promises }
 {
-    let mut out = out;
     let published = Published::new(alloc, resolved.value, resolved.fences)?;
     out.publications.add(promise, published)?;
     note(out, Note::Resolved(promise))
 }
 
-/// The outcome of an abandoned turn: its result is broken by the reason.
-fn abandon(w: Working, promise: PromId, why: Abandon) -> Result<Outcome, AllocError>
-    ensures { IfOk result (λ x. Leaves x promise (lost (cause_of why)) (at w)) }
+/// Ends an abandoned turn: its result is broken by the reason.
+fn abandon(w: &mut Working, promise: PromId, why: Abandon) -> Result<Ended, AllocError>
+    ensures { IfOk result (λ e. LeavesAtEnd w.new e promise (lost (cause_of why)) (at w.old)) }
 {
-    let out = broken_result(w.alloc, promise, why)?;
-    let footprint = w.draft.finish()?;
-    Ok(Outcome {
-        footprint,
-        ended: Ended::Abandoned(why),
-        steps: w.steps,
-        out,
-    })
+    w.out = broken_result(w.alloc, promise, why)?;
+    Ok(Ended::Abandoned(why))
 }
 
 /// What an abandoned turn publishes and notes.
@@ -151,11 +132,13 @@ fn broken_result(alloc: Global, promise: PromId, why: Abandon) -> Result<Outbox,
     ensures { IfOk result (λ o. outbox_of o ≡ lost_outbox promise (cause_of why)) }
 {
     let reason = Text::new(alloc, why.reason())?;
-    let out = note(Outbox::new(alloc), Note::Comment(reason.share()?))?;
+    let mut out = Outbox::new(alloc);
+    note(&mut out, Note::Comment(reason.share()?))?;
     let resolved = Resolved {
         value: Value::Broken(reason),
         fences: Carried::empty(alloc),
         joined: None,
     };
-    publish(alloc, out, promise, resolved)
+    publish(alloc, &mut out, promise, resolved)?;
+    Ok(out)
 }

@@ -1,20 +1,18 @@
-use Rattle.std.proofs.Common.{[], ap, ◌∙◌}
-use Rattle.heap.specs.View.{state_of}
+use Rattle.std.proofs.Common.{[]}
 use Rattle.erules.specs.Locals.{locals_after}
 use Rattle.erules.specs.View.{opened_of}
 use Rattle.turn.proofs.delivery.begin.Goals as goal
 
 pub returns : goal.returns
 returns c =
-    let same = ap state_of c.in_ok-try_clone.ensures in
     λ i. record {
       nouns = locals_after [] (c.new-2.ensures.items i);
       own_scope = c.defines_tops.ensures i;
-      state = (c.new.ensures.state ∙ same) i;
+      state = c.new.ensures.state i;
       left = c.args.budget;
       event = (c.new.ensures.counts i).event;
       vat = (c.new.ensures.counts i).vat;
-      began = (c.new.ensures.began ∙ same) i;
+      began = c.new.ensures.began i;
       slots = (c.new.ensures.counts i).slots;
       objects = (c.new.ensures.counts i).objects;
       ejectors = 0;

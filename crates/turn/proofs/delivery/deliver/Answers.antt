@@ -1,22 +1,16 @@
-use Rattle.std.proofs.lemmas.Result.{IfOk-weaker}
-use Rattle.values.specs.View.{val_of}
-use Rattle.erules.specs.Outcomes.{halt, value}
-use Rattle.erules.specs.View.{at, halt_of}
-use Rattle.erules.proofs.Answering.{of_halted}
-use Rattle.turn.specs.Runs.{Does}
+use Rattle.std.proofs.Common.{ap, refl, ◌∙◌}
+use Rattle.heap.specs.View.{state_of}
+use Rattle.post.specs.DeliveryView.{delivery_of}
+use Rattle.deliveries.specs.Turn.{start}
+use Rattle.turn.specs.Runs.{is_opening}
 use Rattle.turn.proofs.Meeting.{came_to}
 use Rattle.turn.proofs.delivery.deliver.Goals as goal
 
-pub returns-in-Ok : goal.returns-in-Ok
-returns-in-Ok c = record {
-  found = IfOk-weaker c.end.result _ _ (λ x h. (came_to c.args.message.now (value (val_of c.run.new.into)) (at c.run.new.w) x c.deref-sent.ensures c.in_ok-w.ensures c.in-Ok.ensures h).0) c.end.ensures;
-  meets = IfOk-weaker c.end.result _ _ (λ x h. (came_to c.args.message.now (value (val_of c.run.new.into)) (at c.run.new.w) x c.deref-sent.ensures c.in_ok-w.ensures c.in-Ok.ensures h).1) c.end.ensures;
-}
-
-pub returns-in-Err-Halted : goal.returns-in-Err-Halted
-returns-in-Err-Halted c =
-    let does = of_halted c.in-Err-Halted.field-0 c.run.new.w (λ h b. Does _ _ _ (halt h) b) c.in-Err-Halted.field-0-is c.in-Err-Halted.ensures in
-    record {
-      found = IfOk-weaker c.lose.result _ _ (λ x h. (came_to c.args.message.now (halt (halt_of c.run.new.w.halt)) (at c.run.new.w) x c.deref-sent.ensures c.in_ok-w.ensures does h).0) c.lose.ensures;
-      meets = IfOk-weaker c.lose.result _ _ (λ x h. (came_to c.args.message.now (halt (halt_of c.run.new.w.halt)) (at c.run.new.w) x c.deref-sent.ensures c.in_ok-w.ensures does h).1) c.lose.ensures;
-    }
+pub returns : goal.returns
+returns c =
+    let begun = c.begin-w.ensures ∙ ap (λ z. start (is_opening (delivery_of c.deref-sent.result.now.delivery)) c.args.event c.args.vat (state_of z) c.args.budget) c.in_ok-state.ensures in
+    let ended = c.in_ok-ended.ensures in
+    let found = c.in_ok-footprint.ensures in
+    let came = came_to c.args.message.now ended.0 ended.1 _ c.deref-sent.ensures begun ended.2
+    (ended.3 _ (record { touched = found.touched; written = found.written; found = found.found; ended = refl; steps = refl; out = refl })) in
+    record { found = came.0; meets = came.1 }

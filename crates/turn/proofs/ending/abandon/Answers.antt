@@ -1,9 +1,9 @@
-use Rattle.std.proofs.Common.{refl}
+use Rattle.std.proofs.Common.{ap, ◌∙◌}
+use Rattle.erules.specs.OutboxView.{outbox_of}
 use Rattle.erules.specs.View.{cause_of}
+use Rattle.deliveries.specs.Outcomes.{told_of}
 use Rattle.turn.proofs.Telling.{loses}
 use Rattle.turn.proofs.ending.abandon.Goals as goal
 
 pub returns : goal.returns
-returns c =
-    let left = c.in_ok-footprint.ensures in
-    loses c.args.w _ c.args.promise (cause_of c.args.why) left.touched left.written left.found refl refl c.in_ok-out.ensures
+returns c = λ x left. loses c.args.w.now x c.args.promise (cause_of c.args.why) left.touched left.written left.found (ap told_of left.ended) left.steps (ap outbox_of left.out ∙ c.in_ok-w.ensures)
