@@ -294,8 +294,7 @@ impl Book {
         let Some(vat) = self.vat(name) else {
             return Err(BookFault::NoVat(name.share()?));
         };
-        let outer = Outer::for_asked(self.alloc, &vat.earlier, &vat.tops)?;
-        check_program(self.alloc, program, &outer)?;
+        check_program(self.alloc, program, vat.outer())?;
         let event = self.next_event()?;
         Ok((event, vat.number))
     }

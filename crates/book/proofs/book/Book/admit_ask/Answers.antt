@@ -1,8 +1,5 @@
-use Rattle.std.proofs.Common.{◌≡◌, ◌∙◌, Option, Some, Vec, Global, refl, ap, ap₂, sym}
-use Rattle.ids.specs.declared.text.Text.{Text}
-use Rattle.scopes.specs.Check.{scopes_of}
-use Rattle.scopes.specs.Scope.{asked_scopes, checked_program}
-use Rattle.scopes.specs.declared.naming.TopName.{TopName}
+use Rattle.std.proofs.Common.{◌∙◌, Option, Some, refl, ap, sym}
+use Rattle.scopes.specs.Scope.{checked_program}
 use Rattle.post.specs.MessageView.{vat_of}
 use Rattle.kernele.specs.Tree.{Name}
 use Rattle.kernele.specs.View.{program_of}
@@ -20,13 +17,11 @@ returns-clause-ok c =
     let b = book_of c.args.self.now in
     let x = c.args.name.now in
     let p = program_of c.args.program.now in
-    let named = ap vat_in (sym c.in-Some.ensures) in
-    let scopes : scopes_of c.in_ok-outer.outer ≡ asked_scopes (vat_of c.in-Some.vat.now).earlier (vat_of c.in-Some.vat.now).tops =
-    c.in_ok-outer.ensures ∙ ap₂ asked_scopes (c.deref-2.ensures.value ∙ ap (λ (v : Vec Text Global). v.items) c.deref.ensures) (c.deref-4.ensures.value ∙ ap (λ (v : Vec TopName Global). v.items) c.deref-3.ensures) in (
+    let named = ap vat_in (sym c.in-Some.ensures) in (
       c.in_ok-event.ensures.ok.0,
       c.in_ok-event.ensures.ok.1,
       (vat_of c.in-Some.vat.now, named, refl),
       ap (λ (o : Option Content). ask_refusal_by (vat_in o) b x p) (sym c.in-Some.ensures)
-          ∙ ap (λ s. first (check_refusal (checked_program p s)) (full_refusal b)) (sym scopes)
+          ∙ ap (λ s. first (check_refusal (checked_program p s)) (full_refusal b)) (sym c.outer.ensures)
           ∙ ap (λ (o : Option Refusal). first o (full_refusal b)) c.in_ok-check_program.ensures.ok ∙ c.in_ok-event.ensures.ok.2,
     )
