@@ -27,23 +27,24 @@ use journal::journal::Journal;
 use std::alloc::Global;
 
 /// The events are in the journal.
-fn check_entered(alloc: Global, journal: Journal, names: &NameSet) -> Result<(), BookFault>
+fn check_entered(journal: Journal, names: &NameSet) -> Result<(), BookFault>
     ensures ok { OnOk result (missing_refusal names.now (lines_of (items_of journal.entry)) ≡ None) }
     ensures err { IfErr result (λ fault. Tells fault (missing_refusal names.now (lines_of (items_of journal.entry)))) }
 {
-    match least_missing(alloc, journal, names)? {
+    match least_missing(journal, names) {
         Some(name) => Err(BookFault::NoEvent(name)),
         None => Ok(()),
     }
 }
 
 /// The events are in the journal, and none is settled.
-fn check_open(alloc: Global, journal: Journal, names: &NameSet) -> Result<(), BookFault>
+fn check_open(journal: Journal, names: &NameSet) -> Result<(), BookFault>
+    requires { IsJournal (items_of journal) }
     ensures open { OnOk result (NoneSettled names.now journal.entry) }
     ensures ok { OnOk result (closed_refusal names.now (length journal.entry.settled.now) (lines_of (items_of journal.entry)) ≡ None) }
     ensures err { IfErr result (λ fault. Tells fault (closed_refusal names.now (length journal.entry.settled.now) (lines_of (items_of journal.entry)))) }
 {
-    check_entered(alloc, journal, names)?;
+    check_entered(journal, names)?;
     match first_settled(journal, names) {
         Some(name) => Err(BookFault::Settled(name)),
         None => Ok(()),
@@ -52,7 +53,7 @@ fn check_open(alloc: Global, journal: Journal, names: &NameSet) -> Result<(), Bo
 
 /// None of the events is undone.
 fn check_live(journal: Journal, names: &NameSet) -> Result<(), BookFault>
-    requires { NoneSettled names.now journal }
+    requires { IsJournal (items_of journal) }
     ensures ok { OnOk result (undone_refusal names.now (lines_of (items_of journal.entry)) ≡ None) }
     ensures err { IfErr result (λ fault. Tells fault (undone_refusal names.now (lines_of (items_of journal.entry)))) }
 {
@@ -64,7 +65,7 @@ fn check_live(journal: Journal, names: &NameSet) -> Result<(), BookFault>
 
 /// None of the events is live.
 fn check_undone(journal: Journal, names: &NameSet) -> Result<(), BookFault>
-    requires { NoneSettled names.now journal }
+    requires { IsJournal (items_of journal) }
     ensures ok { OnOk result (live_refusal names.now (lines_of (items_of journal.entry)) ≡ None) }
     ensures err { IfErr result (λ fault. Tells fault (live_refusal names.now (lines_of (items_of journal.entry)))) }
 {
@@ -75,13 +76,13 @@ fn check_undone(journal: Journal, names: &NameSet) -> Result<(), BookFault>
 }
 
 /// The events may be undone: all are in the journal, not settled and live, and so are all live events that came of them.
-fn check_undo(alloc: Global, journal: Journal, names: &NameSet) -> Result<(), BookFault>
+fn check_undo(journal: Journal, names: &NameSet) -> Result<(), BookFault>
     requires { IsJournal (items_of journal) }
     ensures open { OnOk result (NoneSettled names.now journal.entry) }
     ensures ok { OnOk result (undo_refusal (length journal.entry.settled.now) (lines_of (items_of journal.entry)) names.now ≡ None) }
     ensures err { IfErr result (λ fault. Tells fault (undo_refusal (length journal.entry.settled.now) (lines_of (items_of journal.entry)) names.now)) }
 {
-    check_open(alloc, journal, names)?;
+    check_open(journal, names)?;
     check_live(journal, names)?;
     match first_gap(journal, names) {
         Some(gap) => Err(BookFault::NotClosed(gap.event, gap.other)),
@@ -96,7 +97,7 @@ fn check_redo(alloc: Global, journal: Journal, names: &NameSet) -> Result<(), Bo
     ensures ok { OnOk result (redo_refusal (length journal.entry.settled.now) (lines_of (items_of journal.entry)) names.now ≡ None) }
     ensures err { IfErr result (λ fault. Tells fault (redo_refusal (length journal.entry.settled.now) (lines_of (items_of journal.entry)) names.now)) }
 {
-    check_open(alloc, journal, names)?;
+    check_open(journal, names)?;
     check_undone(journal, names)?;
     if let Some(gap) = first_missing_cause(alloc, journal, names)? {
         return Err(BookFault::CauseMissing(gap.event, gap.other));
@@ -109,13 +110,14 @@ fn check_redo(alloc: Global, journal: Journal, names: &NameSet) -> Result<(), Bo
 
 /// The event is in the journal, not settled, and live.
 fn check_cone(alloc: Global, journal: Journal, root: EventName) -> Result<(), BookFault>
+    requires { IsJournal (items_of journal) }
     ensures open { OnOk result (NoneSettled (root ∷ []) journal.entry) }
     ensures ok { OnOk result (cone_refusal (length journal.entry.settled.now) (lines_of (items_of journal.entry)) root ≡ None) }
     ensures err { IfErr result (λ fault. Tells fault (cone_refusal (length journal.entry.settled.now) (lines_of (items_of journal.entry)) root)) }
 {
     let roots = [root];
     let names = NameSet::new(alloc, &roots)?;
-    check_open(alloc, journal, &names)?;
+    check_open(journal, &names)?;
     check_live(journal, &names)
 }
 
@@ -197,7 +199,7 @@ impl Book {
     {
         let names = NameSet::new(self.alloc, events)?;
         let journal = self.core.journal();
-        check_undo(self.alloc, journal, &names)?;
+        check_undo(journal, &names)?;
         let positions = positions(self.alloc, journal, &names)?;
         self.core.prepare(self.alloc, &positions)?;
         self.core.undo(&positions);

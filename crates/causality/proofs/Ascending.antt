@@ -13,7 +13,7 @@ abbrev pub Ascending : List ℕ → Type 0
 Ascending [] = Unit {0}
 Ascending (k ∷ ks) = AllByRecursion (λ q. k < q) ks × Ascending ks
 
-less : (x y : ℕ) → nat_cmp x y ≡ Less → x < y
+pub less : (x y : ℕ) → nat_cmp x y ≡ Less → x < y
 less x y h = by (nat_lt x y) refl h
   where
     never : (b : Bool) → cond b Equal Greater ≡ Less → ⊥
@@ -34,7 +34,7 @@ abbrev pub passes : {A : Type 0} → (A → Bool) → List A → ℕ → Bool
 passes test xs q = option_map_or test (slice_get xs q) false
 
 -- those that are not below n and have not n are above it
-above : (n : ℕ) (ks : List ℕ) → AllByRecursion (λ k. n ≤ k) ks → has_place ks n ≡ false → AllByRecursion (λ k. n + 1 ≤ k) ks
+pub above : (n : ℕ) (ks : List ℕ) → AllByRecursion (λ k. n ≤ k) ks → has_place ks n ≡ false → AllByRecursion (λ k. n + 1 ≤ k) ks
 above n [] h none = tt
 above n (k ∷ ks) (h, hs) none = by (k == n) refl none (above n ks hs)
   where
@@ -46,7 +46,7 @@ above n (k ∷ ks) (h, hs) none = by (k == n) refl none (above n ks hs)
     by false e g rest = (next e, rest g)
 
 -- an ascending list that has n and nothing below it begins with n
-first_is : (n k : ℕ) (ks : List ℕ) → n ≤ k → AllByRecursion (λ q. k < q) ks → has_place (k ∷ ks) n ≡ true → k ≡ n
+pub first_is : (n k : ℕ) (ks : List ℕ) → n ≤ k → AllByRecursion (λ q. k < q) ks → has_place (k ∷ ks) n ≡ true → k ≡ n
 first_is n k ks le more has = elim (or_cases (k == n) (has_place ks n) has) [
   | inl here ↦ eqb-true k n here
   | inr there ↦ absurd (any_gives ⊥ (λ q. q == n) ks there (all_map _ _ ks (λ q lt is. let e : q ≡ n = eqb-true q n is in omega (arith, lt, le, e)) more))

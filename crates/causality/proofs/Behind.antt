@@ -1,8 +1,8 @@
 -- What a set of which none is settled lacks is found behind what is settled.
-use Rattle.std.proofs.Common.{◌≡◌, ◌∙◌, ℕ, ◌+◌, ◌==◌, Bool, true, false, cond, ◌&&◌, ◌||◌, not, List, [], ◌∷◌, ◌++◌, append-nil, append_assoc, Option, Some, None, length, map, filter, take, refl, sym, ap, ap₂, subst, arith}
+use Rattle.std.proofs.Common.{◌≡◌, ◌∙◌, ℕ, ◌+◌, ◌==◌, Bool, true, false, cond, ◌&&◌, ◌||◌, not, List, [], ◌∷◌, ◌++◌, append-nil, append_assoc, Option, Some, None, length, map, filter, take, refl, sym, ap, ap₂, arith}
 use Rattle.std.specs.Option.{option_map, option_or}
 use Rattle.std.specs.List.{list_any, AllByRecursion}
-use Rattle.std.proofs.lemmas.List.{length-map, map-append}
+use Rattle.std.proofs.lemmas.List.{map-append}
 use Rattle.std.proofs.lemmas.List.Elements.{filter-append}
 use Rattle.history.proofs.Lists.{all_map}
 use Rattle.ids.specs.declared.names.EventName.{EventName}
@@ -10,16 +10,16 @@ use Rattle.ids.specs.declared.cells.CellKey.{CellKey}
 use Rattle.history.specs.Journal.{is_in}
 use Rattle.journal.specs.Items.{Item, wrote_one_of}
 use Rattle.journal.specs.Journals.{items_of, settled_item}
-use Rattle.journal.specs.Lines.{Line, causes_in, line_of, lines_of}
+use Rattle.journal.specs.Lines.{Line, causes_in, line_of}
 use Rattle.journal.specs.declared.entry.Mark.{Mark}
 use Rattle.journal.specs.declared.journal.Journal.{Journal}
 use Rattle.journal.specs.declared.settled.Settled.{Settled}
 use Rattle.causality.specs.Journals.{NoneSettled}
 use Rattle.causality.specs.Names.{is_writer_in, wrote_last}
-use Rattle.causality.specs.Selections.{name_of, chosen, first_some, first_name, first_settled, has_mark, first_marked, gap, places_from}
+use Rattle.causality.specs.Selections.{name_of, chosen, first_some, first_name, has_mark, first_marked, gap, places_from}
 use Rattle.causality.specs.Walks.{is_of, first_followed, parted, joins, joined_with, gathered, first_along, comes_back, missed, missed_at, first_met, unnamed, unexpected, crossed, crossed_at}
 use Rattle.causality.specs.declared.selection.Gap.{Gap}
-use Rattle.causality.proofs.Firsts.{some_mapped, some_past, none_each}
+use Rattle.causality.proofs.Firsts.{some_past, none_each}
 use Rattle.causality.proofs.Indexing.{flipped}
 
 -- settled items are live

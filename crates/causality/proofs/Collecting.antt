@@ -34,7 +34,7 @@ use Rattle.causality.proofs.Following.{number, named_place, one_place, here_or_o
 use Rattle.causality.proofs.Indexing.{flipped}
 
 -- what holds of the item in each place holds of all
-all_places : {A : Type 0} (P : A → Type 0) (xs : List A) → ((p : ℕ) (x : A) → slice_get xs p ≡ Some x → P x) → AllByRecursion P xs
+pub all_places : {A : Type 0} (P : A → Type 0) (xs : List A) → ((p : ℕ) (x : A) → slice_get xs p ≡ Some x → P x) → AllByRecursion P xs
 all_places P [] h = tt
 all_places P (x ∷ xs) h = (h 0 x refl, all_places P xs (λ p y g. h (suc p) y g))
 

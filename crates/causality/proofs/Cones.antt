@@ -1,5 +1,5 @@
 -- A walk along the journal gathers the cone of an event.
-use Rattle.std.proofs.Common.{◌≡◌, ◌≢◌, ℕ, ◌+◌, ◌<◌, List, [], ◌∷◌, ◌++◌, Bool, true, false, cond, length, drop, get_or, refl, ap, sym, ◌∙◌, subst, map, filter, reverse, eq-eqb, ne_eqb}
+use Rattle.std.proofs.Common.{◌≡◌, ◌≢◌, ℕ, List, [], ◌∷◌, ◌++◌, Bool, true, false, cond, refl, ap, sym, ◌∙◌, subst, map, filter, reverse, eq-eqb, ne_eqb}
 use Rattle.std.specs.Prelude.{◌||◌, ◌&&◌, ◌==◌, Option, Some, None}
 use Rattle.std.specs.List.{list_any, AllByRecursion}
 use Rattle.std.proofs.lemmas.Bool.{or_left}
@@ -11,20 +11,17 @@ use Rattle.history.specs.Journal.{Entry, name_of, is_in, caused, live_set, HasCa
 use Rattle.history.proofs.Cones.{cone_closed, cone_has_root, cone_least, cone_part}
 use Rattle.history.proofs.Lists.{all_map, all_of, any_same, filter_same}
 use Rattle.ids.specs.declared.names.EventName.{EventName}
-use Rattle.journal.specs.Items.{Item, item_of}
-use Rattle.journal.specs.declared.entry.Entry as code
+use Rattle.journal.specs.Items.{Item}
 use Rattle.journal.specs.Lines.{plain, Line, line_of, lines_of, entries_in}
 use Rattle.journal.specs.declared.entry.Mark.TheVariants as mark
 use Rattle.journal.proofs.Reversed.{map-map, map-reverse, filter-map, filter-reverse}
 use Rattle.causality.specs.Exact.{Cone, ClosedIn}
-use Rattle.causality.specs.Names.{SameNames, is_writer_in, wrote_last}
+use Rattle.causality.specs.Names.{is_writer_in, wrote_last}
 use Rattle.causality.specs.Selections.{name_of as line_name, numbers, among, chosen, is_live, first_marked}
 use Rattle.causality.specs.Walks.{joins, joined_with, gathered}
-use Rattle.causality.proofs.Along.{from_here}
 use Rattle.causality.proofs.Facts.{entry_at, same_entries}
 use Rattle.causality.proofs.Firsts.{none_each}
 use Rattle.causality.proofs.Gaps.{live_at}
-use Rattle.causality.proofs.NameSets.{named_last}
 use Rattle.causality.proofs.Pairs.{all_unmapped, all_from_end, all_to_end}
 use Rattle.causality.proofs.Telling.{Tells}
 use Rattle.causality.proofs.Writers.{last_tells, live_causes}
@@ -195,11 +192,3 @@ module _ (all : List Item) (root : EventName) (h : Tells (lines_of all)) (none :
 
   pub cone_of : (names : List EventName) → names ≡ gathered root [] all → Cone (lines_of all) root names
   cone_of names is = subst (Cone (lines_of all) root) (sym is) gathered_cone
-
--- one entry more is gathered, or not
-pub gather_step : (root : EventName) (keys names : List EventName) (xs : List code.Entry) (i : ℕ) (x : code.Entry) → i < length xs → x ≡ get_or xs i x → SameNames keys names → (b : Bool) → joins root (numbers keys) (item_of x) ≡ b
-    → gathered root (joined_with b names (item_of x)) (map item_of (drop (i + 1) xs)) ≡ gathered root names (map item_of (drop i xs))
-gather_step root keys names xs i x here is same b joined =
-    ap (λ c. gathered root (joined_with c names (item_of x)) (map item_of (drop (i + 1) xs)))
-    (sym joined ∙ ap (λ w. (x.event.name.0 == root.0) || ((item_of x).live && w)) (named_last keys names (item_of x) same))
-    ∙ sym (from_here (λ es. gathered root names (map item_of es)) xs i x here is)

@@ -3,6 +3,7 @@ pub mod Ascending
 pub mod Behind
 pub mod Collecting
 pub mod Written
+pub mod Placed
 pub mod Cones
 pub mod Exactness
 pub mod Facts
@@ -17,3 +18,5 @@ pub mod Pairs
 pub mod Redoing
 pub mod Telling
 pub mod Writers
+pub mod Unfollowed
+pub mod Gathering

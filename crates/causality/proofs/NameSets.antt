@@ -1,5 +1,5 @@
 -- On sets of names.
-use Rattle.std.proofs.Common.{◌≡◌, ◌∙◌, ℕ, ◌+◌, ◌<◌, List, [], ◌∷◌, ◌++◌, Bool, true, false, cond, ◌&&◌, Option, Some, None, length, map, take, get_or, slice_get, refl, sym, ap, eqb-true, eq-eqb, true≢false}
+use Rattle.std.proofs.Common.{◌≡◌, ◌∙◌, ℕ, ◌+◌, ◌<◌, List, [], ◌∷◌, ◌++◌, Bool, true, false, cond, ◌&&◌, Some, length, map, take, get_or, slice_get, refl, sym, ap, eqb-true, eq-eqb, true≢false}
 use Rattle.std.specs.Prelude.{◌||◌, ◌==◌}
 use Rattle.std.specs.List.{list_any}
 use Rattle.std.specs.Cmp.{unsigned_ties}
@@ -9,11 +9,10 @@ use Rattle.std.proofs.lemmas.List.Folds.{list_any-append, list_any_at, list_any_
 use Rattle.history.specs.Journal.{is_in}
 use Rattle.ids.specs.declared.names.EventName.{EventName}
 use Rattle.ids.specs.contracts.names.EventNameOrd.TheImpl.{cmp-value}
-use Rattle.history.proofs.Lists.{all_of, any_same}
 use Rattle.journal.proofs.Touching.{any-map}
 use Rattle.journal.specs.Items.{Item}
 use Rattle.journal.specs.Lines.{line_of}
-use Rattle.causality.specs.Names.{SameNames, is_writer_in, wrote_last}
+use Rattle.causality.specs.Names.{SameNames}
 use Rattle.causality.specs.Selections.{numbers, is_entered}
 use Rattle.causality.proofs.Indexing.{by_name}
 
@@ -59,14 +58,6 @@ name_added old new names n updates before e =
 -- a name at a place is one of the names
 pub at_place : (names : List EventName) (i : ℕ) (d : EventName) → i < length names → is_in (numbers names) (get_or names i d).0 ≡ true
 at_place names i d h = among_is names (get_or names i d) ∙ list_any_at (λ (n : EventName). n.0 == (get_or names i d).0) names i d h (eq-eqb (get_or names i d).0 (get_or names i d).0 refl)
-
--- the same names wrote last what an item touched
-pub named_last : (es fs : List EventName) (i : Item) → SameNames es fs → wrote_last (numbers es) i ≡ wrote_last (numbers fs) i
-named_last es fs i h = any_same _ _ i.lasts (all_of _ i.lasts (λ p. either p.1))
-  where
-    either : (o : Option ℕ) → is_writer_in (numbers es) o ≡ is_writer_in (numbers fs) o
-    either None = refl
-    either (Some n) = h (record { 0 = n })
 
 -- the names of a set that are among these
 abbrev pub in_names : List EventName → EventName → Bool

@@ -33,7 +33,7 @@ plain_laws = record {
   once = λ e w f g d also. absurd d;
 }
 
-any_or : {A : Type 0} (p q : A → Bool) (xs : List A) → list_any (λ a. p a || q a) xs ≡ (list_any p xs || list_any q xs)
+pub any_or : {A : Type 0} (p q : A → Bool) (xs : List A) → list_any (λ a. p a || q a) xs ≡ (list_any p xs || list_any q xs)
 any_or p q [] = refl
 any_or p q (x ∷ xs) = ap (λ b. (p x || q x) || b) (any_or p q xs) ∙ mixed (p x) (q x) (list_any p xs) (list_any q xs)
   where

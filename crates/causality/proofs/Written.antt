@@ -1,7 +1,7 @@
 -- Whoever an entry of a journal has as the last writer of a cell wrote the cell.
-use Rattle.std.proofs.Common.{◌≡◌, ◌≢◌, ◌∙◌, ℕ, ◌==◌, Bool, true, false, cond, ◌&&◌, ◌||◌, List, [], ◌∷◌, Option, Some, None, unwrap_or, map, reverse, refl, sym, ap, ap₂, subst, eqb-true, eq-eqb, true≢false}
+use Rattle.std.proofs.Common.{◌≡◌, ◌≢◌, ◌∙◌, ℕ, ◌==◌, Bool, true, false, cond, ◌&&◌, ◌||◌, List, [], ◌∷◌, Option, Some, None, unwrap_or, refl, sym, ap₂, subst, eqb-true, eq-eqb, true≢false}
 use Rattle.std.specs.List.{list_any, AllByRecursion}
-use Rattle.std.proofs.lemmas.Bool.{or_left, or_right, and_right}
+use Rattle.std.proofs.lemmas.Bool.{or_left, or_right}
 use Rattle.history.specs.Subject.{found}
 use Rattle.history.specs.Journal.{Entry, name_of, caused, Distinct}
 use Rattle.history.specs.Chains.{wrote, last_writer, Chained}

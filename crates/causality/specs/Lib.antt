@@ -3,4 +3,5 @@ pub mod Causes
 pub mod Selections
 pub mod Names
 pub mod Walks
+pub mod Placed
 pub mod Exact

@@ -2,12 +2,10 @@
 ghost use Rattle.std.specs.Prelude.{◌≡◌, IfOk};
 ghost use Rattle.history.specs.Journal.{is_in};
 ghost use Rattle.ids.specs.declared.names.EventName.{EventName};
-ghost use Rattle.journal.specs.Items.{item_of};
 ghost use Rattle.causality.specs.Selections.{numbers};
-ghost use Rattle.causality.specs.Names.{SameNames, wrote_last};
+ghost use Rattle.causality.specs.Names.{SameNames};
 
 use ids::names::EventName;
-use journal::entry::Entry;
 use std::alloc::{AllocError, Global};
 use std::collections::BTreeSet;
 use std::marker::Model;
@@ -53,13 +51,6 @@ impl<'a> NameSet<'a> {
     {
         has(&self.sorted, name)
     }
-
-    /// Whether one of these was the last writer of a cell that an entry touched.
-    pub(crate) fn has_last_writer(&self, entry: &Entry) -> bool
-        ensures { result ≡ wrote_last (numbers self.now) (item_of entry.now) }
-    {
-        has_last_writer(&self.sorted, entry)
-    }
 }
 
 /// These names as a set.
@@ -78,18 +69,4 @@ pub(crate) fn has(set: &BTreeSet<EventName>, name: EventName) -> bool
     ensures { result ≡ is_in (numbers set.now.keys) name.0 }
 {
     set.contains(&name)
-}
-
-/// Whether one of a set was the last writer of a cell that an entry touched.
-pub(crate) fn has_last_writer(set: &BTreeSet<EventName>, entry: &Entry) -> bool
-    ensures { result ≡ wrote_last (numbers set.now.keys) (item_of entry.now) }
-{
-    for cell in &entry.touched {
-        if let Some(writer) = cell.writer
-            && has(set, writer)
-        {
-            return true;
-        }
-    }
-    false
 }

@@ -1,16 +1,20 @@
 // What a set of events lacks for an undo or a redo.
-ghost use Rattle.std.specs.Prelude.{◌≡◌, ◌≤◌, ◌&&◌, List, All, map, length, false, Some, IfOk};
-ghost use Rattle.history.specs.Journal.{is_in};
-ghost use Rattle.ids.specs.declared.names.EventName.{EventName};
-ghost use Rattle.journal.specs.Items.{Item, item_of};
+ghost use Rattle.std.specs.Prelude.{◌≡◌, ◌≤◌, ◌<◌, ◌||◌, ℕ, All, map, length, Some, IfOk, OnOk};
+ghost use Rattle.std.specs.List.{list_any};
+ghost use Rattle.std.specs.List.Sorted.{IsStrictlySortedBy};
+ghost use Rattle.std.specs.Ordering.{nat_cmp};
+ghost use Rattle.history.specs.Chains.{is_name};
+ghost use Rattle.links.specs.Places.{place_of};
+ghost use Rattle.journal.specs.Items.{item_of, is_live};
 ghost use Rattle.journal.specs.Journals.{items_of};
-ghost use Rattle.journal.specs.Lines.{line_of, lines_of};
+ghost use Rattle.journal.specs.Lines.{lines_of};
+ghost use Rattle.causality.specs.Causes.{has_place, passes_at};
 ghost use Rattle.causality.specs.Journals.{IsJournal, NoneSettled};
+ghost use Rattle.causality.specs.Placed.{is_marked, is_as, place_if, lesser_place, least_place, name_there, is_outsider, may_be_followed};
 ghost use Rattle.causality.specs.Selections as model;
-ghost use Rattle.causality.specs.Names.{wrote_last};
-ghost use Rattle.causality.specs.Walks.{follower, first_followed, parted};
+ghost use Rattle.causality.specs.Walks.{follower, first_followed};
 
-use crate::names::{NameSet, has};
+use crate::names::NameSet;
 use crate::returning::{first_crossed, first_missed};
 use ids::names::EventName;
 use journal::entry::{Entry, Mark, meets};
@@ -25,24 +29,6 @@ pub struct Gap {
     pub other: EventName,
 }
 
-/// Those of a set that the journal has. Fails only for want of memory.
-fn entered(
-    alloc: Global,
-    journal: Journal,
-    names: &NameSet,
-) -> Result<BTreeSet<EventName>, AllocError>
-    ensures { IfOk result (λ found. (e : EventName) → is_in (model.numbers found.keys) e.0 ≡ (is_in (model.numbers names.now) e.0 && model.is_entered (lines_of (items_of journal.entry)) e)) }
-{
-    let mut found = BTreeSet::new(alloc);
-    for place in 0..journal.len() {
-        let name = journal.name_at(place);
-        if names.has(name) {
-            found.insert(name)?;
-        }
-    }
-    Ok(found)
-}
-
 /// The lesser of a name and what was least before it.
 fn lesser_of(name: EventName, least: Option<EventName>) -> EventName
     ensures { Some result ≡ model.lesser name least }
@@ -53,55 +39,102 @@ fn lesser_of(name: EventName, least: Option<EventName>) -> EventName
     }
 }
 
-/// The least of these names that the journal does not have. Fails only for want of memory.
-pub fn least_missing(
-    alloc: Global,
-    journal: Journal,
-    names: &NameSet,
-) -> Result<Option<EventName>, AllocError>
-    ensures { IfOk result (λ least. least ≡ model.least_missing names.now (lines_of (items_of journal.entry))) }
+/// The least of these names that the journal does not have.
+pub fn least_missing(journal: Journal, names: &NameSet) -> Option<EventName>
+    ensures { result ≡ model.least_missing names.now (lines_of (items_of journal.entry)) }
 {
-    let found = entered(alloc, journal, names)?;
     let given = names.given();
     let mut missing = None;
     for name in given {
-        if !has(&found, *name) {
+        if journal.place_of(*name).is_none() {
             missing = Some(lesser_of(*name, missing));
         }
     }
-    Ok(missing)
+    missing
+}
+
+/// What is asked of an entry.
+#[derive(Clone, Copy)]
+enum Asked {
+    Settled,
+    Marked(Mark),
+}
+
+/// Whether this is the mark of what is live.
+fn is_live(mark: Mark) -> bool
+    ensures { result ≡ is_live mark }
+{
+    mark == Mark::Live
+}
+
+/// Whether the entry at a place has this mark. What is settled is live.
+fn has_mark_at(journal: Journal, place: usize, mark: Mark) -> bool
+    requires { place < length (items_of journal) }
+    ensures { result ≡ passes_at (is_marked mark) (items_of journal.entry) place }
+{
+    if place < journal.settled.len() {
+        return is_live(mark);
+    }
+    has_mark(&journal.entries[place - journal.settled.len()], mark)
+}
+
+/// Where an event stands, if its entry is as asked.
+fn place_if(journal: Journal, event: EventName, asked: Asked) -> Option<usize>
+    ensures { result ≡ place_if journal.entry.places.now (is_as asked (length journal.entry.settled.now) (items_of journal.entry)) event }
+{
+    let place = journal.place_of(event)?;
+    let is_as = match asked {
+        Asked::Settled => place < journal.settled.len(),
+        Asked::Marked(mark) => has_mark_at(journal, place, mark),
+    };
+    if is_as { Some(place) } else { None }
+}
+
+/// The lesser of two places, where there are two.
+fn lesser_place(first: Option<usize>, second: Option<usize>) -> Option<usize>
+    ensures { result ≡ lesser_place first second }
+{
+    match (first, second) {
+        (Some(place), Some(other)) => Some(place.min(other)),
+        (Some(place), None) => Some(place),
+        (None, _) => second,
+    }
+}
+
+/// The first of a set whose entry is as asked.
+fn first_asked(journal: Journal, names: &NameSet, asked: Asked) -> Option<EventName>
+    ensures { result ≡ name_there (items_of journal.entry) (least_place journal.entry.places.now (is_as asked (length journal.entry.settled.now) (items_of journal.entry)) names.now) }
+{
+    let given = names.given();
+    let mut first = None;
+    for name in given {
+        first = lesser_place(first, place_if(journal, *name, asked));
+    }
+    let place = first?;
+    Some(journal.name_at(place))
 }
 
 /// The first of the set that is settled.
 pub fn first_settled(journal: Journal, names: &NameSet) -> Option<EventName>
+    requires { IsJournal (items_of journal) }
     ensures { result ≡ model.first_settled names.now (length journal.entry.settled.now) (lines_of (items_of journal.entry)) }
 {
-    for settled in journal.settled {
-        if names.has(settled.name) {
-            return Some(settled.name);
-        }
-    }
-    None
+    first_asked(journal, names, Asked::Settled)
 }
 
 /// Whether an entry has this mark.
 fn has_mark(entry: &Entry, mark: Mark) -> bool
-    ensures { (items : List Item) → result ≡ model.has_mark mark (line_of items (item_of entry.now)) }
+    ensures { result ≡ is_marked mark (item_of entry.now) }
 {
     entry.mark == mark
 }
 
-/// The first of a set of which none is settled that has this mark.
+/// The first of the set that has this mark.
 pub fn first_marked(journal: Journal, names: &NameSet, mark: Mark) -> Option<EventName>
-    requires { NoneSettled names.now journal }
+    requires { IsJournal (items_of journal) }
     ensures { result ≡ model.first_marked mark names.now (lines_of (items_of journal.entry)) }
 {
-    for entry in journal.entries {
-        if names.has(entry.event.name) && has_mark(entry, mark) {
-            return Some(entry.event.name);
-        }
-    }
-    None
+    first_asked(journal, names, Asked::Marked(mark))
 }
 
 /// The first of these entries that is live, outside the set, and touched what an earlier entry wrote.
@@ -132,22 +165,45 @@ fn first_followed(entries: &[Entry], names: &NameSet) -> Option<Gap>
     None
 }
 
-/// Whether an entry is live and has a member as the last writer of a cell that it touched.
-fn comes_of(entry: &Entry, names: &NameSet) -> bool
-    ensures { result ≡ ((item_of entry.now).live && wrote_last (model.numbers names.now) (item_of entry.now)) }
+/// Whether an event is live, not settled, and outside the set.
+fn is_outsider(journal: Journal, names: &NameSet, event: EventName) -> bool
+    ensures { result ≡ is_outsider names.now (map item_of journal.entry.entries.now) (length journal.entry.settled.now) journal.entry.places.now event }
 {
-    entry.mark == Mark::Live && names.has_last_writer(entry)
+    match journal.open_entry(event) {
+        Some(entry) => has_mark(entry, Mark::Live) && !names.has(entry.event.name),
+        None => false,
+    }
 }
 
-/// Whether a live entry outside the set has a member as the last writer of a cell that it touched. Looks behind the first member alone.
-fn is_parted(entries: &[Entry], names: &NameSet) -> bool
-    ensures { result ≡ parted names.now false (map item_of entries.now) }
+/// Whether one of these events is live, not settled, and outside the set.
+fn has_outsider(journal: Journal, names: &NameSet, events: &[EventName]) -> bool
+    ensures { result ≡ list_any (is_outsider names.now (map item_of journal.entry.entries.now) (length journal.entry.settled.now) journal.entry.places.now) events.now }
 {
-    let mut is_behind = false;
-    for entry in entries {
-        if names.has(entry.event.name) {
-            is_behind = true;
-        } else if is_behind && comes_of(entry, names) {
+    for event in events {
+        if is_outsider(journal, names, *event) {
+            return true;
+        }
+    }
+    false
+}
+
+/// Whether a live event outside the set is listed with an event, or its list is not kept.
+fn may_be_followed(journal: Journal, names: &NameSet, event: EventName) -> bool
+    ensures { result ≡ may_be_followed (is_outsider names.now (map item_of journal.entry.entries.now) (length journal.entry.settled.now) journal.entry.places.now) journal.entry.followers.now event }
+{
+    match journal.followers.of(event) {
+        Some(followers) => has_outsider(journal, names, followers),
+        None => true,
+    }
+}
+
+/// Whether one of the set may be followed so.
+fn has_followed(journal: Journal, names: &NameSet) -> bool
+    ensures { result ≡ list_any (may_be_followed (is_outsider names.now (map item_of journal.entry.entries.now) (length journal.entry.settled.now) journal.entry.places.now) journal.entry.followers.now) names.now }
+{
+    let given = names.given();
+    for name in given {
+        if may_be_followed(journal, names, *name) {
             return true;
         }
     }
@@ -161,8 +217,8 @@ pub fn first_gap(journal: Journal, names: &NameSet) -> Option<Gap>
     requires live { model.first_marked Mark.Undone names.now (lines_of (items_of journal)) ≡ None }
     ensures { result ≡ model.first_gap names.now (lines_of (items_of journal.entry)) }
 {
-    // Where nothing outside comes right after a member, nothing comes of one at all.
-    if !is_parted(journal.entries, names) {
+    // Where nothing outside follows a member, nothing comes of one at all.
+    if !has_followed(journal, names) {
         return None;
     }
     // What came of a live event is a later one that touched what it wrote.
@@ -197,18 +253,54 @@ pub fn first_crossing(
     first_crossed(alloc, journal, names)
 }
 
+/// Adds a place, where there is one.
+pub(crate) fn add_place(
+    places: &mut BTreeSet<usize>,
+    place: Option<usize>,
+) -> Result<(), AllocError>
+    ensures { OnOk result ((q : ℕ) → has_place places.new.keys q ≡ (is_name place q || has_place places.old.keys q)) }
+{
+    if let Some(place) = place {
+        places.insert(place)?;
+    }
+    Ok(())
+}
+
+/// Where the events of a set stand.
+fn places_of(
+    alloc: Global,
+    journal: Journal,
+    names: &NameSet,
+) -> Result<BTreeSet<usize>, AllocError>
+    ensures { IfOk result (λ set. (q : ℕ) → has_place set.keys q ≡ list_any (λ e. is_name (place_of journal.entry.places.now e) q) names.now) }
+{
+    let given = names.given();
+    let mut places = BTreeSet::new(alloc);
+    for name in given {
+        add_place(&mut places, journal.place_of(*name))?;
+    }
+    Ok(places)
+}
+
+/// These places, ascending.
+fn in_order(alloc: Global, places: &BTreeSet<usize>) -> Result<Vec<usize>, AllocError>
+    ensures same { IfOk result (λ all. all.items ≡ places.now.keys) }
+    ensures ascending { OnOk result (IsStrictlySortedBy nat_cmp places.now.keys) }
+{
+    let mut all = Vec::new(alloc);
+    for place in places {
+        all.push(*place)?;
+    }
+    Ok(all)
+}
+
 /// The positions of a set of which none is settled, ascending.
 pub fn positions(alloc: Global, journal: Journal, names: &NameSet) -> Result<Vec<usize>, AllocError>
-    requires { NoneSettled names.now journal }
+    requires journal { IsJournal (items_of journal) }
+    requires open { NoneSettled names.now journal }
     ensures places { IfOk result (λ all. all.items ≡ model.places_from 0 names.now (lines_of (items_of journal.entry))) }
     ensures behind { IfOk result (λ all. All (λ p. length journal.entry.settled.now ≤ p) all.items) }
 {
-    let base = journal.settled.len();
-    let mut all = Vec::new(alloc);
-    for (place, entry) in journal.entries.iter().enumerate() {
-        if names.has(entry.event.name) {
-            all.push(base + place)?;
-        }
-    }
-    Ok(all)
+    let places = places_of(alloc, journal, names)?;
+    Ok(in_order(alloc, &places)?)
 }

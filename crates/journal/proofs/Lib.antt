@@ -12,3 +12,4 @@ pub mod Appending
 pub mod Neighbouring
 pub mod Exchanging
 pub mod Placing
+pub mod Linked

@@ -1,18 +1,9 @@
 -- The items of a journal: those that are settled, and those behind them.
-use Rattle.std.specs.Prelude.{Bool, true, List, ◌++◌, map}
-use Rattle.journal.specs.Items.{Item, item_of}
-use Rattle.journal.specs.declared.entry.Entry.{Entry}
-use Rattle.journal.specs.declared.settled.Settled.{Settled}
+use Rattle.std.specs.Prelude.{List}
+use Rattle.journal.specs.Items.{Item}
+use Rattle.journal.specs.SettledView.{items_in}
+pub use Rattle.journal.specs.SettledView.{settled_item, items_in}
 use Rattle.journal.specs.declared.journal.Journal.{Journal}
-
--- the item that a settled entry was; it is live
-abbrev pub settled_item : Settled → Item
-settled_item s =
-    let was = item_of s.was.value in
-    record { event = record { name = s.name; act = was.event.act; notes = was.event.notes }; seat = s.seat; live = true; lasts = was.lasts; kept = was.kept }
-
-abbrev pub items_in : List Settled → List Entry → List Item
-items_in settled entries = map settled_item settled ++ map item_of entries
 
 -- all items, the oldest first
 abbrev pub items_of : Journal → List Item

@@ -1,19 +1,30 @@
 // The journal: what is kept of settled entries, and the entries behind them.
 ghost use Rattle.std.specs.Prelude.{◌≡◌, ◌+◌, ◌<◌, true, length, map, Some, slice_get};
+ghost use Rattle.std.specs.Option.{option_map};
 ghost use Rattle.ids.specs.declared.cells.CellKey.{CellKey};
-ghost use Rattle.journal.specs.Items.{Item, number_of};
+ghost use Rattle.links.specs.Places.{place_of, ArePlaces};
+ghost use Rattle.journal.specs.Items.{Item, item_of, number_of};
 ghost use Rattle.journal.specs.Lines.{writer_of, wrote_cell};
+ghost use Rattle.journal.specs.Links.{AreFollowers, names_of, open_at};
+ghost use Rattle.journal.specs.SettledView.{items_in};
 
 use crate::entry::{Entry, writer_among};
 use crate::settled::Settled;
 use ids::cells::CellKey;
 use ids::names::EventName;
+use links::followers::Followers;
+use links::places::Places;
 
-/// A journal, the oldest entry first: settled entries, which can no longer be taken back, and those behind them.
+/// A journal, the oldest entry first: settled entries, which can no longer be taken back, and those behind them. It knows where the
+/// entry of each event stands, and who followed it.
 #[derive(Clone, Copy)]
 pub struct Journal<'a> {
     pub settled: &'a [Settled],
     pub entries: &'a [Entry],
+    pub places: &'a Places,
+    pub followers: &'a Followers,
+    pub ghost placed: { ∥ ArePlaces places.now (names_of (items_in settled.now entries.now)) ∥₁ },
+    pub ghost followed: { ∥ AreFollowers followers.now (map item_of entries.now) ∥₁ },
 }
 
 impl<'a> Journal<'a> {
@@ -24,6 +35,25 @@ impl<'a> Journal<'a> {
         ensures { result ≡ length (items_of self.entry) }
     {
         self.settled.len() + self.entries.len()
+    }
+
+    /// Where the entry of an event stands, counted from the oldest, if there is one.
+    pub fn place_of(self, event: EventName) -> Option<usize>
+        ensures { result ≡ place_of self.entry.places.now event }
+    {
+        self.places.place_of(event)
+    }
+
+    /// The entry of an event, if it has one that is not settled.
+    pub fn open_entry(self, event: EventName) -> Option<&'a Entry>
+        ensures { option_map (λ e. item_of e.now) result ≡ open_at (map item_of self.entry.entries.now) (length self.entry.settled.now) (place_of self.entry.places.now event) }
+    {
+        match self.places.place_of(event) {
+            Some(place) if place >= self.settled.len() => {
+                self.entries.get(place - self.settled.len())
+            }
+            _ => None,
+        }
     }
 
     /// The name of the event at a place, counted from the oldest.

@@ -3,4 +3,5 @@
 
 pub mod entry;
 pub mod journal;
+pub mod linking;
 pub mod settled;

@@ -7,12 +7,15 @@ ghost use Rattle.history.specs.Records.{contents};
 ghost use Rattle.history.specs.Walks.{step_at, walk};
 ghost use Rattle.ids.specs.declared.cells.CellKey.{CellKey};
 ghost use Rattle.erules.specs.OutboxView.{note_of};
+ghost use Rattle.links.specs.Places.{ArePlaces};
 ghost use Rattle.worldcells.specs.Events.{with_notes};
 ghost use Rattle.worldcells.specs.EventView.{event_of};
 ghost use Rattle.worldcells.specs.View.{is_ready, swaps_of as swaps_in, RisesBy};
 ghost use Rattle.worldcells.specs.World.{vat_state};
 ghost use Rattle.worldcells.specs.Theory.{cells, state_of_world, kepts_of, all_pass};
 ghost use Rattle.journal.specs.Items.{item_of, is_live, swap_item, entered, keys_at, all_ready, records_at, may_exchange, neighbours, exchanged};
+ghost use Rattle.journal.specs.Links.{AreFollowers, names_of};
+ghost use Rattle.journal.specs.SettledView.{items_in};
 
 use crate::records::{make_rooms, swap_records};
 use erules::outbox::Note;
@@ -21,7 +24,10 @@ use ids::cells::CellKey;
 use ids::names::VatNo;
 use journal::entry::{Entry, Mark, may_exchange, with_writers};
 use journal::journal::Journal;
+use journal::linking::{let_go, list_follower};
 use journal::settled::Settled;
+use links::followers::Followers;
+use links::places::Places;
 use std::alloc::{AllocError, Global};
 use std::sync::Arc;
 use worldcells::event::Event;
@@ -36,11 +42,16 @@ pub struct Deed {
     pub seat: u64,
 }
 
-/// The cells, and an entry for each event that wrote them, the oldest first: those that are settled, and those behind them.
+/// The cells, and an entry for each event that wrote them, the oldest first: those that are settled, and those behind them. By their
+/// names it knows where each stands, and who followed those that are not settled.
 pub struct Core {
     world: World,
     settled: Vec<Settled>,
     entries: Vec<Entry>,
+    places: Places,
+    followers: Followers,
+    ghost placed: { ∥ ArePlaces places (names_of (items_in settled.items entries.items)) ∥₁ },
+    ghost followed: { ∥ AreFollowers followers (map item_of entries.items) ∥₁ },
 }
 
 // By hand, so that what drops one elsewhere calls this and is not proved anew for all that it holds.
@@ -50,6 +61,8 @@ impl Drop for Core {
             world: _,
             settled: _,
             entries: _,
+            places: _,
+            followers: _,
         } = self;
     }
 }
@@ -80,6 +93,8 @@ impl Core {
             world: World::new(alloc),
             settled: Vec::new(alloc),
             entries: Vec::new(alloc),
+            places: Places::new(alloc),
+            followers: Followers::new(alloc),
         }
     }
 
@@ -105,6 +120,8 @@ impl Core {
         Journal {
             settled: &self.settled,
             entries: &self.entries,
+            places: &self.places,
+            followers: &self.followers,
         }
     }
 
@@ -208,6 +225,9 @@ impl Core {
     {
         make_rooms(alloc, &mut self.world, &records)?;
         let touched = with_writers(alloc, &self.world, touched)?;
+        let name = deed.event.name;
+        self.places.make_room(name)?;
+        list_follower(&mut self.followers, name, &touched)?;
         let position = self.settled.len() + self.entries.len();
         self.entries.push(Entry {
             event: deed.event,
@@ -217,6 +237,7 @@ impl Core {
             touched,
             records,
         })?;
+        self.places.put(name, position);
         self.swap_entry(position, Mark::Live);
         Ok(())
     }
@@ -237,6 +258,9 @@ impl Core {
             return false;
         }
         self.entries.swap(place, place + 1);
+        self.places.put(self.entries[place].event.name, position);
+        self.places
+            .put(self.entries[place + 1].event.name, position + 1);
         true
     }
 
@@ -251,9 +275,11 @@ impl Core {
         ensures counted { swaps_of self.new ≡ swaps_of self.old }
     {
         let mut settled = Settled::of_all(alloc, &self.entries[..count])?;
+        let left = self.entries.len() - count;
+        let_go(&mut self.followers, &self.entries[..count]);
         self.settled.append(&mut settled)?;
         self.entries.rotate_left(count);
-        self.entries.truncate(self.entries.len() - count);
+        self.entries.truncate(left);
         Ok(())
     }
 }

@@ -1,12 +1,11 @@
-use Rattle.std.proofs.Common.{◌≡◌, ◌≤◌, ◌<◌, ◌+◌, ℕ, Some, List, ◌++◌, length, map, get_or, slice_get, sym, ap, ◌∙◌, subst, arith}
+use Rattle.std.proofs.Common.{◌≡◌, ◌≤◌, ◌+◌, Some, length, map, get_or, slice_get, sym, ap, ◌∙◌, subst, arith}
 use Rattle.std.specs.List.{AllByRecursion}
 use Rattle.ids.specs.declared.cells.CellKey.{CellKey}
-use Rattle.journal.specs.Items.{Item, item_of, last_of}
+use Rattle.journal.specs.Items.{item_of, last_of}
 use Rattle.journal.specs.Journals.{items_of, settled_item}
 use Rattle.journal.specs.Lines.{causes_in}
 use Rattle.journal.proofs.Settling.{one_there}
 use Rattle.causality.specs.Causes.{IsWriter}
-use Rattle.causality.specs.Selections.{numbers}
 use Rattle.causality.proofs.Collecting.{places_within, names_of_causes, item_at, behind_there, all_cells, both_ok}
 use Rattle.causality.proofs.Following.{all_place}
 use Rattle.causality.proofs.Pairs.{all_at_index}

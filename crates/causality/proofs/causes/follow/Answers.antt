@@ -1,5 +1,5 @@
-use Rattle.std.proofs.Common.{◌≡◌, ◌<◌, ◌||◌, Some, length, map, slice_get, sym, ap, ◌∙◌, subst}
-use Rattle.journal.specs.Items.{Item, number_of}
+use Rattle.std.proofs.Common.{◌≡◌, ◌||◌, map, sym, ap, ◌∙◌, subst}
+use Rattle.journal.specs.Items.{number_of}
 use Rattle.journal.specs.Journals.{items_of, settled_item}
 use Rattle.journal.specs.Lines.{reached, writer_of}
 use Rattle.history.specs.Journal.{is_in}

@@ -1,13 +1,12 @@
-use Rattle.std.proofs.Common.{◌≡◌, [], map, drop}
-use Rattle.journal.specs.Items.{item_of}
+use Rattle.std.proofs.Common.{length}
 use Rattle.journal.specs.Journals.{items_of}
-use Rattle.causality.specs.Names.{SameNames}
-use Rattle.causality.specs.Walks.{gathered}
+use Rattle.causality.proofs.Gathering.{Gathering, left_from}
 use Rattle.causality.proofs.cone.cone.Given as goal
 
--- what has joined is known in order and as a set
-abbrev pub invariant-loop-entry : goal.invariant-loop-entry
-invariant-loop-entry l = record {
-  known : SameNames l.joined.keys l.names.items;
-  gathering : gathered l.root l.names.items (map item_of (drop l.entry-index l.journal.entries.now)) ≡ gathered l.root [] (items_of l.journal);
-}
+-- the names that have joined, and the places of those that wait
+abbrev pub invariant-loop-place : goal.invariant-loop-place
+invariant-loop-place l = Gathering (items_of l.journal) (length l.journal.settled.now) l.fn.root l.names.items l.waiting.keys
+
+-- each that waits stands behind all that have joined
+abbrev pub decreases-loop-place : goal.decreases-loop-place
+decreases-loop-place l = left_from (length (items_of l.journal)) l.waiting.keys

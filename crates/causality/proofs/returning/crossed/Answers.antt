@@ -1,4 +1,4 @@
-use Rattle.std.proofs.Common.{◌≡◌, map, take, get_or, sym, ap, ap₂, ◌∙◌, Some, None}
+use Rattle.std.proofs.Common.{◌≡◌, map, take, get_or, sym, ap, ◌∙◌, Some, None}
 use Rattle.std.specs.Option.{option_or}
 use Rattle.journal.specs.Items.{item_of}
 use Rattle.journal.specs.Journals.{items_in, items_of, settled_item}

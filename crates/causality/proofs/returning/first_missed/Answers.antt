@@ -1,4 +1,4 @@
-use Rattle.std.proofs.Common.{[], ◌++◌, append-nil, map, sym, ap, ◌∙◌, arith}
+use Rattle.std.proofs.Common.{[], append-nil, map, sym, ap, ◌∙◌, arith}
 use Rattle.std.proofs.lemmas.Grind.{common_steps}
 use Rattle.journal.specs.Items.{item_of}
 use Rattle.journal.specs.Journals.{items_of, settled_item}

@@ -1,22 +1,16 @@
-use Rattle.std.proofs.Common.{◌≡◌, ◌∙◌, ℕ, ◌+◌, ◌≤◌, List, All, ◌++◌, length, map, sym, ap, subst, arith}
-use Rattle.std.proofs.lemmas.List.{length-map}
-use Rattle.journal.specs.Items.{item_of}
-use Rattle.journal.specs.Journals.{items_of, settled_item}
-use Rattle.journal.specs.Lines.{line_of}
-use Rattle.causality.specs.Selections.{places_from}
-use Rattle.causality.proofs.Behind.{none_of, places_past}
+use Rattle.std.proofs.Common.{◌∙◌, ◌≤◌, ℕ, List, All, length, sym, subst}
+use Rattle.journal.specs.Journals.{items_of}
+use Rattle.causality.proofs.Placed.{positions_by_place, places_behind}
 use Rattle.causality.proofs.selection.positions.Goals as goal
 
-pub loop-place-init : goal.loop-place-init
-loop-place-init c =
+pub returns-clause-places : goal.returns-clause-places
+returns-clause-places c =
+    let j = c.args.journal in
+    c.in_ok-in_order.ensures.same ∙ positions_by_place j.places.now (items_of j) c.args.names.now c.in_ok-places.places.keys j.placed c.requires.journal c.in_ok-in_order.ensures.ascending c.in_ok-places.ensures
+
+pub returns-clause-behind : goal.returns-clause-behind
+returns-clause-behind c =
     let j = c.args.journal in
     let names = c.args.names.now in
-    let all = items_of j in
-    let many = length-map j.settled.now settled_item in
-    let e : length j.settled.now + 0 ≡ 0 + length (map settled_item j.settled.now) = omega (arith, many) in
-    record {
-      places = ap (λ l. l ++ places_from (length j.settled.now + 0) names (map (line_of all) (map item_of j.entries.now))) c.new-all.ensures.items
-          ∙ ap (λ n. places_from n names (map (line_of all) (map item_of j.entries.now))) e
-          ∙ sym (places_past names all 0 (map settled_item j.settled.now) (map item_of j.entries.now) (none_of names j c.requires));
-      behind = subst (λ (l : List ℕ). All (λ p. length j.settled.now ≤ p) l) (sym c.new-all.ensures.items) (λ k d h. absurd (omega arith));
-    }
+    let same = c.in_ok-in_order.ensures.same ∙ positions_by_place j.places.now (items_of j) names c.in_ok-places.places.keys j.placed c.requires.journal c.in_ok-in_order.ensures.ascending c.in_ok-places.ensures in
+    subst (λ (ks : List ℕ). All (λ p. length j.settled.now ≤ p) ks) (sym same) (places_behind names j c.requires.open)

@@ -35,8 +35,13 @@ prepare-requires-clause-within c =
     (c.deref.ensures.value ∙ c.in_ok-positions.ensures.places ∙ ap (λ (names : List EventName). places_from 0 names (lines_of (journal_items c.journal-journal.result))) c.in_ok-names.ensures
     ∙ ap (λ (items : List Item). places_from 0 c.args.events.now (lines_of items)) c.journal-journal.ensures.items)
 
-pub positions-requires : goal.positions-requires
-positions-requires c = c.in_ok-check_redo.ensures.open
+pub positions-requires-clause-journal : goal.positions-requires-clause-journal
+positions-requires-clause-journal c =
+    let b = c.args.self.now in
+    subst IsJournal (sym c.journal-journal.ensures.items) (stands_journal b.core b.next (out_of b.desk) b.stands)
+
+pub positions-requires-clause-open : goal.positions-requires-clause-open
+positions-requires-clause-open c = c.in_ok-check_redo.ensures.open
 
 pub prepare-requires-clause-behind : goal.prepare-requires-clause-behind
 prepare-requires-clause-behind c =

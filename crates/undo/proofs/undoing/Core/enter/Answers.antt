@@ -1,4 +1,4 @@
-use Rattle.std.proofs.Common.{◌≡◌, ◌+◌, ◌%◌, ◌^◌, true, List, [], ◌∷◌, ◌++◌, length, map, refl, sym, ap, ap₂, ◌∙◌, arith}
+use Rattle.std.proofs.Common.{◌≡◌, ◌+◌, ◌%◌, ◌^◌, ◌==◌, true, cond, List, [], ◌∷◌, ◌++◌, Some, length, map, refl, sym, ap, ap₂, ◌∙◌, subst, arith}
 use Rattle.std.proofs.lemmas.List.{length-map}
 use Rattle.history.specs.Walks.{step_at}
 use Rattle.history.specs.Records.{State}
@@ -15,7 +15,49 @@ use Rattle.journal.specs.declared.entry.Mark.TheVariants as mark
 use Rattle.undo.proofs.Behind.{step_behind, ready_behind, count_behind, entered_behind}
 use Rattle.undo.proofs.Looping.{both_true}
 use Rattle.undo.proofs.Positions.{on_err, entered_is, ready_last, count_last}
+use Rattle.ids.specs.declared.names.EventName.{EventName}
+use Rattle.links.specs.Places.{place_of, ArePlaces}
+use Rattle.links.specs.Followers.{Follows}
+use Rattle.journal.specs.Items.{lasts_of}
+use Rattle.journal.specs.Links.{AreFollowers, names_of}
+use Rattle.journal.specs.declared.entry.Touched.{Touched}
+use Rattle.undo.proofs.Linked.{Placed, Followed, placed_same, placed_more, followed_kept, followed_more}
 use Rattle.undo.proofs.undoing.Core.enter.Goals as goal
+
+pub invariant_of-self-in-Break-branch-3 : goal.invariant_of-self-in-Break-branch-3
+invariant_of-self-in-Break-branch-3 c =
+    let b = c.args.self.now in
+    record { placed = placed_same b.places c.make_room.new.self b.settled.items b.entries.items c.make_room.ensures.same b.placed; followed = b.followed }
+
+pub invariant_of-self-in-Break-branch-4 : goal.invariant_of-self-in-Break-branch-4
+invariant_of-self-in-Break-branch-4 c =
+    let b = c.args.self.now in
+    record {
+      placed = placed_same b.places c.make_room.new.self b.settled.items b.entries.items c.make_room.ensures.same b.placed;
+      followed = followed_kept b.followers c.list_follower.new.followers b.entries.items c.list_follower.ensures.kept b.followed;
+    }
+
+pub invariant_of-self-in-Break-branch-5 : goal.invariant_of-self-in-Break-branch-5
+invariant_of-self-in-Break-branch-5 c =
+    let b = c.args.self.now in
+    record {
+      placed = subst (Placed c.make_room.new.self b.settled.items) (sym c.in_err-push.ensures.items) (placed_same b.places c.make_room.new.self b.settled.items b.entries.items c.make_room.ensures.same b.placed);
+      followed = subst (Followed c.list_follower.new.followers) (sym c.in_err-push.ensures.items) (followed_kept b.followers c.list_follower.new.followers b.entries.items c.list_follower.ensures.kept b.followed);
+    }
+
+pub invariant_of-self-2 : goal.invariant_of-self-2
+invariant_of-self-2 c =
+    let b = c.args.self.now in
+    let ss = b.settled.items in
+    let xs = b.entries.items in
+    let e : Entry = record { event = c.args.deed.event; notes = c.args.deed.notes; seat = c.args.deed.seat; mark = mark.Live; touched = c.in_ok-touched.touched; records = c.args.records } in
+    let at : c.len.result + c.len-2.result ≡ length ss + length xs = omega arith in
+    let put = λ (k : EventName). c.put.ensures.put k ∙ ap (λ o. cond (k.0 == e.event.name.0) (Some (c.len.result + c.len-2.result)) o) (c.make_room.ensures.same k) in
+    let follows : Follows c.list_follower.new.followers e.event.name (lasts_of e.touched.items) = subst (λ (ts : List Touched). Follows c.list_follower.new.followers e.event.name (lasts_of ts)) c.deref-2.ensures.value c.in_ok-list_follower.ensures.ok in
+    record {
+      placed = subst (Placed c.put.new.self ss) (sym c.in_ok-push.ensures.items) (placed_more b.places c.put.new.self ss xs e (c.len.result + c.len-2.result) at put b.placed);
+      followed = subst (Followed c.list_follower.new.followers) (sym c.in_ok-push.ensures.items) (followed_more b.followers c.list_follower.new.followers xs e c.list_follower.ensures.kept follows b.followed);
+    }
 
 pub returns-in_err-make_rooms-clause-err : goal.returns-in_err-make_rooms-clause-err
 returns-in_err-make_rooms-clause-err c =
@@ -24,6 +66,16 @@ returns-in_err-make_rooms-clause-err c =
 
 pub returns-in_err-touched-clause-err : goal.returns-in_err-touched-clause-err
 returns-in_err-touched-clause-err c =
+    on_err (◌≡◌ {A = List Item × State cells} (items_of c.args.self.now, state_of_world c.make_rooms.new.world) (shown c.args.self.now)) _
+    (λ j. (items_of c.args.self.now, λ k. numbered (c.make_rooms.ensures.seen j k)))
+
+pub returns-in_err-make_room-clause-err : goal.returns-in_err-make_room-clause-err
+returns-in_err-make_room-clause-err c =
+    on_err (◌≡◌ {A = List Item × State cells} (items_of c.args.self.now, state_of_world c.make_rooms.new.world) (shown c.args.self.now)) _
+    (λ j. (items_of c.args.self.now, λ k. numbered (c.make_rooms.ensures.seen j k)))
+
+pub returns-in_err-list_follower-clause-err : goal.returns-in_err-list_follower-clause-err
+returns-in_err-list_follower-clause-err c =
     on_err (◌≡◌ {A = List Item × State cells} (items_of c.args.self.now, state_of_world c.make_rooms.new.world) (shown c.args.self.now)) _
     (λ j. (items_of c.args.self.now, λ k. numbered (c.make_rooms.ensures.seen j k)))
 

@@ -1,12 +1,69 @@
-use Rattle.std.proofs.Common.{◌≡◌, ◌+◌, ◌-◌, ◌<◌, ◌++◌, length, map, sym, ap, ap₂, ◌∙◌, arith}
+use Rattle.std.proofs.Common.{◌≡◌, ◌+◌, ◌-◌, ◌<◌, ◌++◌, List, length, map, get_or, sym, ap, ap₂, ◌∙◌, subst, arith}
 use Rattle.std.proofs.lemmas.List.{length-append, length-map}
+use Rattle.links.specs.Places.{HasRoom}
+use Rattle.journal.specs.declared.entry.Entry.{Entry}
 use Rattle.undo.specs.CoreView.{state_of}
 use Rattle.journal.specs.Items.{item_of, may_exchange}
 use Rattle.journal.specs.Journals.{settled_item}
 use Rattle.journal.proofs.Neighbouring.{map-exchanged}
 use Rattle.undo.proofs.Behind.{test_behind, turn_behind}
 use Rattle.undo.proofs.Exchanging.{swap_is, may_at}
+use Rattle.undo.proofs.Linked.{Placed, Followed, placed_turned, followed_turned, first_turned, second_turned, room_there}
 use Rattle.undo.proofs.undoing.Core.exchange.Goals as goal
+
+pub put-requires : goal.put-requires
+put-requires c =
+    let b = c.args.self.now in
+    let xs = b.entries.items in
+    let ss = b.settled.items in
+    let place = c.args.position - c.len.result in
+    let m : c.len.result ≡ length ss = omega arith in
+    let next : c.args.position + 1 ≡ length ss + (place + 1) = omega (arith, m, c.requires.behind) in
+    let n = length-map ss settled_item in
+    let all = length-append (map settled_item ss) (map item_of xs) in
+    let h : place + 1 < length xs = omega (arith, all, n, m, length-map xs item_of, c.requires.behind, c.requires.within) in
+    let d = c.index-3.result.now in
+    let is : d ≡ get_or xs (place + 1) d = c.index-3.ensures ∙ ap (λ (es : List Entry). get_or es place d) (c.swap.ensures.items ∙ swap_is xs place h) ∙ first_turned xs place d h in
+    subst (λ (x : Entry). HasRoom b.places x.event.name) (sym is) (room_there b.places ss xs (c.args.position + 1) (place + 1) d next h b.placed)
+
+pub put-requires-2 : goal.put-requires-2
+put-requires-2 c =
+    let b = c.args.self.now in
+    let xs = b.entries.items in
+    let ss = b.settled.items in
+    let place = c.args.position - c.len.result in
+    let m : c.len.result ≡ length ss = omega arith in
+    let at : c.args.position ≡ length ss + place = omega (arith, m, c.requires.behind) in
+    let n = length-map ss settled_item in
+    let all = length-append (map settled_item ss) (map item_of xs) in
+    let h : place + 1 < length xs = omega (arith, all, n, m, length-map xs item_of, c.requires.behind, c.requires.within) in
+    let here : place < length xs = omega (arith, h) in
+    let d = c.index-4.result.now in
+    let is : d ≡ get_or xs place d = c.index-4.ensures ∙ ap (λ (es : List Entry). get_or es (place + 1) d) (c.swap.ensures.items ∙ swap_is xs place h) ∙ second_turned xs place d h in
+    c.put.ensures.room d.event.name (subst (λ (x : Entry). HasRoom b.places x.event.name) (sym is) (room_there b.places ss xs c.args.position place d at here b.placed))
+
+pub invariant_of-self-2 : goal.invariant_of-self-2
+invariant_of-self-2 c =
+    let b = c.args.self.now in
+    let xs = b.entries.items in
+    let ss = b.settled.items in
+    let place = c.args.position - c.len.result in
+    let m : c.len.result ≡ length ss = omega arith in
+    let at : c.args.position ≡ length ss + place = omega (arith, m, c.requires.behind) in
+    let n = length-map ss settled_item in
+    let all = length-append (map settled_item ss) (map item_of xs) in
+    let h : place + 1 < length xs = omega (arith, all, n, m, length-map xs item_of, c.requires.behind, c.requires.within) in
+    let turned = c.swap.ensures.items ∙ swap_is xs place h in
+    let first = c.index-3.result.now in
+    let second = c.index-4.result.now in
+    let is_first : first ≡ get_or xs (place + 1) first = c.index-3.ensures ∙ ap (λ (es : List Entry). get_or es place first) turned ∙ first_turned xs place first h in
+    let is_second : second ≡ get_or xs place second = c.index-4.ensures ∙ ap (λ (es : List Entry). get_or es (place + 1) second) turned ∙ second_turned xs place second h in
+    record {
+      placed = subst (Placed c.put-2.new.self ss) (sym turned)
+          (placed_turned b.places c.put.new.self c.put-2.new.self ss xs c.args.position place second first second.event.name first.event.name at h
+          (ap (λ (x : Entry). x.event.name) is_second) (ap (λ (x : Entry). x.event.name) is_first) c.put.ensures.put c.put-2.ensures.put b.placed);
+      followed = subst (Followed b.followers) (sym turned) (followed_turned b.followers place xs b.followed);
+    }
 
 pub returns-then-not-may_exchange-clause-done : goal.returns-then-not-may_exchange-clause-done
 returns-then-not-may_exchange-clause-done c =

@@ -8,7 +8,21 @@ use Rattle.journal.specs.Journals.{settled_item}
 use Rattle.undo.specs.CoreView.{ready_of, swaps_of}
 use Rattle.undo.proofs.Behind.{step_behind, ready_behind, count_behind, keys_stay_behind}
 use Rattle.undo.proofs.Entries.{stepped, ready_within, ready_at, count_at, keys_stay, keys_after}
+use Rattle.undo.proofs.Linked.{placed_set, followed_set}
 use Rattle.undo.proofs.undoing.Core.swap_entry.Goals as goal
+
+pub invariant_of-self : goal.invariant_of-self
+invariant_of-self c =
+    let b = c.args.self.now in
+    let xs = b.entries.items in
+    let place = c.args.position - c.len.result in
+    let x = c.index_mut.result.now in
+    let w = state_of_world b.world in
+    let same = c.swap_one.ensures.item ∙ ap (λ e. swap_item (is_live c.args.mark) (item_of e) w) c.index_mut.ensures.value in
+    record {
+      placed = placed_set b.places b.settled.items xs place x c.swap_one.new.entry (ap (λ (r : Item × State cells). r.0.event.name) same) b.placed;
+      followed = followed_set b.followers xs place x c.swap_one.new.entry (ap (λ (r : Item × State cells). r.0.event.name) same) (ap (λ (r : Item × State cells). r.0.lasts) same) b.followed;
+    }
 
 pub swap_one-requires : goal.swap_one-requires
 swap_one-requires c =

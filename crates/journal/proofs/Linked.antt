@@ -1,0 +1,149 @@
+-- Places and followers stay right as entries come, change places, are exchanged with the cells, and settle.
+use Rattle.std.proofs.Common.{◌≡◌, ◌≢◌, ◌∙◌, ℕ, zero, suc, ◌+◌, ◌<◌, true, List, [], ◌∷◌, ◌++◌, Option, Some, None, length, map, set, get_or, take, drop, slice_get, refl, sym, ap, subst, add-one, arith}
+use Rattle.std.specs.List.{AllByRecursion}
+use Rattle.std.proofs.lemmas.List.{map-append, take_more, length-map, length-append}
+use Rattle.ids.specs.declared.names.EventName.{EventName}
+use Rattle.ids.specs.declared.cells.CellKey.{CellKey}
+use Rattle.links.specs.Followers.{may_follow, Follows}
+use Rattle.links.specs.declared.followers.Followers.{Followers}
+use Rattle.links.proofs.Placing.{Swapped}
+use Rattle.links.proofs.Following.{Keeps, follows_kept, follows_append}
+use Rattle.history.proofs.Lists.{all_map}
+use Rattle.journal.specs.Items.{Item, item_of, last_of, lasts_of, number_of, exchanged}
+use Rattle.journal.specs.Links.{AreFollowers, names_of}
+use Rattle.journal.specs.SettledView.{settled_item, items_in}
+use Rattle.journal.specs.declared.entry.Entry.{Entry}
+use Rattle.journal.specs.declared.entry.Touched.{Touched}
+use Rattle.journal.specs.declared.settled.Settled.{Settled}
+use Rattle.journal.proofs.Neighbouring.{map-exchanged}
+use Rattle.journal.proofs.Reversed.{map-map}
+
+-- ---- lists in general
+
+map_set_same : {A B : Type 0} (f : A → B) (xs : List A) (i : ℕ) (d y : A) → f y ≡ f (get_or xs i d) → map f (set xs i y) ≡ map f xs
+map_set_same f [] i d y h = refl
+map_set_same f (x ∷ xs) zero d y h = ap (λ z. z ∷ map f xs) h
+map_set_same f (x ∷ xs) (suc i) d y h = ap (λ l. f x ∷ l) (map_set_same f xs i d y h)
+
+all_set : {A B : Type 0} (P : B → Type 0) (f : A → B) (xs : List A) (i : ℕ) (d y : A) → (P (f (get_or xs i d)) → P (f y)) → AllByRecursion P (map f xs) → AllByRecursion P (map f (set xs i y))
+all_set P f [] i d y g h = tt
+all_set P f (x ∷ xs) zero d y g (h, hs) = (g h, hs)
+all_set P f (x ∷ xs) (suc i) d y g (h, hs) = (h, all_set P f xs i d y g hs)
+
+all_end : {B : Type 0} (P : B → Type 0) (xs : List B) (y : B) → AllByRecursion P xs → P y → AllByRecursion P (xs ++ y ∷ [])
+all_end P [] y h g = (g, tt)
+all_end P (x ∷ xs) y (h, hs) g = (h, all_end P xs y hs g)
+
+all_exchanged : {B : Type 0} (P : B → Type 0) (n : ℕ) (xs : List B) → AllByRecursion P xs → AllByRecursion P (exchanged n xs)
+all_exchanged P n [] h = tt
+all_exchanged P n (b ∷ []) h = h
+all_exchanged P zero (b ∷ a ∷ xs) (h, (g, hs)) = (g, (h, hs))
+all_exchanged P (suc n) (b ∷ a ∷ xs) (h, hs) = (h, all_exchanged P n (a ∷ xs) hs)
+
+all_drop : {A B : Type 0} (P : B → Type 0) (f : A → B) (n : ℕ) (xs : List A) → AllByRecursion P (map f xs) → AllByRecursion P (map f (drop n xs))
+all_drop P f zero xs h = h
+all_drop P f (suc n) [] h = tt
+all_drop P f (suc n) (x ∷ xs) (h, hs) = all_drop P f n xs hs
+
+-- ---- names
+
+entry_name : Entry → EventName
+entry_name x = (item_of x).event.name
+
+item_name : Item → EventName
+item_name i = i.event.name
+
+names_behind : (ss : List Settled) (xs : List Entry) → names_of (items_in ss xs) ≡ names_of (map settled_item ss) ++ map entry_name xs
+unfolding entry_name
+names_behind ss xs = map-append (λ (i : Item). i.event.name) (map settled_item ss) (map item_of xs) ∙ ap (λ l. names_of (map settled_item ss) ++ l) (map-map (λ (i : Item). i.event.name) item_of xs)
+
+-- an entry in the place of one of this name
+pub names_set : (ss : List Settled) (xs : List Entry) (i : ℕ) (d y : Entry) → (item_of y).event.name ≡ (item_of (get_or xs i d)).event.name → names_of (items_in ss (set xs i y)) ≡ names_of (items_in ss xs)
+unfolding entry_name
+names_set ss xs i d y h = names_behind ss (set xs i y) ∙ ap (λ l. names_of (map settled_item ss) ++ l) (map_set_same entry_name xs i d y h) ∙ sym (names_behind ss xs)
+
+-- an entry more
+pub names_more : (ss : List Settled) (xs : List Entry) (y : Entry) → names_of (items_in ss (xs ++ y ∷ [])) ≡ names_of (items_in ss xs) ++ (item_of y).event.name ∷ []
+names_more ss xs y = ap (λ l. names_of (map settled_item ss ++ l)) (map-append item_of xs (y ∷ [])) ∙ at_end (map settled_item ss) (map item_of xs) (item_of y)
+  where
+    at_end : (us vs : List Item) (j : Item) → names_of (us ++ (vs ++ j ∷ [])) ≡ names_of (us ++ vs) ++ j.event.name ∷ []
+    at_end [] [] j = refl
+    at_end [] (v ∷ vs) j = ap (λ l. v.event.name ∷ l) (at_end [] vs j)
+    at_end (u ∷ us) vs j = ap (λ l. u.event.name ∷ l) (at_end us vs j)
+
+pub names_count : (ss : List Settled) (xs : List Entry) → length ss + length xs ≡ length (names_of (items_in ss xs))
+names_count ss xs =
+    let all = length-map (items_in ss xs) (λ (i : Item). i.event.name) in
+    let both = length-append (map settled_item ss) (map item_of xs) in
+    let settled = length-map ss settled_item in
+    let entries = length-map xs item_of in
+    omega (arith, all, both, settled, entries)
+
+-- ---- neighbours change places
+
+first_now : {A : Type 0} (n : ℕ) (xs : List A) (b : A) → slice_get xs (suc n) ≡ Some b → slice_get (exchanged n xs) n ≡ Some b
+first_now n [] b h = cc
+first_now zero (x ∷ []) b h = cc
+first_now (suc n) (x ∷ []) b h = cc
+first_now zero (x ∷ y ∷ xs) b h = h
+first_now (suc n) (x ∷ y ∷ xs) b h = first_now n (y ∷ xs) b h
+
+second_now : {A : Type 0} (n : ℕ) (xs : List A) (a b : A) → slice_get xs n ≡ Some a → slice_get xs (suc n) ≡ Some b → slice_get (exchanged n xs) (suc n) ≡ Some a
+second_now n [] a b h g = cc
+second_now zero (x ∷ []) a b h g = cc
+second_now (suc n) (x ∷ []) a b h g = cc
+second_now zero (x ∷ y ∷ xs) a b h g = h
+second_now (suc n) (x ∷ y ∷ xs) a b h g = second_now n (y ∷ xs) a b h g
+
+other_forth : {A : Type 0} (n : ℕ) (xs : List A) (a b : A) → slice_get xs n ≡ Some a → slice_get xs (suc n) ≡ Some b → (r : ℕ) (e : A) → e ≢ a → e ≢ b → slice_get xs r ≡ Some e → slice_get (exchanged n xs) r ≡ Some e
+other_forth n [] a b h g r e na nb at = at
+other_forth n (x ∷ []) a b h g r e na nb at = at
+other_forth zero (x ∷ y ∷ xs) a b h g zero e na nb at = absurd (na (let is : Some e ≡ Some a = sym at ∙ h in cc))
+other_forth zero (x ∷ y ∷ xs) a b h g (suc zero) e na nb at = absurd (nb (let is : Some e ≡ Some b = sym at ∙ g in cc))
+other_forth zero (x ∷ y ∷ xs) a b h g (suc (suc r)) e na nb at = at
+other_forth (suc n) (x ∷ y ∷ xs) a b h g zero e na nb at = at
+other_forth (suc n) (x ∷ y ∷ xs) a b h g (suc r) e na nb at = other_forth n (y ∷ xs) a b h g r e na nb at
+
+other_back : {A : Type 0} (n : ℕ) (xs : List A) (a b : A) → slice_get xs n ≡ Some a → slice_get xs (suc n) ≡ Some b → (r : ℕ) (e : A) → e ≢ a → e ≢ b → slice_get (exchanged n xs) r ≡ Some e → slice_get xs r ≡ Some e
+other_back n [] a b h g r e na nb at = at
+other_back n (x ∷ []) a b h g r e na nb at = at
+other_back zero (x ∷ y ∷ xs) a b h g zero e na nb at = absurd (nb (let is : Some e ≡ Some b = sym at ∙ g in cc))
+other_back zero (x ∷ y ∷ xs) a b h g (suc zero) e na nb at = absurd (na (let is : Some e ≡ Some a = sym at ∙ h in cc))
+other_back zero (x ∷ y ∷ xs) a b h g (suc (suc r)) e na nb at = at
+other_back (suc n) (x ∷ y ∷ xs) a b h g zero e na nb at = at
+other_back (suc n) (x ∷ y ∷ xs) a b h g (suc r) e na nb at = other_back n (y ∷ xs) a b h g r e na nb at
+
+pub names_swapped : (names : List EventName) (n : ℕ) (a b : EventName) → slice_get names n ≡ Some a → slice_get names (n + 1) ≡ Some b → Swapped names (exchanged n names) n (n + 1) a b
+names_swapped names n a b h g =
+    let next : slice_get names (suc n) ≡ Some b = ap (slice_get names) (sym (add-one n)) ∙ g in
+    record {
+      first = first_now n names b next;
+      second = ap (slice_get (exchanged n names)) (add-one n) ∙ second_now n names a b h next;
+      forth = other_forth n names a b h next;
+      back = other_back n names a b h next;
+    }
+
+-- ---- followers
+
+pub followers_kept : (old new : Followers) → Keeps old new → (items : List Item) → AreFollowers old items → AreFollowers new items
+followers_kept old new kept items h = all_map _ _ items (λ i follows. follows_kept old new kept i.event.name i.lasts follows) h
+
+pub followers_more : (followers : Followers) (xs : List Entry) (y : Entry) → AreFollowers followers (map item_of xs) → Follows followers (item_of y).event.name (item_of y).lasts → AreFollowers followers (map item_of (xs ++ y ∷ []))
+followers_more followers xs y h g = subst (AreFollowers followers) (sym (map-append item_of xs (y ∷ []))) (all_end _ (map item_of xs) (item_of y) h g)
+
+pub followers_set : (followers : Followers) (xs : List Entry) (i : ℕ) (d y : Entry) → (item_of y).event.name ≡ (item_of (get_or xs i d)).event.name → (item_of y).lasts ≡ (item_of (get_or xs i d)).lasts
+    → AreFollowers followers (map item_of xs) → AreFollowers followers (map item_of (set xs i y))
+followers_set followers xs i d y name lasts h = all_set (λ (j : Item). Follows followers j.event.name j.lasts) item_of xs i d y (λ follows. subst (λ e. Follows followers e (item_of y).lasts) (sym name) (subst (Follows followers (item_of (get_or xs i d)).event.name) (sym lasts) follows)) h
+
+pub followers_exchanged : (followers : Followers) (n : ℕ) (xs : List Entry) → AreFollowers followers (map item_of xs) → AreFollowers followers (map item_of (exchanged n xs))
+followers_exchanged followers n xs h = subst (AreFollowers followers) (sym (map-exchanged item_of n xs)) (all_exchanged _ n (map item_of xs) h)
+
+pub followers_left : (followers : Followers) (n : ℕ) (xs : List Entry) → AreFollowers followers (map item_of xs) → AreFollowers followers (map item_of (drop n xs))
+followers_left followers n xs h = all_drop _ item_of n xs h
+
+-- one more of the cells that were touched
+pub follows_more : (followers : Followers) (e : EventName) (xs : List Touched) (i : ℕ) (d : Touched) → i < length xs → Follows followers e (lasts_of (take i xs))
+    → ((w : EventName) → number_of (get_or xs i d).writer ≡ Some w.0 → may_follow followers w e ≡ true) → Follows followers e (lasts_of (take (i + 1) xs))
+follows_more followers e xs i d h before here =
+    subst (Follows followers e) (sym (ap lasts_of (take_more xs i d h) ∙ map-append last_of (take i xs) (get_or xs i d ∷ [])))
+    (follows_append followers e (lasts_of (take i xs)) (last_of (get_or xs i d)) before here)

@@ -1,0 +1,5 @@
+use Rattle.links.proofs.Following.{Keeps}
+use Rattle.journal.proofs.linking.let_go.Given as goal
+
+abbrev pub invariant-loop-entry : goal.invariant-loop-entry
+invariant-loop-entry l = Keeps l.fn.followers l.followers

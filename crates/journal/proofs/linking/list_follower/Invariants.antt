@@ -1,0 +1,11 @@
+use Rattle.std.proofs.Common.{take}
+use Rattle.links.specs.Followers.{Follows}
+use Rattle.links.proofs.Following.{Keeps}
+use Rattle.journal.specs.Items.{lasts_of}
+use Rattle.journal.proofs.linking.list_follower.Given as goal
+
+abbrev pub invariant-loop-cell : goal.invariant-loop-cell
+invariant-loop-cell l = record {
+  listed : Follows l.followers l.event (lasts_of (take l.cell-index l.touched));
+  kept : Keeps l.fn.followers l.followers;
+}
