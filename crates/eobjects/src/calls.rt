@@ -19,7 +19,7 @@ use erules::end::Stop;
 use erules::entry::Entry;
 use erules::escapes::call_ejector;
 use erules::halting::throw_made;
-use erules::local::Local;
+use erules::local::{Local, let_go};
 use erules::working::Working;
 use heap::state::Noun;
 use ids::names::{EjId, ObjId, VatNo};
@@ -187,7 +187,7 @@ pub(crate) fn empty_frame(w: &mut Working) -> Vec<Local>
 {
     match w.spare.pop() {
         Some(mut frame) => {
-            frame.clear();
+            let_go(&mut frame, 0);
             frame
         }
         None => Vec::new(w.alloc),
@@ -202,7 +202,7 @@ pub fn leave_method(w: &mut Working, caller: Caller)
     let mut frame = mem::replace(&mut w.nouns, caller.nouns);
     let _ = replace_captured(w, caller.captured, caller.older);
     w.own_scope = caller.own_scope;
-    frame.clear();
+    let_go(&mut frame, 0);
     // Where there is no memory to keep it, it is dropped.
     let _ = w.spare.push(frame);
 }
