@@ -125,6 +125,7 @@ fn not_near(w: &mut Working) -> Stop
 }
 
 /// Begins a method with what its object captured and with names of its own, in place of those of the caller.
+#[inline(always)]
 pub fn enter_method(w: &mut Working, captured: Option<Arc<Vec<Noun>>>, nouns: Vec<Local>) -> Caller
     ensures captured { captured_in result.captured ≡ captured_in w.old.captured }
     ensures older { result.older ≡ w.old.older }
@@ -195,6 +196,7 @@ pub(crate) fn empty_frame(w: &mut Working) -> Vec<Local>
 }
 
 /// Goes back to the caller's names, and keeps the method's frame for another one.
+#[inline(always)]
 pub fn leave_method(w: &mut Working, caller: Caller)
     ensures place { at w.new ≡ record (at w.old) { nouns = names_in (captured_in caller.captured) caller.older caller.nouns.items; own_scope = caller.own_scope } }
     ensures halt { w.new.halt ≡ w.old.halt }
