@@ -1,7 +1,7 @@
 // Calls: what they lead to, and how a method is entered and left.
-ghost use Rattle.std.specs.Prelude.{◌≡◌, ◌≤◌, [], codes, length};
+ghost use Rattle.std.specs.Prelude.{◌≡◌, ◌≤◌, [], IfSome, codes, length};
 ghost use Rattle.values.specs.View.{val_of, vals_of};
-ghost use Rattle.eobjects.specs.Making.{CallsEnd};
+ghost use Rattle.eobjects.specs.Making.{CallsEnd, GivesForOne};
 ghost use Rattle.erules.specs.Answered.{OnStop};
 ghost use Rattle.erules.specs.Doings.{same_vat};
 ghost use Rattle.erules.specs.Outcomes.{halt, thrown, values};
@@ -26,6 +26,7 @@ use ids::names::{EjId, ObjId, VatNo};
 use ids::text::Text;
 use std::mem;
 use std::sync::Arc;
+use values::calls::call_integers;
 use values::value::Value;
 use values::verb::Verb;
 
@@ -63,8 +64,26 @@ pub fn call_target(
     ensures { OnTarget result into.new w.new (λ t b. (t ≡ target_of (val_of receiver.old) verb.now (values (vals_of args.old)) (at w.old))
         × (b ≡ called (val_of receiver.old) verb.now (values (vals_of args.old)) (at w.old))) }
 {
+    if let Some(given) = called_on_integer(receiver, verb, args) {
+        *into = given;
+        return Ok(None);
+    }
     take_end(w, receiver)?;
     call_end(w, receiver, verb, args, into)
+}
+
+/// The value of a call on an integer with another one, if it gives one.
+#[inline(always)]
+fn called_on_integer(receiver: &Value, verb: &Verb, args: &[Value]) -> Option<Value>
+    ensures { IfSome result (λ v. GivesForOne (val_of receiver.now) verb.now (vals_of args.now) (val_of v)) }
+{
+    if args.len() != 1 {
+        return None;
+    }
+    match (receiver, &args[0]) {
+        (Value::Int(x), Value::Int(y)) => call_integers(*x, verb, *y),
+        _ => None,
+    }
 }
 
 /// What a call on an end leads to.
